@@ -1,0 +1,5 @@
+pub mod Levels
+pub mod Ident
+pub mod Parts
+pub mod Stored
+pub mod Arbitration

@@ -1,0 +1,20 @@
+-- What a contract sees of a frame: the parts that its getters tell.
+use Rattle.std.specs.Prelude.{◌≡◌, ℕ, Bool, ◌<◌, min, if◌then◌else◌, List, length, slice_index}
+use Rattle.can_frame.specs.Ident.{Ident, IsIdent}
+
+pub record Parts : Type 0 where
+  pub id : Ident
+  pub remote : Bool
+  pub dlc : ℕ
+  pub bytes : List ℕ
+
+-- how many data bytes a frame has: none in a remote frame, and never more than eight
+abbrev pub byte_count : Bool → ℕ → ℕ
+byte_count remote dlc = if remote then 0 else min dlc 8
+
+-- what holds of every frame
+pub record IsFrame (f : Parts) : Type 0 where
+  pub id : IsIdent f.id
+  pub dlc : f.dlc < 16
+  pub count : length f.bytes ≡ byte_count f.remote f.dlc
+  pub small : (k : ℕ) → slice_index f.bytes k < 256

@@ -1,0 +1,140 @@
+ghost use Rattle.std.specs.Prelude.{◌≡◌, ◌≢◌, ◌<◌, ◌≤◌, ◌↔◌, [], min, length, IfOk, IsErrOf, IsOk, IsTrue, true, false, ℕ, slice_index, take};
+ghost use Rattle.can_frame.specs.Parts.{byte_count, IsFrame};
+
+use crate::id::Id;
+use std::marker::Model;
+use thiserror::Error;
+
+/// Why a frame was refused.
+#[derive(Clone, Copy, Debug, PartialEq, Eq, Error)]
+pub enum FrameFault {
+    /// The DLC is above 15.
+    #[error("F1: the data length code is above 15")]
+    DlcAbove15,
+    /// The number of data bytes isn't the lesser of the DLC and 8.
+    #[error("F2: the number of data bytes is not that of the data length code")]
+    WrongByteCount,
+}
+
+/// A data frame or a remote frame, with a standard or an extended identifier. (Bosch CAN 2.0
+/// part B, section 3.1) Two frames are equal exactly when all their getters agree.
+#[derive(Clone, Copy, Debug)]
+pub struct Frame {
+    id: Id,
+    remote: bool,
+    dlc: u8,
+    store: [u8; 8],
+}
+
+impl Model for Frame {
+    ghost use Rattle.std.specs.Prelude.{◌≡◌, ◌<◌, ◌-◌, ◌++◌, length, take, drop, replicate};
+    ghost use Rattle.std.proofs.Common.{ap};
+    ghost use Rattle.can_frame.specs.Parts.{Parts, byte_count};
+    ghost use Rattle.can_frame.specs.Stored.{stored_again, byte_count_le};
+
+    ghost Value = { Parts };
+
+    ghost view = { λ a. record { id = a.id; remote = a.remote; dlc = a.dlc; bytes = take (byte_count a.remote a.dlc) a.store } };
+
+    ghost invariant = { λ a. (a.dlc < 16) × (length a.store ≡ 8) × (drop (byte_count a.remote a.dlc) a.store ≡ replicate (8 - byte_count a.remote a.dlc) 0) };
+
+    ghost inverse = { λ v. record { id = v.id; remote = v.remote; dlc = v.dlc; store = v.bytes ++ replicate (8 - length v.bytes) 0 } };
+
+    ghost inverse_ok = { λ a h. ap (λ bytes. record { id = a.id; remote = a.remote; dlc = a.dlc; store = bytes }) (stored_again (byte_count a.remote a.dlc) a.store (byte_count_le a.remote a.dlc) h.1 h.2) };
+}
+
+impl Frame {
+    /// The data frame of these parts. A DLC of 9 to 15 is kept as it is and means eight bytes.
+    /// The DLC is tested before the number of bytes. (Bosch CAN 2.0 part B, section 3.2.1)
+    pub fn data(id: Id, dlc: u8, bytes: &[u8]) -> Result<Frame, FrameFault>
+        ensures dlc_above_15 { IsErrOf result FrameFault.DlcAbove15 ↔ (15 < dlc) }
+        ensures wrong_byte_count { IsErrOf result FrameFault.WrongByteCount ↔ ((dlc ≤ 15) × (length bytes.now ≢ min dlc 8)) }
+        ensures made { IsOk result ↔ ((dlc ≤ 15) × (length bytes.now ≡ min dlc 8)) }
+        ensures parts { IfOk result (λ f. f ≡ record { id = id; remote = false; dlc = dlc; bytes = bytes.now }) }
+    {
+        if dlc > 15 {
+            return Err(FrameFault::DlcAbove15);
+        }
+        let count = bytes.len();
+        if count != usize::from(dlc).min(8) {
+            return Err(FrameFault::WrongByteCount);
+        }
+        let mut store = [0; 8];
+        store[..count].copy_from_slice(bytes);
+        Ok(Frame {
+            id,
+            remote: false,
+            dlc,
+            store,
+        })
+    }
+
+    /// The remote frame of these parts. It has no data bytes, whatever its DLC.
+    pub fn remote(id: Id, dlc: u8) -> Result<Frame, FrameFault>
+        ensures dlc_above_15 { IsErrOf result FrameFault.DlcAbove15 ↔ (15 < dlc) }
+        ensures made { IsOk result ↔ (dlc ≤ 15) }
+        ensures parts { IfOk result (λ f. f ≡ record { id = id; remote = true; dlc = dlc; bytes = [] }) }
+    {
+        if dlc > 15 {
+            return Err(FrameFault::DlcAbove15);
+        }
+        Ok(Frame {
+            id,
+            remote: true,
+            dlc,
+            store: [0; 8],
+        })
+    }
+
+    /// The identifier.
+    pub fn id(&self) -> Id
+        ensures { result ≡ self.now.id }
+    {
+        self.id
+    }
+
+    /// Whether its identifier has 29 bits.
+    pub fn is_extended(&self) -> bool
+        ensures { result ≡ self.now.id.extended }
+    {
+        self.id.is_extended()
+    }
+
+    /// Whether it is a remote frame.
+    pub fn is_remote(&self) -> bool
+        ensures { result ≡ self.now.remote }
+    {
+        self.remote
+    }
+
+    /// The DLC as it was given, 0 to 15.
+    pub fn dlc(&self) -> u8
+        ensures value { result ≡ self.now.dlc }
+        ensures range { result < 16 }
+    {
+        self.dlc
+    }
+
+    /// The data bytes: none of a remote frame, else as many as the lesser of the DLC and 8.
+    pub fn bytes(&self) -> &[u8]
+        ensures value { result.now ≡ self.now.bytes }
+        ensures whole { IsFrame self.now }
+    {
+        let count = if self.remote {
+            0
+        } else {
+            usize::from(self.dlc).min(8)
+        };
+        let _ = self.id.raw();
+        front(&self.store, count)
+    }
+}
+
+/// The first bytes of the store.
+fn front(store: &[u8], count: usize) -> &[u8]
+    requires { count ≤ length store.now }
+    ensures value { result.now ≡ take count store.now }
+    ensures small { (k : ℕ) → slice_index result.now k < 256 }
+{
+    &store[..count]
+}
