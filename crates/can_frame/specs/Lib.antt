@@ -3,3 +3,4 @@ pub mod Ident
 pub mod Parts
 pub mod Stored
 pub mod Arbitration
+pub mod Text

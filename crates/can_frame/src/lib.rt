@@ -4,7 +4,9 @@
 mod frame;
 mod id;
 mod level;
+mod text;
 
 pub use frame::{Frame, FrameFault};
 pub use id::Id;
 pub use level::Level;
+pub use text::{TextFault, TextFaultKind};
