@@ -1,0 +1,3 @@
+pub mod Crc
+pub mod Stuffing
+pub mod Wire

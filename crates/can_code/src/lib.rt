@@ -1,0 +1,2 @@
+//! The coding of a frame: layout, check sequence, stuffing.
+#![tactic(auto)]
