@@ -1,0 +1,22 @@
+-- The lines of a text. A line is ended by 0x0a; the last may lack it, and empty text has no lines.
+use Rattle.std.specs.Prelude.{ℕ, ◌==◌, if◌then◌else◌, List, [], ◌∷◌}
+
+-- the text with a byte in front of its first line
+abbrev pub onto_first : ℕ → List (List ℕ) → List (List ℕ)
+onto_first byte [] = (byte ∷ []) ∷ []
+onto_first byte (line ∷ lines) = (byte ∷ line) ∷ lines
+
+-- the lines of a text, without their ends
+abbrev pub lines_of : List ℕ → List (List ℕ)
+lines_of [] = []
+lines_of (byte ∷ text) = if byte == 10 then [] ∷ lines_of text else onto_first byte (lines_of text)
+
+-- the same with a byte in front of the first line, if one is ended
+abbrev pub onto_ended : ℕ → List (List ℕ) → List (List ℕ)
+onto_ended byte [] = []
+onto_ended byte (line ∷ lines) = (byte ∷ line) ∷ lines
+
+-- those lines of a text that are ended by 0x0a
+abbrev pub ended_lines : List ℕ → List (List ℕ)
+ended_lines [] = []
+ended_lines (byte ∷ text) = if byte == 10 then [] ∷ ended_lines text else onto_ended byte (ended_lines text)

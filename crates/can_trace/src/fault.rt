@@ -1,0 +1,19 @@
+use can_frame::TextFault;
+use thiserror::Error;
+
+/// Why a stream's answer is not whole.
+#[derive(Clone, Copy, Debug, PartialEq, Eq, Error)]
+pub enum TraceFault {
+    /// The reader failed.
+    #[error("P3 read")]
+    Read,
+    /// The writer failed, or took no byte.
+    #[error("P4 write")]
+    Write,
+    /// The input has more than 2^63 bytes.
+    #[error("P6 long")]
+    Long,
+    /// A line is no frame text. Lines are counted from 1.
+    #[error("P7 line {line} {fault}")]
+    FrameLine { line: u64, fault: TextFault },
+}
