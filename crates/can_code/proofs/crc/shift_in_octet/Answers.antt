@@ -4,7 +4,7 @@ use Rattle.std.specs.Int.Bits.{mask_lt}
 use Rattle.std.proofs.lemmas.Nat.{xor_lt}
 use Rattle.can_frame.specs.Levels.{bits_of}
 use Rattle.can_code.specs.declared.crc.TheConstants.{CRC_OF_BYTES}
-use Rattle.can_code.proofs.CrcTable.{crc_of_byte, crc_of_byte-lt, entry_is, octet_step}
+use Rattle.can_code.proofs.CrcTable.{crc_of_byte, crc_of_byte-lt, entry_is, register-octet}
 use Rattle.can_code.proofs.crc.shift_in_octet.Goals as goal
 
 -- what is read from the table
@@ -22,4 +22,4 @@ pub returns-clause-step : goal.returns-clause-step
 returns-clause-step c =
     let r = c.args.register in
     let entry = read r c.number.result c.from.result c.requires c.number.ensures.range c.from.ensures in
-    ap (λ t. bits_of 15 (bit_xor (bit_and (r * 2 ^ 8 % 2 ^ 16) 0x7fff) t)) entry ∙ octet_step r c.number.result c.args.levels.now c.told-levels c.number.ensures.value
+    ap (λ t. bits_of 15 (bit_xor (bit_and (r * 2 ^ 8 % 2 ^ 16) 0x7fff) t)) entry ∙ register-octet r c.number.result c.args.levels.now c.told-levels c.number.ensures.value
