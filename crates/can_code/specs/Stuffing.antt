@@ -1,4 +1,4 @@
--- Bit stuffing, by places in the finished list. (Bosch CAN 2.0 part B, section 5)
+-- Bit stuffing, by places in the finished list. (Bosch CAN 2.0 part B, section 6)
 use Rattle.std.specs.Prelude.{ℕ, ◌≡◌, ◌≢◌, ◌+◌, ◌-◌, ◌<◌, ◌==◌, Bool, true, false, ◌&&◌, if◌then◌else◌, List, [], ◌∷◌, length, take, reverse, slice_index_or}
 use Rattle.can_frame.specs.declared.level.Level.{Level}
 use Rattle.can_frame.specs.declared.level.Level.TheVariants.{Dominant}

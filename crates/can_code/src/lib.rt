@@ -2,7 +2,7 @@
 //!
 //! A frame's `head` (start of frame, identifier, control field, data) is followed by its CRC
 //! sequence; the two are bit stuffed, and a tail of ten levels that is never stuffed ends the
-//! frame. (Bosch CAN 2.0 part B, sections 3.2.1 and 5)
+//! frame. (Bosch CAN 2.0 part B, sections 3.2.1 and 6)
 //!
 //! | File | What it has | Defined in |
 //! |---|---|---|
