@@ -13,7 +13,7 @@ use Rattle.can_frame.specs.declared.level.Level.TheVariants.{Dominant, Recessive
 use Rattle.can_frame.specs.Levels.{is_recessive, level_from, level_of, bits_of}
 use Rattle.can_code.specs.Crc.{xor, crc_of}
 use Rattle.can_code.proofs.XorLemmas.{xor_zeros}
-use Rattle.can_code.proofs.LevelLemmas.{length-bits_of, bits_of-zero, bits_of-suc, bits_of-split, bits_of-mod, bits_of-shl, bits_of-xor}
+use Rattle.can_code.proofs.LevelLemmas.{length-bits_of, bits_of-zero, bits_of-suc, bits_of-append, bits_of-mod, bits_of-shl, bits_of-xor}
 use Rattle.can_code.proofs.DivisionLemmas.{none}
 use Rattle.can_code.proofs.Register.{register, register-nil, register-append, register-top}
 
@@ -36,7 +36,7 @@ register-moved n k r levels h size =
     let swapped : 15 ≡ k + n = omega arith in
     let top_size : length top ≡ length levels = length-bits_of k (r / 2 ^ n) ∙ sym size in
     let low_size : length low + length levels ≡ 15 = omega (arith, length-bits_of n r) in
-    ap (λ t. register t levels) (ap (λ m. bits_of m r) swapped ∙ bits_of-split k n r)
+    ap (λ t. register t levels) (ap (λ m. bits_of m r) swapped ∙ bits_of-append k n r)
     ∙ register-top top low levels top_size low_size
     ∙ ap (λ t. xor t (crc_of (xor top levels))) (ap (λ m. low ++ none m) size ∙ sym (bits_of-moved n k r h))
 
