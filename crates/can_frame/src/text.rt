@@ -1,3 +1,5 @@
+mod read;
+
 use thiserror::Error;
 
 /// The part of a frame text in which a fault lies.
