@@ -107,10 +107,10 @@ dlc_leaves_digits kind remote text start fits fault l =
 
 -- ---- the blank behind the DLC of a data frame
 
-dlc_one : (n : ℕ) → 0 < n → n < 10 → dlc_spelling false n ≡ (48 + n) ∷ blank
+pub dlc_one : (n : ℕ) → 0 < n → n < 10 → dlc_spelling false n ≡ (48 + n) ∷ blank
 dlc_one n some h = grind (arith, nat_tests)
 
-dlc_two : (n : ℕ) → 10 ≤ n → dlc_spelling false n ≡ (48 + n / 10) ∷ (48 + n % 10) ∷ blank
+pub dlc_two : (n : ℕ) → 10 ≤ n → dlc_spelling false n ≡ (48 + n / 10) ∷ (48 + n % 10) ∷ blank
 dlc_two n h = grind (arith, nat_tests)
 
 module _ (bytes : List ℕ) (d : ℕ) (some : 0 < d) (most : MostDigits d bytes) where

@@ -81,7 +81,7 @@ IsBytes-cons : (x : ℕ) (xs : List ℕ) → x < 256 → IsBytes xs → IsBytes 
 IsBytes-cons x xs h g zero = h
 IsBytes-cons x xs h g (suc i) = g i
 
-zeros_are_bytes : (n : ℕ) → IsBytes (replicate n 0)
+pub zeros_are_bytes : (n : ℕ) → IsBytes (replicate n 0)
 zeros_are_bytes zero i = omega arith
 zeros_are_bytes (suc n) zero = omega arith
 zeros_are_bytes (suc n) (suc i) = zeros_are_bytes n i
