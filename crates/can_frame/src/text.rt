@@ -4,8 +4,10 @@ ghost use Rattle.can_frame.specs.Parts.{Parts, IsFrame};
 ghost use Rattle.can_frame.specs.Text.{frame_text, IsTextFault};
 
 mod read;
+mod write;
 
 use crate::frame::Frame;
+use arrayvec::ArrayString;
 use thiserror::Error;
 
 /// The part of a frame text in which a fault lies.
@@ -42,6 +44,19 @@ pub struct TextFault {
 }
 
 impl Frame {
+    /// The frame's text, of 32 bytes at most.
+    pub fn to_text(&self) -> ArrayString<32>
+        ensures { result.bytes ≡ frame_text self.now }
+    {
+        let mut text = ArrayString::new();
+        write::letter(&mut text, 'S', 'E', self.is_extended());
+        write::identifier(&mut text, self.id());
+        write::letter(&mut text, 'D', 'R', self.is_remote());
+        write::data_length_code(&mut text, self.dlc(), self.bytes());
+        write::data(&mut text, self.bytes());
+        text
+    }
+
     /// Reads a frame's text: `S` or `E`, a blank, the identifier in three or eight lower-case
     /// hexadecimal digits, a blank, `D` or `R`, a blank, and the DLC in decimal. In a data frame with
     /// data bytes a blank follows, and two lower-case hexadecimal digits a byte.
