@@ -2,7 +2,6 @@
 ghost use Rattle.std.specs.Prelude.{◌≡◌, ◌<◌, ◌≤◌, ◌+◌, ◌-◌, ◌*◌, ◌++◌, length, drop};
 ghost use Rattle.arrayvec.specs.ArrayString.{array_string_len};
 ghost use Rattle.hex.specs.Hex.{encode_lower};
-ghost use Rattle.can_frame.specs.Ident.{IsIdent};
 ghost use Rattle.can_frame.specs.Text.{blank_before, decimal_digits, hex_digits, identifier_digits};
 ghost use Rattle.can_frame.specs.TextParts.{letter_spelling, identifier_spelling};
 
@@ -26,7 +25,8 @@ pub(super) fn letter(text: &mut ArrayString<32>, first: char, second: char, is_s
 pub(super) fn identifier(text: &mut ArrayString<32>, id: Id)
     requires { array_string_len text.old + identifier_digits id.extended + 1 ≤ 32 }
     ensures written { text.new.bytes ≡ text.old.bytes ++ identifier_spelling id.extended id.raw }
-    ensures len { array_string_len text.new ≡ array_string_len text.old + identifier_digits id.extended + 1 }
+    ensures len { array_string_len text.new
+        ≡ array_string_len text.old + identifier_digits id.extended + 1 }
 {
     number(text, id.raw(), identifier_digits(id.is_extended()));
     text.push(' ');
@@ -36,7 +36,8 @@ pub(super) fn identifier(text: &mut ArrayString<32>, id: Id)
 pub(super) fn data_length_code(text: &mut ArrayString<32>, dlc: u8, bytes: &[u8])
     requires range { dlc < 16 }
     requires room { array_string_len text.old + 3 ≤ 32 }
-    ensures written { text.new.bytes ≡ text.old.bytes ++ (decimal_digits dlc ++ blank_before bytes.now) }
+    ensures written { text.new.bytes
+        ≡ text.old.bytes ++ (decimal_digits dlc ++ blank_before bytes.now) }
     ensures len { array_string_len text.new ≤ array_string_len text.old + 3 }
 {
     if dlc >= 10 {

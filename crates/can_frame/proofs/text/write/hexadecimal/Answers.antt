@@ -9,4 +9,5 @@ unwrap-requires-2 c =
     let out = c.encode_to_slice.new.output in
     let left = length out - c.args.skipped in
     let digits = IfOk-at_ok (λ u. out ≡ encode_lower c.args.bytes.now) c.unwrap.ensures c.encode_to_slice.ensures.written in
-    from_utf8_is_ok c.from_utf8.result _ _ (take left (drop c.args.skipped out)) (hex_is_utf8 left c.args.skipped out c.args.bytes.now digits) c.from_utf8.ensures.cases
+    from_utf8_is_ok c.from_utf8.result _ _ (take left (drop c.args.skipped out))
+    (hex_is_utf8 left c.args.skipped out c.args.bytes.now digits) c.from_utf8.ensures.cases
