@@ -4,3 +4,15 @@ pub mod BeforeLemmas
 pub mod KeyLemmas
 pub mod LayoutLemmas
 pub mod FieldLemmas
+pub mod TextRows
+pub mod Leaving
+pub mod HexDigits
+pub mod ReadDigits
+pub mod ReadParts
+pub mod Decimals
+pub mod TextFronts
+pub mod PartsTold
+pub mod TextStages
+pub mod TextEnds
+pub mod OneText
+pub mod Written

@@ -7,3 +7,4 @@ pub mod LevelNumbers
 pub mod KeyBits
 pub mod Kept
 pub mod Text
+pub mod TextParts

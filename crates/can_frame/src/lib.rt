@@ -4,6 +4,7 @@
 //! - [`Id`], an identifier of 11 or 29 bits: `id.rt`
 //! - [`Frame`], a data or remote frame, which holds just what it was made of: `frame.rt`
 //! - [`Key`], a frame's arbitration field, whose order is that of arbitration: `key.rt`
+//! - the text of a frame, written and read, and what is wrong with other text: `text.rt`, `text/`
 //! - laws of levels and keys, each a function whose contract is the law: `laws.rt`
 #![tactic(auto)]
 
@@ -22,7 +23,7 @@ pub use laws::{
     no_field_begins_another,
 };
 pub use level::Level;
-pub use text::{TextFault, TextFaultKind};
+pub use text::{TextFault, TextFaultKind, one_text_a_frame};
 
 #[cfg(test)]
 mod tests;
