@@ -1,0 +1,4 @@
+pub mod Known
+pub mod Ranges
+pub mod LineLemmas
+pub mod Reading

@@ -1,3 +1,7 @@
 pub mod Told
+pub mod Wrapped
+pub mod Outbox
+pub mod Inbox
 pub mod Lines
+pub mod LineReader
 pub mod Coded

@@ -2,5 +2,12 @@
 #![tactic(auto)]
 
 mod fault;
+mod inbox;
+mod lines;
+mod outbox;
+mod sink;
+mod source;
 
 pub use fault::TraceFault;
+pub use sink::{Sink, ToWrite};
+pub use source::{FromRead, Source};
