@@ -1,5 +1,5 @@
 -- How a text falls into lines.
-use Rattle.std.proofs.Common.{◌≡◌, ℕ, zero, suc, ◌+◌, ◌≤◌, ◌<◌, ◌==◌, Bool, true, false, List, [], ◌∷◌, ◌++◌, length, get_or, take, drop, position, Some, None, refl, sym, ap, subst, ◌∙◌, append_assoc, arith, eqb-true}
+use Rattle.std.proofs.Common.{◌≡◌, ℕ, zero, suc, ◌+◌, ◌≤◌, ◌<◌, ◌==◌, Bool, true, false, cond, List, [], ◌∷◌, ◌++◌, length, get_or, take, drop, position, Some, None, refl, sym, ap, subst, ◌∙◌, append_assoc, arith, eqb-true}
 use Rattle.std.proofs.lemmas.List.{append-nil, length-append, take-append-drop, drop_more, take_all, drop_all}
 use Rattle.std.proofs.lemmas.List.Quantifiers.{position-Some}
 use Rattle.std.proofs.lemmas.List.Sums.{fails_before_first}
@@ -76,3 +76,55 @@ SplitsLine-no_position unread rest none is = record {
   split = refl;
   closed = λ e. is ∙ drop_all (length unread) unread (omega arith);
 }
+
+-- ---- many lines
+
+-- a text that begins with ended lines
+regrouped : (line : List ℕ) (lines : List (List ℕ)) (text : List ℕ) → flat_map with_end (line ∷ lines) ++ text ≡ line ++ 10 ∷ (flat_map with_end lines ++ text)
+regrouped line lines text = append_assoc (with_end line) (flat_map with_end lines) text ∙ append_assoc line (10 ∷ []) (flat_map with_end lines ++ text)
+
+pub ended_lines-all : (lines : List (List ℕ)) (text : List ℕ) → AllByRecursion IsLine lines → ended_lines (flat_map with_end lines ++ text) ≡ lines ++ ended_lines text
+ended_lines-all [] text h = refl
+ended_lines-all (line ∷ lines) text h =
+    ap ended_lines (regrouped line lines text) ∙ ended_lines-line line (flat_map with_end lines ++ text) h.0
+    ∙ ap (λ ls. line ∷ ls) (ended_lines-all lines text h.1)
+
+pub lines_of-all : (lines : List (List ℕ)) (text : List ℕ) → AllByRecursion IsLine lines → lines_of (flat_map with_end lines ++ text) ≡ lines ++ lines_of text
+lines_of-all [] text h = refl
+lines_of-all (line ∷ lines) text h =
+    ap lines_of (regrouped line lines text) ∙ lines_of-line line (flat_map with_end lines ++ text) h.0
+    ∙ ap (λ ls. line ∷ ls) (lines_of-all lines text h.1)
+
+pub whole_lines-all : (ended : Bool) (lines : List (List ℕ)) (text : List ℕ) → AllByRecursion IsLine lines → whole_lines ended (flat_map with_end lines ++ text) ≡ lines ++ whole_lines ended text
+whole_lines-all true lines text h = lines_of-all lines text h
+whole_lines-all false lines text h = ended_lines-all lines text h
+
+pub whole_lines-line : (ended : Bool) (line text : List ℕ) → IsLine line → whole_lines ended (line ++ 10 ∷ text) ≡ line ∷ whole_lines ended text
+whole_lines-line true line text h = lines_of-line line text h
+whole_lines-line false line text h = ended_lines-line line text h
+
+-- each ended line takes a byte at least
+pub length-with_ends : (lines : List (List ℕ)) → length lines ≤ length (flat_map with_end lines)
+length-with_ends [] = omega arith
+length-with_ends (line ∷ lines) =
+    let rest = length-with_ends lines in
+    omega (arith, rest, length-append (with_end line) (flat_map with_end lines), length-append line (10 ∷ []))
+
+-- ---- ended lines are among the lines
+
+onto_front : (byte : ℕ) (lines others : List (List ℕ)) → (more : List (List ℕ)) × (onto_first byte (lines ++ others) ≡ onto_ended byte lines ++ more)
+onto_front byte [] others = (onto_first byte others, refl)
+onto_front byte (line ∷ lines) others = (others, refl)
+
+pub lines_of-ended : (text : List ℕ) → (others : List (List ℕ)) × (lines_of text ≡ ended_lines text ++ others)
+lines_of-ended [] = ([], refl)
+lines_of-ended (byte ∷ text) = onto (lines_of-ended text) (byte == 10)
+  where
+  onto : (others : List (List ℕ)) × (lines_of text ≡ ended_lines text ++ others) → (b : Bool)
+      → (others : List (List ℕ)) × (cond b ([] ∷ lines_of text) (onto_first byte (lines_of text)) ≡ cond b ([] ∷ ended_lines text) (onto_ended byte (ended_lines text)) ++ others)
+  onto rest true = (rest.0, ap (λ ls. [] ∷ ls) rest.1)
+  onto rest false = let front = onto_front byte (ended_lines text) rest.0 in (front.0, ap (onto_first byte) rest.1 ∙ front.1)
+
+pub whole_lines-from_ended : (ended : Bool) (text : List ℕ) → (others : List (List ℕ)) × (whole_lines ended text ≡ ended_lines text ++ others)
+whole_lines-from_ended true text = lines_of-ended text
+whole_lines-from_ended false text = ([], sym (append-nil (ended_lines text)))

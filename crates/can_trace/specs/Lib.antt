@@ -5,3 +5,4 @@ pub mod Inbox
 pub mod Lines
 pub mod LineReader
 pub mod Coded
+pub mod Answering

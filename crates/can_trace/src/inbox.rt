@@ -71,6 +71,7 @@ impl Inbox {
         requires unended { R.has_ended source.old ≡ false }
         ensures bytes { Consumes (R.remaining source.old) (R.remaining source.new) self.new.unread }
         ensures taken { self.new.taken ≡ self.old.taken + length self.new.unread }
+        ensures fits { self.new.taken < 2 ^ 64 }
 
         ensures count { IfOk result (λ n. n ≡ length self.new.unread) }
         ensures ended { IfOk result (λ n. R.has_ended source.new ≡ (n == 0)) }

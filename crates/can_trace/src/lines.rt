@@ -41,11 +41,15 @@ impl<const KEPT: usize> LineReader<KEPT> {
     pub(crate) fn next_line<R: Source>(&mut self, source: &mut R) -> Result<bool, TraceFault>
         requires unfailed { R.has_failed source.old ≡ false }
         requires unended { R.has_ended source.old ≡ false }
+        requires fits { self.old.inbox.taken < 2 ^ 64 }
         ensures reads { ReadsLine (is_found result) (R.remaining source.old) (R.remaining source.new) KEPT self.old self.new }
+        ensures fits { self.new.inbox.taken < 2 ^ 64 }
+
         ensures ended { IfOk result (λ found. R.has_ended source.new ≡ not found) }
         ensures end { result ≡ Ok false → IsAtEnd (R.remaining source.new) }
         ensures within { result ≡ Ok false → self.new.inbox.taken ≤ 2 ^ 63 }
         ensures unfailed { OnOk result (R.has_failed source.new ≡ false) }
+
         ensures err { IfErr result (λ e. StopsReading e (R.has_failed source.new) self.new.inbox.taken) }
         ensures unended { OnErr result (R.has_ended source.new ≡ false) }
     {

@@ -18,6 +18,7 @@ loop-self-init g c = record {
   reading = Reading-none _ g.row.KEPT c.args.self.now _ refl c.clear.ensures;
   unfailed = c.requires.unfailed;
   unended = c.requires.unended;
+  fits = c.requires.fits;
 }
 
 pub returns-in_err-fill-clause-reads : goal.returns-in_err-fill-clause-reads
@@ -35,6 +36,7 @@ loop-self-preserved g c = record {
   reading = Reading-more g.row.KEPT c.args.self.now c.take_line.new.self _ (open_line g (goal.at.loop-self-preserved g c).After-fill) c.fill.ensures.bytes c.fill.ensures.taken refl;
   unfailed = c.in_ok-fill.ensures.unfailed;
   unended = c.in_ok-fill.ensures.ended ∙ ne_eqb _ _ c.if-branch-eq0.false;
+  fits = c.fill.ensures.fits;
 }
 
 pub returns-clause-reads : goal.returns-clause-reads

@@ -1,4 +1,4 @@
-use Rattle.std.proofs.Common.{◌≡◌, ◌+◌, ◌-◌, ◌^◌, false}
+use Rattle.std.proofs.Common.{◌≡◌, ◌+◌, ◌-◌, ◌^◌, ◌<◌, false}
 use Rattle.can_trace.proofs.Reading.{Reading}
 use Rattle.can_trace.proofs.lines.LineReader.next_line.Given as goal
 
@@ -9,6 +9,7 @@ invariant-loop-self g l =
       reading : Reading (source.remaining l.fn.source) (source.remaining l.source) g.row.KEPT l.fn.self l.self;
       unfailed : source.has_failed l.source ≡ false;
       unended : source.has_ended l.source ≡ false;
+      fits : l.self.inbox.taken < 2 ^ 64;
     }
 
 abbrev pub decreases-loop-self : goal.decreases-loop-self
