@@ -11,7 +11,7 @@ use crate::lines::LineReader;
 use crate::outbox::Outbox;
 use crate::sink::Sink;
 use crate::source::Source;
-use crate::stubs::{encode, from_text};
+use can_code::encode;
 use can_frame::{Frame, Level};
 
 /// How many bytes of a line are kept: one more than the longest frame text has.
@@ -95,7 +95,7 @@ fn answer_line<W: Sink>(
     ensures err { IfErr result (λ e. FailsToAnswer e number line.now (W.contents w.old) (W.contents w.new) out.old out.new) }
     ensures failed { W.has_failed w.new ≡ is_err_by is_write result }
 {
-    match from_text(line) {
+    match Frame::from_text(line) {
         Ok(frame) => put_frame(&frame, w, out),
         Err(fault) => Err(TraceFault::FrameLine {
             line: number,

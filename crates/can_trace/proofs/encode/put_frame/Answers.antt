@@ -6,5 +6,5 @@ use Rattle.can_trace.proofs.encode.put_frame.Goals as goal
 pub returns-clause-ok : goal.returns-clause-ok
 unfolding coded_line
 returns-clause-ok g c =
-    let digits = rw (c.deref.ensures.0, c.encode-levels.ensures.driven) at c.put_digits.ensures in
+    let digits = rw (c.deref.ensures.0, c.encode-levels.ensures.levels) at c.put_digits.ensures in
     PassesOn-put _ _ _ c.reserve.new.self _ _ c.in_ok-reserve.ensures.ok (rw digits at c.push.ensures ∙ append_assoc c.reserve.new.self _ (10 ∷ []))
