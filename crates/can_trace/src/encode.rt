@@ -77,8 +77,9 @@ fn answer_lines<R: Source, W: Sink>(
         number += 1;
         answer_line(lines.line(), number, w, out)?;
     }
-    if !lines.line().is_empty() {
-        answer_line(lines.line(), number + 1, w, out)?;
+    let last = lines.line();
+    if !last.is_empty() {
+        answer_line(last, number + 1, w, out)?;
     }
     Ok(())
 }

@@ -63,29 +63,29 @@ returns-in_err-answer_line-clause-told g c =
 pub overflow_add-number-then-not-is_empty : goal.overflow_add-number-then-not-is_empty
 overflow_add-number-then-not-is_empty g c =
     let read = last_line g (goal.at.overflow_add-number-then-not-is_empty g c).Else-branch in
-    let some = rw (c.line-2.ensures, read.1) at (sym c.is_empty.ensures ∙ c.if-not-is_empty.true) in
+    let some = rw (c.line-last.ensures, read.1) at (sym c.is_empty.ensures ∙ c.if-not-is_empty.true) in
     omega (arith, number_below-last _ _ _ _ _ _ _ _ _ read.2 some, c.in_ok-next_line.ensures.fits)
 
 pub returns-in_err-answer_line-2-clause-told : goal.returns-in_err-answer_line-2-clause-told
 returns-in_err-answer_line-2-clause-told g c =
     let read = last_line g (goal.at.returns-in_err-answer_line-2-clause-told g c).Else-branch in
-    let some = rw (c.line-2.ensures, read.1) at (sym c.is_empty.ensures ∙ c.if-not-is_empty.true) in
+    let some = rw (c.line-last.ensures, read.1) at (sym c.is_empty.ensures ∙ c.if-not-is_empty.true) in
     let ended = rw c.if-branch.false at c.in_ok-next_line.ensures.ended in
-    let fails = rw (c.line-then-not-is_empty.ensures, read.1) at c.in_err-answer_line-2.ensures.err in
+    let fails = rw (c.line-last.ensures, read.1) at c.in_err-answer_line-2.ensures.err in
     let p = err_from_is_err_and c.from_residual-in_err-answer_line-2.result c.from_residual-in_err-answer_line-2.ensures.1 in
     rw (p.1, p.2, ended) (Told-unanswered _ _ _ _ _ _ read.0 _ _ _ _ false true [] _ _ _ read.2 (lines_of-last read.2 ∙ ap (λ ls. read.2.lines ++ ls) (open_from_front read.0 some)) (FailsToAnswer-front _ _ read.0 _ _ _ _ fails))
 
 pub returns-in_ok-answer_line-2-clause-told : goal.returns-in_ok-answer_line-2-clause-told
 returns-in_ok-answer_line-2-clause-told g c =
     let read = last_line g (goal.at.returns-in_ok-answer_line-2-clause-told g c).Else-branch in
-    let some = rw (c.line-2.ensures, read.1) at (sym c.is_empty.ensures ∙ c.if-not-is_empty.true) in
+    let some = rw (c.line-last.ensures, read.1) at (sym c.is_empty.ensures ∙ c.if-not-is_empty.true) in
     let within = c.in_ok-next_line.ensures.within (ap Ok c.if-branch.false) in
-    let answers = rw (c.line-then-not-is_empty.ensures, read.1) at c.in_ok-answer_line-2.ensures.ok in
+    let answers = rw (c.line-last.ensures, read.1) at c.in_ok-answer_line-2.ensures.ok in
     Told-answered _ _ _ _ _ _ read.0 _ _ _ _ true read.2 within _ _ (open_from_front read.0 some) (Answers-front read.0 _ _ _ _ answers)
 
 pub returns-else-not-is_empty-clause-told : goal.returns-else-not-is_empty-clause-told
 returns-else-not-is_empty-clause-told g c =
     let read = last_line g (goal.at.returns-else-not-is_empty-clause-told g c).Else-branch in
-    let none = rw (c.line-2.ensures, read.1) at (sym c.is_empty.ensures ∙ c.if-not-is_empty.false) in
+    let none = rw (c.line-last.ensures, read.1) at (sym c.is_empty.ensures ∙ c.if-not-is_empty.false) in
     let within = c.in_ok-next_line.ensures.within (ap Ok c.if-branch.false) in
     Told-done _ _ _ _ _ _ read.0 _ _ _ _ true read.2 within (empty_from_front read.0 none)
