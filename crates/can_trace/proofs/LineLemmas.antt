@@ -37,9 +37,9 @@ pub lines_of-open : (line : List ℕ) → IsLine line → lines_of line ≡ open
 lines_of-open [] h = refl
 lines_of-open (byte ∷ line) h = rw (h.0, lines_of-open line h.1) (onto_open byte line)
   where
-  onto_open : (b : ℕ) (l : List ℕ) → onto_first b (open_lines l) ≡ (b ∷ l) ∷ []
-  onto_open b [] = refl
-  onto_open b (c ∷ l) = refl
+    onto_open : (b : ℕ) (l : List ℕ) → onto_first b (open_lines l) ≡ (b ∷ l) ∷ []
+    onto_open b [] = refl
+    onto_open b (c ∷ l) = refl
 
 -- ---- where the first line ends
 
@@ -120,10 +120,10 @@ pub lines_of-ended : (text : List ℕ) → (others : List (List ℕ)) × (lines_
 lines_of-ended [] = ([], refl)
 lines_of-ended (byte ∷ text) = onto (lines_of-ended text) (byte == 10)
   where
-  onto : (others : List (List ℕ)) × (lines_of text ≡ ended_lines text ++ others) → (b : Bool)
-      → (others : List (List ℕ)) × (cond b ([] ∷ lines_of text) (onto_first byte (lines_of text)) ≡ cond b ([] ∷ ended_lines text) (onto_ended byte (ended_lines text)) ++ others)
-  onto rest true = (rest.0, ap (λ ls. [] ∷ ls) rest.1)
-  onto rest false = let front = onto_front byte (ended_lines text) rest.0 in (front.0, ap (onto_first byte) rest.1 ∙ front.1)
+    onto : (others : List (List ℕ)) × (lines_of text ≡ ended_lines text ++ others) → (b : Bool)
+        → (others : List (List ℕ)) × (cond b ([] ∷ lines_of text) (onto_first byte (lines_of text)) ≡ cond b ([] ∷ ended_lines text) (onto_ended byte (ended_lines text)) ++ others)
+    onto rest true = (rest.0, ap (λ ls. [] ∷ ls) rest.1)
+    onto rest false = let front = onto_front byte (ended_lines text) rest.0 in (front.0, ap (onto_first byte) rest.1 ∙ front.1)
 
 pub whole_lines-from_ended : (ended : Bool) (text : List ℕ) → (others : List (List ℕ)) × (whole_lines ended text ≡ ended_lines text ++ others)
 whole_lines-from_ended true text = lines_of-ended text

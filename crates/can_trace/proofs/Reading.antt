@@ -1,5 +1,5 @@
 -- The steps of reading a line: bytes are read, and what is unread goes into the line.
-use Rattle.std.proofs.Common.{◌≡◌, ℕ, zero, suc, ◌+◌, ◌≤◌, ◌==◌, Bool, true, false, cond, List, [], ◌∷◌, ◌++◌, length, take, Option, refl, sym, ap, ◌∙◌, append_assoc, add-zero, arith}
+use Rattle.std.proofs.Common.{◌≡◌, ℕ, zero, suc, ◌+◌, ◌==◌, Bool, false, cond, List, [], ◌∷◌, ◌++◌, length, take, Option, refl, sym, ap, ◌∙◌, append_assoc, add-zero, arith}
 use Rattle.std.proofs.lemmas.List.{append-nil, length-append}
 use Rattle.std.proofs.KnownBytes.{Consumes-nil, Consumes-trans}
 use Rattle.std.specs.Io.KnownBytes.{Consumes}
@@ -7,6 +7,7 @@ use Rattle.can_trace.specs.Inbox.{Received}
 use Rattle.can_trace.specs.Lines.{IsLine, SplitsLine}
 use Rattle.can_trace.specs.LineReader.{ReadsLine}
 use Rattle.can_trace.specs.declared.lines.LineReader.{LineReader}
+use Rattle.can_trace.proofs.Elements.{AllByRecursion-append}
 
 -- An input was read since the call began, and it and the bytes that were unread then are a part of a line
 -- and the bytes that are unread now. The first bytes of the part are kept.
@@ -18,10 +19,6 @@ pub record Reading (before after : Option (List ℕ)) (kept : ℕ) (old now : Li
   pub is_line : IsLine part
   pub split : old.inbox.unread ++ input ≡ part ++ now.inbox.unread
   pub keeps : now.line.items ≡ take kept part
-
-pub IsLine-append : (xs ys : List ℕ) → IsLine xs → IsLine ys → IsLine (xs ++ ys)
-IsLine-append [] ys h k = k
-IsLine-append (x ∷ xs) ys h k = (h.0, IsLine-append xs ys h.1 k)
 
 take-take_front : (n : ℕ) (xs ys : List ℕ) → take n (take n xs ++ ys) ≡ take n (xs ++ ys)
 take-take_front zero xs ys = refl
@@ -56,7 +53,7 @@ module _ {before after : Option (List ℕ)} (kept : ℕ) (old now new : LineRead
         consumes = so_far.consumes;
         taken = taken ∙ so_far.taken;
         splits = record {
-          is_line = IsLine-append so_far.part part so_far.is_line splits.is_line;
+          is_line = AllByRecursion-append (λ byte. (byte == 10) ≡ false) so_far.part part so_far.is_line splits.is_line;
           split = so_far.split ∙ ap (λ t. so_far.part ++ t) (sym (append-nil now.inbox.unread) ∙ splits.split) ∙ sym (append_assoc so_far.part part end);
           closed = splits.closed;
         };

@@ -1,8 +1,7 @@
 -- A frame's text has at most 32 bytes, so the first 33 bytes of a line tell whether it is one, and which
 -- fault it has otherwise.
-use Rattle.std.proofs.Common.{◌≡◌, ℕ, zero, suc, ◌+◌, ◌*◌, ◌/◌, ◌%◌, ◌≤◌, ◌<◌, ◌↔◌, nat_lt, Bool, true, false, cond, List, [], ◌∷◌, ◌++◌, length, take, min, codes, refl, sym, ap, subst, ◌∙◌, arith}
+use Rattle.std.proofs.Common.{◌≡◌, ℕ, zero, suc, ◌+◌, ◌/◌, ◌%◌, ◌≤◌, ◌↔◌, nat_lt, Bool, true, false, cond, List, [], ◌∷◌, ◌++◌, length, take, codes, refl, sym, ap, subst, ◌∙◌, arith}
 use Rattle.std.proofs.lemmas.List.{length-append, length-take, take_all, take-take}
-use Rattle.std.proofs.lemmas.Bool.{cases_lt}
 use Rattle.hex.proofs.HexLemmas.{length-encode_with}
 use Rattle.hex.specs.Hex.{lower_digits}
 use Rattle.can_frame.specs.Parts.{Parts, IsFrame}
@@ -19,9 +18,9 @@ length-hex_digits (suc k) n = ap suc (length-hex_digits k n)
 length-decimal_digits : (n : ℕ) → length (decimal_digits n) ≤ 2
 length-decimal_digits n = by_size (nat_lt n 10)
   where
-  by_size : (b : Bool) → length (cond b ((48 + n) ∷ []) ((48 + n / 10) ∷ (48 + n % 10) ∷ [])) ≤ 2
-  by_size true = omega arith
-  by_size false = omega arith
+    by_size : (b : Bool) → length (cond b ((48 + n) ∷ []) ((48 + n / 10) ∷ (48 + n % 10) ∷ [])) ≤ 2
+    by_size true = omega arith
+    by_size false = omega arith
 
 length-blank_before : (bytes : List ℕ) → length (blank_before bytes) ≤ 1
 length-blank_before [] = omega arith
@@ -49,10 +48,22 @@ length-frame_text f whole =
     let from_identifier = length-append (identifier_part f) (direction_part f ++ (dlc_part f ++ data_part f)) in
     let all = length-append (letter_part f) (identifier_part f ++ (direction_part f ++ (dlc_part f ++ data_part f))) in
     omega (
-      arith, all, from_identifier, from_direction, data_and_dlc, identifier, dlc,
-      length-letter f.id.extended, length-hex_digits (identifier_digits f.id.extended) f.id.raw, identifier_digits_le f.id.extended,
-      length-direction f.remote, length-decimal_digits f.dlc, length-blank_before f.bytes, length-encode_with lower_digits f.bytes,
-      whole.count, byte_count_le f.remote f.dlc,
+      arith,
+      all,
+      from_identifier,
+      from_direction,
+      data_and_dlc,
+      identifier,
+      dlc,
+      length-letter f.id.extended,
+      length-hex_digits (identifier_digits f.id.extended) f.id.raw,
+      identifier_digits_le f.id.extended,
+      length-direction f.remote,
+      length-decimal_digits f.dlc,
+      length-blank_before f.bytes,
+      length-encode_with lower_digits f.bytes,
+      whole.count,
+      byte_count_le f.remote f.dlc,
     )
 
 front_short : (n : ℕ) (line : List ℕ) → BeginsSome (take n line) → n ≤ length line → n ≤ 32

@@ -1,5 +1,5 @@
 -- What reading a line does.
-use Rattle.std.specs.Prelude.{◌≡◌, ℕ, ◌+◌, Bool, true, false, List, length, take, Option, Result, Ok, Err}
+use Rattle.std.specs.Prelude.{◌≡◌, ℕ, ◌+◌, Bool, false, List, length, take, Option, Result, Ok, Err}
 use Rattle.std.specs.Io.KnownBytes.{Consumes}
 use Rattle.can_trace.specs.Lines.{SplitsLine}
 use Rattle.can_trace.specs.declared.lines.LineReader.{LineReader}

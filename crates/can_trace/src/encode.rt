@@ -17,6 +17,9 @@ use can_frame::{Frame, Level};
 /// How many bytes of a line are kept: one more than the longest frame text has.
 const KEPT: usize = 33;
 
+/// How many bytes the line of a frame's levels has at most.
+const LINE: usize = 158;
+
 /// Reads lines of frame text and writes for each the levels of its frame, as `0` and `1` and 0x0a.
 ///
 /// A line is ended by 0x0a; the last may lack it, and empty input has no lines. Lines may have any
@@ -42,6 +45,8 @@ pub fn encode_lines<R: Source, W: Sink>(r: &mut R, w: &mut W) -> Result<(), Trac
     // What the reader and the writer came to.
     ensures ended { OnOk result (IsTrue (R.has_ended r.new)) }
     ensures at_end { OnOk result (IsAtEnd (R.remaining r.new)) }
+    ensures read_unended { IsErrOf result TraceFault.Read → IsFalse (R.has_ended r.new) }
+    ensures long_unended { IsErrOf result TraceFault.Long → IsFalse (R.has_ended r.new) }
     ensures write_failed { IsErrOf result TraceFault.Write ↔ IsTrue (W.has_failed w.new) }
     ensures read_failed { IsErrOf result TraceFault.Read ↔ (IsTrue (R.has_failed r.new) × IsFalse (W.has_failed w.new)) }
 {
@@ -68,6 +73,8 @@ fn answer_lines<R: Source, W: Sink>(
     ensures dropped { IsErrOf result TraceFault.Write → out.new ≡ [] }
     ensures ended { OnOk result (R.has_ended r.new ≡ true) }
     ensures at_end { OnOk result (IsAtEnd (R.remaining r.new)) }
+    ensures read_unended { IsErrOf result TraceFault.Read → R.has_ended r.new ≡ false }
+    ensures long_unended { IsErrOf result TraceFault.Long → R.has_ended r.new ≡ false }
     ensures read_failed { R.has_failed r.new ≡ is_err_by is_read result }
     ensures write_failed { W.has_failed w.new ≡ is_err_by is_write result }
 {
@@ -114,20 +121,31 @@ fn put_frame<W: Sink>(frame: &Frame, w: &mut W, out: &mut Outbox) -> Result<(), 
     ensures failed { W.has_failed w.new ≡ is_err result }
     ensures fault { IfErr result (λ e. e ≡ TraceFault.Write) }
 {
-    let levels = encode(frame);
-    out.reserve(w, levels.len() + 1)?;
-    put_digits(&levels, out);
-    out.push(b'\n');
-    Ok(())
+    let mut line = [0; LINE];
+    let length = write_line(frame, &mut line);
+    out.put(w, &line[..length])
 }
 
-/// Puts the digit of each level.
-fn put_digits(levels: &[Level], out: &mut Outbox)
-    requires { length out.old + length levels.now ≤ 8192 }
-    ensures { out.new ≡ out.old ++ map digit_of levels.now }
+/// Writes the line of the frame's levels, and answers its length.
+fn write_line(frame: &Frame, line: &mut [u8]) -> usize
+    requires { length line.old ≡ LINE }
+    ensures bound { result ≤ LINE }
+    ensures line { take result line.new ≡ coded_line frame.now }
 {
-    for level in levels {
-        out.push(digit(*level));
+    let levels = encode(frame);
+    let count = levels.len();
+    write_digits(&levels, &mut line[..count]);
+    line[count] = b'\n';
+    count + 1
+}
+
+/// Writes the digit of each level.
+fn write_digits(levels: &[Level], digits: &mut [u8])
+    requires { length digits.old ≡ length levels.now }
+    ensures { digits.new ≡ map digit_of levels.now }
+{
+    for (place, level) in levels.iter().enumerate() {
+        digits[place] = digit(*level);
     }
 }
 

@@ -8,8 +8,8 @@ use std::marker::Model;
 /// How many bytes a read gives at most.
 const CAPACITY: usize = 8192;
 
-/// How many bytes an input has at most.
-pub(crate) const MAX_BYTES: u64 = 1 << 63;
+/// How many bytes an input has at most, 2^63.
+const MAX_BYTES: u64 = 1 << 63;
 
 /// What a stream read from its source in large pieces, and has not used yet. In clauses it is these
 /// bytes, `unread`, and how many bytes were read in all, `taken`.
@@ -24,12 +24,13 @@ pub(crate) struct Inbox {
 impl Model for Inbox {
     ghost use Rattle.std.specs.Prelude.{◌≤◌, slice_range};
     ghost use Rattle.can_trace.specs.Inbox.{Received};
+    ghost use Rattle.can_trace.specs.declared.inbox.TheConstants.{CAPACITY};
 
     ghost Value = { Received };
 
     ghost view = { λ a. record { unread = slice_range a.bytes a.start a.end; taken = a.taken } };
 
-    ghost invariant = { λ a. (a.start ≤ a.end) × (a.end ≤ 8192) };
+    ghost invariant = { λ a. (a.start ≤ a.end) × (a.end ≤ CAPACITY) };
 }
 
 impl Inbox {

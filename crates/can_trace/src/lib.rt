@@ -21,6 +21,7 @@
 mod encode;
 mod fault;
 mod inbox;
+mod laws;
 mod lines;
 mod outbox;
 mod sink;
@@ -30,5 +31,6 @@ mod tests;
 
 pub use encode::encode_lines;
 pub use fault::TraceFault;
+pub use laws::one_answer;
 pub use sink::{Sink, ToWrite};
 pub use source::{FromRead, Source};

@@ -1,4 +1,4 @@
-ghost use Rattle.std.specs.Prelude.{◌≡◌, ℕ, ◌+◌, ◌<◌, ◌≤◌, false, List, [], ◌∷◌, ◌++◌, length, take, is_err, IfOk, OnOk, OnErr, IfErr};
+ghost use Rattle.std.specs.Prelude.{◌≡◌, ℕ, ◌+◌, ◌<◌, ◌≤◌, false, List, [], ◌++◌, length, take, is_err, IfOk, OnOk, OnErr, IfErr};
 ghost use Rattle.std.specs.Io.KnownBytes.{Appends, Keeps};
 ghost use Rattle.can_trace.specs.Outbox.{PassesOn, TakesFront};
 
@@ -7,7 +7,7 @@ use crate::sink::Sink;
 use std::marker::Model;
 
 /// How many bytes wait at most.
-pub(crate) const CAPACITY: usize = 8192;
+const CAPACITY: usize = 8192;
 
 /// Bytes on their way to a sink, which it is given in large pieces. In clauses it is the list of the
 /// bytes that wait. A sink that failed is not written to again, so what it did not take is dropped.
@@ -19,12 +19,13 @@ pub(crate) struct Outbox {
 
 impl Model for Outbox {
     ghost use Rattle.std.specs.Prelude.{ℕ, ◌≤◌, List, take};
+    ghost use Rattle.can_trace.specs.declared.outbox.TheConstants.{CAPACITY};
 
     ghost Value = { List ℕ };
 
     ghost view = { λ a. take a.length a.bytes };
 
-    ghost invariant = { λ a. a.length ≤ 8192 };
+    ghost invariant = { λ a. a.length ≤ CAPACITY };
 }
 
 impl Outbox {
@@ -38,31 +39,32 @@ impl Outbox {
         }
     }
 
-    /// Puts one byte behind those that wait.
-    pub(crate) fn push(&mut self, byte: u8)
-        requires { length self.old < 8192 }
-        ensures { self.new ≡ self.old ++ byte ∷ [] }
-    {
-        self.bytes[self.length] = byte;
-        self.length += 1;
-    }
-
-    /// Makes room for so many bytes: where it lacks, the sink gets all that wait. An `Err` drops them.
-    pub(crate) fn reserve<W: Sink>(&mut self, sink: &mut W, count: usize) -> Result<(), TraceFault>
-        requires fits { count ≤ 8192 }
+    /// Puts bytes behind those that wait. Where room lacks, the sink first gets all that wait; an `Err`
+    /// drops them.
+    pub(crate) fn put<W: Sink>(&mut self, sink: &mut W, bytes: &[u8]) -> Result<(), TraceFault>
+        requires fits { length bytes.now ≤ CAPACITY }
         requires unfailed { W.has_failed sink.old ≡ false }
-        ensures room { OnOk result (length self.new + count ≤ 8192) }
-        ensures ok { OnOk result (PassesOn (W.contents sink.old) (W.contents sink.new) self.old self.new []) }
+        ensures ok { OnOk result (PassesOn (W.contents sink.old) (W.contents sink.new) self.old self.new bytes.now) }
         ensures err { OnErr result (TakesFront (W.contents sink.old) (W.contents sink.new) self.old) }
         ensures dropped { OnErr result (self.new ≡ []) }
         ensures failed { W.has_failed sink.new ≡ is_err result }
         ensures fault { IfErr result (λ e. e ≡ TraceFault.Write) }
     {
-        if CAPACITY - self.length < count {
-            self.flush(sink)
-        } else {
-            Ok(())
+        if CAPACITY - self.length < bytes.len() {
+            self.flush(sink)?;
         }
+        self.extend(bytes);
+        Ok(())
+    }
+
+    /// Puts bytes behind those that wait, where there is room for them.
+    fn extend(&mut self, bytes: &[u8])
+        requires { length self.old + length bytes.now ≤ CAPACITY }
+        ensures { self.new ≡ self.old ++ bytes.now }
+    {
+        let end = self.length + bytes.len();
+        self.bytes[self.length..end].copy_from_slice(bytes);
+        self.length = end;
     }
 
     /// Gives the sink all that wait. An `Err` drops what it did not take.

@@ -132,8 +132,16 @@ fn answers(rt: HostRuntime) {
             for taken in [1, 2, 512] {
                 let mut reader = reader_of(text, piece, Stop::Nothing);
                 let mut writer = writer_of(rt.alloc(), taken, ROOM, Stop::Nothing);
-                assert_eq!(rt; encode_lines(&mut reader, &mut writer), outcome, "pieces of {piece}");
-                assert_eq!(rt; writer.into_inner().taken.as_slice(), levels, "writes of {taken}");
+                assert_eq!(rt;
+                    encode_lines(&mut reader, &mut writer),
+                    outcome,
+                    "pieces of {piece}"
+                );
+                assert_eq!(rt;
+                    writer.into_inner().taken.as_slice(),
+                    levels,
+                    "writes of {taken}"
+                );
             }
         }
     }
@@ -162,7 +170,10 @@ fn failing_reads(rt: HostRuntime) {
         for piece in [1, 2, 3, 7, 8192] {
             let mut reader = reader_of(b"S 000 D 0\nS 001 D", piece, Stop::Fails(kind));
             let mut writer = writer_of(rt.alloc(), 512, ROOM, Stop::Nothing);
-            assert_eq!(rt; encode_lines(&mut reader, &mut writer), Err(TraceFault::Read));
+            assert_eq!(rt;
+                encode_lines(&mut reader, &mut writer),
+                Err(TraceFault::Read)
+            );
             assert!(rt; reader.failed() && !reader.ended() && !writer.failed());
             assert_eq!(rt; reader.into_inner().stops, 1);
             assert_eq!(rt; writer.into_inner().taken.as_slice(), S000);
@@ -180,7 +191,10 @@ fn failing_writes(rt: HostRuntime) -> Result<(), Fail> {
             for room in [0, 30, 10_000, 20_399] {
                 let mut reader = reader_of(&text, 8192, Stop::Nothing);
                 let mut writer = writer_of(rt.alloc(), size, room, stop);
-                assert_eq!(rt; encode_lines(&mut reader, &mut writer), Err(TraceFault::Write));
+                assert_eq!(rt;
+                    encode_lines(&mut reader, &mut writer),
+                    Err(TraceFault::Write)
+                );
                 assert!(rt; writer.failed());
                 let writer = writer.into_inner();
                 assert_eq!(rt; writer.stops, 1);

@@ -1,7 +1,7 @@
-use Rattle.std.proofs.Common.{◌≡◌, ℕ, List, ◌++◌, true, false, [], ◌∷◌, ◌∙◌, take, Ok, sym, ap, refl, arith}
+use Rattle.std.proofs.Common.{◌≡◌, ℕ, List, ◌++◌, true, false, [], ◌∙◌, take, Ok, sym, ap, arith}
 use Rattle.std.proofs.lemmas.Result.{err_from_is_err_and}
-use Rattle.can_trace.specs.Lines.{whole_lines}
-use Rattle.can_trace.proofs.Answering.{Answering, AtLine, Answering-none, AtLine-read, Answering-answered, Answers-front, FailsToAnswer-front, empty_from_front, open_from_front, whole_lines-ended, lines_of-last, number_below-ended, number_below-last, Told-stopped, Told-unanswered, Told-done, Told-answered}
+use Rattle.can_trace.proofs.Answering.{AtLine, Answering-none, AtLine-read, Answering-answered, Answers-front, FailsToAnswer-front, empty_from_front, open_from_front, whole_lines-ended, lines_of-last, number_below-ended, number_below-last}
+use Rattle.can_trace.proofs.Endings.{Told-stopped, Told-unanswered, Told-done, Told-answered}
 use Rattle.can_trace.proofs.encode.answer_lines.Given.{Over}
 use Rattle.can_trace.proofs.encode.answer_lines.Goals.{Then-branch, Else-branch}
 use Rattle.can_trace.proofs.encode.answer_lines.Goals as goal

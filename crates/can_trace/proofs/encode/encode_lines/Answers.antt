@@ -1,6 +1,6 @@
 use Rattle.std.proofs.Common.{[]}
 use Rattle.std.proofs.KnownBytes.{Appends-nil}
-use Rattle.can_trace.proofs.Answering.{Told-flushed, Told-unflushed, Told-ok, Told-err}
+use Rattle.can_trace.proofs.Endings.{Told-flushed, Told-unflushed, Told-ok, Told-err}
 use Rattle.can_trace.proofs.encode.encode_lines.Goals as goal
 
 pub returns-in_err-flush-clause-write : goal.returns-in_err-flush-clause-write
@@ -26,5 +26,5 @@ pub returns-else-not-failed-clause-write : goal.returns-else-not-failed-clause-w
 returns-else-not-failed-clause-write g c =
     let answered = c.answer_lines-answered in
     λ is.
-        let told = rw (answered.ensures.dropped is) at answered.ensures.told in
-        Told-err _ _ _ _ _ _ _ answered.result _ (Told-flushed _ _ _ _ _ _ answered.new.w [] answered.result _ told (Appends-nil _)) is
+    let told = rw (answered.ensures.dropped is) at answered.ensures.told in
+    Told-err _ _ _ _ _ _ _ answered.result _ (Told-flushed _ _ _ _ _ _ answered.new.w [] answered.result _ told (Appends-nil _)) is

@@ -1,7 +1,6 @@
-use Rattle.std.proofs.Common.{arith, length, drop, take, ap, sym, ◌∙◌, subst, length-drop, ℕ}
+use Rattle.std.proofs.Common.{arith, length-drop}
 use Rattle.std.proofs.lemmas.List.{take_rest}
 use Rattle.std.proofs.lemmas.Result.{err_from_is_err_and}
-use Rattle.std.specs.Io.KnownBytes.{Appends}
 use Rattle.can_trace.proofs.Known.{Appends-take, TakesFront-kept}
 use Rattle.can_trace.proofs.outbox.write_all.Goals as goal
 

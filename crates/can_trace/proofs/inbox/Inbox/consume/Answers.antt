@@ -1,6 +1,5 @@
 use Rattle.std.proofs.Common.{◌+◌, ◌≤◌, ℕ, List, sym, ap, arith}
 use Rattle.std.proofs.lemmas.List.{length-take, length-drop}
-use Rattle.can_trace.specs.Inbox.{Received}
 use Rattle.can_trace.proofs.Ranges.{drop-slice_range}
 use Rattle.can_trace.proofs.inbox.Inbox.consume.Goals as goal
 
