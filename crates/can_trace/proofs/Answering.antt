@@ -15,7 +15,7 @@ use Rattle.can_trace.specs.declared.lines.LineReader.{LineReader}
 use Rattle.can_trace.proofs.Elements.{AllByRecursion-append}
 use Rattle.can_trace.proofs.Codings.{Codes-none, Codes-push}
 use Rattle.can_trace.proofs.LineLemmas.{with_end, open_lines, lines_of-open, ended_lines-open, ended_lines-all, lines_of-all, whole_lines-all, whole_lines-line, length-with_ends}
-use Rattle.can_trace.proofs.TextLemmas.{line_from_front, IsTextFault-front}
+use Rattle.can_trace.proofs.TextLemmas.{line_from_front, IsTextFault-front, IsFrameText-front}
 
 -- ---- the state of a run
 
@@ -182,7 +182,7 @@ Answers-front line held holds old new answers = record {
 pub FailsToAnswer-front : (e : TraceFault) (number : ℕ) (line : List ℕ) (held holds : Option (List ℕ)) (old new : List ℕ)
     → FailsToAnswer e number (take 33 line) held holds old new → FailsToAnswer e number line held holds old new
 FailsToAnswer-front Write number line held holds old new fails = fails
-FailsToAnswer-front (FrameLine n fault) number line held holds old new fails = (fails.0, IsTextFault-front line fault fails.1, fails.2, fails.3)
+FailsToAnswer-front (FrameLine n fault) number line held holds old new fails = (fails.0, λ text. fails.1 (IsFrameText-front line text), IsTextFault-front line fault fails.2, fails.3, fails.4)
 FailsToAnswer-front Read number line held holds old new fails = fails
 FailsToAnswer-front Long number line held holds old new fails = fails
 

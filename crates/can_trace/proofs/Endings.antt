@@ -3,7 +3,7 @@ use Rattle.std.proofs.Common.{◌≡◌, ℕ, ◌+◌, ◌^◌, ◌≤◌, ◌<�
 use Rattle.std.proofs.lemmas.List.{append-nil}
 use Rattle.std.proofs.KnownBytes.{Appends-trans, Appends-kept}
 use Rattle.std.specs.Io.KnownBytes.{Appends}
-use Rattle.can_frame.specs.Text.{IsTextFault}
+use Rattle.can_frame.specs.Text.{IsTextFault, IsFrameText}
 use Rattle.can_frame.specs.declared.text.TextFault.{TextFault}
 use Rattle.can_trace.specs.Lines.{lines_of, ended_lines, whole_lines}
 use Rattle.can_trace.specs.Outbox.{TakesFront}
@@ -22,15 +22,16 @@ use Rattle.can_trace.proofs.Answering.{AtLine, Codes-answered, lines_of-last, en
 module _ {before after held holds : Option (List ℕ)} {found : Bool} {line unread waiting : List ℕ} {taken number : ℕ}
     (ended : Bool) (others : List (List ℕ)) (at : AtLine before after held holds found line unread waiting taken number) (whole : whole_lines ended at.input ≡ at.lines ++ line ∷ others) where
   -- the line is no frame's text
-  pub IsFirstBadLine-at : (n : ℕ) (fault : TextFault) → n ≡ number + 1 → IsTextFault line fault → IsFirstBadLine n fault ended at.input (at.output ++ waiting)
-  IsFirstBadLine-at n fault n_is is_fault = record {
+  pub IsFirstBadLine-at : (n : ℕ) (fault : TextFault) → n ≡ number + 1 → ¬ IsFrameText line → IsTextFault line fault → IsFirstBadLine n fault ended at.input (at.output ++ waiting)
+  IsFirstBadLine-at n fault n_is is_bad has_fault = record {
     before = at.lines;
     bad = line;
     after = others;
     lines = whole;
     codes = at.codes;
     number_is = omega (arith, n_is, at.number_is);
-    is_fault = is_fault;
+    is_bad = is_bad;
+    has_fault = has_fault;
   }
 
   -- the writer failed
@@ -112,8 +113,8 @@ module _ {R W : Type 0} (remaining : R → Option (List ℕ)) (r_before r : R) (
     input = at.input;
     output = at.output;
     consumes = at.consumes;
-    appends = Appends-kept _ _ _ at.output at.appends fails.2;
-    related = rw fails.3 (IsFirstBadLine-at ended others at whole n fault fails.0 fails.1);
+    appends = Appends-kept _ _ _ at.output at.appends fails.3;
+    related = rw fails.4 (IsFirstBadLine-at ended others at whole n fault fails.0 fails.1 fails.2);
   }
   Told-unanswered found ended others w_after waiting_after Read at whole fails = absurd fails
   Told-unanswered found ended others w_after waiting_after Long at whole fails = absurd fails

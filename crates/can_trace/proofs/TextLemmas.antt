@@ -98,3 +98,10 @@ IsTextFault-front line fault h =
       trailing = subst (λ (t : List ℕ). (fault.kind ≡ Trailing) ↔ IsFrameText t) same h.trailing;
       part = subst (λ (t : List ℕ). (f : Parts) → Begins t f → (IsFrameText t → ⊥) → fault.kind ≡ part_at f fault.place) same h.part;
     }
+
+-- a frame's text is its own front
+pub IsFrameText-front : (line : List ℕ) → IsFrameText line → IsFrameText (take 33 line)
+IsFrameText-front line text =
+    let short = length-frame_text text.0 text.1 in
+    let within : length line ≤ 33 = omega (arith, ap length text.2) in
+    (text.0, text.1, text.2 ∙ sym (take_all 33 line within))

@@ -2,7 +2,7 @@
 use Rattle.std.specs.Prelude.{◌≡◌, ℕ, Bool, true, false, List, [], Option, Result, Ok, Err}
 use Rattle.std.specs.Io.KnownBytes.{Keeps}
 use Rattle.can_frame.specs.Parts.{Parts, IsFrame}
-use Rattle.can_frame.specs.Text.{frame_text, IsTextFault}
+use Rattle.can_frame.specs.Text.{frame_text, IsFrameText, IsTextFault}
 use Rattle.can_trace.specs.declared.fault.TraceFault.{TraceFault}
 use Rattle.can_trace.specs.declared.fault.TraceFault.TheVariants.{Read, Write, Long, FrameLine}
 use Rattle.can_trace.specs.Outbox.{PassesOn, TakesFront}
@@ -34,7 +34,7 @@ pub record Answers (line : List ℕ) (held holds : Option (List ℕ)) (old new :
 -- The line of this number was not answered: the writer failed, or the line is no frame's text.
 abbrev pub FailsToAnswer : TraceFault → ℕ → List ℕ → Option (List ℕ) → Option (List ℕ) → List ℕ → List ℕ → Type 0
 FailsToAnswer Write number line held holds old new = TakesFront held holds old × (new ≡ [])
-FailsToAnswer (FrameLine n fault) number line held holds old new = (n ≡ number) × IsTextFault line fault × Keeps held holds × (new ≡ old)
+FailsToAnswer (FrameLine n fault) number line held holds old new = (n ≡ number) × (¬ IsFrameText line) × IsTextFault line fault × Keeps held holds × (new ≡ old)
 FailsToAnswer Read number line held holds old new = ⊥
 FailsToAnswer Long number line held holds old new = ⊥
 

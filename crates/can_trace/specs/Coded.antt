@@ -5,7 +5,7 @@ use Rattle.can_frame.specs.declared.level.Level.{Level}
 use Rattle.can_frame.specs.declared.level.Level.TheVariants.{Dominant, Recessive}
 use Rattle.can_frame.specs.declared.text.TextFault.{TextFault}
 use Rattle.can_frame.specs.Parts.{Parts, IsFrame}
-use Rattle.can_frame.specs.Text.{frame_text, IsTextFault}
+use Rattle.can_frame.specs.Text.{frame_text, IsFrameText, IsTextFault}
 use Rattle.can_code.specs.Wire.{driven}
 use Rattle.can_trace.specs.Lines.{lines_of, ended_lines, whole_lines}
 
@@ -49,7 +49,7 @@ pub record BeginsEncoding (reader_ended : Bool) (input output : List ℕ) : Type
   pub codes : Codes good (output ++ rest)
 
 -- Of the lines of the input that are known whole, the line of this number, from 1, is the first that is
--- no frame's text, and this is its fault. The output is the answer to the lines before it.
+-- no frame's text, and it has this fault. The output is the answer to the lines before it.
 pub record IsFirstBadLine (number : ℕ) (fault : TextFault) (reader_ended : Bool) (input output : List ℕ) : Type 0 where
   pub before : List (List ℕ)
   pub bad : List ℕ
@@ -57,4 +57,5 @@ pub record IsFirstBadLine (number : ℕ) (fault : TextFault) (reader_ended : Boo
   pub lines : whole_lines reader_ended input ≡ before ++ bad ∷ after
   pub codes : Codes before output
   pub number_is : number ≡ length before + 1
-  pub is_fault : IsTextFault bad fault
+  pub is_bad : ¬ IsFrameText bad
+  pub has_fault : IsTextFault bad fault
