@@ -1,9 +1,9 @@
 -- The hexadecimal digits of a number, and of bytes.
-use Rattle.std.proofs.Common.{◌≡◌, ℕ, zero, suc, ◌+◌, ◌-◌, ◌*◌, ◌/◌, ◌%◌, ◌^◌, ◌<◌, ◌≤◌, List, [], ◌∷◌, ◌++◌, length, get_or, Option, Some, unwrap_or, refl, sym, ◌∙◌, ap, arith, append_assoc, zero-add, add-one}
-use Rattle.std.proofs.Math.Nat.{suc-add, pow-suc, div-div-eq-div-mul, div-lt_iff_lt-mul, one-le-pow, div-one}
-use Rattle.std.proofs.lemmas.Nat.{pow-add, div-mul-add, mod-mul-add}
+use Rattle.std.proofs.Common.{◌≡◌, ℕ, zero, suc, ◌+◌, ◌*◌, ◌/◌, ◌%◌, ◌^◌, ◌<◌, List, [], ◌∷◌, ◌++◌, length, get_or, Option, unwrap_or, refl, sym, ◌∙◌, ap, arith, zero-add, add-one}
+use Rattle.std.proofs.Math.Nat.{suc-add, pow-suc, div-div-eq-div-mul, one-le-pow, div-one}
+use Rattle.std.proofs.lemmas.Nat.{pow-add, div-mul-add}
 use Rattle.std.proofs.lemmas.List.{same_from_push}
-use Rattle.hex.specs.Hex.{encode_with, encode_lower, lower_digits, hex_digit_value, IsBytes}
+use Rattle.hex.specs.Hex.{encode_with, encode_lower, lower_digits, hex_digit_value}
 use Rattle.hex.proofs.HexLemmas.{IsDigits-lower_digits}
 use Rattle.can_frame.specs.Text.{hex_digits}
 
@@ -18,7 +18,7 @@ unfolding hex_digits
 hex_digits-add zero j n = ap (λ k. hex_digits k n) (zero-add j)
 hex_digits-add (suc i) j n =
     let lower : n / 16 ^ (i + j) ≡ n / 16 ^ j / 16 ^ i =
-        ap (λ m. n / m) (pow-add 16 i j ∙ omega arith) ∙ sym (div-div-eq-div-mul n (16 ^ j) (16 ^ i))
+    ap (λ m. n / m) (pow-add 16 i j ∙ omega arith) ∙ sym (div-div-eq-div-mul n (16 ^ j) (16 ^ i))
     in ap (λ k. hex_digits k n) (suc-add i j)
     ∙ ap (λ m. get_or lower_digits (m % 16) 0 ∷ hex_digits (i + j) n) lower
     ∙ ap (λ t. get_or lower_digits (n / 16 ^ j / 16 ^ i % 16) 0 ∷ t) (hex_digits-add i j n)
@@ -39,7 +39,8 @@ hex_digits-push k n d small =
     let upper : (16 * n + d) / 16 ^ 1 ≡ n = omega arith in
     let lowest : (16 * n + d) % 16 ≡ d % 16 = omega arith in
     hex_digits-add k 1 (16 * n + d) ∙ ap (λ m. hex_digits k m ++ hex_digits 1 (16 * n + d)) upper
-    ∙ ap (λ t. hex_digits k n ++ t) (hex_digits-one (16 * n + d) ∙ ap (λ m. get_or lower_digits m 0 ∷ []) lowest ∙ sym (hex_digits-one d))
+    ∙ ap (λ t. hex_digits k n ++ t) (hex_digits-one (16 * n + d) ∙ ap (λ m. get_or lower_digits m 0 ∷ []) lowest
+    ∙ sym (hex_digits-one d))
 
 -- digits with any others behind them are those of a number
 pub hex_digits-shifted : (i j n : ℕ) → hex_digits (i + j) (n * 16 ^ j) ≡ hex_digits i n ++ hex_digits j (n * 16 ^ j)
@@ -58,10 +59,11 @@ pub hex_digits-same : (k m n : ℕ) → m < 16 ^ k → n < 16 ^ k → hex_digits
 hex_digits-same zero m n hm hn e = omega arith
 hex_digits-same (suc k) m n hm hn e =
     let last : (x : ℕ) → hex_digits (suc k) x ≡ hex_digits k (x / 16) ++ get_or lower_digits (x % 16) 0 ∷ [] =
-        λ x. ap (λ i. hex_digits i x) (sym (add-one k)) ∙ hex_digits-add k 1 x ∙ ap (λ t. hex_digits k (x / 16) ++ t) (hex_digits-one x) in
+    λ x. ap (λ i. hex_digits i x) (sym (add-one k)) ∙ hex_digits-add k 1 x
+    ∙ ap (λ t. hex_digits k (x / 16) ++ t) (hex_digits-one x) in
     let parts = same_from_push (hex_digits k (m / 16)) (hex_digits k (n / 16)) _ _ (sym (last m) ∙ e ∙ last n) in
     let upper : m / 16 ≡ n / 16 =
-        hex_digits-same k (m / 16) (n / 16) (omega (arith, pow-suc 16 k)) (omega (arith, pow-suc 16 k)) parts.0 in
+    hex_digits-same k (m / 16) (n / 16) (omega (arith, pow-suc 16 k)) (omega (arith, pow-suc 16 k)) parts.0 in
     let lower : m % 16 ≡ n % 16 = digit_same (m % 16) (n % 16) (omega arith) (omega arith) parts.1 in
     omega arith
 

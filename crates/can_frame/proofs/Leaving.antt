@@ -23,9 +23,8 @@ Leaves-some_lt Part bytes n l =
 module _ (Whole Part : List ℕ → Type 0) (bytes : List ℕ) (k : ℕ) (fits : k ≤ length bytes)
     (fill : (v : List ℕ) → Part v → (z : List ℕ) × Whole (take k bytes ++ (v ++ z)))
     (split : (w rest : List ℕ) → Whole w → take k (w ++ rest) ≡ take k bytes
-        → (v : List ℕ) × (z : List ℕ) × Part v × (drop k w ≡ v ++ z) × (k ≤ length w))
+    → (v : List ℕ) × (z : List ℕ) × Part v × (drop k w ≡ v ++ z) × (k ≤ length w))
     (n : ℕ) (part : Leaves Part (drop k bytes) n) where
-
   some_behind : (w : List ℕ) × Whole w × (take (k + n) w ≡ take (k + n) bytes)
   some_behind =
       let v = part.some.0 in
@@ -34,8 +33,8 @@ module _ (Whole Part : List ℕ → Type 0) (bytes : List ℕ) (k : ℕ) (fits :
       let size : length front ≡ k = length-take-le k bytes fits in
       let short : n ≤ length v = omega (arith, Leaves-some_lt Part (drop k bytes) n part) in
       let e : take (k + n) (front ++ (v ++ rest.0)) ≡ take (k + n) bytes =
-          ap (λ m. take (m + n) (front ++ (v ++ rest.0))) (sym size) ∙ take-append-add front (v ++ rest.0) n
-          ∙ ap (λ t. front ++ t) (take-append-le n v rest.0 short ∙ part.some.2) ∙ sym (take-add k n bytes)
+      ap (λ m. take (m + n) (front ++ (v ++ rest.0))) (sym size) ∙ take-append-add front (v ++ rest.0) n
+      ∙ ap (λ t. front ++ t) (take-append-le n v rest.0 short ∙ part.some.2) ∙ sym (take-add k n bytes)
       in (front ++ (v ++ rest.0), rest.1, e)
 
   each_behind : (w rest : List ℕ) → Whole w → take (k + n) (w ++ rest) ≡ take (k + n) bytes
@@ -47,11 +46,11 @@ module _ (Whole Part : List ℕ → Type 0) (bytes : List ℕ) (k : ℕ) (fits :
       let long : k ≤ length w = s.4 in
       let shape : drop k w ≡ v ++ z = s.3 in
       let tail : drop k (w ++ rest) ≡ v ++ (z ++ rest) =
-          drop-append-le k w rest long ∙ ap (λ t. t ++ rest) shape ∙ append_assoc v z rest in
+      drop-append-le k w rest long ∙ ap (λ t. t ++ rest) shape ∙ append_assoc v z rest in
       let here = part.each v (z ++ rest) s.2 (ap (take n) (sym tail) ∙ agrees_behind k n (w ++ rest) bytes e) in
       let within : n < length v = here.0 in
       let same : get_or w (k + n) 0 ≡ get_or v n 0 =
-          sym (get_or-drop k w n 0) ∙ ap (λ t. get_or t n 0) shape ∙ get_or_append_left v z 0 n within in (
+      sym (get_or-drop k w n 0) ∙ ap (λ t. get_or t n 0) shape ∙ get_or_append_left v z 0 n within in (
         omega (arith, length-drop k w, ap length shape, length-append v z),
         λ more q. here.1 (omega (arith, length-drop k bytes)) (sym same ∙ q ∙ sym (get_or-drop k bytes n 0)),
       )
@@ -65,30 +64,35 @@ module _ (Whole Part : List ℕ → Type 0) (bytes : List ℕ) (k : ℕ) (fits :
   }
 
 -- the same of a part of the text that begins k bytes behind another
-pub LeavesPart-behind : (kind : TextFaultKind) (Whole Part : List ℕ → Type 0) (text : List ℕ) (start k : ℕ) → start + k ≤ length text
+pub LeavesPart-behind : (kind : TextFaultKind) (Whole Part : List ℕ → Type 0) (text : List ℕ) (start k : ℕ)
+    → start + k ≤ length text
     → ((v : List ℕ) → Part v → (z : List ℕ) × Whole (take k (drop start text) ++ (v ++ z)))
     → ((w rest : List ℕ) → Whole w → take k (w ++ rest) ≡ take k (drop start text)
-        → (v : List ℕ) × (z : List ℕ) × Part v × (drop k w ≡ v ++ z) × (k ≤ length w))
+    → (v : List ℕ) × (z : List ℕ) × Part v × (drop k w ≡ v ++ z) × (k ≤ length w))
     → (fault : TextFault) → LeavesPart kind Part text (start + k) fault → LeavesPart kind Whole text start fault
 LeavesPart-behind kind Whole Part text start k fits fill split fault l =
     let n = fault.place - (start + k) in
     let begun : start + k ≤ fault.place = l.begun in
-    let there : Leaves Part (drop k (drop start text)) n = subst (λ bytes. Leaves Part bytes n) (sym (drop-drop k start text)) l.leaves in
+    let there : Leaves Part (drop k (drop start text)) n = subst (λ bytes. Leaves Part bytes n)
+    (sym (drop-drop k start text)) l.leaves in
     let place : k + n ≡ fault.place - start = omega arith in
     let room : k ≤ length (drop start text) = omega (arith, length-drop start text) in
     record {
       kind = l.kind;
       begun = omega arith;
-      leaves = subst (Leaves Whole (drop start text)) place (Leaves-behind Whole Part (drop start text) k room fill split n there);
+      leaves = subst (Leaves Whole (drop start text)) place
+          (Leaves-behind Whole Part (drop start text) k room fill split n there);
     }
 
 -- where no spelling of a part begins with the first byte
-pub LeavesPart-first : (kind : TextFaultKind) (Spells : List ℕ → Type 0) (text : List ℕ) (start : ℕ) → start ≤ length text → (w : List ℕ) → Spells w
+pub LeavesPart-first : (kind : TextFaultKind) (Spells : List ℕ → Type 0) (text : List ℕ) (start : ℕ)
+    → start ≤ length text → (w : List ℕ) → Spells w
     → ((v : List ℕ) → Spells v → (0 < length v) × (start < length text → get_or v 0 0 ≢ get_or text start 0))
     → LeavesPart kind Spells text start (record { kind = kind; place = start })
 LeavesPart-first kind Spells text start fits w spelt each =
     let none : 0 ≡ start - start = omega arith in
-    let first : get_or (drop start text) 0 0 ≡ get_or text start 0 = get_or-drop start text 0 0 ∙ ap (λ i. get_or text i 0) (omega arith) in
+    let first : get_or (drop start text) 0 0 ≡ get_or text start 0 = get_or-drop start text 0 0
+    ∙ ap (λ i. get_or text i 0) (omega arith) in
     let here : Leaves Spells (drop start text) 0 = record {
       within = omega arith;
       some = (w, spelt, refl);

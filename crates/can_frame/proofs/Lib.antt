@@ -9,3 +9,4 @@ pub mod PartsTold
 pub mod TextStages
 pub mod TextEnds
 pub mod OneText
+pub mod Written

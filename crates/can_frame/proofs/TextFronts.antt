@@ -2,9 +2,9 @@
 -- begins with them, and which fault the bytes have where they leave every frame's text.
 use Rattle.std.proofs.Common.{◌≡◌, ◌≢◌, ℕ, ◌+◌, ◌-◌, ◌<◌, ◌≤◌, List, [], ◌++◌, length, get_or, take, drop, Result, Ok, Err, IfOk, IfErr, refl, sym, ◌∙◌, ap, subst, arith, append_assoc, length-append}
 use Rattle.std.proofs.Math.Seq.{take-add, take-append-add}
-use Rattle.std.proofs.lemmas.List.{append_cancel_left, append-nil, take-append-le, take-append-drop, take_all, take_at, drop_at, get_or-drop, get_or-take, get_or_append_left, get_or-append_right, length-drop, length-take-le, take-take}
+use Rattle.std.proofs.lemmas.List.{append-nil, take-append-le, take-append-drop, take_at, drop_at, get_or-drop, get_or-take, get_or_append_left, length-drop, length-take-le, take-take}
 use Rattle.can_frame.specs.Parts.{Parts, IsFrame}
-use Rattle.can_frame.specs.Text.{frame_text, part_at, Begins, BeginsSome, IsFrameText, IsLongestBeginning, IsTextFault}
+use Rattle.can_frame.specs.Text.{frame_text, part_at, Begins, BeginsSome, IsTextFault}
 use Rattle.can_frame.specs.TextParts.{Leaves, LeavesPart, StandsAt}
 use Rattle.can_frame.specs.declared.text.TextFaultKind.{TextFaultKind}
 use Rattle.can_frame.specs.declared.text.TextFaultKind.TheVariants.{Trailing}
@@ -34,8 +34,8 @@ front_same n xs front rest h e = ap (take n) e ∙ take-append-le n front rest h
 module _ (text : List ℕ) (place : ℕ) (kind : TextFaultKind) (within : place ≤ length text) (part : kind ≢ Trailing)
     (some : Parts) (is_frame : IsFrame some) (begun : take place (frame_text some) ≡ take place text)
     (each : (f : Parts) → IsFrame f → take place (frame_text f) ≡ take place text
-        → (place < length (frame_text f)) × (place < length text → get_or (frame_text f) place 0 ≢ get_or text place 0) × (kind ≡ part_at f place)) where
-
+    → (place < length (frame_text f)) × (place < length text → get_or (frame_text f) place 0 ≢ get_or text place 0)
+    × (kind ≡ part_at f place)) where
   size : length (take place text) ≡ place
   size = length-take-le place text within
 
@@ -49,7 +49,8 @@ module _ (text : List ℕ) (place : ℕ) (kind : TextFaultKind) (within : place 
       let long : place < length (take m text) = omega arith in
       let same = begins_with (take m text) f (omega arith) (take-take place m text (omega arith)) b in
       let byte : get_or (frame_text f) place 0 ≡ get_or text place 0 =
-          ap (λ t. get_or t place 0) b.text ∙ get_or_append_left (take m text) b.rest 0 place long ∙ get_or-take m text place 0 more in
+      ap (λ t. get_or t place 0) b.text ∙ get_or_append_left (take m text) b.rest 0 place long
+      ∙ get_or-take m text place 0 more in
       (each f b.frame same).1 (omega arith) byte
 
   whole : (f : Parts) → IsFrame f → frame_text f ≡ take place text → ⊥
@@ -62,15 +63,19 @@ module _ (text : List ℕ) (place : ℕ) (kind : TextFaultKind) (within : place 
     is_fault = record {
       place = record {
         within = within;
-        begins = (some, record {
-          frame = is_frame;
-          rest = drop place (frame_text some);
-          text = sym (take-append-drop place (frame_text some)) ∙ ap (λ t. t ++ drop place (frame_text some)) begun;
-        });
+        begins = (
+          some,
+          record {
+            frame = is_frame;
+            rest = drop place (frame_text some);
+            text = sym (take-append-drop place (frame_text some)) ∙ ap (λ t. t ++ drop place (frame_text some)) begun;
+          },
+        );
         longest = no_longer;
       };
       trailing = (λ e. absurd (part e), λ w. absurd (whole w.0 w.1 w.2));
-      part = λ f b partial. (each f b.frame (begins_with (take place text) f (omega (arith, size)) (take-take place place text (omega arith)) b)).2;
+      part = λ f b partial. (each f b.frame
+          (begins_with (take place text) f (omega (arith, size)) (take-take place place text (omega arith)) b)).2;
     };
     none = λ f h e.
         let here = each f h (ap (take place) e) in
@@ -89,7 +94,8 @@ trails text place f more is_frame whole apart =
           begins = (f, record { frame = is_frame; rest = []; text = whole ∙ sym (append-nil (take place text)) });
           longest = λ m longer fits (g, b).
               let long : place + 1 ≤ length (take m text) = omega (arith, length-take-le m text fits) in
-              apart g b.frame (front_same (place + 1) (frame_text g) (take m text) b.rest long b.text ∙ take-take (place + 1) m text (omega arith));
+              apart g b.frame (front_same (place + 1) (frame_text g) (take m text) b.rest long b.text
+              ∙ take-take (place + 1) m text (omega arith));
         };
         trailing = (λ e. (f, is_frame, whole), λ w. refl);
         part = λ g b partial. absurd (partial (f, is_frame, whole));
@@ -102,15 +108,16 @@ trails text place f more is_frame whole apart =
 pub Past-start : (text : List ℕ) → Past text 0 (λ f. Unit {0}) frame_text
 Past-start text = record { within = omega arith; goes_on = λ f h q. refl; only = λ f h e. tt }
 
-module _ (text : List ℕ) (place : ℕ) (Q : Parts → Type 0) (first next : Parts → List ℕ) (past : Past text place Q (λ f. first f ++ next f)) where
-
+module _ (text : List ℕ) (place : ℕ) (Q : Parts → Type 0) (first next : Parts → List ℕ)
+    (past : Past text place Q (λ f. first f ++ next f)) where
   -- a frame whose text begins with the bytes and some more
   pub goes_behind : (n : ℕ) (f : Parts) → IsFrame f → take (place + n) (frame_text f) ≡ take (place + n) text
       → Q f × (take n (first f ++ next f) ≡ take n (drop place text))
   goes_behind n f h e =
       let q = past.only f h (agrees_less place (place + n) (frame_text f) text (omega arith) e) in
       let tail : drop place (frame_text f) ≡ first f ++ next f =
-          ap (drop place) (past.goes_on f h q) ∙ drop_at (take place text) (first f ++ next f) place (length-take-le place text past.within) in
+      ap (drop place) (past.goes_on f h q)
+      ∙ drop_at (take place text) (first f ++ next f) place (length-take-le place text past.within) in
       (q, ap (take n) (sym tail) ∙ agrees_behind place n (frame_text f) text e)
 
   -- behind a spelling of a part that tells what the frame has there
@@ -121,7 +128,8 @@ module _ (text : List ℕ) (place : ℕ) (Q : Parts → Type 0) (first next : Pa
       let n = length v in
       let within : place ≤ length text = past.within in
       let until : end ≤ length text = s.within in
-      let there : end ≡ place + n = omega (arith, ap length s.spelt, length-append v (drop end text), length-drop place text, length-drop end text) in
+      let there : end ≡ place + n = omega
+      (arith, ap length s.spelt, length-append v (drop end text), length-drop place text, length-drop end text) in
       let v_is : take n (drop place text) ≡ v = ap (take n) s.spelt ∙ take_at v (drop end text) n refl in
       let front : take (place + n) text ≡ take place text ++ v = take-add place n text ∙ ap (λ t. take place text ++ t) v_is in
       let here : Past text (place + n) Q' next = record {
@@ -152,31 +160,46 @@ module _ (text : List ℕ) (place : ℕ) (Q : Parts → Type 0) (first next : Pa
       let long : n ≤ length (first f.0) = omega (arith, Leaves-some_lt Spells (drop place text) n leaves, ap length f.3) in
       let size : length (take place text) ≡ place = length-take-le place text within in
       let same : take (place + n) (frame_text f.0) ≡ take (place + n) text =
-          ap (take (place + n)) (past.goes_on f.0 f.1 f.2)
-          ∙ ap (λ m. take (m + n) (take place text ++ (first f.0 ++ next f.0))) (sym size)
-          ∙ take-append-add (take place text) (first f.0 ++ next f.0) n
-          ∙ ap (λ t. take place text ++ t) (take-append-le n (first f.0) (next f.0) long ∙ ap (take n) f.3 ∙ leaves.some.2)
-          ∙ sym (take-add place n text) in
+      ap (take (place + n)) (past.goes_on f.0 f.1 f.2)
+      ∙ ap (λ m. take (m + n) (take place text ++ (first f.0 ++ next f.0))) (sym size)
+      ∙ take-append-add (take place text) (first f.0 ++ next f.0) n
+      ∙ ap (λ t. take place text ++ t) (take-append-le n (first f.0) (next f.0) long ∙ ap (take n) f.3 ∙ leaves.some.2)
+      ∙ sym (take-add place n text) in
       let each : (g : Parts) → IsFrame g → take (place + n) (frame_text g) ≡ take (place + n) text
-          → (place + n < length (frame_text g)) × (place + n < length text → get_or (frame_text g) (place + n) 0 ≢ get_or text (place + n) 0)
-          × (kind ≡ part_at g (place + n)) = λ g h e.
-          let b = goes_behind n g h e in
-          let here = leaves.each (first g) (next g) (sound g h b.0) b.1 in
-          let inside : n < length (first g) = here.0 in
-          let whole = past.goes_on g h b.0 in
-          let byte : get_or (frame_text g) (place + n) 0 ≡ get_or (first g) n 0 =
-              ap (λ t. get_or t (place + n) 0) whole ∙ sym (get_or-drop place (take place text ++ (first g ++ next g)) n 0)
-              ∙ ap (λ t. get_or t n 0) (drop_at (take place text) (first g ++ next g) place size) ∙ get_or_append_left (first g) (next g) 0 n inside in (
-            omega (arith, ap length whole, length-append (take place text) (first g ++ next g), length-append (first g) (next g), size),
-            λ more q. here.1 (omega (arith, length-drop place text)) (sym byte ∙ q ∙ sym (get_or-drop place text n 0)),
-            lies g n h b.0 inside,
-          ) in
+      → (place + n < length (frame_text g))
+      × (place + n < length text → get_or (frame_text g) (place + n) 0 ≢ get_or text (place + n) 0)
+      × (kind ≡ part_at g (place + n)) = λ g h e.
+      let b = goes_behind n g h e in
+      let here = leaves.each (first g) (next g) (sound g h b.0) b.1 in
+      let inside : n < length (first g) = here.0 in
+      let whole = past.goes_on g h b.0 in
+      let byte : get_or (frame_text g) (place + n) 0 ≡ get_or (first g) n 0 =
+      ap (λ t. get_or t (place + n) 0) whole ∙ sym (get_or-drop place (take place text ++ (first g ++ next g)) n 0)
+      ∙ ap (λ t. get_or t n 0) (drop_at (take place text) (first g ++ next g) place size)
+      ∙ get_or_append_left (first g) (next g) 0 n inside in (
+        omega (
+          arith,
+          ap length whole,
+          length-append (take place text) (first g ++ next g),
+          length-append (first g) (next g),
+          size,
+        ),
+        λ more q. here.1 (omega (arith, length-drop place text)) (sym byte ∙ q ∙ sym (get_or-drop place text n 0)),
+        lies g n h b.0 inside,
+      ) in
       let last : place + n ≤ length text = omega (arith, leaves.within, length-drop place text) in
       subst (λ k. Refuses text (record { kind = k; place = fault.place })) (sym l.kind)
       (subst (λ p. Refuses text (record { kind = kind; place = p })) there
-          (stops text (place + n) kind last part f.0 f.1 same each))
+      (stops text (place + n) kind last part f.0 f.1 same each))
 
 -- what an answer that refuses the bytes meets
-pub refused : (text : List ℕ) (answer : Result Parts TextFault) (given fault : TextFault) → answer ≡ Err given → given ≡ fault → Refuses text fault
-    → record { found : IfOk answer (λ f. IsFrame f × (frame_text f ≡ text)); only : (f : Parts) → IsFrame f → frame_text f ≡ text → answer ≡ Ok f; fault : IfErr answer (IsTextFault text) }
-refused text answer given fault a e r = rw (a, e) (record { found = tt; only = λ f h same. absurd (r.none f h same); fault = r.is_fault })
+pub refused : (text : List ℕ) (answer : Result Parts TextFault) (given fault : TextFault) → answer ≡ Err given
+    → given ≡ fault → Refuses text fault
+    → record {
+      found : IfOk answer (λ f. IsFrame f × (frame_text f ≡ text));
+      only : (f : Parts) → IsFrame f
+          → frame_text f ≡ text → answer ≡ Ok f;
+      fault : IfErr answer (IsTextFault text);
+    }
+refused text answer given fault a e r = rw (a, e)
+    (record { found = tt; only = λ f h same. absurd (r.none f h same); fault = r.is_fault })

@@ -44,7 +44,6 @@ dlc_part f = decimal_digits f.dlc ++ blank_before f.bytes
 abbrev pub data_part : Parts → List ℕ
 data_part f = encode_lower f.bytes
 
-
 -- the text of a frame
 unfoldable pub frame_text : Parts → List ℕ
 frame_text f = letter_part f ++ (identifier_part f ++ (direction_part f ++ (dlc_part f ++ data_part f)))

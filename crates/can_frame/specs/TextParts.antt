@@ -1,5 +1,5 @@
 -- The spellings of the parts of a frame's text, and the place at which bytes leave them.
-use Rattle.std.specs.Prelude.{ℕ, ◌≡◌, ◌≢◌, ◌+◌, ◌-◌, ◌*◌, ◌^◌, ◌<◌, ◌≤◌, ◌==◌, Bool, if◌then◌else◌, List, [], ◌∷◌, ◌++◌, length, take, drop, slice_index}
+use Rattle.std.specs.Prelude.{ℕ, ◌≡◌, ◌≢◌, ◌-◌, ◌*◌, ◌^◌, ◌<◌, ◌≤◌, ◌==◌, Bool, if◌then◌else◌, List, [], ◌∷◌, ◌++◌, length, take, drop, slice_index}
 use Rattle.hex.specs.Hex.{encode_lower, lower_digits, IsBytes}
 use Rattle.can_frame.specs.Ident.{ident_count}
 use Rattle.can_frame.specs.Parts.{byte_count}
@@ -19,6 +19,7 @@ identifier_spelling extended raw = hex_digits (identifier_digits extended) raw +
 abbrev pub dlc_spelling : Bool → ℕ → List ℕ
 dlc_spelling remote dlc = decimal_digits dlc ++ (if byte_count remote dlc == 0 then [] else blank)
 
+-- one of two letters and a blank
 abbrev pub IsLetter : ℕ → ℕ → List ℕ → Type 0
 IsLetter first second w = (is_second : Bool) × (letter_spelling first second is_second ≡ w)
 
@@ -30,16 +31,19 @@ IsDigit d byte = (d < 16) × (slice_index lower_digits d ≡ byte)
 abbrev pub IsNumber : ℕ → ℕ → List ℕ → Type 0
 IsNumber count limit w = (n : ℕ) × (n < limit * 16 ^ (count - 1)) × (hex_digits count n ≡ w)
 
+-- any identifier of the kind, and a blank
 abbrev pub IsIdentifier : Bool → List ℕ → Type 0
 IsIdentifier extended w = (raw : ℕ) × (raw < ident_count extended) × (identifier_spelling extended raw ≡ w)
 
+-- any DLC without a blank
 abbrev pub IsDecimal : List ℕ → Type 0
 IsDecimal w = (dlc : ℕ) × (dlc < 16) × (decimal_digits dlc ≡ w)
 
+-- any DLC, and a blank where data bytes follow
 abbrev pub IsDlc : Bool → List ℕ → Type 0
 IsDlc remote w = (dlc : ℕ) × (dlc < 16) × (dlc_spelling remote dlc ≡ w)
 
--- so many data bytes
+-- any data bytes of this number
 abbrev pub IsData : ℕ → List ℕ → Type 0
 IsData count w = (bytes : List ℕ) × IsBytes bytes × (length bytes ≡ count) × (encode_lower bytes ≡ w)
 
@@ -58,10 +62,11 @@ pub record LeavesPart (part : TextFaultKind) (Spells : List ℕ → Type 0) (tex
   pub leaves : Leaves Spells (drop start text) (fault.place - start)
 
 -- the spelling stands in the text between these places
-pub record StandsAt (spelling : List ℕ) (text : List ℕ) (start : ℕ) (end : ℕ) : Type 0 where
+pub record StandsAt (spelling : List ℕ) (text : List ℕ) (start end : ℕ) : Type 0 where
   pub within : end ≤ length text
   pub spelt : drop start text ≡ spelling ++ drop end text
 
 -- no DLC that the bytes begin with has more digits than this one
 abbrev pub MostDigits : ℕ → List ℕ → Type 0
-MostDigits dlc bytes = (longer : ℕ) (rest : List ℕ) → longer < 16 → bytes ≡ decimal_digits longer ++ rest → length (decimal_digits longer) ≤ length (decimal_digits dlc)
+MostDigits dlc bytes = (other : ℕ) (rest : List ℕ) → other < 16 → bytes ≡ decimal_digits other ++ rest
+    → length (decimal_digits other) ≤ length (decimal_digits dlc)

@@ -1,11 +1,15 @@
-//! The text of a frame: one line, and one spelling a frame.
+//! The text of a frame: one line, and one spelling a frame. `read` reads its parts, and `write`
+//! writes them.
 ghost use Rattle.std.specs.Prelude.{◌≡◌, IfOk, IfErr};
 ghost use Rattle.can_frame.specs.Parts.{Parts, IsFrame};
 ghost use Rattle.can_frame.specs.Text.{frame_text, IsTextFault};
 
 mod read;
+mod write;
 
 use crate::frame::Frame;
+use TextFaultKind::{DataOrRemote, KindLetter, Trailing};
+use arrayvec::ArrayString;
 use thiserror::Error;
 
 /// The part of a frame text in which a fault lies.
@@ -42,23 +46,38 @@ pub struct TextFault {
 }
 
 impl Frame {
-    /// Reads a frame's text: `S` or `E`, a blank, the identifier in three or eight lower-case
-    /// hexadecimal digits, a blank, `D` or `R`, a blank, and the DLC in decimal. In a data frame with
-    /// data bytes a blank follows, and two lower-case hexadecimal digits a byte.
+    /// The frame's text: `S` or `E` for a standard or an extended identifier, a blank, the identifier
+    /// in three or eight hexadecimal digits, a blank, `D` or `R` for a data frame or a remote frame, a
+    /// blank, and the DLC in decimal. Where there are data bytes, a blank follows, and two hexadecimal
+    /// digits a byte. Letters among the digits are in lower case. The text has 9 to 32 bytes.
+    pub fn to_text(&self) -> ArrayString<32>
+        ensures { result.bytes ≡ frame_text self.now }
+    {
+        let mut text = ArrayString::new();
+        write::letter(&mut text, 'S', 'E', self.is_extended());
+        write::identifier(&mut text, self.id());
+        write::letter(&mut text, 'D', 'R', self.is_remote());
+        write::data_length_code(&mut text, self.dlc(), self.bytes());
+        write::data(&mut text, self.bytes());
+        text
+    }
+
+    /// The frame whose text this is, as [`to_text`](Frame::to_text) writes it: no other spelling is
+    /// taken. The fault of other bytes is at the length of their longest front that begins some
+    /// frame's text. If that front is a whole text, the bytes behind it are the fault.
     pub fn from_text(text: &[u8]) -> Result<Frame, TextFault>
         ensures found { IfOk result (λ f. IsFrame f × (frame_text f ≡ text.now)) }
         ensures only { (f : Parts) → IsFrame f → frame_text f ≡ text.now → result ≡ Ok f }
         ensures fault { IfErr result (IsTextFault text.now) }
     {
-        let (is_extended, start) = read::letter(text, 0, b'S', b'E', TextFaultKind::KindLetter)?;
+        let (is_extended, start) = read::letter(text, 0, b'S', b'E', KindLetter)?;
         let (id, start) = read::identifier(text, start, is_extended)?;
-        let (is_remote, start) =
-            read::letter(text, start, b'D', b'R', TextFaultKind::DataOrRemote)?;
+        let (is_remote, start) = read::letter(text, start, b'D', b'R', DataOrRemote)?;
         let (dlc, start) = read::data_length_code(text, start, is_remote)?;
         let (bytes, end) = read::data(text, start, read::byte_count(is_remote, dlc))?;
         if end < text.len() {
             return Err(TextFault {
-                kind: TextFaultKind::Trailing,
+                kind: Trailing,
                 place: end,
             });
         }
@@ -75,3 +94,6 @@ impl Frame {
 pub fn one_text_a_frame()
     ensures { (f g : Parts) → IsFrame f → IsFrame g → frame_text f ≡ frame_text g → f ≡ g }
 {}
+
+#[cfg(test)]
+mod tests;

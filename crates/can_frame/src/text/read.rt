@@ -1,6 +1,7 @@
-//! Reads the parts of a frame's text. Each function reads one part from its first byte on, and tells
-//! its value and where the next part begins, or where the text leaves the part's spellings.
-ghost use Rattle.std.specs.Prelude.{◌≡◌, ◌≢◌, ◌<◌, ◌≤◌, ◌+◌, ◌-◌, ◌*◌, ◌^◌, ℕ, List, ◌++◌, length, drop, IfOk, IfErr, IfSome, IfNone, slice_index};
+//! Reads the parts of a frame's text. Each function that the text's reader calls reads one part from
+//! its first byte on, and tells its value and where the next part begins, or where the text leaves
+//! the part's spellings.
+ghost use Rattle.std.specs.Prelude.{◌≡◌, ◌<◌, ◌≤◌, ◌+◌, ◌-◌, ◌*◌, ◌^◌, ℕ, length, drop, IfOk, IfErr, IfSome, IfNone, slice_index};
 ghost use Rattle.hex.specs.Hex.{encode_lower, lower_digits, IsBytes};
 ghost use Rattle.can_frame.specs.Ident.{IsIdent};
 ghost use Rattle.can_frame.specs.Parts.{byte_count};
@@ -11,6 +12,9 @@ use crate::id::Id;
 use crate::text::{TextFault, TextFaultKind};
 use arrayvec::ArrayVec;
 
+/// The greatest data length code.
+const HIGHEST_DLC: u32 = 15;
+
 /// One of two letters and a blank: whether it is the second letter.
 pub(super) fn letter(
     text: &[u8],
@@ -20,7 +24,8 @@ pub(super) fn letter(
     kind: TextFaultKind,
 ) -> Result<(bool, usize), TextFault>
     requires { start ≤ length text.now }
-    ensures read { IfOk result (λ r. StandsAt (letter_spelling first second r.0) text.now start r.1) }
+    ensures read { IfOk result
+        (λ r. StandsAt (letter_spelling first second r.0) text.now start r.1) }
     ensures fault { IfErr result (LeavesPart kind (IsLetter first second) text.now start) }
 {
     let Some(&byte) = text.get(start) else {
@@ -42,8 +47,10 @@ pub(super) fn identifier(
     requires { start ≤ length text.now }
     ensures kind { IfOk result (λ r. r.0.extended ≡ is_extended) }
     ensures range { IfOk result (λ r. IsIdent r.0) }
-    ensures read { IfOk result (λ r. StandsAt (identifier_spelling is_extended r.0.raw) text.now start r.1) }
-    ensures fault { IfErr result (LeavesPart TextFaultKind.Identifier (IsIdentifier is_extended) text.now start) }
+    ensures read { IfOk result
+        (λ r. StandsAt (identifier_spelling is_extended r.0.raw) text.now start r.1) }
+    ensures fault { IfErr result
+        (LeavesPart TextFaultKind.Identifier (IsIdentifier is_extended) text.now start) }
 {
     let kind = TextFaultKind::Identifier;
     let (id, end) = if is_extended {
@@ -88,7 +95,7 @@ pub(super) fn byte_count(is_remote: bool, dlc: u8) -> usize
     }
 }
 
-/// So many data bytes, eight at most.
+/// So many data bytes, eight at most, of two hexadecimal digits each.
 pub(super) fn data(
     text: &[u8],
     start: usize,
@@ -136,12 +143,7 @@ fn number(
 }
 
 /// One hexadecimal digit below a limit.
-fn digit(
-    text: &[u8],
-    place: usize,
-    limit: u32,
-    kind: TextFaultKind,
-) -> Result<u32, TextFault>
+fn digit(text: &[u8], place: usize, limit: u32, kind: TextFaultKind) -> Result<u32, TextFault>
     requires within { place ≤ length text.now }
     requires some { 0 < limit }
     requires base { limit ≤ 16 }
@@ -157,8 +159,10 @@ fn digit(
 
 /// What the lower-case hexadecimal digit at this place stands for.
 fn digit_at(text: &[u8], place: usize) -> Option<u32>
-    ensures some { IfSome result (λ d. (place < length text.now) × IsDigit d (slice_index text.now place)) }
-    ensures none { IfNone result ((d : ℕ) → place < length text.now → IsDigit d (slice_index text.now place) → ⊥) }
+    ensures some { IfSome result
+        (λ d. (place < length text.now) × IsDigit d (slice_index text.now place)) }
+    ensures none { IfNone result
+        ((d : ℕ) → place < length text.now → IsDigit d (slice_index text.now place) → ⊥) }
 {
     match *text.get(place)? {
         byte @ b'0'..=b'9' => Some(u32::from(byte - b'0')),
@@ -167,7 +171,7 @@ fn digit_at(text: &[u8], place: usize) -> Option<u32>
     }
 }
 
-/// A number up to 15 in decimal, with as many digits as make one.
+/// A DLC in decimal, and where its digits end. They are as many as make a DLC.
 fn decimal(text: &[u8], start: usize) -> Result<(u8, usize), TextFault>
     requires { start ≤ length text.now }
     ensures range { IfOk result (λ r. r.0 < 16) }
@@ -177,7 +181,9 @@ fn decimal(text: &[u8], start: usize) -> Result<(u8, usize), TextFault>
 {
     let first = digit(text, start, 10, TextFaultKind::Dlc)?;
     match digit_at(text, start + 1) {
-        Some(second) if first == 1 && second < 6 => Ok((10 + second as u8, start + 2)),
+        Some(second) if first == 1 && 10 + second <= HIGHEST_DLC => {
+            Ok((10 + second as u8, start + 2))
+        }
         _ => Ok((first as u8, start + 1)),
     }
 }

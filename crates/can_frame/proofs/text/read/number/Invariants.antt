@@ -1,4 +1,4 @@
-use Rattle.std.proofs.Common.{◌-◌, ◌*◌, ◌^◌, ◌<◌, ◌+◌}
+use Rattle.std.proofs.Common.{◌-◌, ◌*◌, ◌^◌, ◌<◌}
 use Rattle.can_frame.specs.Text.{hex_digits}
 use Rattle.can_frame.specs.TextParts.{StandsAt}
 use Rattle.can_frame.proofs.text.read.number.Given as goal

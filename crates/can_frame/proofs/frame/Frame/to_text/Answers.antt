@@ -1,0 +1,12 @@
+use Rattle.can_frame.proofs.Written.{text_written}
+use Rattle.can_frame.proofs.frame.Frame.to_text.Goals as goal
+
+pub returns : goal.returns
+returns c =
+    text_written c.args.self.now c.new-text.result.bytes c.letter.new.text.bytes c.identifier.new.text.bytes
+    c.letter-2.new.text.bytes
+    c.data_length_code.new.text.bytes c.data.new.text.bytes c.is_extended.result c.is_remote.result c.id.result
+    c.dlc.result c.bytes.result.now c.bytes-2.result.now
+    c.is_extended.ensures c.id.ensures c.is_remote.ensures c.dlc.ensures.value c.bytes.ensures.value c.bytes-2.ensures.value
+    c.new-text.ensures c.letter.ensures.written c.identifier.ensures.written c.letter-2.ensures.written
+    c.data_length_code.ensures.written c.data.ensures
