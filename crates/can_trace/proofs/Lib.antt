@@ -1,0 +1,9 @@
+pub mod Elements
+pub mod Known
+pub mod Ranges
+pub mod LineLemmas
+pub mod Reading
+pub mod TextLemmas
+pub mod Codings
+pub mod Answering
+pub mod Endings
