@@ -1,0 +1,2 @@
+//! Tables of runs.
+mod words;
