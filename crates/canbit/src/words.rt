@@ -1,6 +1,6 @@
 //! The words of a command line: which subcommand they name.
-ghost use Rattle.std.specs.Prelude.{◌≡◌, ◌≢◌, ◌⊎◌, [], ◌∷◌, ℕ, List, IfOk, OnOk, Some, false};
-ghost use Rattle.clap.specs.Words.{app_of, shape_of, kind_of, subcommand_name_of};
+ghost use Rattle.std.specs.Prelude.{◌≡◌, ◌≢◌, ◌⊎◌, [], ◌∷◌, ℕ, List, MatchResult, IfErr, IfOk, OnOk, Some, false};
+ghost use Rattle.clap.specs.Words.{app_of, shape_of, kind_of, subcommand_name_of, HasKind};
 ghost use Rattle.clap.specs.Simple.{new_shape};
 ghost use Rattle.clap.specs.declared.builder.command.Command.TheViews.{out-Command as fields_of};
 ghost use Rattle.canbit.specs.Subcommands.{canbit, name_of};
@@ -55,6 +55,21 @@ fn command<'a>(alloc: Global) -> Result<Command<'a>, AllocError>
     Ok(command)
 }
 
+/// What `clap` makes of the words.
+fn parsed<'a>(alloc: Global, words: &'a [String]) -> Result<ArgMatches<'a>, Error>
+    ensures taken { OnOk result (faults_in (texts_of words.entry.now) ≡ []) }
+    ensures named { IfOk result (λ m. subcommand_name_of m ≡ named_in (texts_of words.entry.now)) }
+    ensures known { IfOk result (λ m. (chosen : Chosen)
+        × (subcommand_name_of m ≡ Some (name_of chosen))) }
+    ensures refused { IfErr result (HasKind (faults_in (texts_of words.entry.now))) }
+    ensures alone { (name : List ℕ) (chosen : Chosen)
+        → texts_of words.entry.now ≡ name ∷ name_of chosen ∷ []
+        → MatchResult result (λ m. subcommand_name_of m ≡ Some (name_of chosen))
+        (λ e. kind_of e ≡ ErrorKind.OutOfMemory) }
+{
+    command(alloc)?.try_get_matches_from(words)
+}
+
 /// The subcommand that a parse met.
 fn met(matches: &ArgMatches<'_>) -> Chosen
     requires { (chosen : Chosen) × (subcommand_name_of matches.now ≡ Some (name_of chosen)) }
@@ -99,7 +114,7 @@ pub fn chosen(alloc: Global, words: &[String]) -> Result<Chosen, WordFault>
         → texts_of words.now ≡ name ∷ name_of chosen ∷ []
         → (result ≡ Ok chosen) ⊎ (result ≡ Err WordFault.Memory) }
 {
-    match command(alloc)?.try_get_matches_from(words) {
+    match parsed(alloc, words) {
         Ok(matches) => Ok(met(&matches)),
         Err(error) => Err(refusal(alloc, &error)),
     }
