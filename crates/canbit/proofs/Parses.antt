@@ -1,5 +1,5 @@
 -- What an answer of `clap` to the program's words says.
-use Rattle.std.proofs.Common.{◌≡◌, ◌≢◌, ◌∙◌, ap, inl, inr, option_map, refl, subst, true, List, [], ◌∷◌, Option, Some, None, Result, Ok, Err, IfOk, MatchResult}
+use Rattle.std.proofs.Common.{◌≡◌, ◌≢◌, ◌∙◌, ap, inl, inr, option_map, refl, subst, true, List, [], ◌∷◌, Option, Some, None, Result, Ok, Err, IfOk, OnOk, MatchResult}
 use Rattle.std.specs.Prelude.{Box}
 use Rattle.clap.specs.Words.{App, FailsBy, HasKind, HasMatchesOf, Kinds, Text, fault_of, is_simple, is_simple_and_free, kind_of, subcommand_name_of, subcommand_of}
 use Rattle.clap.specs.declared.error.Error.{Error}
@@ -53,11 +53,16 @@ module _ (app : App) (words : List Text) (is : app ≡ canbit) where
       name_of_row (out-ArgMatches m).subcommand
       ∙ ap (option_map (λ p. p.0)) ((has (ap is_simple is ∙ simple)).1 ∙ ap (λ a. subcommand_of a words) is)
 
+  -- the words have no fault
+  pub taken : (r : Result ArgMatches Error) → (is_simple_and_free app ≡ true → FailsBy (fault_of app words) r) → OnOk r (fault_of canbit words ≡ [])
+  taken (Ok m) fails = told (λ a. fault_of a words ≡ []) app is fails
+  taken (Err e) fails = tt
+
   -- it met one of the program's
   pub known : (r : Result ArgMatches Error) → IfOk r (HasMatchesOf app words) → (is_simple_and_free app ≡ true → FailsBy (fault_of app words) r)
       → IfOk r (λ m. (chosen : Chosen) × (subcommand_name_of m ≡ Some (name_of chosen)))
   known (Ok m) has fails =
-      let named = subcommand_named words (told (λ a. fault_of a words ≡ []) app is fails) in
+      let named = subcommand_named words (taken (Ok m) fails) in
       (named.0, name_met m has ∙ named.1)
   known (Err e) has fails = tt
 
