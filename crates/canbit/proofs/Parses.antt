@@ -13,7 +13,7 @@ use Rattle.clap.proofs.OnLiterals.{clap_on_literals}
 use Rattle.canbit.specs.declared.subcommands.Chosen.{Chosen}
 use Rattle.canbit.specs.declared.subcommands.Chosen.TheVariants.{Encode}
 use Rattle.canbit.specs.Subcommands.{canbit, name_of}
-use Rattle.canbit.specs.Words.{HasMistake, named_in}
+use Rattle.canbit.specs.Words.{IsMisuse, faults_in, named_in}
 use Rattle.canbit.proofs.Walks.{subcommand_named}
 
 -- the command is simple, and no argument has a rule on another
@@ -75,6 +75,6 @@ module _ (app : App) (words : List Text) (is : app ≡ canbit) where
       no_memory _ x (told (λ a. HasKind (fault_of a words) x) app is fails) (ap (fault_of canbit) e ∙ alone_taken name chosen)
 
 -- an error that is neither want of memory nor a request for help is a mistake
-pub mistake : (kinds : Kinds) (e : Error) → HasKind kinds e → (kind_of e ≢ OutOfMemory) × (kind_of e ≢ DisplayHelp) → HasMistake kinds
-mistake kinds e (inl memory) other = absurd (other.0 memory)
-mistake kinds e (inr among) other = (kind_of e, among, other.1)
+pub misuse : (words : List Text) (e : Error) → HasKind (faults_in words) e → (kind_of e ≢ OutOfMemory) × (kind_of e ≢ DisplayHelp) → IsMisuse words
+misuse words e (inl memory) other = absurd (other.0 memory)
+misuse words e (inr among) other = (kind_of e, among, other.1)

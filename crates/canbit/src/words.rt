@@ -4,7 +4,7 @@ ghost use Rattle.clap.specs.Words.{app_of, shape_of, kind_of, subcommand_name_of
 ghost use Rattle.clap.specs.Simple.{new_shape};
 ghost use Rattle.clap.specs.declared.builder.command.Command.TheViews.{out-Command as fields_of};
 ghost use Rattle.canbit.specs.Subcommands.{canbit, name_of};
-ghost use Rattle.canbit.specs.Words.{AsksForHelp, HasMistake, faults_in, named_in, texts_of};
+ghost use Rattle.canbit.specs.Words.{AsksFor, AsksForHelp, IsMisuse, faults_in, named_in, texts_of};
 
 use crate::subcommands::Chosen;
 use clap::error::{Error, ErrorKind};
@@ -103,11 +103,10 @@ fn refusal(alloc: Global, error: &Error) -> WordFault
 /// `Usage` says that they are no use of the program: they name no subcommand, or have a word that is
 /// unknown or too many. `Help` answers `help`, `--help` and `-h`.
 pub fn chosen(alloc: Global, words: &[String]) -> Result<Chosen, WordFault>
-    ensures named { IfOk result (λ chosen. named_in (texts_of words.now) ≡ Some (name_of chosen)) }
-    ensures taken { OnOk result (faults_in (texts_of words.now) ≡ []) }
-    ensures usage { result ≡ Err WordFault.Usage → HasMistake (faults_in (texts_of words.now)) }
+    ensures ok { IfOk result (λ chosen. AsksFor chosen (texts_of words.now)) }
+    ensures usage { result ≡ Err WordFault.Usage → IsMisuse (texts_of words.now) }
     ensures help { (text : _) → result ≡ Err (WordFault.Help text)
-        → AsksForHelp (faults_in (texts_of words.now)) }
+        → AsksForHelp (texts_of words.now) }
 
     // The program's name, whatever it is, and the name of a subcommand are enough.
     ensures alone { (name : List ℕ) (chosen : Chosen)

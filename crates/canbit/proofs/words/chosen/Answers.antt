@@ -1,5 +1,6 @@
 use Rattle.std.proofs.Common.{rules}
-use Rattle.canbit.proofs.Parses.{mistake}
+use Rattle.canbit.specs.Words.{texts_of}
+use Rattle.canbit.proofs.Parses.{misuse}
 use Rattle.canbit.proofs.words.chosen.Goals as goal
 
 pub returns-in-Ok-clause-alone : goal.returns-in-Ok-clause-alone
@@ -8,4 +9,5 @@ returns-in-Ok-clause-alone c name chosen is =
     search rules
 
 pub returns-in-Err-clause-usage : goal.returns-in-Err-clause-usage
-returns-in-Err-clause-usage c is = mistake _ c.in-Err.error c.in-Err.ensures.refused (c.refusal.ensures.usage cc)
+returns-in-Err-clause-usage c is =
+    misuse (texts_of c.args.words.now) c.in-Err.error c.in-Err.ensures.refused (c.refusal.ensures.usage cc)
