@@ -1,0 +1,11 @@
+pub mod TextRows
+pub mod Leaving
+pub mod HexDigits
+pub mod ReadDigits
+pub mod ReadParts
+pub mod Decimals
+pub mod TextFronts
+pub mod PartsTold
+pub mod TextStages
+pub mod TextEnds
+pub mod OneText

@@ -4,3 +4,4 @@ pub mod Parts
 pub mod Stored
 pub mod Arbitration
 pub mod Text
+pub mod TextParts

@@ -9,4 +9,4 @@ mod text;
 pub use frame::{Frame, FrameFault};
 pub use id::Id;
 pub use level::Level;
-pub use text::{TextFault, TextFaultKind};
+pub use text::{TextFault, TextFaultKind, one_text_a_frame};

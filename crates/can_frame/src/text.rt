@@ -1,3 +1,11 @@
+//! The text of a frame: one line, and one spelling a frame.
+ghost use Rattle.std.specs.Prelude.{◌≡◌, IfOk, IfErr};
+ghost use Rattle.can_frame.specs.Parts.{Parts, IsFrame};
+ghost use Rattle.can_frame.specs.Text.{frame_text, IsTextFault};
+
+mod read;
+
+use crate::frame::Frame;
 use thiserror::Error;
 
 /// The part of a frame text in which a fault lies.
@@ -32,3 +40,38 @@ pub struct TextFault {
     /// The length of the longest front of the bytes that begins some frame text.
     pub place: usize,
 }
+
+impl Frame {
+    /// Reads a frame's text: `S` or `E`, a blank, the identifier in three or eight lower-case
+    /// hexadecimal digits, a blank, `D` or `R`, a blank, and the DLC in decimal. In a data frame with
+    /// data bytes a blank follows, and two lower-case hexadecimal digits a byte.
+    pub fn from_text(text: &[u8]) -> Result<Frame, TextFault>
+        ensures found { IfOk result (λ f. IsFrame f × (frame_text f ≡ text.now)) }
+        ensures only { (f : Parts) → IsFrame f → frame_text f ≡ text.now → result ≡ Ok f }
+        ensures fault { IfErr result (IsTextFault text.now) }
+    {
+        let (is_extended, start) = read::letter(text, 0, b'S', b'E', TextFaultKind::KindLetter)?;
+        let (id, start) = read::identifier(text, start, is_extended)?;
+        let (is_remote, start) =
+            read::letter(text, start, b'D', b'R', TextFaultKind::DataOrRemote)?;
+        let (dlc, start) = read::data_length_code(text, start, is_remote)?;
+        let (bytes, end) = read::data(text, start, read::byte_count(is_remote, dlc))?;
+        if end < text.len() {
+            return Err(TextFault {
+                kind: TextFaultKind::Trailing,
+                place: end,
+            });
+        }
+        let frame = if is_remote {
+            Frame::remote(id, dlc)
+        } else {
+            Frame::data(id, dlc, &bytes)
+        };
+        Ok(frame.unwrap())
+    }
+}
+
+/// Two frames with one text are equal.
+pub fn one_text_a_frame()
+    ensures { (f g : Parts) → IsFrame f → IsFrame g → frame_text f ≡ frame_text g → f ≡ g }
+{}

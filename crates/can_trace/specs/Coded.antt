@@ -1,5 +1,5 @@
 -- What is written for lines of frames.
-use Rattle.std.specs.Prelude.{◌≡◌, ℕ, ◌+◌, ◌⊎◌, List, [], ◌∷◌, ◌++◌, length, map, Bool, true}
+use Rattle.std.specs.Prelude.{◌≡◌, ℕ, ◌+◌, ◌^◌, ◌<◌, ◌≤◌, List, [], ◌∷◌, ◌++◌, length, map, Bool}
 use Rattle.std.specs.List.{flat_map, AllByRecursion}
 use Rattle.can_frame.specs.declared.level.Level.{Level}
 use Rattle.can_frame.specs.declared.level.Level.TheVariants.{Dominant, Recessive}
@@ -7,7 +7,7 @@ use Rattle.can_frame.specs.declared.text.TextFault.{TextFault}
 use Rattle.can_frame.specs.Parts.{Parts, IsFrame}
 use Rattle.can_frame.specs.Text.{frame_text, IsTextFault}
 use Rattle.can_code.specs.Wire.{driven}
-use Rattle.can_trace.specs.Lines.{lines_of, ended_lines}
+use Rattle.can_trace.specs.Lines.{lines_of, ended_lines, whole_lines}
 
 -- a level as a digit, `0` or `1`
 abbrev pub digit_of : Level → ℕ
@@ -25,21 +25,36 @@ pub record Codes (lines : List (List ℕ)) (output : List ℕ) : Type 0 where
   pub texts : map frame_text frames ≡ lines
   pub coded : output ≡ flat_map coded_line frames
 
--- the output is a beginning of what is written of the lines before the first that is no frame's
-pub record BeginsCoded (input output : List ℕ) : Type 0 where
+-- the output is the answer to all lines of the input, which isn't too long
+pub record EncodesAll (input output : List ℕ) : Type 0 where
+  pub within : length input ≤ 2 ^ 63
+  pub codes : Codes (lines_of input) output
+
+-- the output is the answer to the lines of the input that are ended
+abbrev pub EncodesEnded : List ℕ → List ℕ → Type 0
+EncodesEnded input output = Codes (ended_lines input) output
+
+-- the input is too long, and the output is the answer to those of its lines that are ended
+pub record EncodesTooLong (input output : List ℕ) : Type 0 where
+  pub long : 2 ^ 63 < length input
+  pub codes : EncodesEnded input output
+
+-- The output is a beginning of the answer to the lines of the input that are known whole, up to the
+-- first that is no frame's text.
+pub record BeginsEncoding (reader_ended : Bool) (input output : List ℕ) : Type 0 where
   pub good : List (List ℕ)
   pub others : List (List ℕ)
-  pub lines : lines_of input ≡ good ++ others
   pub rest : List ℕ
+  pub lines : whole_lines reader_ended input ≡ good ++ others
   pub codes : Codes good (output ++ rest)
 
--- The line of this number, from 1, is the first that is no frame's text, and this is its fault; the lines
--- before it are written. It is ended, or is the last and the reader ended.
-pub record IsFirstBadLine (number : ℕ) (fault : TextFault) (ended : Bool) (input output : List ℕ) : Type 0 where
+-- Of the lines of the input that are known whole, the line of this number, from 1, is the first that is
+-- no frame's text, and this is its fault. The output is the answer to the lines before it.
+pub record IsFirstBadLine (number : ℕ) (fault : TextFault) (reader_ended : Bool) (input output : List ℕ) : Type 0 where
   pub before : List (List ℕ)
   pub bad : List ℕ
   pub after : List (List ℕ)
-  pub whole : (ended_lines input ≡ before ++ bad ∷ after) ⊎ ((ended ≡ true) × (lines_of input ≡ before ++ bad ∷ []))
+  pub lines : whole_lines reader_ended input ≡ before ++ bad ∷ after
   pub codes : Codes before output
   pub number_is : number ≡ length before + 1
   pub is_fault : IsTextFault bad fault

@@ -1,5 +1,6 @@
 -- The lines of a text. A line is ended by 0x0a; the last may lack it, and empty text has no lines.
-use Rattle.std.specs.Prelude.{ℕ, ◌==◌, if◌then◌else◌, List, [], ◌∷◌}
+use Rattle.std.specs.Prelude.{◌≡◌, ℕ, ◌==◌, if◌then◌else◌, Bool, true, false, List, [], ◌∷◌, ◌++◌}
+use Rattle.std.specs.List.{AllByRecursion}
 
 -- the text with a byte in front of its first line
 abbrev pub onto_first : ℕ → List (List ℕ) → List (List ℕ)
@@ -20,3 +21,18 @@ onto_ended byte (line ∷ lines) = (byte ∷ line) ∷ lines
 abbrev pub ended_lines : List ℕ → List (List ℕ)
 ended_lines [] = []
 ended_lines (byte ∷ text) = if byte == 10 then [] ∷ ended_lines text else onto_ended byte (ended_lines text)
+
+-- the lines that are known whole: those that are ended, and the last one too if the reader ended
+abbrev pub whole_lines : Bool → List ℕ → List (List ℕ)
+whole_lines reader_ended text = if reader_ended then lines_of text else ended_lines text
+
+-- no line end is among the bytes
+abbrev pub IsLine : List ℕ → Type 0
+IsLine bytes = AllByRecursion (λ byte. (byte == 10) ≡ false) bytes
+
+-- The unread bytes and then the input are a line, with its end and the rest behind it where an end was
+-- found, and else nothing behind it.
+pub record SplitsLine (found : Bool) (unread input line rest : List ℕ) : Type 0 where
+  pub is_line : IsLine line
+  pub split : unread ++ input ≡ line ++ (if found then 10 ∷ rest else [])
+  pub closed : found ≡ false → rest ≡ []

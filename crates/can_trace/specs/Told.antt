@@ -2,10 +2,15 @@
 use Rattle.std.specs.Prelude.{ℕ, Bool, false, ◌==◌, ◌&&◌, not, List, Option, Result, Ok, Err}
 use Rattle.std.specs.Io.KnownBytes.{Consumes, Appends}
 
--- P holds of the bytes that the call read and of those that it wrote: the reader had these bytes left
--- before and after the call, the writer held these
-abbrev pub Told : Option (List ℕ) → Option (List ℕ) → Option (List ℕ) → Option (List ℕ) → (List ℕ → List ℕ → Type 0) → Type 0
-Told before after held holds P = (input : List ℕ) × (output : List ℕ) × Consumes before after input × Appends held holds output × P input output
+-- The call read the input from its reader and its writer took the output, and they are related so. What
+-- the reader has left and what the writer holds is given before and after the call; where it is unknown,
+-- the input or the output is any.
+pub record Told {R W : Type 0} (remaining : R → Option (List ℕ)) (before after : R) (contents : W → Option (List ℕ)) (held holds : W) (Related : List ℕ → List ℕ → Type 0) : Type 0 where
+  pub input : List ℕ
+  pub output : List ℕ
+  pub consumes : Consumes (remaining before) (remaining after) input
+  pub appends : Appends (contents held) (contents holds) output
+  pub related : Related input output
 
 -- the answer to a call with a slice of this length is that no byte was read or taken, though there was room for one
 abbrev pub is_nothing : {E : Type 0} → Result ℕ E → ℕ → Bool

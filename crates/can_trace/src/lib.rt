@@ -1,6 +1,34 @@
-//! Frame lines in, lines of levels out.
+//! Streams of text about frames: lines of text in, lines of text out, over any reader and any writer.
+//!
+//! [`encode_lines`] reads frame texts, one a line, and writes for each the levels that its sender drives.
+//! It promises what was written of what was read, for every way in which it can end, wherever the reader
+//! and the writer tell their bytes; and for all of them, which failure its answer stands for. It holds
+//! two fixed buffers and takes no memory.
+//!
+//! | File | What it has | Defined in |
+//! |---|---|---|
+//! | `encode.rt` | [`encode_lines`] | `specs/Coded.antt` |
+//! | `fault.rt` | [`TraceFault`], why an answer is not whole | |
+//! | `source.rt` | [`Source`], what bytes are read from, and [`FromRead`], which wraps a `Read` | `specs/Told.antt`, `specs/Wrapped.antt` |
+//! | `sink.rt` | [`Sink`], what bytes are written to, and [`ToWrite`], which wraps a `Write` | `specs/Told.antt`, `specs/Wrapped.antt` |
+//! | `lines.rt` | the lines of a source, one after another | `specs/Lines.antt`, `specs/LineReader.antt` |
+//! | `inbox.rt` | the bytes that were read and not used yet | `specs/Inbox.antt` |
+//! | `outbox.rt` | the bytes on their way to a sink | `specs/Outbox.antt` |
+//!
+//! `specs/Answering.antt` has what the steps of `encode.rt` promise one another.
 #![tactic(auto)]
 
+mod encode;
 mod fault;
+mod inbox;
+mod lines;
+mod outbox;
+mod sink;
+mod source;
+#[cfg(test)]
+mod tests;
 
+pub use encode::encode_lines;
 pub use fault::TraceFault;
+pub use sink::{Sink, ToWrite};
+pub use source::{FromRead, Source};

@@ -1,0 +1,47 @@
+-- What answering one line does, and what has been answered when all lines are done or a fault came.
+use Rattle.std.specs.Prelude.{◌≡◌, ℕ, Bool, true, false, List, [], Option, Result, Ok, Err}
+use Rattle.std.specs.Io.KnownBytes.{Keeps}
+use Rattle.can_frame.specs.Parts.{Parts, IsFrame}
+use Rattle.can_frame.specs.Text.{frame_text, IsTextFault}
+use Rattle.can_trace.specs.declared.fault.TraceFault.{TraceFault}
+use Rattle.can_trace.specs.declared.fault.TraceFault.TheVariants.{Read, Write, Long, FrameLine}
+use Rattle.can_trace.specs.Outbox.{PassesOn, TakesFront}
+use Rattle.can_trace.specs.Coded.{coded_line, EncodesAll, EncodesEnded, EncodesTooLong, BeginsEncoding, IsFirstBadLine}
+
+abbrev pub is_read : TraceFault → Bool
+is_read Read = true
+is_read Write = false
+is_read Long = false
+is_read (FrameLine line fault) = false
+
+abbrev pub is_write : TraceFault → Bool
+is_write Read = false
+is_write Write = true
+is_write Long = false
+is_write (FrameLine line fault) = false
+
+abbrev pub is_err_by : {A : Type 0} → (TraceFault → Bool) → Result A TraceFault → Bool
+is_err_by test (Ok done) = false
+is_err_by test (Err e) = test e
+
+-- the line is the text of a frame, whose levels went into the buffer
+pub record Answers (line : List ℕ) (held holds : Option (List ℕ)) (old new : List ℕ) : Type 0 where
+  pub frame : Parts
+  pub is_frame : IsFrame frame
+  pub text : frame_text frame ≡ line
+  pub passes : PassesOn held holds old new (coded_line frame)
+
+-- The line of this number was not answered: the writer failed, or the line is no frame's text.
+abbrev pub FailsToAnswer : TraceFault → ℕ → List ℕ → Option (List ℕ) → Option (List ℕ) → List ℕ → List ℕ → Type 0
+FailsToAnswer Write number line held holds old new = TakesFront held holds old × (new ≡ [])
+FailsToAnswer (FrameLine n fault) number line held holds old new = (n ≡ number) × IsTextFault line fault × Keeps held holds × (new ≡ old)
+FailsToAnswer Read number line held holds old new = ⊥
+FailsToAnswer Long number line held holds old new = ⊥
+
+-- how the output answers the input when a call ends so
+abbrev pub Encodes : {A : Type 0} → Result A TraceFault → Bool → List ℕ → List ℕ → Type 0
+Encodes (Ok done) reader_ended = EncodesAll
+Encodes (Err Read) reader_ended = EncodesEnded
+Encodes (Err Write) reader_ended = BeginsEncoding reader_ended
+Encodes (Err Long) reader_ended = EncodesTooLong
+Encodes (Err (FrameLine n fault)) reader_ended = IsFirstBadLine n fault reader_ended

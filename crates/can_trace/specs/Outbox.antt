@@ -1,0 +1,17 @@
+-- What becomes of bytes that go through a buffer to a writer.
+use Rattle.std.specs.Prelude.{◌≡◌, ℕ, List, ◌++◌, Option}
+use Rattle.std.specs.Io.KnownBytes.{Appends}
+
+-- Bytes were put behind those in the buffer, and the writer took from its front: the bytes given so far,
+-- those that the writer holds and then those in the buffer, grew by what was put.
+pub record PassesOn (held holds : Option (List ℕ)) (old new put : List ℕ) : Type 0 where
+  pub taken : List ℕ
+  pub appends : Appends held holds taken
+  pub same : old ++ put ≡ taken ++ new
+
+-- the writer took a front of these bytes, maybe none and maybe all of them
+pub record TakesFront (held holds : Option (List ℕ)) (bytes : List ℕ) : Type 0 where
+  pub taken : List ℕ
+  pub left : List ℕ
+  pub appends : Appends held holds taken
+  pub split : bytes ≡ taken ++ left

@@ -1,0 +1,103 @@
+ghost use Rattle.std.specs.Prelude.{◌≡◌, ℕ, ◌+◌, ◌==◌, ◌<◌, ◌≤◌, ◌^◌, true, false, not, List, [], ◌∷◌, ◌++◌, length, take, position, IsTrue, IsFalse, IfOk, IfErr, OnOk, OnErr};
+ghost use Rattle.std.specs.Io.KnownBytes.{Consumes, IsAtEnd};
+ghost use Rattle.can_trace.specs.Lines.{IsLine, SplitsLine};
+ghost use Rattle.can_trace.specs.Inbox.{StopsReading};
+
+use crate::fault::TraceFault;
+use crate::inbox::Inbox;
+use crate::source::Source;
+use arrayvec::ArrayVec;
+
+/// The lines of a source, one after another. Of each it keeps the first `KEPT` bytes, so that a line
+/// may have any length.
+#[derive(Drop)]
+pub(crate) struct LineReader<const KEPT: usize> {
+    inbox: Inbox,
+    line: ArrayVec<u8, KEPT>,
+}
+
+impl<const KEPT: usize> LineReader<KEPT> {
+    ghost use Rattle.can_trace.specs.LineReader.{ReadsLine, is_found};
+
+    /// Nothing was read so far.
+    pub(crate) fn new() -> LineReader<KEPT>
+        ensures inbox { result.inbox ≡ record { unread = []; taken = 0 } }
+    {
+        LineReader {
+            inbox: Inbox::new(),
+            line: ArrayVec::new(),
+        }
+    }
+
+    /// The first bytes of the line that was read last.
+    pub(crate) fn line(&self) -> &[u8]
+        ensures { result.now ≡ self.now.line.items }
+    {
+        &self.line
+    }
+
+    /// Reads the next line up to its end. Where the source ends, or an `Err` comes, before the line's
+    /// end, it answers `Ok(false)` or the `Err`, and the line is what came of it, maybe nothing.
+    pub(crate) fn next_line<R: Source>(&mut self, source: &mut R) -> Result<bool, TraceFault>
+        requires unfailed { R.has_failed source.old ≡ false }
+        requires unended { R.has_ended source.old ≡ false }
+        requires fits { self.old.inbox.taken < 2 ^ 64 }
+        ensures reads { ReadsLine (is_found result) (R.remaining source.old) (R.remaining source.new) KEPT self.old self.new }
+        ensures fits { self.new.inbox.taken < 2 ^ 64 }
+
+        ensures ended { IfOk result (λ found. R.has_ended source.new ≡ not found) }
+        ensures end { result ≡ Ok false → IsAtEnd (R.remaining source.new) }
+        ensures within { result ≡ Ok false → self.new.inbox.taken ≤ 2 ^ 63 }
+        ensures unfailed { OnOk result (R.has_failed source.new ≡ false) }
+
+        ensures err { IfErr result (λ e. StopsReading e (R.has_failed source.new) self.new.inbox.taken) }
+        ensures unended { OnErr result (R.has_ended source.new ≡ false) }
+    {
+        self.line.clear();
+        while !self.take_line() {
+            if self.inbox.fill(source)? == 0 {
+                return Ok(false);
+            }
+        }
+        Ok(true)
+    }
+
+    /// Takes the unread bytes into the line, up to the line's end if it is among them. Answers whether it is.
+    fn take_line(&mut self) -> bool
+        ensures splits { (part : List ℕ) × SplitsLine result self.old.inbox.unread [] part self.new.inbox.unread
+            × (self.new.line.items ≡ take KEPT (self.old.line.items ++ part)) }
+        ensures taken { self.new.inbox.taken ≡ self.old.inbox.taken }
+    {
+        let unread = self.inbox.unread();
+        match first_end(unread) {
+            Some(length) => {
+                keep_front(&mut self.line, &unread[..length]);
+                self.inbox.consume(length + 1);
+                true
+            }
+            None => {
+                keep_front(&mut self.line, unread);
+                let length = unread.len();
+                self.inbox.consume(length);
+                false
+            }
+        }
+    }
+}
+
+/// The place of the first line end.
+fn first_end(bytes: &[u8]) -> Option<usize>
+    ensures { result ≡ position (λ byte. byte == 10) bytes.now }
+{
+    bytes.iter().position(|byte| *byte == b'\n')
+}
+
+/// Appends those of the bytes that there is room for.
+fn keep_front<const KEPT: usize>(kept: &mut ArrayVec<u8, KEPT>, bytes: &[u8])
+    ensures { kept.new.items ≡ take KEPT (kept.old.items ++ bytes.now) }
+{
+    let count = bytes.len().min(kept.remaining_capacity());
+    let Ok(()) = kept.try_extend_from_slice(&bytes[..count]) else {
+        unreachable!();
+    };
+}
