@@ -13,7 +13,7 @@
 //! | `sink.rt` | [`Sink`], what bytes are written to, and [`ToWrite`], which wraps a `Write` | `specs/Told.antt`, `specs/Wrapped.antt` |
 //! | `lines.rt` | the lines of a source, one after another | `specs/Lines.antt`, `specs/LineReader.antt` |
 //! | `inbox.rt` | the bytes that were read and not used yet | `specs/Inbox.antt` |
-//! | `outbox.rt` | the bytes on their way to a sink | `specs/Outbox.antt` |
+//! | `outbox.rt` | the bytes on their way to a sink, and [`write_all`] | `specs/Outbox.antt` |
 //!
 //! `specs/Answering.antt` has what the steps of `encode.rt` promise one another.
 #![tactic(auto)]
@@ -30,5 +30,6 @@ mod tests;
 
 pub use encode::encode_lines;
 pub use fault::TraceFault;
+pub use outbox::write_all;
 pub use sink::{Sink, ToWrite};
 pub use source::{FromRead, Source};

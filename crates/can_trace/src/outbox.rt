@@ -80,8 +80,8 @@ impl Outbox {
     }
 }
 
-/// Gives the sink all the bytes, in as many writes as it needs.
-fn write_all<W: Sink>(sink: &mut W, bytes: &[u8]) -> Result<(), TraceFault>
+/// Gives the sink all the bytes, in as many writes as it needs. The only error is `Write`.
+pub fn write_all<W: Sink>(sink: &mut W, bytes: &[u8]) -> Result<(), TraceFault>
     requires { W.has_failed sink.old ≡ false }
     ensures ok { OnOk result (Appends (W.contents sink.old) (W.contents sink.new) bytes.now) }
     ensures err { OnErr result (TakesFront (W.contents sink.old) (W.contents sink.new) bytes.now) }
