@@ -13,7 +13,7 @@ use Rattle.clap.proofs.OnLiterals.{clap_on_literals}
 use Rattle.canbit.specs.declared.subcommands.Chosen.{Chosen}
 use Rattle.canbit.specs.declared.subcommands.Chosen.TheVariants.{Encode}
 use Rattle.canbit.specs.Subcommands.{canbit, name_of}
-use Rattle.canbit.specs.Words.{IsMisuse, faults_in, named_in}
+use Rattle.canbit.specs.Words.{AsksFor, IsMisuse, faults_in, named_in}
 use Rattle.canbit.proofs.Walks.{subcommand_named}
 
 -- the command is simple, and no argument has a rule on another
@@ -78,3 +78,7 @@ module _ (app : App) (words : List Text) (is : app ≡ canbit) where
 pub misuse : (words : List Text) (e : Error) → HasKind (faults_in words) e → (kind_of e ≢ OutOfMemory) × (kind_of e ≢ DisplayHelp) → IsMisuse words
 misuse words e (inl memory) other = absurd (other.0 memory)
 misuse words e (inr among) other = (kind_of e, among, other.1)
+
+-- so they ask for it
+pub alone_asks : (words : List Text) (name : Text) (chosen : Chosen) → words ≡ name ∷ name_of chosen ∷ [] → AsksFor chosen words
+alone_asks words name chosen is = (ap (fault_of canbit) is ∙ alone_taken name chosen, ap named_in is ∙ alone_named name chosen)

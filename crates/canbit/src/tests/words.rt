@@ -1,17 +1,8 @@
+use super::command_line;
 use crate::subcommands::Chosen;
 use crate::words::{WordFault, chosen};
 use std::alloc::{AllocError, Global};
 use std::test::Fail;
-
-/// The program's name and these words, as a process gets them.
-fn command_line(alloc: Global, words: &[&str]) -> Result<Vec<String>, AllocError> {
-    let mut all = Vec::new(alloc);
-    all.push(String::from_str(alloc, "canbit")?)?;
-    for word in words {
-        all.push(String::from_str(alloc, word)?)?;
-    }
-    Ok(all)
-}
 
 /// What the words come to, in a word.
 fn outcome(alloc: Global, words: &[&str]) -> Result<&'static str, AllocError> {
