@@ -1,0 +1,26 @@
+-- What the exit status says of the outcome of a stream.
+use Rattle.std.proofs.Common.{◌≡◌, arith, inl, inr, refl, ℕ, Bool, List, Option, Result, Ok, Err}
+use Rattle.std.specs.Result.{IsErrOf}
+use Rattle.can_trace.specs.declared.fault.TraceFault.{TraceFault}
+use Rattle.can_trace.specs.declared.fault.TraceFault.TheVariants.{Read, Write, Long, FrameLine}
+use Rattle.can_trace.specs.Coded.{EncodesTooLong, IsFirstBadLine}
+use Rattle.can_trace.specs.Told.{Told}
+use Rattle.canbit.specs.Runs.{RefusesInput}
+use Rattle.canbit.specs.Status.{exit_status}
+
+module _ {R W : Type 0} (remaining : R → Option (List ℕ)) (before after : R) (contents : W → Option (List ℕ)) (held holds : W) (reader_ended : Bool) where
+  abbrev Says : (List ℕ → List ℕ → Type 0) → Type 0
+  Says Related = Told remaining before after contents held holds Related
+
+  -- status 1 is that of a refused input
+  pub input_refused : (outcome : Result (Unit {0}) TraceFault) → exit_status outcome ≡ 1 → (IsErrOf outcome Long → Says EncodesTooLong)
+      → ((number : ℕ) (fault : _) → IsErrOf outcome (FrameLine number fault) → Says (IsFirstBadLine number fault reader_ended)) → Says (RefusesInput reader_ended)
+  input_refused (Ok done) is long line = absurd (omega arith)
+  input_refused (Err Read) is long line = absurd (omega arith)
+  input_refused (Err Write) is long line = absurd (omega arith)
+  input_refused (Err Long) is long line =
+      let told = long refl in
+      record { input = told.input; output = told.output; consumes = told.consumes; appends = told.appends; related = inr told.related }
+  input_refused (Err (FrameLine number fault)) is long line =
+      let told = line number fault refl in
+      record { input = told.input; output = told.output; consumes = told.consumes; appends = told.appends; related = inl (number, (fault, told.related)) }

@@ -1,0 +1,13 @@
+use Rattle.std.proofs.Common.{rules}
+use Rattle.canbit.specs.Words.{texts_of}
+use Rattle.canbit.proofs.Parses.{misuse}
+use Rattle.canbit.proofs.words.chosen.Goals as goal
+
+pub returns-in-Ok-clause-alone : goal.returns-in-Ok-clause-alone
+returns-in-Ok-clause-alone c name chosen is =
+    let same = c.met.ensures.only chosen (c.in-Ok.ensures.alone name chosen is) in
+    search rules
+
+pub returns-in-Err-clause-usage : goal.returns-in-Err-clause-usage
+returns-in-Err-clause-usage c is =
+    misuse (texts_of c.args.words.now) c.in-Err.error c.in-Err.ensures.refused (c.refusal.ensures.usage cc)

@@ -1,0 +1,4 @@
+pub mod Runs
+pub mod Status
+pub mod Subcommands
+pub mod Words

@@ -1,0 +1,33 @@
+-- What the words of a command line ask for, by clap's definition of what a simple command makes of words.
+use Rattle.std.specs.Prelude.{◌≡◌, ◌≢◌, List, [], Option, Some, map, option_map, string_bytes}
+use Rattle.std.specs.declared.alloc.Global.{Global}
+use Rattle.std.specs.declared.string.String.{String}
+use Rattle.clap.specs.Words.{IsAmong, Kinds, Text, fault_of, subcommand_of}
+use Rattle.clap.specs.declared.error.kind.ErrorKind.{ErrorKind}
+use Rattle.clap.specs.declared.error.kind.ErrorKind.TheVariants.{DisplayHelp}
+use Rattle.canbit.specs.declared.subcommands.Chosen.{Chosen}
+use Rattle.canbit.specs.Subcommands.{canbit, name_of}
+
+-- the words as texts
+abbrev pub texts_of : List (String Global) → List Text
+texts_of words = map string_bytes words
+
+-- the kinds of fault that the words may be refused with: none where the command takes them
+abbrev pub faults_in : List Text → Kinds
+faults_in words = fault_of canbit words
+
+-- the name of the subcommand that they name
+abbrev pub named_in : List Text → Option Text
+named_in words = option_map (λ met. met.0) (subcommand_of canbit words)
+
+-- the command takes the words, and they name this subcommand
+abbrev pub AsksFor : Chosen → List Text → Type 0
+AsksFor chosen words = (faults_in words ≡ []) × (named_in words ≡ Some (name_of chosen))
+
+-- the words may be refused as a request for help
+abbrev pub AsksForHelp : List Text → Type 0
+AsksForHelp words = IsAmong DisplayHelp (faults_in words)
+
+-- the words may be refused as a mistake
+abbrev pub IsMisuse : List Text → Type 0
+IsMisuse words = (kind : ErrorKind) × IsAmong kind (faults_in words) × (kind ≢ DisplayHelp)

@@ -1,0 +1,34 @@
+//! Why a run did not do all that it was asked.
+ghost use Rattle.std.specs.Prelude.{◌≡◌};
+ghost use Rattle.canbit.specs.Status.{status_of};
+
+use can_trace::TraceFault;
+use thiserror::Error;
+
+/// Why a run did not do all that it was asked, as its line on standard error says it.
+#[derive(Clone, Copy, Debug, PartialEq, Eq, Error)]
+pub enum RunFault {
+    /// The words are no use of the program.
+    #[error("usage")]
+    Usage,
+    /// Memory ran out.
+    #[error("P5 memory")]
+    Memory,
+    /// The input was not read or is refused, or the answer was not written.
+    #[error(transparent)]
+    Stream(TraceFault),
+}
+
+impl RunFault {
+    /// The exit status, 1 to 4.
+    pub fn status(self) -> u8
+        ensures { result ≡ status_of self }
+    {
+        match self {
+            RunFault::Stream(TraceFault::Long | TraceFault::FrameLine { .. }) => 1,
+            RunFault::Usage => 2,
+            RunFault::Stream(TraceFault::Read | TraceFault::Write) => 3,
+            RunFault::Memory => 4,
+        }
+    }
+}

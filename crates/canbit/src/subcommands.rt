@@ -1,0 +1,39 @@
+//! The subcommands of the program.
+ghost use Rattle.std.specs.Prelude.{◌≡◌, IfSome, Some};
+ghost use Rattle.canbit.specs.Subcommands.{name_of};
+
+/// A subcommand.
+#[derive(Clone, Copy, Debug, PartialEq, Eq)]
+pub enum Chosen {
+    /// Frame lines in, lines of levels out.
+    Encode,
+}
+
+impl Chosen {
+    /// Every subcommand, in the order of the help text.
+    pub const ALL: [Chosen; 1] = [Chosen::Encode];
+
+    /// The word that names it.
+    pub fn name(self) -> &'static str
+        ensures { result.now ≡ name_of self }
+    {
+        match self {
+            Chosen::Encode => "encode",
+        }
+    }
+
+    /// Its line in the help text.
+    pub fn about(self) -> &'static str {
+        match self {
+            Chosen::Encode => "Writes the levels of each frame line",
+        }
+    }
+
+    /// The subcommand of this name.
+    pub fn named(name: &str) -> Option<Chosen>
+        ensures some { IfSome result (λ chosen. name_of chosen ≡ name.now) }
+        ensures every { (chosen : Chosen) → name_of chosen ≡ name.now → result ≡ Some chosen }
+    {
+        Chosen::ALL.into_iter().find(|chosen| chosen.name() == name)
+    }
+}

@@ -1,0 +1,52 @@
+use super::command_line;
+use crate::subcommands::Chosen;
+use crate::words::{WordFault, chosen};
+use std::alloc::{AllocError, Global};
+use std::test::Fail;
+
+/// What the words come to, in a word.
+fn outcome(alloc: Global, words: &[&str]) -> Result<&'static str, AllocError> {
+    let all = command_line(alloc, words)?;
+    Ok(match chosen(alloc, all.as_slice()) {
+        Ok(Chosen::Encode) => "encode",
+        Err(WordFault::Usage) => "usage",
+        Err(WordFault::Help(_)) => "help",
+        Err(WordFault::Memory) => "memory",
+    })
+}
+
+#[test]
+fn words_name_a_subcommand_or_none(rt: HostRuntime) -> Result<(), Fail> {
+    let runs: [(&[&str], &str); 14] = [
+        (&["encode"], "encode"),
+        (&["encode", "--"], "encode"),
+        (&[], "usage"),
+        (&["--"], "usage"),
+        (&["decode"], "usage"),
+        (&["Encode"], "usage"),
+        (&["encode", "more"], "usage"),
+        (&["--", "encode"], "usage"),
+        (&["--nonsense"], "usage"),
+        (&["help"], "help"),
+        (&["--help"], "help"),
+        (&["-h"], "help"),
+        (&["encode", "--help"], "help"),
+        (&["help", "encode"], "help"),
+    ];
+    for (words, want) in runs {
+        let told = outcome(rt.alloc(), words)?;
+        assert_eq!(rt; told, want, "at {words:?}");
+    }
+    Ok(())
+}
+
+#[test]
+fn help_is_the_text_of_the_crate(rt: HostRuntime) -> Result<(), Fail> {
+    let all = command_line(rt.alloc(), &["help"])?;
+    let Err(WordFault::Help(text)) = chosen(rt.alloc(), all.as_slice()) else {
+        return Err(Fail::from("no help"));
+    };
+    assert!(rt; text.as_str().contains("Usage: canbit <COMMAND>"), "{text}");
+    assert!(rt; text.as_str().contains("encode"), "{text}");
+    Ok(())
+}
