@@ -10,11 +10,15 @@
 //! | `stuffing.rt` | [`stuff`], the stuff bits | `specs/Stuffing.antt` |
 //! | `layout.rt` | the head of a frame and its CRC sequence, unstuffed | `specs/Wire.antt` |
 //! | `encoding.rt` | [`encode`], the levels of a frame | `specs/Wire.antt` |
-//! | `laws.rt` | that a CRC sequence, a stuffed list and a frame's wire exist and are unique | |
+//! | `laws.rt` | that a CRC sequence, a stuffed list and a frame's wire exist and are unique | all three |
 //!
 //! Each is defined twice: by a relation that says what it is (the generator divides it, a stuff
 //! bit stands behind five equal levels), and by a function that computes it. The calls promise
 //! that the two agree.
+//!
+//! Crates above find lemmas in `proofs/`: how a stuffed list grows level by level (`StuffPlaces`,
+//! `Runs`, `StuffingLemmas`), that it is unique (`OneStuffing`), how long each part is
+//! (`HeadLemmas`, `WireLemmas`), and how a check sequence grows (`Register`).
 #![tactic(auto)]
 
 mod crc;
