@@ -23,11 +23,13 @@ const LINE: usize = 158;
 /// Reads lines of frame text and writes for each the levels of its frame, as `0` and `1` and 0x0a.
 ///
 /// A line is ended by 0x0a; the last may lack it, and empty input has no lines. Lines may have any
-/// length. It takes no memory, and it answers `Ok` only where the reader ended in this call.
+/// length. It takes no memory. The reader must have neither failed nor ended before the call, and the
+/// writer must not have failed.
 ///
-/// `FrameLine` names the first line that is no frame text, once it has ended. `Read` and `Write` come
-/// from a reader or a writer that failed; the call that failed is not tried again. `Long` says that the
-/// input has more than 2^63 bytes.
+/// `Ok` comes only where the reader ended in this call. `FrameLine` names the first line that is no
+/// frame text, once that has ended. `Read` and `Write` say that the reader or the writer failed; the call
+/// that failed is not tried again. `Long` says that the input has more than 2^63 bytes. All lines before
+/// the fault have been answered, unless it is `Write`: then a beginning of the answer is written.
 pub fn encode_lines<R: Source, W: Sink>(r: &mut R, w: &mut W) -> Result<(), TraceFault>
     requires reader_unfailed { R.has_failed r.old ≡ false }
     requires reader_unended { R.has_ended r.old ≡ false }
