@@ -45,7 +45,7 @@ no_memory : (kinds : Kinds) (e : Error) → HasKind kinds e → kinds ≡ [] →
 no_memory kinds e (inl memory) none = memory
 no_memory kinds e (inr among) none = absurd (rw none at among)
 
--- of a parse of the words by the program's command
+-- a parse of the words by the program's command
 module _ (app : App) (words : List Text) (is : app ≡ canbit) where
   -- it met the subcommand that the words name
   name_met : (m : ArgMatches) → HasMatchesOf app words m → subcommand_name_of m ≡ named_in words
@@ -79,6 +79,6 @@ pub misuse : (words : List Text) (e : Error) → HasKind (faults_in words) e →
 misuse words e (inl memory) other = absurd (other.0 memory)
 misuse words e (inr among) other = (kind_of e, among, other.1)
 
--- so they ask for it
+-- the name of a subcommand alone behind the program's name asks for it
 pub alone_asks : (words : List Text) (name : Text) (chosen : Chosen) → words ≡ name ∷ name_of chosen ∷ [] → AsksFor chosen words
 alone_asks words name chosen is = (ap (fault_of canbit) is ∙ alone_taken name chosen, ap named_in is ∙ alone_named name chosen)

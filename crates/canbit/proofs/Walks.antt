@@ -1,19 +1,18 @@
--- Which subcommand a parse enters that has no fault.
+-- Words in which the program's command finds no fault name one of its subcommands.
 use Rattle.std.proofs.Common.{◌≡◌, ◌⊎◌, ◌∙◌, ◌&&◌, ◌||◌, ap, codes, cond, false, inl, inr, is_some, option_map, refl, sym, true, ℕ, Bool, List, [], ◌∷◌, Option, Some, None}
+use Rattle.std.proofs.lemmas.Slice.Eq.{bytes_eq-Decides}
+use Rattle.std.specs.List.{AllByRecursion}
 use Rattle.std.specs.Prelude.{find, fold}
 use Rattle.std.specs.Str.{bytes_eq}
+use Rattle.clap.specs.declared.error.kind.ErrorKind.TheVariants.{DisplayHelp, InvalidSubcommand}
+use Rattle.clap.specs.Faults.{check_fault, defaults_fault, entered_fault, fault_of, level_fault, other_fault, settle_fault, turn_fault, walk_fault, word_fault}
 use Rattle.clap.specs.Kinds.{Kinds, check_kinds, or_else}
-use Rattle.clap.specs.Faults.{check_fault, defaults_fault, entered_fault, fault_of, level_fault, settle_fault, turn_fault, walk_fault, word_fault, other_fault}
-use Rattle.clap.specs.Walk.{Held, Names, Outcome, Rule, Step, Text, Waiting, Walk, after_flag, after_step, arg_by_index, done, idle, long_or_other, next, option, plain, plain_word, positional, refused, short_or_plain, subcommand, subcommand_met, subcommand_or_other, to_positional, trailing, value, waits, walked, walked_from, word_met}
 use Rattle.clap.specs.Lexer.{long_of, short_of}
-use Rattle.std.specs.List.{AllByRecursion}
-use Rattle.clap.specs.Walk.{Row, answers_to, finished, nothing_held, settled, stop_after, walk, walk_from}
 use Rattle.clap.specs.Simple.{Shape, argument_words, built, entered, label_of, names_of, rows_at, subcommand_of}
-use Rattle.std.proofs.lemmas.Slice.Eq.{bytes_eq-Decides}
+use Rattle.clap.specs.Walk.{Held, Names, Outcome, Row, Rule, Step, Text, Waiting, Walk, after_flag, after_step, answers_to, arg_by_index, done, finished, idle, long_or_other, next, nothing_held, option, plain, plain_word, positional, refused, settled, short_or_plain, stop_after, subcommand, subcommand_met, subcommand_or_other, to_positional, trailing, value, waits, walk, walk_from, walked, walked_from, word_met}
 use Rattle.canbit.specs.declared.subcommands.Chosen.{Chosen}
 use Rattle.canbit.specs.declared.subcommands.Chosen.TheVariants.{Encode}
 use Rattle.canbit.specs.Subcommands.{canbit, name_of}
-use Rattle.clap.specs.declared.error.kind.ErrorKind.TheVariants.{DisplayHelp, InvalidSubcommand}
 
 -- no kinds come only of two empty lists
 or_else-nil : (a b : Kinds) → or_else a b ≡ [] → (a ≡ []) × (b ≡ [])
@@ -24,7 +23,7 @@ abbrev is_help : Text → Bool
 is_help name = bytes_eq name (codes "help")
 
 -- the walk did not stop at `help`
-abbrev pub AvoidsHelp : Option (Text × List Text) → Type 0
+abbrev AvoidsHelp : Option (Text × List Text) → Type 0
 AvoidsHelp None = Unit {0}
 AvoidsHelp (Some p) = is_help p.0 ≡ false
 
@@ -33,6 +32,7 @@ abbrev StepAvoidsHelp : Step → Type 0
 StepAvoidsHelp (subcommand name) = is_help name ≡ false
 StepAvoidsHelp step = Unit {0}
 
+-- a word that is read as a flag, as an option or as a value is no subcommand
 plain_avoids : (c : List Rule) (waiting : Waiting) (word : Text) (h : Held) → StepAvoidsHelp (plain_word c waiting word h).1
 plain_avoids c idle word h = tt
 plain_avoids c (option id) word h = tt
@@ -52,7 +52,7 @@ long_avoids : (c : List Rule) (waiting : Waiting) (word : Text) (long : Option (
 long_avoids c waiting word (Some p) h = flag_avoids c waiting word _ _
 long_avoids c waiting word None h = short_avoids c waiting word (short_of word) h
 
--- what a word is that has no fault
+-- a word with no fault is not `help`
 met_avoids : (s : Shape) (names : Names) (is_trailing : Bool) (waiting : Waiting) (position : ℕ) (word : Text) (h : Held) → s.disable_help_subcommand ≡ false
     → word_fault s names is_trailing waiting word h ≡ [] → StepAvoidsHelp (word_met s.rules names is_trailing waiting position word h).1
 met_avoids s names true waiting position word h helps none = tt
@@ -70,6 +70,7 @@ met_avoids s names false waiting position word h helps none = go (subcommand_met
         other true = tt
         other false = long_avoids s.rules waiting word (long_of word) h
 
+-- after such a step the walk did not stop at `help`
 step_avoids : (c : List Rule) (word : Text) (w : Walk) (h : Held) (step : Step) → AvoidsHelp w.stopped → StepAvoidsHelp step → AvoidsHelp (after_step c word w h step).stopped
 step_avoids c word w h (next waiting) before now = before
 step_avoids c word w h (trailing position) before now = before
@@ -92,7 +93,7 @@ turn_avoids s names w word helps none before = go w.stopped refl
         step_avoids s.rules word w _ _ before (met_avoids s names w.is_trailing w.waiting w.position word w.held helps parts.0)
 
 -- a walk with no fault does not stop at `help`
-pub walk_avoids : (s : Shape) (names : Names) (w : Walk) (words : List Text) → s.disable_help_subcommand ≡ false
+walk_avoids : (s : Shape) (names : Names) (w : Walk) (words : List Text) → s.disable_help_subcommand ≡ false
     → walk_fault s names w words ≡ [] → AvoidsHelp w.stopped → AvoidsHelp (fold (walked s.rules names) w words).stopped
 unfolding walk_fault
 walk_avoids s names w [] helps none before = before
@@ -102,9 +103,9 @@ walk_avoids s names w (word ∷ words) helps none before =
 
 -- ---- the subcommand that is entered
 
-or_nothing : (b : Bool) → (b || false) ≡ true → b ≡ true
-or_nothing true e = refl
-or_nothing false e = e
+or_false : (b : Bool) → (b || false) ≡ true → b ≡ true
+or_false true e = refl
+or_false false e = e
 
 -- the shape is of one of the program's subcommands, or of `help`
 abbrev IsKnown : Shape → Type 0
@@ -113,6 +114,7 @@ IsKnown s = (s.aliases ≡ []) × (((c : Chosen) × (s.name ≡ name_of c)) ⊎ 
 abbrev entered_at : Text → List Text → List Shape → Option (Text × List Row)
 entered_at name words subs = option_map (λ s. rows_at s words) (find (λ s. answers_to name (label_of s)) subs)
 
+-- one of the program's subcommands was met
 abbrev pub IsNamed : Option (Text × List Row) → Type 0
 IsNamed met = (c : Chosen) × (option_map (λ p. p.0) met ≡ Some (name_of c))
 
@@ -131,7 +133,7 @@ entered_named name words (s ∷ subs) known other some =
     go true e rest one = elim known.0.1 [
       | inl chosen ↦ (chosen.0, ap Some chosen.1)
       | inr help ↦
-          let same : s.name ≡ name = (bytes_eq-Decides s.name name).0 (or_nothing _ (rw known.0.0 at e)) in
+          let same : s.name ≡ name = (bytes_eq-Decides s.name name).0 (or_false _ (rw known.0.0 at e)) in
           let helps : is_help name ≡ true = (bytes_eq-Decides name (codes "help")).1 (sym same ∙ help) in
           cc
     ]

@@ -1,4 +1,3 @@
-pub mod Runs
 pub mod Status
 pub mod Subcommands
 pub mod Words

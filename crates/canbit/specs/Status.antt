@@ -1,5 +1,6 @@
--- The exit status of a run.
-use Rattle.std.specs.Prelude.{ℕ, Result, Ok, Err}
+-- What the exit status of a run says.
+use Rattle.std.specs.Prelude.{◌⊎◌, ℕ, Bool, List, Result, Ok, Err}
+use Rattle.can_trace.specs.Coded.{EncodesTooLong, IsFirstBadLine}
 use Rattle.can_trace.specs.declared.fault.TraceFault.{TraceFault}
 use Rattle.can_trace.specs.declared.fault.TraceFault.TheVariants.{Read, Write, Long, FrameLine}
 use Rattle.canbit.specs.declared.fault.RunFault.{RunFault}
@@ -18,3 +19,9 @@ status_of Memory = 4
 abbrev pub exit_status : Result (Unit {0}) TraceFault → ℕ
 exit_status (Ok done) = 0
 exit_status (Err fault) = status_of (Stream fault)
+
+-- why the input is refused: some line of it is no frame's text, or it is too long; the output is the answer
+-- to what stands before
+abbrev pub RefusesInput : Bool → List ℕ → List ℕ → Type 0
+RefusesInput reader_ended input output =
+    ((number : ℕ) × ((fault : _) × IsFirstBadLine number fault reader_ended input output)) ⊎ EncodesTooLong input output

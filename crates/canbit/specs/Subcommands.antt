@@ -5,22 +5,22 @@ use Rattle.clap.specs.Simple.{on_top, new_shape}
 use Rattle.canbit.specs.declared.subcommands.Chosen.{Chosen}
 use Rattle.canbit.specs.declared.subcommands.Chosen.TheVariants.{Encode}
 
--- every subcommand
-abbrev pub all_chosen : List Chosen
-all_chosen = Encode ∷ []
+-- every subcommand, in the order of the help text
+abbrev pub subcommands : List Chosen
+subcommands = Encode ∷ []
 
 -- the word that names it
 abbrev pub name_of : Chosen → Text
 name_of Encode = codes "encode"
 
 -- the command named canbit, which requires a subcommand
-abbrev pub started : App
-started = on_top (λ s. record s { subcommand_required = true }) (new_app (codes "canbit"))
+abbrev pub without_subcommands : App
+without_subcommands = on_top (λ s. record s { subcommand_required = true }) (new_app (codes "canbit"))
 
--- the same with one more subcommand
+-- a command with one more subcommand
 abbrev pub with_chosen : App → Chosen → App
 with_chosen app chosen = with_subcommand app (new_shape (name_of chosen))
 
 -- the command named canbit with its subcommands, one of which it requires
 abbrev pub canbit : App
-canbit = fold with_chosen started all_chosen
+canbit = fold with_chosen without_subcommands subcommands

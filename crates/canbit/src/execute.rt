@@ -3,9 +3,8 @@ ghost use Rattle.std.specs.Prelude.{◌≡◌, ◌⊎◌, ◌↔◌, ◌<◌, �
 ghost use Rattle.std.specs.Io.KnownBytes.{Appends};
 ghost use Rattle.can_trace.specs.Told.{Told};
 ghost use Rattle.can_trace.specs.Coded.{EncodesAll, EncodesEnded, BeginsEncoding};
-ghost use Rattle.canbit.specs.Runs.{RefusesInput};
 ghost use Rattle.canbit.specs.Subcommands.{name_of};
-ghost use Rattle.canbit.specs.Status.{exit_status, status_of};
+ghost use Rattle.canbit.specs.Status.{RefusesInput, exit_status, status_of};
 ghost use Rattle.canbit.specs.Words.{AsksFor, AsksForHelp, IsMisuse, texts_of};
 
 use crate::fault::RunFault;

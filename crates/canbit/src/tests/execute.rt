@@ -1,8 +1,10 @@
 use super::command_line;
-use crate::execute::execute;
-use can_trace::{FromRead, ToWrite};
-use std::alloc::{AllocError, Global};
+use crate::execute::{execute, refuse};
+use crate::fault::RunFault;
+use can_trace::{FromRead, ToWrite, TraceFault};
+use std::alloc::Global;
 use std::io::{self, ErrorKind, Read, Write};
+use std::process::Abort;
 use std::test::Fail;
 
 /// More bytes than any test reads or writes.
@@ -14,6 +16,16 @@ struct Script<'a> {
     rest: &'a [u8],
     step: usize,
     fails: bool,
+}
+
+impl<'a> Script<'a> {
+    fn new(text: &'a str, step: usize, fails: bool) -> Script<'a> {
+        Script {
+            rest: text.as_bytes(),
+            step,
+            fails,
+        }
+    }
 }
 
 impl Read for Script<'_> {
@@ -63,21 +75,22 @@ impl Tape {
     }
 }
 
-/// What a run left: its exit status, its output, and its line of fault.
+/// What a run left: its exit status, its output, and what it told of its fault.
 #[derive(Drop)]
 struct Run {
     status: u8,
-    output: Vec<u8>,
-    fault: Vec<u8>,
+    output: String,
+    fault: String,
 }
 
+/// The run of the program on these words and streams.
 fn executed(
     alloc: Global,
     words: &[&str],
     input: Script<'_>,
     mut output: Tape,
     mut errors: Tape,
-) -> Result<Run, AllocError> {
+) -> Result<Run, Fail> {
     let all = command_line(alloc, words)?;
     let status = execute(
         alloc,
@@ -88,9 +101,16 @@ fn executed(
     );
     Ok(Run {
         status,
-        output: output.bytes,
-        fault: errors.bytes,
+        output: String::from_utf8(output.bytes)?,
+        fault: String::from_utf8(errors.bytes)?,
     })
+}
+
+/// Stops the test unless the run left this.
+fn expect_run(rt: &impl Abort, run: &Run, status: u8, output: &str, fault: &str) {
+    assert_eq!(rt; run.output.as_str(), output);
+    assert_eq!(rt; run.fault.as_str(), fault);
+    assert_eq!(rt; run.status, status);
 }
 
 const LINE_000: &str = "00000100000100000100000100000100000100001111111111\n";
@@ -101,46 +121,29 @@ const LINE_001: &str = "00000100000101000001000100010000100111111111111\n";
 fn answers_whatever_the_pieces(rt: HostRuntime) -> Result<(), Fail> {
     let alloc = rt.alloc();
     let encode: &[&str] = &["encode"];
-    let rows: [(&[&str], &str, &str, &str, u8); 9] = [
-        (encode, "S 000 D 0\n", LINE_000, "", 0),
-        (encode, "", "", "", 0),
-        (encode, "S 001 D 0", LINE_001, "", 0),
+    let rows: [(&[&str], &str, u8, &str, &str); 9] = [
+        (encode, "S 000 D 0\n", 0, LINE_000, ""),
+        (encode, "", 0, "", ""),
+        (encode, "S 001 D 0", 0, LINE_001, ""),
         (
             encode,
             "S 000 D 0\nS 123 D 16\n",
+            1,
             LINE_000,
             "canbit: P7 line 2 X4 at 9\n",
-            1,
         ),
-        (&[], "S 000 D 0\n", "", "canbit: usage\n", 2),
-        (&["decode"], "S 000 D 0\n", "", "canbit: usage\n", 2),
-        (&["encode", "more"], "S 000 D 0\n", "", "canbit: usage\n", 2),
-        (&["--nonsense"], "S 000 D 0\n", "", "canbit: usage\n", 2),
-        (&["help", "nonsense"], "", "", "canbit: usage\n", 2),
+        (&[], "S 000 D 0\n", 2, "", "canbit: usage\n"),
+        (&["decode"], "S 000 D 0\n", 2, "", "canbit: usage\n"),
+        (&["encode", "more"], "S 000 D 0\n", 2, "", "canbit: usage\n"),
+        (&["--nonsense"], "S 000 D 0\n", 2, "", "canbit: usage\n"),
+        (&["help", "nonsense"], "", 2, "", "canbit: usage\n"),
     ];
-    for (words, input, output, fault, status) in rows {
+    for (words, input, status, output, fault) in rows {
         for step in [1, 7, ALL] {
-            let script = Script {
-                rest: input.as_bytes(),
-                step,
-                fails: false,
-            };
-            let run = executed(
-                alloc,
-                words,
-                script,
-                Tape::new(alloc, step, ALL),
-                Tape::new(alloc, step, ALL),
-            )?;
-            assert_eq!(rt; run.status, status, "at {words:?}, {input:?}");
-            assert!(rt;
-                run.output.as_slice() == output.as_bytes(),
-                "at {words:?}, {input:?}"
-            );
-            assert!(rt;
-                run.fault.as_slice() == fault.as_bytes(),
-                "at {words:?}, {input:?}"
-            );
+            let script = Script::new(input, step, false);
+            let tape = Tape::new(alloc, step, ALL);
+            let run = executed(alloc, words, script, tape, Tape::new(alloc, step, ALL))?;
+            expect_run(&rt, &run, status, output, fault);
         }
     }
     Ok(())
@@ -150,75 +153,93 @@ fn answers_whatever_the_pieces(rt: HostRuntime) -> Result<(), Fail> {
 fn a_failing_stream_ends_the_run(rt: HostRuntime) -> Result<(), Fail> {
     let alloc = rt.alloc();
     let encode: &[&str] = &["encode"];
-    let broken: &str = "canbit: P3 read\n";
-    let full: &str = "canbit: P4 write\n";
-    let rows: [(&[&str], &str, bool, usize, &str, &str); 8] = [
-        (encode, "S 000 D 0\nS 0", true, ALL, LINE_000, broken),
-        (encode, "", true, ALL, "", broken),
-        (encode, "S 000 D 0\n", false, 0, "", full),
-        (encode, "S 000 D 0\n", false, 7, "0000010", full),
-        (encode, "S 000 D 0\nS 0", true, 7, "0000010", full),
-        (encode, "S 000 D 0\nno frame\n", false, 7, "0000010", full),
-        (&["help"], "", true, 5, "Codes", full),
+    let rows: [(&[&str], &str, bool, usize, u8, &str, &str); 8] = [
+        (
+            encode,
+            "S 000 D 0\nS 0",
+            true,
+            ALL,
+            3,
+            LINE_000,
+            "canbit: P3 read\n",
+        ),
+        (encode, "", true, ALL, 3, "", "canbit: P3 read\n"),
+        (encode, "S 000 D 0\n", false, 0, 3, "", "canbit: P4 write\n"),
+        (
+            encode,
+            "S 000 D 0\n",
+            false,
+            7,
+            3,
+            "0000010",
+            "canbit: P4 write\n",
+        ),
+        (
+            encode,
+            "S 000 D 0\nS 0",
+            true,
+            7,
+            3,
+            "0000010",
+            "canbit: P4 write\n",
+        ),
+        (
+            encode,
+            "S 000 D 0\nno frame\n",
+            false,
+            7,
+            3,
+            "0000010",
+            "canbit: P4 write\n",
+        ),
+        (&["help"], "", true, 5, 3, "Codes", "canbit: P4 write\n"),
         // Words that are no use are told before any stream is touched.
-        (&["decode"], "", true, 0, "", "canbit: usage\n"),
+        (&["decode"], "", true, 0, 2, "", "canbit: usage\n"),
     ];
-    for (words, input, fails, room, output, fault) in rows {
+    for (words, input, fails, room, status, output, fault) in rows {
         for step in [1, ALL] {
-            let script = Script {
-                rest: input.as_bytes(),
-                step,
-                fails,
-            };
-            let run = executed(
-                alloc,
-                words,
-                script,
-                Tape::new(alloc, step, room),
-                Tape::new(alloc, step, ALL),
-            )?;
-            let status = if fault == "canbit: usage\n" { 2 } else { 3 };
-            assert_eq!(rt; run.status, status, "at {words:?}, {input:?}, {room}");
-            assert!(rt;
-                run.output.as_slice() == output.as_bytes(),
-                "at {words:?}, {input:?}, {room}"
-            );
-            assert!(rt;
-                run.fault.as_slice() == fault.as_bytes(),
-                "at {words:?}, {input:?}, {room}"
-            );
+            let script = Script::new(input, step, fails);
+            let tape = Tape::new(alloc, step, room);
+            let run = executed(alloc, words, script, tape, Tape::new(alloc, step, ALL))?;
+            expect_run(&rt, &run, status, output, fault);
         }
     }
     Ok(())
 }
 
 #[test]
-fn a_lost_line_of_fault_changes_nothing(rt: HostRuntime) -> Result<(), Fail> {
+fn a_lost_fault_line_changes_nothing(rt: HostRuntime) -> Result<(), Fail> {
     let alloc = rt.alloc();
-    let rows: [(&[&str], &str, &str, u8); 3] = [
-        (&["encode"], "S 000 D 0\n", LINE_000, 0),
-        (&["encode"], "S 000 D 0\nS 123 D 16\n", LINE_000, 1),
-        (&[], "S 000 D 0\n", "", 2),
+    let rows: [(&[&str], &str, u8, &str); 3] = [
+        (&["encode"], "S 000 D 0\n", 0, LINE_000),
+        (&["encode"], "S 000 D 0\nS 123 D 16\n", 1, LINE_000),
+        (&[], "S 000 D 0\n", 2, ""),
     ];
-    for (words, input, output, status) in rows {
-        let script = Script {
-            rest: input.as_bytes(),
-            step: ALL,
-            fails: false,
-        };
-        let run = executed(
-            alloc,
-            words,
-            script,
-            Tape::new(alloc, ALL, ALL),
-            Tape::new(alloc, ALL, 0),
-        )?;
-        assert_eq!(rt; run.status, status, "at {words:?}, {input:?}");
-        assert!(rt;
-            run.output.as_slice() == output.as_bytes(),
-            "at {words:?}, {input:?}"
+    for (words, input, status, output) in rows {
+        let script = Script::new(input, ALL, false);
+        let tape = Tape::new(alloc, ALL, ALL);
+        let run = executed(alloc, words, script, tape, Tape::new(alloc, ALL, 0))?;
+        expect_run(&rt, &run, status, output, "");
+    }
+    Ok(())
+}
+
+#[test]
+fn each_fault_has_a_line_and_a_status(rt: HostRuntime) -> Result<(), Fail> {
+    let rows = [
+        (RunFault::Stream(TraceFault::Long), 1, "canbit: P6 long\n"),
+        (RunFault::Usage, 2, "canbit: usage\n"),
+        (RunFault::Stream(TraceFault::Read), 3, "canbit: P3 read\n"),
+        (RunFault::Stream(TraceFault::Write), 3, "canbit: P4 write\n"),
+        (RunFault::Memory, 4, "canbit: P5 memory\n"),
+    ];
+    for (fault, status, line) in rows {
+        let mut errors = ToWrite::new(Tape::new(rt.alloc(), ALL, ALL));
+        assert_eq!(rt; refuse(fault, &mut errors), status, "{fault}");
+        assert_eq!(rt;
+            String::from_utf8(errors.into_inner().bytes)?.as_str(),
+            line
         );
-        assert!(rt; run.fault.is_empty(), "at {words:?}, {input:?}");
     }
     Ok(())
 }
@@ -228,25 +249,16 @@ fn help_goes_to_the_output(rt: HostRuntime) -> Result<(), Fail> {
     let alloc = rt.alloc();
     let rows: [&[&str]; 4] = [&["help"], &["--help"], &["-h"], &["encode", "--help"]];
     for words in rows {
-        let script = Script {
-            rest: b"S 000 D 0\n",
-            step: ALL,
-            fails: true,
-        };
-        let run = executed(
-            alloc,
-            words,
-            script,
-            Tape::new(alloc, 3, ALL),
-            Tape::new(alloc, ALL, ALL),
-        )?;
-        assert_eq!(rt; run.status, 0, "at {words:?}");
-        assert!(rt; run.fault.is_empty(), "at {words:?}");
-        let text = std::str::from_utf8(run.output.as_slice()).map_err(|_| "no text")?;
+        let script = Script::new("S 000 D 0\n", ALL, true);
+        let tape = Tape::new(alloc, 3, ALL);
+        let run = executed(alloc, words, script, tape, Tape::new(alloc, ALL, ALL))?;
         assert!(rt;
-            text.contains("Usage: canbit") && text.ends_with('\n'),
-            "{text}"
+            run.output.as_str().contains("Usage: canbit"),
+            "{}",
+            run.output
         );
+        assert!(rt; run.fault.is_empty(), "{}", run.fault);
+        assert_eq!(rt; run.status, 0);
     }
     Ok(())
 }
