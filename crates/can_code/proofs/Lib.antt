@@ -1,0 +1,12 @@
+pub mod XorLemmas
+pub mod DivisionLemmas
+pub mod Register
+pub mod LevelLemmas
+pub mod RegisterWord
+pub mod StuffPlaces
+pub mod Runs
+pub mod OneStuffing
+pub mod StuffingLemmas
+pub mod HeadLemmas
+pub mod WireLemmas
+pub mod Rows

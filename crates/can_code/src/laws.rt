@@ -1,0 +1,25 @@
+ghost use Rattle.std.specs.Prelude.{◌≡◌, ◌++◌, List};
+ghost use Rattle.can_frame.specs.declared.level.Level.{Level as Bit};
+ghost use Rattle.can_frame.specs.declared.level.Level.TheVariants.{Dominant, Recessive};
+ghost use Rattle.can_frame.specs.Parts.{Parts};
+ghost use Rattle.can_code.specs.Crc.{IsCrc, crc_of};
+ghost use Rattle.can_code.specs.Stuffing.{Stuffs, stuffed};
+ghost use Rattle.can_code.specs.Wire.{head, IsSpelling, wire};
+
+/// Each list of levels has exactly one CRC sequence.
+pub fn one_check_sequence()
+    ensures exists { (b : List Bit) → IsCrc b (crc_of b) }
+    ensures only { (b c : List Bit) → IsCrc b c → c ≡ crc_of b }
+{}
+
+/// Each list of levels has exactly one list with its stuff bits.
+pub fn one_stuffing()
+    ensures exists { (a : List Bit) → Stuffs a (stuffed a) }
+    ensures only { (a b : List Bit) → Stuffs a b → b ≡ stuffed a }
+{}
+
+/// Each frame has exactly one list of levels on the wire.
+pub fn one_wire()
+    ensures exists { (f : Parts) → IsSpelling (head f) Dominant Recessive (wire f) }
+    ensures only { (f : Parts) (w : List Bit) → IsSpelling (head f) Dominant Recessive w → w ≡ wire f }
+{}

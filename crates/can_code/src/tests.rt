@@ -1,0 +1,129 @@
+use crate::layout::head;
+use crate::{crc15, encode, stuff};
+use arrayvec::ArrayVec;
+use can_frame::{Frame, Id, Level};
+use std::test::Fail;
+
+/// A list of levels that can be longer than any frame's.
+type Levels = ArrayVec<Level, 200>;
+
+/// The levels of a text of `0` and `1`.
+fn levels_of(text: &str) -> Levels {
+    let mut levels = ArrayVec::new();
+    for byte in text.bytes() {
+        if !levels.is_full() {
+            levels.push(Level::from_bool(byte == b'1'));
+        }
+    }
+    levels
+}
+
+/// The levels of the bits of bytes, the highest bit of each first.
+fn levels_of_bytes(bytes: &[u8]) -> Levels {
+    let mut levels = ArrayVec::new();
+    for byte in bytes {
+        for place in (0..8u32).rev() {
+            if !levels.is_full() {
+                levels.push(Level::from_bool((*byte >> place) & 1 == 1));
+            }
+        }
+    }
+    levels
+}
+
+fn standard(raw: u16) -> Result<Id, Fail> {
+    Ok(Id::standard(raw).ok_or("an identifier of 11 bits")?)
+}
+
+#[test]
+fn check_sequences(rt: HostRuntime) {
+    assert_eq!(rt; crc15(&levels_of_bytes(b"123456789")), 0x059e);
+    assert_eq!(rt; crc15(&[]), 0);
+    assert_eq!(rt; crc15(&[Level::Recessive]), 0x4599);
+}
+
+#[test]
+fn stuff_bits(rt: HostRuntime) {
+    for (text, stuffed) in [
+        ("0000", "0000"),
+        ("00000", "000001"),
+        ("0111111000001", "011111010000011"),
+    ] {
+        let levels = levels_of(text);
+        assert!(rt; levels.len() <= 118);
+        assert!(rt; stuff(&levels).as_slice() == levels_of(stuffed).as_slice());
+    }
+}
+
+#[test]
+fn frames(rt: HostRuntime) -> Result<(), Fail> {
+    let extended = Id::extended(0x048c_0000).ok_or("an identifier of 29 bits")?;
+    let rows = [
+        (
+            Frame::data(standard(0x000)?, 0, &[])?,
+            0x0000,
+            "0000010000010000010000010000010000010000",
+            50,
+        ),
+        (
+            Frame::data(standard(0x001)?, 0, &[])?,
+            0x2213,
+            "0000010000010100000100010001000010011",
+            47,
+        ),
+        (
+            Frame::data(standard(0x009)?, 0, &[])?,
+            0x7c20,
+            "000001000100100000100111110000011000001",
+            49,
+        ),
+        (
+            Frame::remote(standard(0x000)?, 8)?,
+            0x07c2,
+            "000001000001001001000001001111100000110",
+            49,
+        ),
+        (
+            Frame::data(standard(0x123)?, 0, &[])?,
+            0x6858,
+            "00010010001100000100110100001011000",
+            45,
+        ),
+        (
+            Frame::remote(standard(0x123)?, 0)?,
+            0x1b9d,
+            "00010010001110000010001101110011101",
+            45,
+        ),
+        (
+            Frame::data(extended, 0, &[])?,
+            0x5e37,
+            "00010010001111000001000001000001000001000001101111000110111",
+            69,
+        ),
+    ];
+    for (frame, check, stuffed, len) in &rows {
+        let levels = encode(frame);
+        let mut expected = levels_of(*stuffed);
+        for _ in 0..10 {
+            if !expected.is_full() {
+                expected.push(Level::Recessive);
+            }
+        }
+        assert_eq!(rt; crc15(&head(frame)), *check);
+        assert_eq!(rt; levels.len(), *len);
+        assert!(rt; levels.as_slice() == expected.as_slice());
+    }
+    Ok(())
+}
+
+#[test]
+fn data_length_codes(rt: HostRuntime) -> Result<(), Fail> {
+    for (dlc, bits) in [(12, "1100"), (8, "1000")] {
+        let frame = Frame::data(standard(0x000)?, dlc, &[0; 8])?;
+        let levels = head(&frame);
+        let code = levels.as_slice().get(15..19).ok_or("four levels")?;
+        assert!(rt; code == levels_of(bits).as_slice());
+    }
+    Ok(())
+}
