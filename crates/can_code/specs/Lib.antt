@@ -1,3 +1,5 @@
 pub mod Crc
 pub mod Stuffing
 pub mod Wire
+pub mod Heard
+pub mod CodeFaults
