@@ -10,3 +10,10 @@ pub mod StuffingLemmas
 pub mod HeadLemmas
 pub mod WireLemmas
 pub mod Rows
+pub mod LayoutNumbers
+pub mod LayoutPlaces
+pub mod LayoutBytes
+pub mod LayoutLengths
+pub mod LayoutSent
+pub mod LayoutRead
+pub mod LayoutRows

@@ -1,3 +1,6 @@
 pub mod Crc
 pub mod Stuffing
 pub mod Wire
+pub mod Heard
+pub mod Layout
+pub mod CodeFaults

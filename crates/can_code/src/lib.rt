@@ -19,6 +19,7 @@
 
 mod crc;
 mod encoding;
+mod fault;
 mod laws;
 mod layout;
 mod stuffing;
@@ -27,5 +28,6 @@ mod tests;
 
 pub use crc::crc15;
 pub use encoding::encode;
+pub use fault::{CodeFault, CodeFaultKind};
 pub use laws::{one_check_sequence, one_stuffing, one_wire};
 pub use stuffing::stuff;
