@@ -18,3 +18,5 @@ pub mod LayoutHead
 pub mod LayoutRead
 pub mod LayoutWrite
 pub mod LayoutRows
+pub mod FrontLemmas
+pub mod PlainLemmas

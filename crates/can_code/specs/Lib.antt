@@ -3,4 +3,5 @@ pub mod Stuffing
 pub mod Wire
 pub mod Heard
 pub mod Layout
+pub mod Front
 pub mod CodeFaults

@@ -10,6 +10,11 @@
 //! | `stuffing.rt` | [`stuff`], the stuff bits | `specs/Stuffing.antt` |
 //! | `layout.rt` | the head of a frame and its CRC sequence, unstuffed | `specs/Wire.antt` |
 //! | `encoding.rt` | [`encode`], the levels of a frame | `specs/Wire.antt` |
+//! | `frame_bits.rt` | [`FrameBits`], the unstuffed levels that have been heard of a frame | `specs/Layout.antt` |
+//! | `plain_bits.rt` | [`PlainBits`], these levels one by one | |
+//! | `reading.rt` | what the unstuffed levels tell of the frame | `specs/Layout.antt` |
+//! | `front.rt` | [`Front`], a frame up to the end of its stuffed part, heard level by level | `specs/Front.antt` |
+//! | `fault.rt` | [`CodeFault`], why levels begin with no frame | `specs/CodeFaults.antt` |
 //! | `laws.rt` | that a CRC sequence, a stuffed list and a frame's wire exist and are unique | |
 //!
 //! Each is defined twice: by a relation that says what it is (the generator divides it, a stuff
@@ -20,8 +25,12 @@
 mod crc;
 mod encoding;
 mod fault;
+mod frame_bits;
+mod front;
 mod laws;
 mod layout;
+mod plain_bits;
+mod reading;
 mod stuffing;
 #[cfg(test)]
 mod tests;
@@ -29,5 +38,8 @@ mod tests;
 pub use crc::crc15;
 pub use encoding::encode;
 pub use fault::{CodeFault, CodeFaultKind};
+pub use frame_bits::FrameBits;
+pub use front::{Front, Place, StuffError};
 pub use laws::{one_check_sequence, one_stuffing, one_wire};
+pub use plain_bits::PlainBits;
 pub use stuffing::stuff;
