@@ -1,7 +1,7 @@
 -- A front stays one with each level that is heard, and its levels tell how long it gets.
 use Rattle.std.proofs.Common.{◌≡◌, ◌≢◌, ℕ, ◌+◌, ◌<◌, ◌≤◌, Bool, true, false, Option, Some, None, List, [], ◌∷◌, ◌++◌, length, take, refl, sym, ◌∙◌, ap, arith, length-append, cond}
 use Rattle.std.proofs.Math.Dec.{eqb}
-use Rattle.std.proofs.lemmas.Bool.{ne_eqb, eqb-true, eqb-false, cond-false}
+use Rattle.std.proofs.lemmas.Bool.{cond-true, eq-eqb, ne_eqb, eqb-true, eqb-false, cond-false}
 use Rattle.std.specs.Option.{is_some, option_eq}
 use Rattle.can_frame.specs.declared.level.Level.{Level}
 use Rattle.can_frame.specs.declared.level.Level.TheVariants.{Dominant}
@@ -9,7 +9,7 @@ use Rattle.can_frame.specs.Levels.{is_recessive}
 use Rattle.can_code.specs.declared.front.Place.TheVariants.{StuffBit, Bit, CrcDelimiter}
 use Rattle.can_code.specs.Stuffing.{run_after}
 use Rattle.can_code.specs.Layout.{level_at, extended_of, data_place, frame_len, IsComplete}
-use Rattle.can_code.specs.Front.{FrontParts, begun, has_check, next_place, IsFront, TellsLength}
+use Rattle.can_code.specs.Front.{FrontParts, first_front, has_check, next_place, IsFront, TellsLength}
 use Rattle.can_code.proofs.LayoutPlaces.{level_at-append}
 use Rattle.can_code.proofs.LayoutLengths.{frame_len_le, frame_len_ge, frame_len-grows, frame_len-append}
 use Rattle.can_code.proofs.Runs.{run_after-le, run_after-ge}
@@ -38,8 +38,8 @@ TellsLength-push u x (Some n) some h =
     ap (λ t. data_place (is_recessive t)) (level_at-append u (x ∷ []) 13 (omega (arith, data_behind_ide (extended_of u)))) in
     (omega arith, h.1 ∙ sym (frame_len-append u (x ∷ []) told))
 
-pub IsFront-begun : IsFront begun
-IsFront-begun = record { start = refl; within = omega (arith, frame_len_ge (Dominant ∷ [])); begun = omega arith; short = omega arith }
+pub IsFront-first_front : IsFront first_front
+IsFront-first_front = record { start = refl; within = omega (arith, frame_len_ge (Dominant ∷ [])); some = omega arith; short = omega arith }
 
 start_stays : (u : List Level) (x : Level) → take 1 u ≡ Dominant ∷ [] → take 1 (u ++ x ∷ []) ≡ Dominant ∷ []
 start_stays [] x h = cc
@@ -60,7 +60,7 @@ IsFront-complete f h e = record { start = IsFront-start f h; whole = sym (eqb-tr
 module _ (f : FrontParts) (h : IsFront f) where
   -- the stuff bit that is due begins a run
   pub IsFront-stuff_bit : (x : Level) → IsFront (record { unstuffed = f.unstuffed; last = x; run = 1 })
-  IsFront-stuff_bit x = record { start = h.start; within = h.within; begun = omega arith; short = omega arith }
+  IsFront-stuff_bit x = record { start = h.start; within = h.within; some = omega arith; short = omega arith }
 
   module _ (not_due : f.run ≢ 5) (partial : has_check f.unstuffed ≡ false) where
     other_len : length f.unstuffed ≢ frame_len f.unstuffed
@@ -80,7 +80,7 @@ module _ (f : FrontParts) (h : IsFront f) where
         record {
           start = start_stays u x h.start;
           within = frame_len-grows u x h.within other_len;
-          begun = run_after-ge f.last f.run x;
+          some = run_after-ge f.last f.run x;
           short = omega (arith, h.short, run_after-le f.last f.run x);
         }
 
@@ -109,7 +109,15 @@ module _ (f : FrontParts) where
       cond-false (eqb f.run 5) StuffBit (cond (has_check f.unstuffed) CrcDelimiter Bit) (ne_eqb f.run 5 not_due)
       ∙ cond-false (has_check f.unstuffed) CrcDelimiter Bit partial
 
+  pub next_place-complete : f.run ≢ 5 → IsComplete f.unstuffed → next_place f ≡ CrcDelimiter
+  next_place-complete not_due complete =
+      cond-false (eqb f.run 5) StuffBit (cond (has_check f.unstuffed) CrcDelimiter Bit) (ne_eqb f.run 5 not_due)
+      ∙ cond-true (has_check f.unstuffed) CrcDelimiter Bit (eq-eqb (frame_len f.unstuffed) (length f.unstuffed) (sym complete.whole))
+
   pub next_place-length : next_place f ≡ CrcDelimiter → 34 ≤ length f.unstuffed
   next_place-length h =
       let whole : frame_len f.unstuffed ≡ length f.unstuffed = eqb-true (frame_len f.unstuffed) (length f.unstuffed) (next_place-ended h).1 in
       omega (arith, frame_len_ge f.unstuffed)
+
+pub next_place-first_front : next_place first_front ≢ CrcDelimiter
+next_place-first_front ended = absurd (omega (arith, next_place-length first_front ended))

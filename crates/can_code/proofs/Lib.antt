@@ -20,3 +20,7 @@ pub mod LayoutWrite
 pub mod LayoutRows
 pub mod FrontLemmas
 pub mod PlainLemmas
+pub mod StuffedParts
+pub mod FrontsOf
+pub mod SoundLemmas
+pub mod CodeFaultLemmas

@@ -17,8 +17,8 @@ pub record FrontParts : Type 0 where
   pub run : ℕ
 
 -- a frame begins with its start of frame
-abbrev pub begun : FrontParts
-begun = record { unstuffed = Dominant ∷ []; last = Dominant; run = 1 }
+abbrev pub first_front : FrontParts
+first_front = record { unstuffed = Dominant ∷ []; last = Dominant; run = 1 }
 
 -- the unstuffed levels have their whole check sequence
 abbrev pub has_check : List Level → Bool
@@ -44,7 +44,7 @@ heard_level f x =
 pub record IsFront (f : FrontParts) : Type 0 where
   pub start : take 1 f.unstuffed ≡ Dominant ∷ []
   pub within : length f.unstuffed ≤ frame_len f.unstuffed
-  pub begun : 1 ≤ f.run
+  pub some : 1 ≤ f.run
   pub short : f.run ≤ 5
 
 -- The length of the frame that begins with u, where u tells it: from the end of the data length code on.

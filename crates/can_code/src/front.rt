@@ -1,7 +1,7 @@
 ghost use Rattle.std.specs.Prelude.{◌≡◌, ◌≢◌, ◌<◌, ◌↔◌, length, IsTrue, IsErr, OnOk, OnErr};
 ghost use Rattle.can_code.specs.Crc.{IsCrc};
 ghost use Rattle.can_code.specs.Layout.{check_of, extended_of, head_of};
-ghost use Rattle.can_code.specs.Front.{IsFront, begun, heard_level, is_stuff_error, next_place as next_place_of};
+ghost use Rattle.can_code.specs.Front.{IsFront, first_front, heard_level, is_stuff_error, next_place as next_place_of};
 
 use crate::frame_bits::FrameBits;
 use crate::reading::{frame_len, is_extended};
@@ -49,7 +49,7 @@ impl<B: FrameBits> Model for Front<B> {
 impl<B: FrameBits> Front<B> {
     /// A frame of which the start of frame alone has been heard.
     pub fn begin() -> Self
-        ensures { result ≡ begun }
+        ensures { result ≡ first_front }
     {
         Front {
             bits: B::start(),
