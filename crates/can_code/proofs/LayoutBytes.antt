@@ -1,5 +1,5 @@
 -- The levels of bytes give the bytes back, and the bytes of some levels give the levels.
-use Rattle.std.proofs.Common.{◌≡◌, ℕ, suc, zero, ◌+◌, ◌-◌, ◌*◌, ◌^◌, ◌<◌, ◌≤◌, List, [], ◌∷◌, ◌++◌, length, drop, refl, sym, ◌∙◌, ap, arith, append_assoc, length-append}
+use Rattle.std.proofs.Common.{◌≡◌, ℕ, suc, zero, ◌+◌, ◌*◌, ◌^◌, ◌<◌, ◌≤◌, List, [], ◌∷◌, ◌++◌, length, drop, refl, sym, ◌∙◌, ap, arith, append_assoc, length-append}
 use Rattle.std.specs.Prelude.{slice_index}
 use Rattle.std.specs.List.{flat_map}
 use Rattle.std.proofs.lemmas.List.{drop_at, drop-drop, length-drop}
@@ -9,6 +9,7 @@ use Rattle.can_code.specs.Layout.{filled, bytes_from}
 use Rattle.can_code.proofs.LayoutNumbers.{length-bits_of, number_from-whole, number_from-lt, bits_of-number_from}
 use Rattle.can_code.proofs.LayoutPlaces.{length-filled, filled_whole, filled-drop}
 
+-- a byte has eight levels
 pub length-bytes : (bytes : List ℕ) → length (flat_map (bits_of 8) bytes) ≡ 8 * length bytes
 length-bytes [] = refl
 length-bytes (x ∷ bytes) = omega (arith, length-append (bits_of 8 x) (flat_map (bits_of 8) bytes), length-bits_of 8 x, length-bytes bytes)
@@ -25,10 +26,12 @@ bytes_from-levels (x ∷ bytes) c small =
     ∙ ap (λ t. t ∷ bytes_from (length bytes) more) (number_from-whole 8 x here)
     ∙ ap (λ t. x ∷ t) (bytes_from-levels bytes c (λ k. small (suc k)))
 
+-- as many bytes are read as are asked for
 pub length-bytes_from : (n : ℕ) (u : List Level) → length (bytes_from n u) ≡ n
 length-bytes_from zero u = refl
 length-bytes_from (suc n) u = ap suc (length-bytes_from n (drop 8 u))
 
+-- eight levels spell a number below 256
 pub bytes_from-small : (n : ℕ) (u : List Level) (k : ℕ) → slice_index (bytes_from n u) k < 256
 bytes_from-small zero u k = omega arith
 bytes_from-small (suc n) u zero = omega (arith, number_from-lt (filled 8 u), ap (λ t. 2 ^ t) (length-filled 8 u))

@@ -17,6 +17,7 @@ bit_cases x i = two (bit_at x i) (bit_at-lt x i)
     two (suc zero) h = inr refl
     two (suc (suc b)) h = absurd (omega arith)
 
+-- a number has as many levels as are asked for
 pub length-bits_of : (n x : ℕ) → length (bits_of n x) ≡ n
 unfolding bits_of
 length-bits_of zero x = refl
@@ -44,12 +45,13 @@ number_from-bits_of (suc k) n x =
 pub number_from-whole : (k x : ℕ) → x < 2 ^ k → number_from 0 (bits_of k x) ≡ x
 number_from-whole k x h = number_from-bits_of k 0 x ∙ (let e : 0 * 2 ^ k + x % 2 ^ k ≡ x = omega (arith, mod-eq_of_lt h) in e)
 
+-- the number of two lists, one after the other
 pub number_from-append : (n : ℕ) (a b : List Level) → number_from n (a ++ b) ≡ number_from (number_from n a) b
 number_from-append n [] b = refl
 number_from-append n (Dominant ∷ a) b = number_from-append (2 * n) a b
 number_from-append n (Recessive ∷ a) b = number_from-append (2 * n + 1) a b
 
--- what stands before some levels counts as many times as they have values
+-- n before k levels counts n times 2 ^ k
 pub number_from-split : (n : ℕ) (a : List Level) → number_from n a ≡ n * 2 ^ length a + number_from 0 a
 number_from-split n [] = omega arith
 number_from-split n (Dominant ∷ a) =
@@ -60,18 +62,26 @@ number_from-split n (Recessive ∷ a) =
     let p : n * 2 ^ suc (length a) ≡ n * (2 ^ length a * 2) = ap (λ t. n * t) (pow-suc 2 (length a)) in
     omega (arith, p, number_from-split (2 * n + 1) a, number_from-split (2 * 0 + 1) a)
 
+-- k levels spell a number below 2 ^ k
 pub number_from-lt : (a : List Level) → number_from 0 a < 2 ^ length a
 number_from-lt [] = omega arith
 number_from-lt (Dominant ∷ a) = omega (arith, pow-suc 2 (length a), number_from-lt a)
 number_from-lt (Recessive ∷ a) = omega (arith, pow-suc 2 (length a), number_from-lt a, number_from-split 1 a)
 
--- without its last levels
+-- the number without its k last levels
 pub number_from-upper : (n k : ℕ) (a b : List Level) → length b ≡ k → number_from n (a ++ b) / 2 ^ k ≡ number_from n a
 number_from-upper n k a b size =
     let below = number_from-lt b in
     ap (λ t. number_from n (a ++ b) / 2 ^ t) (sym size)
     ∙ ap (λ t. t / 2 ^ length b) (number_from-append n a b ∙ number_from-split (number_from n a) b)
     ∙ div-mul-add (number_from n a) (2 ^ length b) (number_from 0 b) below
+
+-- of the levels of a number that k levels end, the one before these
+bits_of-first : (k n b : ℕ) (a : List Level) → length a ≡ k → n % 2 ≡ b → bits_of (suc k) (number_from n a) ≡ level_of b ∷ bits_of k (number_from n a)
+unfolding bits_of
+bits_of-first k n b a size bit =
+    ap (λ t. level_of (t % 2) ∷ bits_of k (number_from n a)) (number_from-upper n k [] a size)
+    ∙ ap (λ t. level_of t ∷ bits_of k (number_from n a)) bit
 
 -- the number that some levels spell has those levels, whatever stands before them
 pub bits_of-number_from : (k n : ℕ) (a : List Level) → length a ≡ k → bits_of k (number_from n a) ≡ a
@@ -81,12 +91,7 @@ bits_of-number_from zero n (x ∷ a) size = absurd (omega arith)
 bits_of-number_from (suc k) n [] size = absurd (omega arith)
 bits_of-number_from (suc k) n (Dominant ∷ a) size =
     let rest : length a ≡ k = omega arith in
-    let top : number_from (2 * n) a / 2 ^ k ≡ 2 * n = number_from-upper (2 * n) k [] a rest in
-    let even : 2 * n % 2 ≡ 0 = omega arith in
-    ap (λ t. level_of (t % 2) ∷ bits_of k (number_from (2 * n) a)) top ∙ ap (λ t. level_of t ∷ bits_of k (number_from (2 * n) a)) even ∙ ap (λ t. Dominant ∷ t) (bits_of-number_from k (2 * n) a rest)
+    bits_of-first k (2 * n) 0 a rest (omega arith) ∙ ap (λ t. Dominant ∷ t) (bits_of-number_from k (2 * n) a rest)
 bits_of-number_from (suc k) n (Recessive ∷ a) size =
     let rest : length a ≡ k = omega arith in
-    let m = 2 * n + 1 in
-    let top : number_from m a / 2 ^ k ≡ m = number_from-upper m k [] a rest in
-    let odd : m % 2 ≡ 1 = omega arith in
-    ap (λ t. level_of (t % 2) ∷ bits_of k (number_from m a)) top ∙ ap (λ t. level_of t ∷ bits_of k (number_from m a)) odd ∙ ap (λ t. Recessive ∷ t) (bits_of-number_from k m a rest)
+    bits_of-first k (2 * n + 1) 1 a rest (omega arith) ∙ ap (λ t. Recessive ∷ t) (bits_of-number_from k (2 * n + 1) a rest)

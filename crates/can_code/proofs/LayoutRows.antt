@@ -4,7 +4,7 @@ use Rattle.std.specs.Prelude.{codes}
 use Rattle.can_frame.specs.declared.level.Level.{Level}
 use Rattle.can_frame.specs.declared.level.Level.TheVariants.{Dominant, Recessive}
 use Rattle.can_frame.specs.Levels.{level_of}
-use Rattle.can_code.specs.Heard.{HeardParts, sent}
+use Rattle.can_code.specs.Heard.{sent}
 use Rattle.can_code.specs.Layout.{frame_len, IsComplete, frame_of, heard_of}
 
 -- levels from digits: 48 is the code of `0`

@@ -14,6 +14,7 @@ pub mod LayoutNumbers
 pub mod LayoutPlaces
 pub mod LayoutBytes
 pub mod LayoutLengths
-pub mod LayoutSent
+pub mod LayoutHead
 pub mod LayoutRead
+pub mod LayoutWrite
 pub mod LayoutRows

@@ -1,5 +1,5 @@
 -- Which fault levels have that begin with no frame, and where.
-use Rattle.std.specs.Prelude.{ℕ, zero, suc, ◌≡◌, ◌≢◌, ◌+◌, ◌<◌, ◌≤◌, List, [], ◌++◌, length, take}
+use Rattle.std.specs.Prelude.{ℕ, ◌≡◌, ◌+◌, ◌<◌, ◌≤◌, List, ◌++◌, length, take}
 use Rattle.can_frame.specs.declared.level.Level.{Level}
 use Rattle.can_code.specs.declared.fault.CodeFaultKind.{CodeFaultKind}
 use Rattle.can_code.specs.declared.fault.CodeFaultKind.TheVariants.{Short, NoStartOfFrame, Stuff, Crc, Form}

@@ -1,5 +1,5 @@
 -- What is heard of a frame on the bus, and how it is spelled.
-use Rattle.std.specs.Prelude.{ℕ, ◌≡◌, ◌+◌, ◌<◌, ◌≤◌, ◌/◌, ◌^◌, Bool, true, false, if◌then◌else◌, List, [], ◌∷◌, ◌++◌, length, take}
+use Rattle.std.specs.Prelude.{◌≡◌, ◌/◌, ◌^◌, Bool, true, false, if◌then◌else◌, List, ◌∷◌, ◌++◌, length}
 use Rattle.std.specs.List.{flat_map}
 use Rattle.can_frame.specs.declared.level.Level.{Level}
 use Rattle.can_frame.specs.declared.level.Level.TheVariants.{Dominant, Recessive}

@@ -6,11 +6,10 @@
 --
 --     place       0     1..11        12    13    14..31       32    33   34   35..38
 --     extended    SOF   identifier   SRR   IDE   identifier   RTR   r1   r0   data length code, then the same
-use Rattle.std.specs.Prelude.{ℕ, zero, suc, ◌≡◌, ◌+◌, ◌-◌, ◌*◌, Bool, true, false, if◌then◌else◌, List, [], ◌∷◌, ◌++◌, length, take, drop, slice_index_or}
+use Rattle.std.specs.Prelude.{ℕ, zero, suc, ◌≡◌, ◌+◌, ◌-◌, ◌*◌, Bool, if◌then◌else◌, List, [], ◌∷◌, ◌++◌, length, take, drop, slice_index_or}
 use Rattle.can_frame.specs.declared.level.Level.{Level}
 use Rattle.can_frame.specs.declared.level.Level.TheVariants.{Dominant, Recessive}
 use Rattle.can_frame.specs.Levels.{is_recessive, number_from}
-use Rattle.can_frame.specs.Ident.{Ident}
 use Rattle.can_frame.specs.Parts.{Parts, byte_count}
 use Rattle.can_code.specs.Heard.{HeardParts}
 
@@ -36,6 +35,10 @@ extended_of u = is_recessive (level_at u 13)
 abbrev pub rtr_place : Bool → ℕ
 rtr_place extended = if extended then 32 else 12
 
+-- where the data begins: behind the RTR bit come two bits more, and four of the data length code
+abbrev pub data_place : Bool → ℕ
+data_place extended = rtr_place extended + 7
+
 -- the RTR bit is recessive in a remote frame
 abbrev pub remote_of : List Level → Bool
 remote_of u = is_recessive (level_at u (rtr_place (extended_of u)))
@@ -46,7 +49,7 @@ dlc_of u = number_from 0 (levels_at u (rtr_place (extended_of u) + 3) 4)
 
 -- how many unstuffed levels, check sequence included, the frame has that begins with u
 unfoldable pub frame_len : List Level → ℕ
-frame_len u = rtr_place (extended_of u) + 22 + 8 * byte_count (remote_of u) (dlc_of u)
+frame_len u = data_place (extended_of u) + 8 * byte_count (remote_of u) (dlc_of u) + 15
 
 -- u is all of the unstuffed levels of a frame, from the start of frame to the end of the check sequence
 pub record IsComplete (u : List Level) : Type 0 where
@@ -68,7 +71,7 @@ frame_of u = record {
   id = record { raw = number_from 0 (identifier_of u); extended = extended_of u };
   remote = remote_of u;
   dlc = dlc_of u;
-  bytes = bytes_from (byte_count (remote_of u) (dlc_of u)) (drop (rtr_place (extended_of u) + 7) u);
+  bytes = bytes_from (byte_count (remote_of u) (dlc_of u)) (drop (data_place (extended_of u)) u);
 }
 
 -- what is heard where the unstuffed levels are u; a standard frame has no SRR and no r1 of its own

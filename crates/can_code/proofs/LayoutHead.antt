@@ -4,13 +4,12 @@ use Rattle.std.specs.List.{flat_map}
 use Rattle.can_frame.specs.declared.level.Level.{Level}
 use Rattle.can_frame.specs.declared.level.Level.TheVariants.{Dominant, Recessive}
 use Rattle.can_frame.specs.Levels.{bits_of, level_from}
-use Rattle.can_frame.specs.Ident.{Ident}
-use Rattle.can_frame.specs.Parts.{Parts, IsFrame, byte_count}
+use Rattle.can_frame.specs.Parts.{Parts, IsFrame}
 use Rattle.can_frame.specs.Stored.{byte_count_le}
 use Rattle.can_frame.specs.Arbitration.{arbitration_field}
 use Rattle.can_code.specs.Wire.{head}
-use Rattle.can_code.specs.Heard.{HeardParts, sent, data_field, heard_head}
-use Rattle.can_code.specs.Layout.{level_at, rtr_place}
+use Rattle.can_code.specs.Heard.{HeardParts, IsHeard, sent, data_field, heard_head}
+use Rattle.can_code.specs.Layout.{level_at, data_place}
 use Rattle.can_code.proofs.LayoutNumbers.{length-bits_of}
 use Rattle.can_code.proofs.LayoutBytes.{length-bytes}
 
@@ -30,9 +29,13 @@ heard_head-sent f = by_kind f.id.extended
         let last = level_from f.remote ∷ [] in
         let rest = Dominant ∷ Dominant ∷ data_field f in
         ap (λ t. Dominant ∷ t) (
-          ap (λ t. bits_of 11 (f.id.raw / 2 ^ 18) ++ Recessive ∷ Recessive ∷ t) (sym (append_assoc lower last rest))
-          ∙ sym (append_assoc (bits_of 11 (f.id.raw / 2 ^ 18)) (Recessive ∷ Recessive ∷ (lower ++ last)) rest)
+        ap (λ t. bits_of 11 (f.id.raw / 2 ^ 18) ++ Recessive ∷ Recessive ∷ t) (sym (append_assoc lower last rest))
+        ∙ sym (append_assoc (bits_of 11 (f.id.raw / 2 ^ 18)) (Recessive ∷ Recessive ∷ (lower ++ last)) rest)
         )
+
+-- a frame is heard as it is sent
+pub IsHeard-sent : (f : Parts) → IsFrame f → IsHeard (sent f)
+IsHeard-sent f is = record { frame = is; srr = λ standard. refl; r1 = λ standard. refl }
 
 -- the SOF is dominant
 pub heard_head-start : (h : HeardParts) (c : List Level) → level_at (heard_head h ++ c) 0 ≡ Dominant
@@ -46,8 +49,8 @@ heard_head-start h c = first h.frame.id.extended _ _
 length-data_field : (f : Parts) → length (data_field f) ≡ 4 + 8 * length f.bytes
 length-data_field f = omega (arith, length-append (bits_of 4 f.dlc) (flat_map (bits_of 8) f.bytes), length-bits_of 4 f.dlc, length-bytes f.bytes)
 
--- up to the RTR bit, the two bits behind it, the data length code, and the data
-pub length-heard_head : (h : HeardParts) → length (heard_head h) ≡ rtr_place h.frame.id.extended + 7 + 8 * length h.frame.bytes
+-- the length of a head, from the start of frame to the end of the data
+pub length-heard_head : (h : HeardParts) → length (heard_head h) ≡ data_place h.frame.id.extended + 8 * length h.frame.bytes
 unfolding heard_head
 length-heard_head h = by_kind h.frame.id.extended
   where
@@ -56,10 +59,10 @@ length-heard_head h = by_kind h.frame.id.extended
 
     by_kind : (extended : Bool)
         → length (
-          cond extended
-          (Dominant ∷ (bits_of 11 (f.id.raw / 2 ^ 18) ++ h.srr ∷ Recessive ∷ (bits_of 18 f.id.raw ++ level_from f.remote ∷ h.r1 ∷ h.r0 ∷ data_field f)))
-          (Dominant ∷ (bits_of 11 f.id.raw ++ level_from f.remote ∷ Dominant ∷ h.r0 ∷ data_field f))
-        ) ≡ rtr_place extended + 7 + 8 * length f.bytes
+        cond extended
+        (Dominant ∷ (bits_of 11 (f.id.raw / 2 ^ 18) ++ h.srr ∷ Recessive ∷ (bits_of 18 f.id.raw ++ level_from f.remote ∷ h.r1 ∷ h.r0 ∷ data_field f)))
+        (Dominant ∷ (bits_of 11 f.id.raw ++ level_from f.remote ∷ Dominant ∷ h.r0 ∷ data_field f))
+        ) ≡ data_place extended + 8 * length f.bytes
     by_kind true =
         let last = level_from f.remote ∷ h.r1 ∷ h.r0 ∷ data_field f in
         omega (
@@ -74,12 +77,12 @@ length-heard_head h = by_kind h.frame.id.extended
         let last = level_from f.remote ∷ Dominant ∷ h.r0 ∷ data_field f in
         omega (arith, length-append (bits_of 11 f.id.raw) last, length-bits_of 11 f.id.raw, length-data_field f)
 
--- the longest heads, with eight bytes of data
+-- no head is longer than one with eight bytes of data
 pub length-heard_head-le : (h : HeardParts) → IsFrame h.frame → length (heard_head h) ≤ cond h.frame.id.extended 103 83
-length-heard_head-le h is = 
+length-heard_head-le h is =
     let few : length h.frame.bytes ≤ 8 = omega (arith, is.count, byte_count_le h.frame.remote h.frame.dlc) in
     by_kind h.frame.id.extended (length-heard_head h) few
   where
-    by_kind : (extended : Bool) → length (heard_head h) ≡ rtr_place extended + 7 + 8 * length h.frame.bytes → length h.frame.bytes ≤ 8 → length (heard_head h) ≤ cond extended 103 83
+    by_kind : (extended : Bool) → length (heard_head h) ≡ data_place extended + 8 * length h.frame.bytes → length h.frame.bytes ≤ 8 → length (heard_head h) ≤ cond extended 103 83
     by_kind true size few = omega arith
     by_kind false size few = omega arith
