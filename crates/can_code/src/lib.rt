@@ -20,6 +20,7 @@
 mod crc;
 mod encoding;
 mod fault;
+mod heard;
 mod laws;
 mod layout;
 mod stuffing;
@@ -29,5 +30,6 @@ mod tests;
 pub use crc::crc15;
 pub use encoding::encode;
 pub use fault::{CodeFault, CodeFaultKind};
+pub use heard::Heard;
 pub use laws::{one_check_sequence, one_stuffing, one_wire};
 pub use stuffing::stuff;
