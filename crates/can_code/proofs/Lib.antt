@@ -7,9 +7,6 @@ pub mod StuffPlaces
 pub mod Runs
 pub mod OneStuffing
 pub mod StuffingLemmas
-pub mod HeadLemmas
-pub mod WireLemmas
-pub mod Rows
 pub mod LayoutNumbers
 pub mod LayoutPlaces
 pub mod LayoutBytes
@@ -18,3 +15,6 @@ pub mod LayoutHead
 pub mod LayoutRead
 pub mod LayoutWrite
 pub mod LayoutRows
+pub mod WireLemmas
+pub mod SpellingLemmas
+pub mod Rows

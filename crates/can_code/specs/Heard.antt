@@ -5,8 +5,8 @@ use Rattle.can_frame.specs.declared.level.Level.{Level}
 use Rattle.can_frame.specs.declared.level.Level.TheVariants.{Dominant, Recessive}
 use Rattle.can_frame.specs.Levels.{bits_of, level_from}
 use Rattle.can_frame.specs.Parts.{Parts, IsFrame}
-use Rattle.can_code.specs.Stuffing.{Stuffs}
-use Rattle.can_code.specs.Crc.{IsCrc}
+use Rattle.can_code.specs.Stuffing.{Stuffs, stuffed}
+use Rattle.can_code.specs.Crc.{IsCrc, crc_of}
 use Rattle.can_code.specs.Wire.{tail, IsSpelling}
 
 -- a frame, and the levels that a receiver takes at either value
@@ -48,6 +48,10 @@ ack_slot acked = if acked then Dominant else Recessive
 pub record Spells (h : HeardParts) (w : List Level) : Type 0 where
   pub heard : IsHeard h
   pub spelling : IsSpelling (heard_head h) (ack_slot h.acked) h.last w
+
+-- the levels that spell h, computed
+unfoldable pub spelling : HeardParts → List Level
+spelling h = stuffed (heard_head h ++ crc_of (heard_head h)) ++ tail (ack_slot h.acked) h.last
 
 -- s is the complete stuffed part of a frame with these fifteen bits in the place of the check sequence
 pub record IsStuffedPart (h : HeardParts) (check s : List Level) : Type 0 where

@@ -23,6 +23,7 @@ mod fault;
 mod heard;
 mod laws;
 mod layout;
+mod spelling;
 mod stuffing;
 #[cfg(test)]
 mod tests;
@@ -32,4 +33,5 @@ pub use encoding::encode;
 pub use fault::{CodeFault, CodeFaultKind};
 pub use heard::Heard;
 pub use laws::{one_check_sequence, one_stuffing, one_wire};
+pub use spelling::respell;
 pub use stuffing::stuff;

@@ -1,5 +1,5 @@
 use crate::layout::head;
-use crate::{crc15, encode, stuff};
+use crate::{Heard, crc15, encode, respell, stuff};
 use arrayvec::ArrayVec;
 use can_frame::{Frame, Id, Level};
 use std::test::Fail;
@@ -110,7 +110,7 @@ fn frames(rt: HostRuntime) -> Result<(), Fail> {
                 expected.push(Level::Recessive);
             }
         }
-        assert_eq!(rt; crc15(&head(frame)), *check);
+        assert_eq!(rt; crc15(&head(&Heard::sent(*frame))), *check);
         assert_eq!(rt; levels.len(), *len);
         assert!(rt; levels.as_slice() == expected.as_slice());
     }
@@ -121,7 +121,7 @@ fn frames(rt: HostRuntime) -> Result<(), Fail> {
 fn data_length_codes(rt: HostRuntime) -> Result<(), Fail> {
     for (dlc, bits) in [(12, "1100"), (8, "1000")] {
         let frame = Frame::data(standard(0x000)?, dlc, &[0; 8])?;
-        let levels = head(&frame);
+        let levels = head(&Heard::sent(frame));
         let code = levels.as_slice().get(15..19).ok_or("four levels")?;
         assert!(rt; code == levels_of(bits).as_slice());
     }
