@@ -17,4 +17,6 @@ pub mod LayoutWrite
 pub mod LayoutRows
 pub mod WireLemmas
 pub mod SpellingLemmas
+pub mod StuffedFronts
+pub mod SpellingFronts
 pub mod Rows

@@ -32,6 +32,8 @@ pub use crc::crc15;
 pub use encoding::encode;
 pub use fault::{CodeFault, CodeFaultKind};
 pub use heard::Heard;
-pub use laws::{one_check_sequence, one_stuffing, one_wire};
+pub use laws::{
+    no_spelling_begins_another, one_check_sequence, one_heard, one_spelling, one_stuffing, one_wire,
+};
 pub use spelling::respell;
 pub use stuffing::stuff;

@@ -1,0 +1,8 @@
+use Rattle.can_code.proofs.SpellingLemmas.{Spells-spelling, Spells-only}
+use Rattle.can_code.proofs.laws.one_spelling.Goals as goal
+
+pub returns-clause-exists : goal.returns-clause-exists
+returns-clause-exists c = Spells-spelling
+
+pub returns-clause-only : goal.returns-clause-only
+returns-clause-only c = Spells-only
