@@ -4,10 +4,11 @@ use Rattle.std.specs.Prelude.{bit_and, bit_xor}
 use Rattle.std.proofs.Math.Dec.{eqb}
 use Rattle.std.specs.Int.{bit_at}
 use Rattle.std.proofs.lemmas.Nat.Bits.{bit_at_xor, bit_at-lt, bit_at-zero, shr_and_one, bit_at_cat_low}
-use Rattle.std.proofs.lemmas.Nat.{shr-shr, shr_split, shl-shr}
+use Rattle.std.proofs.lemmas.Nat.{shr-shr, shr_split, shl-shr, shr_high}
+use Rattle.std.proofs.Math.Nat.{pow-suc}
 use Rattle.can_frame.specs.declared.level.Level.{Level}
-use Rattle.can_frame.specs.declared.level.Level.TheVariants.{Dominant}
-use Rattle.can_frame.specs.Levels.{level_from, level_of, bits_of}
+use Rattle.can_frame.specs.declared.level.Level.TheVariants.{Dominant, Recessive}
+use Rattle.can_frame.specs.Levels.{level_from, level_of, bits_of, number_from}
 use Rattle.can_code.specs.Crc.{plus, xor}
 
 pub length-bits_of : (n x : ℕ) → length (bits_of n x) ≡ n
@@ -99,3 +100,31 @@ bits_of-pushed items (suc n) x h =
     ap (λ k. (items ++ level_from (eqb (bit_and (x / 2 ^ k) 1) 1) ∷ []) ++ bits_of k x) e
     ∙ append_assoc items (level_from (eqb (bit_and (x / 2 ^ n) 1) 1) ∷ []) (bits_of n x)
     ∙ ap (λ l. items ++ l ∷ bits_of n x) (level_from-bit x n) ∙ ap (λ t. items ++ t) (sym (bits_of-suc n x))
+
+-- the bits of n stand above the others
+pub number_from-split : (n : ℕ) (bits : List Level) → number_from n bits ≡ n * 2 ^ length bits + number_from 0 bits
+number_from-split n [] = omega arith
+number_from-split n (Dominant ∷ bits) =
+    let power : n * 2 ^ suc (length bits) ≡ n * (2 ^ length bits * 2) = ap (λ t. n * t) (pow-suc 2 (length bits)) in
+    let none : number_from (2 * 0) bits ≡ number_from 0 bits = refl in
+    omega (arith, power, none, number_from-split (2 * n) bits)
+number_from-split n (Recessive ∷ bits) =
+    let power : n * 2 ^ suc (length bits) ≡ n * (2 ^ length bits * 2) = ap (λ t. n * t) (pow-suc 2 (length bits)) in
+    omega (arith, power, number_from-split (2 * n + 1) bits, number_from-split (2 * 0 + 1) bits)
+
+pub number_from-lt : (bits : List Level) → number_from 0 bits < 2 ^ length bits
+number_from-lt [] = omega arith
+number_from-lt (Dominant ∷ bits) = omega (arith, pow-suc 2 (length bits), number_from-lt bits)
+number_from-lt (Recessive ∷ bits) = omega (arith, pow-suc 2 (length bits), number_from-lt bits, number_from-split 1 bits)
+
+next : (m : ℕ) (x : Level) (bits : List Level) → level_of (m % 2) ≡ x → bits_of (length bits) (number_from m bits) ≡ bits → bits_of (suc (length bits)) (number_from m bits) ≡ x ∷ bits
+next m x bits top rest =
+    let k = length bits in
+    let above : number_from m bits / 2 ^ k ≡ m = ap (λ t. t / 2 ^ k) (number_from-split m bits) ∙ shr_high m k (number_from 0 bits) (number_from-lt bits) in
+    bits_of-suc k (number_from m bits) ∙ ap (λ t. level_of (t % 2) ∷ bits_of k (number_from m bits)) above ∙ ap (λ l. l ∷ bits_of k (number_from m bits)) top ∙ ap (λ t. x ∷ t) rest
+
+-- the bits of a number made of bits are these
+pub bits_of-number_from : (n : ℕ) (bits : List Level) → bits_of (length bits) (number_from n bits) ≡ bits
+bits_of-number_from n [] = bits_of-zero n
+bits_of-number_from n (Dominant ∷ bits) = next (2 * n) Dominant bits (ap level_of (let e : 2 * n % 2 ≡ 0 = omega arith in e)) (bits_of-number_from (2 * n) bits)
+bits_of-number_from n (Recessive ∷ bits) = next (2 * n + 1) Recessive bits (ap level_of (let e : (2 * n + 1) % 2 ≡ 1 = omega arith in e)) (bits_of-number_from (2 * n + 1) bits)

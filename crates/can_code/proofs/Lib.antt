@@ -3,6 +3,8 @@ pub mod DivisionLemmas
 pub mod Register
 pub mod LevelLemmas
 pub mod RegisterWord
+pub mod CrcTable
+pub mod OctetLemmas
 pub mod StuffPlaces
 pub mod Runs
 pub mod OneStuffing

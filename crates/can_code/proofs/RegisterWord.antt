@@ -10,7 +10,7 @@ use Rattle.std.proofs.lemmas.List.{drop_all}
 use Rattle.can_frame.specs.declared.level.Level.{Level}
 use Rattle.can_frame.specs.declared.level.Level.TheVariants.{Dominant, Recessive}
 use Rattle.can_frame.specs.Levels.{is_recessive, level_of, bits_of}
-use Rattle.can_code.specs.Crc.{plus, xor, lower_terms, scaled, reduced, crc_of}
+use Rattle.can_code.specs.Crc.{plus, xor, lower_terms, scaled, reduced}
 use Rattle.can_code.proofs.XorLemmas.{xor_zeros}
 use Rattle.can_code.proofs.LevelLemmas.{length-bits_of, bits_of-suc, bits_of-mod, bits_of-shl, bits_of-xor}
 use Rattle.can_code.proofs.DivisionLemmas.{none}
@@ -74,6 +74,6 @@ differed r Recessive h e = let b = leb-false 16384 r (beq_other (leb 16384 r) tr
 pub register_on : (r next : ℕ) (b c : List Level) → bits_of 15 next ≡ reduced (length b) (xor (bits_of 15 r) (b ++ none 15)) → register (bits_of 15 next) c ≡ register (bits_of 15 r) (b ++ c)
 register_on r next b c h = ap (λ t. register t c) (h ∙ register-reduced b (bits_of 15 r) (length-bits_of 15 r)) ∙ sym (register-append (bits_of 15 r) b c)
 
--- where it has gone over all levels, it is the check sequence
-pub register_ended : (r i : ℕ) (levels : List Level) → length levels ≤ i → register (bits_of 15 r) (drop i levels) ≡ crc_of levels → bits_of 15 r ≡ crc_of levels
-register_ended r i levels h e = ap (register (bits_of 15 r)) (sym (drop_all i levels h)) ∙ e
+-- where nothing is left to go over, it is what it ends as
+pub register_ended : (r i : ℕ) (levels end : List Level) → length levels ≤ i → register (bits_of 15 r) (drop i levels) ≡ end → bits_of 15 r ≡ end
+register_ended r i levels end h e = ap (register (bits_of 15 r)) (sym (drop_all i levels h)) ∙ e
