@@ -1,6 +1,8 @@
-ghost use Rattle.std.specs.Prelude.{◌≡◌, ◌⊎◌, ◌↔◌, IsNone, IfSome, false};
+ghost use Rattle.std.specs.Prelude.{◌≡◌, ◌⊎◌, ◌↔◌, IsNone, IfSome, IsTrue, false};
+ghost use Rattle.std.proofs.Common.{rules};
+ghost use Rattle.std.specs.Cmp.Rules.{comparing};
 ghost use Rattle.can_frame.specs.declared.level.Level.TheVariants.{Dominant, Recessive};
-ghost use Rattle.can_code.specs.Heard.{IsHeard, sent};
+ghost use Rattle.can_code.specs.Heard.{IsHeard, same_heard, sent};
 
 use can_frame::{Frame, Level};
 use std::marker::Model;
@@ -41,6 +43,28 @@ impl Model for Heard {
     ghost invariant = { λ a. (a.frame.id.extended ≡ false → a.srr ≡ Recessive) × (a.frame.id.extended ≡ false → a.r1 ≡ Dominant) };
 
     ghost inverse = { λ h. record { frame = h.frame; srr = h.srr; r1 = h.r1; r0 = h.r0; acked = h.acked; last = h.last } };
+}
+
+impl PartialEq for Heard {
+    ghost eq = { same_heard };
+
+    ghost laws = { Prim.search (comparing, rules) depth 9 };
+
+    fn eq(&self, other: &Heard) -> bool
+        ensures test { result ≡ same_heard self.now other.now }
+        ensures equal { IsTrue result ↔ (self.now ≡ other.now) }
+    {
+        self.frame == other.frame
+            && self.srr == other.srr
+            && self.r1 == other.r1
+            && self.r0 == other.r0
+            && self.acked == other.acked
+            && self.last == other.last
+    }
+}
+
+impl Eq for Heard {
+    ghost laws = { Prim.search (comparing, rules) depth 9 };
 }
 
 impl Heard {
