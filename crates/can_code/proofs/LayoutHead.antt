@@ -18,32 +18,31 @@ use Rattle.can_code.proofs.LayoutBytes.{length-bytes}
 frame_from : ℕ → Bool → Bool → ℕ → List ℕ → Parts
 frame_from raw extended remote dlc bytes = record { id = record { raw = raw; extended = extended }; remote = remote; dlc = dlc; bytes = bytes }
 
--- the identifier's levels of a standard frame, and the bits up to r0
+-- what stands between the SOF and r0 in a standard frame
 abbrev standard_format : HeardParts → List Level
-standard_format h = bits_of 11 h.frame.id.raw ++ level_from h.frame.remote ∷ Dominant ∷ h.r0 ∷ []
+standard_format h = bits_of 11 h.frame.id.raw ++ level_from h.frame.remote ∷ Dominant ∷ []
 
--- the same of an extended frame
+-- the same in an extended frame
 abbrev extended_format : HeardParts → List Level
-extended_format h = bits_of 11 (h.frame.id.raw / 2 ^ 18) ++ h.srr ∷ Recessive ∷ (bits_of 18 h.frame.id.raw ++ level_from h.frame.remote ∷ h.r1 ∷ h.r0 ∷ [])
+extended_format h = bits_of 11 (h.frame.id.raw / 2 ^ 18) ++ h.srr ∷ Recessive ∷ (bits_of 18 h.frame.id.raw ++ level_from h.frame.remote ∷ h.r1 ∷ [])
 
--- a head in three parts
+-- a head, in the pieces of which it is built
 module _ (h : HeardParts) where
   abbrev behind : List Level
-  behind = data_field h.frame
+  behind = h.r0 ∷ data_field h.frame
 
-  pub heard_head-standard : h.frame.id.extended ≡ false → heard_head h ≡ Dominant ∷ (standard_format h ++ behind)
+  pub heard_head-standard : h.frame.id.extended ≡ false → heard_head h ≡ Dominant ∷ (standard_format h ++ h.r0 ∷ data_field h.frame)
   unfolding heard_head
   heard_head-standard kind =
-      let number = bits_of 11 h.frame.id.raw in
       cond-false h.frame.id.extended _ _ kind
-      ∙ ap (λ t. Dominant ∷ t) (sym (append_assoc number (level_from h.frame.remote ∷ Dominant ∷ h.r0 ∷ []) behind))
+      ∙ ap (λ t. Dominant ∷ t) (sym (append_assoc (bits_of 11 h.frame.id.raw) (level_from h.frame.remote ∷ Dominant ∷ []) behind))
 
-  pub heard_head-extended : h.frame.id.extended ≡ true → heard_head h ≡ Dominant ∷ (extended_format h ++ behind)
+  pub heard_head-extended : h.frame.id.extended ≡ true → heard_head h ≡ Dominant ∷ (extended_format h ++ h.r0 ∷ data_field h.frame)
   unfolding heard_head
   heard_head-extended kind =
       let upper = bits_of 11 (h.frame.id.raw / 2 ^ 18) in
       let lower = bits_of 18 h.frame.id.raw in
-      let last = level_from h.frame.remote ∷ h.r1 ∷ h.r0 ∷ [] in
+      let last = level_from h.frame.remote ∷ h.r1 ∷ [] in
       cond-true h.frame.id.extended _ _ kind
       ∙ ap (λ t. Dominant ∷ (upper ++ h.srr ∷ Recessive ∷ t)) (sym (append_assoc lower last behind))
       ∙ ap (λ t. Dominant ∷ t) (sym (append_assoc upper (h.srr ∷ Recessive ∷ (lower ++ last)) behind))

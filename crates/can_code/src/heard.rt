@@ -70,7 +70,14 @@ impl Eq for Heard {
 impl Heard {
     /// What is heard with these parts. `None` where a standard frame would have a dominant SRR or
     /// a recessive r1.
-    pub fn new(frame: Frame, srr: Level, r1: Level, r0: Level, acked: bool, last: Level) -> Option<Heard>
+    pub fn new(
+        frame: Frame,
+        srr: Level,
+        r1: Level,
+        r0: Level,
+        acked: bool,
+        last: Level,
+    ) -> Option<Heard>
         ensures none { IsNone result ↔ ((frame.id.extended ≡ false) × ((srr ≡ Dominant) ⊎ (r1 ≡ Recessive))) }
         ensures some { IfSome result (λ h. h ≡ record { frame = frame; srr = srr; r1 = r1; r0 = r0; acked = acked; last = last }) }
     {
@@ -116,8 +123,10 @@ impl Heard {
         ensures value { result ≡ self.now.frame }
         ensures whole { IsHeard self.now }
     {
-        let _ = self.frame.bytes();
-        self.frame
+        let frame = self.frame;
+        // its bytes tell that it is within its limits
+        let _ = frame.bytes();
+        frame
     }
 
     /// The SRR bit. It is recessive in a standard frame, which has none.

@@ -48,35 +48,34 @@ pub(crate) fn head(heard: &Heard) -> Unstuffed
     } else {
         push_standard_format(&mut levels, heard);
     }
+    let r0 = heard.r0();
+    levels.push(r0);
     push_data_field(&mut levels, &frame);
     levels
 }
 
-/// Appends what stands between the start of frame and the DLC of a standard frame: identifier,
-/// RTR, IDE and r0.
+/// Appends what stands between the start of frame and r0 in a standard frame: identifier, RTR and
+/// IDE.
 fn push_standard_format(levels: &mut Unstuffed, heard: &Heard)
     requires { array_vec_len levels.old ≤ 1 }
-    ensures items {
-        let frame = heard.now.frame in
-        levels.new.items ≡ levels.old.items ++ (bits_of 11 frame.id.raw ++ level_from frame.remote ∷ Dominant ∷ heard.now.r0 ∷ [])
-    }
-    ensures room { array_vec_len levels.new ≤ 15 }
+    ensures items { let frame = heard.now.frame in
+        levels.new.items ≡ levels.old.items ++ (bits_of 11 frame.id.raw ++ level_from frame.remote ∷ Dominant ∷ []) }
+    ensures room { array_vec_len levels.new ≤ 34 }
 {
     let frame = heard.frame();
     push_bits(levels, frame.id().raw(), 11);
     levels.push(Level::from_bool(frame.is_remote()));
     levels.push(STANDARD_FORMAT);
-    levels.push(heard.r0());
 }
 
-/// The same of an extended frame: identifier, SRR and IDE within it, RTR, r1 and r0.
+/// The same in an extended frame: the identifier with SRR and IDE behind its eleven highest bits,
+/// RTR and r1.
 fn push_extended_format(levels: &mut Unstuffed, heard: &Heard)
     requires { array_vec_len levels.old ≤ 1 }
-    ensures items {
-        let frame = heard.now.frame in
-        levels.new.items ≡ levels.old.items ++ (bits_of 11 (frame.id.raw / 2 ^ 18) ++ heard.now.srr ∷ Recessive ∷ (bits_of 18 frame.id.raw ++ level_from frame.remote ∷ heard.now.r1 ∷ heard.now.r0 ∷ []))
-    }
-    ensures room { array_vec_len levels.new ≤ 35 }
+    ensures items { let frame = heard.now.frame in
+        levels.new.items ≡ levels.old.items
+        ++ (bits_of 11 (frame.id.raw / 2 ^ 18) ++ heard.now.srr ∷ Recessive ∷ (bits_of 18 frame.id.raw ++ level_from frame.remote ∷ heard.now.r1 ∷ [])) }
+    ensures room { array_vec_len levels.new ≤ 34 }
 {
     let frame = heard.frame();
     let number = frame.id().raw();
@@ -86,7 +85,6 @@ fn push_extended_format(levels: &mut Unstuffed, heard: &Heard)
     push_bits(levels, number, 18);
     levels.push(Level::from_bool(frame.is_remote()));
     levels.push(heard.r1());
-    levels.push(heard.r0());
 }
 
 /// Appends the DLC and the data bytes.

@@ -1,16 +1,21 @@
-//! The coding of frames for the wire: what a sender makes of a frame.
+//! The coding of frames for the wire: what a sender makes of a frame, and what spells a frame as it is
+//! heard.
 //!
 //! A frame's `head` (start of frame, identifier, control field, data) is followed by its CRC
 //! sequence; the two are bit stuffed, and a tail of ten levels that is never stuffed ends the
-//! frame. (Bosch CAN 2.0 part B, sections 3.2.1 and 5)
+//! frame. (Bosch CAN 2.0 part B, sections 3.2.1 and 5) A receiver takes a few of these levels at
+//! either value: with them the frame is [`Heard`].
 //!
 //! | File | What it has | Defined in |
 //! |---|---|---|
 //! | `crc.rt` | [`crc15`], the CRC sequence | `specs/Crc.antt` |
 //! | `stuffing.rt` | [`stuff`], the stuff bits | `specs/Stuffing.antt` |
-//! | `layout.rt` | the head of a frame and its CRC sequence, unstuffed | `specs/Wire.antt` |
-//! | `encoding.rt` | [`encode`], the levels of a frame | `specs/Wire.antt` |
-//! | `laws.rt` | that a CRC sequence, a stuffed list and a frame's wire exist and are unique | |
+//! | `heard.rt` | [`Heard`], a frame as it is heard | `specs/Heard.antt` |
+//! | `layout.rt` | the head and the CRC sequence of what is heard, unstuffed | `specs/Heard.antt` |
+//! | `spelling.rt` | [`respell`], the levels that spell what is heard | `specs/Heard.antt` |
+//! | `encoding.rt` | [`encode`], the levels that the sender of a frame drives | `specs/Wire.antt` |
+//! | `fault.rt` | [`CodeFault`], why levels begin with no frame | `specs/CodeFaults.antt` |
+//! | `laws.rt` | that a CRC sequence, a stuffed list, a frame's wire and a spelling exist and are unique, and that no spelling begins another | |
 //!
 //! Each is defined twice: by a relation that says what it is (the generator divides it, a stuff
 //! bit stands behind five equal levels), and by a function that computes it. The calls promise

@@ -44,7 +44,9 @@ fn push_tail(levels: &mut ArrayVec<Level, 157>, heard: &Heard)
         Level::Recessive
     };
     let last = heard.last();
-    let tail = [DELIMITER, ack_slot, DELIMITER, END, END, END, END, END, END, last];
+    let tail = [
+        DELIMITER, ack_slot, DELIMITER, END, END, END, END, END, END, last,
+    ];
     for level in tail {
         levels.push(level);
     }
