@@ -1,20 +1,15 @@
 -- The bits of a number as levels.
-use Rattle.std.proofs.Common.{◌≡◌, ℕ, suc, zero, ◌+◌, ◌-◌, ◌*◌, ◌/◌, ◌%◌, ◌^◌, ◌<◌, ◌≤◌, List, [], ◌∷◌, ◌++◌, length, refl, sym, ◌∙◌, ap, arith, replicate, add-zero, append_assoc, ◌⊎◌, inl, inr}
+use Rattle.std.proofs.Common.{◌≡◌, ℕ, suc, zero, ◌+◌, ◌-◌, ◌*◌, ◌/◌, ◌%◌, ◌^◌, ◌<◌, ◌≤◌, List, [], ◌∷◌, ◌++◌, refl, sym, ◌∙◌, ap, arith, replicate, add-zero, append_assoc, ◌⊎◌, inl, inr}
 use Rattle.std.specs.Prelude.{bit_and, bit_xor}
 use Rattle.std.proofs.Math.Dec.{eqb}
 use Rattle.std.specs.Int.{bit_at}
-use Rattle.std.proofs.lemmas.Nat.Bits.{bit_at_xor, bit_at-lt, bit_at-zero, shr_and_one, bit_at_cat_low}
-use Rattle.std.proofs.lemmas.Nat.{shr-shr, shr_split, shl-shr, shr_high}
-use Rattle.std.proofs.Math.Nat.{pow-suc}
+use Rattle.std.proofs.lemmas.Nat.Bits.{bit_at_xor, bit_at-zero, shr_and_one, bit_at_cat_low}
+use Rattle.std.proofs.lemmas.Nat.{shr_split, shl-shr}
 use Rattle.can_frame.specs.declared.level.Level.{Level}
-use Rattle.can_frame.specs.declared.level.Level.TheVariants.{Dominant, Recessive}
-use Rattle.can_frame.specs.Levels.{level_from, level_of, bits_of, number_from}
+use Rattle.can_frame.specs.declared.level.Level.TheVariants.{Dominant}
+use Rattle.can_frame.specs.Levels.{level_from, level_of, bits_of}
+pub use Rattle.can_frame.proofs.LevelLemmas.{bit_cases, length-bits_of, bits_of-same, bits_of-append, number_from-split, number_from-lt, bits_of-number_from}
 use Rattle.can_code.specs.Crc.{plus, xor}
-
-pub length-bits_of : (n x : ℕ) → length (bits_of n x) ≡ n
-unfolding bits_of
-length-bits_of zero x = refl
-length-bits_of (suc n) x = ap suc (length-bits_of n x)
 
 pub bits_of-zero : (x : ℕ) → bits_of 0 x ≡ []
 unfolding bits_of
@@ -23,24 +18,6 @@ bits_of-zero x = refl
 pub bits_of-suc : (n x : ℕ) → bits_of (suc n) x ≡ level_of (bit_at x n) ∷ bits_of n x
 unfolding bits_of
 bits_of-suc n x = refl
-
--- numbers that agree in their n lowest bits
-pub bits_of-same : (n x y : ℕ) → ((i : ℕ) → i < n → bit_at x i ≡ bit_at y i) → bits_of n x ≡ bits_of n y
-unfolding bits_of
-bits_of-same zero x y h = refl
-bits_of-same (suc n) x y h =
-    let top : bit_at x n ≡ bit_at y n = h n (omega arith) in
-    let rest = bits_of-same n x y (λ i l. h i (omega arith)) in
-    ap (λ b. level_of b ∷ bits_of n x) top ∙ ap (λ t. level_of (bit_at y n) ∷ t) rest
-
--- a bit is 0 or 1
-pub bit_cases : (x i : ℕ) → (bit_at x i ≡ 0) ⊎ (bit_at x i ≡ 1)
-bit_cases x i = two (bit_at x i) (bit_at-lt x i)
-  where
-    two : (b : ℕ) → b < 2 → (b ≡ 0) ⊎ (b ≡ 1)
-    two zero h = inl refl
-    two (suc zero) h = inr refl
-    two (suc (suc b)) h = absurd (omega arith)
 
 level_of-sum : (a b : ℕ) → (a ≡ 0) ⊎ (a ≡ 1) → (b ≡ 0) ⊎ (b ≡ 1) → level_of ((a + b) % 2) ≡ plus (level_of a) (level_of b)
 level_of-sum a b (inl p) (inl q) = rw (p, q) refl
@@ -55,16 +32,6 @@ bits_of-xor (suc n) x y =
     let top : level_of (bit_at (bit_xor x y) n) ≡ plus (level_of (bit_at x n)) (level_of (bit_at y n)) =
     ap level_of (bit_at_xor x y n) ∙ level_of-sum (bit_at x n) (bit_at y n) (bit_cases x n) (bit_cases y n) in
     ap (λ b. b ∷ bits_of n (bit_xor x y)) top ∙ ap (λ t. plus (level_of (bit_at x n)) (level_of (bit_at y n)) ∷ t) (bits_of-xor n x y)
-
--- the k lowest bits are the last
-pub bits_of-split : (n k x : ℕ) → bits_of (n + k) x ≡ bits_of n (x / 2 ^ k) ++ bits_of k x
-unfolding bits_of
-bits_of-split zero k x = ap (λ m. bits_of m x) (let e : 0 + k ≡ k = omega arith in e)
-bits_of-split (suc n) k x =
-    let more : suc n + k ≡ suc (n + k) = omega arith in
-    let swapped : n + k ≡ k + n = omega arith in
-    let top : bit_at x (n + k) ≡ bit_at (x / 2 ^ k) n = ap (λ i. bit_at x i) swapped ∙ ap (λ t. t % 2) (sym (shr-shr x k n)) in
-    ap (λ m. bits_of m x) more ∙ ap (λ b. level_of b ∷ bits_of (n + k) x) top ∙ ap (λ t. level_of (bit_at (x / 2 ^ k) n) ∷ t) (bits_of-split n k x)
 
 -- the lowest bits of a number are those of what is left of it
 pub bits_of-mod : (n w x : ℕ) → n ≤ w → bits_of n (x % 2 ^ w) ≡ bits_of n x
@@ -82,7 +49,7 @@ pub bits_of-shl : (n k x : ℕ) → bits_of (n + k) (x * 2 ^ k) ≡ bits_of n x 
 bits_of-shl n k x =
     let low : bits_of k (x * 2 ^ k) ≡ bits_of k 0 = bits_of-same k (x * 2 ^ k) 0 (λ i l.
     ap (λ t. bit_at t i) (sym (add-zero (x * 2 ^ k))) ∙ bit_at_cat_low x k 0 i l) in
-    bits_of-split n k (x * 2 ^ k) ∙ ap (λ t. bits_of n t ++ bits_of k (x * 2 ^ k)) (shl-shr x k) ∙ ap (λ t. bits_of n x ++ t) (low ∙ bits_of-none k)
+    bits_of-append n k (x * 2 ^ k) ∙ ap (λ t. bits_of n t ++ bits_of k (x * 2 ^ k)) (shl-shr x k) ∙ ap (λ t. bits_of n x ++ t) (low ∙ bits_of-none k)
 
 -- a bit as code reads it
 level_from-bit : (x i : ℕ) → level_from (eqb (bit_and (x / 2 ^ i) 1) 1) ≡ level_of (bit_at x i)
@@ -100,31 +67,3 @@ bits_of-pushed items (suc n) x h =
     ap (λ k. (items ++ level_from (eqb (bit_and (x / 2 ^ k) 1) 1) ∷ []) ++ bits_of k x) e
     ∙ append_assoc items (level_from (eqb (bit_and (x / 2 ^ n) 1) 1) ∷ []) (bits_of n x)
     ∙ ap (λ l. items ++ l ∷ bits_of n x) (level_from-bit x n) ∙ ap (λ t. items ++ t) (sym (bits_of-suc n x))
-
--- the bits of n stand above the others
-pub number_from-split : (n : ℕ) (bits : List Level) → number_from n bits ≡ n * 2 ^ length bits + number_from 0 bits
-number_from-split n [] = omega arith
-number_from-split n (Dominant ∷ bits) =
-    let power : n * 2 ^ suc (length bits) ≡ n * (2 ^ length bits * 2) = ap (λ t. n * t) (pow-suc 2 (length bits)) in
-    let none : number_from (2 * 0) bits ≡ number_from 0 bits = refl in
-    omega (arith, power, none, number_from-split (2 * n) bits)
-number_from-split n (Recessive ∷ bits) =
-    let power : n * 2 ^ suc (length bits) ≡ n * (2 ^ length bits * 2) = ap (λ t. n * t) (pow-suc 2 (length bits)) in
-    omega (arith, power, number_from-split (2 * n + 1) bits, number_from-split (2 * 0 + 1) bits)
-
-pub number_from-lt : (bits : List Level) → number_from 0 bits < 2 ^ length bits
-number_from-lt [] = omega arith
-number_from-lt (Dominant ∷ bits) = omega (arith, pow-suc 2 (length bits), number_from-lt bits)
-number_from-lt (Recessive ∷ bits) = omega (arith, pow-suc 2 (length bits), number_from-lt bits, number_from-split 1 bits)
-
-next : (m : ℕ) (x : Level) (bits : List Level) → level_of (m % 2) ≡ x → bits_of (length bits) (number_from m bits) ≡ bits → bits_of (suc (length bits)) (number_from m bits) ≡ x ∷ bits
-next m x bits top rest =
-    let k = length bits in
-    let above : number_from m bits / 2 ^ k ≡ m = ap (λ t. t / 2 ^ k) (number_from-split m bits) ∙ shr_high m k (number_from 0 bits) (number_from-lt bits) in
-    bits_of-suc k (number_from m bits) ∙ ap (λ t. level_of (t % 2) ∷ bits_of k (number_from m bits)) above ∙ ap (λ l. l ∷ bits_of k (number_from m bits)) top ∙ ap (λ t. x ∷ t) rest
-
--- the bits of a number made of bits are these
-pub bits_of-number_from : (n : ℕ) (bits : List Level) → bits_of (length bits) (number_from n bits) ≡ bits
-bits_of-number_from n [] = bits_of-zero n
-bits_of-number_from n (Dominant ∷ bits) = next (2 * n) Dominant bits (ap level_of (let e : 2 * n % 2 ≡ 0 = omega arith in e)) (bits_of-number_from (2 * n) bits)
-bits_of-number_from n (Recessive ∷ bits) = next (2 * n + 1) Recessive bits (ap level_of (let e : (2 * n + 1) % 2 ≡ 1 = omega arith in e)) (bits_of-number_from (2 * n + 1) bits)

@@ -1,14 +1,18 @@
+-- check sequences
 pub mod XorLemmas
 pub mod DivisionLemmas
 pub mod Register
+-- check sequences in numbers
 pub mod LevelLemmas
 pub mod RegisterWord
 pub mod CrcTable
 pub mod OctetLemmas
+-- stuffing
 pub mod StuffPlaces
 pub mod Runs
 pub mod OneStuffing
 pub mod StuffingLemmas
+-- the layout of unstuffed levels
 pub mod LayoutNumbers
 pub mod LayoutPlaces
 pub mod LayoutBytes
@@ -16,9 +20,11 @@ pub mod LayoutLengths
 pub mod LayoutHead
 pub mod LayoutRead
 pub mod LayoutWrite
-pub mod LayoutRows
+-- frames and what is heard of them
 pub mod WireLemmas
 pub mod SpellingLemmas
 pub mod StuffedFronts
 pub mod SpellingFronts
+-- known values
+pub mod LayoutRows
 pub mod Rows

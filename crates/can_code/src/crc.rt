@@ -1,4 +1,4 @@
-ghost use Rattle.std.specs.Prelude.{◌≡◌, ◌<◌, ◌^◌, ◌∷◌, ◌++◌, List, replicate};
+ghost use Rattle.std.specs.Prelude.{◌≡◌, ◌<◌, ◌^◌, ◌∷◌, ◌++◌, List, length, replicate};
 ghost use Rattle.can_frame.specs.declared.level.Level.{Level as Bit};
 ghost use Rattle.can_frame.specs.declared.level.Level.TheVariants.{Dominant};
 ghost use Rattle.can_frame.specs.Levels.{bits_of, number_from};
@@ -36,14 +36,14 @@ pub fn crc15(levels: &[Level]) -> u16
 fn shift_in_octet(register: u16, levels: &[Level; 8]) -> u16
     requires { register < 2 ^ 15 }
     ensures range { result < 2 ^ 15 }
-    ensures step { bits_of 15 result ≡ reduced 8 (xor (bits_of 15 register) (levels.now ++ replicate 15 Dominant)) }
+    ensures step { bits_of 15 result ≡ reduced (length levels.now) (xor (bits_of 15 register) (levels.now ++ replicate 15 Dominant)) }
 {
-    let place = (register >> 7) ^ number(levels);
+    let place = (register >> 7) ^ number_of(levels);
     ((register << 8) & REGISTER_BITS) ^ CRC_OF_BYTES[usize::from(place)]
 }
 
 /// The number whose bits the levels are, the highest first.
-fn number(levels: &[Level; 8]) -> u16
+fn number_of(levels: &[Level; 8]) -> u16
     ensures range { result < 2 ^ 8 }
     ensures value { result ≡ number_from 0 levels.now }
 {

@@ -3,7 +3,7 @@
 //!
 //! A frame's `head` (start of frame, identifier, control field, data) is followed by its CRC
 //! sequence; the two are bit stuffed, and a tail of ten levels that is never stuffed ends the
-//! frame. (Bosch CAN 2.0 part B, sections 3.2.1 and 5) A receiver takes a few of these levels at
+//! frame. (Bosch CAN 2.0 part B, sections 3.2.1 and 6) A receiver takes a few of these levels at
 //! either value: with them the frame is [`Heard`].
 //!
 //! | File | What it has | Defined in |
@@ -20,6 +20,12 @@
 //! Each is defined twice: by a relation that says what it is (the generator divides it, a stuff
 //! bit stands behind five equal levels), and by a function that computes it. The calls promise
 //! that the two agree.
+//!
+//! Crates above find lemmas in `proofs/`: how a stuffed list grows level by level (`StuffPlaces`,
+//! `Runs`, `StuffingLemmas`), that it is unique (`OneStuffing`) and begins no other's
+//! (`StuffedFronts`), what unstuffed levels tell (`LayoutLengths`, `LayoutRead`, `LayoutWrite`), how
+//! long each part is (`LayoutHead`, `WireLemmas`, `SpellingLemmas`), and how a check sequence grows
+//! (`Register`).
 #![tactic(auto)]
 
 mod crc;

@@ -1,4 +1,4 @@
-use Rattle.std.proofs.Common.{◌≡◌, ◌+◌, ◌*◌, ◌/◌, [], ◌∷◌, length, drop, get_or, ap, subst, sym, ◌∙◌, arith}
+use Rattle.std.proofs.Common.{◌≡◌, ◌+◌, ◌*◌, ◌/◌, ◌<◌, [], ◌∷◌, length, drop, get_or, ap, subst, sym, ◌∙◌, arith}
 use Rattle.std.proofs.lemmas.List.{at_drop_more}
 use Rattle.can_frame.specs.declared.level.Level.TheVariants.{Dominant}
 use Rattle.can_frame.specs.Levels.{bits_of}
@@ -19,10 +19,13 @@ loop-octet-init c = record {
 
 pub loop-octet-preserved : goal.loop-octet-preserved
 loop-octet-preserved c =
+    let levels = c.args.levels.now in
+    let i = c.loop-octet.octet-index in
+    let within : i < length levels / 8 = omega (arith, c.as_chunks.ensures.front_len) in
     record {
       range = c.shift_in_octet-register.ensures.range;
-      rest = register_on_octet c.loop-octet.register c.shift_in_octet-register.result c.loop-octet.octet-index c.args.levels.now c.as_chunks.result.0.now c.as_chunks.ensures.front c.as_chunks.ensures.front_len
-          _ c.loop-octet-test.true c.shift_in_octet-register.ensures.step ∙ c.loop-octet.invariant.rest;
+      rest = register_on_octet c.loop-octet.register c.shift_in_octet-register.result i _ levels c.as_chunks.result.0.now _ c.as_chunks.ensures.front within c.shift_in_octet-register.ensures.step
+          ∙ c.loop-octet.invariant.rest;
     }
 
 pub loop-level-init : goal.loop-level-init

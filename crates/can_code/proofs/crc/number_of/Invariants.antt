@@ -1,7 +1,8 @@
 use Rattle.std.proofs.Common.{◌≡◌, ◌<◌, ◌^◌, drop}
 use Rattle.can_frame.specs.Levels.{number_from}
-use Rattle.can_code.proofs.crc.number.Given as goal
+use Rattle.can_code.proofs.crc.number_of.Given as goal
 
+-- the levels that are left complete the number
 abbrev pub invariant-loop-level : goal.invariant-loop-level
 invariant-loop-level l = record {
   small : l.number < 2 ^ l.level-index;
