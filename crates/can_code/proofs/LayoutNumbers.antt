@@ -1,5 +1,5 @@
 -- The levels of a number give the number back, and the number of some levels gives the levels.
-use Rattle.std.proofs.Common.{◌≡◌, ℕ, ◌*◌, ◌/◌, ◌^◌, List, ◌++◌, length, sym, ◌∙◌, ap}
+use Rattle.std.proofs.Common.{◌≡◌, ℕ, ◌/◌, ◌^◌, List, ◌++◌, length, sym, ◌∙◌, ap}
 use Rattle.std.proofs.lemmas.Nat.{div-mul-add}
 use Rattle.can_frame.specs.declared.level.Level.{Level}
 use Rattle.can_frame.specs.Levels.{bits_of, number_from}

@@ -5,7 +5,7 @@ ghost use Rattle.can_frame.specs.Parts.{Parts};
 ghost use Rattle.can_code.specs.Crc.{IsCrc, crc_of};
 ghost use Rattle.can_code.specs.Stuffing.{Stuffs, stuffed};
 ghost use Rattle.can_code.specs.Wire.{head, IsSpelling, wire};
-ghost use Rattle.can_code.specs.Heard.{HeardParts, IsHeard, Spells, spelling};
+ghost use Rattle.can_code.specs.Heard.{HeardParts, IsHeard, sent, Spells, spelling};
 
 /// Each list of levels has exactly one CRC sequence.
 pub fn one_check_sequence()
@@ -25,10 +25,12 @@ pub fn one_wire()
     ensures only { (f : Parts) (w : List Bit) → IsSpelling (head f) Dominant Recessive w → w ≡ wire f }
 {}
 
-/// What is heard of a frame has exactly one spelling.
+/// What is heard of a frame has exactly one spelling. Where all is as it should be, that is the
+/// frame's wire.
 pub fn one_spelling()
     ensures exists { (h : HeardParts) → IsHeard h → Spells h (spelling h) }
     ensures only { (h : HeardParts) (w : List Bit) → Spells h w → w ≡ spelling h }
+    ensures sent { (f : Parts) → spelling (sent f) ≡ wire f }
 {}
 
 /// A list of levels spells at most one.
