@@ -119,12 +119,12 @@ Multiple-completed (suc n) (Recessive ∷ l) h =
     xor_padded (xor less rest) lower_terms n (omega arith) ∙ ap (λ t. xor t lower_terms) regrouped ∙ xor_twice (xor l rest) lower_terms (omega arith) in
     subst (λ t. Multiple (Recessive ∷ t)) same m
 
--- fifteen bits put behind a list are a summand
-pub xor-behind : (b c : List Level) → length c ≡ 15 → xor (b ++ none 15) (none (length b) ++ c) ≡ b ++ c
+-- what stands behind a list is a summand
+pub xor-behind : (b c : List Level) → 15 ≤ length c → xor (b ++ none 15) (none (length b) ++ c) ≡ b ++ c
 xor-behind b c h =
     let size : length b ≡ length (none (length b)) = sym (length-replicate (length b) Dominant) in
     let front : xor b (none (length b)) ≡ b = xor_zeros b (length b) (omega arith) in
-    let back : xor (none 15) c ≡ c = xor_comm (none 15) c ∙ xor_zeros c 15 (omega arith) in
+    let back : xor (none 15) c ≡ c = xor_comm (none 15) c ∙ xor_zeros c 15 h in
     xor-append b (none (length b)) (none 15) c size ∙ ap (λ t. t ++ xor (none 15) c) front ∙ ap (λ t. b ++ t) back
 
 pub length-crc_of : (b : List Level) → length (crc_of b) ≡ 15
@@ -136,7 +136,7 @@ pub IsCrc-crc_of : (b : List Level) → IsCrc b (crc_of b)
 unfolding crc_of
 IsCrc-crc_of b = record {
   length = length-crc_of b;
-  divides = subst Multiple (xor-behind b (crc_of b) (length-crc_of b)) (Multiple-completed (length b) (b ++ none 15) (length-append b (none 15)));
+  divides = subst Multiple (xor-behind b (crc_of b) (omega (arith, length-crc_of b))) (Multiple-completed (length b) (b ++ none 15) (length-append b (none 15)));
 }
 
 -- and there is no other
@@ -150,5 +150,5 @@ IsCrc-only b c h =
     let nothing_left : reduced n (b ++ c) ≡ none 15 = Multiple-reduced n (b ++ c) h.divides (omega (arith, length-append b c)) in
     let sum_is_none : xor r c ≡ none 15 =
     ap (xor r) (sym (reduced_none_front n c (omega arith))) ∙ sym (reduced-xor n (b ++ none 15) (none n ++ c))
-    ∙ ap (reduced n) (xor-behind b c c_size) ∙ nothing_left in
+    ∙ ap (reduced n) (xor-behind b c (omega arith)) ∙ nothing_left in
     sym (xor_twice c r (omega arith)) ∙ ap (λ t. xor t r) (xor_comm c r ∙ sum_is_none) ∙ xor_comm (none 15) r ∙ xor_zeros r 15 (omega arith)

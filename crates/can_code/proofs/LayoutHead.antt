@@ -1,6 +1,7 @@
 -- The head of a frame as it is heard: how long it is, and what it is where all is heard as it is sent.
 use Rattle.std.proofs.Common.{◌≡◌, ℕ, ◌+◌, ◌*◌, ◌≤◌, ◌/◌, ◌^◌, Bool, true, false, cond, List, [], ◌∷◌, ◌++◌, length, refl, sym, ◌∙◌, ap, arith, append_assoc, length-append}
 use Rattle.std.specs.List.{flat_map}
+use Rattle.std.proofs.lemmas.Bool.{cond-true, cond-false}
 use Rattle.can_frame.specs.declared.level.Level.{Level}
 use Rattle.can_frame.specs.declared.level.Level.TheVariants.{Dominant, Recessive}
 use Rattle.can_frame.specs.Levels.{bits_of, level_from}
@@ -16,6 +17,35 @@ use Rattle.can_code.proofs.LayoutBytes.{length-bytes}
 -- a frame of either kind
 frame_from : ℕ → Bool → Bool → ℕ → List ℕ → Parts
 frame_from raw extended remote dlc bytes = record { id = record { raw = raw; extended = extended }; remote = remote; dlc = dlc; bytes = bytes }
+
+-- what stands between the SOF and r0 in a standard frame
+abbrev standard_format : HeardParts → List Level
+standard_format h = bits_of 11 h.frame.id.raw ++ level_from h.frame.remote ∷ Dominant ∷ []
+
+-- the same in an extended frame
+abbrev extended_format : HeardParts → List Level
+extended_format h = bits_of 11 (h.frame.id.raw / 2 ^ 18) ++ h.srr ∷ Recessive ∷ (bits_of 18 h.frame.id.raw ++ level_from h.frame.remote ∷ h.r1 ∷ [])
+
+-- a head, in the pieces of which it is built
+module _ (h : HeardParts) where
+  abbrev behind : List Level
+  behind = h.r0 ∷ data_field h.frame
+
+  pub heard_head-standard : h.frame.id.extended ≡ false → heard_head h ≡ Dominant ∷ (standard_format h ++ h.r0 ∷ data_field h.frame)
+  unfolding heard_head
+  heard_head-standard kind =
+      cond-false h.frame.id.extended _ _ kind
+      ∙ ap (λ t. Dominant ∷ t) (sym (append_assoc (bits_of 11 h.frame.id.raw) (level_from h.frame.remote ∷ Dominant ∷ []) behind))
+
+  pub heard_head-extended : h.frame.id.extended ≡ true → heard_head h ≡ Dominant ∷ (extended_format h ++ h.r0 ∷ data_field h.frame)
+  unfolding heard_head
+  heard_head-extended kind =
+      let upper = bits_of 11 (h.frame.id.raw / 2 ^ 18) in
+      let lower = bits_of 18 h.frame.id.raw in
+      let last = level_from h.frame.remote ∷ h.r1 ∷ [] in
+      cond-true h.frame.id.extended _ _ kind
+      ∙ ap (λ t. Dominant ∷ (upper ++ h.srr ∷ Recessive ∷ t)) (sym (append_assoc lower last behind))
+      ∙ ap (λ t. Dominant ∷ t) (sym (append_assoc upper (h.srr ∷ Recessive ∷ (lower ++ last)) behind))
 
 -- where SRR and reserved bits are heard as they are sent, the head is the one that is sent
 pub heard_head-sent : (f : Parts) → heard_head (sent f) ≡ head f

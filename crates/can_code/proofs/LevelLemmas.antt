@@ -1,19 +1,15 @@
 -- The bits of a number as levels.
-use Rattle.std.proofs.Common.{◌≡◌, ℕ, suc, zero, ◌+◌, ◌-◌, ◌*◌, ◌/◌, ◌%◌, ◌^◌, ◌<◌, ◌≤◌, List, [], ◌∷◌, ◌++◌, length, refl, sym, ◌∙◌, ap, arith, replicate, add-zero, append_assoc, ◌⊎◌, inl, inr}
+use Rattle.std.proofs.Common.{◌≡◌, ℕ, suc, zero, ◌+◌, ◌-◌, ◌*◌, ◌/◌, ◌%◌, ◌^◌, ◌<◌, ◌≤◌, List, [], ◌∷◌, ◌++◌, refl, sym, ◌∙◌, ap, arith, replicate, add-zero, append_assoc, ◌⊎◌, inl, inr}
 use Rattle.std.specs.Prelude.{bit_and, bit_xor}
 use Rattle.std.proofs.Math.Dec.{eqb}
 use Rattle.std.specs.Int.{bit_at}
-use Rattle.std.proofs.lemmas.Nat.Bits.{bit_at_xor, bit_at-lt, bit_at-zero, shr_and_one, bit_at_cat_low}
-use Rattle.std.proofs.lemmas.Nat.{shr-shr, shr_split, shl-shr}
+use Rattle.std.proofs.lemmas.Nat.Bits.{bit_at_xor, bit_at-zero, shr_and_one, bit_at_cat_low}
+use Rattle.std.proofs.lemmas.Nat.{shr_split, shl-shr}
 use Rattle.can_frame.specs.declared.level.Level.{Level}
 use Rattle.can_frame.specs.declared.level.Level.TheVariants.{Dominant}
 use Rattle.can_frame.specs.Levels.{level_from, level_of, bits_of}
+pub use Rattle.can_frame.proofs.LevelLemmas.{bit_cases, length-bits_of, bits_of-same, bits_of-append, number_from-split, number_from-lt, bits_of-number_from}
 use Rattle.can_code.specs.Crc.{plus, xor}
-
-pub length-bits_of : (n x : ℕ) → length (bits_of n x) ≡ n
-unfolding bits_of
-length-bits_of zero x = refl
-length-bits_of (suc n) x = ap suc (length-bits_of n x)
 
 pub bits_of-zero : (x : ℕ) → bits_of 0 x ≡ []
 unfolding bits_of
@@ -22,24 +18,6 @@ bits_of-zero x = refl
 pub bits_of-suc : (n x : ℕ) → bits_of (suc n) x ≡ level_of (bit_at x n) ∷ bits_of n x
 unfolding bits_of
 bits_of-suc n x = refl
-
--- numbers that agree in their n lowest bits
-pub bits_of-same : (n x y : ℕ) → ((i : ℕ) → i < n → bit_at x i ≡ bit_at y i) → bits_of n x ≡ bits_of n y
-unfolding bits_of
-bits_of-same zero x y h = refl
-bits_of-same (suc n) x y h =
-    let top : bit_at x n ≡ bit_at y n = h n (omega arith) in
-    let rest = bits_of-same n x y (λ i l. h i (omega arith)) in
-    ap (λ b. level_of b ∷ bits_of n x) top ∙ ap (λ t. level_of (bit_at y n) ∷ t) rest
-
--- a bit is 0 or 1
-pub bit_cases : (x i : ℕ) → (bit_at x i ≡ 0) ⊎ (bit_at x i ≡ 1)
-bit_cases x i = two (bit_at x i) (bit_at-lt x i)
-  where
-    two : (b : ℕ) → b < 2 → (b ≡ 0) ⊎ (b ≡ 1)
-    two zero h = inl refl
-    two (suc zero) h = inr refl
-    two (suc (suc b)) h = absurd (omega arith)
 
 level_of-sum : (a b : ℕ) → (a ≡ 0) ⊎ (a ≡ 1) → (b ≡ 0) ⊎ (b ≡ 1) → level_of ((a + b) % 2) ≡ plus (level_of a) (level_of b)
 level_of-sum a b (inl p) (inl q) = rw (p, q) refl
@@ -54,16 +32,6 @@ bits_of-xor (suc n) x y =
     let top : level_of (bit_at (bit_xor x y) n) ≡ plus (level_of (bit_at x n)) (level_of (bit_at y n)) =
     ap level_of (bit_at_xor x y n) ∙ level_of-sum (bit_at x n) (bit_at y n) (bit_cases x n) (bit_cases y n) in
     ap (λ b. b ∷ bits_of n (bit_xor x y)) top ∙ ap (λ t. plus (level_of (bit_at x n)) (level_of (bit_at y n)) ∷ t) (bits_of-xor n x y)
-
--- the k lowest bits are the last
-pub bits_of-split : (n k x : ℕ) → bits_of (n + k) x ≡ bits_of n (x / 2 ^ k) ++ bits_of k x
-unfolding bits_of
-bits_of-split zero k x = ap (λ m. bits_of m x) (let e : 0 + k ≡ k = omega arith in e)
-bits_of-split (suc n) k x =
-    let more : suc n + k ≡ suc (n + k) = omega arith in
-    let swapped : n + k ≡ k + n = omega arith in
-    let top : bit_at x (n + k) ≡ bit_at (x / 2 ^ k) n = ap (λ i. bit_at x i) swapped ∙ ap (λ t. t % 2) (sym (shr-shr x k n)) in
-    ap (λ m. bits_of m x) more ∙ ap (λ b. level_of b ∷ bits_of (n + k) x) top ∙ ap (λ t. level_of (bit_at (x / 2 ^ k) n) ∷ t) (bits_of-split n k x)
 
 -- the lowest bits of a number are those of what is left of it
 pub bits_of-mod : (n w x : ℕ) → n ≤ w → bits_of n (x % 2 ^ w) ≡ bits_of n x
@@ -81,7 +49,7 @@ pub bits_of-shl : (n k x : ℕ) → bits_of (n + k) (x * 2 ^ k) ≡ bits_of n x 
 bits_of-shl n k x =
     let low : bits_of k (x * 2 ^ k) ≡ bits_of k 0 = bits_of-same k (x * 2 ^ k) 0 (λ i l.
     ap (λ t. bit_at t i) (sym (add-zero (x * 2 ^ k))) ∙ bit_at_cat_low x k 0 i l) in
-    bits_of-split n k (x * 2 ^ k) ∙ ap (λ t. bits_of n t ++ bits_of k (x * 2 ^ k)) (shl-shr x k) ∙ ap (λ t. bits_of n x ++ t) (low ∙ bits_of-none k)
+    bits_of-append n k (x * 2 ^ k) ∙ ap (λ t. bits_of n t ++ bits_of k (x * 2 ^ k)) (shl-shr x k) ∙ ap (λ t. bits_of n x ++ t) (low ∙ bits_of-none k)
 
 -- a bit as code reads it
 level_from-bit : (x i : ℕ) → level_from (eqb (bit_and (x / 2 ^ i) 1) 1) ≡ level_of (bit_at x i)

@@ -1,15 +1,18 @@
+-- check sequences
 pub mod XorLemmas
 pub mod DivisionLemmas
 pub mod Register
+-- check sequences in numbers
 pub mod LevelLemmas
 pub mod RegisterWord
+pub mod CrcTable
+pub mod OctetLemmas
+-- stuffing
 pub mod StuffPlaces
 pub mod Runs
 pub mod OneStuffing
 pub mod StuffingLemmas
-pub mod HeadLemmas
-pub mod WireLemmas
-pub mod Rows
+-- the layout of unstuffed levels
 pub mod LayoutNumbers
 pub mod LayoutPlaces
 pub mod LayoutBytes
@@ -17,10 +20,18 @@ pub mod LayoutLengths
 pub mod LayoutHead
 pub mod LayoutRead
 pub mod LayoutWrite
-pub mod LayoutRows
+-- frames and what is heard of them
+pub mod WireLemmas
+pub mod SpellingLemmas
+pub mod StuffedFronts
+pub mod SpellingFronts
+-- levels as they are heard
 pub mod FrontLemmas
 pub mod PlainLemmas
 pub mod StuffedParts
 pub mod FrontsOf
 pub mod SoundLemmas
 pub mod CodeFaultLemmas
+-- known values
+pub mod LayoutRows
+pub mod Rows

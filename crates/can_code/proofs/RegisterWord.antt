@@ -1,79 +1,95 @@
--- The register as a number of fifteen bits.
-use Rattle.std.proofs.Common.{◌≡◌, ℕ, ◌+◌, ◌*◌, ◌%◌, ◌^◌, ◌<◌, ◌≤◌, Bool, true, false, List, [], ◌∷◌, ◌++◌, length, refl, sym, ◌∙◌, ap, arith, drop, length-append}
+-- The register as a number of fifteen bits, and its steps as code takes them.
+use Rattle.std.proofs.Common.{◌≡◌, ℕ, ◌+◌, ◌*◌, ◌/◌, ◌%◌, ◌^◌, ◌<◌, ◌≤◌, Bool, true, false, List, [], ◌∷◌, ◌++◌, length, refl, sym, ◌∙◌, ap, arith, drop, inl, inr}
 use Rattle.std.specs.Prelude.{bit_and, bit_xor, not}
-use Rattle.std.specs.Int.{bit_at}
 use mathlib.Core.Bool.{beq}
 use Rattle.std.proofs.Math.Dec.{leb}
 use borrow.Author.Tests.{leb-true, leb-false}
+use Rattle.std.proofs.lemmas.Bool.{cases_Bool}
 use Rattle.std.proofs.lemmas.Nat.{and_mask}
+use Rattle.std.proofs.lemmas.Nat.Bits.{bit_at_lowest}
 use Rattle.std.proofs.lemmas.List.{drop_all}
 use Rattle.can_frame.specs.declared.level.Level.{Level}
 use Rattle.can_frame.specs.declared.level.Level.TheVariants.{Dominant, Recessive}
-use Rattle.can_frame.specs.Levels.{is_recessive, level_of, bits_of}
-use Rattle.can_code.specs.Crc.{plus, xor, lower_terms, scaled, reduced, crc_of}
+use Rattle.can_frame.specs.Levels.{is_recessive, level_from, level_of, bits_of}
+use Rattle.can_code.specs.Crc.{xor, crc_of}
 use Rattle.can_code.proofs.XorLemmas.{xor_zeros}
-use Rattle.can_code.proofs.LevelLemmas.{length-bits_of, bits_of-suc, bits_of-mod, bits_of-shl, bits_of-xor}
+use Rattle.can_code.proofs.LevelLemmas.{length-bits_of, bits_of-zero, bits_of-suc, bits_of-append, bits_of-mod, bits_of-shl, bits_of-xor}
 use Rattle.can_code.proofs.DivisionLemmas.{none}
-use Rattle.can_code.proofs.Register.{shifted_in, register, register-reduced, register-append}
+use Rattle.can_code.proofs.Register.{register, register-nil, register-append, register-top}
 
--- the register moved by k places, as code writes it
-pub bits_of-moved : (n k r : ℕ) → n + k ≡ 15 → bits_of 15 (bit_and (r * 2 ^ k % 2 ^ 16) 0x7fff) ≡ bits_of n r ++ none k
+-- the register moved up by k places
+abbrev pub moved : ℕ → ℕ → ℕ
+moved k r = bit_and (r * 2 ^ k % 2 ^ 16) 0x7fff
+
+bits_of-moved : (n k r : ℕ) → n + k ≡ 15 → bits_of 15 (moved k r) ≡ bits_of n r ++ none k
 bits_of-moved n k r h =
     let x = r * 2 ^ k in
     ap (bits_of 15) (and_mask (x % 2 ^ 16) 15) ∙ bits_of-mod 15 15 (x % 2 ^ 16) (omega arith) ∙ bits_of-mod 15 16 x (omega arith)
     ∙ ap (λ m. bits_of m x) (sym h) ∙ bits_of-shl n k r
 
--- one step: the lower terms are added where the highest bit and the level differ
-step : (r : ℕ) (x : Level) → reduced 1 (xor (bits_of 15 r) (x ∷ none 15)) ≡ xor (bits_of 14 r ++ none 1) (scaled (plus (level_of (bit_at r 14)) x))
-step r x = register-reduced (x ∷ []) (bits_of 15 r) (length-bits_of 15 r) ∙ ap (λ t. shifted_in t x) (bits_of-suc 14 r)
+-- k levels go in: the check sequence of their sum with the k highest bits is added to the moved register
+pub register-moved : (n k r : ℕ) (levels : List Level) → n + k ≡ 15 → length levels ≡ k
+    → register (bits_of 15 r) levels ≡ xor (bits_of 15 (moved k r)) (crc_of (xor (bits_of k (r / 2 ^ n)) levels))
+register-moved n k r levels h size =
+    let top = bits_of k (r / 2 ^ n) in
+    let low = bits_of n r in
+    let swapped : 15 ≡ k + n = omega arith in
+    let top_size : length top ≡ length levels = length-bits_of k (r / 2 ^ n) ∙ sym size in
+    let low_size : length low + length levels ≡ 15 = omega (arith, length-bits_of n r) in
+    ap (λ t. register t levels) (ap (λ m. bits_of m r) swapped ∙ bits_of-append k n r)
+    ∙ register-top top low levels top_size low_size
+    ∙ ap (λ t. xor t (crc_of (xor top levels))) (ap (λ m. low ++ none m) size ∙ sym (bits_of-moved n k r h))
 
-pub step_plain : (r : ℕ) (x : Level) → plus (level_of (bit_at r 14)) x ≡ Dominant → bits_of 15 (bit_and (r * 2 ^ 1 % 2 ^ 16) 0x7fff) ≡ reduced 1 (xor (bits_of 15 r) (x ∷ none 15))
-step_plain r x h =
-    let size : length (bits_of 14 r ++ none 1) ≡ 15 = omega (arith, length-append (bits_of 14 r) (none 1), length-bits_of 14 r) in
-    bits_of-moved 14 1 r refl ∙ sym (xor_zeros (bits_of 14 r ++ none 1) 15 (omega arith)) ∙ ap (λ s. xor (bits_of 14 r ++ none 1) (scaled s)) (sym h) ∙ sym (step r x)
+-- the same with that check sequence as a number
+pub register-entry : (n k r entry : ℕ) (levels : List Level) → n + k ≡ 15 → length levels ≡ k → bits_of 15 entry ≡ crc_of (xor (bits_of k (r / 2 ^ n)) levels)
+    → bits_of 15 (bit_xor (moved k r) entry) ≡ register (bits_of 15 r) levels
+register-entry n k r entry levels h size e =
+    bits_of-xor 15 (moved k r) entry ∙ ap (xor (bits_of 15 (moved k r))) e ∙ sym (register-moved n k r levels h size)
 
-generator_bits : bits_of 15 0x4599 ≡ lower_terms
-unfolding bits_of
-generator_bits = refl
+-- The step by one level.
 
-pub step_fed_back : (r : ℕ) (x : Level) → plus (level_of (bit_at r 14)) x ≡ Recessive → bits_of 15 (bit_xor (bit_and (r * 2 ^ 1 % 2 ^ 16) 0x7fff) 0x4599) ≡ reduced 1 (xor (bits_of 15 r) (x ∷ none 15))
-step_fed_back r x h =
-    let moved = bit_and (r * 2 ^ 1 % 2 ^ 16) 0x7fff in
-    bits_of-xor 15 moved 0x4599 ∙ ap (λ t. xor t (bits_of 15 0x4599)) (bits_of-moved 14 1 r refl) ∙ ap (xor (bits_of 14 r ++ none 1)) generator_bits
-    ∙ ap (λ s. xor (bits_of 14 r ++ none 1) (scaled s)) (sym h) ∙ sym (step r x)
+highest : (r : ℕ) → r < 2 ^ 15 → bits_of 1 (r / 2 ^ 14) ≡ level_from (leb 16384 r) ∷ []
+highest r h =
+    let top = r / 2 ^ 14 in
+    bits_of-suc 0 top ∙ ap (λ b. level_of b ∷ bits_of 0 top) (bit_at_lowest top) ∙ ap (λ t. level_of (top % 2) ∷ t) (bits_of-zero top)
+    ∙ ap (λ l. l ∷ []) (elim (cases_Bool (leb 16384 r)) [
+      | inl large ↦ let e : top % 2 ≡ 1 = omega (arith, leb-true 16384 r large) in ap level_of e ∙ sym (ap level_from large)
+      | inr small ↦ let e : top % 2 ≡ 0 = omega (arith, leb-false 16384 r small) in ap level_of e ∙ sym (ap level_from small)
+    ])
 
-high : (r : ℕ) → r < 2 ^ 15 → 16384 ≤ r → bit_at r 14 ≡ 1
-high r h k = omega arith
+level_sum : (b : Bool) (x : Level) → xor (level_from b ∷ []) (x ∷ []) ≡ level_from (not (beq b (is_recessive x))) ∷ []
+level_sum true Dominant = refl
+level_sum true Recessive = refl
+level_sum false Dominant = refl
+level_sum false Recessive = refl
 
-low : (r : ℕ) → r < 16384 → bit_at r 14 ≡ 0
-low r h = omega arith
+-- the sum of the highest bit and a level
+highest_sum : (r : ℕ) (x : Level) (agree : Bool) → r < 2 ^ 15 → beq (leb 16384 r) (is_recessive x) ≡ agree → xor (bits_of 1 (r / 2 ^ 14)) (x ∷ []) ≡ level_from (not agree) ∷ []
+highest_sum r x agree h e = ap (λ t. xor t (x ∷ [])) (highest r h) ∙ level_sum (leb 16384 r) x ∙ ap (λ b. level_from (not b) ∷ []) e
 
-beq_same : (a b : Bool) → beq a b ≡ true → a ≡ b
-beq_same true true h = refl
-beq_same true false h = cc
-beq_same false true h = cc
-beq_same false false h = refl
+crc_of-dominant : crc_of (Dominant ∷ []) ≡ none 15
+unfolding crc_of
+crc_of-dominant = refl
 
-beq_other : (a b : Bool) → beq a b ≡ false → a ≡ not b
-beq_other true true h = cc
-beq_other true false h = refl
-beq_other false true h = refl
-beq_other false false h = cc
+crc_of-recessive : crc_of (Recessive ∷ []) ≡ bits_of 15 0x4599
+unfolding crc_of bits_of
+crc_of-recessive = refl
 
--- the highest bit and the level agree
-pub agreed : (r : ℕ) (x : Level) → r < 2 ^ 15 → beq (leb 16384 r) (is_recessive x) ≡ true → plus (level_of (bit_at r 14)) x ≡ Dominant
-agreed r Dominant h e = let b = leb-false 16384 r (beq_same (leb 16384 r) false e) in ap (λ t. plus (level_of t) Dominant) (low r b)
-agreed r Recessive h e = let b = leb-true 16384 r (beq_same (leb 16384 r) true e) in ap (λ t. plus (level_of t) Recessive) (high r h b)
+pub register-agreed : (r : ℕ) (x : Level) → r < 2 ^ 15 → beq (leb 16384 r) (is_recessive x) ≡ true → bits_of 15 (moved 1 r) ≡ register (bits_of 15 r) (x ∷ [])
+register-agreed r x h e =
+    let long : 15 ≤ length (bits_of 15 (moved 1 r)) = omega (arith, length-bits_of 15 (moved 1 r)) in
+    sym (xor_zeros (bits_of 15 (moved 1 r)) 15 long) ∙ ap (xor (bits_of 15 (moved 1 r))) (sym (ap crc_of (highest_sum r x true h e) ∙ crc_of-dominant))
+    ∙ sym (register-moved 14 1 r (x ∷ []) refl refl)
 
--- they differ
-pub differed : (r : ℕ) (x : Level) → r < 2 ^ 15 → beq (leb 16384 r) (is_recessive x) ≡ false → plus (level_of (bit_at r 14)) x ≡ Recessive
-differed r Dominant h e = let b = leb-true 16384 r (beq_other (leb 16384 r) false e) in ap (λ t. plus (level_of t) Dominant) (high r h b)
-differed r Recessive h e = let b = leb-false 16384 r (beq_other (leb 16384 r) true e) in ap (λ t. plus (level_of t) Recessive) (low r b)
+pub register-differed : (r : ℕ) (x : Level) → r < 2 ^ 15 → beq (leb 16384 r) (is_recessive x) ≡ false → bits_of 15 (bit_xor (moved 1 r) 0x4599) ≡ register (bits_of 15 r) (x ∷ [])
+register-differed r x h e = register-entry 14 1 r 0x4599 (x ∷ []) refl refl (sym (ap crc_of (highest_sum r x false h e) ∙ crc_of-recessive))
 
--- where the register is next after the levels b, it goes on over what follows them
-pub register_on : (r next : ℕ) (b c : List Level) → bits_of 15 next ≡ reduced (length b) (xor (bits_of 15 r) (b ++ none 15)) → register (bits_of 15 next) c ≡ register (bits_of 15 r) (b ++ c)
-register_on r next b c h = ap (λ t. register t c) (h ∙ register-reduced b (bits_of 15 r) (length-bits_of 15 r)) ∙ sym (register-append (bits_of 15 r) b c)
+-- Loops over levels.
 
--- where it has gone over all levels, it is the check sequence
-pub register_ended : (r i : ℕ) (levels : List Level) → length levels ≤ i → register (bits_of 15 r) (drop i levels) ≡ crc_of levels → bits_of 15 r ≡ crc_of levels
-register_ended r i levels h e = ap (register (bits_of 15 r)) (sym (drop_all i levels h)) ∙ e
+-- where the register is next behind the levels b, it goes on over what follows them
+pub register_on : (r next : ℕ) (b c : List Level) → bits_of 15 next ≡ register (bits_of 15 r) b → register (bits_of 15 next) c ≡ register (bits_of 15 r) (b ++ c)
+register_on r next b c h = ap (λ t. register t c) h ∙ sym (register-append (bits_of 15 r) b c)
+
+-- where nothing is left to go over, it is what it ends as
+pub register_ended : (r i : ℕ) (levels end : List Level) → length levels ≤ i → register (bits_of 15 r) (drop i levels) ≡ end → bits_of 15 r ≡ end
+register_ended r i levels end h e = sym (register-nil (bits_of 15 r) (length-bits_of 15 r)) ∙ ap (register (bits_of 15 r)) (sym (drop_all i levels h)) ∙ e

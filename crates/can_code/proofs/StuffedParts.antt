@@ -1,7 +1,6 @@
 -- Complete stuffed parts: none begins another, and they are what spelled lists and shapes begin with.
-use Rattle.std.proofs.Common.{◌≡◌, ℕ, suc, ◌+◌, ◌≤◌, Bool, true, false, List, [], ◌∷◌, ◌++◌, length, take, drop, refl, sym, ◌∙◌, ap, subst, arith, inl, inr, cond}
-use Rattle.std.proofs.lemmas.List.{append-nil, take-append-le, take-append-drop, take_at}
-use Rattle.std.proofs.lemmas.Bool.{cases_lt, cond-false}
+use Rattle.std.proofs.Common.{◌≡◌, ℕ, suc, ◌+◌, ◌≤◌, Bool, true, false, List, [], ◌∷◌, ◌++◌, length, take, drop, refl, sym, ◌∙◌, ap, subst, arith, cond}
+use Rattle.std.proofs.lemmas.List.{take-append-le, take-append-drop, take_at}
 use Rattle.can_frame.specs.declared.level.Level.{Level}
 use Rattle.can_frame.specs.declared.level.Level.TheVariants.{Recessive}
 use Rattle.can_code.specs.Crc.{IsCrc}
@@ -9,8 +8,8 @@ use Rattle.can_code.specs.Stuffing.{is_stuff_place, kept, Stuffs}
 use Rattle.can_code.specs.Wire.{tail}
 use Rattle.can_code.specs.Heard.{HeardParts, ack_slot, heard_head, Spells, IsStuffedPart}
 use Rattle.can_code.specs.Layout.{level_at, IsComplete, heard_of, check_of}
-use Rattle.can_code.proofs.StuffPlaces.{is_stuff_place-append, kept-append, kept-within}
-use Rattle.can_code.proofs.LayoutLengths.{frame_len_ge, IsComplete-ends}
+use Rattle.can_code.proofs.LayoutLengths.{frame_len_ge}
+use Rattle.can_code.proofs.StuffedFronts.{Stuffs-once}
 use Rattle.can_code.proofs.LayoutRead.{heard_head-complete}
 use Rattle.can_code.proofs.LayoutWrite.{IsHeard-heard_of, heard_head-heard_of, length-check_of}
 
@@ -49,39 +48,17 @@ IsStuffedPart-from u s acked last part = record {
   stuffed = subst (λ t. Stuffs t s) (heard_head-heard_of u acked last part.complete) part.stuffs;
 }
 
--- a stuffed list that goes on behind another is that of a list that goes on
-Stuffs-front : (u v b t : List Level) → Stuffs u b → Stuffs v (b ++ t) → (w : List Level) × (v ≡ u ++ w) × (w ≡ [] → t ≡ [])
-Stuffs-front u v b [] s r = ([], sym r.rest ∙ (ap (λ z. kept z 0 z) (append-nil b) ∙ s.rest ∙ sym (append-nil u)), λ e. refl)
-Stuffs-front u v b (y ∷ t) s r =
-    let more = b ++ y ∷ t in
-    let e : 0 + length b ≡ length b = omega arith in
-    let w = kept more (length b) (y ∷ t) in
-    let whole : kept more 0 more ≡ u ++ w =
-    kept-append more b (y ∷ t) 0 ∙ ap (λ k. kept more 0 b ++ kept more k (y ∷ t)) e ∙ ap (λ z. z ++ w) (kept-within b (y ∷ t) b 0 (omega arith) ∙ s.rest) in
-    let free : is_stuff_place more (length b) ≡ false = is_stuff_place-append b (y ∷ t) (length b) (omega arith) ∙ s.end in
-    let some : w ≡ y ∷ kept more (length b + 1) t = cond-false (is_stuff_place more (length b)) (kept more (length b + 1) t) (y ∷ kept more (length b + 1) t) free in
-    (w, sym r.rest ∙ whole, λ n. let bad : [] ≡ y ∷ kept more (length b + 1) t = sym n ∙ some in cc)
-
 -- of two fronts of one list the shorter begins the longer
 pub front_of : (b d x y : List Level) → b ++ x ≡ d ++ y → length b ≤ length d → d ≡ b ++ drop (length b) d
 front_of b d x y same shorter =
     let front : b ≡ take (length b) d = sym (take_at b x (length b) refl) ∙ ap (take (length b)) same ∙ take-append-le (length b) d y shorter in
     sym (take-append-drop (length b) d) ∙ ap (λ t. t ++ drop (length b) d) (sym front)
 
-shorter_once : (u v b d x y : List Level) → IsPart u b → IsPart v d → b ++ x ≡ d ++ y → length b ≤ length d → (u ≡ v) × (b ≡ d)
-shorter_once u v b d x y p q same shorter =
-    let more = drop (length b) d in
-    let whole = front_of b d x y same shorter in
-    let front = Stuffs-front u v b more p.stuffs (subst (Stuffs v) whole q.stuffs) in
-    let none = IsComplete-ends u front.0 p.complete (subst IsComplete front.1 q.complete) in
-    (sym (append-nil u) ∙ ap (λ t. u ++ t) (sym none) ∙ sym front.1, sym (append-nil b) ∙ ap (λ t. b ++ t) (sym (front.2 none)) ∙ sym whole)
-
 -- at most one complete stuffed part stands at the front of a list
 pub IsPart-once : (u v b d x y : List Level) → IsPart u b → IsPart v d → b ++ x ≡ d ++ y → (u ≡ v) × (b ≡ d)
-IsPart-once u v b d x y p q same = elim (cases_lt (length b) (length d)) [
-  | inl less ↦ shorter_once u v b d x y p q same (omega arith)
-  | inr more ↦ let r = shorter_once v u d b y x q p (sym same) more in (sym r.0, sym r.1)
-]
+IsPart-once u v b d x y p q same =
+    let one = Stuffs-once u v b d x y p.complete q.complete p.stuffs q.stuffs same in
+    (sym p.stuffs.rest ∙ ap (λ z. kept z 0 z) one ∙ q.stuffs.rest, one)
 
 -- the stuffed part of a spelled list, and its check sequence
 pub Spells-part : (h : HeardParts) (w : List Level) → Spells h w

@@ -44,6 +44,15 @@ xor_zeros l zero h = xor_nil l
 xor_zeros [] (suc n) h = absurd (omega arith)
 xor_zeros (x ∷ l) (suc n) h = let e = plus_zero x in let t = xor_zeros l n (omega arith) in cc
 
+-- a longer list of dominant bits lengthens a list
+pub xor_zeros_longer : (l : List Level) (n : ℕ) → xor l (replicate (length l + n) Dominant) ≡ l ++ replicate n Dominant
+xor_zeros_longer [] n = ap (λ k. replicate k Dominant) (let e : 0 + n ≡ n = omega arith in e)
+xor_zeros_longer (x ∷ l) n =
+    let e : suc (length l) + n ≡ suc (length l + n) = omega arith in
+    let p = plus_zero x in
+    let t = xor_zeros_longer l n in
+    ap (λ k. xor (x ∷ l) (replicate k Dominant)) e ∙ cc
+
 pub xor_self : (l : List Level) → xor l l ≡ replicate (length l) Dominant
 xor_self [] = refl
 xor_self (x ∷ l) = let e = plus_self x in let t = xor_self l in cc

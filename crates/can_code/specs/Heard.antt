@@ -1,12 +1,14 @@
--- What is heard of a frame on the bus, and how it is spelled.
+-- What is heard of a frame on the bus, and how it is spelled. (Bosch CAN 2.0 part B, sections 3.2.1 and 5)
 use Rattle.std.specs.Prelude.{◌≡◌, ◌/◌, ◌^◌, Bool, true, false, if◌then◌else◌, List, ◌∷◌, ◌++◌, length}
+use Rattle.std.specs.Bool.{beq}
 use Rattle.std.specs.List.{flat_map}
+use Rattle.std.specs.Ordering.{on, eq_of_both}
 use Rattle.can_frame.specs.declared.level.Level.{Level}
 use Rattle.can_frame.specs.declared.level.Level.TheVariants.{Dominant, Recessive}
-use Rattle.can_frame.specs.Levels.{bits_of, level_from}
-use Rattle.can_frame.specs.Parts.{Parts, IsFrame}
-use Rattle.can_code.specs.Stuffing.{Stuffs}
-use Rattle.can_code.specs.Crc.{IsCrc}
+use Rattle.can_frame.specs.Levels.{is_recessive, bits_of, level_from}
+use Rattle.can_frame.specs.Parts.{Parts, IsFrame, same_parts}
+use Rattle.can_code.specs.Stuffing.{Stuffs, stuffed}
+use Rattle.can_code.specs.Crc.{IsCrc, crc_of}
 use Rattle.can_code.specs.Wire.{tail, IsSpelling}
 
 -- a frame, and the levels that a receiver takes at either value
@@ -23,6 +25,13 @@ pub record IsHeard (h : HeardParts) : Type 0 where
   pub frame : IsFrame h.frame
   pub srr : h.frame.id.extended ≡ false → h.srr ≡ Recessive
   pub r1 : h.frame.id.extended ≡ false → h.r1 ≡ Dominant
+
+-- whether two agree in all their parts
+abbrev pub same_heard : HeardParts → HeardParts → Bool
+same_heard =
+    eq_of_both (on (λ h. h.frame) same_parts)
+    (eq_of_both (on (λ h. is_recessive h.srr) beq)
+    (eq_of_both (on (λ h. is_recessive h.r1) beq) (eq_of_both (on (λ h. is_recessive h.r0) beq) (eq_of_both (on (λ h. h.acked) beq) (on (λ h. is_recessive h.last) beq)))))
 
 -- what is heard where all is sent and acknowledged as it should be
 abbrev pub sent : Parts → HeardParts
@@ -48,6 +57,10 @@ ack_slot acked = if acked then Dominant else Recessive
 pub record Spells (h : HeardParts) (w : List Level) : Type 0 where
   pub heard : IsHeard h
   pub spelling : IsSpelling (heard_head h) (ack_slot h.acked) h.last w
+
+-- the levels that spell h, computed
+unfoldable pub spelling : HeardParts → List Level
+spelling h = stuffed (heard_head h ++ crc_of (heard_head h)) ++ tail (ack_slot h.acked) h.last
 
 -- s is the complete stuffed part of a frame with these fifteen bits in the place of the check sequence
 pub record IsStuffedPart (h : HeardParts) (check s : List Level) : Type 0 where

@@ -1,4 +1,4 @@
--- Bit stuffing, by places in the finished list. (Bosch CAN 2.0 part B, section 5)
+-- Bit stuffing, by places in the finished list. (Bosch CAN 2.0 part B, section 6)
 use Rattle.std.specs.Prelude.{ℕ, ◌≡◌, ◌≢◌, ◌+◌, ◌-◌, ◌<◌, ◌==◌, Bool, true, false, ◌&&◌, if◌then◌else◌, List, [], ◌∷◌, length, take, reverse, slice_index_or}
 use Rattle.can_frame.specs.declared.level.Level.{Level}
 use Rattle.can_frame.specs.declared.level.Level.TheVariants.{Dominant}
@@ -31,12 +31,13 @@ pub record Stuffs (a b : List Level) : Type 0 where
 abbrev pub run_after : Level → ℕ → Level → ℕ
 run_after last run x = if same x last then run + 1 else 1
 
--- The list with its stuff bits, computed: behind a run of this level and length.
+-- the list with its stuff bits, computed, behind a run of this level and length
 abbrev pub stuffed_from : Level → ℕ → List Level → List Level
 stuffed_from last run [] = []
 stuffed_from last run (x ∷ xs) =
     if run_after last run x == 5 then x ∷ opposite x ∷ stuffed_from (opposite x) 1 xs
     else x ∷ stuffed_from x (run_after last run x) xs
 
+-- the list with its stuff bits, computed
 unfoldable pub stuffed : List Level → List Level
 stuffed a = stuffed_from Dominant 0 a

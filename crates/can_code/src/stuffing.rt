@@ -10,7 +10,7 @@ use can_frame::Level;
 pub(crate) const LONGEST_RUN: u8 = 5;
 
 /// The levels with their stuff bits: behind five equal levels, stuff bits counted among them,
-/// stands one of the other level. (Bosch CAN 2.0 part B, section 5)
+/// stands one of the other level. (Bosch CAN 2.0 part B, section 6)
 pub fn stuff(levels: &[Level]) -> ArrayVec<Level, 147>
     requires { length levels.now ≤ 118 }
     ensures stuffs { Stuffs levels.now result.items }

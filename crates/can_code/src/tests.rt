@@ -1,20 +1,34 @@
 use crate::layout::head;
-use crate::{crc15, encode, stuff};
+use crate::{Heard, crc15, encode, respell, stuff};
 use arrayvec::ArrayVec;
 use can_frame::{Frame, Id, Level};
 use std::test::Fail;
 
+mod heard;
+
 /// A list of levels that can be longer than any frame's.
 type Levels = ArrayVec<Level, 200>;
 
-/// The levels of a text of `0` and `1`.
-fn levels_of(text: &str) -> Levels {
-    let mut levels = ArrayVec::new();
+/// Appends the levels of a text of `0` and `1`.
+fn push_levels(levels: &mut Levels, text: &str) {
     for byte in text.bytes() {
         if !levels.is_full() {
             levels.push(Level::from_bool(byte == b'1'));
         }
     }
+}
+
+/// The levels of a text of `0` and `1`.
+fn levels_of(text: &str) -> Levels {
+    let mut levels = ArrayVec::new();
+    push_levels(&mut levels, text);
+    levels
+}
+
+/// The levels of a stuffed part and of the tail behind it.
+fn spelled(stuffed_part: &str, tail: &str) -> Levels {
+    let mut levels = levels_of(stuffed_part);
+    push_levels(&mut levels, tail);
     levels
 }
 
@@ -104,15 +118,11 @@ fn frames(rt: HostRuntime) -> Result<(), Fail> {
     ];
     for (frame, check, stuffed, len) in &rows {
         let levels = encode(frame);
-        let mut expected = levels_of(*stuffed);
-        for _ in 0..10 {
-            if !expected.is_full() {
-                expected.push(Level::Recessive);
-            }
-        }
-        assert_eq!(rt; crc15(&head(frame)), *check);
+        let sent = Heard::sent(*frame);
+        assert_eq!(rt; crc15(&head(&sent)), *check);
         assert_eq!(rt; levels.len(), *len);
-        assert!(rt; levels.as_slice() == expected.as_slice());
+        assert!(rt; levels.as_slice() == spelled(*stuffed, "1111111111").as_slice());
+        assert!(rt; respell(&sent).as_slice() == spelled(*stuffed, "1011111111").as_slice());
     }
     Ok(())
 }
@@ -121,7 +131,7 @@ fn frames(rt: HostRuntime) -> Result<(), Fail> {
 fn data_length_codes(rt: HostRuntime) -> Result<(), Fail> {
     for (dlc, bits) in [(12, "1100"), (8, "1000")] {
         let frame = Frame::data(standard(0x000)?, dlc, &[0; 8])?;
-        let levels = head(&frame);
+        let levels = head(&Heard::sent(frame));
         let code = levels.as_slice().get(15..19).ok_or("four levels")?;
         assert!(rt; code == levels_of(bits).as_slice());
     }

@@ -1,16 +1,24 @@
 -- The arbitration field, by which the frames that start together are sorted out.
-use Rattle.std.specs.Prelude.{ℕ, ◌≡◌, ◌/◌, ◌^◌, if◌then◌else◌, List, [], ◌∷◌, ◌++◌, take, slice_get, Some}
+use Rattle.std.specs.Prelude.{ℕ, Bool, ◌≡◌, ◌/◌, ◌^◌, if◌then◌else◌, List, [], ◌∷◌, ◌++◌, take, slice_get, Some}
+use Rattle.std.specs.declared.cmp.Ordering.{Ordering}
+use Rattle.std.specs.Ordering.{bool_cmp, on}
+use Rattle.std.specs.Cmp.Lexicographic.{slice_cmp}
 use Rattle.can_frame.specs.declared.level.Level.{Level}
 use Rattle.can_frame.specs.declared.level.Level.TheVariants.{Dominant, Recessive}
-use Rattle.can_frame.specs.Levels.{level_from, bits_of}
+use Rattle.can_frame.specs.Levels.{is_recessive, level_from, bits_of}
 use Rattle.can_frame.specs.Parts.{Parts}
 
--- Standard: identifier, RTR, IDE. Extended: the identifier's eleven highest bits, SRR, IDE, its other
--- bits, RTR. (Bosch CAN 2.0 part B, section 3.2.1)
+-- Standard: identifier, RTR, IDE. (Bosch CAN 2.0 part B, section 3.2.1)
+abbrev pub standard_field : ℕ → Bool → List Level
+standard_field raw remote = bits_of 11 raw ++ level_from remote ∷ Dominant ∷ []
+
+-- Extended: the identifier's eleven highest bits, SRR, IDE, its other bits, RTR.
+abbrev pub extended_field : ℕ → Bool → List Level
+extended_field raw remote = bits_of 11 (raw / 2 ^ 18) ++ Recessive ∷ Recessive ∷ (bits_of 18 raw ++ level_from remote ∷ [])
+
+-- the field of a frame
 unfoldable pub arbitration_field : Parts → List Level
-arbitration_field f =
-    if f.id.extended then bits_of 11 (f.id.raw / 2 ^ 18) ++ Recessive ∷ Recessive ∷ (bits_of 18 f.id.raw ++ level_from f.remote ∷ [])
-    else bits_of 11 f.id.raw ++ level_from f.remote ∷ Dominant ∷ []
+arbitration_field f = if f.id.extended then extended_field f.id.raw f.remote else standard_field f.id.raw f.remote
 
 -- at the first place where the lists differ a is dominant
 pub record Before (a b : List Level) : Type 0 where
@@ -18,3 +26,11 @@ pub record Before (a b : List Level) : Type 0 where
   pub same : take place a ≡ take place b
   pub low : slice_get a place ≡ Some Dominant
   pub high : slice_get b place ≡ Some Recessive
+
+-- the order of two levels: dominant is the lesser
+abbrev pub level_cmp : Level → Level → Ordering
+level_cmp = on is_recessive bool_cmp
+
+-- the order of two fields: that of their first levels that differ
+abbrev pub field_cmp : List Level → List Level → Ordering
+field_cmp = slice_cmp level_cmp

@@ -3,4 +3,7 @@ pub mod Ident
 pub mod Parts
 pub mod Stored
 pub mod Arbitration
+pub mod LevelNumbers
+pub mod KeyBits
+pub mod Kept
 pub mod Text

@@ -1,6 +1,9 @@
 -- What a contract sees of a frame: the parts that its getters tell.
-use Rattle.std.specs.Prelude.{◌≡◌, ℕ, Bool, ◌<◌, min, if◌then◌else◌, List, length, slice_index}
-use Rattle.can_frame.specs.Ident.{Ident, IsIdent}
+use Rattle.std.specs.Prelude.{◌≡◌, ℕ, Bool, ◌<◌, ◌==◌, min, if◌then◌else◌, List, length, slice_index}
+use Rattle.std.specs.Bool.{beq}
+use Rattle.std.specs.Cmp.Lexicographic.{pointwise}
+use Rattle.std.specs.Ordering.{on, eq_of_both}
+use Rattle.can_frame.specs.Ident.{Ident, IsIdent, same_ident}
 
 pub record Parts : Type 0 where
   pub id : Ident
@@ -18,3 +21,9 @@ pub record IsFrame (f : Parts) : Type 0 where
   pub dlc : f.dlc < 16
   pub count : length f.bytes ≡ byte_count f.remote f.dlc
   pub small : (k : ℕ) → slice_index f.bytes k < 256
+
+-- whether two frames agree in all their parts
+abbrev pub same_parts : Parts → Parts → Bool
+same_parts =
+    eq_of_both (on (λ f. f.id) same_ident)
+    (eq_of_both (on (λ f. f.remote) beq) (eq_of_both (on (λ f. f.dlc) ◌==◌) (on (λ f. f.bytes) (pointwise ◌==◌))))

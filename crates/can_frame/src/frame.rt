@@ -1,5 +1,7 @@
 ghost use Rattle.std.specs.Prelude.{◌≡◌, ◌≢◌, ◌<◌, ◌≤◌, ◌↔◌, [], min, length, IfOk, IsErrOf, IsOk, IsTrue, true, false, ℕ, slice_index, take};
-ghost use Rattle.can_frame.specs.Parts.{byte_count, IsFrame};
+ghost use Rattle.std.proofs.Common.{rules};
+ghost use Rattle.std.specs.Cmp.Rules.{comparing};
+ghost use Rattle.can_frame.specs.Parts.{byte_count, IsFrame, same_parts};
 
 use crate::id::Id;
 use std::marker::Model;
@@ -43,6 +45,26 @@ impl Model for Frame {
     ghost inverse_ok = { λ a h. ap (λ bytes. record { id = a.id; remote = a.remote; dlc = a.dlc; store = bytes }) (stored_again (byte_count a.remote a.dlc) a.store (byte_count_le a.remote a.dlc) h.1 h.2) };
 }
 
+impl PartialEq for Frame {
+    ghost eq = { same_parts };
+
+    ghost laws = { Prim.search (comparing, rules) depth 9 };
+
+    fn eq(&self, other: &Frame) -> bool
+        ensures test { result ≡ same_parts self.now other.now }
+        ensures equal { IsTrue result ↔ (self.now ≡ other.now) }
+    {
+        self.id == other.id
+            && self.remote == other.remote
+            && self.dlc == other.dlc
+            && self.bytes() == other.bytes()
+    }
+}
+
+impl Eq for Frame {
+    ghost laws = { Prim.search (comparing, rules) depth 9 };
+}
+
 impl Frame {
     /// The data frame of these parts. A DLC of 9 to 15 is kept as it is and means eight bytes.
     /// The DLC is tested before the number of bytes. (Bosch CAN 2.0 part B, section 3.2.1)
@@ -52,10 +74,10 @@ impl Frame {
         ensures made { IsOk result ↔ ((dlc ≤ 15) × (length bytes.now ≡ min dlc 8)) }
         ensures parts { IfOk result (λ f. f ≡ record { id = id; remote = false; dlc = dlc; bytes = bytes.now }) }
     {
+        let count = bytes.len();
         if dlc > 15 {
             return Err(FrameFault::DlcAbove15);
         }
-        let count = bytes.len();
         if count != usize::from(dlc).min(8) {
             return Err(FrameFault::WrongByteCount);
         }
@@ -125,6 +147,7 @@ impl Frame {
         } else {
             usize::from(self.dlc).min(8)
         };
+        // Who reads the identifier's number knows its range.
         let _ = self.id.raw();
         front(&self.store, count)
     }

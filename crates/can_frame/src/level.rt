@@ -2,7 +2,7 @@ ghost use Rattle.std.specs.Prelude.{◌≡◌};
 ghost use Rattle.can_frame.specs.Levels.{is_recessive, level_from, opposite};
 
 /// The level of the bus, or of what one port drives, in one bit time (Bosch CAN 2.0 part B,
-/// section 1). Dominant is the lesser level: it is the bit 0, and overrides recessive.
+/// section 2). Dominant is the lesser level: it is the bit 0, and overrides recessive.
 #[derive(Clone, Copy, Debug, Default, PartialEq, Eq, PartialOrd, Ord)]
 pub enum Level {
     /// The bit 0.

@@ -4,7 +4,7 @@ use Rattle.std.proofs.lemmas.Nat.{xor_lt}
 use mathlib.Core.Bool.{beq}
 use Rattle.std.proofs.Math.Dec.{leb}
 use Rattle.can_frame.specs.Levels.{is_recessive}
-use Rattle.can_code.proofs.RegisterWord.{step_plain, step_fed_back, agreed, differed}
+use Rattle.can_code.proofs.RegisterWord.{register-agreed, register-differed}
 use Rattle.can_code.proofs.crc.shift_in.Goals as goal
 
 pub returns-then-highest-is_recessive-clause-range : goal.returns-then-highest-is_recessive-clause-range
@@ -13,7 +13,7 @@ returns-then-highest-is_recessive-clause-range c = mask_lt (c.args.register * 2 
 pub returns-then-highest-is_recessive-clause-step : goal.returns-then-highest-is_recessive-clause-step
 returns-then-highest-is_recessive-clause-step c =
     let e : beq (leb 16384 c.args.register) (is_recessive c.args.level) ≡ true = cc in
-    step_plain c.args.register c.args.level (agreed c.args.register c.args.level c.requires e)
+    register-agreed c.args.register c.args.level c.requires e
 
 pub returns-else-highest-is_recessive-clause-range : goal.returns-else-highest-is_recessive-clause-range
 returns-else-highest-is_recessive-clause-range c =
@@ -22,4 +22,4 @@ returns-else-highest-is_recessive-clause-range c =
 pub returns-else-highest-is_recessive-clause-step : goal.returns-else-highest-is_recessive-clause-step
 returns-else-highest-is_recessive-clause-step c =
     let e : beq (leb 16384 c.args.register) (is_recessive c.args.level) ≡ false = cc in
-    step_fed_back c.args.register c.args.level (differed c.args.register c.args.level c.requires e)
+    register-differed c.args.register c.args.level c.requires e
