@@ -26,6 +26,7 @@ pub mod SpellingLemmas
 pub mod StuffedFronts
 pub mod SpellingFronts
 -- levels as they are heard
+pub mod ReadingLemmas
 pub mod FrontLemmas
 pub mod PlainLemmas
 pub mod StuffedParts

@@ -1,13 +1,13 @@
 -- The front of a frame as it is heard, level by level: from the start of frame to the end of the stuffed
 -- part. (Bosch CAN 2.0 part B, sections 3.2.1 and 5)
-use Rattle.std.specs.Prelude.{ℕ, ◌≡◌, ◌<◌, ◌≤◌, ◌==◌, Option, Some, None, Bool, ◌&&◌, if◌then◌else◌, List, [], ◌∷◌, ◌++◌, length, take}
+use Rattle.std.specs.Prelude.{ℕ, ◌≡◌, ◌≤◌, ◌==◌, Bool, ◌&&◌, if◌then◌else◌, List, [], ◌∷◌, ◌++◌, length, take}
 use Rattle.can_frame.specs.declared.level.Level.{Level}
 use Rattle.can_frame.specs.declared.level.Level.TheVariants.{Dominant}
 use Rattle.can_frame.specs.Levels.{same}
 use Rattle.can_code.specs.declared.front.Place.{Place}
 use Rattle.can_code.specs.declared.front.Place.TheVariants.{StuffBit, Bit, CrcDelimiter}
 use Rattle.can_code.specs.Stuffing.{run_after}
-use Rattle.can_code.specs.Layout.{extended_of, data_place, frame_len}
+use Rattle.can_code.specs.Layout.{frame_len}
 
 -- what has been heard of a frame: its unstuffed levels, the start of frame first; the last level, stuff
 -- bits among them; and how many levels up to it, in a row, equal it
@@ -46,8 +46,3 @@ pub record IsFront (f : FrontParts) : Type 0 where
   pub within : length f.unstuffed ≤ frame_len f.unstuffed
   pub some : 1 ≤ f.run
   pub short : f.run ≤ 5
-
--- The length of the frame that begins with u, where u tells it: from the end of the data length code on.
-abbrev pub TellsLength : List Level → Option ℕ → Type 0
-TellsLength u None = length u < data_place (extended_of u)
-TellsLength u (Some n) = (data_place (extended_of u) ≤ length u) × (n ≡ frame_len u)

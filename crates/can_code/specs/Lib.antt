@@ -3,5 +3,6 @@ pub mod Stuffing
 pub mod Wire
 pub mod Heard
 pub mod Layout
+pub mod Reading
 pub mod Front
 pub mod CodeFaults

@@ -1,10 +1,11 @@
 ghost use Rattle.std.specs.Prelude.{◌≡◌, ◌≢◌, ◌<◌, ◌↔◌, length, IsTrue, IsErr, OnOk, OnErr};
 ghost use Rattle.can_code.specs.Crc.{IsCrc};
-ghost use Rattle.can_code.specs.Layout.{check_of, extended_of, head_of};
+ghost use Rattle.can_code.specs.Layout.{check_of, extended_of, head_of, heard_of};
 ghost use Rattle.can_code.specs.Front.{IsFront, first_front, heard_level, is_stuff_error, next_place as next_place_of};
 
 use crate::frame_bits::FrameBits;
-use crate::reading::{frame_len, is_extended};
+use crate::heard::Heard;
+use crate::reading::{frame_len, heard, is_extended};
 use crate::stuffing::{LONGEST_RUN, run_after};
 use can_frame::Level;
 use std::marker::Model;
@@ -37,7 +38,8 @@ pub struct Front<B: FrameBits> {
 }
 
 impl<B: FrameBits> Model for Front<B> {
-    ghost use Rattle.can_code.specs.Front.{FrontParts, IsFront, TellsLength};
+    ghost use Rattle.can_code.specs.Reading.{TellsLength};
+    ghost use Rattle.can_code.specs.Front.{FrontParts, IsFront};
 
     ghost Value = { FrontParts };
 
@@ -126,5 +128,15 @@ impl<B: FrameBits> Front<B> {
     {
         let _ = self.run;
         self.bits.check_agrees()
+    }
+
+    /// What has been heard, with the levels behind the stuffed part: whether the frame was
+    /// acknowledged, and the last level of the end of frame.
+    pub fn heard(&self, acked: bool, last: Level) -> Heard
+        requires { next_place_of self.now ≡ Place.CrcDelimiter }
+        ensures { result ≡ heard_of self.now.unstuffed acked last }
+    {
+        let _ = self.run;
+        heard(&self.bits, acked, last)
     }
 }
