@@ -15,7 +15,8 @@ use Rattle.can_code.proofs.Runs.{EndsInRun, EndsInRun-nil, EndsInRun-push, is_du
 use Rattle.can_code.proofs.StuffingLemmas.{Stuffed, Stuffed-more}
 use Rattle.can_code.proofs.LayoutLengths.{IsComplete-completed}
 use Rattle.can_code.proofs.FrontLemmas.{IsFront-first_front, IsFront-start, IsFront-complete, IsFront-stuff_bit, IsFront-bit, next_place-ended, next_place-partial, next_place-complete}
-use Rattle.can_code.proofs.StuffedParts.{IsPart, IsPart-once, front_of}
+use Rattle.can_code.specs.Reading.{IsPart}
+use Rattle.can_code.proofs.StuffedParts.{IsPart-once, front_of}
 
 -- f is the front that the levels b make
 pub record IsFrontOf (b : List Level) (f : FrontParts) : Type 0 where

@@ -33,6 +33,8 @@ pub mod StuffedParts
 pub mod FrontsOf
 pub mod SoundLemmas
 pub mod CodeFaultLemmas
+pub mod DecodingLemmas
+pub mod TailLemmas
 -- known values
 pub mod LayoutRows
 pub mod Rows

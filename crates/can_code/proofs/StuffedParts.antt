@@ -7,16 +7,12 @@ use Rattle.can_code.specs.Crc.{IsCrc}
 use Rattle.can_code.specs.Stuffing.{is_stuff_place, kept, Stuffs}
 use Rattle.can_code.specs.Wire.{tail}
 use Rattle.can_code.specs.Heard.{HeardParts, ack_slot, heard_head, Spells, IsStuffedPart}
-use Rattle.can_code.specs.Layout.{level_at, IsComplete, heard_of, check_of}
+use Rattle.can_code.specs.Layout.{level_at, heard_of, check_of}
+use Rattle.can_code.specs.Reading.{IsPart}
 use Rattle.can_code.proofs.LayoutLengths.{frame_len_ge}
 use Rattle.can_code.proofs.StuffedFronts.{Stuffs-once}
 use Rattle.can_code.proofs.LayoutRead.{heard_head-complete}
 use Rattle.can_code.proofs.LayoutWrite.{IsHeard-heard_of, heard_head-heard_of, length-check_of}
-
--- b is a complete stuffed part, and u its unstuffed levels
-pub record IsPart (u b : List Level) : Type 0 where
-  pub complete : IsComplete u
-  pub stuffs : Stuffs u b
 
 length-kept-le : (b : List Level) (p : ℕ) (xs : List Level) → length (kept b p xs) ≤ length xs
 length-kept-le b p [] = omega arith

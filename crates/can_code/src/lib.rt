@@ -33,6 +33,7 @@
 #![tactic(auto)]
 
 mod crc;
+mod decoding;
 mod encoding;
 mod fault;
 mod frame_bits;
@@ -48,6 +49,7 @@ mod stuffing;
 mod tests;
 
 pub use crc::crc15;
+pub use decoding::decode;
 pub use encoding::encode;
 pub use fault::{CodeFault, CodeFaultKind};
 pub use frame_bits::FrameBits;

@@ -16,14 +16,16 @@ const IDE_PLACE: usize = 13;
 /// How far the data stand behind the RTR bit.
 const RTR_TO_DATA: usize = 7;
 
-/// Where the SRR bit and the reserved bit r1 of an extended frame stand.
+/// Where the SRR bit of an extended frame stands.
 const SRR_PLACE: usize = 12;
 
+/// Where the reserved bit r1 of an extended frame stands.
 const R1_PLACE: usize = 33;
 
-/// The part of an extended identifier that stands behind the IDE bit.
+/// Where the rest of an extended identifier stands, behind the IDE bit.
 const EXTENSION_PLACE: usize = 14;
 
+/// How many bits of an extended identifier stand there.
 const EXTENSION_BITS: usize = 18;
 
 /// How many unstuffed levels the frame has that begins with these, if they tell it.
