@@ -8,14 +8,17 @@ use Rattle.can_code.specs.Heard.{HeardParts, IsHeard, sent, heard_head, ack_slot
 use Rattle.can_code.proofs.LayoutHead.{heard_head-sent, length-heard_head-le}
 use Rattle.can_code.proofs.WireLemmas.{stuffed_with_check, spelling_of, IsSpelling-spelling_of, IsSpelling-only, length-stuffed_with_check-le, length-spelling_of-le, wire-spelling_of, driven-spelling_of}
 
+-- the spelling is that of the head, with its tail
 pub spelling-spelling_of : (h : HeardParts) → spelling h ≡ spelling_of (heard_head h) (ack_slot h.acked) h.last
 unfolding spelling
 spelling-spelling_of h = refl
 
+-- what is computed spells
 pub Spells-spelling : (h : HeardParts) → IsHeard h → Spells h (spelling h)
 unfolding spelling
 Spells-spelling h is = record { heard = is; spelling = IsSpelling-spelling_of (heard_head h) (ack_slot h.acked) h.last }
 
+-- and nothing else does
 pub Spells-only : (h : HeardParts) (w : List Level) → Spells h w → w ≡ spelling h
 unfolding spelling
 Spells-only h w s = IsSpelling-only (heard_head h) (ack_slot h.acked) h.last w s.spelling
@@ -29,6 +32,7 @@ module _ (h : HeardParts) (is : IsHeard h) where
       by true s p = omega arith
       by false s p = omega arith
 
+  -- the longest spelling of each format
   pub length-spelling-le : length (spelling h) ≤ cond h.frame.id.extended 157 132
   unfolding spelling
   length-spelling-le = length-spelling_of-le h.frame.id.extended (heard_head h) (ack_slot h.acked) h.last (length-heard_head-le h is.frame)

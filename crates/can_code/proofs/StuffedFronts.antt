@@ -42,6 +42,7 @@ Stuffs-ends u v b (y ∷ t) p q s r =
     let none : y ∷ more.0 ≡ [] = IsComplete-ends u (y ∷ more.0) p (subst IsComplete more.1 q) in
     cc
 
+-- so two that begin one list are one
 pub Stuffs-once : (u v b d x y : List Level) → IsComplete u → IsComplete v → Stuffs u b → Stuffs v d → b ++ x ≡ d ++ y → b ≡ d
 Stuffs-once u v b d x y p q s r same = elim (fronts b d x y same) [
   | inl longer ↦

@@ -19,6 +19,7 @@ stuffed_with_check u = stuffed (u ++ crc_of u)
 abbrev pub spelling_of : List Level → Level → Level → List Level
 spelling_of u ack last = stuffed_with_check u ++ tail ack last
 
+-- it spells
 pub IsSpelling-spelling_of : (u : List Level) (ack last : Level) → IsSpelling u ack last (spelling_of u ack last)
 IsSpelling-spelling_of u ack last = record {
   check = crc_of u;
@@ -28,6 +29,7 @@ IsSpelling-spelling_of u ack last = record {
   whole = refl;
 }
 
+-- and nothing else does
 pub IsSpelling-only : (u : List Level) (ack last : Level) (w : List Level) → IsSpelling u ack last w → w ≡ spelling_of u ack last
 IsSpelling-only u ack last w s =
     let check : s.check ≡ crc_of u = IsCrc-only u s.check s.is_check in
@@ -55,6 +57,7 @@ length-spelling_of-le extended u ack last h =
     by true s n p q = omega arith
     by false s n p q = omega arith
 
+-- the wire of a frame, and what its sender drives, are spellings of its head
 pub wire-spelling_of : (f : Parts) → wire f ≡ spelling_of (head f) Dominant Recessive
 unfolding stuffed_part
 wire-spelling_of f = refl

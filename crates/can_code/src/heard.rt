@@ -13,8 +13,8 @@ const SUBSTITUTE_REMOTE_REQUEST: Level = Level::Recessive;
 /// The reserved bits r1 and r0 as they are sent.
 const RESERVED: Level = Level::Dominant;
 
-/// The last level of the end of frame as it is sent.
-const END_OF_FRAME: Level = Level::Recessive;
+/// Each of the seven levels of the end of frame as it is sent.
+pub(crate) const END_OF_FRAME: Level = Level::Recessive;
 
 /// A frame as it is heard on the bus: the frame itself, and the levels that a receiver takes at
 /// either value. (Bosch CAN 2.0 part B, sections 3.2.1 and 5)

@@ -4,7 +4,7 @@ ghost use Rattle.can_frame.specs.declared.level.Level.{Level as Bit};
 ghost use Rattle.can_code.specs.Wire.{tail};
 ghost use Rattle.can_code.specs.Heard.{ack_slot, Spells, spelling};
 
-use crate::heard::Heard;
+use crate::heard::{END_OF_FRAME, Heard};
 use crate::layout::head_and_crc;
 use crate::stuffing::stuff_onto;
 use arrayvec::ArrayVec;
@@ -12,9 +12,6 @@ use can_frame::Level;
 
 /// The CRC delimiter and the ACK delimiter.
 const DELIMITER: Level = Level::Recessive;
-
-/// Each level of the end of frame but the last.
-const END: Level = Level::Recessive;
 
 /// The levels that spell what is heard, one for each bit time, from the start of frame to the end
 /// of frame. Their CRC sequence is that of the levels that were heard. (Bosch CAN 2.0 part B,
@@ -44,8 +41,9 @@ fn push_tail(levels: &mut ArrayVec<Level, 157>, heard: &Heard)
         Level::Recessive
     };
     let last = heard.last();
+    let end = END_OF_FRAME;
     let tail = [
-        DELIMITER, ack_slot, DELIMITER, END, END, END, END, END, END, last,
+        DELIMITER, ack_slot, DELIMITER, end, end, end, end, end, end, last,
     ];
     for level in tail {
         levels.push(level);
