@@ -4,6 +4,7 @@ use arrayvec::ArrayVec;
 use can_frame::{Frame, Id, Level};
 use std::test::Fail;
 
+mod decoding;
 mod heard;
 
 /// A list of levels that can be longer than any frame's.
@@ -69,54 +70,38 @@ fn stuff_bits(rt: HostRuntime) {
     }
 }
 
+/// The CRC sequence of each known frame, its stuffed part, and how many levels it has on the wire.
+const KNOWN_WIRES: [(u16, &str, usize); 7] = [
+    (0x0000, "0000010000010000010000010000010000010000", 50),
+    (0x2213, "0000010000010100000100010001000010011", 47),
+    (0x7c20, "000001000100100000100111110000011000001", 49),
+    (0x07c2, "000001000001001001000001001111100000110", 49),
+    (0x6858, "00010010001100000100110100001011000", 45),
+    (0x1b9d, "00010010001110000010001101110011101", 45),
+    (
+        0x5e37,
+        "00010010001111000001000001000001000001000001101111000110111",
+        69,
+    ),
+];
+
+/// The known frames, in the order of their wires.
+fn known_frames() -> Result<[Frame; 7], Fail> {
+    let extended = Id::extended(0x048c_0000).ok_or("an identifier of 29 bits")?;
+    Ok([
+        Frame::data(standard(0x000)?, 0, &[])?,
+        Frame::data(standard(0x001)?, 0, &[])?,
+        Frame::data(standard(0x009)?, 0, &[])?,
+        Frame::remote(standard(0x000)?, 8)?,
+        Frame::data(standard(0x123)?, 0, &[])?,
+        Frame::remote(standard(0x123)?, 0)?,
+        Frame::data(extended, 0, &[])?,
+    ])
+}
+
 #[test]
 fn frames(rt: HostRuntime) -> Result<(), Fail> {
-    let extended = Id::extended(0x048c_0000).ok_or("an identifier of 29 bits")?;
-    let rows = [
-        (
-            Frame::data(standard(0x000)?, 0, &[])?,
-            0x0000,
-            "0000010000010000010000010000010000010000",
-            50,
-        ),
-        (
-            Frame::data(standard(0x001)?, 0, &[])?,
-            0x2213,
-            "0000010000010100000100010001000010011",
-            47,
-        ),
-        (
-            Frame::data(standard(0x009)?, 0, &[])?,
-            0x7c20,
-            "000001000100100000100111110000011000001",
-            49,
-        ),
-        (
-            Frame::remote(standard(0x000)?, 8)?,
-            0x07c2,
-            "000001000001001001000001001111100000110",
-            49,
-        ),
-        (
-            Frame::data(standard(0x123)?, 0, &[])?,
-            0x6858,
-            "00010010001100000100110100001011000",
-            45,
-        ),
-        (
-            Frame::remote(standard(0x123)?, 0)?,
-            0x1b9d,
-            "00010010001110000010001101110011101",
-            45,
-        ),
-        (
-            Frame::data(extended, 0, &[])?,
-            0x5e37,
-            "00010010001111000001000001000001000001000001101111000110111",
-            69,
-        ),
-    ];
-    for (frame, check, stuffed, len) in &rows {
+    for (frame, (check, stuffed, len)) in known_frames()?.iter().zip(&KNOWN_WIRES) {
         let levels = encode(frame);
         let sent = Heard::sent(*frame);
         assert_eq!(rt; crc15(&head(&sent)), *check);
