@@ -12,8 +12,29 @@ pub mod StuffPlaces
 pub mod Runs
 pub mod OneStuffing
 pub mod StuffingLemmas
--- frames
-pub mod HeadLemmas
+-- the layout of unstuffed levels
+pub mod LayoutNumbers
+pub mod LayoutPlaces
+pub mod LayoutBytes
+pub mod LayoutLengths
+pub mod LayoutHead
+pub mod LayoutRead
+pub mod LayoutWrite
+-- frames and what is heard of them
 pub mod WireLemmas
+pub mod SpellingLemmas
+pub mod StuffedFronts
+pub mod SpellingFronts
+-- levels as they are heard
+pub mod ReadingLemmas
+pub mod FrontLemmas
+pub mod PlainLemmas
+pub mod StuffedParts
+pub mod FrontsOf
+pub mod SoundLemmas
+pub mod CodeFaultLemmas
+pub mod DecodingLemmas
+pub mod TailLemmas
 -- known values
+pub mod LayoutRows
 pub mod Rows

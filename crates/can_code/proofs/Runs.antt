@@ -99,6 +99,9 @@ module _ (b : List Level) (last : Level) (run : ℕ) (h : EndsInRun b last run) 
 pub run_after-le : (last : Level) (run : ℕ) (x : Level) → run_after last run x ≤ run + 1
 run_after-le last run x = elim (same x last) as (λ t. cond t (run + 1) 1 ≤ run + 1) [ true ↦ omega arith | false ↦ omega arith ]
 
+pub run_after-ge : (last : Level) (run : ℕ) (x : Level) → 1 ≤ run_after last run x
+run_after-ge last run x = elim (same x last) as (λ t. 1 ≤ cond t (run + 1) 1) [ true ↦ omega arith | false ↦ omega arith ]
+
 pub same_opposite : (y : Level) → same (opposite y) y ≡ false
 same_opposite Dominant = refl
 same_opposite Recessive = refl

@@ -6,63 +6,75 @@ use Rattle.can_frame.specs.Parts.{Parts, IsFrame}
 use Rattle.can_code.specs.Crc.{crc_of}
 use Rattle.can_code.specs.Stuffing.{stuffed}
 use Rattle.can_code.specs.Wire.{head, tail, IsSpelling, stuffed_part, wire, driven}
+use Rattle.can_code.specs.Heard.{sent}
 use Rattle.can_code.proofs.DivisionLemmas.{length-crc_of, IsCrc-crc_of, IsCrc-only}
 use Rattle.can_code.proofs.StuffingLemmas.{length-stuffed, Stuffs-stuffed, stuffed-only}
-use Rattle.can_code.proofs.HeadLemmas.{length-head-le}
+use Rattle.can_code.proofs.LayoutHead.{heard_head-sent, length-heard_head-le}
+
+-- u with its check sequence, stuffed
+abbrev pub stuffed_with_check : List Level → List Level
+stuffed_with_check u = stuffed (u ++ crc_of u)
 
 -- the spelling of u with this tail
-abbrev pub spelling : List Level → Level → Level → List Level
-spelling u ack last = stuffed (u ++ crc_of u) ++ tail ack last
+abbrev pub spelling_of : List Level → Level → Level → List Level
+spelling_of u ack last = stuffed_with_check u ++ tail ack last
 
-pub IsSpelling-spelling : (u : List Level) (ack last : Level) → IsSpelling u ack last (spelling u ack last)
-IsSpelling-spelling u ack last = record {
+-- it spells
+pub IsSpelling-spelling_of : (u : List Level) (ack last : Level) → IsSpelling u ack last (spelling_of u ack last)
+IsSpelling-spelling_of u ack last = record {
   check = crc_of u;
   is_check = IsCrc-crc_of u;
-  stuffed = stuffed (u ++ crc_of u);
+  stuffed = stuffed_with_check u;
   is_stuffed = Stuffs-stuffed (u ++ crc_of u);
   whole = refl;
 }
 
-pub IsSpelling-only : (u : List Level) (ack last : Level) (w : List Level) → IsSpelling u ack last w → w ≡ spelling u ack last
+-- and nothing else does
+pub IsSpelling-only : (u : List Level) (ack last : Level) (w : List Level) → IsSpelling u ack last w → w ≡ spelling_of u ack last
 IsSpelling-only u ack last w s =
     let check : s.check ≡ crc_of u = IsCrc-only u s.check s.is_check in
     let only : s.stuffed ≡ stuffed (u ++ s.check) = stuffed-only (u ++ s.check) s.stuffed s.is_stuffed in
     s.whole ∙ ap (λ b. b ++ tail ack last) (only ∙ ap (λ c. stuffed (u ++ c)) check)
 
-pub wire-spelling : (f : Parts) → wire f ≡ spelling (head f) Dominant Recessive
-unfolding stuffed_part
-wire-spelling f = refl
+-- the longest stuffed part, of a head that is as long as the longest of its format
+pub length-stuffed_with_check-le : (extended : Bool) (u : List Level) → length u ≤ cond extended 103 83 → length (stuffed_with_check u) ≤ cond extended 147 122
+length-stuffed_with_check-le extended u h =
+    let whole = u ++ crc_of u in
+    let size : length whole ≡ length u + 15 = omega (arith, length-append u (crc_of u), length-crc_of u) in
+    by extended (length u) (length (stuffed whole)) h (omega (arith, length-stuffed whole))
+  where
+    by : (e : Bool) (n s : ℕ) → n ≤ cond e 103 83 → 4 * s ≤ 5 * (n + 15) → s ≤ cond e 147 122
+    by true n s p q = omega arith
+    by false n s p q = omega arith
 
-pub driven-spelling : (f : Parts) → driven f ≡ spelling (head f) Recessive Recessive
-unfolding stuffed_part
-driven-spelling f = refl
+-- and with ten levels of tail
+pub length-spelling_of-le : (extended : Bool) (u : List Level) (ack last : Level) → length u ≤ cond extended 103 83 → length (spelling_of u ack last) ≤ cond extended 157 132
+length-spelling_of-le extended u ack last h =
+    let part = stuffed_with_check u in
+    by extended (length part) (length (spelling_of u ack last)) (length-stuffed_with_check-le extended u h) (length-append part (tail ack last))
+  where
+    by : (e : Bool) (s n : ℕ) → s ≤ cond e 147 122 → n ≡ s + 10 → n ≤ cond e 157 132
+    by true s n p q = omega arith
+    by false s n p q = omega arith
 
-pub stuffed_part-from : (f : Parts) (u : List Level) → u ≡ head f ++ crc_of (head f) → stuffed u ≡ stuffed_part f
+-- the wire of a frame, and what its sender drives, are spellings of its head
+pub wire-spelling_of : (f : Parts) → wire f ≡ spelling_of (head f) Dominant Recessive
 unfolding stuffed_part
-stuffed_part-from f u e = ap stuffed e
+wire-spelling_of f = refl
 
+pub driven-spelling_of : (f : Parts) → driven f ≡ spelling_of (head f) Recessive Recessive
+unfolding stuffed_part
+driven-spelling_of f = refl
+
+-- the parts of a frame are no longer than those of the longest frame of its format
 module _ (f : Parts) (h : IsFrame f) where
+  pub length-head-le : length (head f) ≤ cond f.id.extended 103 83
+  length-head-le = omega (arith, length-heard_head-le (sent f) h, ap length (heard_head-sent f))
+
   pub length-stuffed_part-le : length (stuffed_part f) ≤ cond f.id.extended 147 122
   unfolding stuffed_part
-  length-stuffed_part-le =
-      let u = head f ++ crc_of (head f) in
-      let size : length u ≡ length (head f) + 15 = omega (arith, length-append (head f) (crc_of (head f)), length-crc_of (head f)) in
-      by f.id.extended (length (head f)) (length (stuffed u)) (length-head-le f h) (omega (arith, length-stuffed u))
-    where
-      by : (e : Bool) (n s : ℕ) → n ≤ cond e 103 83 → 4 * s ≤ 5 * (n + 15) → s ≤ cond e 147 122
-      by true n s p q = omega arith
-      by false n s p q = omega arith
-
-  pub length-stuffed_part-most : length (stuffed_part f) ≤ 147
-  length-stuffed_part-most = by f.id.extended (length (stuffed_part f)) length-stuffed_part-le
-    where
-      by : (e : Bool) (s : ℕ) → s ≤ cond e 147 122 → s ≤ 147
-      by true s p = omega arith
-      by false s p = omega arith
+  length-stuffed_part-le = length-stuffed_with_check-le f.id.extended (head f) length-head-le
 
   pub length-wire-le : length (wire f) ≤ cond f.id.extended 157 132
-  length-wire-le = by f.id.extended (length (stuffed_part f)) (length (wire f)) length-stuffed_part-le (length-append (stuffed_part f) (tail Dominant Recessive))
-    where
-      by : (e : Bool) (s n : ℕ) → s ≤ cond e 147 122 → n ≡ s + 10 → n ≤ cond e 157 132
-      by true s n p q = omega arith
-      by false s n p q = omega arith
+  unfolding stuffed_part
+  length-wire-le = length-spelling_of-le f.id.extended (head f) Dominant Recessive length-head-le

@@ -1,17 +1,12 @@
-ghost use Rattle.std.specs.Prelude.{◌≡◌, ◌+◌, ◌≤◌, ◌++◌, if◌then◌else◌, List, length};
-ghost use Rattle.arrayvec.specs.ArrayVec.{array_vec_len};
+ghost use Rattle.std.specs.Prelude.{◌≡◌, ◌≤◌, if◌then◌else◌, List, length};
 ghost use Rattle.can_frame.specs.declared.level.Level.{Level as Bit};
 ghost use Rattle.can_frame.specs.declared.level.Level.TheVariants.{Recessive};
-ghost use Rattle.can_code.specs.Wire.{head, driven, stuffed_part, wire, tail, IsSpelling};
+ghost use Rattle.can_code.specs.Wire.{head, driven, stuffed_part, wire, IsSpelling};
 
-use crate::layout::head_and_crc;
-use crate::stuffing::stuff_onto;
+use crate::heard::Heard;
+use crate::spelling::respell;
 use arrayvec::ArrayVec;
 use can_frame::{Frame, Level};
-
-/// The levels behind the stuffed part as the sender drives them: CRC delimiter, ACK slot, ACK
-/// delimiter, and seven levels of end of frame. The receivers make the ACK slot dominant.
-const DRIVEN_TAIL: [Level; 10] = [Level::Recessive; 10];
 
 /// The levels of a frame as its sender drives them, one for each bit time, from the start of
 /// frame to the end of frame. (Bosch CAN 2.0 part B, section 3.2.1)
@@ -25,19 +20,5 @@ pub fn encode(frame: &Frame) -> ArrayVec<Level, 157>
     ensures stuffed_bound { length (stuffed_part frame.now) ≤ (if frame.now.id.extended then 147 else 122) }
     ensures wire_bound { length (wire frame.now) ≤ (if frame.now.id.extended then 157 else 132) }
 {
-    let unstuffed = head_and_crc(frame);
-    let mut levels = ArrayVec::new();
-    stuff_onto(&mut levels, &unstuffed);
-    push_driven_tail(&mut levels);
-    levels
-}
-
-/// Appends the ten levels of the tail.
-fn push_driven_tail(levels: &mut ArrayVec<Level, 157>)
-    requires { array_vec_len levels.old ≤ 147 }
-    ensures { levels.new.items ≡ levels.old.items ++ tail Recessive Recessive }
-{
-    for level in DRIVEN_TAIL {
-        levels.push(level);
-    }
+    respell(&Heard::unacknowledged(*frame))
 }

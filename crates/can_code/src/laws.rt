@@ -5,6 +5,7 @@ ghost use Rattle.can_frame.specs.Parts.{Parts};
 ghost use Rattle.can_code.specs.Crc.{IsCrc, crc_of};
 ghost use Rattle.can_code.specs.Stuffing.{Stuffs, stuffed};
 ghost use Rattle.can_code.specs.Wire.{head, IsSpelling, wire};
+ghost use Rattle.can_code.specs.Heard.{HeardParts, IsHeard, sent, Spells, spelling};
 
 /// Each list of levels has exactly one CRC sequence.
 pub fn one_check_sequence()
@@ -22,4 +23,22 @@ pub fn one_stuffing()
 pub fn one_wire()
     ensures exists { (f : Parts) → IsSpelling (head f) Dominant Recessive (wire f) }
     ensures only { (f : Parts) (w : List Bit) → IsSpelling (head f) Dominant Recessive w → w ≡ wire f }
+{}
+
+/// What is heard of a frame has exactly one spelling. Where all is as it should be, that is the
+/// frame's wire.
+pub fn one_spelling()
+    ensures exists { (h : HeardParts) → IsHeard h → Spells h (spelling h) }
+    ensures only { (h : HeardParts) (w : List Bit) → Spells h w → w ≡ spelling h }
+    ensures sent { (f : Parts) → spelling (sent f) ≡ wire f }
+{}
+
+/// A list of levels spells at most one.
+pub fn one_heard()
+    ensures { (h g : HeardParts) (w : List Bit) → Spells h w → Spells g w → h ≡ g }
+{}
+
+/// No spelling begins another: where two begin one list of levels, they are one.
+pub fn no_spelling_begins_another()
+    ensures { (h g : HeardParts) (v w x y : List Bit) → Spells h v → Spells g w → v ++ x ≡ w ++ y → (h ≡ g) × (v ≡ w) }
 {}

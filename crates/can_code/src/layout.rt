@@ -1,21 +1,18 @@
-ghost use Rattle.std.specs.Prelude.{◌≡◌, ◌+◌, ◌*◌, ◌≤◌, ◌++◌, length};
+ghost use Rattle.std.specs.Prelude.{◌≡◌, ◌+◌, ◌*◌, ◌/◌, ◌^◌, ◌≤◌, [], ◌∷◌, ◌++◌, length};
 ghost use Rattle.std.specs.List.{flat_map};
 ghost use Rattle.arrayvec.specs.ArrayVec.{array_vec_len};
-ghost use Rattle.can_frame.specs.Levels.{bits_of};
-ghost use Rattle.can_frame.specs.Parts.{IsFrame};
-ghost use Rattle.can_frame.specs.Arbitration.{arbitration_field};
+ghost use Rattle.can_frame.specs.declared.level.Level.TheVariants.{Dominant, Recessive};
+ghost use Rattle.can_frame.specs.Levels.{level_from, bits_of};
 ghost use Rattle.can_code.specs.Crc.{crc_of};
-ghost use Rattle.can_code.specs.Wire.{head as head_of, reserved as reserved_of};
+ghost use Rattle.can_code.specs.Heard.{IsHeard, heard_head, data_field};
 
 use crate::crc::crc15;
+use crate::heard::Heard;
 use arrayvec::ArrayVec;
 use can_frame::{Frame, Level};
 
 /// The start of frame (SOF).
 const START_OF_FRAME: Level = Level::Dominant;
-
-/// The SRR bit, which stands in an extended frame where a standard one has RTR.
-const SUBSTITUTE_REMOTE_REQUEST: Level = Level::Recessive;
 
 /// The IDE bit of a standard frame.
 const STANDARD_FORMAT: Level = Level::Dominant;
@@ -23,69 +20,81 @@ const STANDARD_FORMAT: Level = Level::Dominant;
 /// The IDE bit of an extended frame.
 const EXTENDED_FORMAT: Level = Level::Recessive;
 
-/// The reserved bits r0 and r1 as they are sent.
-const RESERVED: Level = Level::Dominant;
-
 /// Room for the unstuffed levels of the longest frame, up to the end of its CRC sequence.
 pub(crate) type Unstuffed = ArrayVec<Level, 118>;
 
-/// The unstuffed levels of a frame from the start of frame to the end of its CRC sequence.
-pub(crate) fn head_and_crc(frame: &Frame) -> Unstuffed
-    ensures items { result.items ≡ head_of frame.now ++ crc_of (head_of frame.now) }
-    ensures whole { IsFrame frame.now }
+/// The unstuffed levels of what is heard, from the start of frame to the end of the CRC sequence.
+pub(crate) fn head_and_crc(heard: &Heard) -> Unstuffed
+    ensures items { result.items ≡ heard_head heard.now ++ crc_of (heard_head heard.now) }
+    ensures whole { IsHeard heard.now }
 {
-    let mut levels = head(frame);
+    let mut levels = head(heard);
     let check = crc15(&levels);
     push_bits(&mut levels, u32::from(check), 15);
     levels
 }
 
-/// The unstuffed levels of a frame from the start of frame to the end of its data.
-pub(crate) fn head(frame: &Frame) -> Unstuffed
-    ensures items { result.items ≡ head_of frame.now }
+/// The unstuffed levels of what is heard, from the start of frame to the end of the data.
+pub(crate) fn head(heard: &Heard) -> Unstuffed
+    ensures items { result.items ≡ heard_head heard.now }
     ensures room { array_vec_len result ≤ 103 }
-    ensures whole { IsFrame frame.now }
+    ensures whole { IsHeard heard.now }
 {
+    let frame = heard.frame();
     let mut levels = ArrayVec::new();
     levels.push(START_OF_FRAME);
-    push_arbitration_field(&mut levels, frame);
-    push_reserved(&mut levels, frame);
-    push_bits(&mut levels, u32::from(frame.dlc()), 4);
-    push_bytes(&mut levels, frame.bytes());
+    if frame.is_extended() {
+        push_extended_format(&mut levels, heard);
+    } else {
+        push_standard_format(&mut levels, heard);
+    }
+    let r0 = heard.r0();
+    levels.push(r0);
+    push_data_field(&mut levels, &frame);
     levels
 }
 
-/// Appends the identifier with SRR, IDE and RTR.
-fn push_arbitration_field(levels: &mut Unstuffed, frame: &Frame)
+/// Appends what stands between the start of frame and r0 in a standard frame: identifier, RTR and
+/// IDE.
+fn push_standard_format(levels: &mut Unstuffed, heard: &Heard)
     requires { array_vec_len levels.old ≤ 1 }
-    ensures items { levels.new.items ≡ levels.old.items ++ arbitration_field frame.now }
-    ensures room { array_vec_len levels.new ≤ 33 }
+    ensures items { let frame = heard.now.frame in
+        levels.new.items ≡ levels.old.items ++ (bits_of 11 frame.id.raw ++ level_from frame.remote ∷ Dominant ∷ []) }
+    ensures room { array_vec_len levels.new ≤ 34 }
 {
-    let id = frame.id();
-    let rtr = Level::from_bool(frame.is_remote());
-    if id.is_extended() {
-        push_bits(levels, id.raw() >> 18, 11);
-        levels.push(SUBSTITUTE_REMOTE_REQUEST);
-        levels.push(EXTENDED_FORMAT);
-        push_bits(levels, id.raw(), 18);
-        levels.push(rtr);
-    } else {
-        push_bits(levels, id.raw(), 11);
-        levels.push(rtr);
-        levels.push(STANDARD_FORMAT);
-    }
+    let frame = heard.frame();
+    push_bits(levels, frame.id().raw(), 11);
+    levels.push(Level::from_bool(frame.is_remote()));
+    levels.push(STANDARD_FORMAT);
 }
 
-/// Appends the reserved bits: r1 and r0 of an extended frame, else r0.
-fn push_reserved(levels: &mut Unstuffed, frame: &Frame)
-    requires { array_vec_len levels.old ≤ 33 }
-    ensures items { levels.new.items ≡ levels.old.items ++ reserved_of frame.now }
-    ensures room { array_vec_len levels.new ≤ 35 }
+/// The same in an extended frame: the identifier with SRR and IDE behind its eleven highest bits,
+/// RTR and r1.
+fn push_extended_format(levels: &mut Unstuffed, heard: &Heard)
+    requires { array_vec_len levels.old ≤ 1 }
+    ensures items { let frame = heard.now.frame in
+        levels.new.items ≡ levels.old.items
+        ++ (bits_of 11 (frame.id.raw / 2 ^ 18) ++ heard.now.srr ∷ Recessive ∷ (bits_of 18 frame.id.raw ++ level_from frame.remote ∷ heard.now.r1 ∷ [])) }
+    ensures room { array_vec_len levels.new ≤ 34 }
 {
-    levels.push(RESERVED);
-    if frame.is_extended() {
-        levels.push(RESERVED);
-    }
+    let frame = heard.frame();
+    let number = frame.id().raw();
+    push_bits(levels, number >> 18, 11);
+    levels.push(heard.srr());
+    levels.push(EXTENDED_FORMAT);
+    push_bits(levels, number, 18);
+    levels.push(Level::from_bool(frame.is_remote()));
+    levels.push(heard.r1());
+}
+
+/// Appends the DLC and the data bytes.
+fn push_data_field(levels: &mut Unstuffed, frame: &Frame)
+    requires { array_vec_len levels.old ≤ 35 }
+    ensures items { levels.new.items ≡ levels.old.items ++ data_field frame.now }
+    ensures room { array_vec_len levels.new ≤ 103 }
+{
+    push_bits(levels, u32::from(frame.dlc()), 4);
+    push_bytes(levels, frame.bytes());
 }
 
 /// Appends the bits of each byte, the highest first.

@@ -1,35 +1,63 @@
-//! The coding of frames for the wire: what a sender makes of a frame.
+//! The coding of frames for the wire: what a sender makes of a frame, and what spells a frame as it is
+//! heard.
 //!
 //! A frame's `head` (start of frame, identifier, control field, data) is followed by its CRC
 //! sequence; the two are bit stuffed, and a tail of ten levels that is never stuffed ends the
-//! frame. (Bosch CAN 2.0 part B, sections 3.2.1 and 6)
+//! frame. (Bosch CAN 2.0 part B, sections 3.2.1 and 6) A receiver takes a few of these levels at
+//! either value: with them the frame is [`Heard`].
 //!
 //! | File | What it has | Defined in |
 //! |---|---|---|
 //! | `crc.rt` | [`crc15`], the CRC sequence | `specs/Crc.antt` |
 //! | `stuffing.rt` | [`stuff`], the stuff bits | `specs/Stuffing.antt` |
-//! | `layout.rt` | the head of a frame and its CRC sequence, unstuffed | `specs/Wire.antt` |
-//! | `encoding.rt` | [`encode`], the levels of a frame | `specs/Wire.antt` |
-//! | `laws.rt` | that a CRC sequence, a stuffed list and a frame's wire exist and are unique | all three |
+//! | `heard.rt` | [`Heard`], a frame as it is heard | `specs/Heard.antt` |
+//! | `layout.rt` | the head and the CRC sequence of what is heard, unstuffed | `specs/Heard.antt` |
+//! | `spelling.rt` | [`respell`], the levels that spell what is heard | `specs/Heard.antt` |
+//! | `encoding.rt` | [`encode`], the levels that the sender of a frame drives | `specs/Wire.antt` |
+//! | `frame_bits.rt` | [`FrameBits`], the unstuffed levels that have been heard of a frame | `specs/Layout.antt` |
+//! | `plain_bits.rt` | [`PlainBits`], these levels one by one | |
+//! | `reading.rt` | what the unstuffed levels tell of the frame | `specs/Layout.antt` |
+//! | `front.rt` | [`Front`], a frame up to the end of its stuffed part, heard level by level | `specs/Front.antt` |
+//! | `fault.rt` | [`CodeFault`], why levels begin with no frame | `specs/CodeFaults.antt` |
+//! | `laws.rt` | that a CRC sequence, a stuffed list, a frame's wire and a spelling exist and are unique, and that no spelling begins another | |
 //!
 //! Each is defined twice: by a relation that says what it is (the generator divides it, a stuff
 //! bit stands behind five equal levels), and by a function that computes it. The calls promise
 //! that the two agree.
 //!
 //! Crates above find lemmas in `proofs/`: how a stuffed list grows level by level (`StuffPlaces`,
-//! `Runs`, `StuffingLemmas`), that it is unique (`OneStuffing`), how long each part is
-//! (`HeadLemmas`, `WireLemmas`), and how a check sequence grows (`Register`).
+//! `Runs`, `StuffingLemmas`), that it is unique (`OneStuffing`) and begins no other's
+//! (`StuffedFronts`), what unstuffed levels tell (`LayoutLengths`, `LayoutRead`, `LayoutWrite`), how
+//! long each part is (`LayoutHead`, `WireLemmas`, `SpellingLemmas`), and how a check sequence grows
+//! (`Register`).
 #![tactic(auto)]
 
 mod crc;
+mod decoding;
 mod encoding;
+mod fault;
+mod frame_bits;
+mod front;
+mod heard;
 mod laws;
 mod layout;
+mod plain_bits;
+mod reading;
+mod spelling;
 mod stuffing;
 #[cfg(test)]
 mod tests;
 
 pub use crc::crc15;
+pub use decoding::decode;
 pub use encoding::encode;
-pub use laws::{one_check_sequence, one_stuffing, one_wire};
+pub use fault::{CodeFault, CodeFaultKind};
+pub use frame_bits::FrameBits;
+pub use front::{Front, Place, StuffError};
+pub use heard::Heard;
+pub use laws::{
+    no_spelling_begins_another, one_check_sequence, one_heard, one_spelling, one_stuffing, one_wire,
+};
+pub use plain_bits::PlainBits;
+pub use spelling::respell;
 pub use stuffing::stuff;

@@ -7,7 +7,7 @@ use arrayvec::ArrayVec;
 use can_frame::Level;
 
 /// How many equal levels in a row are followed by a stuff bit.
-const LONGEST_RUN: u8 = 5;
+pub(crate) const LONGEST_RUN: u8 = 5;
 
 /// The levels with their stuff bits: behind five equal levels, stuff bits counted among them,
 /// stands one of the other level. (Bosch CAN 2.0 part B, section 6)
@@ -42,7 +42,7 @@ pub(crate) fn stuff_onto<const N: usize>(stuffed: &mut ArrayVec<Level, N>, level
 }
 
 /// The length of the run that `level` ends, behind a run of `last`.
-fn run_after(last: Level, run: u8, level: Level) -> u8
+pub(crate) fn run_after(last: Level, run: u8, level: Level) -> u8
     requires { run < 5 }
     ensures { result ≡ run_after_of last run level }
 {

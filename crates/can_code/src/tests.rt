@@ -1,20 +1,35 @@
 use crate::layout::head;
-use crate::{crc15, encode, stuff};
+use crate::{Heard, crc15, encode, respell, stuff};
 use arrayvec::ArrayVec;
 use can_frame::{Frame, Id, Level};
 use std::test::Fail;
 
+mod decoding;
+mod heard;
+
 /// A list of levels that can be longer than any frame's.
 type Levels = ArrayVec<Level, 200>;
 
-/// The levels of a text of `0` and `1`.
-fn levels_of(text: &str) -> Levels {
-    let mut levels = ArrayVec::new();
+/// Appends the levels of a text of `0` and `1`.
+fn push_levels(levels: &mut Levels, text: &str) {
     for byte in text.bytes() {
         if !levels.is_full() {
             levels.push(Level::from_bool(byte == b'1'));
         }
     }
+}
+
+/// The levels of a text of `0` and `1`.
+fn levels_of(text: &str) -> Levels {
+    let mut levels = ArrayVec::new();
+    push_levels(&mut levels, text);
+    levels
+}
+
+/// The levels of a stuffed part and of the tail behind it.
+fn spelled(stuffed_part: &str, tail: &str) -> Levels {
+    let mut levels = levels_of(stuffed_part);
+    push_levels(&mut levels, tail);
     levels
 }
 
@@ -55,64 +70,44 @@ fn stuff_bits(rt: HostRuntime) {
     }
 }
 
+/// The CRC sequence of each known frame, its stuffed part, and how many levels it has on the wire.
+const KNOWN_WIRES: [(u16, &str, usize); 7] = [
+    (0x0000, "0000010000010000010000010000010000010000", 50),
+    (0x2213, "0000010000010100000100010001000010011", 47),
+    (0x7c20, "000001000100100000100111110000011000001", 49),
+    (0x07c2, "000001000001001001000001001111100000110", 49),
+    (0x6858, "00010010001100000100110100001011000", 45),
+    (0x1b9d, "00010010001110000010001101110011101", 45),
+    (
+        0x5e37,
+        "00010010001111000001000001000001000001000001101111000110111",
+        69,
+    ),
+];
+
+/// The known frames, in the order of their wires.
+fn known_frames() -> Result<[Frame; 7], Fail> {
+    let extended = Id::extended(0x048c_0000).ok_or("an identifier of 29 bits")?;
+    Ok([
+        Frame::data(standard(0x000)?, 0, &[])?,
+        Frame::data(standard(0x001)?, 0, &[])?,
+        Frame::data(standard(0x009)?, 0, &[])?,
+        Frame::remote(standard(0x000)?, 8)?,
+        Frame::data(standard(0x123)?, 0, &[])?,
+        Frame::remote(standard(0x123)?, 0)?,
+        Frame::data(extended, 0, &[])?,
+    ])
+}
+
 #[test]
 fn frames(rt: HostRuntime) -> Result<(), Fail> {
-    let extended = Id::extended(0x048c_0000).ok_or("an identifier of 29 bits")?;
-    let rows = [
-        (
-            Frame::data(standard(0x000)?, 0, &[])?,
-            0x0000,
-            "0000010000010000010000010000010000010000",
-            50,
-        ),
-        (
-            Frame::data(standard(0x001)?, 0, &[])?,
-            0x2213,
-            "0000010000010100000100010001000010011",
-            47,
-        ),
-        (
-            Frame::data(standard(0x009)?, 0, &[])?,
-            0x7c20,
-            "000001000100100000100111110000011000001",
-            49,
-        ),
-        (
-            Frame::remote(standard(0x000)?, 8)?,
-            0x07c2,
-            "000001000001001001000001001111100000110",
-            49,
-        ),
-        (
-            Frame::data(standard(0x123)?, 0, &[])?,
-            0x6858,
-            "00010010001100000100110100001011000",
-            45,
-        ),
-        (
-            Frame::remote(standard(0x123)?, 0)?,
-            0x1b9d,
-            "00010010001110000010001101110011101",
-            45,
-        ),
-        (
-            Frame::data(extended, 0, &[])?,
-            0x5e37,
-            "00010010001111000001000001000001000001000001101111000110111",
-            69,
-        ),
-    ];
-    for (frame, check, stuffed, len) in &rows {
+    for (frame, (check, stuffed, len)) in known_frames()?.iter().zip(&KNOWN_WIRES) {
         let levels = encode(frame);
-        let mut expected = levels_of(*stuffed);
-        for _ in 0..10 {
-            if !expected.is_full() {
-                expected.push(Level::Recessive);
-            }
-        }
-        assert_eq!(rt; crc15(&head(frame)), *check);
+        let sent = Heard::sent(*frame);
+        assert_eq!(rt; crc15(&head(&sent)), *check);
         assert_eq!(rt; levels.len(), *len);
-        assert!(rt; levels.as_slice() == expected.as_slice());
+        assert!(rt; levels.as_slice() == spelled(*stuffed, "1111111111").as_slice());
+        assert!(rt; respell(&sent).as_slice() == spelled(*stuffed, "1011111111").as_slice());
     }
     Ok(())
 }
@@ -121,7 +116,7 @@ fn frames(rt: HostRuntime) -> Result<(), Fail> {
 fn data_length_codes(rt: HostRuntime) -> Result<(), Fail> {
     for (dlc, bits) in [(12, "1100"), (8, "1000")] {
         let frame = Frame::data(standard(0x000)?, dlc, &[0; 8])?;
-        let levels = head(&frame);
+        let levels = head(&Heard::sent(frame));
         let code = levels.as_slice().get(15..19).ok_or("four levels")?;
         assert!(rt; code == levels_of(bits).as_slice());
     }

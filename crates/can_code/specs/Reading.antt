@@ -1,0 +1,33 @@
+-- How much of a frame has been read.
+use Rattle.std.specs.Prelude.{ℕ, ◌≡◌, ◌+◌, ◌*◌, ◌<◌, ◌≤◌, Option, Some, None, List, length, drop}
+use Rattle.can_frame.specs.declared.level.Level.{Level}
+use Rattle.can_frame.specs.Parts.{byte_count}
+use Rattle.can_code.specs.Crc.{IsCrc}
+use Rattle.can_code.specs.Stuffing.{Stuffs}
+use Rattle.can_code.specs.Layout.{extended_of, remote_of, dlc_of, data_place, bytes_from, frame_len, IsComplete, check_of, head_of}
+
+-- everything before the data
+abbrev pub HasControl : List Level → Type 0
+HasControl u = data_place (extended_of u) ≤ length u
+
+-- all of the data too
+abbrev pub HasData : List Level → Type 0
+HasData u = data_place (extended_of u) + 8 * byte_count (remote_of u) (dlc_of u) ≤ length u
+
+-- the length of the frame, once the levels have everything before the data
+abbrev pub TellsLength : List Level → Option ℕ → Type 0
+TellsLength u None = length u < data_place (extended_of u)
+TellsLength u (Some n) = HasControl u × (n ≡ frame_len u)
+
+-- the data bytes
+abbrev pub bytes_of : List Level → List ℕ
+bytes_of u = bytes_from (byte_count (remote_of u) (dlc_of u)) (drop (data_place (extended_of u)) u)
+
+-- b is a complete stuffed part, and u its unstuffed levels
+pub record IsPart (u b : List Level) : Type 0 where
+  pub complete : IsComplete u
+  pub stuffs : Stuffs u b
+
+-- b is a complete stuffed part, and its check sequence agrees
+abbrev pub IsAgreedPart : List Level → Type 0
+IsAgreedPart b = (u : List Level) × IsPart u b × IsCrc (head_of u) (check_of u)

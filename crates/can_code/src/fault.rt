@@ -1,0 +1,32 @@
+use thiserror::Error;
+
+/// What kind of fault levels have that begin with no frame. (Bosch CAN 2.0 part B, section 7.1)
+#[derive(Clone, Copy, Debug, PartialEq, Eq, Error)]
+pub enum CodeFaultKind {
+    /// The levels end before the frame does.
+    #[error("C1")]
+    Short,
+    /// The first level is recessive.
+    #[error("C2")]
+    NoStartOfFrame,
+    /// A stuff place repeats the level before it.
+    #[error("C3")]
+    Stuff,
+    /// The stuffed part is complete, and its check sequence is wrong.
+    #[error("C4")]
+    Crc,
+    /// The CRC delimiter, the ACK delimiter or one of the first six levels of the end of frame is
+    /// dominant.
+    #[error("C5")]
+    Form,
+}
+
+/// Why levels begin with no frame. It prints as `C5 at 39`.
+#[derive(Clone, Copy, Debug, PartialEq, Eq, Error)]
+#[error("{kind} at {place}")]
+pub struct CodeFault {
+    /// What is wrong.
+    pub kind: CodeFaultKind,
+    /// The number of levels before the first one that is wrong.
+    pub place: usize,
+}

@@ -1,0 +1,142 @@
+ghost use Rattle.std.specs.Prelude.{◌≡◌, ◌≢◌, ◌<◌, ◌↔◌, length, IsTrue, IsErr, OnOk, OnErr};
+ghost use Rattle.can_code.specs.Crc.{IsCrc};
+ghost use Rattle.can_code.specs.Layout.{check_of, extended_of, head_of, heard_of};
+ghost use Rattle.can_code.specs.Front.{IsFront, first_front, heard_level, is_stuff_error, next_place as next_place_of};
+
+use crate::frame_bits::FrameBits;
+use crate::heard::Heard;
+use crate::reading::{frame_len, heard, is_extended};
+use crate::stuffing::{LONGEST_RUN, run_after};
+use can_frame::Level;
+use std::marker::Model;
+use thiserror::Error;
+
+/// What the next level of a frame is.
+#[derive(Clone, Copy, Debug, PartialEq, Eq)]
+pub enum Place {
+    /// A stuff bit.
+    StuffBit,
+    /// A level of the frame, from the start of frame to the end of its CRC sequence.
+    Bit,
+    /// The CRC delimiter: the stuffed part has ended.
+    CrcDelimiter,
+}
+
+/// A stuff place repeats the level before it.
+#[derive(Clone, Copy, Debug, PartialEq, Eq, Error)]
+#[error("a stuff place repeats the level before it")]
+pub struct StuffError;
+
+/// What has been heard of a frame, from its start of frame on.
+#[derive(Drop)]
+pub struct Front<B: FrameBits> {
+    bits: B,
+    last: Level,
+    run: u8,
+    /// How many unstuffed levels the frame has, as soon as they tell it.
+    length: Option<usize>,
+}
+
+impl<B: FrameBits> Model for Front<B> {
+    ghost use Rattle.can_code.specs.Reading.{TellsLength};
+    ghost use Rattle.can_code.specs.Front.{FrontParts, IsFront};
+
+    ghost Value = { FrontParts };
+
+    ghost view = { λ a. record { unstuffed = B.levels a.bits; last = a.last; run = a.run } };
+
+    ghost invariant = { λ a. IsFront (record { unstuffed = B.levels a.bits; last = a.last; run = a.run }) × TellsLength (B.levels a.bits) a.length };
+}
+
+impl<B: FrameBits> Front<B> {
+    /// A frame of which the start of frame alone has been heard.
+    pub fn begin() -> Self
+        ensures { result ≡ first_front }
+    {
+        Front {
+            bits: B::start(),
+            last: Level::Dominant,
+            run: 1,
+            length: None,
+        }
+    }
+
+    /// What the next level is. The stuffed part has ended where the unstuffed levels have their
+    /// whole CRC sequence and no stuff bit is due.
+    pub fn next_place(&self) -> Place
+        ensures place { result ≡ next_place_of self.now }
+        ensures whole { IsFront self.now }
+    {
+        if self.run == LONGEST_RUN {
+            Place::StuffBit
+        } else if self.length == Some(self.bits.len()) {
+            Place::CrcDelimiter
+        } else {
+            Place::Bit
+        }
+    }
+
+    /// Takes one level of the stuffed part.
+    pub fn hear(&mut self, level: Level) -> Result<(), StuffError>
+        requires { next_place_of self.old ≢ Place.CrcDelimiter }
+        ensures error { IsErr result ↔ IsTrue (is_stuff_error self.old level) }
+        ensures ok { OnOk result (self.new ≡ heard_level self.old level) }
+        ensures unchanged { OnErr result (self.new ≡ self.old) }
+    {
+        if self.run == LONGEST_RUN {
+            if level == self.last {
+                return Err(StuffError);
+            }
+            self.run = 1;
+        } else {
+            self.bits.push(level);
+            self.run = run_after(self.last, self.run, level);
+            if self.length.is_none() {
+                self.length = frame_len(&self.bits);
+            }
+        }
+        self.last = level;
+        Ok(())
+    }
+
+    /// How many unstuffed levels have been heard.
+    pub fn len(&self) -> usize
+        ensures { result ≡ length self.now.unstuffed }
+    {
+        self.bits.len()
+    }
+
+    /// The last level, which may be a stuff bit.
+    pub fn last(&self) -> Level
+        ensures { result ≡ self.now.last }
+    {
+        self.last
+    }
+
+    /// Whether the IDE bit, which has been heard, is that of an extended frame.
+    pub fn is_extended(&self) -> bool
+        requires { 13 < length self.now.unstuffed }
+        ensures { result ≡ extended_of self.now.unstuffed }
+    {
+        is_extended(&self.bits)
+    }
+
+    /// Whether the CRC sequence that was heard is that of the levels before it.
+    pub fn check_agrees(&self) -> bool
+        requires { next_place_of self.now ≡ Place.CrcDelimiter }
+        ensures { IsTrue result ↔ IsCrc (head_of self.now.unstuffed) (check_of self.now.unstuffed) }
+    {
+        let _ = self.run;
+        self.bits.check_agrees()
+    }
+
+    /// What has been heard, with the levels behind the stuffed part: whether the frame was
+    /// acknowledged, and the last level of the end of frame.
+    pub fn heard(&self, acked: bool, last: Level) -> Heard
+        requires { next_place_of self.now ≡ Place.CrcDelimiter }
+        ensures { result ≡ heard_of self.now.unstuffed acked last }
+    {
+        let _ = self.run;
+        heard(&self.bits, acked, last)
+    }
+}

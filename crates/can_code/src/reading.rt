@@ -1,0 +1,162 @@
+ghost use Rattle.std.specs.Prelude.{◌≡◌, ◌+◌, ◌<◌, ◌≤◌, length, if◌then◌else◌};
+ghost use Rattle.can_frame.specs.declared.level.Level.TheVariants.{Dominant, Recessive};
+ghost use Rattle.can_frame.specs.Levels.{number_from};
+ghost use Rattle.can_frame.specs.Parts.{byte_count as byte_count_of};
+ghost use Rattle.can_code.specs.Layout.{dlc_of, extended_of, frame_of, heard_of, identifier_of, level_at, remote_of, rtr_place as rtr_place_of};
+ghost use Rattle.can_code.specs.Reading.{HasControl, HasData, TellsLength, bytes_of};
+
+use crate::frame_bits::FrameBits;
+use crate::heard::Heard;
+use arrayvec::ArrayVec;
+use can_frame::{Frame, Id, Level};
+
+/// Where the IDE bit stands.
+const IDE_PLACE: usize = 13;
+
+/// How far the data stand behind the RTR bit.
+const RTR_TO_DATA: usize = 7;
+
+/// Where the SRR bit of an extended frame stands.
+const SRR_PLACE: usize = 12;
+
+/// Where the reserved bit r1 of an extended frame stands.
+const R1_PLACE: usize = 33;
+
+/// Where the rest of an extended identifier stands, behind the IDE bit.
+const EXTENSION_PLACE: usize = 14;
+
+/// How many bits of an extended identifier stand there.
+const EXTENSION_BITS: usize = 18;
+
+/// How many unstuffed levels the frame has that begins with these, if they tell it.
+pub(crate) fn frame_len<B: FrameBits>(bits: &B) -> Option<usize>
+    ensures { TellsLength (B.levels bits.now) result }
+{
+    if bits.len() <= IDE_PLACE {
+        return None;
+    }
+    let data_place = rtr_place(is_extended(bits)) + RTR_TO_DATA;
+    if bits.len() < data_place {
+        return None;
+    }
+    Some(data_place + 8 * byte_count(bits) + 15)
+}
+
+/// Whether the IDE bit is that of an extended frame.
+pub(crate) fn is_extended<B: FrameBits>(bits: &B) -> bool
+    requires { 13 < length (B.levels bits.now) }
+    ensures { result ≡ extended_of (B.levels bits.now) }
+{
+    bits.level_at(IDE_PLACE).is_recessive()
+}
+
+/// Where the RTR bit stands.
+fn rtr_place(extended: bool) -> usize
+    ensures { result ≡ rtr_place_of extended }
+{
+    if extended { 32 } else { 12 }
+}
+
+/// How many data bytes the frame has.
+fn byte_count<B: FrameBits>(bits: &B) -> usize
+    requires { HasControl (B.levels bits.now) }
+    ensures value { result ≡ byte_count_of (remote_of (B.levels bits.now)) (dlc_of (B.levels bits.now)) }
+    ensures range { result ≤ 8 }
+{
+    if is_remote(bits) {
+        0
+    } else {
+        usize::from(dlc(bits)).min(8)
+    }
+}
+
+/// Whether the RTR bit is that of a remote frame.
+fn is_remote<B: FrameBits>(bits: &B) -> bool
+    requires { HasControl (B.levels bits.now) }
+    ensures { result ≡ remote_of (B.levels bits.now) }
+{
+    bits.level_at(rtr_place(is_extended(bits))).is_recessive()
+}
+
+/// The data length code.
+fn dlc<B: FrameBits>(bits: &B) -> u8
+    requires { HasControl (B.levels bits.now) }
+    ensures value { result ≡ dlc_of (B.levels bits.now) }
+    ensures range { result < 16 }
+{
+    bits.number_at(rtr_place(is_extended(bits)) + 3, 4) as u8
+}
+
+/// What is heard where these are the unstuffed levels of a whole frame.
+pub(crate) fn heard<B: FrameBits>(bits: &B, acked: bool, last: Level) -> Heard
+    requires { HasData (B.levels bits.now) }
+    ensures { result ≡ heard_of (B.levels bits.now) acked last }
+{
+    let r0 = bits.level_at(rtr_place(is_extended(bits)) + 2);
+    Heard::new(frame(bits), srr(bits), r1(bits), r0, acked, last).unwrap()
+}
+
+/// The SRR bit; a standard frame, which has none, counts as having it as it would be sent.
+fn srr<B: FrameBits>(bits: &B) -> Level
+    requires { HasControl (B.levels bits.now) }
+    ensures { result ≡ (if extended_of (B.levels bits.now) then level_at (B.levels bits.now) 12 else Recessive) }
+{
+    if is_extended(bits) {
+        bits.level_at(SRR_PLACE)
+    } else {
+        Level::Recessive
+    }
+}
+
+/// The reserved bit r1; a standard frame, which has none, counts as having it as it would be sent.
+fn r1<B: FrameBits>(bits: &B) -> Level
+    requires { HasControl (B.levels bits.now) }
+    ensures { result ≡ (if extended_of (B.levels bits.now) then level_at (B.levels bits.now) 33 else Dominant) }
+{
+    if is_extended(bits) {
+        bits.level_at(R1_PLACE)
+    } else {
+        Level::Dominant
+    }
+}
+
+/// The frame that these are all of the unstuffed levels of.
+fn frame<B: FrameBits>(bits: &B) -> Frame
+    requires { HasData (B.levels bits.now) }
+    ensures { result ≡ frame_of (B.levels bits.now) }
+{
+    let id = identifier(bits);
+    let dlc = dlc(bits);
+    if is_remote(bits) {
+        Frame::remote(id, dlc).unwrap()
+    } else {
+        Frame::data(id, dlc, &data(bits)).unwrap()
+    }
+}
+
+/// The identifier.
+fn identifier<B: FrameBits>(bits: &B) -> Id
+    requires { HasControl (B.levels bits.now) }
+    ensures { result ≡ record { raw = number_from 0 (identifier_of (B.levels bits.now)); extended = extended_of (B.levels bits.now) } }
+{
+    let base = bits.number_at(1, 11);
+    if is_extended(bits) {
+        let extension = bits.number_at(EXTENSION_PLACE, EXTENSION_BITS);
+        Id::extended((base << EXTENSION_BITS) | extension).unwrap()
+    } else {
+        Id::standard(base as u16).unwrap()
+    }
+}
+
+/// The data bytes.
+fn data<B: FrameBits>(bits: &B) -> ArrayVec<u8, 8>
+    requires { HasData (B.levels bits.now) }
+    ensures { result.items ≡ bytes_of (B.levels bits.now) }
+{
+    let data_place = rtr_place(is_extended(bits)) + RTR_TO_DATA;
+    let mut bytes = ArrayVec::new();
+    for index in 0..byte_count(bits) {
+        bytes.push(bits.number_at(data_place + 8 * index, 8) as u8);
+    }
+    bytes
+}
