@@ -1,5 +1,5 @@
 -- The front of a frame as it is heard, level by level: from the start of frame to the end of the stuffed
--- part. (Bosch CAN 2.0 part B, sections 3.2.1 and 5)
+-- part. (Bosch CAN 2.0 part B, sections 3.2.1 and 6)
 use Rattle.std.specs.Prelude.{ℕ, ◌≡◌, ◌≤◌, ◌==◌, Bool, ◌&&◌, if◌then◌else◌, List, [], ◌∷◌, ◌++◌, length, take}
 use Rattle.can_frame.specs.declared.level.Level.{Level}
 use Rattle.can_frame.specs.declared.level.Level.TheVariants.{Dominant}
