@@ -1,4 +1,4 @@
--- What is heard of a frame on the bus, and how it is spelled. (Bosch CAN 2.0 part B, sections 3.2.1 and 6)
+-- What is heard of a frame on the bus, and how it is spelled. (Bosch CAN 2.0 part B, sections 3.2.1 and 5)
 use Rattle.std.specs.Prelude.{◌≡◌, ◌/◌, ◌^◌, Bool, true, false, if◌then◌else◌, List, ◌∷◌, ◌++◌, length}
 use Rattle.std.specs.Bool.{beq}
 use Rattle.std.specs.List.{flat_map}

@@ -17,7 +17,7 @@ const RESERVED: Level = Level::Dominant;
 pub(crate) const END_OF_FRAME: Level = Level::Recessive;
 
 /// A frame as it is heard on the bus: the frame itself, and the levels that a receiver takes at
-/// either value. (Bosch CAN 2.0 part B, sections 3.2.1 and 6)
+/// either value. (Bosch CAN 2.0 part B, sections 3.2.1 and 5)
 ///
 /// A standard frame has no SRR and no r1: they count as recessive and dominant, as they would be
 /// sent. Two are equal exactly when all their getters agree.
