@@ -18,7 +18,7 @@
 //! | `plain_bits.rt` | [`PlainBits`], these levels one by one | |
 //! | `reading.rt` | what the unstuffed levels tell of the frame | `specs/Layout.antt` |
 //! | `front.rt` | [`Front`], a frame up to the end of its stuffed part, heard level by level | `specs/Front.antt` |
-//! | `decoding.rt` | `decode`, the frame at the front of levels, or the first fault | `specs/CodeFaults.antt` |
+//! | `decoding.rt` | [`decode`], the frame at the front of levels, or the first fault | `specs/CodeFaults.antt` |
 //! | `fault.rt` | [`CodeFault`], why levels begin with no frame | `specs/CodeFaults.antt` |
 //! | `laws.rt` | that a CRC sequence, a stuffed list, a frame's wire and a spelling exist and are unique, and that no spelling begins another | |
 //!
