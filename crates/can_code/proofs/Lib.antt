@@ -31,8 +31,10 @@ pub mod FrontLemmas
 pub mod PlainLemmas
 pub mod StuffedParts
 pub mod FrontsOf
+pub mod HeardLevels
 pub mod SoundLemmas
 pub mod CodeFaultLemmas
+pub mod OneCodeFault
 pub mod DecodingLemmas
 pub mod TailLemmas
 -- known values

@@ -1,6 +1,6 @@
 -- The front of a frame as it is heard, level by level: from the start of frame to the end of the stuffed
 -- part. (Bosch CAN 2.0 part B, sections 3.2.1 and 6)
-use Rattle.std.specs.Prelude.{ℕ, ◌≡◌, ◌≤◌, ◌==◌, Bool, ◌&&◌, if◌then◌else◌, List, [], ◌∷◌, ◌++◌, length, take}
+use Rattle.std.specs.Prelude.{ℕ, ◌≡◌, ◌≤◌, ◌==◌, Option, Some, None, option_and_then, Bool, ◌&&◌, if◌then◌else◌, List, [], ◌∷◌, ◌++◌, length, take}
 use Rattle.can_frame.specs.declared.level.Level.{Level}
 use Rattle.can_frame.specs.declared.level.Level.TheVariants.{Dominant}
 use Rattle.can_frame.specs.Levels.{same}
@@ -46,3 +46,14 @@ pub record IsFront (f : FrontParts) : Type 0 where
   pub within : length f.unstuffed ≤ frame_len f.unstuffed
   pub some : 1 ≤ f.run
   pub short : f.run ≤ 5
+
+-- what one level makes of a front: nothing where it is a wrong stuff bit, or the stuffed part has ended
+abbrev pub hear_at : Place → FrontParts → Level → Option FrontParts
+hear_at StuffBit f x = if is_stuff_error f x then None else Some (heard_level f x)
+hear_at Bit f x = Some (heard_level f x)
+hear_at CrcDelimiter f x = None
+
+-- what levels make of it, one after another
+abbrev pub heard_levels : FrontParts → List Level → Option FrontParts
+heard_levels f [] = Some f
+heard_levels f (x ∷ xs) = option_and_then (λ g. heard_levels g xs) (hear_at (next_place f) f x)

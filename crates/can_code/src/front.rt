@@ -45,7 +45,8 @@ impl<B: FrameBits> Model for Front<B> {
 
     ghost view = { λ a. record { unstuffed = B.levels a.bits; last = a.last; run = a.run } };
 
-    ghost invariant = { λ a. IsFront (record { unstuffed = B.levels a.bits; last = a.last; run = a.run }) × TellsLength (B.levels a.bits) a.length };
+    ghost invariant = { λ a. let u = B.levels a.bits in
+        IsFront (record { unstuffed = u; last = a.last; run = a.run }) × TellsLength u a.length };
 }
 
 impl<B: FrameBits> Front<B> {
@@ -126,7 +127,6 @@ impl<B: FrameBits> Front<B> {
         requires { next_place_of self.now ≡ Place.CrcDelimiter }
         ensures { IsTrue result ↔ IsCrc (head_of self.now.unstuffed) (check_of self.now.unstuffed) }
     {
-        let _ = self.run;
         self.bits.check_agrees()
     }
 
@@ -136,7 +136,6 @@ impl<B: FrameBits> Front<B> {
         requires { next_place_of self.now ≡ Place.CrcDelimiter }
         ensures { result ≡ heard_of self.now.unstuffed acked last }
     {
-        let _ = self.run;
         heard(&self.bits, acked, last)
     }
 }

@@ -1,10 +1,15 @@
-ghost use Rattle.std.specs.Prelude.{◌≡◌, ◌++◌, List};
+ghost use Rattle.std.specs.Prelude.{◌≡◌, ◌∷◌, ◌++◌, List};
 ghost use Rattle.can_frame.specs.declared.level.Level.{Level as Bit};
 ghost use Rattle.can_frame.specs.declared.level.Level.TheVariants.{Dominant, Recessive};
 ghost use Rattle.can_frame.specs.Parts.{Parts};
 ghost use Rattle.can_code.specs.Crc.{IsCrc, crc_of};
 ghost use Rattle.can_code.specs.Stuffing.{Stuffs, stuffed};
 ghost use Rattle.can_code.specs.Wire.{head, IsSpelling, wire};
+ghost use Rattle.can_code.specs.declared.fault.CodeFault.{CodeFault as Fault};
+ghost use Rattle.can_code.specs.declared.front.Place.TheVariants.{CrcDelimiter};
+ghost use Rattle.can_code.specs.Layout.{IsComplete};
+ghost use Rattle.can_code.specs.Front.{FrontParts, first_front, heard_levels, next_place};
+ghost use Rattle.can_code.specs.CodeFaults.{IsCodeFault};
 ghost use Rattle.can_code.specs.Heard.{HeardParts, IsHeard, sent, Spells, spelling};
 
 /// Each list of levels has exactly one CRC sequence.
@@ -41,4 +46,16 @@ pub fn one_heard()
 /// No spelling begins another: where two begin one list of levels, they are one.
 pub fn no_spelling_begins_another()
     ensures { (h g : HeardParts) (v w x y : List Bit) → Spells h v → Spells g w → v ++ x ≡ w ++ y → (h ≡ g) × (v ≡ w) }
+{}
+
+/// Levels that begin with no frame have at most one fault.
+pub fn one_code_fault()
+    ensures { (l : List Bit) (f g : Fault) → IsCodeFault l f → IsCodeFault l g → f ≡ g }
+{}
+
+/// A frame's stuffed part, heard level by level behind its start of frame, gives its unstuffed
+/// levels and ends where it ends; and nothing else does.
+pub fn stuffed_parts_are_heard()
+    ensures exists { (u b : List Bit) → IsComplete u → Stuffs u (Dominant ∷ b) → (f : FrontParts) × (heard_levels first_front b ≡ Some f) × (f.unstuffed ≡ u) × (next_place f ≡ CrcDelimiter) }
+    ensures only { (b : List Bit) (f : FrontParts) → heard_levels first_front b ≡ Some f → next_place f ≡ CrcDelimiter → IsComplete f.unstuffed × Stuffs f.unstuffed (Dominant ∷ b) }
 {}

@@ -57,7 +57,8 @@ pub use frame_bits::FrameBits;
 pub use front::{Front, Place, StuffError};
 pub use heard::Heard;
 pub use laws::{
-    no_spelling_begins_another, one_check_sequence, one_heard, one_spelling, one_stuffing, one_wire,
+    no_spelling_begins_another, one_check_sequence, one_code_fault, one_heard, one_spelling,
+    one_stuffing, one_wire, stuffed_parts_are_heard,
 };
 pub use plain_bits::PlainBits;
 pub use spelling::respell;

@@ -3,6 +3,7 @@ ghost use Rattle.can_frame.specs.Levels.{number_from};
 
 use crate::crc::crc15;
 use crate::frame_bits::FrameBits;
+use crate::layout::Unstuffed;
 use arrayvec::ArrayVec;
 use can_frame::Level;
 use std::marker::Model;
@@ -10,7 +11,7 @@ use std::marker::Model;
 /// The unstuffed levels of a frame, one by one.
 #[derive(Debug, Drop)]
 pub struct PlainBits {
-    levels: ArrayVec<Level, 118>,
+    levels: Unstuffed,
 }
 
 impl Model for PlainBits {
