@@ -5,16 +5,16 @@ use Rattle.std.proofs.lemmas.Bool.{false≢true}
 use Rattle.std.proofs.KnownBytes.{Consumes-nil, Consumes-trans, Appends-trans, Appends-nil}
 use Rattle.std.specs.Io.KnownBytes.{Consumes, Appends}
 use Rattle.std.specs.List.{flat_map, AllByRecursion}
-use Rattle.can_trace.specs.Lines.{lines_of, ended_lines, whole_lines, IsLine}
+use Rattle.can_trace.specs.Lines.{with_end, lines_of, ended_lines, whole_lines, IsLine}
 use Rattle.can_trace.specs.LineReader.{ReadsLine}
 use Rattle.can_trace.specs.Coded.{Codes, coded_line}
 use Rattle.can_trace.specs.Answering.{Answers, FailsToAnswer}
 use Rattle.can_trace.specs.declared.fault.TraceFault.{TraceFault}
-use Rattle.can_trace.specs.declared.fault.TraceFault.TheVariants.{Read, Write, Long, FrameLine}
+use Rattle.can_trace.specs.declared.fault.TraceFault.TheVariants.{BadByte, Read, Write, Long, FrameLine}
 use Rattle.can_trace.specs.declared.lines.LineReader.{LineReader}
 use Rattle.can_trace.proofs.Elements.{AllByRecursion-append}
 use Rattle.can_trace.proofs.Codings.{Codes-none, Codes-push}
-use Rattle.can_trace.proofs.LineLemmas.{with_end, open_lines, lines_of-open, ended_lines-open, ended_lines-all, lines_of-all, whole_lines-all, whole_lines-line, length-with_ends}
+use Rattle.can_trace.proofs.LineLemmas.{open_lines, lines_of-open, ended_lines-open, ended_lines-all, lines_of-all, whole_lines-all, whole_lines-line, length-with_ends}
 use Rattle.can_trace.proofs.TextLemmas.{line_from_front, IsTextFault-front, IsFrameText-front}
 
 -- ---- the state of a run
@@ -183,6 +183,7 @@ pub FailsToAnswer-front : (e : TraceFault) (number : ℕ) (line : List ℕ) (hel
     → FailsToAnswer e number (take 33 line) held holds old new → FailsToAnswer e number line held holds old new
 FailsToAnswer-front Write number line held holds old new fails = fails
 FailsToAnswer-front (FrameLine n fault) number line held holds old new fails = (fails.0, λ text. fails.1 (IsFrameText-front line text), IsTextFault-front line fault fails.2, fails.3, fails.4)
+FailsToAnswer-front (BadByte place) number line held holds old new fails = fails
 FailsToAnswer-front Read number line held holds old new fails = fails
 FailsToAnswer-front Long number line held holds old new fails = fails
 

@@ -5,14 +5,10 @@ use Rattle.std.proofs.lemmas.List.Quantifiers.{position-Some}
 use Rattle.std.proofs.lemmas.List.Sums.{fails_before_first}
 use Rattle.std.proofs.lemmas.Grind.{common_steps}
 use Rattle.std.specs.List.{flat_map, AllByRecursion, position_or_len}
-use Rattle.can_trace.specs.Lines.{lines_of, ended_lines, onto_first, onto_ended, whole_lines, IsLine, SplitsLine}
+use Rattle.can_trace.specs.Lines.{with_end, lines_of, ended_lines, onto_first, onto_ended, whole_lines, IsLine, SplitsLine}
 
 abbrev pub is_end : ℕ → Bool
 is_end byte = byte == 10
-
--- a line with its end
-abbrev pub with_end : List ℕ → List ℕ
-with_end line = line ++ 10 ∷ []
 
 -- the bytes behind the last line end, as the lines that they are
 abbrev pub open_lines : List ℕ → List (List ℕ)

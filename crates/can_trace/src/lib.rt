@@ -31,6 +31,7 @@ mod sink;
 mod source;
 #[cfg(test)]
 mod tests;
+mod vector;
 
 pub use encode::encode_lines;
 pub use fault::TraceFault;

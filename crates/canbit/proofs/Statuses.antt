@@ -2,7 +2,7 @@
 use Rattle.std.proofs.Common.{◌≡◌, arith, inl, inr, refl, ℕ, Bool, List, Option, Result, Ok, Err}
 use Rattle.std.specs.Result.{IsErrOf}
 use Rattle.can_trace.specs.declared.fault.TraceFault.{TraceFault}
-use Rattle.can_trace.specs.declared.fault.TraceFault.TheVariants.{Read, Write, Long, FrameLine}
+use Rattle.can_trace.specs.declared.fault.TraceFault.TheVariants.{BadByte, Read, Write, Long, FrameLine}
 use Rattle.can_trace.specs.Coded.{EncodesTooLong, IsFirstBadLine}
 use Rattle.can_trace.specs.Told.{Told}
 use Rattle.canbit.specs.Runs.{RefusesInput}
@@ -13,14 +13,15 @@ module _ {R W : Type 0} (remaining : R → Option (List ℕ)) (before after : R)
   Says Related = Told remaining before after contents held holds Related
 
   -- status 1 is that of a refused input
-  pub input_refused : (outcome : Result (Unit {0}) TraceFault) → exit_status outcome ≡ 1 → (IsErrOf outcome Long → Says EncodesTooLong)
+  pub input_refused : (outcome : Result (Unit {0}) TraceFault) → exit_status outcome ≡ 1 → ((place : ℕ) → IsErrOf outcome (BadByte place) → ⊥) → (IsErrOf outcome Long → Says EncodesTooLong)
       → ((number : ℕ) (fault : _) → IsErrOf outcome (FrameLine number fault) → Says (IsFirstBadLine number fault reader_ended)) → Says (RefusesInput reader_ended)
-  input_refused (Ok done) is long line = absurd (omega arith)
-  input_refused (Err Read) is long line = absurd (omega arith)
-  input_refused (Err Write) is long line = absurd (omega arith)
-  input_refused (Err Long) is long line =
+  input_refused (Ok done) is no_byte long line = absurd (omega arith)
+  input_refused (Err (BadByte place)) is no_byte long line = absurd (no_byte place refl)
+  input_refused (Err Read) is no_byte long line = absurd (omega arith)
+  input_refused (Err Write) is no_byte long line = absurd (omega arith)
+  input_refused (Err Long) is no_byte long line =
       let told = long refl in
       record { input = told.input; output = told.output; consumes = told.consumes; appends = told.appends; related = inr told.related }
-  input_refused (Err (FrameLine number fault)) is long line =
+  input_refused (Err (FrameLine number fault)) is no_byte long line =
       let told = line number fault refl in
       record { input = told.input; output = told.output; consumes = told.consumes; appends = told.appends; related = inl (number, (fault, told.related)) }
