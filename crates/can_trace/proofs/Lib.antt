@@ -7,6 +7,7 @@ pub mod TextLemmas
 pub mod MarkLemmas
 pub mod DigitLemmas
 pub mod VectorLemmas
+pub mod VectorFronts
 pub mod Codings
 pub mod Answering
 pub mod Endings

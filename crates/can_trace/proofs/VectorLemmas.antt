@@ -40,58 +40,6 @@ IsFramePart-found line n first there = record {
   first = λ place less. first place (omega (arith, length-take n line));
 }
 
--- ---- the frame text
-
--- a whole frame text has the fault that a mark should follow
-IsTextFault-whole : (f : Parts) → IsFrame f → IsTextFault (frame_text f) (record { kind = Trailing; place = length (frame_text f) })
-IsTextFault-whole f is =
-    let text = frame_text f in
-    let all : text ≡ take (length text) text = sym (take_all (length text) text (omega arith)) in
-    let is_text : IsFrameText (take (length text) text) = (f, is, all) in
-    record {
-      place = record {
-        within = omega arith;
-        begins = (f, record { frame = is; rest = []; text = sym (take-append-drop (length text) text) ∙ ap (λ t. take (length text) text ++ t) (drop-length text) });
-        longest = λ m longer within begins. omega arith;
-      };
-      trailing = (λ _. is_text, λ _. refl);
-      part = λ g begins other. absurd (other is_text);
-    }
-
-pub IsBadVectorLine-unread : (line : List ℕ) (n : ℕ) (fault : TextFault) → IsFramePart line (take n line) → IsTextFault (take n line) fault → ¬ IsFrameText (take n line) → IsBadVectorLine fault line
-IsBadVectorLine-unread line n fault part has_fault other = record {
-  front = take n line;
-  is_front = part;
-  has_fault = has_fault;
-  is_bad = λ text. absurd (other text);
-}
-
-pub IsBadVectorLine-bare : (line : List ℕ) (n : ℕ) (f : Parts) → n ≡ length line → IsFramePart line (take n line) → IsFrame f → frame_text f ≡ take n line
-    → IsBadVectorLine (record { kind = Trailing; place = n }) line
-IsBadVectorLine-bare line n f all part is text =
-    let whole : take n line ≡ line = take_all n line (omega arith) in
-    let same : frame_text f ≡ line = text ∙ whole in
-    let len : length (frame_text f) ≡ n = ap length same ∙ sym all in
-    record {
-      front = line;
-      is_front = subst (IsFramePart line) whole part;
-      has_fault = rw (← same, ← len) (IsTextFault-whole f is);
-      is_bad = λ _. refl;
-    }
-
--- the mark stands behind the frame text
-module _ (line : List ℕ) (n : ℕ) (f : Parts) (part : IsFramePart line (take n line)) (text : frame_text f ≡ take n line) (more : n < length line) where
-  behind : take 3 (drop n line) ≡ mark
-  behind =
-      let len : length (take n line) ≡ n = omega (arith, length-take n line) in
-      ap (λ k. take 3 (drop k line)) (sym len) ∙ mark_behind line (take n line) part (omega arith)
-
-  pub start_within : n + 3 ≤ length line
-  start_within = omega (arith, ap length behind, length-take 3 (drop n line), length-drop n line)
-
-  pub start_text : take (n + 3) line ≡ frame_text f ++ mark
-  start_text = take-add n 3 line ∙ ap (λ t. take n line ++ t) behind ∙ ap (λ t. t ++ mark) (sym text)
-
 -- ---- the line
 
 module _ (line : List ℕ) (f : Parts) (start : ℕ) (is : IsFrame f) (text : take start line ≡ frame_text f ++ mark) where
