@@ -20,7 +20,7 @@ use Rattle.can_trace.proofs.Answering.{AtLine, Codes-answered, lines_of-last, en
 -- ---- by the state
 
 module _ {before after held holds : Option (List ℕ)} {found : Bool} {line unread waiting : List ℕ} {taken number : ℕ}
-    (ended : Bool) (others : List (List ℕ)) (at : AtLine before after held holds found line unread waiting taken number) (whole : whole_lines ended at.input ≡ at.lines ++ line ∷ others) where
+    (ended : Bool) (others : List (List ℕ)) (at : AtLine Codes before after held holds found line unread waiting taken number) (whole : whole_lines ended at.input ≡ at.lines ++ line ∷ others) where
   -- the line is no frame's text
   pub IsFirstBadLine-at : (n : ℕ) (fault : TextFault) → n ≡ number + 1 → ¬ IsFrameText line → IsTextFault line fault → IsFirstBadLine n fault ended at.input (at.output ++ waiting)
   IsFirstBadLine-at n fault n_is is_bad has_fault = record {
@@ -28,7 +28,7 @@ module _ {before after held holds : Option (List ℕ)} {found : Bool} {line unre
     bad = line;
     after = others;
     lines = whole;
-    answers = at.codes;
+    answers = at.answer;
     number_is = omega (arith, n_is, at.number_is);
     is_bad = (is_bad, has_fault);
   }
@@ -40,14 +40,14 @@ module _ {before after held holds : Option (List ℕ)} {found : Bool} {line unre
     others = line ∷ others;
     rest = left;
     lines = whole;
-    answers = Codes-split at.lines at.output waiting taken left split at.codes;
+    answers = Codes-split at.lines at.output waiting taken left split at.answer;
   }
 
 module _ {before after held holds : Option (List ℕ)} {line unread waiting : List ℕ} {taken number : ℕ}
-    (at : AtLine before after held holds false line unread waiting taken number) where
+    (at : AtLine Codes before after held holds false line unread waiting taken number) where
   -- the reader failed
   pub EncodesEnded-at : EncodesEnded at.input (at.output ++ waiting)
-  EncodesEnded-at = subst (λ ls. Codes ls (at.output ++ waiting)) (sym (ended_lines-last at)) at.codes
+  EncodesEnded-at = subst (λ ls. Codes ls (at.output ++ waiting)) (sym (ended_lines-last at)) at.answer
 
   -- the reader gave too much
   pub EncodesTooLong-at : 2 ^ 63 < taken → EncodesTooLong at.input (at.output ++ waiting)
@@ -57,7 +57,7 @@ module _ {before after held holds : Option (List ℕ)} {line unread waiting : Li
   pub EncodesAll-at : taken ≤ 2 ^ 63 → line ≡ [] → EncodesAll at.input (at.output ++ waiting)
   EncodesAll-at within none = record {
     within = omega (arith, at.counted, within);
-    codes = subst (λ ls. Codes ls (at.output ++ waiting)) (sym (lines_of-last at ∙ ap (λ l. at.lines ++ open_lines l) none ∙ append-nil at.lines)) at.codes;
+    codes = subst (λ ls. Codes ls (at.output ++ waiting)) (sym (lines_of-last at ∙ ap (λ l. at.lines ++ open_lines l) none ∙ append-nil at.lines)) at.answer;
   }
 
   -- the reader ended, and the last line was answered
@@ -66,7 +66,7 @@ module _ {before after held holds : Option (List ℕ)} {line unread waiting : Li
   EncodesAll-answered holds_now waiting_now within some answers = record {
     within = omega (arith, at.counted, within);
     codes = subst (λ ls. Codes ls ((at.output ++ answers.passes.taken) ++ waiting_now)) (sym (lines_of-last at ∙ ap (λ ls. at.lines ++ ls) some))
-        (Codes-answered at.lines at.output line waiting waiting_now holds holds_now at.codes answers);
+        (Codes-answered at.lines at.output line waiting waiting_now holds holds_now at.answer answers);
   }
 
 -- ---- before what waits is written
@@ -74,7 +74,7 @@ module _ {before after held holds : Option (List ℕ)} {line unread waiting : Li
 module _ {R W : Type 0} (remaining : R → Option (List ℕ)) (r_before r : R) (contents : W → Option (List ℕ)) (w_before w : W)
     (line unread waiting : List ℕ) (taken number : ℕ) where
   abbrev At : Bool → Type 0
-  At found = AtLine (remaining r_before) (remaining r) (contents w_before) (contents w) found line unread waiting taken number
+  At found = AtLine Codes (remaining r_before) (remaining r) (contents w_before) (contents w) found line unread waiting taken number
 
   abbrev Ends : Result (Unit {0}) TraceFault → Bool → W → List ℕ → Type 0
   Ends result ended w_after waiting_after = Told remaining r_before r contents w_before w_after (λ input output. Encodes result ended input (output ++ waiting_after))

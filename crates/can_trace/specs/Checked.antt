@@ -132,12 +132,16 @@ ChecksLines lines output = (passed : ℕ) × Checks lines passed output
 unfoldable pub total_line : ℕ → ℕ → List ℕ
 total_line passed count = codes "passed " ++ (decimal passed ++ (codes " of " ++ (decimal count ++ 10 ∷ [])))
 
--- the output is the answer to all lines of the input, which isn't too long, and then their total
-pub record ChecksAll (passed count : ℕ) (input output : List ℕ) : Type 0 where
+-- the output is the answer to each line of the input, which isn't too long
+pub record ChecksEach (passed count : ℕ) (input output : List ℕ) : Type 0 where
   pub within : length input ≤ 2 ^ 63
-  pub verdicts : List ℕ
-  pub checks : Checks (lines_of input) passed verdicts
+  pub checks : Checks (lines_of input) passed output
   pub count_is : count ≡ length (lines_of input)
+
+-- the output is the answer to all of the input: to each line, and then the total
+pub record ChecksAll (passed count : ℕ) (input output : List ℕ) : Type 0 where
+  pub verdicts : List ℕ
+  pub checks : ChecksEach passed count input verdicts
   pub output_is : output ≡ verdicts ++ total_line passed count
 
 -- the output is the answer to the lines of the input that are ended, and no bad byte is in the line behind them

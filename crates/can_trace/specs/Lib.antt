@@ -7,4 +7,5 @@ pub mod LineReader
 pub mod Answered
 pub mod Coded
 pub mod Checked
+pub mod Checking
 pub mod Answering

@@ -4,7 +4,7 @@ ghost use Rattle.can_frame.specs.Parts.{IsFrame};
 ghost use Rattle.can_frame.specs.Text.{frame_text};
 ghost use Rattle.can_frame.specs.declared.level.Level.{Level as Bit};
 ghost use Rattle.can_trace.specs.Coded.{digit_of};
-ghost use Rattle.can_trace.specs.Checked.{mark, Compares, IsBadAs, IsBadLevelByte, IsBadVectorLine, IsCommonFront, IsFirstBadDigit, IsFramePart, IsLevels, IsVerdict};
+ghost use Rattle.can_trace.specs.Checked.{mark, pass, Compares, IsBadAs, IsBadLevelByte, IsBadVectorLine, IsCommonFront, IsFirstBadDigit, IsFramePart, IsLevels, IsVerdict};
 
 use arrayvec::ArrayVec;
 use can_code::encode;
@@ -17,6 +17,18 @@ pub(crate) enum Verdict {
     Agrees,
     /// They are not, and this is the first place where they differ, or the shorter length.
     DiffersAt(usize),
+}
+
+impl Verdict {
+    /// 1 where the line passes, else 0.
+    pub(crate) fn pass(self) -> u64
+        ensures { result ≡ pass self }
+    {
+        match self {
+            Verdict::Agrees => 1,
+            Verdict::DiffersAt(_) => 0,
+        }
+    }
 }
 
 /// Why a line has no verdict.
