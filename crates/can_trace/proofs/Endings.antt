@@ -12,7 +12,7 @@ use Rattle.can_trace.specs.Answering.{Answers, FailsToAnswer, Encodes}
 use Rattle.can_trace.specs.Inbox.{StopsReading}
 use Rattle.can_trace.specs.Told.{Told}
 use Rattle.can_trace.specs.declared.fault.TraceFault.{TraceFault}
-use Rattle.can_trace.specs.declared.fault.TraceFault.TheVariants.{Read, Write, Long, FrameLine}
+use Rattle.can_trace.specs.declared.fault.TraceFault.TheVariants.{BadByte, Read, Write, Long, FrameLine}
 use Rattle.can_trace.proofs.LineLemmas.{open_lines, whole_lines-from_ended}
 use Rattle.can_trace.proofs.Codings.{Codes-split}
 use Rattle.can_trace.proofs.Answering.{AtLine, Codes-answered, lines_of-last, ended_lines-last}
@@ -20,7 +20,7 @@ use Rattle.can_trace.proofs.Answering.{AtLine, Codes-answered, lines_of-last, en
 -- ---- by the state
 
 module _ {before after held holds : Option (List ℕ)} {found : Bool} {line unread waiting : List ℕ} {taken number : ℕ}
-    (ended : Bool) (others : List (List ℕ)) (at : AtLine before after held holds found line unread waiting taken number) (whole : whole_lines ended at.input ≡ at.lines ++ line ∷ others) where
+    (ended : Bool) (others : List (List ℕ)) (at : AtLine Codes before after held holds found line unread waiting taken number) (whole : whole_lines ended at.input ≡ at.lines ++ line ∷ others) where
   -- the line is no frame's text
   pub IsFirstBadLine-at : (n : ℕ) (fault : TextFault) → n ≡ number + 1 → ¬ IsFrameText line → IsTextFault line fault → IsFirstBadLine n fault ended at.input (at.output ++ waiting)
   IsFirstBadLine-at n fault n_is is_bad has_fault = record {
@@ -28,10 +28,9 @@ module _ {before after held holds : Option (List ℕ)} {found : Bool} {line unre
     bad = line;
     after = others;
     lines = whole;
-    codes = at.codes;
+    answers = at.answer;
     number_is = omega (arith, n_is, at.number_is);
-    is_bad = is_bad;
-    has_fault = has_fault;
+    is_bad = (is_bad, has_fault);
   }
 
   -- the writer failed
@@ -41,14 +40,14 @@ module _ {before after held holds : Option (List ℕ)} {found : Bool} {line unre
     others = line ∷ others;
     rest = left;
     lines = whole;
-    codes = Codes-split at.lines at.output waiting taken left split at.codes;
+    answers = Codes-split at.lines at.output waiting taken left split at.answer;
   }
 
 module _ {before after held holds : Option (List ℕ)} {line unread waiting : List ℕ} {taken number : ℕ}
-    (at : AtLine before after held holds false line unread waiting taken number) where
+    (at : AtLine Codes before after held holds false line unread waiting taken number) where
   -- the reader failed
   pub EncodesEnded-at : EncodesEnded at.input (at.output ++ waiting)
-  EncodesEnded-at = subst (λ ls. Codes ls (at.output ++ waiting)) (sym (ended_lines-last at)) at.codes
+  EncodesEnded-at = subst (λ ls. Codes ls (at.output ++ waiting)) (sym (ended_lines-last at)) at.answer
 
   -- the reader gave too much
   pub EncodesTooLong-at : 2 ^ 63 < taken → EncodesTooLong at.input (at.output ++ waiting)
@@ -58,7 +57,7 @@ module _ {before after held holds : Option (List ℕ)} {line unread waiting : Li
   pub EncodesAll-at : taken ≤ 2 ^ 63 → line ≡ [] → EncodesAll at.input (at.output ++ waiting)
   EncodesAll-at within none = record {
     within = omega (arith, at.counted, within);
-    codes = subst (λ ls. Codes ls (at.output ++ waiting)) (sym (lines_of-last at ∙ ap (λ l. at.lines ++ open_lines l) none ∙ append-nil at.lines)) at.codes;
+    codes = subst (λ ls. Codes ls (at.output ++ waiting)) (sym (lines_of-last at ∙ ap (λ l. at.lines ++ open_lines l) none ∙ append-nil at.lines)) at.answer;
   }
 
   -- the reader ended, and the last line was answered
@@ -67,7 +66,7 @@ module _ {before after held holds : Option (List ℕ)} {line unread waiting : Li
   EncodesAll-answered holds_now waiting_now within some answers = record {
     within = omega (arith, at.counted, within);
     codes = subst (λ ls. Codes ls ((at.output ++ answers.passes.taken) ++ waiting_now)) (sym (lines_of-last at ∙ ap (λ ls. at.lines ++ ls) some))
-        (Codes-answered at.lines at.output line waiting waiting_now holds holds_now at.codes answers);
+        (Codes-answered at.lines at.output line waiting waiting_now holds holds_now at.answer answers);
   }
 
 -- ---- before what waits is written
@@ -75,7 +74,7 @@ module _ {before after held holds : Option (List ℕ)} {line unread waiting : Li
 module _ {R W : Type 0} (remaining : R → Option (List ℕ)) (r_before r : R) (contents : W → Option (List ℕ)) (w_before w : W)
     (line unread waiting : List ℕ) (taken number : ℕ) where
   abbrev At : Bool → Type 0
-  At found = AtLine (remaining r_before) (remaining r) (contents w_before) (contents w) found line unread waiting taken number
+  At found = AtLine Codes (remaining r_before) (remaining r) (contents w_before) (contents w) found line unread waiting taken number
 
   abbrev Ends : Result (Unit {0}) TraceFault → Bool → W → List ℕ → Type 0
   Ends result ended w_after waiting_after = Told remaining r_before r contents w_before w_after (λ input output. Encodes result ended input (output ++ waiting_after))
@@ -94,6 +93,7 @@ module _ {R W : Type 0} (remaining : R → Option (List ℕ)) (r_before r : R) (
       by_fault Read stops = EncodesEnded-at at
       by_fault Long stops = EncodesTooLong-at at stops.1
       by_fault Write stops = absurd stops
+      by_fault (BadByte place) stops = absurd stops
       by_fault (FrameLine n fault) stops = absurd stops
 
   -- the line was not answered
@@ -116,6 +116,7 @@ module _ {R W : Type 0} (remaining : R → Option (List ℕ)) (r_before r : R) (
     appends = Appends-kept _ _ _ at.output at.appends fails.3;
     related = rw fails.4 (IsFirstBadLine-at ended others at whole n fault fails.0 fails.1 fails.2);
   }
+  Told-unanswered found ended others w_after waiting_after (BadByte place) at whole fails = absurd fails
   Told-unanswered found ended others w_after waiting_after Read at whole fails = absurd fails
   Told-unanswered found ended others w_after waiting_after Long at whole fails = absurd fails
 
@@ -151,37 +152,38 @@ BeginsEncoding-from (Ok u) ended input output waiting taken left is_ended split 
   others = [];
   rest = left;
   lines = ap (λ b. whole_lines b input) is_ended ∙ sym (append-nil (lines_of input));
-  codes = Codes-split _ output waiting taken left split all.codes;
+  answers = Codes-split _ output waiting taken left split all.codes;
 }
+BeginsEncoding-from (Err (BadByte place)) ended input output waiting taken left _ split none = absurd none
 BeginsEncoding-from (Err Read) ended input output waiting taken left _ split codes = let whole = whole_lines-from_ended ended input in record {
   good = ended_lines input;
   others = whole.0;
   rest = left;
   lines = whole.1;
-  codes = Codes-split _ output waiting taken left split codes;
+  answers = Codes-split _ output waiting taken left split codes;
 }
 BeginsEncoding-from (Err Long) ended input output waiting taken left _ split long = let whole = whole_lines-from_ended ended input in record {
   good = ended_lines input;
   others = whole.0;
   rest = left;
   lines = whole.1;
-  codes = Codes-split _ output waiting taken left split long.codes;
+  answers = Codes-split _ output waiting taken left split long.codes;
 }
 BeginsEncoding-from (Err Write) ended input output waiting taken left _ split begins = record {
   good = begins.good;
   others = begins.others;
   rest = left ++ begins.rest;
   lines = begins.lines;
-  codes = subst (Codes begins.good)
+  answers = subst (Codes begins.good)
       (ap (λ t. (output ++ t) ++ begins.rest) split ∙ ap (λ t. t ++ begins.rest) (sym (append_assoc output taken left)) ∙ append_assoc (output ++ taken) left begins.rest)
-      begins.codes;
+      begins.answers;
 }
 BeginsEncoding-from (Err (FrameLine n fault)) ended input output waiting taken left _ split bad = record {
   good = bad.before;
   others = bad.bad ∷ bad.after;
   rest = left;
   lines = bad.lines;
-  codes = Codes-split _ output waiting taken left split bad.codes;
+  answers = Codes-split _ output waiting taken left split bad.answers;
 }
 
 module _ {R W : Type 0} (remaining : R → Option (List ℕ)) (r_before r : R) (contents : W → Option (List ℕ)) (w_before w w_after : W)

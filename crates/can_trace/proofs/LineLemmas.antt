@@ -5,14 +5,10 @@ use Rattle.std.proofs.lemmas.List.Quantifiers.{position-Some}
 use Rattle.std.proofs.lemmas.List.Sums.{fails_before_first}
 use Rattle.std.proofs.lemmas.Grind.{common_steps}
 use Rattle.std.specs.List.{flat_map, AllByRecursion, position_or_len}
-use Rattle.can_trace.specs.Lines.{lines_of, ended_lines, onto_first, onto_ended, whole_lines, IsLine, SplitsLine}
+use Rattle.can_trace.specs.Lines.{with_end, lines_of, ended_lines, onto_first, onto_ended, whole_lines, IsLine, SplitsLine}
 
 abbrev pub is_end : ℕ → Bool
 is_end byte = byte == 10
-
--- a line with its end
-abbrev pub with_end : List ℕ → List ℕ
-with_end line = line ++ 10 ∷ []
 
 -- the bytes behind the last line end, as the lines that they are
 abbrev pub open_lines : List ℕ → List (List ℕ)
@@ -128,3 +124,33 @@ lines_of-ended (byte ∷ text) = onto (lines_of-ended text) (byte == 10)
 pub whole_lines-from_ended : (ended : Bool) (text : List ℕ) → (others : List (List ℕ)) × (whole_lines ended text ≡ ended_lines text ++ others)
 whole_lines-from_ended true text = lines_of-ended text
 whole_lines-from_ended false text = ([], sym (append-nil (ended_lines text)))
+
+-- the lines before another line are ended
+ended_before : (text : List ℕ) (before : List (List ℕ)) (line : List ℕ) (after : List (List ℕ)) → lines_of text ≡ before ++ line ∷ after
+    → (others : List (List ℕ)) × (ended_lines text ≡ before ++ others)
+ended_before text [] line after e = (ended_lines text, refl)
+ended_before [] (l ∷ before) line after e = let never : ⊥ = cc in absurd never
+ended_before (byte ∷ text) (l ∷ before) line after e = onto (λ b. ended_before text b line after) (byte == 10) (lines_of text) refl e
+  where
+    onto : ((b : List (List ℕ)) → lines_of text ≡ b ++ line ∷ after → (others : List (List ℕ)) × (ended_lines text ≡ b ++ others)) → (is_end : Bool) (lines : List (List ℕ)) → lines_of text ≡ lines
+        → cond is_end ([] ∷ lines_of text) (onto_first byte (lines_of text)) ≡ l ∷ (before ++ line ∷ after)
+        → (others : List (List ℕ)) × (cond is_end ([] ∷ ended_lines text) (onto_ended byte (ended_lines text)) ≡ l ∷ (before ++ others))
+    onto rest true lines is e =
+        let behind : lines_of text ≡ before ++ line ∷ after = cc in
+        let first : [] ≡ l = cc in
+        let r = rest before behind in
+        (r.0, ap (λ ls. [] ∷ ls) r.1 ∙ ap (λ f. f ∷ (before ++ r.0)) first)
+    onto rest false [] is e =
+        let only : (byte ∷ []) ∷ [] ≡ l ∷ (before ++ line ∷ after) = sym (ap (onto_first byte) is) ∙ e in
+        absurd (omega (arith, ap length only, length-append before (line ∷ after)))
+    onto rest false (m ∷ lines) is e =
+        let both : (byte ∷ m) ∷ lines ≡ l ∷ (before ++ line ∷ after) = sym (ap (onto_first byte) is) ∙ e in
+        let behind : lines ≡ before ++ line ∷ after = cc in
+        let first : byte ∷ m ≡ l = cc in
+        let r = rest (m ∷ before) (is ∙ ap (λ ls. m ∷ ls) behind) in
+        (r.0, ap (onto_ended byte) r.1 ∙ ap (λ f. f ∷ (before ++ r.0)) first)
+
+pub whole_lines-before : (ended : Bool) (text : List ℕ) (before : List (List ℕ)) (line : List ℕ) (after : List (List ℕ)) → lines_of text ≡ before ++ line ∷ after
+    → (others : List (List ℕ)) × (whole_lines ended text ≡ before ++ others)
+whole_lines-before true text before line after e = (line ∷ after, e)
+whole_lines-before false text before line after e = ended_before text before line after e

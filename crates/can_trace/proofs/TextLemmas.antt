@@ -105,3 +105,20 @@ IsFrameText-front line text =
     let short = length-frame_text text.0 text.1 in
     let within : length line ≤ 33 = omega (arith, ap length text.2) in
     (text.0, text.1, text.2 ∙ sym (take_all 33 line within))
+
+-- the fault of a line is that of its front
+pub IsTextFault-kept : (line : List ℕ) (fault : TextFault) → IsTextFault line fault → IsTextFault (take 33 line) fault
+IsTextFault-kept line fault h =
+    let n = fault.place in
+    let short = front_short n line h.place.begins h.place.within in
+    let len = length-take 33 line in
+    let same : take n line ≡ take n (take 33 line) = sym (take-take n 33 line (omega arith)) in
+    record {
+      place = record {
+        within = omega (arith, len, h.place.within);
+        begins = subst BeginsSome same h.place.begins;
+        longest = λ m longer within begins. h.place.longest m longer (omega (arith, len)) (subst BeginsSome (take-take m 33 line (omega (arith, len))) begins);
+      };
+      trailing = subst (λ (t : List ℕ). (fault.kind ≡ Trailing) ↔ IsFrameText t) same h.trailing;
+      part = subst (λ (t : List ℕ). (f : Parts) → Begins t f → (IsFrameText t → ⊥) → fault.kind ≡ part_at f fault.place) same h.part;
+    }

@@ -4,17 +4,19 @@ use Rattle.std.specs.Io.KnownBytes.{Keeps}
 use Rattle.can_frame.specs.Parts.{Parts, IsFrame}
 use Rattle.can_frame.specs.Text.{frame_text, IsFrameText, IsTextFault}
 use Rattle.can_trace.specs.declared.fault.TraceFault.{TraceFault}
-use Rattle.can_trace.specs.declared.fault.TraceFault.TheVariants.{Read, Write, Long, FrameLine}
+use Rattle.can_trace.specs.declared.fault.TraceFault.TheVariants.{BadByte, Read, Write, Long, FrameLine}
 use Rattle.can_trace.specs.Outbox.{PassesOn, TakesFront}
 use Rattle.can_trace.specs.Coded.{coded_line, EncodesAll, EncodesEnded, EncodesTooLong, BeginsEncoding, IsFirstBadLine}
 
 abbrev pub is_read : TraceFault → Bool
+is_read (BadByte place) = false
 is_read Read = true
 is_read Write = false
 is_read Long = false
 is_read (FrameLine line fault) = false
 
 abbrev pub is_write : TraceFault → Bool
+is_write (BadByte place) = false
 is_write Read = false
 is_write Write = true
 is_write Long = false
@@ -35,12 +37,14 @@ pub record Answers (line : List ℕ) (held holds : Option (List ℕ)) (old new :
 abbrev pub FailsToAnswer : TraceFault → ℕ → List ℕ → Option (List ℕ) → Option (List ℕ) → List ℕ → List ℕ → Type 0
 FailsToAnswer Write number line held holds old new = TakesFront held holds old × (new ≡ [])
 FailsToAnswer (FrameLine n fault) number line held holds old new = (n ≡ number) × (¬ IsFrameText line) × IsTextFault line fault × Keeps held holds × (new ≡ old)
+FailsToAnswer (BadByte place) number line held holds old new = ⊥
 FailsToAnswer Read number line held holds old new = ⊥
 FailsToAnswer Long number line held holds old new = ⊥
 
--- how the output answers the input when a call ends so
+-- How the output answers the input when a call ends so. Here any byte may stand in a line.
 abbrev pub Encodes : {A : Type 0} → Result A TraceFault → Bool → List ℕ → List ℕ → Type 0
 Encodes (Ok done) reader_ended = EncodesAll
+Encodes (Err (BadByte place)) reader_ended = λ input output. ⊥
 Encodes (Err Read) reader_ended = EncodesEnded
 Encodes (Err Write) reader_ended = BeginsEncoding reader_ended
 Encodes (Err Long) reader_ended = EncodesTooLong

@@ -7,7 +7,8 @@ use Rattle.can_frame.specs.declared.text.TextFault.{TextFault}
 use Rattle.can_frame.specs.Parts.{Parts, IsFrame}
 use Rattle.can_frame.specs.Text.{frame_text, IsFrameText, IsTextFault}
 use Rattle.can_code.specs.Wire.{driven}
-use Rattle.can_trace.specs.Lines.{lines_of, ended_lines, whole_lines}
+use Rattle.can_trace.specs.Lines.{lines_of, ended_lines}
+use Rattle.can_trace.specs.Answered.{BeginsAnswer, StopsAtLine}
 
 -- a level as a digit, `0` or `1`
 abbrev pub digit_of : Level → ℕ
@@ -41,21 +42,14 @@ pub record EncodesTooLong (input output : List ℕ) : Type 0 where
 
 -- The output is a beginning of the answer to the lines of the input that are known whole, up to the
 -- first that is no frame's text.
-pub record BeginsEncoding (reader_ended : Bool) (input output : List ℕ) : Type 0 where
-  pub good : List (List ℕ)
-  pub others : List (List ℕ)
-  pub rest : List ℕ
-  pub lines : whole_lines reader_ended input ≡ good ++ others
-  pub codes : Codes good (output ++ rest)
+abbrev pub BeginsEncoding : Bool → List ℕ → List ℕ → Type 0
+BeginsEncoding = BeginsAnswer Codes
+
+-- the line is no frame's text, and has this fault
+abbrev pub IsBadFrameLine : TextFault → List ℕ → Type 0
+IsBadFrameLine fault line = (¬ IsFrameText line) × IsTextFault line fault
 
 -- Of the lines of the input that are known whole, the line of this number, from 1, is the first that is
 -- no frame's text, and it has this fault. The output is the answer to the lines before it.
-pub record IsFirstBadLine (number : ℕ) (fault : TextFault) (reader_ended : Bool) (input output : List ℕ) : Type 0 where
-  pub before : List (List ℕ)
-  pub bad : List ℕ
-  pub after : List (List ℕ)
-  pub lines : whole_lines reader_ended input ≡ before ++ bad ∷ after
-  pub codes : Codes before output
-  pub number_is : number ≡ length before + 1
-  pub is_bad : ¬ IsFrameText bad
-  pub has_fault : IsTextFault bad fault
+abbrev pub IsFirstBadLine : ℕ → TextFault → Bool → List ℕ → List ℕ → Type 0
+IsFirstBadLine number fault = StopsAtLine Codes (IsBadFrameLine fault) number

@@ -4,5 +4,8 @@ pub mod Outbox
 pub mod Inbox
 pub mod Lines
 pub mod LineReader
+pub mod Answered
 pub mod Coded
+pub mod Checked
+pub mod Checking
 pub mod Answering

@@ -44,6 +44,8 @@ pub fn encode_lines<R: Source, W: Sink>(r: &mut R, w: &mut W) -> Result<(), Trac
     ensures line { (n : ℕ) (fault : TextFault) → IsErrOf result (TraceFault.FrameLine n fault) →
         Told R.remaining r.old r.new W.contents w.old w.new (IsFirstBadLine n fault (R.has_ended r.new)) }
 
+    ensures no_byte { (place : ℕ) → IsErrOf result (TraceFault.BadByte place) → ⊥ }
+
     // What the reader and the writer came to.
     ensures ended { OnOk result (IsTrue (R.has_ended r.new)) }
     ensures at_end { OnOk result (IsAtEnd (R.remaining r.new)) }

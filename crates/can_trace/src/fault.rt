@@ -4,6 +4,9 @@ use thiserror::Error;
 /// Why a stream's answer is not whole.
 #[derive(Clone, Copy, Debug, PartialEq, Eq, Error)]
 pub enum TraceFault {
+    /// A byte stands where a level's digit should. Bytes of the input are counted from 0.
+    #[error("P1 byte {place}")]
+    BadByte { place: u64 },
     /// The reader failed.
     #[error("P3 read")]
     Read,

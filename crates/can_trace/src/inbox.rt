@@ -1,4 +1,4 @@
-ghost use Rattle.std.specs.Prelude.{◌≡◌, ℕ, ◌+◌, ◌^◌, ◌<◌, ◌≤◌, ◌==◌, false, List, [], length, drop, IfOk, IfErr, OnOk, OnErr};
+ghost use Rattle.std.specs.Prelude.{◌≡◌, ℕ, ◌+◌, ◌-◌, ◌^◌, ◌<◌, ◌≤◌, ◌==◌, false, List, [], length, drop, IfOk, IfErr, OnOk, OnErr};
 ghost use Rattle.std.specs.Io.KnownBytes.{Consumes, IsAtEnd};
 
 use crate::fault::TraceFault;
@@ -53,6 +53,14 @@ impl Inbox {
         ensures { result.now ≡ self.now.unread }
     {
         &self.bytes[self.start..self.end]
+    }
+
+    /// How many bytes were used.
+    pub(crate) fn place(&self) -> u64
+        requires { length self.now.unread ≤ self.now.taken }
+        ensures { result ≡ self.now.taken - length self.now.unread }
+    {
+        self.taken - self.unread().len() as u64
     }
 
     /// Uses the first bytes.

@@ -21,6 +21,7 @@
 //! why 33 bytes of a line tell its fault, `Answering` and `Endings` the steps and the ends of a run.
 #![tactic(auto)]
 
+mod check;
 mod encode;
 mod fault;
 mod inbox;
@@ -31,7 +32,10 @@ mod sink;
 mod source;
 #[cfg(test)]
 mod tests;
+mod vector;
+mod verdict;
 
+pub use check::check_lines;
 pub use encode::encode_lines;
 pub use fault::TraceFault;
 pub use laws::one_answer;

@@ -1,4 +1,4 @@
-ghost use Rattle.std.specs.Prelude.{◌≡◌, ℕ, ◌+◌, ◌==◌, ◌<◌, ◌≤◌, ◌^◌, true, false, not, List, [], ◌∷◌, ◌++◌, length, take, position, IsTrue, IsFalse, IfOk, IfErr, OnOk, OnErr};
+ghost use Rattle.std.specs.Prelude.{◌≡◌, ℕ, ◌+◌, ◌-◌, ◌==◌, ◌<◌, ◌≤◌, ◌^◌, true, false, not, List, [], ◌∷◌, ◌++◌, length, take, position, IsTrue, IsFalse, IfOk, IfErr, OnOk, OnErr};
 ghost use Rattle.std.specs.Io.KnownBytes.{Consumes, IsAtEnd};
 ghost use Rattle.can_trace.specs.Lines.{IsLine, SplitsLine};
 ghost use Rattle.can_trace.specs.Inbox.{StopsReading};
@@ -34,6 +34,14 @@ impl<const KEPT: usize> LineReader<KEPT> {
         ensures { result.now ≡ self.now.line.items }
     {
         &self.line
+    }
+
+    /// The place in the input of the next line's first byte.
+    pub(crate) fn place(&self) -> u64
+        requires { length self.now.inbox.unread ≤ self.now.inbox.taken }
+        ensures { result ≡ self.now.inbox.taken - length self.now.inbox.unread }
+    {
+        self.inbox.place()
     }
 
     /// Reads the next line up to its end. Where the source ends, or an `Err` comes, before the line's

@@ -2,7 +2,7 @@
 use Rattle.std.proofs.Common.{◌≡◌, arith, inl, inr, refl, ℕ, Bool, List, Option, Result, Ok, Err}
 use Rattle.std.specs.Result.{IsErrOf}
 use Rattle.can_trace.specs.declared.fault.TraceFault.{TraceFault}
-use Rattle.can_trace.specs.declared.fault.TraceFault.TheVariants.{Read, Write, Long, FrameLine}
+use Rattle.can_trace.specs.declared.fault.TraceFault.TheVariants.{BadByte, Read, Write, Long, FrameLine}
 use Rattle.can_trace.specs.Coded.{EncodesTooLong, IsFirstBadLine}
 use Rattle.can_trace.specs.Told.{Told}
 use Rattle.canbit.specs.Status.{RefusesInput, exit_status}
@@ -22,10 +22,11 @@ module _ {R W : Type 0} (remaining : R → Option (List ℕ)) (before after : R)
   }
 
   -- status 1 is that of a refused input
-  pub input_refused : (outcome : Result (Unit {0}) TraceFault) → exit_status outcome ≡ 1 → (IsErrOf outcome Long → Says EncodesTooLong)
+  pub input_refused : (outcome : Result (Unit {0}) TraceFault) → exit_status outcome ≡ 1 → ((place : ℕ) → IsErrOf outcome (BadByte place) → ⊥) → (IsErrOf outcome Long → Says EncodesTooLong)
       → ((number : ℕ) (fault : _) → IsErrOf outcome (FrameLine number fault) → Says (IsFirstBadLine number fault reader_ended)) → Says (RefusesInput reader_ended)
-  input_refused (Ok done) is long line = absurd (omega arith)
-  input_refused (Err Read) is long line = absurd (omega arith)
-  input_refused (Err Write) is long line = absurd (omega arith)
-  input_refused (Err Long) is long line = weaker _ _ (λ input output h. inr h) (long refl)
-  input_refused (Err (FrameLine number fault)) is long line = weaker _ _ (λ input output h. inl (number, (fault, h))) (line number fault refl)
+  input_refused (Ok done) is no_byte long line = absurd (omega arith)
+  input_refused (Err (BadByte place)) is no_byte long line = absurd (no_byte place refl)
+  input_refused (Err Read) is no_byte long line = absurd (omega arith)
+  input_refused (Err Write) is no_byte long line = absurd (omega arith)
+  input_refused (Err Long) is no_byte long line = weaker _ _ (λ input output h. inr h) (long refl)
+  input_refused (Err (FrameLine number fault)) is no_byte long line = weaker _ _ (λ input output h. inl (number, (fault, h))) (line number fault refl)

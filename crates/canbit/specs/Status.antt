@@ -2,12 +2,13 @@
 use Rattle.std.specs.Prelude.{◌⊎◌, ℕ, Bool, List, Result, Ok, Err}
 use Rattle.can_trace.specs.Coded.{EncodesTooLong, IsFirstBadLine}
 use Rattle.can_trace.specs.declared.fault.TraceFault.{TraceFault}
-use Rattle.can_trace.specs.declared.fault.TraceFault.TheVariants.{Read, Write, Long, FrameLine}
+use Rattle.can_trace.specs.declared.fault.TraceFault.TheVariants.{BadByte, Read, Write, Long, FrameLine}
 use Rattle.canbit.specs.declared.fault.RunFault.{RunFault}
 use Rattle.canbit.specs.declared.fault.RunFault.TheVariants.{Usage, Memory, Stream}
 
 -- 1: the input is refused. 2: the words are. 3: a stream failed. 4: memory ran out.
 abbrev pub status_of : RunFault → ℕ
+status_of (Stream (BadByte place)) = 1
 status_of (Stream Long) = 1
 status_of (Stream (FrameLine line fault)) = 1
 status_of Usage = 2

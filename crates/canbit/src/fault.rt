@@ -25,7 +25,9 @@ impl RunFault {
         ensures { result ≡ status_of self }
     {
         match self {
-            RunFault::Stream(TraceFault::Long | TraceFault::FrameLine { .. }) => 1,
+            RunFault::Stream(
+                TraceFault::BadByte { .. } | TraceFault::Long | TraceFault::FrameLine { .. },
+            ) => 1,
             RunFault::Usage => 2,
             RunFault::Stream(TraceFault::Read | TraceFault::Write) => 3,
             RunFault::Memory => 4,

@@ -1,4 +1,5 @@
 use Rattle.std.proofs.Common.{◌≡◌, ◌-◌, ◌^◌, ◌<◌, false}
+use Rattle.can_trace.specs.Coded.{Codes}
 use Rattle.can_trace.proofs.Answering.{Answering}
 use Rattle.can_trace.proofs.encode.answer_lines.Given as goal
 
@@ -8,7 +9,7 @@ invariant-loop-number g l =
     let sink = g.W.Sink in
     let inbox = l.lines.inbox in
     record {
-      answering : Answering (source.remaining l.fn.r) (source.remaining l.r) (sink.contents l.fn.w) (sink.contents l.w) inbox.unread l.out inbox.taken l.number;
+      answering : Answering Codes (source.remaining l.fn.r) (source.remaining l.r) (sink.contents l.fn.w) (sink.contents l.w) inbox.unread l.out inbox.taken l.number;
       reader_unfailed : source.has_failed l.r ≡ false;
       reader_unended : source.has_ended l.r ≡ false;
       writer_unfailed : sink.has_failed l.w ≡ false;

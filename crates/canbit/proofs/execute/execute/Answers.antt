@@ -5,7 +5,7 @@ use Rattle.canbit.proofs.execute.execute.Goals as goal
 
 pub returns-in-Ok-Encode-clause-input_refused : goal.returns-in-Ok-Encode-clause-input_refused
 returns-in-Ok-Encode-clause-input_refused g c is =
-    (search rules, input_refused _ _ _ _ _ _ _ c.encode_lines.result (search rules) c.encode_lines.ensures.long c.encode_lines.ensures.line)
+    (search rules, input_refused _ _ _ _ _ _ _ c.encode_lines.result (search rules) c.encode_lines.ensures.no_byte c.encode_lines.ensures.long c.encode_lines.ensures.line)
 
 pub returns-in-Err-Help-clause-alone : goal.returns-in-Err-Help-clause-alone
 returns-in-Err-Help-clause-alone g c name chosen is = alone_asks _ name chosen is

@@ -1,0 +1,87 @@
+//! The lines that tell verdicts and their total.
+ghost use Rattle.std.specs.Prelude.{◌≡◌, ◌+◌, ◌≤◌, ◌<◌, ◌^◌, ◌++◌, false, [], length, decimal, is_err, IfErr, OnOk, OnErr};
+ghost use Rattle.can_trace.specs.Outbox.{PassesOn, TakesFront};
+ghost use Rattle.can_trace.specs.Checked.{total_line, verdict_line};
+
+use crate::fault::TraceFault;
+use crate::outbox::Outbox;
+use crate::sink::Sink;
+use crate::vector::Verdict;
+use arrayvec::ArrayVec;
+use itoa::Buffer;
+
+/// How many bytes a line has at most: two numbers of 20 digits, and 12 bytes.
+const LINE: usize = 64;
+
+/// Puts the line of a verdict.
+pub(crate) fn put_verdict<W: Sink>(verdict: Verdict, w: &mut W, out: &mut Outbox) -> Result<(), TraceFault>
+    requires { W.has_failed w.old ≡ false }
+    ensures ok { OnOk result (PassesOn (W.contents w.old) (W.contents w.new) out.old out.new (verdict_line verdict)) }
+    ensures err { OnErr result (TakesFront (W.contents w.old) (W.contents w.new) out.old) }
+    ensures dropped { OnErr result (out.new ≡ []) }
+    ensures failed { W.has_failed w.new ≡ is_err result }
+    ensures fault { IfErr result (λ e. e ≡ TraceFault.Write) }
+{
+    out.put(w, &written_verdict(verdict))
+}
+
+/// The line of a verdict.
+fn written_verdict(verdict: Verdict) -> ArrayVec<u8, LINE>
+    ensures { result.items ≡ verdict_line verdict }
+{
+    let mut line = ArrayVec::new();
+    match verdict {
+        Verdict::Agrees => push(&mut line, b"ok"),
+        Verdict::DiffersAt(place) => {
+            push(&mut line, b"differs at ");
+            push_number(&mut line, place as u64);
+        }
+    }
+    push(&mut line, b"\n");
+    line
+}
+
+/// Puts the line that tells how many lines passed, of how many.
+pub(crate) fn put_total<W: Sink>(passed: u64, count: u64, w: &mut W, out: &mut Outbox) -> Result<(), TraceFault>
+    requires { W.has_failed w.old ≡ false }
+    ensures ok { OnOk result (PassesOn (W.contents w.old) (W.contents w.new) out.old out.new (total_line passed count)) }
+    ensures err { OnErr result (TakesFront (W.contents w.old) (W.contents w.new) out.old) }
+    ensures dropped { OnErr result (out.new ≡ []) }
+    ensures failed { W.has_failed w.new ≡ is_err result }
+    ensures fault { IfErr result (λ e. e ≡ TraceFault.Write) }
+{
+    out.put(w, &written_total(passed, count))
+}
+
+/// The line that tells how many lines passed, of how many.
+fn written_total(passed: u64, count: u64) -> ArrayVec<u8, LINE>
+    ensures { result.items ≡ total_line passed count }
+{
+    let mut line = ArrayVec::new();
+    push(&mut line, b"passed ");
+    push_number(&mut line, passed);
+    push(&mut line, b" of ");
+    push_number(&mut line, count);
+    push(&mut line, b"\n");
+    line
+}
+
+/// Appends a number in decimal.
+fn push_number(line: &mut ArrayVec<u8, LINE>, number: u64)
+    requires { length line.old.items + 20 ≤ LINE }
+    ensures text { line.new.items ≡ line.old.items ++ decimal number }
+    ensures bound { length line.new.items ≤ length line.old.items + 20 }
+{
+    let mut buffer = Buffer::new();
+    push(line, buffer.format(number).as_bytes());
+}
+
+/// Appends bytes.
+fn push(line: &mut ArrayVec<u8, LINE>, bytes: &[u8])
+    requires { length line.old.items + length bytes.now ≤ LINE }
+    ensures { line.new.items ≡ line.old.items ++ bytes.now }
+{
+    let Ok(()) = line.try_extend_from_slice(bytes) else {
+        unreachable!();
+    };
+}
