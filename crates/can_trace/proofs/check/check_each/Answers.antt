@@ -15,8 +15,7 @@ ended_line : (g : Over) (c : Then-branch g) → (line : List ℕ) × (c.next_lin
 ended_line g c =
     let reads = rw c.if-branch.true at c.in_ok-next_line.ensures.reads in
     let old = c.loop-number.lines in
-    let new = c.next_line.new.lines in
-    (
+    let new = c.next_line.new.lines in (
       reads.line,
       reads.keeps,
       AtLine-read (Passing c.loop-number.passed) _ _ _ _ _ true 193 old new c.loop-number.out c.loop-number.number c.loop-number.invariant.answering reads,
@@ -31,8 +30,7 @@ last_line : (g : Over) (c : Else-branch g) → (line : List ℕ) × (c.next_line
 last_line g c =
     let reads = rw c.if-branch.false at c.in_ok-next_line.ensures.reads in
     let old = c.loop-number.lines in
-    let new = c.next_line.new.lines in
-    (
+    let new = c.next_line.new.lines in (
       reads.line,
       reads.keeps,
       AtLine-read (Passing c.loop-number.passed) _ _ _ _ _ false 193 old new c.loop-number.out c.loop-number.number c.loop-number.invariant.answering reads,
