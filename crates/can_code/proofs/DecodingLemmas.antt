@@ -24,7 +24,6 @@ use Rattle.can_code.specs.CodeFaults.{IsCodeFault}
 use Rattle.can_code.specs.Front.{FrontParts, next_place, is_stuff_error, heard_level}
 use Rattle.can_code.proofs.LayoutWrite.{IsHeard-heard_of, heard_head-heard_of, head_of-heard_head}
 use Rattle.can_code.proofs.SpellingFronts.{Spells-apart}
-use Rattle.can_code.proofs.StuffedParts.{IsPart-length}
 use Rattle.can_code.proofs.FrontsOf.{IsFrontOf, IsFrontOf-heard_level}
 use Rattle.can_code.proofs.CodeFaultLemmas.{IsCodeFault-none, IsCodeFault-no_start, IsCodeFault-short, IsCodeFault-stuff, IsCodeFault-crc}
 
@@ -74,9 +73,6 @@ module _ (l : List Level) (i : ℕ) (f : FrontParts) (r : IsFrontOf (take i l) f
 
 -- the stuffed part has n levels
 module _ (l : List Level) (n : ℕ) (u : List Level) (fits : n ≤ length l) (part : IsPart u (take n l)) where
-  pub some_levels : 0 < n
-  some_levels = omega (arith, IsPart-length u (take n l) part, length-take-le n l fits)
-
   -- its check sequence is wrong
   pub crc_at : (IsCrc (head_of u) (check_of u) → ⊥) → IsCodeFault l (record { kind = Crc; place = n - 1 })
   crc_at wrong =

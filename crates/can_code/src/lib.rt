@@ -1,10 +1,11 @@
-//! The coding of frames for the wire: what a sender makes of a frame, and what spells a frame as it is
-//! heard.
+//! The coding of frames for the wire: what a sender makes of a frame, what spells a frame as it is
+//! heard, and the frame at the front of levels.
 //!
 //! A frame's `head` (start of frame, identifier, control field, data) is followed by its CRC
 //! sequence; the two are bit stuffed, and a tail of ten levels that is never stuffed ends the
 //! frame. (Bosch CAN 2.0 part B, sections 3.2.1 and 6) A receiver takes a few of these levels at
-//! either value: with them the frame is [`Heard`].
+//! either value: with them the frame is [`Heard`]. It hears the stuffed part level by level, as a
+//! [`Front`]; levels that begin with no frame have one [`CodeFault`].
 //!
 //! | File | What it has | Defined in |
 //! |---|---|---|
@@ -14,13 +15,13 @@
 //! | `layout.rt` | the head and the CRC sequence of what is heard, unstuffed | `specs/Heard.antt` |
 //! | `spelling.rt` | [`respell`], the levels that spell what is heard | `specs/Heard.antt` |
 //! | `encoding.rt` | [`encode`], the levels that the sender of a frame drives | `specs/Wire.antt` |
-//! | `frame_bits.rt` | [`FrameBits`], the unstuffed levels that have been heard of a frame | `specs/Layout.antt` |
+//! | `frame_bits.rt` | [`FrameBits`], the unstuffed levels that have been heard of a frame | |
 //! | `plain_bits.rt` | [`PlainBits`], these levels one by one | |
-//! | `reading.rt` | what the unstuffed levels tell of the frame | `specs/Layout.antt` |
+//! | `reading.rt` | what the unstuffed levels tell of the frame | `specs/Layout.antt`, `specs/Reading.antt` |
 //! | `front.rt` | [`Front`], a frame up to the end of its stuffed part, heard level by level | `specs/Front.antt` |
 //! | `decoding.rt` | [`decode`], the frame at the front of levels, or the first fault | `specs/CodeFaults.antt` |
 //! | `fault.rt` | [`CodeFault`], why levels begin with no frame | `specs/CodeFaults.antt` |
-//! | `laws.rt` | that a CRC sequence, a stuffed list, a frame's wire and a spelling exist and are unique, and that no spelling begins another | |
+//! | `laws.rt` | that a CRC sequence, a stuffed list, a frame's wire, a spelling and a fault are unique, that no spelling begins another, and that fronts are those of stuffed lists | |
 //!
 //! Each is defined twice: by a relation that says what it is (the generator divides it, a stuff
 //! bit stands behind five equal levels), and by a function that computes it. The calls promise
@@ -29,8 +30,8 @@
 //! Crates above find lemmas in `proofs/`: how a stuffed list grows level by level (`StuffPlaces`,
 //! `Runs`, `StuffingLemmas`), that it is unique (`OneStuffing`) and begins no other's
 //! (`StuffedFronts`), what unstuffed levels tell (`LayoutLengths`, `LayoutRead`, `LayoutWrite`), how
-//! long each part is (`LayoutHead`, `WireLemmas`, `SpellingLemmas`), and how a check sequence grows
-//! (`Register`).
+//! long each part is (`LayoutHead`, `WireLemmas`, `SpellingLemmas`), how a check sequence grows
+//! (`Register`), and which front levels make that are heard one by one (`FrontsOf`, `HeardLevels`).
 #![tactic(auto)]
 
 mod crc;

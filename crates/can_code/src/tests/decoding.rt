@@ -1,5 +1,5 @@
-use super::{KNOWN_WIRES, Levels, known_frames, spelled, standard};
-use crate::{Heard, decode, encode, respell};
+use super::{KNOWN_WIRES, Levels, known_frames, levels_of, spelled, standard};
+use crate::{Front, Heard, Place, PlainBits, decode, encode, respell};
 use can_frame::{Frame, Level};
 use std::test::Fail;
 
@@ -68,6 +68,21 @@ fn found(rt: HostRuntime) -> Result<(), Fail> {
         assert!(rt; decode(&spelled(stuffed_part, tail)) == Ok((heard, 47)));
     }
     Ok(())
+}
+
+#[test]
+fn front_at_its_end(rt: HostRuntime) {
+    let mut front = Front::<PlainBits>::begin();
+    for level in levels_of(FRAME_001).iter().skip(1) {
+        if front.next_place() != Place::CrcDelimiter {
+            assert!(rt; front.hear(*level).is_ok());
+        }
+    }
+    assert!(rt; front.next_place() == Place::CrcDelimiter);
+    assert_eq!(rt; front.len(), 34);
+    assert!(rt; front.last().is_recessive());
+    assert!(rt; !front.is_extended());
+    assert!(rt; front.check_agrees());
 }
 
 #[test]

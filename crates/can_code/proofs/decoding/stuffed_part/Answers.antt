@@ -21,24 +21,32 @@ returns-in-Some-Recessive-clause-fault c =
 
 pub returns-in_default-clause-fault : goal.returns-in_default-clause-fault
 returns-in_default-clause-fault c =
+    let l = c.args.levels.now in
+    let p = c.loop-level in
     let going = going_on c.next_place.result (sym c.ne.ensures ∙ c.loop-level-test.true) in
-    subst (IsCodeFault c.args.levels.now) (sym c.fault-in_default.ensures)
-    (short_at c.args.levels.now c.loop-level.place c.loop-level.front c.loop-level.invariant.front (λ e. going (c.next_place.ensures.place ∙ e)) c.loop-level.invariant.within c.in_default.ensures.lookup.3)
+    subst (IsCodeFault l) (sym c.fault-in_default.ensures)
+    (short_at l p.place p.front p.invariant.front (λ e. going (c.next_place.ensures.place ∙ e)) p.invariant.within c.in_default.ensures.lookup.3)
 
 pub returns-then-is_err-clause-fault : goal.returns-then-is_err-clause-fault
 returns-then-is_err-clause-fault c =
+    let l = c.args.levels.now in
+    let p = c.loop-level in
+    let level = c.in-Some.ensures.lookup.3 in
     let going = going_on c.next_place.result (sym c.ne.ensures ∙ c.loop-level-test.true) in
     let error = c.hear.ensures.error.0 (sym c.is_err.ensures.value ∙ c.if-is_err.true) in
-    subst (IsCodeFault c.args.levels.now) (sym c.fault-then-is_err.ensures)
-    (stuff_at c.args.levels.now c.loop-level.place c.loop-level.front c.loop-level.invariant.front (λ e. going (c.next_place.ensures.place ∙ e)) c.in-Some.level.now (omega (arith, c.in-Some.ensures.lookup.3.0)) (c.in-Some.ensures.lookup.3.1 _) error)
+    subst (IsCodeFault l) (sym c.fault-then-is_err.ensures)
+    (stuff_at l p.place p.front p.invariant.front (λ e. going (c.next_place.ensures.place ∙ e)) c.in-Some.level.now level.0 (level.1 _) error)
 
 pub loop-level-preserved : goal.loop-level-preserved
 loop-level-preserved c =
+    let l = c.args.levels.now in
+    let p = c.loop-level in
+    let level = c.in-Some.ensures.lookup.3 in
+    let heard_well = sym c.is_err.ensures.value ∙ c.if-is_err.false in
     let going = going_on c.next_place.result (sym c.ne.ensures ∙ c.loop-level-test.true) in
-    let no_error = false_from_ne_true (is_stuff_error c.loop-level.front c.in-Some.level.now) (λ error.
-    both_ways (is_err c.hear.result) (sym c.is_err.ensures.value ∙ c.if-is_err.false) (c.hear.ensures.error.1 error)) in
-    let heard = heard_at c.args.levels.now c.loop-level.place c.loop-level.front c.loop-level.invariant.front (λ e. going (c.next_place.ensures.place ∙ e)) c.in-Some.level.now (omega (arith, c.in-Some.ensures.lookup.3.0)) (c.in-Some.ensures.lookup.3.1 _) no_error in
+    let no_error = false_from_ne_true (is_stuff_error p.front c.in-Some.level.now) (λ error. both_ways (is_err c.hear.result) heard_well (c.hear.ensures.error.1 error)) in
+    let heard = heard_at l p.place p.front p.invariant.front (λ e. going (c.next_place.ensures.place ∙ e)) c.in-Some.level.now level.0 (level.1 _) no_error in
     record {
-      front = subst (IsFrontOf (take (c.loop-level.place + 1) c.args.levels.now)) (sym (at_ok c.hear.result (sym c.is_err.ensures.value ∙ c.if-is_err.false) c.hear.ensures.ok)) heard;
-      within = omega (arith, c.in-Some.ensures.lookup.3.0);
+      front = subst (IsFrontOf (take (p.place + 1) l)) (sym (at_ok c.hear.result heard_well c.hear.ensures.ok)) heard;
+      within = omega (arith, level.0);
     }

@@ -10,16 +10,20 @@ use Rattle.can_code.proofs.decoding.tail.Goals.{in-1, in-9, in_default-place}
 
 pub returns-in_default-clause-fault : goal.returns-in_default-clause-fault
 returns-in_default-clause-fault c =
+    let l = c.args.levels.now in
     let p = c.loop-place in
-    subst (IsCodeFault c.args.levels.now) (sym c.fault.ensures)
-    (short_tail_at c.args.levels.now c.args.start c.requires.within c.requires.part p.place p.acked p.last c.loop-place-test.true p.invariant.read p.invariant.within (omega (arith, c.in_default.ensures.lookup.3)))
+    subst (IsCodeFault l) (sym c.fault.ensures)
+    (short_tail_at l c.args.start c.requires.within c.requires.part p.place p.acked p.last c.loop-place-test.true p.invariant.read p.invariant.within c.in_default.ensures.lookup.3)
 
 pub returns-in_default-2-clause-fault : goal.returns-in_default-2-clause-fault
 returns-in_default-2-clause-fault c =
+    let l = c.args.levels.now in
     let p = c.loop-place in
-    subst (IsCodeFault c.args.levels.now) (sym c.fault-in_default-2.ensures)
-    (form_at c.args.levels.now c.args.start c.requires.within c.requires.part p.place p.acked p.last c.loop-place-test.true p.invariant.read c.in-Some.level.now (omega (arith, c.in-Some.ensures.lookup.3.0)) (c.in-Some.ensures.lookup.3.1 Dominant)
-    (λ e. omega arith) (λ e. omega arith) (sym c.is_recessive.ensures ∙ c.if-is_recessive.false))
+    let level = c.in-Some.ensures.lookup.3 in
+    subst (IsCodeFault l) (sym c.fault-in_default-2.ensures) (
+    form_at l c.args.start c.requires.within c.requires.part p.place p.acked p.last c.loop-place-test.true p.invariant.read
+    c.in-Some.level.now level.0 (level.1 Dominant) (λ e. omega arith) (λ e. omega arith) (sym c.is_recessive.ensures ∙ c.if-is_recessive.false)
+    )
 
 pub loop-place-preserved : goal.loop-place-preserved
 loop-place-preserved c =
