@@ -233,13 +233,37 @@ fn checks(rt: HostRuntime) {
         (b"".as_slice(), Ok((0, 0)), b"passed 0 of 0\n".as_slice()),
         (VECTORS, Ok((1, 2)), b"ok\ndiffers at 38\npassed 1 of 2\n"),
         (&VECTORS[..59], Ok((1, 1)), b"ok\npassed 1 of 1\n"),
-        (b"S 001 D 0 = ", Ok((0, 1)), b"differs at 0\npassed 0 of 1\n"),
-        (b"S 001 D 0", Err(bad_line(1, TextFaultKind::Trailing, 9)), b""),
-        (b"S 001 D 0 =", Err(bad_line(1, TextFaultKind::Trailing, 9)), b""),
-        (b"S 800 D 0 = x", Err(bad_line(1, TextFaultKind::Identifier, 2)), b""),
-        (b"S 001 D 0 = \nS 800 D 0 = x\n", Err(bad_line(2, TextFaultKind::Identifier, 2)), b"differs at 0\n"),
+        (
+            b"S 001 D 0 = ",
+            Ok((0, 1)),
+            b"differs at 0\npassed 0 of 1\n",
+        ),
+        (
+            b"S 001 D 0",
+            Err(bad_line(1, TextFaultKind::Trailing, 9)),
+            b"",
+        ),
+        (
+            b"S 001 D 0 =",
+            Err(bad_line(1, TextFaultKind::Trailing, 9)),
+            b"",
+        ),
+        (
+            b"S 800 D 0 = x",
+            Err(bad_line(1, TextFaultKind::Identifier, 2)),
+            b"",
+        ),
+        (
+            b"S 001 D 0 = \nS 800 D 0 = x\n",
+            Err(bad_line(2, TextFaultKind::Identifier, 2)),
+            b"differs at 0\n",
+        ),
         (b"S 001 D 0 = 0 1", byte(13), b""),
-        (b"S 001 D 0 = \nS 001 D 0 = 01x\nS 800 D 0\n", byte(27), b"differs at 0\n"),
+        (
+            b"S 001 D 0 = \nS 001 D 0 = 01x\nS 800 D 0\n",
+            byte(27),
+            b"differs at 0\n",
+        ),
     ] {
         for piece in [1, 2, 3, 7, 8192] {
             for taken in [1, 2, 512] {
@@ -285,7 +309,10 @@ fn failing_reads_of_vectors(rt: HostRuntime) {
         (b"S 001 D 0 = \nS 001 D 0 = 0".as_slice(), TraceFault::Read),
         (b"S 001 D 0 = \nS 001 D", TraceFault::Read),
         (b"S 001 D 0 = \nS 800 D 0 = x", TraceFault::Read),
-        (b"S 001 D 0 = \nS 001 D 0 = 0 ", TraceFault::BadByte { place: 26 }),
+        (
+            b"S 001 D 0 = \nS 001 D 0 = 0 ",
+            TraceFault::BadByte { place: 26 },
+        ),
     ] {
         for piece in [1, 2, 3, 7, 8192] {
             let mut reader = reader_of(text, piece, Stop::Fails(ErrorKind::Interrupted));
@@ -293,7 +320,10 @@ fn failing_reads_of_vectors(rt: HostRuntime) {
             assert_eq!(rt; check_lines(&mut reader, &mut writer), Err(fault));
             assert!(rt; reader.failed() && !reader.ended() && !writer.failed());
             assert_eq!(rt; reader.into_inner().stops, 1);
-            assert_eq!(rt; writer.into_inner().taken.as_slice(), b"differs at 0\n".as_slice());
+            assert_eq!(rt;
+                writer.into_inner().taken.as_slice(),
+                b"differs at 0\n".as_slice()
+            );
         }
     }
 }
@@ -306,7 +336,10 @@ fn failing_writes_of_verdicts(rt: HostRuntime) {
         for room in [0, 3, 17, 30] {
             let mut reader = reader_of(VECTORS, 8192, Stop::Nothing);
             let mut writer = writer_of(rt.alloc(), size, room, Stop::Nothing);
-            assert_eq!(rt; check_lines(&mut reader, &mut writer), Err(TraceFault::Write));
+            assert_eq!(rt;
+                check_lines(&mut reader, &mut writer),
+                Err(TraceFault::Write)
+            );
             let writer = writer.into_inner();
             assert_eq!(rt; writer.stops, 1);
             assert_eq!(rt; writer.taken.len(), room);

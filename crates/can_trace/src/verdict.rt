@@ -14,7 +14,11 @@ use itoa::Buffer;
 const LINE: usize = 64;
 
 /// Puts the line of a verdict.
-pub(crate) fn put_verdict<W: Sink>(verdict: Verdict, w: &mut W, out: &mut Outbox) -> Result<(), TraceFault>
+pub(crate) fn put_verdict<W: Sink>(
+    verdict: Verdict,
+    w: &mut W,
+    out: &mut Outbox,
+) -> Result<(), TraceFault>
     requires { W.has_failed w.old ≡ false }
     ensures ok { OnOk result (PassesOn (W.contents w.old) (W.contents w.new) out.old out.new (verdict_line verdict)) }
     ensures err { OnErr result (TakesFront (W.contents w.old) (W.contents w.new) out.old) }
@@ -42,7 +46,12 @@ fn written_verdict(verdict: Verdict) -> ArrayVec<u8, LINE>
 }
 
 /// Puts the line that tells how many lines passed, of how many.
-pub(crate) fn put_total<W: Sink>(passed: u64, count: u64, w: &mut W, out: &mut Outbox) -> Result<(), TraceFault>
+pub(crate) fn put_total<W: Sink>(
+    passed: u64,
+    count: u64,
+    w: &mut W,
+    out: &mut Outbox,
+) -> Result<(), TraceFault>
     requires { W.has_failed w.old ≡ false }
     ensures ok { OnOk result (PassesOn (W.contents w.old) (W.contents w.new) out.old out.new (total_line passed count)) }
     ensures err { OnErr result (TakesFront (W.contents w.old) (W.contents w.new) out.old) }

@@ -1,4 +1,4 @@
-use Rattle.std.proofs.Common.{◌≡◌, ℕ, List, ◌+◌, ◌++◌, ◌∷◌, cond, length, true, false, [], ◌∙◌, take, Ok, sym, ap, arith, refl}
+use Rattle.std.proofs.Common.{◌≡◌, ℕ, List, ◌+◌, ◌++◌, ◌∷◌, length, true, false, [], ◌∙◌, take, Ok, sym, ap, arith, refl}
 use Rattle.std.proofs.lemmas.Result.{err_from_is_err_and}
 use Rattle.can_trace.proofs.Answering.{AtLine, Answering-none, Answering-more, AtLine-read, empty_from_front, open_from_front, whole_lines-ended, lines_of-last, number_below-ended, number_below-last}
 use Rattle.can_trace.proofs.CheckSteps.{Passing, Checks-none, Checks-answered, behind_start, line_fits, start_is, unread_within}
@@ -15,8 +15,7 @@ ended_line : (g : Over) (c : Then-branch g) → (line : List ℕ) × (c.next_lin
 ended_line g c =
     let reads = rw c.if-branch.true at c.in_ok-next_line.ensures.reads in
     let old = c.loop-number.lines in
-    let new = c.next_line.new.lines in
-    (
+    let new = c.next_line.new.lines in (
       reads.line,
       reads.keeps,
       AtLine-read (Passing c.loop-number.passed) _ _ _ _ _ true 193 old new c.loop-number.out c.loop-number.number c.loop-number.invariant.answering reads,
@@ -31,8 +30,7 @@ last_line : (g : Over) (c : Else-branch g) → (line : List ℕ) × (c.next_line
 last_line g c =
     let reads = rw c.if-branch.false at c.in_ok-next_line.ensures.reads in
     let old = c.loop-number.lines in
-    let new = c.next_line.new.lines in
-    (
+    let new = c.next_line.new.lines in (
       reads.line,
       reads.keeps,
       AtLine-read (Passing c.loop-number.passed) _ _ _ _ _ false 193 old new c.loop-number.out c.loop-number.number c.loop-number.invariant.answering reads,
