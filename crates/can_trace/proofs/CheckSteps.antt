@@ -1,12 +1,12 @@
 -- The steps of checking lines: a line is read, and its verdict goes through the buffer to the writer.
-use Rattle.std.proofs.Common.{◌≡◌, ℕ, ◌+◌, ◌^◌, ◌<◌, ◌≤◌, ◌⊎◌, inl, inr, Bool, true, false, cond, List, [], ◌∷◌, ◌++◌, length, take, Option, refl, sym, ap, subst, ◌∙◌, append_assoc, arith}
-use Rattle.std.proofs.lemmas.List.{append-nil, length-append, length-take, flat_map_more}
+use Rattle.std.proofs.Common.{◌≡◌, ℕ, ◌+◌, ◌^◌, ◌<◌, ◌≤◌, inl, inr, Bool, true, cond, List, [], ◌∷◌, ◌++◌, length, take, Option, refl, sym, ap, subst, ◌∙◌, append_assoc, arith}
+use Rattle.std.proofs.lemmas.List.{length-append, length-take, flat_map_more}
 use Rattle.std.specs.List.{flat_map}
 use Rattle.can_trace.specs.Lines.{with_end}
 use Rattle.can_trace.specs.LineReader.{ReadsLine}
 use Rattle.can_trace.specs.Inbox.{StopsReading}
 use Rattle.can_trace.specs.Checked.{pass, passes, verdict_line, Checks, IsVerdict, Judged}
-use Rattle.can_trace.specs.Checking.{IsBadAt, IsOpenFault, IsUnbroken, Judges, StopsChecking}
+use Rattle.can_trace.specs.Checking.{IsOpenFault, Judges, StopsChecking}
 use Rattle.can_trace.specs.declared.fault.TraceFault.{TraceFault}
 use Rattle.can_trace.specs.declared.fault.TraceFault.TheVariants.{BadByte, Read, Write, Long, FrameLine}
 use Rattle.can_trace.specs.declared.lines.LineReader.{LineReader}

@@ -7,12 +7,10 @@ use Rattle.std.proofs.lemmas.Slice.Eq.{starts_is}
 use Rattle.std.proofs.lemmas.List.{append-nil, length-append, length-map, length-take, length-drop, take_all, take-append-drop, take-append-le, take-take, drop-append-le}
 use Rattle.std.proofs.Math.Seq.{take-append-add}
 use Rattle.std.specs.List.{starts_with}
-use Rattle.can_frame.specs.declared.level.Level.{Level}
 use Rattle.can_frame.specs.declared.text.TextFault.{TextFault}
-use Rattle.can_frame.specs.Parts.{Parts, IsFrame}
-use Rattle.can_frame.specs.Text.{frame_text, IsFrameText, IsTextFault}
+use Rattle.can_frame.specs.Text.{frame_text, IsTextFault}
 use Rattle.can_trace.specs.Coded.{digit_of}
-use Rattle.can_trace.specs.Checked.{mark, IsBadLevelByte, IsBadVectorLine, IsFirstBadDigit, IsFramePart, IsMarked, IsVector, IsVerdict}
+use Rattle.can_trace.specs.Checked.{mark, IsBadLevelByte, IsBadVectorLine, IsFramePart, IsVerdict}
 use Rattle.can_trace.specs.declared.vector.Verdict.{Verdict}
 use Rattle.can_trace.proofs.TextLemmas.{length-frame_text, IsTextFault-front, IsTextFault-kept}
 use Rattle.can_trace.proofs.MarkLemmas.{mark_behind}

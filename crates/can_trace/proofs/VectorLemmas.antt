@@ -1,22 +1,19 @@
 -- A line that is read as a frame text, a mark and levels.
-use Rattle.std.proofs.Common.{◌≡◌, ◌≢◌, ℕ, ◌+◌, ◌-◌, ◌<◌, ◌≤◌, ◌⊎◌, inl, inr, Bool, true, false, List, [], ◌∷◌, ◌++◌, length, take, drop, map, refl, sym, ap, subst, ◌∙◌, append_assoc, arith, ◌↔◌, eqb}
+use Rattle.std.proofs.Common.{◌≡◌, ◌≢◌, ℕ, ◌+◌, ◌-◌, ◌<◌, ◌≤◌, inr, Bool, true, false, List, ◌++◌, length, take, drop, sym, ap, subst, ◌∙◌, append_assoc, arith, eqb}
 use Rattle.std.proofs.lemmas.Bool.{false≢true}
 use Rattle.std.proofs.lemmas.Bool.Decides.{Decides-eqb}
-use Rattle.std.proofs.lemmas.List.{length-append, length-take, length-drop, take_all, take-append-drop, take_rest}
+use Rattle.std.proofs.lemmas.List.{length-append, length-take, take-append-drop, take_rest}
 use Rattle.std.proofs.lemmas.Slice.Eq.{starts_is}
 use Rattle.std.specs.List.{starts_with}
 use Rattle.can_frame.specs.declared.level.Level.{Level}
 use Rattle.can_frame.specs.Parts.{Parts, IsFrame}
-use Rattle.can_frame.specs.Text.{frame_text, IsFrameText, IsTextFault, Begins, BeginsSome}
+use Rattle.can_frame.specs.Text.{frame_text}
 use Rattle.can_frame.specs.declared.text.TextFault.{TextFault}
-use Rattle.can_frame.specs.declared.text.TextFaultKind.TheVariants.{Trailing}
 use Rattle.can_code.specs.Wire.{driven}
 use Rattle.can_trace.specs.Checked.{mark, Compares, IsBadLevelByte, IsBadVectorLine, IsFirstBadDigit, IsFramePart, IsLevels, IsMarked, IsVerdict}
 use Rattle.can_trace.specs.declared.vector.Verdict.{Verdict}
 use Rattle.can_trace.proofs.DigitLemmas.{IsFirstBadDigit-only, IsLevels-good}
-use Rattle.can_trace.proofs.MarkLemmas.{IsFramePart-marked, IsFramePart-only, marked-others, marked-text, mark_behind}
-use Rattle.std.proofs.Math.Seq.{drop-length}
-use lib.Seq.{take-add}
+use Rattle.can_trace.proofs.MarkLemmas.{IsFramePart-marked, IsFramePart-only, marked-others, marked-text}
 
 -- ---- the search for the mark
 

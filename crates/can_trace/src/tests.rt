@@ -2,7 +2,7 @@
 ghost use Rattle.std.specs.Prelude.{◌≡◌, false, IfOk};
 ghost use Rattle.can_trace.specs.Wrapped.{read_failed, read_ended, write_failed};
 
-use crate::{FromRead, Sink, Source, ToWrite, TraceFault, encode_lines};
+use crate::{FromRead, Sink, Source, ToWrite, TraceFault, check_lines, encode_lines};
 use can_frame::{TextFault, TextFaultKind};
 use std::alloc::Global;
 use std::io;
@@ -221,9 +221,137 @@ fn long_lines(rt: HostRuntime) {
     }
 }
 
+/// The levels of `S 001 D 0`, then with the ACK slot dominant.
+const VECTORS: &[u8] = b"S 001 D 0 = 00000100000101000001000100010000100111111111111
+S 001 D 0 = 00000100000101000001000100010000100111011111111
+";
+
+#[test]
+fn checks(rt: HostRuntime) {
+    let byte = |place| Err(TraceFault::BadByte { place });
+    for (text, outcome, verdicts) in [
+        (b"".as_slice(), Ok((0, 0)), b"passed 0 of 0\n".as_slice()),
+        (VECTORS, Ok((1, 2)), b"ok\ndiffers at 38\npassed 1 of 2\n"),
+        (&VECTORS[..59], Ok((1, 1)), b"ok\npassed 1 of 1\n"),
+        (
+            b"S 001 D 0 = ",
+            Ok((0, 1)),
+            b"differs at 0\npassed 0 of 1\n",
+        ),
+        (
+            b"S 001 D 0",
+            Err(bad_line(1, TextFaultKind::Trailing, 9)),
+            b"",
+        ),
+        (
+            b"S 001 D 0 =",
+            Err(bad_line(1, TextFaultKind::Trailing, 9)),
+            b"",
+        ),
+        (
+            b"S 800 D 0 = x",
+            Err(bad_line(1, TextFaultKind::Identifier, 2)),
+            b"",
+        ),
+        (
+            b"S 001 D 0 = \nS 800 D 0 = x\n",
+            Err(bad_line(2, TextFaultKind::Identifier, 2)),
+            b"differs at 0\n",
+        ),
+        (b"S 001 D 0 = 0 1", byte(13), b""),
+        (
+            b"S 001 D 0 = \nS 001 D 0 = 01x\nS 800 D 0\n",
+            byte(27),
+            b"differs at 0\n",
+        ),
+    ] {
+        for piece in [1, 2, 3, 7, 8192] {
+            for taken in [1, 2, 512] {
+                let mut reader = reader_of(text, piece, Stop::Nothing);
+                let mut writer = writer_of(rt.alloc(), taken, ROOM, Stop::Nothing);
+                assert_eq!(rt;
+                    check_lines(&mut reader, &mut writer),
+                    outcome,
+                    "pieces of {piece}"
+                );
+                assert_eq!(rt;
+                    writer.into_inner().taken.as_slice(),
+                    verdicts,
+                    "writes of {taken}"
+                );
+            }
+        }
+    }
+}
+
+/// 157 levels are taken, whatever they are, and no more.
+#[test]
+fn many_levels(rt: HostRuntime) {
+    let mut text = [b'0'; 1000];
+    text[..12].copy_from_slice(b"S 001 D 0 = ");
+    for piece in [1, 7, 8192] {
+        for (length, outcome) in [
+            (169, Ok((0, 1))),
+            (170, Err(TraceFault::BadByte { place: 169 })),
+            (1000, Err(TraceFault::BadByte { place: 169 })),
+        ] {
+            let mut reader = reader_of(&text[..length], piece, Stop::Nothing);
+            let mut writer = writer_of(rt.alloc(), 512, ROOM, Stop::Nothing);
+            assert_eq!(rt; check_lines(&mut reader, &mut writer), outcome);
+        }
+    }
+}
+
+/// A bad byte comes before a failed read, and a bad frame text only where its line has ended.
+#[test]
+fn failing_reads_of_vectors(rt: HostRuntime) {
+    for (text, fault) in [
+        (b"S 001 D 0 = \nS 001 D 0 = 0".as_slice(), TraceFault::Read),
+        (b"S 001 D 0 = \nS 001 D", TraceFault::Read),
+        (b"S 001 D 0 = \nS 800 D 0 = x", TraceFault::Read),
+        (
+            b"S 001 D 0 = \nS 001 D 0 = 0 ",
+            TraceFault::BadByte { place: 26 },
+        ),
+    ] {
+        for piece in [1, 2, 3, 7, 8192] {
+            let mut reader = reader_of(text, piece, Stop::Fails(ErrorKind::Interrupted));
+            let mut writer = writer_of(rt.alloc(), 512, ROOM, Stop::Nothing);
+            assert_eq!(rt; check_lines(&mut reader, &mut writer), Err(fault));
+            assert!(rt; reader.failed() && !reader.ended() && !writer.failed());
+            assert_eq!(rt; reader.into_inner().stops, 1);
+            assert_eq!(rt;
+                writer.into_inner().taken.as_slice(),
+                b"differs at 0\n".as_slice()
+            );
+        }
+    }
+}
+
+/// What was taken is a beginning of the answer.
+#[test]
+fn failing_writes_of_verdicts(rt: HostRuntime) {
+    let answer = b"ok\ndiffers at 38\npassed 1 of 2\n".as_slice();
+    for size in [1, 2, 512] {
+        for room in [0, 3, 17, 30] {
+            let mut reader = reader_of(VECTORS, 8192, Stop::Nothing);
+            let mut writer = writer_of(rt.alloc(), size, room, Stop::Nothing);
+            assert_eq!(rt;
+                check_lines(&mut reader, &mut writer),
+                Err(TraceFault::Write)
+            );
+            let writer = writer.into_inner();
+            assert_eq!(rt; writer.stops, 1);
+            assert_eq!(rt; writer.taken.len(), room);
+            assert!(rt; answer.starts_with(&writer.taken));
+        }
+    }
+}
+
 #[test]
 fn printed_faults(rt: HostRuntime) -> Result<(), Fail> {
     for (fault, text) in [
+        (TraceFault::BadByte { place: 3 }, "P1 byte 3"),
         (TraceFault::Read, "P3 read"),
         (TraceFault::Write, "P4 write"),
         (TraceFault::Long, "P6 long"),

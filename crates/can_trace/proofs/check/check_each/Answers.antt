@@ -1,4 +1,4 @@
-use Rattle.std.proofs.Common.{◌≡◌, ℕ, List, ◌+◌, ◌++◌, ◌∷◌, cond, length, true, false, [], ◌∙◌, take, Ok, sym, ap, arith, refl}
+use Rattle.std.proofs.Common.{◌≡◌, ℕ, List, ◌+◌, ◌++◌, ◌∷◌, length, true, false, [], ◌∙◌, take, Ok, sym, ap, arith, refl}
 use Rattle.std.proofs.lemmas.Result.{err_from_is_err_and}
 use Rattle.can_trace.proofs.Answering.{AtLine, Answering-none, Answering-more, AtLine-read, empty_from_front, open_from_front, whole_lines-ended, lines_of-last, number_below-ended, number_below-last}
 use Rattle.can_trace.proofs.CheckSteps.{Passing, Checks-none, Checks-answered, behind_start, line_fits, start_is, unread_within}

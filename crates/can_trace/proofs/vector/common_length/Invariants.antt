@@ -1,4 +1,4 @@
-use Rattle.std.proofs.Common.{◌≡◌, ◌≤◌, length, take}
+use Rattle.std.proofs.Common.{◌≡◌, take}
 use Rattle.can_trace.proofs.vector.common_length.Given as goal
 
 abbrev pub invariant-loop-place : goal.invariant-loop-place

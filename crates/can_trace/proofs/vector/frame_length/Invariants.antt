@@ -1,4 +1,4 @@
-use Rattle.std.proofs.Common.{◌≡◌, ◌≢◌, ◌<◌, ℕ, take, drop}
+use Rattle.std.proofs.Common.{◌≢◌, ◌<◌, ℕ, take, drop}
 use Rattle.can_trace.specs.Checked.{mark}
 use Rattle.can_trace.proofs.vector.frame_length.Given as goal
 

@@ -1,4 +1,4 @@
-use Rattle.std.proofs.Common.{Err, ap, sym, ◌∙◌}
+use Rattle.std.proofs.Common.{Err, ap}
 use Rattle.std.proofs.lemmas.List.{take_rest}
 use Rattle.can_trace.specs.declared.vector.BadLine.TheVariants.{Byte}
 use Rattle.can_trace.proofs.VectorLemmas.{IsVerdict-read, IsBadLevelByte-good, IsBadLevelByte-read, IsBadLevelByte-only, IsBadVectorLine-unbroken}

@@ -1,4 +1,4 @@
-use Rattle.std.proofs.Common.{ℕ, ◌≡◌, ◌++◌, ◌∷◌, [], ap, ◌∙◌, codes, decimal}
+use Rattle.std.proofs.Common.{ℕ, ◌++◌, ◌∷◌, [], ap, ◌∙◌, codes, decimal}
 use Rattle.arrayvec.specs.ArrayVec.{ArrayVec}
 use Rattle.can_trace.proofs.VerdictLines.{verdict_line-agrees, verdict_line-differs}
 use Rattle.can_trace.proofs.verdict.written_verdict.Goals.{in-Agrees, in-DiffersAt}
