@@ -1,13 +1,17 @@
 //! Streams of text about frames: lines of text in, lines of text out, over any reader and any writer.
 //!
 //! [`encode_lines`] reads frame texts, one a line, and writes for each the levels that its sender drives.
-//! It promises what was written of what was read, for every way in which it can end, wherever the reader
+//! [`check_lines`] reads frame texts with levels, and writes for each whether those are the levels. Each
+//! promises what was written of what was read, for every way in which it can end, wherever the reader
 //! and the writer tell their bytes; and for all of them, which failure its answer stands for. It holds
 //! two fixed buffers and takes no memory.
 //!
 //! | File | What it has | Defined in |
 //! |---|---|---|
-//! | `encode.rt` | [`encode_lines`] | `specs/Coded.antt` |
+//! | `encode.rt` | [`encode_lines`] | `specs/Coded.antt`, `specs/Answered.antt` |
+//! | `check.rt` | [`check_lines`] | `specs/Checked.antt`, `specs/Answered.antt` |
+//! | `vector.rt` | one line of a frame text and levels, and its verdict | `specs/Checked.antt` |
+//! | `verdict.rt` | the lines that tell verdicts and their total | `specs/Checked.antt` |
 //! | `fault.rt` | [`TraceFault`], why an answer is not whole | |
 //! | `laws.rt` | that lines have one answer | `specs/Coded.antt` |
 //! | `source.rt` | [`Source`], what bytes are read from, and [`FromRead`], which wraps a `Read` | `specs/Told.antt`, `specs/Wrapped.antt` |
@@ -16,9 +20,12 @@
 //! | `inbox.rt` | the bytes that were read and not used yet | `specs/Inbox.antt` |
 //! | `outbox.rt` | the bytes on their way to a sink, and [`write_all`] | `specs/Outbox.antt` |
 //!
-//! `specs/Answering.antt` has what the steps of `encode.rt` promise one another. Of the lemmas,
+//! `specs/Answering.antt` has what the steps of `encode.rt` promise one another, `specs/Checking.antt`
+//! those of `check.rt`. Of the lemmas,
 //! `proofs/LineLemmas.antt` has how a text falls into lines, `Reading` how a line is read, `TextLemmas`
 //! why 33 bytes of a line tell its fault, `Answering` and `Endings` the steps and the ends of a run.
+//! Of checking, `MarkLemmas`, `DigitLemmas` and `VectorLemmas` have how a line is read, `VectorFronts` why
+//! 193 bytes of it tell all, `CheckSteps` and `CheckEndings` the steps and the ends of a run.
 #![tactic(auto)]
 
 mod check;
