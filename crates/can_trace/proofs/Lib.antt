@@ -14,3 +14,6 @@ pub mod Answering
 pub mod Endings
 pub mod CheckSteps
 pub mod CheckEndings
+pub mod IdleRows
+pub mod DecoderStub
+pub mod TraceSteps

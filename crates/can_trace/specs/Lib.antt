@@ -9,3 +9,7 @@ pub mod Coded
 pub mod Checked
 pub mod Checking
 pub mod Answering
+pub mod Decoder
+pub mod TraceText
+pub mod Decoded
+pub mod Decoding

@@ -29,8 +29,11 @@
 #![tactic(auto)]
 
 mod check;
+mod decode;
+mod decoder_stub;
 mod encode;
 mod fault;
+mod finding;
 mod inbox;
 mod laws;
 mod lines;
@@ -39,6 +42,7 @@ mod sink;
 mod source;
 #[cfg(test)]
 mod tests;
+mod trace;
 mod vector;
 mod verdict;
 
