@@ -17,3 +17,4 @@ pub mod CheckEndings
 pub mod IdleRows
 pub mod DecoderStub
 pub mod TraceSteps
+pub mod DecodeSteps

@@ -1,5 +1,5 @@
 -- What is written for a trace: a line for each frame, and for each fault.
-use Rattle.std.specs.Prelude.{◌≡◌, ◌≢◌, ℕ, ◌+◌, ◌^◌, ◌<◌, ◌≤◌, if◌then◌else◌, Bool, true, false, List, [], ◌∷◌, ◌++◌, length, filter, replicate, codes, decimal}
+use Rattle.std.specs.Prelude.{◌≡◌, ◌≢◌, ℕ, ◌+◌, ◌^◌, ◌<◌, ◌≤◌, if◌then◌else◌, Bool, true, false, not, List, [], ◌∷◌, ◌++◌, length, filter, replicate, codes, decimal}
 use Rattle.std.specs.List.{flat_map}
 use Rattle.can_frame.specs.declared.level.Level.{Level}
 use Rattle.can_frame.specs.declared.level.Level.TheVariants.{Dominant, Recessive}
@@ -52,8 +52,8 @@ acknowledgement acked = if acked then codes " ack" else codes " noack"
 -- which levels were heard otherwise than they are sent
 abbrev pub deviations : HeardParts → List ℕ
 deviations h =
-    (if is_recessive h.srr then [] else codes " srr0") ++ (word_if (is_recessive h.r1) (codes " r1")
-    ++ (word_if (is_recessive h.r0) (codes " r0") ++ (if is_recessive h.last then [] else codes " eof0")))
+    word_if (not (is_recessive h.srr)) (codes " srr0") ++ (word_if (is_recessive h.r1) (codes " r1")
+    ++ (word_if (is_recessive h.r0) (codes " r0") ++ word_if (not (is_recessive h.last)) (codes " eof0")))
 
 -- the code of a kind of fault
 abbrev pub code_of : CodeFaultKind → List ℕ

@@ -36,6 +36,7 @@ mod fault;
 mod finding;
 mod inbox;
 mod laws;
+mod line;
 mod lines;
 mod outbox;
 mod sink;

@@ -23,8 +23,9 @@ returns-in-Ok-None-clause-hears c =
 
 pub returns-in-Ok-Some-clause-hears : goal.returns-in-Ok-Some-clause-hears
 returns-in-Ok-Some-clause-hears c =
-    λ levels told hearing. Hearing-frame c.args.self.now _ levels told hearing c.args.level refl c.in-InFrame.start c.in-InFrame.decoder c.in-InFrame.is _ refl
-    (λ l heard. c.hear.ensures.heard _ l (c.in-Ok-Some.is ∙ ap Ok c.in-Ok-Some.field-0-is) heard)
+    λ levels told hearing. rw c.in-Ok-Some.heard-is
+    (Hearing-frame c.args.self.now _ levels told hearing c.args.level refl c.in-InFrame.start c.in-InFrame.decoder c.in-InFrame.is c.in-Ok-Some.heard refl
+    (λ l heard. c.hear.ensures.heard _ l (c.in-Ok-Some.is ∙ ap Ok c.in-Ok-Some.field-0-is) heard))
 
 pub returns-in-Err-clause-hears : goal.returns-in-Err-clause-hears
 returns-in-Err-clause-hears c =
