@@ -35,6 +35,7 @@
 #![tactic(auto)]
 
 mod crc;
+mod decoder;
 mod decoding;
 mod encoding;
 mod fault;
@@ -51,6 +52,7 @@ mod stuffing;
 mod tests;
 
 pub use crc::crc15;
+pub use decoder::Decoder;
 pub use decoding::decode;
 pub use encoding::encode;
 pub use fault::{CodeFault, CodeFaultKind};
