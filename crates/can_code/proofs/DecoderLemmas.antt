@@ -91,9 +91,9 @@ module _ (d : DecoderParts) (l : List Level) (h : HasHeard d l) where
             part = h.part ++ x ∷ [];
             whole = ap (λ t. t ++ x ∷ []) all_part ∙ ap (λ t. Dominant ∷ t) (sym (append-nil (h.part ++ x ∷ []))) ∙ ap (λ t. Dominant ∷ ((h.part ++ x ∷ []) ++ t)) (sym nothing);
             front =
-              heard_levels-append h.part (x ∷ []) first_front d.front h.front
-              ∙ ap (option_and_then (λ g. heard_levels g [])) (hear_at-going d.front x (next_place d.front) going no_error)
-              ∙ ap Some (sym next);
+                heard_levels-append h.part (x ∷ []) first_front d.front h.front
+                ∙ ap (option_and_then (λ g. heard_levels g [])) (hear_at-going d.front x (next_place d.front) going no_error)
+                ∙ ap Some (sym next);
             behind = λ ended. record {
               ended = ended;
               agrees = agrees ended;

@@ -25,7 +25,7 @@ returns-then-is_err-clause-fault g c =
     let going = is_going c.next_place.result (not-true _ (sym c.ne.ensures ∙ c.if-ne.true)) in
     let error = c.hear.ensures.error.0 (sym c.is_err.ensures.value ∙ c.if-is_err.true) in
     λ l rest heard.
-        HasHeard-stuff c.args.self.now l heard (λ e. going (c.next_place.ensures.place ∙ ap next_place front_is ∙ e)) c.args.level rest (ap (λ f. is_stuff_error f c.args.level) (sym front_is) ∙ error)
+    HasHeard-stuff c.args.self.now l heard (λ e. going (c.next_place.ensures.place ∙ ap next_place front_is ∙ e)) c.args.level rest (ap (λ f. is_stuff_error f c.args.level) (sym front_is) ∙ error)
 
 pub returns-then-not-check_agrees-clause-fault : goal.returns-then-not-check_agrees-clause-fault
 returns-then-not-check_agrees-clause-fault g c =
@@ -37,9 +37,9 @@ returns-then-not-check_agrees-clause-fault g c =
     let ended = is_ended c.next_place-then-ne.result (sym c.eq.ensures ∙ c.if-eq.true) in
     let next : c.hear.new.self ≡ heard_level c.args.self.now.front x = at_ok c.hear.result heard_well c.hear.ensures.ok ∙ ap (λ f. heard_level f x) front_is in
     λ l rest heard.
-        HasHeard-crc c.args.self.now l heard (λ e. going (c.next_place.ensures.place ∙ ap next_place front_is ∙ e)) x (ap (λ f. is_stuff_error f x) (sym front_is) ∙ no_error) rest
-        (ap next_place (sym next) ∙ sym c.next_place-then-ne.ensures.place ∙ ended)
-        (λ agrees. both_ways c.check_agrees.result c.if-not-check_agrees.true (c.check_agrees.ensures.1 (subst (λ f. IsCrc (head_of f.unstuffed) (check_of f.unstuffed)) (sym next) agrees)))
+    HasHeard-crc c.args.self.now l heard (λ e. going (c.next_place.ensures.place ∙ ap next_place front_is ∙ e)) x (ap (λ f. is_stuff_error f x) (sym front_is) ∙ no_error) rest
+    (ap next_place (sym next) ∙ sym c.next_place-then-ne.ensures.place ∙ ended)
+    (λ agrees. both_ways c.check_agrees.result c.if-not-check_agrees.true (c.check_agrees.ensures.1 (subst (λ f. IsCrc (head_of f.unstuffed) (check_of f.unstuffed)) (sym next) agrees)))
 
 pub returns-then-ne-clause-more : goal.returns-then-ne-clause-more
 returns-then-ne-clause-more g c =
@@ -56,8 +56,8 @@ returns-then-ne-clause-more g c =
       | else-eq-via-else-eq w ↦ absurd (is_going c.next_place-then-ne.result (sym c.eq.ensures ∙ w.if-eq.false) (c.next_place-then-ne.ensures.place ∙ ended))
     ] in
     λ _ l heard.
-        HasHeard-level c.args.self.now l heard (λ e. going (c.next_place.ensures.place ∙ ap next_place front_is ∙ e)) x (ap (λ f. is_stuff_error f x) (sym front_is) ∙ no_error)
-        _ next (ap (λ d. d.behind) c.self.view_is) agrees
+    HasHeard-level c.args.self.now l heard (λ e. going (c.next_place.ensures.place ∙ ap next_place front_is ∙ e)) x (ap (λ f. is_stuff_error f x) (sym front_is) ∙ no_error)
+    _ next (ap (λ d. d.behind) c.self.view_is) agrees
 
 pub returns-in-9-clause-heard : goal.returns-in-9-clause-heard
 returns-in-9-clause-heard g c =
@@ -67,10 +67,10 @@ returns-in-9-clause-heard g c =
     let behind : c.args.self.now.behind ≡ take 9 (tail (ack_slot c.self.inside.acked) Recessive) =
     ap (λ d. d.behind) (sym c.self.view_is) ∙ ap (λ n. take n (tail (ack_slot c.self.inside.acked) Recessive)) c.in-9.is in
     λ h l result heard.
-        let told : h ≡ heard_of c.args.self.now.front.unstuffed c.self.inside.acked x =
-        (let same : c.heard.result ≡ h = cc in sym same) ∙ c.heard.ensures ∙ ap (λ f. heard_of f.unstuffed c.self.inside.acked x) front_is in
-        subst (λ h. Spells h (l ++ x ∷ [])) (sym told)
-        (HasHeard-last c.args.self.now l heard (ap next_place (sym front_is) ∙ sym c.next_place.ensures.place ∙ ended) x c.self.inside.acked behind)
+    let told : h ≡ heard_of c.args.self.now.front.unstuffed c.self.inside.acked x =
+    (let same : c.heard.result ≡ h = cc in sym same) ∙ c.heard.ensures ∙ ap (λ f. heard_of f.unstuffed c.self.inside.acked x) front_is in
+    subst (λ h. Spells h (l ++ x ∷ [])) (sym told)
+    (HasHeard-last c.args.self.now l heard (ap next_place (sym front_is) ∙ sym c.next_place.ensures.place ∙ ended) x c.self.inside.acked behind)
 
 pub returns-in_default-2-clause-fault : goal.returns-in_default-2-clause-fault
 returns-in_default-2-clause-fault g c =
@@ -81,8 +81,8 @@ returns-in_default-2-clause-fault g c =
     let ended = is_ended c.next_place.result (not-false _ (sym c.ne.ensures ∙ c.if-ne.false)) in
     let breaks = dominant_breaks k acked x c.self.invariant (λ e. omega arith) (λ e. omega arith) (sym c.if-is_recessive.ensures) in
     λ l rest heard.
-        HasHeard-form c.args.self.now l heard (ap next_place (sym front_is) ∙ sym c.next_place.ensures.place ∙ ended) x rest
-        (λ h more same. breaks h more (ap (λ d. d.behind ++ x ∷ more) c.self.view_is ∙ same))
+    HasHeard-form c.args.self.now l heard (ap next_place (sym front_is) ∙ sym c.next_place.ensures.place ∙ ended) x rest
+    (λ h more same. breaks h more (ap (λ d. d.behind ++ x ∷ more) c.self.view_is ∙ same))
 
 pub returns-clause-more : goal.returns-clause-more
 returns-clause-more g c =
@@ -94,19 +94,19 @@ returns-clause-more g c =
     let ended = is_ended c.next_place.result (not-false _ (sym c.ne.ensures ∙ c.if-ne.false)) in
     let ended_here : next_place d.front ≡ CrcDelimiter = ap next_place (sym front_is) ∙ sym c.next_place.ensures.place ∙ ended in
     λ _ l heard.
-        elim c.match-self.branch [
-          | in-1 w ↦
-              let slot : k ≡ 1 = w.in-1.is in
-              rw (w.self-inside-is, w.is_recessive.ensures) (
-                  HasHeard-behind d l heard ended_here _ x (k + 1) (not (is_recessive x)) (omega arith) front_is
-                  (ack_slot_heard k c.self.inside.acked x slot ∙ ap (λ t. t ++ x ∷ []) behind_is) refl
-                  )
-          | in_default w ↦
-              let no_slot : k ≢ 1 = λ e. omega arith in
-              let no_last : k ≢ 9 = λ e. omega arith in
-              let few : k < 10 = c.self.invariant in
-              rw w.self-inside-is (
-                  HasHeard-behind d l heard ended_here _ x (k + 1) c.self.inside.acked (omega arith) front_is
-                  (recessive_heard k c.self.inside.acked x few no_slot no_last (sym w.if-is_recessive.ensures) ∙ ap (λ t. t ++ x ∷ []) behind_is) refl
-                  )
-        ]
+    elim c.match-self.branch [
+      | in-1 w ↦
+          let slot : k ≡ 1 = w.in-1.is in
+          rw (w.self-inside-is, w.is_recessive.ensures) (
+          HasHeard-behind d l heard ended_here _ x (k + 1) (not (is_recessive x)) (omega arith) front_is
+          (ack_slot_heard k c.self.inside.acked x slot ∙ ap (λ t. t ++ x ∷ []) behind_is) refl
+          )
+      | in_default w ↦
+          let no_slot : k ≢ 1 = λ e. omega arith in
+          let no_last : k ≢ 9 = λ e. omega arith in
+          let few : k < 10 = c.self.invariant in
+          rw w.self-inside-is (
+          HasHeard-behind d l heard ended_here _ x (k + 1) c.self.inside.acked (omega arith) front_is
+          (recessive_heard k c.self.inside.acked x few no_slot no_last (sym w.if-is_recessive.ensures) ∙ ap (λ t. t ++ x ∷ []) behind_is) refl
+          )
+    ]
