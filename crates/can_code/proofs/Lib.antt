@@ -37,6 +37,7 @@ pub mod CodeFaultLemmas
 pub mod OneCodeFault
 pub mod DecodingLemmas
 pub mod DecoderLemmas
+pub mod FrameOrFault
 pub mod TailLemmas
 -- known values
 pub mod LayoutRows

@@ -1,6 +1,7 @@
 -- The steps of hearing bytes: their levels are heard, and the lines of what is found go through the buffer to the writer.
-use Rattle.std.proofs.Common.{◌≡◌, ℕ, ◌+◌, ◌≤◌, ◌<◌, Bool, true, false, List, [], ◌∷◌, ◌++◌, length, replicate, zero, suc, take, drop, Option, Some, None, refl, sym, ap, subst, ◌∙◌, append_assoc, arith, length-append}
-use Rattle.std.proofs.lemmas.List.{append-nil}
+use Rattle.std.proofs.Common.{◌≡◌, ℕ, ◌+◌, ◌≤◌, ◌<◌, nat_eq, cond, Bool, true, false, List, [], ◌∷◌, ◌++◌, length, replicate, zero, suc, take, drop, get_or, Option, Some, None, refl, sym, ap, subst, ◌∙◌, append_assoc, arith, length-append}
+use Rattle.std.proofs.lemmas.List.{append-nil, take_more, take-append-drop, length-take}
+use Rattle.std.proofs.Math.Seq.{take-add}
 use Rattle.std.proofs.lemmas.Grind.{flat_map-append}
 use Rattle.std.proofs.KnownBytes.{Appends-nil, Appends-trans}
 use Rattle.std.specs.List.{flat_map, AllByRecursion}
@@ -63,6 +64,15 @@ Hears-then a b c l m f g first second levels told hearing =
 
 pub levels_in-append : (xs ys : List ℕ) → levels_in (xs ++ ys) ≡ levels_in xs ++ levels_in ys
 levels_in-append xs ys = flat_map-append levels_of_byte xs ys
+
+pub length-levels_in : (text : List ℕ) → length (levels_in text) ≤ length text
+length-levels_in [] = omega arith
+length-levels_in (byte ∷ text) = omega (arith, length-levels_in text, length-append (levels_of_byte byte) (levels_in text), one (nat_eq byte 48) (nat_eq byte 49))
+  where
+    one : (b c : Bool) → length (cond b (Dominant ∷ []) (cond c (Recessive ∷ []) [])) ≤ 1
+    one true c = omega arith
+    one false true = omega arith
+    one false false = omega arith
 
 -- recessive levels
 pub levels_in-row : (n : ℕ) → levels_in (replicate n 49) ≡ replicate n Recessive
@@ -181,3 +191,31 @@ MeetsBadByte-here trace place byte rest held waiting is_bad = record {
   place_is = omega arith;
   hears = HearsText-none trace held waiting;
 }
+
+-- ---- bytes of a list, one after another
+
+module _ (a b c : Trace) (bytes : List ℕ) (index : ℕ) (held between : Option (List ℕ)) (old mid : List ℕ) (first : HearsText a b (take index bytes) held between old mid) where
+  -- some of which nothing is told
+  pub HearsText-untold_part : (count : ℕ) → IsTraceText (take count (drop index bytes)) → Hears b c (levels_in (take count (drop index bytes))) []
+      → HearsText a c (take (index + count) bytes) held between old mid
+  HearsText-untold_part count is_text hears =
+      subst (λ t. HearsText a c t held between old mid) (sym (take-add index count bytes))
+      (HearsText-then a b c (take index bytes) (take count (drop index bytes)) held between between old mid mid first (HearsText-untold b c (take count (drop index bytes)) between mid is_text hears))
+
+  module _ (holds : Option (List ℕ)) (new : List ℕ) (within : index < length bytes) where
+    -- the next one
+    pub HearsText-next : HearsText b c (get_or bytes index 0 ∷ []) between holds mid new → HearsText a c (take (index + 1) bytes) held holds old new
+    HearsText-next next =
+        subst (λ t. HearsText a c t held holds old new) (sym (take_more bytes index 0 within))
+        (HearsText-then a b c (take index bytes) (get_or bytes index 0 ∷ []) held between holds old mid new first next)
+
+    pub StopsHearing-next : (e : TraceFault) (start : ℕ) → StopsHearing e b c (start + index) (get_or bytes index 0 ∷ []) between holds mid new → StopsHearing e a c start bytes held holds old new
+    StopsHearing-next e start stops =
+        let front = take index bytes in
+        let byte = get_or bytes index 0 in
+        let whole : front ++ (byte ∷ drop (index + 1) bytes) ≡ bytes =
+        sym (append_assoc front (byte ∷ []) (drop (index + 1) bytes)) ∙ ap (λ t. t ++ drop (index + 1) bytes) (sym (take_more bytes index 0 within)) ∙ take-append-drop (index + 1) bytes in
+        let size : index ≡ length front = omega (arith, within, length-take index bytes) in
+        subst (λ t. StopsHearing e a c start t held holds old new) whole
+        (StopsHearing-then a b c front (byte ∷ []) held between holds old mid new first (drop (index + 1) bytes) e start
+        (subst (λ n. StopsHearing e b c (start + n) (byte ∷ []) between holds mid new) size stops))

@@ -1,12 +1,13 @@
 -- In all levels something is found, be it nothing at all.
 use Rattle.std.proofs.Common.{◌≡◌, ◌≢◌, ◌⊎◌, inl, inr, ℕ, zero, suc, ◌+◌, ◌<◌, ◌≤◌, List, [], ◌∷◌, ◌++◌, length, refl, sym, ap, subst, ◌∙◌, append_assoc, arith, length-append}
 use Rattle.std.proofs.lemmas.List.{append-nil}
-use Rattle.std.proofs.lemmas.Bool.{lt_or_ge}
+use Rattle.std.proofs.lemmas.Bool.{cases_lt}
 use Rattle.can_frame.specs.declared.level.Level.{Level}
 use Rattle.can_frame.specs.declared.level.Level.TheVariants.{Dominant, Recessive}
 use Rattle.can_code.specs.declared.fault.CodeFaultKind.{CodeFaultKind}
 use Rattle.can_code.specs.declared.fault.CodeFault.{CodeFault}
-use Rattle.can_code.specs.Heard.{HeardParts, Spells}
+use Rattle.can_code.specs.Wire.{tail}
+use Rattle.can_code.specs.Heard.{HeardParts, ack_slot, Spells}
 use Rattle.can_code.specs.CodeFaults.{IsCodeFault}
 use Rattle.can_trace.specs.Decoded.{Finds, SkipsToIdle}
 use Rattle.can_trace.specs.Decoding.{GoesOn, SearchesOn, IsInFrame, IsLost, Stands, Hearing}
@@ -15,7 +16,7 @@ use Rattle.can_trace.specs.declared.finding.Finding.TheVariants.{Frame, Fault}
 use Rattle.can_trace.specs.declared.trace.Trace.{Trace}
 use Rattle.can_trace.specs.declared.trace.State.{State}
 use Rattle.can_trace.specs.declared.trace.State.TheVariants.{Idle, InFrame, Lost}
-use Rattle.can_trace.proofs.DecoderStub.{frame_or_fault}
+use Rattle.can_code.proofs.FrameOrFault.{frame_or_fault, BeginsSpelled, HasFault}
 use Rattle.can_trace.proofs.IdleRows.{row, length-row, row-more, SkipsToIdle-dominant, SkipsToIdle-eleven, SkipsToIdle-few}
 
 -- where the search for eleven recessive levels ends, in a row of which so many have been heard
@@ -38,7 +39,7 @@ Skips-exist (Dominant ∷ levels) n few =
     }
 Skips-exist (Recessive ∷ levels) n few =
     let one_more : row n ++ Recessive ∷ levels ≡ row (n + 1) ++ levels = sym (append_assoc (row n) (Recessive ∷ []) levels) ∙ ap (λ l. l ++ levels) (row-more n) in
-    elim (lt_or_ge (n + 1) 11) [
+    elim (cases_lt (n + 1) 11) [
       | inl less ↦ longer (n + 1) one_more (Skips-exist levels (n + 1) less)
       | inr all ↦ let eleven : n + 1 ≡ 11 = omega arith in record {
         skipped = row 11;
@@ -51,33 +52,33 @@ Skips-exist (Recessive ∷ levels) n few =
     longer : (k : ℕ) → row n ++ Recessive ∷ levels ≡ row k ++ levels → Skips k levels → Skips n (Recessive ∷ levels)
     longer k same later = record { skipped = later.skipped; rest = later.rest; whole = same ∙ later.whole; skips = later.skips }
 
-Found : ℕ → List Level → Type 0
-Found place levels = (found : List Finding) × Finds place levels found
-
 Finds-exist : (n place : ℕ) (levels : List Level) → length levels ≤ n → (found : List Finding) × Finds place levels found
 Finds-exist n place [] within = ([], Finds.over place)
 Finds-exist zero place (level ∷ levels) within = absurd (omega arith)
 Finds-exist (suc n) place (Recessive ∷ levels) within = let later = Finds-exist n (place + 1) levels (omega arith) in (later.0, Finds.idle place levels later.0 later.1)
 Finds-exist (suc n) place (Dominant ∷ levels) within = elim (frame_or_fault levels) [
-  | inl spelled ↦ spelled_there spelled.0 spelled.1 spelled.2 spelled.3 spelled.4
-  | inr fault ↦ fault_there fault.0 fault.1 fault.2 fault.3 fault.4
+  | inl begins ↦ spelled_there begins.h begins.w begins.rest begins.spells begins.whole (Finds-exist n (place + length begins.w) begins.rest)
+  | inr has ↦ fault_there has (Finds-exist n)
 ]
   where
-    spelled_there : (h : HeardParts) (w rest : List Level) → Spells h w → Dominant ∷ levels ≡ w ++ rest → (found : List Finding) × Finds place (Dominant ∷ levels) found
-    spelled_there h [] rest spells whole = ?
-    spelled_there h (x ∷ w) rest spells whole =
-        let later = Finds-exist n (place + length (x ∷ w)) rest (omega (arith, within, ap length whole, length-append (x ∷ w) rest)) in
-        (Frame place h ∷ later.0, subst (λ l. Finds place l (Frame place h ∷ later.0)) (sym whole) (Finds.frame place h (x ∷ w) rest later.0 spells later.1))
+    spelled_there : (h : HeardParts) (w rest : List Level) → Spells h w → Dominant ∷ levels ≡ w ++ rest
+        → (length rest ≤ n → (found : List Finding) × Finds (place + length w) rest found) → (found : List Finding) × Finds place (Dominant ∷ levels) found
+    spelled_there h w rest spells whole on =
+        let ten = tail (ack_slot h.acked) h.last in
+        let some : 0 < length w = omega (arith, ap length spells.spelling.whole, length-append spells.spelling.stuffed ten) in
+        let later = on (omega (arith, within, ap length whole, length-append w rest)) in
+        (Frame place h ∷ later.0, subst (λ l. Finds place l (Frame place h ∷ later.0)) (sym whole) (Finds.frame place h w rest later.0 spells later.1))
 
-    fault_there : (kind : CodeFaultKind) (front others : List Level) → Dominant ∷ levels ≡ (Dominant ∷ front) ++ others
-        → IsCodeFault (Dominant ∷ levels) (record { kind = kind; place = length (Dominant ∷ front) }) → (found : List Finding) × Finds place (Dominant ∷ levels) found
-    fault_there kind front others whole is_fault =
-        let first = Dominant ∷ front in
-        let search = Skips-exist others 0 (omega arith) in
-        let all : Dominant ∷ levels ≡ first ++ (search.skipped ++ search.rest) = whole ∙ ap (λ l. first ++ l) search.whole in
-        let shorter : length search.rest ≤ n = omega (arith, within, ap length all, length-append first (search.skipped ++ search.rest), length-append search.skipped search.rest) in
-        let later = Finds-exist n (place + length (first ++ search.skipped)) search.rest shorter in
-        (Fault place kind (place + length first) ∷ later.0, Finds.fault place levels first search.skipped search.rest kind later.0 all is_fault search.skips later.1)
+    fault_there : HasFault (Dominant ∷ levels) → ((p : ℕ) (l : List Level) → length l ≤ n → (found : List Finding) × Finds p l found)
+        → (found : List Finding) × Finds place (Dominant ∷ levels) found
+    fault_there has on =
+        let front = has.front in
+        let search = Skips-exist has.rest 0 (omega arith) in
+        let all : Dominant ∷ levels ≡ front ++ (search.skipped ++ search.rest) = has.whole ∙ ap (λ l. front ++ l) search.whole in
+        let shorter : length search.rest ≤ n =
+        omega (arith, within, has.some, ap length all, length-append front (search.skipped ++ search.rest), length-append search.skipped search.rest) in
+        let later = on (place + length (front ++ search.skipped)) search.rest shorter in
+        (Fault place has.kind (place + length front) ∷ later.0, Finds.fault place levels front search.skipped search.rest has.kind later.0 all has.fault search.skips later.1)
 
 -- whatever levels come, something is found in them behind what was told
 pub Hearing-goes_on : (trace : Trace) (levels : List Level) (told : List Finding) → Hearing trace levels told → (more : List Level) → (found : List Finding) × Finds 0 (levels ++ more) (told ++ found)

@@ -9,10 +9,10 @@ use Rattle.can_code.specs.declared.fault.CodeFaultKind.{CodeFaultKind}
 use Rattle.can_code.specs.declared.fault.CodeFaultKind.TheVariants.{Short, NoStartOfFrame, Stuff, Crc, Form}
 use Rattle.can_code.specs.Heard.{HeardParts, Spells}
 use Rattle.can_code.specs.CodeFaults.{IsCodeFault}
-use Rattle.can_trace.specs.Decoder.{DecoderParts, HasHeard}
+use Rattle.can_code.specs.Decoder.{DecoderParts, HasHeard}
 use Rattle.can_trace.specs.Decoded.{Finds, SkipsToIdle, is_closed}
 use Rattle.can_trace.specs.Decoding.{GoesOn, SearchesOn, IsInFrame, IsLost, Stands, Hearing, EndsWith}
-use Rattle.can_trace.proofs.DecoderStub.{unfinished_frames_are_short}
+use Rattle.can_code.proofs.DecoderLemmas.{HasHeard-short}
 use Rattle.can_trace.specs.declared.trace.Trace.{Trace}
 use Rattle.can_trace.specs.declared.trace.State.{State}
 use Rattle.can_trace.specs.declared.trace.State.TheVariants.{Idle, InFrame, Lost}
@@ -245,7 +245,7 @@ module _ (trace : Trace) (levels : List Level) (told : List Finding) (hearing : 
       let frame : IsInFrame start decoder levels told = subst (λ s. Stands s levels told) is hearing.stands in
       let front = Dominant ∷ frame.others in
       let here : length frame.done + length front ≡ trace.place = omega (arith, hearing.place_is, ap length frame.levels_are, length-append frame.done front) in
-      let finds = GoesOn-short frame.done frame.others told frame.goes_on (unfinished_frames_are_short decoder front frame.heard) in
+      let finds = GoesOn-short frame.done frame.others told frame.goes_on (HasHeard-short decoder front frame.heard) in
       record {
         finds = subst (λ p. Finds 0 levels (told ++ Fault start Short p ∷ [])) here
             (subst (λ p. Finds 0 levels (told ++ Fault p Short (length frame.done + length front) ∷ [])) (sym frame.start_is)
@@ -262,3 +262,12 @@ module _ (trace : Trace) (levels : List Level) (told : List Finding) (hearing : 
   EndsWith-lost n is =
       let lost : IsLost n levels told = subst (λ s. Stands s levels told) is hearing.stands in
       record { finds = subst (λ l. Finds 0 l (told ++ [])) (sym lost.levels_are) (SearchesOn-over n lost.done told lost.few lost.searches_on); unclosed = refl }
+
+-- in whatever state they are
+pub Hearing-ends : (trace : Trace) (levels : List Level) (told : List Finding) → Hearing trace levels told → (found : List Finding) × EndsWith levels told found
+Hearing-ends trace levels told hearing = by_state trace.state refl
+  where
+    by_state : (s : State) → trace.state ≡ s → (found : List Finding) × EndsWith levels told found
+    by_state Idle is = ([], EndsWith-idle trace levels told hearing is)
+    by_state (InFrame start decoder) is = (Fault start Short trace.place ∷ [], EndsWith-in_frame trace levels told hearing start decoder is)
+    by_state (Lost n) is = ([], EndsWith-lost trace levels told hearing n is)

@@ -3,7 +3,7 @@ use Rattle.std.specs.Prelude.{◌≡◌, ℕ, ◌+◌, ◌<◌, Bool, true, fals
 use Rattle.std.specs.List.{flat_map, AllByRecursion}
 use Rattle.can_frame.specs.declared.level.Level.{Level}
 use Rattle.can_frame.specs.declared.level.Level.TheVariants.{Dominant, Recessive}
-use Rattle.can_trace.specs.Decoder.{DecoderParts, HasHeard}
+use Rattle.can_code.specs.Decoder.{DecoderParts, HasHeard}
 use Rattle.can_trace.specs.TraceText.{IsTraceText, is_trace_byte, levels_in, levels_of_byte}
 use Rattle.can_trace.specs.Decoded.{Finds, SkipsToIdle, finding_line, is_closed, BeginsDecoding, DecodesAll, DecodesSoFar, DecodesToBadByte, DecodesTooLong}
 use Rattle.can_trace.specs.Outbox.{PassesOn, TakesFront}
@@ -119,7 +119,7 @@ StopsHearing (FrameLine n fault) old new first bytes held holds waiting waiting_
 abbrev pub Decodes : {A : Type 0} → Result A TraceFault → List ℕ → List ℕ → Type 0
 Decodes (Ok done) = DecodesAll
 Decodes (Err (BadByte place)) = DecodesToBadByte place
-Decodes (Err Read) = DecodesSoFar
+Decodes (Err Read) = λ input output. DecodesSoFar input output × BeginsDecoding input output
 Decodes (Err Write) = BeginsDecoding
 Decodes (Err Long) = DecodesTooLong
 Decodes (Err (FrameLine n fault)) = λ input output. ⊥

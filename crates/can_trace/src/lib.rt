@@ -30,7 +30,6 @@
 
 mod check;
 mod decode;
-mod decoder_stub;
 mod encode;
 mod fault;
 mod finding;

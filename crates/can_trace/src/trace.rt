@@ -5,9 +5,8 @@ ghost use Rattle.can_frame.specs.declared.level.Level.TheVariants.{Recessive};
 ghost use Rattle.can_trace.specs.declared.finding.Finding.{Finding as Findings};
 ghost use Rattle.can_trace.specs.Decoding.{EndsWith, Hearing, Hears, SearchesOn, Stands, told_of};
 
-use crate::decoder_stub::Decoder;
 use crate::finding::Finding;
-use can_code::{CodeFaultKind, PlainBits};
+use can_code::{CodeFaultKind, Decoder, PlainBits};
 use can_frame::Level;
 
 /// How many recessive levels in a row end the search behind a fault: those of an ACK delimiter, an end of
