@@ -21,3 +21,4 @@ pub mod TraceSteps
 pub mod DecodeSteps
 pub mod FindsTotal
 pub mod DecodeEndings
+pub mod FindsOne

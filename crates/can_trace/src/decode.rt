@@ -16,6 +16,9 @@ use crate::source::Source;
 use crate::trace::Trace;
 use can_frame::Level;
 
+/// The digits of so many recessive levels are compared at once.
+const ROW: [u8; 32] = [b'1'; 32];
+
 /// What a byte is in trace text.
 #[derive(Clone, Copy, Debug, PartialEq, Eq)]
 enum TraceByte {
@@ -136,12 +139,15 @@ fn skip_row(bytes: &[u8], trace: &mut Trace) -> usize
     count
 }
 
-/// How many digits of recessive levels stand at the front of the bytes, at least.
+/// How many digits of recessive levels stand at the front of the bytes.
 fn recessive_count(bytes: &[u8]) -> usize
     ensures within { result ≤ length bytes.now }
     ensures row { take result bytes.now ≡ replicate result 49 }
 {
     let mut count = 0;
+    while bytes[count..].starts_with(&ROW) {
+        count += ROW.len();
+    }
     while count < bytes.len() && bytes[count] == b'1' {
         count += 1;
     }
@@ -177,9 +183,11 @@ fn hear_byte<W: Sink>(
 fn trace_byte(byte: u8) -> TraceByte
     ensures { IsByteAs byte result }
 {
+    // no branch on which level it is, since none could be foretold
+    if byte == b'0' || byte == b'1' {
+        return TraceByte::Digit(Level::from_bool(byte == b'1'));
+    }
     match byte {
-        b'0' => TraceByte::Digit(Level::Dominant),
-        b'1' => TraceByte::Digit(Level::Recessive),
         b' ' | b'\n' | b'\r' => TraceByte::Skipped,
         _ => TraceByte::Bad,
     }

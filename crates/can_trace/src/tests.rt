@@ -9,6 +9,8 @@ use std::io;
 use std::io::{Error, ErrorKind, Read, Write};
 use std::test::Fail;
 
+mod decode;
+
 /// The line of levels of `S 000 D 0`.
 const S000: &[u8] = b"00000100000100000100000100000100000100001111111111\n";
 
