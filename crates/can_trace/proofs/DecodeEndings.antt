@@ -139,7 +139,7 @@ module _ (trace : Trace) (input output : List ℕ) (so_far : HeardSoFar trace in
       } in
       (later.0, FullAnswer.to_bad_byte (length (input ++ good)) answer)
 
-  FullAnswer-later : (good others : List ℕ) → IsTraceText good → (rest : List ℕ) × FullAnswer (input ++ (good ++ others)) (output ++ rest)
+  pub FullAnswer-later : (good others : List ℕ) → IsTraceText good → (rest : List ℕ) × FullAnswer (input ++ (good ++ others)) (output ++ rest)
   FullAnswer-later good [] is_text = subst (λ t. (rest : List ℕ) × FullAnswer (input ++ t) (output ++ rest)) (sym (append-nil good)) (FullAnswer-text good is_text)
   FullAnswer-later good (byte ∷ others) is_text = by_byte (is_trace_byte byte) refl (FullAnswer-later (good ++ byte ∷ []) others)
     where

@@ -52,7 +52,7 @@ Skips-exist (Recessive ∷ levels) n few =
     longer : (k : ℕ) → row n ++ Recessive ∷ levels ≡ row k ++ levels → Skips k levels → Skips n (Recessive ∷ levels)
     longer k same later = record { skipped = later.skipped; rest = later.rest; whole = same ∙ later.whole; skips = later.skips }
 
-Finds-exist : (n place : ℕ) (levels : List Level) → length levels ≤ n → (found : List Finding) × Finds place levels found
+pub Finds-exist : (n place : ℕ) (levels : List Level) → length levels ≤ n → (found : List Finding) × Finds place levels found
 Finds-exist n place [] within = ([], Finds.over place)
 Finds-exist zero place (level ∷ levels) within = absurd (omega arith)
 Finds-exist (suc n) place (Recessive ∷ levels) within = let later = Finds-exist n (place + 1) levels (omega arith) in (later.0, Finds.idle place levels later.0 later.1)

@@ -22,3 +22,5 @@ pub mod DecodeSteps
 pub mod FindsTotal
 pub mod DecodeEndings
 pub mod FindsOne
+pub mod OneDecoding
+pub mod OneVerdict

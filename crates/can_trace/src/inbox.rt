@@ -6,7 +6,7 @@ use crate::source::Source;
 use std::marker::Model;
 
 /// How many bytes a read gives at most.
-const CAPACITY: usize = 8192;
+const CAPACITY: usize = 16384;
 
 /// How many bytes an input has at most, 2^63.
 const MAX_BYTES: u64 = 1 << 63;

@@ -50,7 +50,7 @@ pub use check::check_lines;
 pub use decode::decode_stream;
 pub use encode::encode_lines;
 pub use fault::TraceFault;
-pub use laws::one_answer;
+pub use laws::{one_answer, one_check, one_decoding};
 pub use outbox::write_all;
 pub use sink::{Sink, ToWrite};
 pub use source::{FromRead, Source};
