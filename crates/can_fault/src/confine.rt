@@ -1,4 +1,5 @@
-ghost use Rattle.std.specs.Prelude.{◌≡◌, ◌+◌, min};
+ghost use Rattle.std.specs.Prelude.{◌≡◌, ◌≢◌, ◌+◌, [], ◌∷◌, min, ◌↔◌, IfSome, OnSome, IsTrue, IsFalse};
+ghost use Rattle.can_fault.specs.Recovery.{after_levels, ends_bus_off, EndsBehind, EndsBusOff, recovered, StaysBusOff};
 ghost use Rattle.can_fault.specs.Counters.{counted, fresh, IsConfine, rec_after_reception, state_of};
 
 use crate::cause::Cause;
@@ -14,6 +15,12 @@ const BUS_OFF_FROM: u16 = 256;
 
 /// REC goes no higher.
 const HIGHEST_REC: u16 = 255;
+
+/// How many recessive levels in a row are an occurrence.
+const ROW: u8 = 11;
+
+/// Bus off ends with the occurrence of this number.
+const OCCURRENCES: u8 = 128;
 
 /// The error counters of a node, and how far it has come back from bus off.
 #[derive(Clone, Copy, Debug, PartialEq, Eq)]
@@ -98,6 +105,51 @@ impl Confine {
             Cause::FrameSent => self.tec = self.tec.saturating_sub(1),
             Cause::FrameReceived => self.rec = lowered(self.rec),
         }
+    }
+
+    /// Takes one level while the node is bus off: whether bus off ends with it. Then both counters
+    /// are 0, and the node is error active. In any other state nothing changes.
+    pub fn recover(&mut self, level: Level) -> bool
+        ensures value { result ≡ ends_bus_off level self.old }
+        ensures after { self.new ≡ recovered level self.old }
+        ensures ended { state_of self.old ≡ State.BusOff → IsTrue result ↔ EndsBusOff self.old (level ∷ []) }
+        ensures waiting { state_of self.old ≡ State.BusOff → IsFalse result → self.new ≡ after_levels self.old (level ∷ []) }
+    {
+        if self.state() != State::BusOff {
+            return false;
+        }
+        if level == Level::Dominant {
+            self.row = 0;
+            return false;
+        }
+        self.row += 1;
+        if self.row < ROW {
+            return false;
+        }
+        self.row = 0;
+        if self.occurrences + 1 < OCCURRENCES {
+            self.occurrences += 1;
+            return false;
+        }
+        *self = Confine::new();
+        true
+    }
+
+    /// Takes levels while the node is bus off, up to the one with which bus off ends: how many they
+    /// are. `None` where bus off doesn't end with any of them, and in any other state, where nothing
+    /// changes.
+    pub fn recover_over(&mut self, levels: &[Level]) -> Option<usize>
+        ensures ended { IfSome result (EndsBehind self.old levels.now) }
+        ensures cleared { OnSome result (self.new ≡ fresh) }
+        ensures waiting { result ≡ None → state_of self.old ≡ State.BusOff → StaysBusOff self.old levels.now × (self.new ≡ after_levels self.old levels.now) }
+        ensures on_bus { state_of self.old ≢ State.BusOff → (result ≡ None) × (self.new ≡ self.old) }
+    {
+        for (index, level) in levels.iter().enumerate() {
+            if self.recover(*level) {
+                return Some(index + 1);
+            }
+        }
+        None
     }
 }
 
