@@ -3,7 +3,7 @@ use Rattle.std.proofs.Common.{◌≡◌, ◌≢◌, ℕ, ◌+◌, ◌-◌, ◌/�
 use Rattle.std.specs.Prelude.{IsTrue}
 use Rattle.std.proofs.Math.Dec.{ltb, leb}
 use Rattle.std.proofs.lemmas.List.{append-nil, take-append-drop, take_more}
-use Rattle.std.proofs.lemmas.Bool.{cases_lt, lt-ltb, le-ltb, cond-true, cond-false}
+use Rattle.std.proofs.lemmas.Bool.{cases_lt, lt-ltb, le-ltb, leb-true, leb-false, le-leb, cond-true, cond-false}
 use Rattle.can_frame.specs.declared.level.Level.{Level}
 use Rattle.can_frame.specs.declared.level.Level.TheVariants.{Dominant, Recessive}
 use Rattle.can_fault.specs.declared.state.State.TheVariants.{Active, Passive, BusOff}
@@ -65,3 +65,53 @@ after_level-le Recessive c = by_test (ltb c.row 10)
     by_test : (b : Bool) → (let next : ConfineParts = cond b (record c { row = c.row + 1 }) (record c { occurrences = c.occurrences + 1; row = 0 }) in next.occurrences) ≤ c.occurrences + 1
     by_test true = omega arith
     by_test false = omega arith
+
+-- whether a level ends bus off
+ends_bus_off-test : (x : Level) (c : ConfineParts) → is_bus_off c ≡ true → ends_bus_off x c ≡ leb 128 (after_level x c).occurrences
+ends_bus_off-test x c off = ap (λ b. b && leb 128 (after_level x c).occurrences) off
+
+-- p is what c, which is bus off, holds behind levels that don't end it
+pub record IsWaiting (c : ConfineParts) (l : List Level) (p : ConfineParts) : Type 0 where
+  pub off : state_of c ≡ BusOff
+  pub here : p ≡ after_levels c l
+  pub short : p.occurrences < 128
+
+pub IsWaiting-nil : (c : ConfineParts) → IsConfine c → state_of c ≡ BusOff → IsWaiting c [] c
+IsWaiting-nil c h off = record { off = off; here = sym (after_levels-nil c h.row); short = h.occurrences }
+
+module _ (c : ConfineParts) (l : List Level) (p : ConfineParts) (w : IsWaiting c l p) where
+  still_off : is_bus_off p ≡ true
+  still_off = ap is_bus_off w.here ∙ state_of-bus_off c w.off
+
+  next : (x : Level) → after_levels c (l ++ x ∷ []) ≡ after_level x p
+  next x = after_levels-push c l x ∙ ap (after_level x) (sym w.here)
+
+  -- no front has ended bus off
+  pub IsWaiting-stays : StaysBusOff c l
+  IsWaiting-stays m ends =
+      let whole : since_last c (take m l) ++ drop m l ≡ since_last c l =
+          append_assoc (replicate c.row Recessive) (take m l) (drop m l) ∙ ap (since_last c) (take-append-drop m l) in
+      let fewer : rests (since_last c (take m l)) ≤ rests (since_last c (take m l) ++ drop m l) = rests-append-le (since_last c (take m l)) (drop m l) in
+      let count : p.occurrences ≡ c.occurrences + rests (since_last c l) = ap (λ t. t.occurrences) w.here in
+      absurd (omega (arith, ap rests whole, fewer, count, ends, w.short))
+
+  pub IsWaiting-push : (x : Level) → ends_bus_off x p ≡ false → IsWaiting c (l ++ x ∷ []) (recovered x p)
+  IsWaiting-push x e =
+      let on : recovered x p ≡ after_level x p = cond-true (is_bus_off p) _ p still_off ∙ cond-false (ends_bus_off x p) fresh (after_level x p) e in
+      record {
+        off = w.off;
+        here = on ∙ sym (next x);
+        short = subst (λ t. t.occurrences < 128) (sym on) (leb-false 128 (after_level x p).occurrences (sym (ends_bus_off-test x p still_off) ∙ e));
+      }
+
+  pub IsWaiting-ended : (x : Level) → ends_bus_off x p ≡ true → EndsBusOff c (l ++ x ∷ []) × (recovered x p ≡ fresh)
+  IsWaiting-ended x e =
+      let enough : 128 ≤ (after_level x p).occurrences = leb-true 128 (after_level x p).occurrences (sym (ends_bus_off-test x p still_off) ∙ e) in
+      let count : c.occurrences + rests (since_last c (l ++ x ∷ [])) ≡ (after_level x p).occurrences = ap (λ t. t.occurrences) (next x) in
+      let ends : EndsBusOff c (l ++ x ∷ []) = omega (arith, w.short, after_level-le x p) in
+      (ends, cond-true (is_bus_off p) _ p still_off ∙ cond-true (ends_bus_off x p) fresh (after_level x p) e)
+
+  pub IsWaiting-ends : (x : Level) → EndsBusOff c (l ++ x ∷ []) → ends_bus_off x p ≡ true
+  IsWaiting-ends x ends =
+      let count : c.occurrences + rests (since_last c (l ++ x ∷ [])) ≡ (after_level x p).occurrences = ap (λ t. t.occurrences) (next x) in
+      ends_bus_off-test x p still_off ∙ le-leb 128 (after_level x p).occurrences (omega arith)
