@@ -1,8 +1,7 @@
 -- What a node that is bus off holds, as it takes level after level.
 use Rattle.std.proofs.Common.{◌≡◌, ◌≢◌, ℕ, ◌+◌, ◌-◌, ◌/◌, ◌%◌, ◌<◌, ◌≤◌, ◌↔◌, Bool, true, false, ◌&&◌, ◌⊎◌, List, [], ◌∷◌, ◌++◌, length, get_or, replicate, take, drop, refl, sym, ◌∙◌, ap, subst, arith, cond, inl, inr, append_assoc}
-use Rattle.std.specs.Prelude.{IsTrue}
 use Rattle.std.proofs.Math.Dec.{ltb, leb}
-use Rattle.std.proofs.lemmas.List.{append-nil, take-append-drop, take_more}
+use Rattle.std.proofs.lemmas.List.{append-nil, take-append-drop, take-take}
 use Rattle.std.proofs.lemmas.Bool.{cases_lt, lt-ltb, le-ltb, leb-true, leb-false, le-leb, cond-true, cond-false}
 use Rattle.can_frame.specs.declared.level.Level.{Level}
 use Rattle.can_frame.specs.declared.level.Level.TheVariants.{Dominant, Recessive}
@@ -115,3 +114,29 @@ module _ (c : ConfineParts) (l : List Level) (p : ConfineParts) (w : IsWaiting c
   IsWaiting-ends x ends =
       let count : c.occurrences + rests (since_last c (l ++ x ∷ [])) ≡ (after_level x p).occurrences = ap (λ t. t.occurrences) (next x) in
       ends_bus_off-test x p still_off ∙ le-leb 128 (after_level x p).occurrences (omega arith)
+
+-- one level alone
+module _ (c : ConfineParts) (h : IsConfine c) (x : Level) (b : Bool) (value : b ≡ ends_bus_off x c) (off : state_of c ≡ BusOff) where
+  pub one_level-ends : (b ≡ true) ↔ EndsBusOff c (x ∷ [])
+  one_level-ends =
+      let w = IsWaiting-nil c h off in
+      (λ ended. (IsWaiting-ended c [] c w x (sym value ∙ ended)).0, λ ends. value ∙ IsWaiting-ends c [] c w x ends)
+
+  pub one_level-waits : (p : ConfineParts) → p ≡ recovered x c → b ≡ false → p ≡ after_levels c (x ∷ [])
+  one_level-waits p after none =
+      let w = IsWaiting-nil c h off in
+      after ∙ (IsWaiting-push c [] c w x (sym value ∙ none)).here
+
+-- x is the next level of a list, of which the first i don't end bus off
+module _ (c : ConfineParts) (l : List Level) (i : ℕ) (x : Level) (within : i < length l) (front : take (i + 1) l ≡ take i l ++ x ∷ [])
+    (p : ConfineParts) (w : IsWaiting c (take i l) p) where
+  pub IsWaiting-next : ends_bus_off x p ≡ false → IsWaiting c (take (i + 1) l) (recovered x p)
+  IsWaiting-next e = subst (λ t. IsWaiting c t (recovered x p)) (sym front) (IsWaiting-push c (take i l) p w x e)
+
+  pub EndsBehind-next : ends_bus_off x p ≡ true → EndsBehind c l (i + 1)
+  EndsBehind-next e = record {
+    off = w.off;
+    within = omega arith;
+    ends = subst (EndsBusOff c) (sym front) (IsWaiting-ended c (take i l) p w x e).0;
+    first = λ m h ends. IsWaiting-stays c (take i l) p w m (subst (EndsBusOff c) (sym (take-take m i l (omega arith))) ends);
+  }

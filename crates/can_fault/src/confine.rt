@@ -112,7 +112,7 @@ impl Confine {
     pub fn recover(&mut self, level: Level) -> bool
         ensures value { result ≡ ends_bus_off level self.old }
         ensures after { self.new ≡ recovered level self.old }
-        ensures ended { state_of self.old ≡ State.BusOff → IsTrue result ↔ EndsBusOff self.old (level ∷ []) }
+        ensures ended { state_of self.old ≡ State.BusOff → (IsTrue result ↔ EndsBusOff self.old (level ∷ [])) }
         ensures waiting { state_of self.old ≡ State.BusOff → IsFalse result → self.new ≡ after_levels self.old (level ∷ []) }
     {
         if self.state() != State::BusOff {
@@ -144,6 +144,9 @@ impl Confine {
         ensures waiting { result ≡ None → state_of self.old ≡ State.BusOff → StaysBusOff self.old levels.now × (self.new ≡ after_levels self.old levels.now) }
         ensures on_bus { state_of self.old ≢ State.BusOff → (result ≡ None) × (self.new ≡ self.old) }
     {
+        if self.state() != State::BusOff {
+            return None;
+        }
         for (index, level) in levels.iter().enumerate() {
             if self.recover(*level) {
                 return Some(index + 1);
