@@ -52,24 +52,31 @@ runs : recessive_runs (levels_of (codes "1100110001")) ≡ 2 ∷ 0 ∷ 2 ∷ 0 �
 runs = refl
 
 ten_recessive : rests (replicate 10 Recessive) ≡ 0
+unfolding rests
 ten_recessive = refl
 
 eleven_recessive : rests (replicate 11 Recessive) ≡ 1
+unfolding rests
 eleven_recessive = refl
 
 no_overlap : rests (replicate 21 Recessive) ≡ 1
+unfolding rests
 no_overlap = refl
 
 all_recessive : rests (replicate 1407 Recessive) ≡ 127
+unfolding rests
 all_recessive = refl
 
 all_occurrences : rests (replicate 1408 Recessive) ≡ 128
+unfolding rests
 all_occurrences = refl
 
 interrupted : rests (replicate 10 Recessive ++ Dominant ∷ replicate 1407 Recessive) ≡ 127
+unfolding rests
 interrupted = refl
 
 row_at_end : last_run (replicate 30 Recessive ++ Dominant ∷ replicate 13 Recessive) ≡ 13
+unfolding last_run
 row_at_end = refl
 
 -- bus off, with 127 occurrences and ten recessive levels
@@ -93,4 +100,5 @@ unfolding nearly
 on_again = refl
 
 waited : after_levels (record { tec = 256; rec = 9; occurrences = 3; row = 10 }) (levels_of (codes "1111011111111111")) ≡ record { tec = 256; rec = 9; occurrences = 5; row = 0 }
+unfolding rests last_run
 waited = refl

@@ -48,16 +48,19 @@ run_from-push_recessive n (Dominant ∷ l) = run_from-push_recessive 0 l
 run_from-push_recessive n (Recessive ∷ l) = run_from-push_recessive (n + 1) l
 
 pub last_run-dominant : (l : List Level) → last_run (l ++ Dominant ∷ []) ≡ 0
+unfolding last_run
 last_run-dominant l =
     ap (λ t. length (take_while is_recessive t)) (reverse-append l (Dominant ∷ [])) ∙ ap length (take_while-cons is_recessive Dominant (reverse l))
 
 pub last_run-recessive : (l : List Level) → last_run (l ++ Recessive ∷ []) ≡ last_run l + 1
+unfolding last_run
 last_run-recessive l =
     let more : last_run (l ++ Recessive ∷ []) ≡ suc (last_run l) =
         ap (λ t. length (take_while is_recessive t)) (reverse-append l (Recessive ∷ [])) ∙ ap length (take_while-cons is_recessive Recessive (reverse l)) in
     omega arith
 
 run_from-last_run : (l : List Level) → run_from 0 l ≡ last_run l
+unfolding last_run
 run_from-last_run l = subst (λ t. run_from 0 t ≡ last_run t) (reverse-reverse l) (turned (reverse l))
   where
     turned : (l : List Level) → run_from 0 (reverse l) ≡ last_run (reverse l)
@@ -70,15 +73,18 @@ run_from-last_run l = subst (λ t. run_from 0 t ≡ last_run t) (reverse-reverse
         (run_from-push_recessive 0 (reverse l) ∙ ap (λ n. n + 1) (turned l) ∙ sym (last_run-recessive (reverse l)))
 
 pub rests-dominant : (l : List Level) → rests (l ++ Dominant ∷ []) ≡ rests l
+unfolding rests
 rests-dominant l = rests_from-push_dominant 0 l
 
 -- an occurrence more where the last run reaches the next multiple of eleven
 pub rests-recessive : (l : List Level) → rests (l ++ Recessive ∷ []) + last_run l / 11 ≡ rests l + (last_run l + 1) / 11
+unfolding rests last_run
 rests-recessive l =
     subst (λ n. rests (l ++ Recessive ∷ []) + n / 11 ≡ rests l + (n + 1) / 11) (run_from-last_run l) (rests_from-push_recessive 0 l)
 
 -- a front has no more occurrences than the list
 pub rests-append-le : (a b : List Level) → rests a ≤ rests (a ++ b)
+unfolding rests
 rests-append-le a b = by_runs 0 a
   where
     first_run : (n : ℕ) (b : List Level) → n / 11 ≤ rests_from n b
@@ -108,9 +114,11 @@ recessive_runs-split r l =
     runs_from-replicate 0 r (Dominant ∷ l) ∙ ap (λ n. n ∷ recessive_runs l) (let e : 0 + r ≡ r = omega arith in e)
 
 pub rests-replicate : (r : ℕ) → rests (replicate r Recessive) ≡ r / 11
+unfolding rests
 rests-replicate r = ap (sum_by (λ m. m / 11)) (recessive_runs-replicate r) ∙ rests_from-nil r
 
 pub last_run-replicate : (r : ℕ) → last_run (replicate r Recessive) ≡ r
+unfolding last_run
 last_run-replicate r =
     sym (run_from-last_run (replicate r Recessive)) ∙ counted 0 r ∙ (let e : 0 + r ≡ r = omega arith in e)
   where

@@ -19,11 +19,11 @@ abbrev pub recessive_runs : List Level → List ℕ
 recessive_runs levels = runs_from 0 levels
 
 -- how many times eleven recessive levels stand in a row, where no two occurrences share a level
-abbrev pub rests : List Level → ℕ
+unfoldable pub rests : List Level → ℕ
 rests levels = sum_by (λ n. n / 11) (recessive_runs levels)
 
 -- the length of the recessive run that ends the list
-abbrev pub last_run : List Level → ℕ
+unfoldable pub last_run : List Level → ℕ
 last_run levels = length (take_while is_recessive (reverse levels))
 
 -- the levels since the last occurrence that c holds, and then these

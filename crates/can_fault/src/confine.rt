@@ -1,4 +1,4 @@
-ghost use Rattle.std.specs.Prelude.{◌≡◌, ◌≢◌, ◌+◌, [], ◌∷◌, min, ◌↔◌, IfSome, OnSome, IsTrue, IsFalse};
+ghost use Rattle.std.specs.Prelude.{◌≡◌, ◌≢◌, ◌+◌, ◌<◌, [], ◌∷◌, min, ◌↔◌, IfSome, OnSome, IsTrue, IsFalse};
 ghost use Rattle.can_fault.specs.Recovery.{after_levels, ends_bus_off, EndsBehind, EndsBusOff, recovered, StaysBusOff};
 ghost use Rattle.can_fault.specs.Counters.{counted, fresh, IsConfine, rec_after_reception, state_of};
 
@@ -23,7 +23,7 @@ const ROW: u8 = 11;
 const OCCURRENCES: u8 = 128;
 
 /// The error counters of a node, and how far it has come back from bus off.
-#[derive(Clone, Copy, Debug, PartialEq, Eq)]
+#[derive(Clone, Copy, Debug, Default, PartialEq, Eq)]
 pub struct Confine {
     tec: u16,
     rec: u16,
@@ -59,7 +59,7 @@ impl Confine {
     /// TEC, the transmit error counter, 0 to 263.
     pub fn tec(&self) -> u16
         ensures value { result ≡ self.now.tec }
-        ensures kept { IsConfine self.now }
+        ensures range { result < 264 }
     {
         self.tec
     }
@@ -67,7 +67,7 @@ impl Confine {
     /// REC, the receive error counter, 0 to 255.
     pub fn rec(&self) -> u16
         ensures value { result ≡ self.now.rec }
-        ensures kept { IsConfine self.now }
+        ensures range { result < 256 }
     {
         self.rec
     }
@@ -118,21 +118,19 @@ impl Confine {
         if self.state() != State::BusOff {
             return false;
         }
-        if level == Level::Dominant {
+        match level {
+            Level::Dominant => self.row = 0,
+            Level::Recessive => self.row += 1,
+        }
+        if self.row == ROW {
             self.row = 0;
-            return false;
-        }
-        self.row += 1;
-        if self.row < ROW {
-            return false;
-        }
-        self.row = 0;
-        if self.occurrences + 1 < OCCURRENCES {
             self.occurrences += 1;
-            return false;
         }
-        *self = Confine::new();
-        true
+        let ended = self.occurrences == OCCURRENCES;
+        if ended {
+            *self = Confine::new();
+        }
+        ended
     }
 
     /// Takes levels while the node is bus off, up to the one with which bus off ends: how many they
