@@ -4,8 +4,12 @@
 
 mod cause;
 mod confine;
+mod laws;
 mod state;
 
 pub use cause::Cause;
 pub use confine::Confine;
+pub use laws::{
+    bus_off_lasts_1408_levels, recovery_goes_level_by_level, runs_end_at_dominant_levels,
+};
 pub use state::State;
