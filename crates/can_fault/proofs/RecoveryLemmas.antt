@@ -36,13 +36,13 @@ held-push c l Recessive =
     let n = last_run l in
     elim (cases_lt (n % 11) 10) [
       | inl short ↦
-        let o : c.occurrences + rests (l ++ Recessive ∷ []) ≡ c.occurrences + rests l = omega arith in
-        let r : last_run (l ++ Recessive ∷ []) % 11 ≡ n % 11 + 1 = omega arith in
-        with_equals c o r ∙ sym (cond-true (ltb (n % 11) 10) _ _ (lt-ltb (n % 11) 10 short))
+          let o : c.occurrences + rests (l ++ Recessive ∷ []) ≡ c.occurrences + rests l = omega arith in
+          let r : last_run (l ++ Recessive ∷ []) % 11 ≡ n % 11 + 1 = omega arith in
+          with_equals c o r ∙ sym (cond-true (ltb (n % 11) 10) _ _ (lt-ltb (n % 11) 10 short))
       | inr long ↦
-        let o : c.occurrences + rests (l ++ Recessive ∷ []) ≡ c.occurrences + rests l + 1 = omega arith in
-        let r : last_run (l ++ Recessive ∷ []) % 11 ≡ 0 = omega arith in
-        with_equals c o r ∙ sym (cond-false (ltb (n % 11) 10) _ _ (le-ltb (n % 11) 10 long))
+          let o : c.occurrences + rests (l ++ Recessive ∷ []) ≡ c.occurrences + rests l + 1 = omega arith in
+          let r : last_run (l ++ Recessive ∷ []) % 11 ≡ 0 = omega arith in
+          with_equals c o r ∙ sym (cond-false (ltb (n % 11) 10) _ _ (le-ltb (n % 11) 10 long))
     ]
 
 -- one level more
@@ -90,7 +90,7 @@ module _ (c : ConfineParts) (l : List Level) (p : ConfineParts) (w : IsWaiting c
   pub IsWaiting-stays : StaysBusOff c l
   IsWaiting-stays m ends =
       let whole : since_last c (take m l) ++ drop m l ≡ since_last c l =
-          append_assoc (replicate c.row Recessive) (take m l) (drop m l) ∙ ap (since_last c) (take-append-drop m l) in
+      append_assoc (replicate c.row Recessive) (take m l) (drop m l) ∙ ap (since_last c) (take-append-drop m l) in
       let fewer : rests (since_last c (take m l)) ≤ rests (since_last c (take m l) ++ drop m l) = rests-append-le (since_last c (take m l)) (drop m l) in
       let count : p.occurrences ≡ c.occurrences + rests (since_last c l) = ap (λ t. t.occurrences) w.here in
       absurd (omega (arith, ap rests whole, fewer, count, ends, w.short))

@@ -56,7 +56,7 @@ pub last_run-recessive : (l : List Level) → last_run (l ++ Recessive ∷ []) �
 unfolding last_run
 last_run-recessive l =
     let more : last_run (l ++ Recessive ∷ []) ≡ suc (last_run l) =
-        ap (λ t. length (take_while is_recessive t)) (reverse-append l (Recessive ∷ [])) ∙ ap length (take_while-cons is_recessive Recessive (reverse l)) in
+    ap (λ t. length (take_while is_recessive t)) (reverse-append l (Recessive ∷ [])) ∙ ap length (take_while-cons is_recessive Recessive (reverse l)) in
     omega arith
 
 run_from-last_run : (l : List Level) → run_from 0 l ≡ last_run l
