@@ -30,7 +30,7 @@ last_run levels = length (take_while is_recessive (reverse levels))
 abbrev pub since_last : ConfineParts → List Level → List Level
 since_last c levels = replicate c.row Recessive ++ levels
 
--- with the last of these levels the 128th occurrence is complete
+-- these levels make the 128th occurrence whole
 abbrev pub EndsBusOff : ConfineParts → List Level → Type 0
 EndsBusOff c levels = c.occurrences + rests (since_last c levels) ≡ 128
 

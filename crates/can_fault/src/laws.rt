@@ -1,9 +1,18 @@
 ghost use Rattle.std.specs.Prelude.{◌≡◌, ◌≤◌, ◌↔◌, ℕ, IsTrue, List, [], ◌∷◌, ◌++◌, length, replicate};
 ghost use Rattle.can_frame.specs.declared.level.Level.{Level as Bit};
 ghost use Rattle.can_frame.specs.declared.level.Level.TheVariants.{Dominant, Recessive};
+ghost use Rattle.can_fault.specs.declared.cause.Cause.{Cause as Event};
 ghost use Rattle.can_fault.specs.declared.state.State.TheVariants.{BusOff};
-ghost use Rattle.can_fault.specs.Counters.{ConfineParts, fresh, IsConfine, state_of};
+ghost use Rattle.can_fault.specs.Counters.{ConfineParts, counted, fresh, IsConfine, state_of};
 ghost use Rattle.can_fault.specs.Recovery.{after_levels, ends_bus_off, EndsBusOff, recessive_runs, recovered, StaysBusOff};
+
+/// What holds of every node holds of one that has counted nothing, and stays with each cause and each
+/// level.
+pub fn confinement_is_kept()
+    ensures fresh { IsConfine fresh }
+    ensures counted { (cause : Event) (c : ConfineParts) → IsConfine c → IsConfine (counted cause c) }
+    ensures recovered { (level : Bit) (c : ConfineParts) → IsConfine c → IsConfine (recovered level c) }
+{}
 
 /// The recessive runs of a list are those that its dominant levels part.
 pub fn runs_end_at_dominant_levels()

@@ -1,6 +1,20 @@
 use crate::{Cause, Confine, State};
 use can_frame::Level;
 
+/// Each cause.
+const CAUSES: [Cause; 10] = [
+    Cause::ReceiverError,
+    Cause::ReceiverFlagBit,
+    Cause::ReceiverFirstDominant,
+    Cause::ReceiverDominantRun,
+    Cause::SenderError,
+    Cause::SenderFlagBit,
+    Cause::SenderDominantRun,
+    Cause::PassiveUnacknowledged,
+    Cause::FrameSent,
+    Cause::FrameReceived,
+];
+
 /// A node to which a cause has come so many times.
 fn after(times: u32, cause: Cause) -> Confine {
     let mut node = Confine::new();
@@ -23,20 +37,6 @@ fn bus_off() -> Confine {
 fn recessive_levels(node: &mut Confine, count: u32) -> Option<u32> {
     (1..=count).find(|_| node.recover(Level::Recessive))
 }
-
-/// Each cause.
-const CAUSES: [Cause; 10] = [
-    Cause::ReceiverError,
-    Cause::ReceiverFlagBit,
-    Cause::ReceiverFirstDominant,
-    Cause::ReceiverDominantRun,
-    Cause::SenderError,
-    Cause::SenderFlagBit,
-    Cause::SenderDominantRun,
-    Cause::PassiveUnacknowledged,
-    Cause::FrameSent,
-    Cause::FrameReceived,
-];
 
 #[test]
 fn errors_of_a_sender(rt: HostRuntime) {
