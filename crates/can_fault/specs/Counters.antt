@@ -1,6 +1,6 @@
 -- Fault confinement: the two error counters of a node, what changes them, and the state that they make.
 -- (Bosch CAN 2.0 part B, section 8)
-use Rattle.std.specs.Prelude.{ℕ, ◌≡◌, ◌≢◌, ◌+◌, ◌-◌, ◌<◌, ◌≤◌, min, nat_le, Bool, ◌||◌, if◌then◌else◌}
+use Rattle.std.specs.Prelude.{ℕ, ◌≡◌, ◌+◌, ◌-◌, ◌<◌, min, nat_le, Bool, ◌||◌, if◌then◌else◌}
 use Rattle.can_fault.specs.declared.cause.Cause.{Cause}
 use Rattle.can_fault.specs.declared.cause.Cause.TheVariants.{ReceiverError, ReceiverFlagBit, ReceiverFirstDominant, ReceiverDominantRun, SenderError, SenderFlagBit, SenderDominantRun, PassiveUnacknowledged, FrameSent, FrameReceived}
 use Rattle.can_fault.specs.declared.state.State.{State}

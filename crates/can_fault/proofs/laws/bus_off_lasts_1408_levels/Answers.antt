@@ -1,4 +1,4 @@
-use Rattle.std.proofs.Common.{◌≡◌, ◌+◌, ◌≤◌, ◌++◌, replicate, length, ap, arith}
+use Rattle.std.proofs.Common.{◌≡◌, ◌++◌, replicate, ap, arith}
 use Rattle.can_frame.specs.declared.level.Level.TheVariants.{Recessive}
 use Rattle.can_fault.specs.Recovery.{rests, since_last}
 use Rattle.can_fault.proofs.RunLemmas.{rests-le, rests-replicate}

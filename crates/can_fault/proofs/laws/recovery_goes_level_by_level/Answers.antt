@@ -1,4 +1,3 @@
-use Rattle.std.proofs.Common.{◌∷◌, [], ◌++◌}
 use Rattle.std.proofs.lemmas.Bool.{false_from_ne_true}
 use Rattle.can_fault.specs.Recovery.{after_levels, ends_bus_off}
 use Rattle.can_fault.proofs.RecoveryLemmas.{IsWaiting-after, IsWaiting-push, IsWaiting-ended, IsWaiting-ends}
