@@ -67,5 +67,5 @@ pub record IsConfine (c : ConfineParts) : Type 0 where
   pub rec : c.rec < 256
   pub occurrences : c.occurrences < 128
   pub row : c.row < 11
-  pub none_while_on : c.tec < 256 → c.occurrences ≡ 0
-  pub empty_while_on : c.tec < 256 → c.row ≡ 0
+  pub no_occurrences : c.tec < 256 → c.occurrences ≡ 0
+  pub empty_row : c.tec < 256 → c.row ≡ 0

@@ -145,7 +145,7 @@ impl Confine {
         ensures ended { IfSome result (EndsBehind self.old levels.now) }
         ensures cleared { OnSome result (self.new ≡ fresh) }
         ensures waiting { result ≡ None → state_of self.old ≡ State.BusOff → StaysBusOff self.old levels.now × (self.new ≡ after_levels self.old levels.now) }
-        ensures on_bus { state_of self.old ≢ State.BusOff → (result ≡ None) × (self.new ≡ self.old) }
+        ensures other_states { state_of self.old ≢ State.BusOff → (result ≡ None) × (self.new ≡ self.old) }
     {
         if self.state() != State::BusOff {
             return None;
