@@ -95,7 +95,6 @@ module _ (d : DecoderParts) (l : List Level) (h : HasHeard d l) where
                 ∙ ap (option_and_then (λ g. heard_levels g [])) (hear_at-going d.front x (next_place d.front) going no_error)
                 ∙ ap Some (sym next);
             behind = λ ended. record {
-              ended = ended;
               agrees = agrees ended;
               acked = true;
               last = Recessive;
@@ -136,7 +135,6 @@ module _ (d : DecoderParts) (l : List Level) (h : HasHeard d l) where
           whole = ap (λ t. t ++ x ∷ []) h.whole ∙ ap (λ t. Dominant ∷ t) (append_assoc h.part d.behind (x ∷ [])) ∙ ap (λ t. Dominant ∷ (h.part ++ t)) (sym longer);
           front = h.front ∙ ap Some (sym same_front);
           behind = λ _. record {
-            ended = place;
             agrees = subst (λ f. IsCrc (head_of f.unstuffed) (check_of f.unstuffed)) (sym same_front) stands.agrees;
             acked = acked;
             last = Recessive;
