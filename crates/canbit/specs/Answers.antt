@@ -1,5 +1,5 @@
 -- What each subcommand has written of what it read, for each way in which it can end.
-use Rattle.std.specs.Prelude.{◌≢◌, ◌⊎◌, ℕ, Bool, List}
+use Rattle.std.specs.Prelude.{◌≢◌, ◌⊎◌, ℕ, Bool, IsTrue, List}
 use Rattle.can_trace.specs.Checked.{BeginsChecking, ChecksAll, ChecksEnded, ChecksTooLong, IsFirstBadByte, IsFirstBadVectorLine}
 use Rattle.can_trace.specs.Coded.{BeginsEncoding, EncodesAll, EncodesEnded, EncodesTooLong, IsFirstBadLine}
 use Rattle.canbit.specs.declared.subcommands.Chosen.{Chosen}
@@ -43,14 +43,14 @@ abbrev pub HasBadLine : Chosen → ℕ → Bool → List ℕ → List ℕ → Ty
 HasBadLine Encode number reader_ended input output = (fault : _) × IsFirstBadLine number fault reader_ended input output
 HasBadLine Check number reader_ended input output = (fault : _) × IsFirstBadVectorLine number fault reader_ended input output
 
--- vectors differ
-abbrev pub HasDifferences : Chosen → List ℕ → List ℕ → Type 0
-HasDifferences Encode input output = ⊥
-HasDifferences Check input output = PassesSome input output
+-- all was read, and vectors differ
+abbrev pub HasDifferences : Chosen → Bool → List ℕ → List ℕ → Type 0
+HasDifferences Encode reader_ended input output = ⊥
+HasDifferences Check reader_ended input output = IsTrue reader_ended × PassesSome input output
 
 -- the input is refused
 abbrev pub RefusesInput : Chosen → Bool → List ℕ → List ℕ → Type 0
 RefusesInput chosen reader_ended input output =
     ((place : ℕ) × HasBadByte chosen place input output)
     ⊎ (((number : ℕ) × HasBadLine chosen number reader_ended input output)
-    ⊎ (AnswersTooLong chosen input output ⊎ HasDifferences chosen input output))
+    ⊎ (AnswersTooLong chosen input output ⊎ HasDifferences chosen reader_ended input output))

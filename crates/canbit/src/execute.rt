@@ -1,6 +1,6 @@
 //! What the program does, over any streams.
 ghost use Rattle.std.specs.Prelude.{◌≡◌, ◌≢◌, ◌⊎◌, ◌<◌, ◌∷◌, [], false, is_err, IfErr, OnOk, IsTrue, IsFalse, List, ℕ};
-ghost use Rattle.std.specs.Io.KnownBytes.{Appends};
+ghost use Rattle.std.specs.Io.KnownBytes.{Appends, IsAtEnd};
 ghost use Rattle.can_trace.specs.Told.{Told};
 ghost use Rattle.canbit.specs.Answers.{AnswersAll, AnswersEnded, BeginsAnswering, HasBadByte, RefusesInput};
 ghost use Rattle.canbit.specs.Status.{exit_status, status_of};
@@ -48,8 +48,9 @@ pub fn execute<R: Source, W: Sink, E: Sink>(
 
     // What the subcommand wrote of what it read.
     ensures all_done { result ≡ 0 → (chosen : Chosen) → AsksFor chosen (texts_of words.now)
-        → IsTrue (R.has_ended r.new)
-        × Told R.remaining r.old r.new W.contents w.old w.new (AnswersAll chosen) }
+        → Told R.remaining r.old r.new W.contents w.old w.new (AnswersAll chosen) }
+    ensures all_read { result ≡ 0 → AsksForOne (texts_of words.now)
+        → IsTrue (R.has_ended r.new) × IsAtEnd (R.remaining r.new) }
     ensures input_refused { result ≡ 1 → (chosen : Chosen) × AsksFor chosen (texts_of words.now)
         × Told R.remaining r.old r.new W.contents w.old w.new (RefusesInput chosen (R.has_ended r.new)) }
     ensures reader_failed { result ≡ 3 → IsFalse (W.has_failed w.new)
@@ -89,8 +90,9 @@ fn answer<R: Source, W: Sink>(chosen: Chosen, r: &mut R, w: &mut W) -> Result<()
     requires reader_unfailed { R.has_failed r.old ≡ false }
     requires reader_unended { R.has_ended r.old ≡ false }
     requires writer_unfailed { W.has_failed w.old ≡ false }
-    ensures all_done { exit_status result ≡ 0 → IsTrue (R.has_ended r.new)
-        × Told R.remaining r.old r.new W.contents w.old w.new (AnswersAll chosen) }
+    ensures all_done { exit_status result ≡ 0 →
+        Told R.remaining r.old r.new W.contents w.old w.new (AnswersAll chosen) }
+    ensures all_read { exit_status result ≡ 0 → IsTrue (R.has_ended r.new) × IsAtEnd (R.remaining r.new) }
     ensures input_refused { exit_status result ≡ 1 →
         Told R.remaining r.old r.new W.contents w.old w.new (RefusesInput chosen (R.has_ended r.new)) }
     ensures reader_failed { exit_status result ≡ 3 → IsFalse (W.has_failed w.new) →

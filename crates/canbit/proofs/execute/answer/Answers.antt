@@ -38,4 +38,4 @@ returns-in_err-passed-in-Check-clause-read_told g c failed =
 pub returns-then-passed-count-clause-all_done : goal.returns-then-passed-count-clause-all_done
 returns-then-passed-count-clause-all_done g c is =
     let told = c.in_ok-passed-in-Check.ensures in
-    rw c.in-Check.is (told.ended, passes_all _ _ _ _ _ _ _ _ c.if-passed-count.true told.ok)
+    rw c.in-Check.is (passes_all _ _ _ _ _ _ _ _ c.if-passed-count.true told.ok)
