@@ -1,15 +1,14 @@
 -- What a stream's fault says of what was read and written.
-use Rattle.std.proofs.Common.{◌≡◌, ◌⊎◌, ap, arith, inl, inr, refl, sym, ℕ, Bool, true, List, Option, Result, Ok, Err}
+use Rattle.std.proofs.Common.{◌≡◌, ◌⊎◌, arith, inl, inr, refl, ℕ, Bool, List, Option, Err}
 use Rattle.std.specs.Result.{IsErrOf}
 use Rattle.can_trace.specs.Checked.{ChecksAll}
 use Rattle.can_trace.specs.Told.{Told}
 use Rattle.can_trace.specs.declared.fault.TraceFault.{TraceFault}
 use Rattle.can_trace.specs.declared.fault.TraceFault.TheVariants.{BadByte, Read, Write, Long, FrameLine}
-use Rattle.canbit.specs.declared.fault.RunFault.{RunFault}
 use Rattle.canbit.specs.declared.fault.RunFault.TheVariants.{Stream}
 use Rattle.canbit.specs.declared.subcommands.Chosen.{Chosen}
 use Rattle.canbit.specs.Answers.{AnswersTooLong, HasBadByte, HasBadLine, PassesAll, RefusesInput}
-use Rattle.canbit.specs.Status.{exit_status, status_of}
+use Rattle.canbit.specs.Status.{status_of}
 
 module _ {R W : Type 0} (remaining : R → Option (List ℕ)) (before after : R) (contents : W → Option (List ℕ)) (held holds : W) where
   -- what was read and written is so related
