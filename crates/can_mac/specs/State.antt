@@ -60,7 +60,7 @@ is_off_phase (Suspend place) = false
 -- a frame whose stuffed part goes on
 pub record IsOpen (front : FrontParts) : Type 0 where
   pub front : IsFront front
-  pub open : next_place front ≢ ended
+  pub goes_on : next_place front ≢ ended
 
 abbrev pub IsPhase : MacPhase → Type 0
 IsPhase (Joining row) = row < 11

@@ -7,13 +7,20 @@ pub(crate) mod frame_end;
 pub(crate) mod stuffed_part;
 
 ghost use Rattle.std.specs.Prelude.{◌≡◌};
-ghost use Rattle.can_mac.specs.Moves.{begins, enters_intermission, errs, errs_by, errs_in_flag, flag, goes, is_held_back, overload, tells};
+ghost use Rattle.std.specs.Option.{option_copied};
+ghost use Rattle.can_mac.specs.State.{IsPhase};
+ghost use Rattle.can_mac.specs.Moves.{begins, enters_intermission, errs, errs_by, errs_in_flag, flag, goes, is_held_back, move, overload, placed, tells};
 
 use crate::event::{ErrorKind, Event};
 use crate::phase::{Overloads, Phase, Role};
+use between_frames::{idle, intermission, joining, suspend};
+use can_code::{Front, FrameBits};
 use can_fault::Cause;
-use can_frame::Level;
+use can_frame::{Frame, Level};
+use flags::{after_flag, delimiter, error_flag, overload_flag, passive_flag};
+use frame_end::{ack_delimiter, ack_slot, crc_delimiter, end_of_frame};
 use std::marker::Model;
+use stuffed_part::stuffed_part;
 
 /// A frame of which the start of frame alone has been heard.
 #[derive(Debug, Drop)]
@@ -194,6 +201,76 @@ impl Stance {
             Role::Receiver => false,
             Role::Sender(_) => self.passive,
         }
+    }
+}
+
+impl Phase<NewFrame> {
+    /// The same phase, where a frame that begins is heard level by level.
+    pub(crate) fn entered<B: FrameBits>(self) -> Phase<Front<B>>
+        ensures { result ≡ self }
+    {
+        match self {
+            Phase::Joining { row } => Phase::Joining { row },
+            Phase::Idle => Phase::Idle,
+            Phase::StuffedPart(_) => Phase::StuffedPart(Front::begin()),
+            Phase::CrcDelimiter(reading) => Phase::CrcDelimiter(reading),
+            Phase::AckSlot(reading) => Phase::AckSlot(reading),
+            Phase::AckDelimiter(reading) => Phase::AckDelimiter(reading),
+            Phase::EndOfFrame { reading, place } => Phase::EndOfFrame { reading, place },
+            Phase::ErrorFlag { place } => Phase::ErrorFlag { place },
+            Phase::PassiveFlag {
+                last,
+                run,
+                unacknowledged,
+            } => Phase::PassiveFlag {
+                last,
+                run,
+                unacknowledged,
+            },
+            Phase::OverloadFlag { place } => Phase::OverloadFlag { place },
+            Phase::AfterFlag { first, dominant } => Phase::AfterFlag { first, dominant },
+            Phase::Delimiter { place } => Phase::Delimiter { place },
+            Phase::Intermission { place } => Phase::Intermission { place },
+            Phase::Suspend { place } => Phase::Suspend { place },
+            Phase::BusOff => Phase::BusOff,
+        }
+    }
+}
+
+/// What a level makes of a phase. The front of a frame is heard in place.
+pub(crate) fn next_move<B: FrameBits>(
+    stance: &Stance,
+    phase: &mut Phase<Front<B>>,
+    waiting: Option<&Frame>,
+    seen: Level,
+) -> Hearing
+    requires { IsPhase phase.old }
+    ensures { placed phase.new result ≡ move stance.now phase.old (option_copied waiting.entry) seen }
+{
+    match phase {
+        Phase::Joining { row } => joining(stance, *row, seen).leaves(),
+        Phase::Idle => idle(stance, waiting, seen).leaves(),
+        Phase::StuffedPart(front) => stuffed_part(stance, front, seen),
+        Phase::CrcDelimiter(reading) => crc_delimiter(stance, reading, seen).leaves(),
+        Phase::AckSlot(reading) => ack_slot(stance, reading, seen).leaves(),
+        Phase::AckDelimiter(reading) => ack_delimiter(stance, reading, seen).leaves(),
+        Phase::EndOfFrame { reading, place } => {
+            end_of_frame(stance, reading, *place, seen).leaves()
+        }
+        Phase::ErrorFlag { place } => error_flag(stance, *place, seen).leaves(),
+        Phase::PassiveFlag {
+            last,
+            run,
+            unacknowledged,
+        } => passive_flag(stance, *last, *run, *unacknowledged, seen).leaves(),
+        Phase::OverloadFlag { place } => overload_flag(stance, *place, seen).leaves(),
+        Phase::AfterFlag { first, dominant } => {
+            after_flag(stance, *first, *dominant, seen).leaves()
+        }
+        Phase::Delimiter { place } => delimiter(stance, *place, seen).leaves(),
+        Phase::Intermission { place } => intermission(stance, *place, waiting, seen).leaves(),
+        Phase::Suspend { place } => suspend(stance, *place, seen).leaves(),
+        Phase::BusOff => stance.goes(Phase::BusOff).leaves(),
     }
 }
 
