@@ -1,8 +1,9 @@
 -- What a node that is bus off holds, as it takes level after level.
-use Rattle.std.proofs.Common.{◌≡◌, ◌≢◌, ℕ, ◌+◌, ◌-◌, ◌/◌, ◌%◌, ◌<◌, ◌≤◌, ◌↔◌, Bool, true, false, ◌&&◌, ◌⊎◌, List, [], ◌∷◌, ◌++◌, length, get_or, replicate, take, drop, refl, sym, ◌∙◌, ap, subst, arith, cond, inl, inr, append_assoc}
+use Rattle.std.proofs.Common.{◌≡◌, ℕ, zero, suc, ◌+◌, ◌%◌, ◌<◌, ◌≤◌, ◌↔◌, Bool, true, false, ◌&&◌, List, [], ◌∷◌, ◌++◌, length, get_or, replicate, take, drop, refl, sym, ◌∙◌, ap, subst, arith, cond, inl, inr, append_assoc}
 use Rattle.std.proofs.Math.Dec.{ltb, leb}
+use Rattle.std.proofs.Math.Seq.{take-suc, take-length}
 use Rattle.std.proofs.lemmas.List.{append-nil, take-append-drop, take-take}
-use Rattle.std.proofs.lemmas.Bool.{cases_lt, lt-ltb, le-ltb, leb-true, leb-false, le-leb, cond-true, cond-false}
+use Rattle.std.proofs.lemmas.Bool.{cases_lt, false_from_ne_true, lt-ltb, le-ltb, leb-true, leb-false, le-leb, cond-true, cond-false}
 use Rattle.can_frame.specs.declared.level.Level.{Level}
 use Rattle.can_frame.specs.declared.level.Level.TheVariants.{Dominant, Recessive}
 use Rattle.can_fault.specs.declared.state.State.TheVariants.{Active, Passive, BusOff}
@@ -35,13 +36,13 @@ held-push c l Recessive =
     let n = last_run l in
     elim (cases_lt (n % 11) 10) [
       | inl short ↦
-        let o : c.occurrences + rests (l ++ Recessive ∷ []) ≡ c.occurrences + rests l = omega arith in
-        let r : last_run (l ++ Recessive ∷ []) % 11 ≡ n % 11 + 1 = omega arith in
-        with_equals c o r ∙ sym (cond-true (ltb (n % 11) 10) _ _ (lt-ltb (n % 11) 10 short))
+          let o : c.occurrences + rests (l ++ Recessive ∷ []) ≡ c.occurrences + rests l = omega arith in
+          let r : last_run (l ++ Recessive ∷ []) % 11 ≡ n % 11 + 1 = omega arith in
+          with_equals c o r ∙ sym (cond-true (ltb (n % 11) 10) _ _ (lt-ltb (n % 11) 10 short))
       | inr long ↦
-        let o : c.occurrences + rests (l ++ Recessive ∷ []) ≡ c.occurrences + rests l + 1 = omega arith in
-        let r : last_run (l ++ Recessive ∷ []) % 11 ≡ 0 = omega arith in
-        with_equals c o r ∙ sym (cond-false (ltb (n % 11) 10) _ _ (le-ltb (n % 11) 10 long))
+          let o : c.occurrences + rests (l ++ Recessive ∷ []) ≡ c.occurrences + rests l + 1 = omega arith in
+          let r : last_run (l ++ Recessive ∷ []) % 11 ≡ 0 = omega arith in
+          with_equals c o r ∙ sym (cond-false (ltb (n % 11) 10) _ _ (le-ltb (n % 11) 10 long))
     ]
 
 -- one level more
@@ -89,7 +90,7 @@ module _ (c : ConfineParts) (l : List Level) (p : ConfineParts) (w : IsWaiting c
   pub IsWaiting-stays : StaysBusOff c l
   IsWaiting-stays m ends =
       let whole : since_last c (take m l) ++ drop m l ≡ since_last c l =
-          append_assoc (replicate c.row Recessive) (take m l) (drop m l) ∙ ap (since_last c) (take-append-drop m l) in
+      append_assoc (replicate c.row Recessive) (take m l) (drop m l) ∙ ap (since_last c) (take-append-drop m l) in
       let fewer : rests (since_last c (take m l)) ≤ rests (since_last c (take m l) ++ drop m l) = rests-append-le (since_last c (take m l)) (drop m l) in
       let count : p.occurrences ≡ c.occurrences + rests (since_last c l) = ap (λ t. t.occurrences) w.here in
       absurd (omega (arith, ap rests whole, fewer, count, ends, w.short))
@@ -126,6 +127,34 @@ module _ (c : ConfineParts) (h : IsConfine c) (x : Level) (b : Bool) (value : b 
   one_level-waits p after none =
       let w = IsWaiting-nil c h off in
       after ∙ (IsWaiting-push c [] c w x (sym value ∙ none)).here
+
+-- c is bus off, and no front of the levels ends that
+module _ (c : ConfineParts) (l : List Level) (h : IsConfine c) (off : state_of c ≡ BusOff) (stays : StaysBusOff c l) where
+  what_is_held : (l : List Level) (p : ConfineParts) → IsWaiting c l p → IsWaiting c l (after_levels c l)
+  what_is_held l p w = subst (IsWaiting c l) w.here w
+
+  one_front_more : (i : ℕ) → i < length l → IsWaiting c (take i l) (after_levels c (take i l)) → IsWaiting c (take (suc i) l) (after_levels c (take (suc i) l))
+  one_front_more i within w =
+      subst (λ t. IsWaiting c t (after_levels c t)) (sym front) (what_is_held (take i l ++ x ∷ []) (recovered x p) (IsWaiting-push c (take i l) p w x goes_on))
+    where
+      x : Level
+      x = get_or l i Dominant
+
+      p : ConfineParts
+      p = after_levels c (take i l)
+
+      front : take (suc i) l ≡ take i l ++ x ∷ []
+      front = take-suc l i Dominant within
+
+      goes_on : ends_bus_off x p ≡ false
+      goes_on = false_from_ne_true (ends_bus_off x p) (λ e. stays (suc i) (subst (EndsBusOff c) (sym front) (IsWaiting-ended c (take i l) p w x e).0))
+
+  fronts : (i : ℕ) → i ≤ length l → IsWaiting c (take i l) (after_levels c (take i l))
+  fronts zero within = what_is_held [] c (IsWaiting-nil c h off)
+  fronts (suc i) within = one_front_more i (omega arith) (fronts i (omega arith))
+
+  pub IsWaiting-after : IsWaiting c l (after_levels c l)
+  IsWaiting-after = subst (λ t. IsWaiting c t (after_levels c t)) (take-length l) (fronts (length l) (omega arith))
 
 -- x is the next level of a list, of which the first i don't end bus off
 module _ (c : ConfineParts) (l : List Level) (i : ℕ) (x : Level) (within : i < length l) (front : take (i + 1) l ≡ take i l ++ x ∷ [])

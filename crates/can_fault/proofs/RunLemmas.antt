@@ -1,5 +1,5 @@
 -- The recessive runs of a list of levels, and the occurrences in them, as the list grows.
-use Rattle.std.proofs.Common.{◌≡◌, ℕ, zero, suc, ◌+◌, ◌/◌, ◌≤◌, List, [], ◌∷◌, ◌++◌, length, reverse, replicate, take, drop, refl, sym, ◌∙◌, ap, subst, arith, cond}
+use Rattle.std.proofs.Common.{◌≡◌, ℕ, zero, suc, ◌+◌, ◌*◌, ◌/◌, ◌≤◌, List, [], ◌∷◌, ◌++◌, length, reverse, replicate, refl, sym, ◌∙◌, ap, subst, arith}
 use Rattle.std.specs.Prelude.{sum_by, take_while}
 use Rattle.std.proofs.lemmas.List.{append-nil, reverse-append, reverse-reverse}
 use Rattle.std.proofs.lemmas.List.Sums.{sum_by-cons, take_while-cons}
@@ -56,7 +56,7 @@ pub last_run-recessive : (l : List Level) → last_run (l ++ Recessive ∷ []) �
 unfolding last_run
 last_run-recessive l =
     let more : last_run (l ++ Recessive ∷ []) ≡ suc (last_run l) =
-        ap (λ t. length (take_while is_recessive t)) (reverse-append l (Recessive ∷ [])) ∙ ap length (take_while-cons is_recessive Recessive (reverse l)) in
+    ap (λ t. length (take_while is_recessive t)) (reverse-append l (Recessive ∷ [])) ∙ ap length (take_while-cons is_recessive Recessive (reverse l)) in
     omega arith
 
 run_from-last_run : (l : List Level) → run_from 0 l ≡ last_run l
@@ -96,6 +96,16 @@ rests-append-le a b = by_runs 0 a
     by_runs n [] = omega (arith, rests_from-nil n, first_run n b)
     by_runs n (Dominant ∷ a) = omega (arith, rests_from-dominant n a, by_runs 0 a, rests_from-dominant n (a ++ b))
     by_runs n (Recessive ∷ a) = by_runs (n + 1) a
+
+-- each occurrence has eleven levels of its own
+pub rests-le : (l : List Level) → 11 * rests l ≤ length l
+unfolding rests
+rests-le l = omega (arith, by_runs 0 l)
+  where
+    by_runs : (n : ℕ) (l : List Level) → 11 * rests_from n l ≤ n + length l
+    by_runs n [] = omega (arith, rests_from-nil n)
+    by_runs n (Dominant ∷ l) = omega (arith, rests_from-dominant n l, by_runs 0 l)
+    by_runs n (Recessive ∷ l) = omega (arith, by_runs (n + 1) l)
 
 -- recessive levels alone
 runs_from-replicate : (n r : ℕ) (l : List Level) → runs_from n (replicate r Recessive ++ l) ≡ runs_from (n + r) l

@@ -1,6 +1,6 @@
 -- Fault confinement: the two error counters of a node, what changes them, and the state that they make.
 -- (Bosch CAN 2.0 part B, section 8)
-use Rattle.std.specs.Prelude.{ℕ, ◌≡◌, ◌≢◌, ◌+◌, ◌-◌, ◌<◌, ◌≤◌, min, nat_le, Bool, ◌||◌, if◌then◌else◌}
+use Rattle.std.specs.Prelude.{ℕ, ◌≡◌, ◌+◌, ◌-◌, ◌<◌, min, nat_le, Bool, ◌||◌, if◌then◌else◌}
 use Rattle.can_fault.specs.declared.cause.Cause.{Cause}
 use Rattle.can_fault.specs.declared.cause.Cause.TheVariants.{ReceiverError, ReceiverFlagBit, ReceiverFirstDominant, ReceiverDominantRun, SenderError, SenderFlagBit, SenderDominantRun, PassiveUnacknowledged, FrameSent, FrameReceived}
 use Rattle.can_fault.specs.declared.state.State.{State}
@@ -19,13 +19,15 @@ pub record ConfineParts : Type 0 where
 abbrev pub fresh : ConfineParts
 fresh = record { tec = 0; rec = 0; occurrences = 0; row = 0 }
 
+-- bus off: TEC is at least 256
 abbrev pub is_bus_off : ConfineParts → Bool
 is_bus_off c = nat_le 256 c.tec
 
+-- a counter is at least 128
 abbrev pub is_passive : ConfineParts → Bool
 is_passive c = nat_le 128 c.tec || nat_le 128 c.rec
 
--- bus off from a TEC of 256 on, else error passive where a counter is at least 128, else error active
+-- bus off, else error passive where a counter is at least 128, else error active
 abbrev pub state_of : ConfineParts → State
 state_of c = if is_bus_off c then BusOff else if is_passive c then Passive else Active
 
@@ -58,12 +60,12 @@ changed FrameReceived c = record c { rec = rec_after_reception c.rec }
 abbrev pub counted : Cause → ConfineParts → ConfineParts
 counted cause c = if is_bus_off c then c else changed cause c
 
--- what holds of every node: the last eight counts of a sender end at 263 at most, and a node waits to
--- recover only while it is bus off
+-- what holds of every node: the cause that makes it bus off adds 8 to a TEC of at most 255, and it waits
+-- to recover only while it is bus off
 pub record IsConfine (c : ConfineParts) : Type 0 where
   pub tec : c.tec < 264
   pub rec : c.rec < 256
   pub occurrences : c.occurrences < 128
   pub row : c.row < 11
-  pub none_while_on : c.tec < 256 → c.occurrences ≡ 0
-  pub empty_while_on : c.tec < 256 → c.row ≡ 0
+  pub no_occurrences : c.tec < 256 → c.occurrences ≡ 0
+  pub empty_row : c.tec < 256 → c.row ≡ 0

@@ -1,6 +1,6 @@
 -- How bus off ends: with the 128th occurrence of eleven recessive levels in a row. Occurrences don't
 -- overlap, and no request is needed. (Bosch CAN 2.0 part B, section 8)
-use Rattle.std.specs.Prelude.{ℕ, ◌≡◌, ◌≢◌, ◌+◌, ◌-◌, ◌/◌, ◌%◌, ◌<◌, ◌≤◌, nat_lt, nat_le, Bool, ◌&&◌, if◌then◌else◌, List, [], ◌∷◌, ◌++◌, length, reverse, replicate, sum_by, take, take_while}
+use Rattle.std.specs.Prelude.{ℕ, ◌≡◌, ◌+◌, ◌/◌, ◌%◌, ◌<◌, ◌≤◌, nat_lt, nat_le, Bool, ◌&&◌, if◌then◌else◌, List, [], ◌∷◌, ◌++◌, length, reverse, replicate, sum_by, take, take_while}
 use Rattle.can_frame.specs.declared.level.Level.{Level}
 use Rattle.can_frame.specs.declared.level.Level.TheVariants.{Dominant, Recessive}
 use Rattle.can_frame.specs.Levels.{is_recessive}
@@ -30,7 +30,7 @@ last_run levels = length (take_while is_recessive (reverse levels))
 abbrev pub since_last : ConfineParts → List Level → List Level
 since_last c levels = replicate c.row Recessive ++ levels
 
--- with the last of these levels the 128th occurrence is complete
+-- these levels make the 128th occurrence whole
 abbrev pub EndsBusOff : ConfineParts → List Level → Type 0
 EndsBusOff c levels = c.occurrences + rests (since_last c levels) ≡ 128
 

@@ -1,4 +1,4 @@
-ghost use Rattle.std.specs.Prelude.{◌≡◌, ◌≢◌, ◌+◌, ◌<◌, [], ◌∷◌, min, ◌↔◌, IfSome, OnSome, IsTrue, IsFalse};
+ghost use Rattle.std.specs.Prelude.{◌≡◌, ◌≢◌, ◌+◌, ◌<◌, ◌≤◌, [], ◌∷◌, min, ◌↔◌, IfSome, OnSome, IsTrue, IsFalse};
 ghost use Rattle.can_fault.specs.Recovery.{after_levels, ends_bus_off, EndsBehind, EndsBusOff, recovered, StaysBusOff};
 ghost use Rattle.can_fault.specs.Counters.{counted, fresh, IsConfine, rec_after_reception, state_of};
 
@@ -22,12 +22,15 @@ const ROW: u8 = 11;
 /// Bus off ends with the occurrence of this number.
 const OCCURRENCES: u8 = 128;
 
-/// The error counters of a node, and how far it has come back from bus off.
+/// The error counters of a node, and how far it has come back from bus off. (Bosch CAN 2.0 part B,
+/// section 8)
 #[derive(Clone, Copy, Debug, Default, PartialEq, Eq)]
 pub struct Confine {
     tec: u16,
     rec: u16,
+    /// Occurrences of eleven recessive levels since the node became bus off.
     occurrences: u8,
+    /// Recessive levels in a row since the last occurrence.
     row: u8,
 }
 
@@ -75,6 +78,8 @@ impl Confine {
     /// The state that the counters make.
     pub fn state(&self) -> State
         ensures value { result ≡ state_of self.now }
+        ensures active { (result ≡ State.Active) ↔ ((self.now.tec ≤ 127) × (self.now.rec ≤ 127)) }
+        ensures bus_off { (result ≡ State.BusOff) ↔ (256 ≤ self.now.tec) }
         ensures kept { IsConfine self.now }
     {
         if self.tec >= BUS_OFF_FROM {
@@ -86,7 +91,7 @@ impl Confine {
         }
     }
 
-    /// Counts what a cause changes. While the node is bus off nothing changes.
+    /// Counts what a cause changes (section 8): nothing while the node is bus off.
     pub fn apply(&mut self, cause: Cause)
         ensures { self.new ≡ counted cause self.old }
     {
@@ -140,7 +145,7 @@ impl Confine {
         ensures ended { IfSome result (EndsBehind self.old levels.now) }
         ensures cleared { OnSome result (self.new ≡ fresh) }
         ensures waiting { result ≡ None → state_of self.old ≡ State.BusOff → StaysBusOff self.old levels.now × (self.new ≡ after_levels self.old levels.now) }
-        ensures on_bus { state_of self.old ≢ State.BusOff → (result ≡ None) × (self.new ≡ self.old) }
+        ensures other_states { state_of self.old ≢ State.BusOff → (result ≡ None) × (self.new ≡ self.old) }
     {
         if self.state() != State::BusOff {
             return None;
