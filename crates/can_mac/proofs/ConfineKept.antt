@@ -12,17 +12,17 @@ use Rattle.can_fault.specs.Counters.{ConfineParts, IsConfine, changed, counted, 
 use Rattle.can_fault.specs.Recovery.{after_level, ends_bus_off, recovered}
 
 pub IsConfine-fresh : IsConfine fresh
-IsConfine-fresh = record { tec = omega arith; rec = omega arith; occurrences = omega arith; row = omega arith; none_while_on = λ h. refl; empty_while_on = λ h. refl }
+IsConfine-fresh = record { tec = omega arith; rec = omega arith; occurrences = omega arith; row = omega arith; no_occurrences = λ h. refl; empty_row = λ h. refl }
 
 module _ (c : ConfineParts) (h : IsConfine c) where
   module _ (on : c.tec < 256) where
     receiver_kept : (n : ℕ) → IsConfine (receiver_raised n c)
     receiver_kept n =
         let most = min-le_right (c.rec + n) 255 in
-        record { tec = h.tec; rec = omega (arith, most); occurrences = h.occurrences; row = h.row; none_while_on = h.none_while_on; empty_while_on = h.empty_while_on }
+        record { tec = h.tec; rec = omega (arith, most); occurrences = h.occurrences; row = h.row; no_occurrences = h.no_occurrences; empty_row = h.empty_row }
 
     sender_kept : IsConfine (sender_raised 8 c)
-    sender_kept = record { tec = omega arith; rec = h.rec; occurrences = h.occurrences; row = h.row; none_while_on = λ e. h.none_while_on on; empty_while_on = λ e. h.empty_while_on on }
+    sender_kept = record { tec = omega arith; rec = h.rec; occurrences = h.occurrences; row = h.row; no_occurrences = λ e. h.no_occurrences on; empty_row = λ e. h.empty_row on }
 
     received_kept : rec_after_reception c.rec < 256
     received_kept =
@@ -39,9 +39,9 @@ module _ (c : ConfineParts) (h : IsConfine c) where
     changed_kept SenderDominantRun = sender_kept
     changed_kept PassiveUnacknowledged = sender_kept
     changed_kept FrameSent =
-        record { tec = omega arith; rec = h.rec; occurrences = h.occurrences; row = h.row; none_while_on = λ e. h.none_while_on on; empty_while_on = λ e. h.empty_while_on on }
+        record { tec = omega arith; rec = h.rec; occurrences = h.occurrences; row = h.row; no_occurrences = λ e. h.no_occurrences on; empty_row = λ e. h.empty_row on }
     changed_kept FrameReceived =
-        record { tec = h.tec; rec = received_kept; occurrences = h.occurrences; row = h.row; none_while_on = h.none_while_on; empty_while_on = h.empty_while_on }
+        record { tec = h.tec; rec = received_kept; occurrences = h.occurrences; row = h.row; no_occurrences = h.no_occurrences; empty_row = h.empty_row }
 
   pub IsConfine-counted : (cause : Cause) → IsConfine (counted cause c)
   IsConfine-counted cause =
@@ -50,15 +50,15 @@ module _ (c : ConfineParts) (h : IsConfine c) where
   module _ (off : 256 ≤ c.tec) where
     level_kept : (x : Level) → (after_level x c).occurrences < 128 → IsConfine (after_level x c)
     level_kept Dominant few =
-        record { tec = h.tec; rec = h.rec; occurrences = h.occurrences; row = omega arith; none_while_on = λ e. absurd (omega arith); empty_while_on = λ e. refl }
+        record { tec = h.tec; rec = h.rec; occurrences = h.occurrences; row = omega arith; no_occurrences = λ e. absurd (omega arith); empty_row = λ e. refl }
     level_kept Recessive few =
         let longer : ConfineParts = record c { row = c.row + 1 } in
         let next : ConfineParts = record c { occurrences = c.occurrences + 1; row = 0 } in
         let P : ConfineParts → Type 0 = λ n. n.occurrences < 128 → IsConfine n in
         cond_both (ltb c.row 10) longer next P
         (λ e f. let short : c.row < 10 = ltb-true c.row 10 e in
-        record { tec = h.tec; rec = h.rec; occurrences = h.occurrences; row = omega arith; none_while_on = λ d. absurd (omega arith); empty_while_on = λ d. absurd (omega arith) })
-        (λ e f. record { tec = h.tec; rec = h.rec; occurrences = f; row = omega arith; none_while_on = λ d. absurd (omega arith); empty_while_on = λ d. refl })
+        record { tec = h.tec; rec = h.rec; occurrences = h.occurrences; row = omega arith; no_occurrences = λ d. absurd (omega arith); empty_row = λ d. absurd (omega arith) })
+        (λ e f. record { tec = h.tec; rec = h.rec; occurrences = f; row = omega arith; no_occurrences = λ d. absurd (omega arith); empty_row = λ d. refl })
         few
 
   pub IsConfine-recovered : (x : Level) → IsConfine (recovered x c)

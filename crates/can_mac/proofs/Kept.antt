@@ -12,12 +12,21 @@ use Rattle.can_fault.specs.Recovery.{after_level, ends_bus_off, recovered}
 use Rattle.can_mac.specs.declared.event.Event.{Event}
 use Rattle.can_mac.specs.declared.event.Event.TheVariants.{WentOff, Recovered}
 use Rattle.can_mac.specs.declared.phase.Role.TheVariants.{Receiver}
-use Rattle.can_mac.specs.declared.phase.Phase.TheVariants.{Idle, BusOff}
-use Rattle.can_mac.specs.State.{MacState, IsMac, IsWaiting, is_off_phase}
+use Rattle.can_mac.specs.declared.phase.Phase.TheVariants.{Joining, Idle, BusOff}
+use Rattle.can_mac.specs.State.{MacPhase, MacState, IsMac, IsPhase, IsWaiting, idle, is_off_phase, joining, starting}
 use Rattle.can_mac.specs.Moves.{MacMove, move}
 use Rattle.can_mac.specs.Machine.{holding, landed, mac_step, moved, off_step, on_step, settled, stance}
-use Rattle.can_mac.proofs.ConfineKept.{IsConfine-counted, IsConfine-recovered}
+use Rattle.can_mac.proofs.ConfineKept.{IsConfine-fresh, IsConfine-counted, IsConfine-recovered}
 use Rattle.can_mac.proofs.KeptMoves.{IsKept, move_kept}
+
+starting_kept : (p : MacPhase) → IsPhase p → is_off_phase p ≡ false → IsMac (starting p)
+starting_kept p h on = record { phase = h; role = tt; pending = omega arith; used = omega arith; counters = IsConfine-fresh; off = on }
+
+pub IsMac-idle : IsMac idle
+IsMac-idle = starting_kept Idle tt refl
+
+pub IsMac-joining : IsMac joining
+IsMac-joining = starting_kept (Joining 0) (omega arith) refl
 
 -- a move lands, whatever it counts
 landed_kept : (v : MacMove) (c : ConfineParts) (cause : Option Cause) → IsKept v → IsConfine c → is_bus_off c ≡ false → IsMac (landed v c cause).0

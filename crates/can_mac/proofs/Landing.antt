@@ -65,13 +65,13 @@ module _ (m now : MacState) (view : m ≡ now) (h : IsMac m) (on : is_off_phase 
     stays_on-IsMac e = subst (λ p. IsMac p.0) (sym (stays_on e)) step_is_mac
 
 -- one bit time, off the bus and on it
-pub step-off : (m : MacState) (waiting : Option Parts) (x : Level) → is_off_phase m.phase ≡ true → mac_step m waiting x ≡ off_step m x
+pub step_off : (m : MacState) (waiting : Option Parts) (x : Level) → is_off_phase m.phase ≡ true → mac_step m waiting x ≡ off_step m x
 unfolding mac_step
-step-off m waiting x h = cond-true (is_off_phase m.phase) (off_step m x) (on_step m (move (stance m) m.phase waiting x)) h
+step_off m waiting x h = cond-true (is_off_phase m.phase) (off_step m x) (on_step m (move (stance m) m.phase waiting x)) h
 
-pub step-on : (m : MacState) (waiting : Option Parts) (x : Level) → is_off_phase m.phase ≡ false → mac_step m waiting x ≡ on_step m (move (stance m) m.phase waiting x)
+pub step_on : (m : MacState) (waiting : Option Parts) (x : Level) → is_off_phase m.phase ≡ false → mac_step m waiting x ≡ on_step m (move (stance m) m.phase waiting x)
 unfolding mac_step
-step-on m waiting x h = cond-false (is_off_phase m.phase) (off_step m x) (on_step m (move (stance m) m.phase waiting x)) h
+step_on m waiting x h = cond-false (is_off_phase m.phase) (off_step m x) (on_step m (move (stance m) m.phase waiting x)) h
 
 -- What a controller's state tells of whether it is error passive.
 module _ (c : ConfineParts) where
