@@ -111,7 +111,7 @@ fn r1<B: FrameBits>(bits: &B) -> Level
 }
 
 /// The frame that these are all of the unstuffed levels of.
-fn frame<B: FrameBits>(bits: &B) -> Frame
+pub(crate) fn frame<B: FrameBits>(bits: &B) -> Frame
     requires { HasData (B.levels bits.now) }
     ensures { result ≡ frame_of (B.levels bits.now) }
 {
