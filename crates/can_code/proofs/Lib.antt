@@ -36,6 +36,8 @@ pub mod SoundLemmas
 pub mod CodeFaultLemmas
 pub mod OneCodeFault
 pub mod DecodingLemmas
+pub mod DecoderLemmas
+pub mod FrameOrFault
 pub mod TailLemmas
 -- known values
 pub mod LayoutRows

@@ -29,16 +29,20 @@
 #![tactic(auto)]
 
 mod check;
+mod decode;
 mod encode;
 mod fault;
+mod finding;
 mod inbox;
 mod laws;
+mod line;
 mod lines;
 mod outbox;
 mod sink;
 mod source;
 #[cfg(test)]
 mod tests;
+mod trace;
 mod vector;
 mod verdict;
 
