@@ -47,6 +47,7 @@ mod vector;
 mod verdict;
 
 pub use check::check_lines;
+pub use decode::decode_stream;
 pub use encode::encode_lines;
 pub use fault::TraceFault;
 pub use laws::one_answer;
