@@ -39,6 +39,7 @@ pub mod CodeFaultLemmas
 pub mod OneCodeFault
 pub mod DecodingLemmas
 pub mod DecoderLemmas
+pub mod FrameOrFault
 pub mod TailLemmas
 -- levels as they are sent, one by one
 pub mod PartFronts

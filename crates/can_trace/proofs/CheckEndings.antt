@@ -276,35 +276,3 @@ module _ {R W : Type 0} (remaining : R → Option (List ℕ)) (r_before r : R) (
     appends = Appends-trans _ _ _ told.output front.taken told.appends front.appends;
     related = rw (append-nil (told.output ++ front.taken)) (ChecksLines-answers tally.0 tally.1 ended told.input told.output waiting front.taken front.left is_ended front.split told.related);
   }
-
-  module _ (result : Result (ℕ × ℕ) TraceFault) (ended : Bool)
-      (told : Told remaining r_before r contents w_before w (λ input output. Comes ChecksAll result ended input (output ++ waiting))) where
-    -- the writer took all
-    pub Told-flushed : Appends (contents w) (contents w_after) waiting → Told remaining r_before r contents w_before w_after (Comes ChecksAll result ended)
-    Told-flushed took = record {
-      input = told.input;
-      output = told.output ++ waiting;
-      consumes = told.consumes;
-      appends = Appends-trans _ _ _ told.output waiting told.appends took;
-      related = told.related;
-    }
-
-    -- the writer failed
-    pub Told-unflushed : OnOk result (ended ≡ true) → TakesFront (contents w) (contents w_after) waiting → Told remaining r_before r contents w_before w_after (BeginsChecking ended)
-    Told-unflushed is_ended front = record {
-      input = told.input;
-      output = told.output ++ front.taken;
-      consumes = told.consumes;
-      appends = Appends-trans _ _ _ told.output front.taken told.appends front.appends;
-      related = BeginsChecking-from result ended told.input told.output waiting front.taken front.left is_ended front.split told.related;
-    }
-
-module _ {R W : Type 0} (remaining : R → Option (List ℕ)) (r_before r : R) (contents : W → Option (List ℕ)) (w_before w : W) (ended : Bool) where
-  pub Told-ok : (result : Result (ℕ × ℕ) TraceFault) → Told remaining r_before r contents w_before w (Comes ChecksAll result ended)
-      → IfOk result (λ t. Told remaining r_before r contents w_before w (ChecksAll t.0 t.1))
-  Told-ok (Ok tally) told = told
-  Told-ok (Err e) told = tt
-
-  pub Told-err : (result : Result (ℕ × ℕ) TraceFault) (e : TraceFault) → Told remaining r_before r contents w_before w (Comes ChecksAll result ended)
-      → result ≡ Err e → Told remaining r_before r contents w_before w (Comes ChecksAll (Err e) ended)
-  Told-err result e told is = subst (λ (x : Result (ℕ × ℕ) TraceFault). Told remaining r_before r contents w_before w (Comes ChecksAll x ended)) is told

@@ -185,36 +185,3 @@ BeginsEncoding-from (Err (FrameLine n fault)) ended input output waiting taken l
   lines = bad.lines;
   answers = Codes-split _ output waiting taken left split bad.answers;
 }
-
-module _ {R W : Type 0} (remaining : R → Option (List ℕ)) (r_before r : R) (contents : W → Option (List ℕ)) (w_before w w_after : W)
-    (waiting : List ℕ) (result : Result (Unit {0}) TraceFault) (ended : Bool)
-    (told : Told remaining r_before r contents w_before w (λ input output. Encodes result ended input (output ++ waiting))) where
-  -- the writer took all
-  pub Told-flushed : Appends (contents w) (contents w_after) waiting → Told remaining r_before r contents w_before w_after (Encodes result ended)
-  Told-flushed took = record {
-    input = told.input;
-    output = told.output ++ waiting;
-    consumes = told.consumes;
-    appends = Appends-trans _ _ _ told.output waiting told.appends took;
-    related = told.related;
-  }
-
-  -- the writer failed
-  pub Told-unflushed : OnOk result (ended ≡ true) → TakesFront (contents w) (contents w_after) waiting → Told remaining r_before r contents w_before w_after (BeginsEncoding ended)
-  Told-unflushed is_ended front = record {
-    input = told.input;
-    output = told.output ++ front.taken;
-    consumes = told.consumes;
-    appends = Appends-trans _ _ _ told.output front.taken told.appends front.appends;
-    related = BeginsEncoding-from result ended told.input told.output waiting front.taken front.left is_ended front.split told.related;
-  }
-
-module _ {R W : Type 0} (remaining : R → Option (List ℕ)) (r_before r : R) (contents : W → Option (List ℕ)) (w_before w : W) (ended : Bool) where
-  pub Told-ok : (result : Result (Unit {0}) TraceFault) → Told remaining r_before r contents w_before w (Encodes result ended)
-      → OnOk result (Told remaining r_before r contents w_before w EncodesAll)
-  Told-ok (Ok u) told = told
-  Told-ok (Err e) told = tt
-
-  pub Told-err : (result : Result (Unit {0}) TraceFault) (e : TraceFault) → Told remaining r_before r contents w_before w (Encodes result ended)
-      → result ≡ Err e → Told remaining r_before r contents w_before w (Encodes {A = Unit {0}} (Err e) ended)
-  Told-err result e told is = subst (λ (x : Result (Unit {0}) TraceFault). Told remaining r_before r contents w_before w (Encodes x ended)) is told

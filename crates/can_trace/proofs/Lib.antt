@@ -8,9 +8,16 @@ pub mod MarkLemmas
 pub mod DigitLemmas
 pub mod VectorLemmas
 pub mod VectorFronts
+pub mod LineParts
 pub mod VerdictLines
 pub mod Codings
 pub mod Answering
+pub mod Flushing
 pub mod Endings
 pub mod CheckSteps
 pub mod CheckEndings
+pub mod IdleRows
+pub mod TraceSteps
+pub mod DecodeSteps
+pub mod FindsTotal
+pub mod DecodeEndings

@@ -4,9 +4,6 @@ use Rattle.can_trace.specs.declared.vector.Verdict.{Verdict}
 use Rattle.can_trace.specs.declared.vector.Verdict.TheVariants.{Agrees, DiffersAt}
 use Rattle.can_trace.specs.Checked.{verdict_line}
 
-pub regrouped : (a b c d e : List ℕ) → (((a ++ b) ++ c) ++ d) ++ e ≡ a ++ (b ++ (c ++ (d ++ e)))
-regrouped a b c d e = append_assoc ((a ++ b) ++ c) d e ∙ append_assoc (a ++ b) c (d ++ e) ∙ append_assoc a b (c ++ (d ++ e))
-
 pub verdict_line-agrees : (verdict : Verdict) → verdict ≡ Agrees → codes "ok" ++ 10 ∷ [] ≡ verdict_line verdict
 unfolding verdict_line
 verdict_line-agrees verdict is = sym (ap verdict_line is)

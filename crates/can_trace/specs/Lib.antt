@@ -9,3 +9,6 @@ pub mod Coded
 pub mod Checked
 pub mod Checking
 pub mod Answering
+pub mod TraceText
+pub mod Decoded
+pub mod Decoding

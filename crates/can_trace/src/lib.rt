@@ -29,20 +29,25 @@
 #![tactic(auto)]
 
 mod check;
+mod decode;
 mod encode;
 mod fault;
+mod finding;
 mod inbox;
 mod laws;
+mod line;
 mod lines;
 mod outbox;
 mod sink;
 mod source;
 #[cfg(test)]
 mod tests;
+mod trace;
 mod vector;
 mod verdict;
 
 pub use check::check_lines;
+pub use decode::decode_stream;
 pub use encode::encode_lines;
 pub use fault::TraceFault;
 pub use laws::one_answer;

@@ -4,14 +4,11 @@ ghost use Rattle.can_trace.specs.Outbox.{PassesOn, TakesFront};
 ghost use Rattle.can_trace.specs.Checked.{total_line, verdict_line};
 
 use crate::fault::TraceFault;
+use crate::line::{Line, push, push_number};
 use crate::outbox::Outbox;
 use crate::sink::Sink;
 use crate::vector::Verdict;
 use arrayvec::ArrayVec;
-use itoa::Buffer;
-
-/// How many bytes a line has at most: two numbers of 20 digits, and 12 bytes.
-const LINE: usize = 64;
 
 /// Puts the line of a verdict.
 pub(crate) fn put_verdict<W: Sink>(
@@ -30,7 +27,7 @@ pub(crate) fn put_verdict<W: Sink>(
 }
 
 /// The line of a verdict.
-fn written_verdict(verdict: Verdict) -> ArrayVec<u8, LINE>
+fn written_verdict(verdict: Verdict) -> Line
     ensures { result.items ≡ verdict_line verdict }
 {
     let mut line = ArrayVec::new();
@@ -63,7 +60,7 @@ pub(crate) fn put_total<W: Sink>(
 }
 
 /// The line that tells how many lines passed, of how many.
-fn written_total(passed: u64, count: u64) -> ArrayVec<u8, LINE>
+fn written_total(passed: u64, count: u64) -> Line
     ensures { result.items ≡ total_line passed count }
 {
     let mut line = ArrayVec::new();
@@ -73,24 +70,4 @@ fn written_total(passed: u64, count: u64) -> ArrayVec<u8, LINE>
     push_number(&mut line, count);
     push(&mut line, b"\n");
     line
-}
-
-/// Appends a number in decimal.
-fn push_number(line: &mut ArrayVec<u8, LINE>, number: u64)
-    requires { length line.old.items + 20 ≤ LINE }
-    ensures text { line.new.items ≡ line.old.items ++ decimal number }
-    ensures bound { length line.new.items ≤ length line.old.items + 20 }
-{
-    let mut buffer = Buffer::new();
-    push(line, buffer.format(number).as_bytes());
-}
-
-/// Appends bytes.
-fn push(line: &mut ArrayVec<u8, LINE>, bytes: &[u8])
-    requires { length line.old.items + length bytes.now ≤ LINE }
-    ensures { line.new.items ≡ line.old.items ++ bytes.now }
-{
-    let Ok(()) = line.try_extend_from_slice(bytes) else {
-        unreachable!();
-    };
 }

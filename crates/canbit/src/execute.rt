@@ -11,7 +11,7 @@ use crate::fault::RunFault;
 use crate::subcommands::Chosen;
 use crate::words::{WordFault, chosen};
 use arrayvec::ArrayString;
-use can_trace::{Sink, Source, check_lines, encode_lines, write_all};
+use can_trace::{Sink, Source, check_lines, decode_stream, encode_lines, write_all};
 use std::alloc::Global;
 use std::fmt::Write;
 
@@ -108,6 +108,7 @@ fn answer<R: Source, W: Sink>(chosen: Chosen, r: &mut R, w: &mut W) -> Result<()
 {
     match chosen {
         Chosen::Encode => Ok(encode_lines(r, w)?),
+        Chosen::Decode => Ok(decode_stream(r, w)?),
         Chosen::Check => {
             let (passed, count) = check_lines(r, w)?;
             if passed == count {

@@ -163,6 +163,32 @@ fn encode_answers_whatever_the_pieces(rt: HostRuntime) -> Result<(), Fail> {
 }
 
 #[test]
+fn decode_answers_whatever_the_pieces(rt: HostRuntime) -> Result<(), Fail> {
+    let rows = [
+        // r0 is recessive.
+        (
+            "0000010000010000100000110110110010111\n1011111111\n",
+            0,
+            "0 S 000 D 0 ack r0\n",
+            "",
+        ),
+        // The last level of the end of frame is dominant.
+        (
+            "0000010000010100000100010001000010011 1011111110",
+            0,
+            "0 S 001 D 0 ack eof0\n",
+            "",
+        ),
+        // The levels end within a frame.
+        ("00000100000101000001", 0, "0 fault C1 at 20\n", ""),
+        ("", 0, "", ""),
+        ("0 1x", 1, "", "canbit: P1 byte 3\n"),
+        ("S 000 D 0\n", 1, "", "canbit: P1 byte 0\n"),
+    ];
+    expect_whatever_the_pieces(&rt, rt.alloc(), &["decode"], &rows)
+}
+
+#[test]
 fn check_answers_whatever_the_pieces(rt: HostRuntime) -> Result<(), Fail> {
     let rows = [
         (
@@ -234,6 +260,26 @@ fn a_failing_stream_ends_encoding(rt: HostRuntime) -> Result<(), Fail> {
         ("S 000 D 0\nno frame\n", false, 7, 3, "0000010", write),
     ];
     expect_failing(&rt, rt.alloc(), &["encode"], &rows)
+}
+
+#[test]
+fn a_failing_stream_ends_decoding(rt: HostRuntime) -> Result<(), Fail> {
+    let read = "canbit: P3 read\n";
+    let write = "canbit: P4 write\n";
+    let rows = [
+        // A frame that is cut by a failure is no frame that ends too early.
+        (
+            "0000010000010100000100010001000010011 10",
+            true,
+            ALL,
+            3,
+            "",
+            read,
+        ),
+        ("00000100000101000001", false, 7, 3, "0 fault", write),
+        ("0 1x", true, ALL, 1, "", "canbit: P1 byte 3\n"),
+    ];
+    expect_failing(&rt, rt.alloc(), &["decode"], &rows)
 }
 
 #[test]

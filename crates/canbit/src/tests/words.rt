@@ -16,9 +16,10 @@ fn outcome(alloc: Global, words: &[&str]) -> Result<&'static str, AllocError> {
 
 #[test]
 fn words_name_a_subcommand_or_none(rt: HostRuntime) -> Result<(), Fail> {
-    let runs: [(&[&str], &str); 16] = [
+    let runs: [(&[&str], &str); 17] = [
         (&["encode"], "encode"),
         (&["encode", "--"], "encode"),
+        (&["decode"], "decode"),
         (&["check"], "check"),
         (&[], "usage"),
         (&["--"], "usage"),
@@ -48,7 +49,7 @@ fn help_is_the_text_of_the_crate(rt: HostRuntime) -> Result<(), Fail> {
         return Err(Fail::from("no help"));
     };
     assert!(rt; text.as_str().contains("Usage: canbit <COMMAND>"), "{text}");
-    for name in ["encode", "check"] {
+    for name in ["encode", "decode", "check"] {
         assert!(rt; text.as_str().contains(name), "{text}");
     }
     Ok(())

@@ -2,7 +2,7 @@ use Rattle.std.proofs.Common.{◌≡◌, ap, rules, Err}
 use Rattle.canbit.proofs.Faults.{passes_all, read_told, refused, weaker}
 use Rattle.canbit.specs.Answers.{HasBadLine}
 use Rattle.canbit.specs.declared.fault.RunFault.TheVariants.{Stream}
-use Rattle.canbit.specs.declared.subcommands.Chosen.TheVariants.{Encode, Check}
+use Rattle.canbit.specs.declared.subcommands.Chosen.TheVariants.{Encode, Decode, Check}
 use Rattle.canbit.proofs.execute.answer.Goals as goal
 
 pub returns-in_err-encode_lines-in-Encode-clause-input_refused : goal.returns-in_err-encode_lines-in-Encode-clause-input_refused
@@ -18,6 +18,20 @@ pub returns-in_err-encode_lines-in-Encode-clause-writer_failed : goal.returns-in
 returns-in_err-encode_lines-in-Encode-clause-writer_failed g c failed =
     let told = c.in_err-encode_lines-in-Encode.ensures in
     rw c.in-Encode.is (told.write (told.write_failed.1 failed))
+
+pub returns-in_err-decode_stream-in-Decode-clause-input_refused : goal.returns-in_err-decode_stream-in-Decode-clause-input_refused
+returns-in_err-decode_stream-in-Decode-clause-input_refused g c is =
+    let told = c.in_err-decode_stream-in-Decode.ensures in
+    let fault = c.in_err-decode_stream-in-Decode.field-0.0 in
+    let outcome : c.from_residual-in_err-decode_stream-in-Decode.result ≡ Err (Stream fault) = search rules in
+    let ended = g.R.Source.has_ended c.decode_stream.new.r in
+    rw c.in-Decode.is (refused _ _ _ _ _ _ Decode ended fault (rw outcome at is) (λ place e. told.byte place (ap Err e)) (λ e. told.long (ap Err e))
+    (λ number bad e. absurd (told.no_line number bad (ap Err e))))
+
+pub returns-in_err-decode_stream-in-Decode-clause-writer_failed : goal.returns-in_err-decode_stream-in-Decode-clause-writer_failed
+returns-in_err-decode_stream-in-Decode-clause-writer_failed g c failed =
+    let told = c.in_err-decode_stream-in-Decode.ensures in
+    rw c.in-Decode.is (told.write (told.write_failed.1 failed))
 
 pub returns-in_err-passed-in-Check-clause-input_refused : goal.returns-in_err-passed-in-Check-clause-input_refused
 returns-in_err-passed-in-Check-clause-input_refused g c is =

@@ -1,0 +1,186 @@
+ghost use Rattle.std.specs.Prelude.{◌≡◌, ℕ, ◌+◌, ◌^◌, ◌<◌, ◌≤◌, ◌↔◌, true, false, [], ◌∷◌, ◌++◌, length, take, replicate, is_err, IsTrue, IsFalse, IsErrOf, IfErr, OnOk, OnErr};
+ghost use Rattle.std.specs.Io.KnownBytes.{IsAtEnd};
+ghost use Rattle.can_frame.specs.declared.text.TextFault.{TextFault};
+ghost use Rattle.can_trace.specs.Told.{Told};
+ghost use Rattle.can_trace.specs.TraceText.{IsTraceText, levels_in};
+ghost use Rattle.can_trace.specs.Answering.{is_err_by, is_read, is_write};
+ghost use Rattle.can_trace.specs.Decoded.{BeginsDecoding, DecodesAll, DecodesSoFar, DecodesToBadByte, DecodesTooLong};
+ghost use Rattle.can_trace.specs.Decoding.{Decodes, Hears, HearsText, IsByteAs, StopsHearing};
+
+use crate::fault::TraceFault;
+use crate::finding::put_finding;
+use crate::inbox::Inbox;
+use crate::outbox::Outbox;
+use crate::sink::Sink;
+use crate::source::Source;
+use crate::trace::Trace;
+use can_frame::Level;
+
+/// What a byte is in trace text.
+#[derive(Clone, Copy, Debug, PartialEq, Eq)]
+enum TraceByte {
+    /// The digit of a level.
+    Digit(Level),
+    /// A blank or a line end, which is skipped.
+    Skipped,
+    /// A byte that may not stand there.
+    Bad,
+}
+
+/// Reads trace text and writes a line for each frame and each fault that is found in its levels.
+pub fn decode_stream<R: Source, W: Sink>(r: &mut R, w: &mut W) -> Result<(), TraceFault>
+    requires reader_unfailed { R.has_failed r.old ≡ false }
+    requires reader_unended { R.has_ended r.old ≡ false }
+    requires writer_unfailed { W.has_failed w.old ≡ false }
+
+    // What was written of what was read.
+    ensures ok { OnOk result (Told R.remaining r.old r.new W.contents w.old w.new DecodesAll) }
+    ensures read { IsErrOf result TraceFault.Read → Told R.remaining r.old r.new W.contents w.old w.new DecodesSoFar }
+    ensures write { IsErrOf result TraceFault.Write → Told R.remaining r.old r.new W.contents w.old w.new BeginsDecoding }
+    ensures long { IsErrOf result TraceFault.Long → Told R.remaining r.old r.new W.contents w.old w.new DecodesTooLong }
+    ensures byte { (place : ℕ) → IsErrOf result (TraceFault.BadByte place) →
+        Told R.remaining r.old r.new W.contents w.old w.new (DecodesToBadByte place) }
+
+    ensures no_line { (n : ℕ) (fault : TextFault) → IsErrOf result (TraceFault.FrameLine n fault) → ⊥ }
+
+    // What the reader and the writer came to.
+    ensures ended { OnOk result (IsTrue (R.has_ended r.new)) }
+    ensures at_end { OnOk result (IsAtEnd (R.remaining r.new)) }
+    ensures read_unended { IsErrOf result TraceFault.Read → IsFalse (R.has_ended r.new) }
+    ensures long_unended { IsErrOf result TraceFault.Long → IsFalse (R.has_ended r.new) }
+    ensures write_failed { IsErrOf result TraceFault.Write ↔ IsTrue (W.has_failed w.new) }
+    ensures read_failed { IsErrOf result TraceFault.Read ↔ (IsTrue (R.has_failed r.new) × IsFalse (W.has_failed w.new)) }
+{
+    let mut out = Outbox::new();
+    let decoded = decode_all(r, w, &mut out);
+    if !w.failed() {
+        out.flush(w)?;
+    }
+    decoded
+}
+
+/// Decodes all of the input. The last lines wait in the buffer.
+fn decode_all<R: Source, W: Sink>(
+    r: &mut R,
+    w: &mut W,
+    out: &mut Outbox,
+) -> Result<(), TraceFault>
+    requires reader_unfailed { R.has_failed r.old ≡ false }
+    requires reader_unended { R.has_ended r.old ≡ false }
+    requires writer_unfailed { W.has_failed w.old ≡ false }
+    requires empty { out.old ≡ [] }
+    ensures told { Told R.remaining r.old r.new W.contents w.old w.new
+        (λ input output. Decodes result input (output ++ out.new)) }
+    ensures dropped { IsErrOf result TraceFault.Write → out.new ≡ [] }
+    ensures ended { OnOk result (R.has_ended r.new ≡ true) }
+    ensures at_end { OnOk result (IsAtEnd (R.remaining r.new)) }
+    ensures read_unended { IsErrOf result TraceFault.Read → R.has_ended r.new ≡ false }
+    ensures long_unended { IsErrOf result TraceFault.Long → R.has_ended r.new ≡ false }
+    ensures read_failed { R.has_failed r.new ≡ is_err_by is_read result }
+    ensures write_failed { W.has_failed w.new ≡ is_err_by is_write result }
+{
+    let mut inbox = Inbox::new();
+    let mut trace = Trace::begin();
+    while inbox.fill(r)? > 0 {
+        let bytes = inbox.unread();
+        hear_bytes(bytes, inbox.place(), &mut trace, w, out)?;
+        let count = bytes.len();
+        inbox.consume(count);
+    }
+    match trace.open_fault() {
+        Some(finding) => put_finding(&finding, w, out),
+        None => Ok(()),
+    }
+}
+
+/// Hears bytes, the first of which has this place in the input.
+fn hear_bytes<W: Sink>(
+    bytes: &[u8],
+    place: u64,
+    trace: &mut Trace,
+    w: &mut W,
+    out: &mut Outbox,
+) -> Result<(), TraceFault>
+    requires unfailed { W.has_failed w.old ≡ false }
+    requires fits { place + length bytes.now < 2 ^ 64 }
+    requires within { trace.old.place ≤ place }
+    ensures ok { OnOk result (HearsText trace.old trace.new bytes.now (W.contents w.old) (W.contents w.new) out.old out.new) }
+    ensures err { IfErr result (λ e. StopsHearing e trace.old trace.new place bytes.now (W.contents w.old) (W.contents w.new) out.old out.new) }
+    ensures failed { W.has_failed w.new ≡ is_err_by is_write result }
+{
+    let mut index = 0;
+    while index < bytes.len() {
+        index += skip_row(&bytes[index..], trace);
+        if index < bytes.len() {
+            hear_byte(bytes[index], place + index as u64, trace, w, out)?;
+            index += 1;
+        }
+    }
+    Ok(())
+}
+
+/// Skips the recessive levels at the front of the bytes, if they stand between frames, and answers how many
+/// they are.
+fn skip_row(bytes: &[u8], trace: &mut Trace) -> usize
+    requires { trace.old.place + length bytes.now < 2 ^ 64 }
+    ensures within { result ≤ length bytes.now }
+    ensures text { IsTraceText (take result bytes.now) }
+    ensures hears { Hears trace.old trace.new (levels_in (take result bytes.now)) [] }
+    ensures place { trace.new.place ≤ trace.old.place + result }
+{
+    if !trace.is_idle() {
+        return 0;
+    }
+    let count = recessive_count(bytes);
+    trace.skip(count);
+    count
+}
+
+/// How many digits of recessive levels stand at the front of the bytes, at least.
+fn recessive_count(bytes: &[u8]) -> usize
+    ensures within { result ≤ length bytes.now }
+    ensures row { take result bytes.now ≡ replicate result 49 }
+{
+    let mut count = 0;
+    while count < bytes.len() && bytes[count] == b'1' {
+        count += 1;
+    }
+    count
+}
+
+/// Hears one byte, which has this place in the input.
+fn hear_byte<W: Sink>(
+    byte: u8,
+    place: u64,
+    trace: &mut Trace,
+    w: &mut W,
+    out: &mut Outbox,
+) -> Result<(), TraceFault>
+    requires unfailed { W.has_failed w.old ≡ false }
+    requires fits { trace.old.place + 1 < 2 ^ 64 }
+    ensures ok { OnOk result (HearsText trace.old trace.new (byte ∷ []) (W.contents w.old) (W.contents w.new) out.old out.new) }
+    ensures err { IfErr result (λ e. StopsHearing e trace.old trace.new place (byte ∷ []) (W.contents w.old) (W.contents w.new) out.old out.new) }
+    ensures place { trace.new.place ≤ trace.old.place + 1 }
+    ensures failed { W.has_failed w.new ≡ is_err_by is_write result }
+{
+    match trace_byte(byte) {
+        TraceByte::Digit(level) => match trace.hear(level) {
+            Some(finding) => put_finding(&finding, w, out),
+            None => Ok(()),
+        },
+        TraceByte::Skipped => Ok(()),
+        TraceByte::Bad => Err(TraceFault::BadByte { place }),
+    }
+}
+
+/// What the byte is in trace text.
+fn trace_byte(byte: u8) -> TraceByte
+    ensures { IsByteAs byte result }
+{
+    match byte {
+        b'0' => TraceByte::Digit(Level::Dominant),
+        b'1' => TraceByte::Digit(Level::Recessive),
+        b' ' | b'\n' | b'\r' => TraceByte::Skipped,
+        _ => TraceByte::Bad,
+    }
+}

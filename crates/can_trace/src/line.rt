@@ -1,0 +1,44 @@
+//! A line that is put together piece by piece.
+ghost use Rattle.std.specs.Prelude.{◌≡◌, ◌+◌, ◌≤◌, ◌++◌, length, decimal};
+ghost use Rattle.can_trace.specs.Decoded.{word_if};
+
+use arrayvec::ArrayVec;
+use itoa::Buffer;
+
+/// How many bytes a line has at most: a number of 20 digits, a blank, a frame text of 32 bytes, and 23 bytes
+/// of notes; or two numbers, and 14 bytes.
+pub(crate) const LINE: usize = 80;
+
+/// A line that is put together.
+pub(crate) type Line = ArrayVec<u8, LINE>;
+
+/// Appends a number in decimal.
+pub(crate) fn push_number(line: &mut Line, number: u64)
+    requires { length line.old.items + 20 ≤ LINE }
+    ensures text { line.new.items ≡ line.old.items ++ decimal number }
+    ensures bound { length line.new.items ≤ length line.old.items + 20 }
+{
+    let mut buffer = Buffer::new();
+    push(line, buffer.format(number).as_bytes());
+}
+
+/// Appends bytes.
+pub(crate) fn push(line: &mut Line, bytes: &[u8])
+    requires { length line.old.items + length bytes.now ≤ LINE }
+    ensures { line.new.items ≡ line.old.items ++ bytes.now }
+{
+    let Ok(()) = line.try_extend_from_slice(bytes) else {
+        unreachable!();
+    };
+}
+
+/// Appends a word where something holds.
+pub(crate) fn push_if(line: &mut Line, holds: bool, word: &[u8])
+    requires { length line.old.items + length word.now ≤ LINE }
+    ensures text { line.new.items ≡ line.old.items ++ word_if holds word.now }
+    ensures bound { length line.new.items ≤ length line.old.items + length word.now }
+{
+    if holds {
+        push(line, word);
+    }
+}
