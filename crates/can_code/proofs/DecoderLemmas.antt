@@ -1,13 +1,13 @@
 -- What a decoder has heard, level by level: it grows with each level, ends with the last one, and shows the fault where there is one.
-use Rattle.std.proofs.Common.{◌≡◌, ◌≢◌, ℕ, zero, suc, ◌+◌, ◌-◌, ◌<◌, Bool, true, false, not, Option, Some, None, List, [], ◌∷◌, ◌++◌, length, get_or, take, drop, refl, sym, ◌∙◌, ap, subst, arith, append_assoc, length-append, inl, inr}
+use Rattle.std.proofs.Common.{◌≡◌, ◌≢◌, ℕ, ◌-◌, ◌<◌, Bool, true, false, Option, Some, None, List, [], ◌∷◌, ◌++◌, length, take, drop, refl, sym, ◌∙◌, ap, subst, arith, append_assoc, length-append, inl, inr}
 use Rattle.std.specs.Option.{option_and_then}
 use Rattle.std.proofs.Math.Dec.{eqb}
-use Rattle.std.proofs.lemmas.List.{append-nil, take_more, take-append-drop, length-take-le, length-drop, get_or_at}
+use Rattle.std.proofs.lemmas.List.{append-nil, take-append-drop, length-drop}
 use Rattle.std.proofs.lemmas.Bool.{and_parts, eqb-true}
 use denote.Enum.Bare.{sameb}
 use Rattle.can_frame.specs.declared.level.Level.{Level}
 use Rattle.can_frame.specs.declared.level.Level.TheVariants.{Dominant, Recessive}
-use Rattle.can_frame.specs.Levels.{is_recessive, same}
+use Rattle.can_frame.specs.Levels.{same}
 use Rattle.can_code.specs.declared.fault.CodeFaultKind.TheVariants.{Short, Stuff, Crc, Form}
 use Rattle.can_code.specs.contracts.front.Place.{the_type}
 use Rattle.can_code.specs.declared.front.Place.{Place}
@@ -95,7 +95,6 @@ module _ (d : DecoderParts) (l : List Level) (h : HasHeard d l) where
                 ∙ ap (option_and_then (λ g. heard_levels g [])) (hear_at-going d.front x (next_place d.front) going no_error)
                 ∙ ap Some (sym next);
             behind = λ ended. record {
-              ended = ended;
               agrees = agrees ended;
               acked = true;
               last = Recessive;
@@ -136,7 +135,6 @@ module _ (d : DecoderParts) (l : List Level) (h : HasHeard d l) where
           whole = ap (λ t. t ++ x ∷ []) h.whole ∙ ap (λ t. Dominant ∷ t) (append_assoc h.part d.behind (x ∷ [])) ∙ ap (λ t. Dominant ∷ (h.part ++ t)) (sym longer);
           front = h.front ∙ ap Some (sym same_front);
           behind = λ _. record {
-            ended = place;
             agrees = subst (λ f. IsCrc (head_of f.unstuffed) (check_of f.unstuffed)) (sym same_front) stands.agrees;
             acked = acked;
             last = Recessive;

@@ -1,5 +1,5 @@
 -- What a decoder has heard of a frame, level by level. (Bosch CAN 2.0 part B, sections 3.2.1 and 7.1)
-use Rattle.std.specs.Prelude.{ℕ, ◌≡◌, ◌≢◌, ◌<◌, Bool, Some, List, [], ◌∷◌, ◌++◌, length}
+use Rattle.std.specs.Prelude.{◌≡◌, ◌≢◌, ◌<◌, Bool, Some, List, [], ◌∷◌, ◌++◌, length}
 use Rattle.can_frame.specs.declared.level.Level.{Level}
 use Rattle.can_frame.specs.declared.level.Level.TheVariants.{Dominant}
 use Rattle.can_code.specs.declared.front.Place.TheVariants.{CrcDelimiter}
@@ -14,9 +14,8 @@ pub record DecoderParts : Type 0 where
   pub front : FrontParts
   pub behind : List Level
 
--- levels may stand behind a stuffed part that is complete and whose check sequence agrees: they begin a tail, and are not all of it
+-- levels may stand behind a stuffed part: its check sequence agrees, and they begin a tail and are not all of it
 pub record StandsBehind (f : FrontParts) (behind : List Level) : Type 0 where
-  pub ended : next_place f ≡ CrcDelimiter
   pub agrees : IsCrc (head_of f.unstuffed) (check_of f.unstuffed)
   pub acked : Bool
   pub last : Level
@@ -24,7 +23,8 @@ pub record StandsBehind (f : FrontParts) (behind : List Level) : Type 0 where
   pub missing : 0 < length more
   pub begins : behind ++ more ≡ tail (ack_slot acked) last
 
--- the decoder has heard these levels, from the start of frame on, and they spell no frame so far
+-- The decoder has heard these levels: the start of frame, a part that makes the front, and only where the
+-- stuffed part has ended levels behind it. Neither has shown a fault, and the frame has not ended.
 pub record HasHeard (d : DecoderParts) (levels : List Level) : Type 0 where
   pub part : List Level
   pub whole : levels ≡ Dominant ∷ (part ++ d.behind)

@@ -61,6 +61,7 @@ impl<B: FrameBits> Decoder<B> {
     /// Hears one level more. `Ok(None)`: the frame goes on. `Ok(Some(heard))`: that was its last
     /// level. `Err(kind)`: the fault that shows at this level. After the last level and after a
     /// fault nothing is promised of further calls.
+    #[inline]
     pub fn hear(&mut self, level: Level) -> Result<Option<Heard>, CodeFaultKind>
         ensures more { result ≡ Ok None → (l : List Bit) → HasHeard self.old l → HasHeard self.new (l ++ level ∷ []) }
         ensures heard { (h : HeardParts) (l : List Bit) → result ≡ Ok (Some h) → HasHeard self.old l → Spells h (l ++ level ∷ []) }

@@ -7,11 +7,15 @@ ghost use Rattle.canbit.specs.Subcommands.{name_of};
 pub enum Chosen {
     /// Frame lines in, lines of levels out.
     Encode,
+    /// Trace text in, a line for each frame and each fault out.
+    Decode,
+    /// Vector lines in, a verdict for each out, and their total.
+    Check,
 }
 
 impl Chosen {
     /// Every subcommand, in the order of the help text.
-    pub const ALL: [Chosen; 1] = [Chosen::Encode];
+    pub const ALL: [Chosen; 3] = [Chosen::Encode, Chosen::Decode, Chosen::Check];
 
     /// The word that names it.
     pub fn name(self) -> &'static str
@@ -19,6 +23,8 @@ impl Chosen {
     {
         match self {
             Chosen::Encode => "encode",
+            Chosen::Decode => "decode",
+            Chosen::Check => "check",
         }
     }
 
@@ -26,6 +32,8 @@ impl Chosen {
     pub fn about(self) -> &'static str {
         match self {
             Chosen::Encode => "Writes the levels of each frame line",
+            Chosen::Decode => "Writes the frames and faults of a trace of levels",
+            Chosen::Check => "Tells of each vector line whether its levels are its frame's",
         }
     }
 

@@ -1,4 +1,4 @@
-use Rattle.std.proofs.Common.{rules}
+use Rattle.std.proofs.Common.{ap, inr, rules, Err}
 use Rattle.canbit.specs.Words.{texts_of}
 use Rattle.canbit.proofs.Parses.{misuse}
 use Rattle.canbit.proofs.words.chosen.Goals as goal
@@ -11,3 +11,6 @@ returns-in-Ok-clause-alone c name chosen is =
 pub returns-in-Err-clause-usage : goal.returns-in-Err-clause-usage
 returns-in-Err-clause-usage c is =
     misuse (texts_of c.args.words.now) c.in-Err.error c.in-Err.ensures.refused (c.refusal.ensures.usage cc)
+
+pub returns-in-Err-clause-alone : goal.returns-in-Err-clause-alone
+returns-in-Err-clause-alone c name chosen is = inr (ap Err (c.refusal.ensures.memory (c.in-Err.ensures.alone name chosen is)))

@@ -1,0 +1,99 @@
+-- Medium access, one bit time after another: what a controller drives, and what the level that it samples
+-- makes of it. (Bosch CAN 2.0 part B, sections 3.2 and 7) What stands in
+-- brackets is a rule of docs/ACCESS.md.
+use Rattle.std.specs.Prelude.{ℕ, ◌==◌, Bool, if◌then◌else◌, length, Option, Some, None}
+use Rattle.can_frame.specs.declared.level.Level.{Level}
+use Rattle.can_frame.specs.declared.level.Level.TheVariants.{Dominant, Recessive}
+use Rattle.can_frame.specs.Levels.{opposite}
+use Rattle.can_frame.specs.Parts.{Parts}
+use Rattle.can_code.specs.Sending.{sent_level}
+use Rattle.can_code.specs.Front.{FrontParts}
+use Rattle.can_fault.specs.declared.cause.Cause.{Cause}
+use Rattle.can_fault.specs.Counters.{ConfineParts, counted, is_bus_off, is_passive}
+use Rattle.can_fault.specs.Recovery.{ends_bus_off, recovered}
+use Rattle.can_mac.specs.declared.event.Event.{Event}
+use Rattle.can_mac.specs.declared.event.Event.TheVariants.{WentOff, Recovered}
+use Rattle.can_mac.specs.declared.moves.Stance.{Stance}
+use Rattle.can_mac.specs.declared.phase.Role.{Role}
+use Rattle.can_mac.specs.declared.phase.Role.TheVariants.{Receiver, Sender}
+use Rattle.can_mac.specs.declared.phase.Phase.TheVariants.{Joining, Idle, StuffedPart, CrcDelimiter, AckSlot, AckDelimiter, EndOfFrame, ErrorFlag, PassiveFlag, OverloadFlag, AfterFlag, Delimiter, Intermission, Suspend, BusOff}
+use Rattle.can_mac.specs.State.{MacPhase, MacState, is_off_phase}
+use Rattle.can_mac.specs.Moves.{MacMove, move}
+
+-- [Stuff places] there a sender drives the opposite of the last level, else its frame's next level
+abbrev pub part_drives : Role → FrontParts → Level
+part_drives Receiver front = Recessive
+part_drives (Sender f) front = if front.run == 5 then opposite front.last else sent_level f (length front.unstuffed)
+
+-- [Acknowledgement] a receiver whose check sequence agrees acknowledges
+abbrev pub slot_drives : Role → Bool → Level
+slot_drives Receiver agrees = if agrees then Dominant else Recessive
+slot_drives (Sender f) agrees = Recessive
+
+-- [Start of frame] with a frame that waits an idle controller drives a start of frame
+abbrev pub idle_drives : Option Parts → Level
+idle_drives None = Recessive
+idle_drives (Some f) = Dominant
+
+abbrev pub phase_drives : MacPhase → Role → Option Parts → Level
+phase_drives (Joining row) role waiting = Recessive
+phase_drives Idle role waiting = idle_drives waiting
+phase_drives (StuffedPart front) role waiting = part_drives role front
+phase_drives (CrcDelimiter r) role waiting = Recessive
+phase_drives (AckSlot r) role waiting = slot_drives role r.agrees
+phase_drives (AckDelimiter r) role waiting = Recessive
+phase_drives (EndOfFrame r place) role waiting = Recessive
+phase_drives (ErrorFlag place) role waiting = Dominant
+phase_drives (PassiveFlag last run unacknowledged) role waiting = Recessive
+phase_drives (OverloadFlag place) role waiting = Dominant
+phase_drives (AfterFlag first dominant) role waiting = Recessive
+phase_drives (Delimiter place) role waiting = Recessive
+phase_drives (Intermission place) role waiting = Recessive
+phase_drives (Suspend place) role waiting = Recessive
+phase_drives BusOff role waiting = Recessive
+
+-- what a controller drives, where this frame waits
+unfoldable pub mac_drives : MacState → Option Parts → Level
+mac_drives m waiting = phase_drives m.phase m.role waiting
+
+-- a phase in which a controller is silent
+pub data IsSilent : MacPhase → Type 0 where
+  joining : (row : ℕ) → IsSilent (Joining row)
+  passive_flag : (last : Level) (run : ℕ) (unacknowledged : Bool) → IsSilent (PassiveFlag last run unacknowledged)
+  off : IsSilent BusOff
+
+abbrev pub stance : MacState → Stance
+stance m = record { passive = is_passive m.counters; role = m.role; overloads = m.overloads }
+
+-- a move, with these counters
+abbrev pub moved : MacMove → ConfineParts → MacState
+moved v counters = record { phase = v.phase; role = v.role; overloads = v.overloads; counters = counters }
+
+-- [Bus off] what was counted makes the controller bus off, and this is told in
+-- place of all else
+abbrev pub settled : MacMove → ConfineParts → MacState × Option Event
+settled v counters =
+    if is_bus_off counters then (record { phase = BusOff; role = Receiver; overloads = v.overloads; counters = counters }, Some WentOff)
+    else (moved v counters, v.event)
+
+-- a move, and what it counts
+abbrev pub landed : MacMove → ConfineParts → Option Cause → MacState × Option Event
+landed v counters None = (moved v counters, v.event)
+landed v counters (Some cause) = settled v (counted cause counters)
+
+-- off the bus each level counts for recovery
+abbrev pub off_step : MacState → Level → MacState × Option Event
+off_step m x =
+    if ends_bus_off x m.counters then (record m { phase = Idle; counters = recovered x m.counters }, Some Recovered)
+    else (record m { counters = recovered x m.counters }, None)
+
+abbrev pub on_step : MacState → MacMove → MacState × Option Event
+on_step m v = landed v m.counters v.cause
+
+-- one bit time, in which this frame waits and this level is sampled: the next state, and what is told
+unfoldable pub mac_step : MacState → Option Parts → Level → MacState × Option Event
+mac_step m waiting x = if is_off_phase m.phase then off_step m x else on_step m (move (stance m) m.phase waiting x)
+
+-- n overload frames of one's own are asked for
+abbrev pub holding : ℕ → MacState → MacState
+holding n m = record m { overloads = record { pending = n; used = m.overloads.used } }
