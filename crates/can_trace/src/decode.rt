@@ -16,7 +16,7 @@ use crate::source::Source;
 use crate::trace::Trace;
 use can_frame::Level;
 
-/// The digits of so many recessive levels are compared at once.
+/// The digits of recessive levels, so many of which are compared at once.
 const ROW: [u8; 32] = [b'1'; 32];
 
 /// What a byte is in trace text.
@@ -30,7 +30,22 @@ enum TraceByte {
     Bad,
 }
 
-/// Reads trace text and writes a line for each frame and each fault that is found in its levels.
+/// Reads a trace, `0` and `1` for its levels, and writes a line for each frame and each fault that is found
+/// in it. A blank, 0x0a and 0x0d are skipped. (Bosch CAN 2.0 part B, sections 3.2.1, 3.2.5 and 7.1)
+///
+/// Places count levels from 0. Between frames recessive levels are skipped. Where a frame begins, its line is
+/// its place, its text, ` ack` or ` noack`, and those that hold of ` srr0` (SRR was dominant), ` r1` (r1 was
+/// recessive), ` r0` (r0 was recessive) and ` eof0` (the last level of the end of frame was dominant). Where
+/// none does, at a dominant level, the line is the place, ` fault `, its kind, ` at ` and its own place, and
+/// the search goes on behind the first eleven recessive levels in a row from there on. Each line is ended by
+/// 0x0a. It takes no memory. The reader must have neither failed nor ended before the call, and the writer
+/// must not have failed.
+///
+/// `Ok` comes only where the reader ended in this call. `BadByte` is the place in the input, from 0, of the
+/// first byte that may not stand there. `Read` and `Write` say that the reader or the writer failed; the call
+/// that failed is not tried again. `Long` says that the input has more than 2^63 bytes. All lines before the
+/// fault have been written, but that of a frame in which the levels end, unless it is `Write`: then a
+/// beginning of the answer is written.
 pub fn decode_stream<R: Source, W: Sink>(r: &mut R, w: &mut W) -> Result<(), TraceFault>
     requires reader_unfailed { R.has_failed r.old ≡ false }
     requires reader_unended { R.has_ended r.old ≡ false }

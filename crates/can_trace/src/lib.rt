@@ -1,10 +1,11 @@
 //! Streams of text about frames: lines of text in, lines of text out, over any reader and any writer.
 //!
 //! [`encode_lines`] reads frame texts, one a line, and writes for each the levels that its sender drives.
-//! [`check_lines`] reads frame texts with levels, and writes for each whether those are the levels. Each
-//! promises what was written of what was read, for every way in which it can end, wherever the reader
-//! and the writer tell their bytes; and for all of them, which failure its answer stands for. It holds
-//! two fixed buffers and takes no memory.
+//! [`check_lines`] reads frame texts with levels, and writes for each whether those are the levels.
+//! [`decode_stream`] reads levels, and writes which frames and faults are found in them. Each promises
+//! what was written of what was read, for every way in which it can end, wherever the reader and the
+//! writer tell their bytes; and for all of them, which failure its answer stands for. It holds two fixed
+//! buffers and takes no memory.
 //!
 //! | File | What it has | Defined in |
 //! |---|---|---|
@@ -12,8 +13,12 @@
 //! | `check.rt` | [`check_lines`] | `specs/Checked.antt`, `specs/Answered.antt` |
 //! | `vector.rt` | one line of a frame text and levels, and its verdict | `specs/Checked.antt` |
 //! | `verdict.rt` | the lines that tell verdicts and their total | `specs/Checked.antt` |
+//! | `decode.rt` | [`decode_stream`] | `specs/TraceText.antt`, `specs/Decoded.antt` |
+//! | `trace.rt` | a trace as it is heard, level by level | `specs/Decoding.antt` |
+//! | `finding.rt` | what is told of a trace, and its line | `specs/Decoded.antt` |
+//! | `line.rt` | a line that is put together | |
 //! | `fault.rt` | [`TraceFault`], why an answer is not whole | |
-//! | `laws.rt` | that lines have one answer | `specs/Coded.antt` |
+//! | `laws.rt` | that lines, vectors and traces have one answer | `specs/Coded.antt`, `specs/Checked.antt`, `specs/Decoded.antt` |
 //! | `source.rt` | [`Source`], what bytes are read from, and [`FromRead`], which wraps a `Read` | `specs/Told.antt`, `specs/Wrapped.antt` |
 //! | `sink.rt` | [`Sink`], what bytes are written to, and [`ToWrite`], which wraps a `Write` | `specs/Told.antt`, `specs/Wrapped.antt` |
 //! | `lines.rt` | the lines of a source, one after another | `specs/Lines.antt`, `specs/LineReader.antt` |
@@ -21,11 +26,16 @@
 //! | `outbox.rt` | the bytes on their way to a sink, and [`write_all`] | `specs/Outbox.antt` |
 //!
 //! `specs/Answering.antt` has what the steps of `encode.rt` promise one another, `specs/Checking.antt`
-//! those of `check.rt`. Of the lemmas,
+//! those of `check.rt`, `specs/Decoding.antt` those of `decode.rt` and `trace.rt`. Of the lemmas,
 //! `proofs/LineLemmas.antt` has how a text falls into lines, `Reading` how a line is read, `TextLemmas`
-//! why 33 bytes of a line tell its fault, `Answering` and `Endings` the steps and the ends of a run.
+//! why 33 bytes of a line tell its fault, `Answering` and `Endings` the steps and the ends of a run;
+//! `Flushing` what is written when what waits is flushed.
 //! Of checking, `MarkLemmas`, `DigitLemmas` and `VectorLemmas` have how a line is read, `VectorFronts` why
-//! 193 bytes of it tell all, `CheckSteps` and `CheckEndings` the steps and the ends of a run.
+//! 193 bytes of it tell all, `CheckSteps` and `CheckEndings` the steps and the ends of a run, `OneVerdict`
+//! that each line has one verdict. Of decoding, `IdleRows` has the search for eleven recessive levels,
+//! `TraceSteps` what one level makes of a trace, `DecodeSteps` and `DecodeEndings` the steps and the ends of
+//! a run, `FindsTotal` and `FindsOne` that in all levels one list is found, `OneDecoding` that each input has
+//! one full answer.
 #![tactic(auto)]
 
 mod check;
