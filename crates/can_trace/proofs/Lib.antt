@@ -24,3 +24,4 @@ pub mod DecodeEndings
 pub mod FindsOne
 pub mod OneDecoding
 pub mod OneVerdict
+pub mod Rows
