@@ -1,0 +1,6 @@
+//! Ports.
+#![tactic(auto)]
+
+mod entry;
+
+pub use entry::Entry;
