@@ -20,6 +20,7 @@ pub mod LayoutLengths
 pub mod LayoutHead
 pub mod LayoutRead
 pub mod LayoutWrite
+pub mod SentLevels
 -- frames and what is heard of them
 pub mod WireLemmas
 pub mod SpellingLemmas

@@ -16,6 +16,8 @@
 //! | `layout.rt` | the head and the CRC sequence of what is heard, unstuffed | `specs/Heard.antt` |
 //! | `spelling.rt` | [`respell`], the levels that spell what is heard | `specs/Heard.antt` |
 //! | `encoding.rt` | [`encode`], the levels that the sender of a frame drives | `specs/Wire.antt` |
+//! | `sending.rt` | [`Sending`], the unstuffed levels of a frame, each by its place | `specs/Sending.antt` |
+//! | `places.rt` | where the unstuffed levels of a frame stand | `specs/Layout.antt` |
 //! | `frame_bits.rt` | [`FrameBits`], the unstuffed levels that have been heard of a frame | |
 //! | `plain_bits.rt` | [`PlainBits`], these levels one by one | |
 //! | `reading.rt` | what the unstuffed levels tell of the frame | `specs/Layout.antt`, `specs/Reading.antt` |
@@ -47,8 +49,10 @@ mod front;
 mod heard;
 mod laws;
 mod layout;
+mod places;
 mod plain_bits;
 mod reading;
+mod sending;
 mod spelling;
 mod stuffing;
 #[cfg(test)]
@@ -67,5 +71,6 @@ pub use laws::{
     one_stuffing, one_wire, stuffed_parts_are_heard, unfinished_frames_are_short,
 };
 pub use plain_bits::PlainBits;
+pub use sending::Sending;
 pub use spelling::respell;
 pub use stuffing::stuff;

@@ -1,4 +1,9 @@
+ghost use Rattle.std.specs.Prelude.{◌≡◌};
+ghost use Rattle.can_mac.specs.Moves.{error_cause, flag_bit_cause, form_kind};
+
+use crate::event::ErrorKind;
 use can_code::Sending;
+use can_fault::Cause;
 use can_frame::{Frame, Level};
 
 /// What the stuffed part of a frame has told, once it has ended.
@@ -27,7 +32,7 @@ pub struct Reading {
 ///
 ///   BusOff <-- TEC of 256 -- any of these;   BusOff --128 times eleven recessive--> Idle
 /// ```
-#[derive(Debug)]
+#[derive(Debug, Drop)]
 pub enum Phase<F> {
     /// Not yet on the bus: so many recessive levels in a row, 0 to 10.
     Joining { row: u8 },
@@ -64,7 +69,7 @@ pub enum Phase<F> {
 }
 
 /// What a controller is to the frame on the bus. It is a receiver while there is none.
-#[derive(Debug)]
+#[derive(Clone, Copy, Debug)]
 pub enum Role {
     Receiver,
     /// The sender of this frame.
@@ -78,4 +83,37 @@ pub struct Overloads {
     pub pending: u8,
     /// How many it has started since the last frame began, 0 to 2.
     pub used: u8,
+}
+
+impl Role {
+    /// What an error in a frame or in a delimiter counts.
+    pub(crate) fn error_cause(&self) -> Cause
+        ensures { result ≡ error_cause self.now }
+    {
+        match self {
+            Role::Receiver => Cause::ReceiverError,
+            Role::Sender(_) => Cause::SenderError,
+        }
+    }
+
+    /// What a bit error in an own flag counts.
+    pub(crate) fn flag_bit_cause(&self) -> Cause
+        ensures { result ≡ flag_bit_cause self.now }
+    {
+        match self {
+            Role::Receiver => Cause::ReceiverFlagBit,
+            Role::Sender(_) => Cause::SenderFlagBit,
+        }
+    }
+
+    /// The kind of error where a bit of fixed form has the other level: to its sender this is a bit
+    /// error.
+    pub(crate) fn form_kind(&self) -> ErrorKind
+        ensures { result ≡ form_kind self.now }
+    {
+        match self {
+            Role::Receiver => ErrorKind::Form,
+            Role::Sender(_) => ErrorKind::Bit,
+        }
+    }
 }
