@@ -7,8 +7,8 @@ use Rattle.can_frame.specs.Levels.{level_of, bits_of, number_from}
 use Rattle.can_frame.specs.Arbitration.{arbitration_field}
 use Rattle.can_frame.specs.Parts.{Parts}
 use Rattle.can_code.specs.Crc.{crc_of}
-use Rattle.can_code.specs.Wire.{head}
-use Rattle.can_code.specs.Sending.{unstuffed, sent_level}
+use Rattle.can_code.specs.Wire.{head, unstuffed}
+use Rattle.can_code.specs.Sending.{sent_level}
 use Rattle.can_code.specs.Layout.{frame_of, frame_len}
 use Rattle.can_fault.specs.Counters.{ConfineParts, fresh}
 use Rattle.can_mac.specs.declared.event.Event.{Event}

@@ -1,5 +1,6 @@
 -- Medium access, one bit time after another: what a controller drives, and what the level that it samples
--- makes of it. (Bosch CAN 2.0 part B, sections 3.2 and 7)
+-- makes of it. (Bosch CAN 2.0 part B, sections 3.2 and 7) What stands in
+-- brackets is a rule of docs/ACCESS.md.
 use Rattle.std.specs.Prelude.{ℕ, ◌==◌, Bool, true, false, ◌&&◌, if◌then◌else◌, List, [], ◌∷◌, length, Option, Some, None}
 use Rattle.can_frame.specs.declared.level.Level.{Level}
 use Rattle.can_frame.specs.declared.level.Level.TheVariants.{Dominant, Recessive}
@@ -19,17 +20,17 @@ use Rattle.can_mac.specs.declared.phase.Phase.TheVariants.{Joining, Idle, Stuffe
 use Rattle.can_mac.specs.State.{MacPhase, MacState, is_off_phase}
 use Rattle.can_mac.specs.Moves.{MacMove, move}
 
--- at a stuff place a sender drives the opposite of the last level, else its frame's next level
+-- [Stuff places] there a sender drives the opposite of the last level, else its frame's next level
 abbrev pub part_drives : Role → FrontParts → Level
 part_drives Receiver front = Recessive
 part_drives (Sender f) front = if front.run == 5 then opposite front.last else sent_level f (length front.unstuffed)
 
--- a receiver whose check sequence agrees acknowledges
+-- [Acknowledgement] a receiver whose check sequence agrees acknowledges
 abbrev pub slot_drives : Role → Bool → Level
 slot_drives Receiver agrees = if agrees then Dominant else Recessive
 slot_drives (Sender f) agrees = Recessive
 
--- with a frame that waits an idle controller drives a start of frame
+-- [Start of frame] with a frame that waits an idle controller drives a start of frame
 abbrev pub idle_drives : Option Parts → Level
 idle_drives None = Recessive
 idle_drives (Some f) = Dominant
@@ -68,7 +69,8 @@ stance m = record { passive = is_passive m.counters; role = m.role; overloads = 
 abbrev pub moved : MacMove → ConfineParts → MacState
 moved v counters = record { phase = v.phase; role = v.role; overloads = v.overloads; counters = counters }
 
--- what was counted makes the controller bus off: this is told in place of all else
+-- [Bus off] what was counted makes the controller bus off, and this is told in
+-- place of all else
 abbrev pub settled : MacMove → ConfineParts → MacState × Option Event
 settled v counters =
     if is_bus_off counters then (record { phase = BusOff; role = Receiver; overloads = v.overloads; counters = counters }, Some WentOff)

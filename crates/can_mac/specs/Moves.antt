@@ -1,4 +1,5 @@
--- What a level makes of each phase. (Bosch CAN 2.0 part B, sections 3.2, 5, 7 and 8)
+-- What a level makes of each phase. (Bosch CAN 2.0 part B, sections 3.2, 5, 7 and 8) What stands in
+-- brackets is a rule of docs/ACCESS.md.
 use Rattle.std.specs.Prelude.{ℕ, suc, ◌+◌, ◌-◌, ◌==◌, nat_lt, nat_le, Bool, true, false, ◌&&◌, not, if◌then◌else◌, List, length, Option, Some, None}
 use Rattle.std.specs.Cmp.Lexicographic.{pointwise}
 use Rattle.can_frame.specs.declared.level.Level.{Level}
@@ -43,17 +44,17 @@ goes s phase = record { phase = phase; role = s.role; overloads = s.overloads; c
 abbrev pub tells : Stance → MacPhase → Event → MacMove
 tells s phase event = record { phase = phase; role = s.role; overloads = s.overloads; cause = None; event = Some event }
 
--- an overload flag starts
+-- [Overload flags] an overload flag starts
 abbrev pub overload : Stance → MacMove
 overload s = tells s (OverloadFlag 0) Overload
 
--- a frame begins: its start of frame is dominant
+-- [Start of frame] a frame begins
 abbrev pub begins : Stance → Role → MacMove
 begins s role = record { phase = StuffedPart first_front; role = role; overloads = record { pending = s.overloads.pending; used = 0 }; cause = None; event = None }
 
 -- Errors.
 
--- the error flag that starts: passive at an error passive controller
+-- [Error flags] the error flag that starts, passive at an error passive controller
 abbrev pub flag : Bool → Bool → MacPhase
 flag passive unacknowledged = if passive then PassiveFlag Recessive 0 unacknowledged else ErrorFlag 0
 
@@ -73,16 +74,16 @@ flag_bit_cause (Sender f) = SenderFlagBit
 abbrev pub errs : Stance → ErrorKind → MacMove
 errs s kind = errs_by (Some (error_cause s.role)) false s kind
 
--- a bit error in an own active error flag or overload flag
+-- [Error in an own flag] a bit error in an own active error flag or overload flag
 abbrev pub errs_in_flag : Stance → MacMove
 errs_in_flag s = errs_by (Some (flag_bit_cause s.role)) false s Bit
 
--- a bit of fixed form has the other level: to its sender this is a bit error
+-- [Fixed form] a bit of fixed form has the other level, which to its sender is a bit error
 abbrev pub form_kind : Role → ErrorKind
 form_kind Receiver = Form
 form_kind (Sender f) = Bit
 
--- Joining, and idle.
+-- Joining, and idle: [Joining], [Start of frame], [Kept frame].
 
 abbrev pub joining_move : Stance → ℕ → Level → MacMove
 joining_move s row Dominant = goes s (Joining 0)
@@ -105,7 +106,7 @@ agrees u = pointwise same (check_of u) (crc_of (head_of u))
 abbrev pub reading_of : List Level → Reading
 reading_of u = record { frame = frame_of u; agrees = agrees u }
 
--- the stuffed part ends where the unstuffed levels have their whole check sequence and no stuff bit is due
+-- [End of the stuffed part] where the unstuffed levels have their whole check sequence and no stuff bit is due
 abbrev pub ends_part : FrontParts → Bool
 ends_part front = has_check front.unstuffed && not (front.run == 5)
 
@@ -120,21 +121,22 @@ hears s front x = goes s (part_phase (heard_level front x))
 abbrev pub in_arbitration : Parts → List Level → Bool
 in_arbitration f u = nat_le (length u) (rtr_place f.id.extended)
 
--- In arbitration a sender sent a recessive stuff bit and saw a dominant one: this counts nothing.
+-- [Overridden stuff bit] in arbitration a sender sent a recessive stuff bit and saw a dominant one, which
+-- counts nothing.
 abbrev pub is_uncounted : Role → List Level → Level → Bool
 is_uncounted Receiver u x = false
 is_uncounted (Sender f) u Dominant = in_arbitration f u
 is_uncounted (Sender f) u Recessive = false
 
--- a stuff place repeats the level before it
+-- [Stuff places] a stuff place repeats the level before it
 abbrev pub stuff_error_move : Stance → FrontParts → Level → MacMove
 stuff_error_move s front x = if is_uncounted s.role front.unstuffed x then errs_by None false s Stuff else errs s Stuff
 
 abbrev pub stuff_bit_move : Stance → FrontParts → Level → MacMove
 stuff_bit_move s front x = if same x front.last then stuff_error_move s front x else hears s front x
 
--- a sender of f sent the first level and saw the second: a recessive level that is overridden in its
--- arbitration field loses arbitration
+-- [Arbitration] a sender of f sent the first level and saw the second. A recessive level that is overridden
+-- in its arbitration field loses arbitration.
 abbrev pub sent_bit_move : Stance → Parts → FrontParts → Level → Level → MacMove
 sent_bit_move s f front Dominant Dominant = hears s front Dominant
 sent_bit_move s f front Recessive Recessive = hears s front Recessive
@@ -155,18 +157,19 @@ abbrev pub crc_delimiter_move : Stance → Reading → Level → MacMove
 crc_delimiter_move s r Recessive = goes s (AckSlot r)
 crc_delimiter_move s r Dominant = errs s (form_kind s.role)
 
--- a sender that has no acknowledgement: if it is error passive this counts nothing yet
+-- [Unacknowledged passive sender] a sender that has no acknowledgement, which if it is error passive counts
+-- nothing yet
 abbrev pub unacknowledged_move : Stance → MacMove
 unacknowledged_move s = if s.passive then errs_by None true s Ack else errs s Ack
 
 abbrev pub ack_slot_move : Stance → Role → Reading → Level → MacMove
 ack_slot_move s (Sender f) r Dominant = goes s (AckDelimiter r)
 ack_slot_move s (Sender f) r Recessive = unacknowledged_move s
--- a receiver whose check sequence agrees acknowledges; another one only listens
+-- [Acknowledgement] a receiver whose check sequence agrees acknowledges; another one only listens
 ack_slot_move s Receiver r Dominant = if r.agrees then record (goes s (AckDelimiter r)) { cause = Some FrameReceived } else goes s (AckDelimiter r)
 ack_slot_move s Receiver r Recessive = if r.agrees then errs s Bit else goes s (AckDelimiter r)
 
--- a receiver whose check sequence differs
+-- [Refused check sequence] a receiver whose check sequence differs
 abbrev pub refuses : Role → Reading → Bool
 refuses Receiver r = not r.agrees
 refuses (Sender f) r = false
@@ -175,7 +178,8 @@ abbrev pub ack_delimiter_move : Stance → Reading → Level → MacMove
 ack_delimiter_move s r Dominant = errs s (form_kind s.role)
 ack_delimiter_move s r Recessive = if refuses s.role r then errs s Crc else goes s (EndOfFrame r 0)
 
--- Intermission is entered. A receiver that has asked for an overload frame starts its flag.
+-- [Own overload frames] intermission is entered. A receiver that has asked for an overload frame starts its
+-- flag.
 abbrev pub enters_intermission : Stance → Role → MacMove
 enters_intermission s (Sender f) = goes s (Intermission 0)
 enters_intermission s Receiver =
@@ -183,13 +187,14 @@ enters_intermission s Receiver =
     then record (overload s) { overloads = record { pending = s.overloads.pending - 1; used = s.overloads.used + 1 } }
     else goes s (Intermission 0)
 
--- the sender's frame is valid where no level of the end of frame is dominant
+-- [Frame validation] the sender's frame is valid where no level of the end of frame is dominant
 abbrev pub sender_end_move : Stance → Parts → Reading → ℕ → Level → MacMove
 sender_end_move s f r place Dominant = errs s Bit
 sender_end_move s f r place Recessive =
     if nat_lt place 6 then goes s (EndOfFrame r (place + 1)) else record (enters_intermission s s.role) { cause = Some FrameSent; event = Some (Sent f) }
 
--- the frame is valid for a receiver where none but the last is dominant
+-- [Frame validation], [Dominant last level] the frame is valid for a receiver where none but the last is
+-- dominant
 abbrev pub receiver_end_move : Stance → Reading → ℕ → Level → MacMove
 receiver_end_move s r place Dominant = if nat_lt place 6 then errs s Form else overload s
 receiver_end_move s r place Recessive =
@@ -218,18 +223,19 @@ overload_flag_move s place x = flag_move s (λ p. OverloadFlag p) (AfterFlag fal
 abbrev pub flag_run : Level → ℕ → Level → ℕ
 flag_run last run x = if same x last then run + 1 else 1
 
--- a passive flag is complete where six levels in a row are equal
+-- [Error flags] a passive flag is complete where six levels in a row are equal
 abbrev pub passive_phase : Level → ℕ → Bool → MacPhase
 passive_phase x run unacknowledged = if nat_lt run 6 then PassiveFlag x run unacknowledged else AfterFlag true 0
 
--- the first dominant level in the passive flag of a sender without acknowledgement is counted
+-- [Unacknowledged passive sender] the first dominant level in the passive flag of a sender without
+-- acknowledgement is counted
 abbrev pub passive_flag_move : Stance → Level → ℕ → Bool → Level → MacMove
 passive_flag_move s last run unacknowledged x =
     record (goes s (passive_phase x (flag_run last run x) (unacknowledged && is_recessive x)))
     { cause = if unacknowledged && not (is_recessive x) then Some PassiveUnacknowledged else None }
 
--- what a dominant level behind a flag counts: at a receiver the first one behind an error flag, and at any
--- controller each eighth in a row
+-- [Behind a flag] what a dominant level behind a flag counts: at a receiver the first one behind an error
+-- flag, and at any controller each eighth in a row
 abbrev pub dominant_cause : Role → Bool → ℕ → Option Cause
 dominant_cause Receiver first dominant = if first then Some ReceiverFirstDominant else if nat_lt dominant 7 then None else Some ReceiverDominantRun
 dominant_cause (Sender f) first dominant = if nat_lt dominant 7 then None else Some SenderDominantRun
@@ -239,18 +245,19 @@ after_flag_move s first dominant Recessive = goes s (Delimiter 1)
 after_flag_move s first dominant Dominant =
     record (goes s (AfterFlag false (if nat_lt dominant 7 then dominant + 1 else 0))) { cause = dominant_cause s.role first dominant }
 
+-- [Delimiter]
 abbrev pub delimiter_move : Stance → ℕ → Level → MacMove
 delimiter_move s place Dominant = if nat_lt place 7 then errs s Form else overload s
 delimiter_move s place Recessive = if nat_lt place 7 then goes s (Delimiter (place + 1)) else enters_intermission s s.role
 
 -- Between frames.
 
--- an error passive controller that was the sender
+-- [Suspend transmission] an error passive controller that was the sender
 abbrev pub is_held_back : Stance → Role → Bool
 is_held_back s Receiver = false
 is_held_back s (Sender f) = s.passive
 
--- what a controller is to a frame that begins in the last bit of intermission
+-- [Intermission], [Kept frame] what a controller is to a frame that begins in the last bit of intermission
 abbrev pub next_role : Bool → Option Parts → Role
 next_role held_back None = Receiver
 next_role held_back (Some f) = if held_back then Receiver else Sender f

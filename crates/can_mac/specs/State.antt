@@ -58,9 +58,9 @@ is_off_phase (Suspend place) = false
 -- What holds of every controller.
 
 -- a frame whose stuffed part goes on
-pub record IsOpen (front : FrontParts) : Type 0 where
-  pub front : IsFront front
-  pub goes_on : next_place front ≢ ended
+pub record IsOpen (f : FrontParts) : Type 0 where
+  pub front : IsFront f
+  pub goes_on : next_place f ≢ ended
 
 abbrev pub IsPhase : MacPhase → Type 0
 IsPhase (Joining row) = row < 11

@@ -1,14 +1,14 @@
 ghost use Rattle.std.specs.Prelude.{◌≡◌, ◌≤◌, ◌↔◌, length, true, false, IsTrue, IsFalse};
 ghost use Rattle.std.specs.Option.{option_copied};
 ghost use Rattle.can_code.specs.Front.{FrontParts};
-ghost use Rattle.can_fault.specs.Counters.{counted, is_bus_off, IsConfine};
-ghost use Rattle.can_mac.specs.State.{idle as idle_state, IsMac, IsPhase, is_off_phase, joining as joining_state, starting};
-ghost use Rattle.can_mac.specs.Moves.{move};
+ghost use Rattle.can_fault.specs.Counters.{counted, is_bus_off, is_passive as is_passive_by};
+ghost use Rattle.can_mac.specs.State.{idle as idle_state, IsMac, IsPhase, IsWaiting, is_off_phase, joining as joining_state, starting};
+ghost use Rattle.can_mac.specs.Moves.{move, phase_after};
 ghost use Rattle.can_mac.specs.Machine.{holding, IsSilent, mac_drives, mac_step, off_step, on_step, stance as stance_of};
 
 use crate::driving::{level_of_part, level_of_slot};
 use crate::event::Event;
-use crate::moves::{MOST_OVERLOADS, Stance, next_move};
+use crate::moves::{MOST_OVERLOADS, Move, NewFrame, Stance, next_move};
 use crate::phase::{Overloads, Phase, Role};
 use can_code::{Front, FrameBits, PlainBits};
 use can_fault::{Cause, Confine, State};
@@ -75,6 +75,7 @@ impl<B: FrameBits> MediumAccess<B> {
     }
 
     /// What the controller drives in the next bit time, where this frame waits to be sent.
+    #[tactic(auto, using(crate::proofs::DriveLemmas::longest_part), unfolding(crate::specs::Machine::mac_drives))]
     pub fn drive(&self, waiting: Option<&Frame>) -> Level
         ensures level { result ≡ mac_drives self.now (option_copied waiting.entry) }
         ensures silent { IsSilent self.now.phase → result ≡ Level.Recessive }
@@ -102,6 +103,7 @@ impl<B: FrameBits> MediumAccess<B> {
 
     /// Takes the level that the bus has in this bit time, where this frame waits to be sent: what is
     /// told. What the controller drove is what [`MediumAccess::drive`] answers for the same frame.
+    #[tactic(auto, unfolding(crate::specs::Machine::mac_step))]
     pub fn sample(&mut self, waiting: Option<&Frame>, seen: Level) -> Option<Event>
         ensures state { self.new ≡ (mac_step self.old (option_copied waiting.entry) seen).0 }
         ensures event { result ≡ (mac_step self.old (option_copied waiting.entry) seen).1 }
@@ -152,23 +154,57 @@ impl<B: FrameBits> MediumAccess<B> {
         ensures state { self.new ≡ (on_step self.old (move (stance_of self.old) self.old.phase (option_copied waiting.entry) seen)).0 }
         ensures event { result ≡ (on_step self.old (move (stance_of self.old) self.old.phase (option_copied waiting.entry) seen)).1 }
     {
+        within_limits(waiting);
         let stance = Stance {
-            passive: self.confine.state() != State::Active,
+            passive: is_passive(&self.confine),
             role: self.role,
             overloads: self.overloads,
         };
-        let next = next_move(&stance, &mut self.phase, waiting, seen);
-        self.overloads = next.overloads;
-        if count(&mut self.confine, next.cause) {
+        let Move {
+            phase,
+            role,
+            overloads,
+            cause,
+            event,
+        } = next_move(&stance, &mut self.phase, waiting, seen);
+        self.overloads = overloads;
+        if count(&mut self.confine, cause) {
             self.phase = Phase::BusOff;
             self.role = Role::Receiver;
             return Some(Event::WentOff);
         }
-        if let Some(phase) = next.phase {
-            self.phase = phase.entered();
-        }
-        self.role = next.role;
-        next.event
+        enter(&mut self.phase, phase);
+        self.role = role;
+        event
+    }
+}
+
+/// A frame that waits is within its limits, which its bytes tell.
+fn within_limits(waiting: Option<&Frame>)
+    ensures { IsWaiting (option_copied waiting.entry) }
+{
+    if let Some(frame) = waiting {
+        let _ = frame.bytes();
+    }
+}
+
+/// Whether the controller is error passive.
+#[tactic(auto, using(crate::proofs::Landing::active_told, crate::proofs::Landing::passive_told, crate::proofs::Landing::off_told))]
+fn is_passive(confine: &Confine) -> bool
+    ensures { result ≡ is_passive_by confine.now }
+{
+    match confine.state() {
+        State::Active => false,
+        State::Passive | State::BusOff => true,
+    }
+}
+
+/// Enters a phase, if there is one.
+fn enter<B: FrameBits>(phase: &mut Phase<Front<B>>, next: Option<Phase<NewFrame>>)
+    ensures { phase.new ≡ phase_after phase.old next }
+{
+    if let Some(next) = next {
+        *phase = next.entered();
     }
 }
 
@@ -176,7 +212,6 @@ impl<B: FrameBits> MediumAccess<B> {
 fn count(confine: &mut Confine, cause: Option<Cause>) -> bool
     ensures none { cause ≡ None → (confine.new ≡ confine.old) × (result ≡ false) }
     ensures some { (c : Cause) → cause ≡ Some c → (confine.new ≡ counted c confine.old) × (result ≡ is_bus_off confine.new) }
-    ensures kept { IsConfine confine.new }
 {
     let Some(cause) = cause else {
         return false;

@@ -117,7 +117,7 @@ fn receiver_end(stance: &Stance, reading: &Reading, place: u8, seen: Level) -> E
     match seen {
         Level::Dominant if place < LAST_OF_FRAME => stance.errs(ErrorKind::Form),
         Level::Dominant => stance.overload(),
-        Level::Recessive if place + 1 < LAST_OF_FRAME => stance.goes(Phase::EndOfFrame {
+        Level::Recessive if place < LAST_OF_FRAME - 1 => stance.goes(Phase::EndOfFrame {
             reading: *reading,
             place: place + 1,
         }),

@@ -57,13 +57,13 @@ fn hear<B: FrameBits>(stance: &Stance, front: &mut Front<B>, seen: Level) -> Hea
 fn end_of_part<B: FrameBits>(front: &Front<B>) -> Option<Phase<NewFrame>>
     ensures { phase_after (StuffedPart front.now) result ≡ part_phase front.now }
 {
-    if front.next_place() != Place::CrcDelimiter {
-        return None;
+    match front.next_place() {
+        Place::StuffBit | Place::Bit => None,
+        Place::CrcDelimiter => Some(Phase::CrcDelimiter(Reading {
+            frame: front.frame(),
+            agrees: front.check_agrees(),
+        })),
     }
-    Some(Phase::CrcDelimiter(Reading {
-        frame: front.frame(),
-        agrees: front.check_agrees(),
-    }))
 }
 
 /// A stuff place repeats the level before it. In arbitration a sender sent a recessive stuff bit and

@@ -1,0 +1,105 @@
+-- Where a move lands: what was counted makes the controller bus off, or it does not.
+use Rattle.std.proofs.Common.{◌≡◌, ◌≤◌, Bool, true, false, Option, Some, None, refl, sym, ◌∙◌, ap, subst, arith, cond}
+use Rattle.std.proofs.Math.Dec.{leb}
+use Rattle.std.proofs.lemmas.Bool.{cond-true, cond-false, le-leb, leb-true, or_left}
+use Rattle.can_frame.specs.declared.level.Level.{Level}
+use Rattle.can_frame.specs.Parts.{Parts}
+use Rattle.can_fault.specs.declared.cause.Cause.{Cause}
+use Rattle.can_fault.specs.declared.state.State.TheVariants.{Active, Passive, BusOff as off_state}
+use Rattle.can_fault.specs.Counters.{ConfineParts, counted, is_bus_off, is_passive, state_of}
+use Rattle.can_mac.specs.declared.event.Event.{Event}
+use Rattle.can_mac.specs.declared.event.Event.TheVariants.{WentOff}
+use Rattle.can_mac.specs.declared.moves.Move.{Move}
+use Rattle.can_mac.specs.declared.phase.Role.TheVariants.{Receiver}
+use Rattle.can_mac.specs.declared.phase.Phase.TheVariants.{BusOff}
+use Rattle.can_mac.specs.State.{MacPhase, MacState, IsMac, IsWaiting, is_off_phase}
+use Rattle.can_mac.specs.Moves.{MacMove, move, placed}
+use Rattle.can_mac.specs.Machine.{landed, mac_step, moved, off_step, on_step, stance}
+use Rattle.can_mac.proofs.Kept.{on_kept}
+
+-- the state of a controller that goes off the bus
+abbrev pub gone : MacMove → ConfineParts → MacState
+gone v c = record { phase = BusOff; role = Receiver; overloads = v.overloads; counters = c }
+
+-- what counting a cause, if there is one, leaves, and whether it makes the controller bus off
+pub record IsCounted (cause : Option Cause) (old new : ConfineParts) (off : Bool) : Type 0 where
+  pub none : cause ≡ None → (new ≡ old) × (off ≡ false)
+  pub some : (k : Cause) → cause ≡ Some k → (new ≡ counted k old) × (off ≡ is_bus_off new)
+
+pub landed-off : (v : MacMove) (cause : Option Cause) (old new : ConfineParts) (off : Bool) → IsCounted cause old new off → off ≡ true → landed v old cause ≡ (gone v new, Some WentOff)
+landed-off v None old new off h e = cc ((h.none refl).1)
+landed-off v (Some k) old new off h e =
+    let s = h.some k refl in
+    rw (← s.0) (cond-true (is_bus_off new) (gone v new, Some WentOff) (moved v new, v.event) (sym s.1 ∙ e))
+
+pub landed-on : (v : MacMove) (cause : Option Cause) (old new : ConfineParts) (off : Bool) → IsCounted cause old new off → off ≡ false → landed v old cause ≡ (moved v new, v.event)
+landed-on v None old new off h e = rw (h.none refl).0
+landed-on v (Some k) old new off h e =
+    let s = h.some k refl in
+    rw (← s.0) (cond-false (is_bus_off new) (gone v new, Some WentOff) (moved v new, v.event) (sym s.1 ∙ e))
+
+-- A controller whose fields are these, and which it is from outside; what its move is; and what is counted.
+module _ (m now : MacState) (view : m ≡ now) (h : IsMac m) (on : is_off_phase now.phase ≡ false) (waiting : Option Parts) (whole : IsWaiting waiting) (x : Level) where
+  module _ (passive : Bool) (told : passive ≡ is_passive m.counters) (kept : MacPhase) (next : Move (Option MacPhase))
+    (is : placed kept next ≡ move (record { passive = passive; role = m.role; overloads = m.overloads }) m.phase waiting x)
+    (new : ConfineParts) (off : Bool) (count : IsCounted next.cause m.counters new off) where
+    same_move : placed kept next ≡ move (stance m) m.phase waiting x
+    same_move = subst (λ p. placed kept next ≡ move (record { passive = p; role = m.role; overloads = m.overloads }) m.phase waiting x) told is
+
+    same_step : landed (placed kept next) m.counters next.cause ≡ on_step now (move (stance now) now.phase waiting x)
+    same_step = ap (λ v. landed v m.counters v.cause) same_move ∙ ap (λ n. on_step n (move (stance n) n.phase waiting x)) view
+
+    pub goes_off : off ≡ true → (gone (placed kept next) new, Some WentOff) ≡ on_step now (move (stance now) now.phase waiting x)
+    goes_off e = sym (landed-off (placed kept next) next.cause m.counters new off count e) ∙ same_step
+
+    pub stays_on : off ≡ false → (moved (placed kept next) new, next.event) ≡ on_step now (move (stance now) now.phase waiting x)
+    stays_on e = sym (landed-on (placed kept next) next.cause m.counters new off count e) ∙ same_step
+
+    step_is_mac : IsMac (on_step now (move (stance now) now.phase waiting x)).0
+    step_is_mac = on_kept now (subst IsMac view h) waiting x on whole
+
+    pub goes_off-IsMac : off ≡ true → IsMac (gone (placed kept next) new)
+    goes_off-IsMac e = subst (λ p. IsMac p.0) (sym (goes_off e)) step_is_mac
+
+    pub stays_on-IsMac : off ≡ false → IsMac (moved (placed kept next) new)
+    stays_on-IsMac e = subst (λ p. IsMac p.0) (sym (stays_on e)) step_is_mac
+
+-- one bit time, off the bus and on it
+pub step_off : (m : MacState) (waiting : Option Parts) (x : Level) → is_off_phase m.phase ≡ true → mac_step m waiting x ≡ off_step m x
+unfolding mac_step
+step_off m waiting x h = cond-true (is_off_phase m.phase) (off_step m x) (on_step m (move (stance m) m.phase waiting x)) h
+
+pub step_on : (m : MacState) (waiting : Option Parts) (x : Level) → is_off_phase m.phase ≡ false → mac_step m waiting x ≡ on_step m (move (stance m) m.phase waiting x)
+unfolding mac_step
+step_on m waiting x h = cond-false (is_off_phase m.phase) (off_step m x) (on_step m (move (stance m) m.phase waiting x)) h
+
+-- What a controller's state tells of whether it is error passive.
+module _ (c : ConfineParts) where
+  pub active_told : Active ≡ state_of c → false ≡ is_passive c
+  active_told e = by_tests (is_bus_off c) (is_passive c) e
+    where
+      by_tests : (off passive : Bool) → Active ≡ cond off off_state (cond passive Passive Active) → false ≡ passive
+      by_tests true passive e = cc
+      by_tests false true e = cc
+      by_tests false false e = refl
+
+  pub passive_told : Passive ≡ state_of c → true ≡ is_passive c
+  passive_told e = by_tests (is_bus_off c) (is_passive c) e
+    where
+      by_tests : (off passive : Bool) → Passive ≡ cond off off_state (cond passive Passive Active) → true ≡ passive
+      by_tests true passive e = cc
+      by_tests false true e = refl
+      by_tests false false e = cc
+
+  pub off_told : off_state ≡ state_of c → true ≡ is_passive c
+  off_told e =
+      let high : 256 ≤ c.tec = by_test (is_bus_off c) refl e in
+      sym (or_left (leb 128 c.tec) (leb 128 c.rec) (le-leb 128 c.tec (omega arith)))
+    where
+      by_test : (off : Bool) → is_bus_off c ≡ off → off_state ≡ cond off off_state (cond (is_passive c) Passive Active) → 256 ≤ c.tec
+      by_test true d e = leb-true 256 c.tec d
+      by_test false d e = by_passive (is_passive c) e
+        where
+          by_passive : (passive : Bool) → off_state ≡ cond passive Passive Active → 256 ≤ c.tec
+          by_passive true f = cc
+          by_passive false f = cc
