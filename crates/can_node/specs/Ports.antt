@@ -8,7 +8,7 @@ use Rattle.can_frame.specs.Arbitration.{arbitration_field, field_cmp}
 use Rattle.can_mac.specs.declared.event.Event.{Event}
 use Rattle.can_mac.specs.declared.event.Event.TheVariants.{Sent, Received, Lost, Error, Overload, WentOff, Recovered}
 use Rattle.can_mac.specs.declared.phase.Phase.TheVariants.{Joining, Idle, StuffedPart, CrcDelimiter, AckSlot, AckDelimiter, EndOfFrame, ErrorFlag, PassiveFlag, OverloadFlag, AfterFlag, Delimiter, Intermission, Suspend, BusOff}
-use Rattle.can_mac.specs.State.{MacPhase, MacState}
+use Rattle.can_mac.specs.State.{MacPhase, MacState, IsMac}
 use Rattle.can_mac.specs.Machine.{mac_drives, mac_step, holding}
 use Rattle.can_node.specs.declared.entry.Entry.{Entry}
 
@@ -125,8 +125,10 @@ is_silent (Delimiter place) = false
 is_silent (Intermission place) = false
 is_silent (Suspend place) = false
 
--- what holds of every port: its frames are frames, and queue and log keep within their rooms
+-- what holds of every port: what holds of every controller, its frames are frames, and queue and log keep
+-- within their rooms
 pub record IsPort (p : PortState) : Type 0 where
+  pub mac : IsMac p.mac
   pub queued : (n : ℕ) (f : Parts) → slice_get p.queue n ≡ Some f → IsFrame f
   pub logged : (n : ℕ) (entry : Entry) → slice_get p.log n ≡ Some entry → IsFrame entry.frame
   pub queue_fits : length p.queue ≤ p.queue_room

@@ -57,6 +57,6 @@ pub trait Port {
     fn state(&self) -> State
         ensures { result ≡ state_of (port self.now).mac.counters };
 
-    /// The frames of a port are frames, and queue and log keep within their rooms.
+    /// A port's controller is one, its frames are frames, and queue and log keep within their rooms.
     ghost valid: { (x : Self) → IsPort (port x) };
 }
