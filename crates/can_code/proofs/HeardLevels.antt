@@ -14,7 +14,7 @@ use Rattle.can_code.proofs.StuffedParts.{IsPart-once}
 use Rattle.can_code.proofs.FrontsOf.{IsFrontOf, IsFrontOf-part, IsFrontOf-heard_level, IsFrontOf-no_part, IsFrontOf-no_part_repeated}
 
 -- a level that is no wrong stuff bit, where the stuffed part has not ended
-hear_at-going : (f : FrontParts) (x : Level) (p : Place) → p ≢ CrcDelimiter → is_stuff_error f x ≡ false → hear_at p f x ≡ Some (heard_level f x)
+pub hear_at-going : (f : FrontParts) (x : Level) (p : Place) → p ≢ CrcDelimiter → is_stuff_error f x ≡ false → hear_at p f x ≡ Some (heard_level f x)
 hear_at-going f x StuffBit going no_error = cond-false (is_stuff_error f x) None (Some (heard_level f x)) no_error
 hear_at-going f x Bit going no_error = refl
 hear_at-going f x CrcDelimiter going no_error = absurd (going refl)
@@ -37,7 +37,7 @@ hear_at-some f g x StuffBit at heard = by_test (is_stuff_error f x) heard
 hear_at-some f g x Bit at heard = (λ e. cc, no_error_at_bit f x at, cc)
 hear_at-some f g x CrcDelimiter at heard = cc
 
-ended_or_going : (p : Place) → (p ≡ CrcDelimiter) ⊎ (p ≢ CrcDelimiter)
+pub ended_or_going : (p : Place) → (p ≡ CrcDelimiter) ⊎ (p ≢ CrcDelimiter)
 ended_or_going StuffBit = inr (λ e. cc)
 ended_or_going Bit = inr (λ e. cc)
 ended_or_going CrcDelimiter = inl refl

@@ -36,6 +36,7 @@ pub mod SoundLemmas
 pub mod CodeFaultLemmas
 pub mod OneCodeFault
 pub mod DecodingLemmas
+pub mod DecoderLemmas
 pub mod TailLemmas
 -- known values
 pub mod LayoutRows

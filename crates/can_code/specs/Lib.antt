@@ -6,3 +6,4 @@ pub mod Layout
 pub mod Reading
 pub mod Front
 pub mod CodeFaults
+pub mod Decoder

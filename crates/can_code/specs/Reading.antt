@@ -2,9 +2,8 @@
 use Rattle.std.specs.Prelude.{ℕ, ◌≡◌, ◌+◌, ◌*◌, ◌<◌, ◌≤◌, Option, Some, None, List, length, drop}
 use Rattle.can_frame.specs.declared.level.Level.{Level}
 use Rattle.can_frame.specs.Parts.{byte_count}
-use Rattle.can_code.specs.Crc.{IsCrc}
 use Rattle.can_code.specs.Stuffing.{Stuffs}
-use Rattle.can_code.specs.Layout.{extended_of, remote_of, dlc_of, data_place, bytes_from, frame_len, IsComplete, check_of, head_of}
+use Rattle.can_code.specs.Layout.{extended_of, remote_of, dlc_of, data_place, bytes_from, frame_len, IsComplete}
 
 -- everything before the data
 abbrev pub HasControl : List Level → Type 0
@@ -27,7 +26,3 @@ bytes_of u = bytes_from (byte_count (remote_of u) (dlc_of u)) (drop (data_place 
 pub record IsPart (u b : List Level) : Type 0 where
   pub complete : IsComplete u
   pub stuffs : Stuffs u b
-
--- b is a complete stuffed part, and its check sequence agrees
-abbrev pub IsAgreedPart : List Level → Type 0
-IsAgreedPart b = (u : List Level) × IsPart u b × IsCrc (head_of u) (check_of u)

@@ -64,6 +64,7 @@ impl<B: FrameBits> Front<B> {
 
     /// What the next level is. The stuffed part has ended where the unstuffed levels have their
     /// whole CRC sequence and no stuff bit is due.
+    #[inline]
     pub fn next_place(&self) -> Place
         ensures place { result ≡ next_place_of self.now }
         ensures whole { IsFront self.now }
@@ -78,6 +79,7 @@ impl<B: FrameBits> Front<B> {
     }
 
     /// Takes one level of the stuffed part.
+    #[inline]
     pub fn hear(&mut self, level: Level) -> Result<(), StuffError>
         requires { next_place_of self.old ≢ Place.CrcDelimiter }
         ensures error { IsErr result ↔ IsTrue (is_stuff_error self.old level) }

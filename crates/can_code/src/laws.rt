@@ -1,4 +1,4 @@
-ghost use Rattle.std.specs.Prelude.{◌≡◌, ◌∷◌, ◌++◌, List};
+ghost use Rattle.std.specs.Prelude.{◌≡◌, ◌∷◌, ◌++◌, List, length};
 ghost use Rattle.can_frame.specs.declared.level.Level.{Level as Bit};
 ghost use Rattle.can_frame.specs.declared.level.Level.TheVariants.{Dominant, Recessive};
 ghost use Rattle.can_frame.specs.Parts.{Parts};
@@ -6,10 +6,12 @@ ghost use Rattle.can_code.specs.Crc.{IsCrc, crc_of};
 ghost use Rattle.can_code.specs.Stuffing.{Stuffs, stuffed};
 ghost use Rattle.can_code.specs.Wire.{head, IsSpelling, wire};
 ghost use Rattle.can_code.specs.declared.fault.CodeFault.{CodeFault as Fault};
+ghost use Rattle.can_code.specs.declared.fault.CodeFaultKind.TheVariants.{Short};
 ghost use Rattle.can_code.specs.declared.front.Place.TheVariants.{CrcDelimiter};
 ghost use Rattle.can_code.specs.Layout.{IsComplete};
 ghost use Rattle.can_code.specs.Front.{FrontParts, first_front, heard_levels, next_place};
 ghost use Rattle.can_code.specs.CodeFaults.{IsCodeFault};
+ghost use Rattle.can_code.specs.Decoder.{DecoderParts, HasHeard};
 ghost use Rattle.can_code.specs.Heard.{HeardParts, IsHeard, sent, Spells, spelling};
 
 /// Each list of levels has exactly one CRC sequence.
@@ -58,4 +60,9 @@ pub fn one_code_fault()
 pub fn stuffed_parts_are_heard()
     ensures exists { (u b : List Bit) → IsComplete u → Stuffs u (Dominant ∷ b) → (f : FrontParts) × (heard_levels first_front b ≡ Some f) × (f.unstuffed ≡ u) × (next_place f ≡ CrcDelimiter) }
     ensures only { (b : List Bit) (f : FrontParts) → heard_levels first_front b ≡ Some f → next_place f ≡ CrcDelimiter → IsComplete f.unstuffed × Stuffs f.unstuffed (Dominant ∷ b) }
+{}
+
+/// Where no level is left before a decoder's frame ends, the levels are too short.
+pub fn unfinished_frames_are_short()
+    ensures { (d : DecoderParts) (l : List Bit) → HasHeard d l → IsCodeFault l (record { kind = Short; place = length l }) }
 {}

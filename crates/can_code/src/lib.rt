@@ -4,8 +4,9 @@
 //! A frame's `head` (start of frame, identifier, control field, data) is followed by its CRC
 //! sequence; the two are bit stuffed, and a tail of ten levels that is never stuffed ends the
 //! frame. (Bosch CAN 2.0 part B, sections 3.2.1 and 6) A receiver takes a few of these levels at
-//! either value: with them the frame is [`Heard`]. It hears the stuffed part level by level, as a
-//! [`Front`]; levels that begin with no frame have one [`CodeFault`].
+//! either value: with them the frame is [`Heard`]. It hears the frame level by level, as a
+//! [`Decoder`], and the stuffed part of it as a [`Front`]; levels that begin with no frame have one
+//! [`CodeFault`].
 //!
 //! | File | What it has | Defined in |
 //! |---|---|---|
@@ -19,9 +20,10 @@
 //! | `plain_bits.rt` | [`PlainBits`], these levels one by one | |
 //! | `reading.rt` | what the unstuffed levels tell of the frame | `specs/Layout.antt`, `specs/Reading.antt` |
 //! | `front.rt` | [`Front`], a frame up to the end of its stuffed part, heard level by level | `specs/Front.antt` |
+//! | `decoder.rt` | [`Decoder`], the frame that one level after another ends, or the fault that one shows | `specs/Decoder.antt` |
 //! | `decoding.rt` | [`decode`], the frame at the front of levels, or the first fault | `specs/CodeFaults.antt` |
 //! | `fault.rt` | [`CodeFault`], why levels begin with no frame | `specs/CodeFaults.antt` |
-//! | `laws.rt` | that a CRC sequence, a stuffed list, a frame's wire, a spelling and a fault are unique, that no spelling begins another, and that fronts are those of stuffed lists | |
+//! | `laws.rt` | that a CRC sequence, a stuffed list, a frame's wire, a spelling and a fault are unique, that no spelling begins another, that fronts are those of stuffed lists, and that a frame that has not ended is too short | |
 //!
 //! Each is defined twice: by a relation that says what it is (the generator divides it, a stuff
 //! bit stands behind five equal levels), and by a function that computes it. The calls promise
@@ -31,10 +33,12 @@
 //! `Runs`, `StuffingLemmas`), that it is unique (`OneStuffing`) and begins no other's
 //! (`StuffedFronts`), what unstuffed levels tell (`LayoutLengths`, `LayoutRead`, `LayoutWrite`), how
 //! long each part is (`LayoutHead`, `WireLemmas`, `SpellingLemmas`), how a check sequence grows
-//! (`Register`), and which front levels make that are heard one by one (`FrontsOf`, `HeardLevels`).
+//! (`Register`), which front levels make that are heard one by one (`FrontsOf`, `HeardLevels`), and
+//! that levels are too short which a decoder has heard (`DecoderLemmas`).
 #![tactic(auto)]
 
 mod crc;
+mod decoder;
 mod decoding;
 mod encoding;
 mod fault;
@@ -51,6 +55,7 @@ mod stuffing;
 mod tests;
 
 pub use crc::crc15;
+pub use decoder::Decoder;
 pub use decoding::decode;
 pub use encoding::encode;
 pub use fault::{CodeFault, CodeFaultKind};
@@ -59,7 +64,7 @@ pub use front::{Front, Place, StuffError};
 pub use heard::Heard;
 pub use laws::{
     no_spelling_begins_another, one_check_sequence, one_code_fault, one_heard, one_spelling,
-    one_stuffing, one_wire, stuffed_parts_are_heard,
+    one_stuffing, one_wire, stuffed_parts_are_heard, unfinished_frames_are_short,
 };
 pub use plain_bits::PlainBits;
 pub use spelling::respell;

@@ -4,6 +4,7 @@ use arrayvec::ArrayVec;
 use can_frame::{Frame, Id, Level};
 use std::test::Fail;
 
+mod decoder;
 mod decoding;
 mod heard;
 

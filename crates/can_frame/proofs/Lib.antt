@@ -16,3 +16,4 @@ pub mod TextStages
 pub mod TextEnds
 pub mod OneText
 pub mod Written
+pub mod TextLengths

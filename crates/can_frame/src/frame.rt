@@ -11,10 +11,10 @@ use thiserror::Error;
 #[derive(Clone, Copy, Debug, PartialEq, Eq, Error)]
 pub enum FrameFault {
     /// The DLC is above 15.
-    #[error("F1: the data length code is above 15")]
+    #[error("the data length code is above 15")]
     DlcAbove15,
     /// The number of data bytes isn't the lesser of the DLC and 8.
-    #[error("F2: the number of data bytes is not that of the data length code")]
+    #[error("the number of data bytes is not that of the data length code")]
     WrongByteCount,
 }
 

@@ -1,6 +1,6 @@
 //! The text of a frame: one line, and one spelling a frame. `read` reads its parts, and `write`
 //! writes them.
-ghost use Rattle.std.specs.Prelude.{◌≡◌, IfOk, IfErr};
+ghost use Rattle.std.specs.Prelude.{◌≡◌, ◌≤◌, length, IfOk, IfErr};
 ghost use Rattle.can_frame.specs.Parts.{Parts, IsFrame};
 ghost use Rattle.can_frame.specs.Text.{frame_text, IsTextFault};
 
@@ -51,7 +51,8 @@ impl Frame {
     /// blank, and the DLC in decimal. Where there are data bytes, a blank follows, and two hexadecimal
     /// digits a byte. Letters among the digits are in lower case. The text has 9 to 32 bytes.
     pub fn to_text(&self) -> ArrayString<32>
-        ensures { result.bytes ≡ frame_text self.now }
+        ensures text { result.bytes ≡ frame_text self.now }
+        ensures bound { length result.bytes ≤ 32 }
     {
         let mut text = ArrayString::new();
         write::letter(&mut text, 'S', 'E', self.is_extended());

@@ -98,6 +98,25 @@ fn sent_frames(rt: HostRuntime) -> Result<(), Fail> {
     Ok(())
 }
 
+// The 32 choices of SRR, r1, r0, acknowledgement and last level, of which a standard frame allows 8.
+#[test]
+fn choices(rt: HostRuntime) -> Result<(), Fail> {
+    let mut made = 0u8;
+    for frame in known_frames()? {
+        for choice in 0..32u8 {
+            let level = |bit: u8| Level::from_bool(choice & bit != 0);
+            let acked = choice & 16 != 0;
+            if let Some(heard) = Heard::new(frame, level(1), level(2), level(4), acked, level(8)) {
+                made = made.saturating_add(1);
+                let levels = respell(&heard);
+                assert!(rt; decode(&levels) == Ok((heard, levels.len())));
+            }
+        }
+    }
+    assert_eq!(rt; made, 6 * 8 + 32);
+    Ok(())
+}
+
 /// Whether what is heard, if anything is, spells the levels from which it was heard.
 fn is_spelled(levels: &[Level]) -> bool {
     match decode(levels) {

@@ -1,46 +1,83 @@
-use Rattle.std.proofs.Common.{◌+◌, ◌≤◌, length, take, sym, subst}
-use Rattle.std.proofs.lemmas.Bool.{both_ways}
+use Rattle.std.proofs.Common.{◌≡◌, ◌<◌, ◌+◌, ◌≤◌, ◌∷◌, ◌++◌, [], Ok, Some, None, length, take, drop, get_or, refl, sym, ◌∙◌, ap, subst, arith}
+use Rattle.can_frame.specs.declared.level.Level.TheVariants.{Dominant}
 use Rattle.can_code.specs.Heard.{Spells}
 use Rattle.can_code.specs.CodeFaults.{IsCodeFault}
-use Rattle.can_code.proofs.DecodingLemmas.{crc_at, spelled_at, spelled_within, only_spelled}
+use Rattle.can_code.specs.Decoder.{HasHeard}
+use Rattle.can_code.proofs.DecoderLemmas.{HasHeard-short}
+use Rattle.can_code.proofs.DecodingLemmas.{nothing_first, recessive_first, start_and_rest, front_longer, fault_at, found_at, all_heard, only_spelled}
 use Rattle.can_code.proofs.decoding.decode.Goals as goal
-use Rattle.can_code.proofs.decoding.decode.Goals.{After-fault, After-heard}
+use Rattle.can_code.proofs.decoding.decode.Goals.{After-fault-then-is_recessive, In-Ok-Some, After-fault-in-Err, After-fault-2}
 
--- the check sequence is wrong
-wrong_check : (c : After-fault) → IsCodeFault c.args.levels.now c.fault.result
-wrong_check c =
-    let front = c.in_ok-front in
-    subst (IsCodeFault c.args.levels.now) (sym c.fault.ensures)
-    (crc_at c.args.levels.now front.len front.front.unstuffed front.ensures.within front.ensures.part (λ agrees.
-    both_ways c.check_agrees.result c.if-not-check_agrees.true (c.check_agrees.ensures.1 agrees)))
+-- the first level is no start of frame
+no_start : (c : After-fault-then-is_recessive) → IsCodeFault c.args.levels.now c.fault-then-is_recessive.result
+no_start c =
+    subst (IsCodeFault c.args.levels.now) (sym c.fault-then-is_recessive.ensures)
+    (recessive_first c.args.levels.now c.in-Some.first.now c.in-Some.rest.now c.in-Some.ensures.cases.0 (sym c.if-is_recessive.ensures))
+
+-- a fault shows at a level
+at_level : (c : After-fault-in-Err) → IsCodeFault c.args.levels.now c.fault-in-Err.result
+at_level c =
+    let l = c.args.levels.now in
+    let rest = c.in-Some.rest.now in
+    let i = c.loop-before.before in
+    let whole = start_and_rest l c.in-Some.first.now rest c.in-Some.ensures.cases.0 (sym c.if-is_recessive.ensures) in
+    subst (IsCodeFault l) (sym c.fault-in-Err.ensures)
+    (fault_at rest i (get_or rest i Dominant) c.loop-before-test.true refl l whole c.in-Err.kind (c.in-Err.ensures.fault (Dominant ∷ take i rest) (drop (i + 1) rest) c.loop-before.invariant))
 
 -- the frame is spelled
-found : (c : After-heard) → Spells c.heard.result (take (c.in_ok-front.len + 10) c.args.levels.now) × (c.in_ok-front.len + 10 ≤ length c.args.levels.now)
+found : (c : In-Ok-Some) → Spells c.in-Ok-Some.heard (take (c.loop-before.before + 1 + 1) c.args.levels.now) × (c.loop-before.before + 1 + 1 ≤ length c.args.levels.now)
 found c =
-    let front = c.in_ok-front in
-    let tail = c.in_ok-acked in
     let l = c.args.levels.now in
-    let agrees = c.check_agrees.ensures.0 c.if-not-check_agrees.false in (
-      subst (λ h. Spells h (take (front.len + 10) l)) (sym c.heard.ensures) (spelled_at l front.len front.front.unstuffed front.ensures.within front.ensures.part tail.acked tail.last agrees tail.ensures.read),
-      spelled_within l front.len front.front.unstuffed front.ensures.within front.ensures.part tail.acked tail.last agrees tail.ensures.read,
-    )
+    let rest = c.in-Some.rest.now in
+    let i = c.loop-before.before in
+    let whole = start_and_rest l c.in-Some.first.now rest c.in-Some.ensures.cases.0 (sym c.if-is_recessive.ensures) in
+    found_at rest i (get_or rest i Dominant) c.loop-before-test.true refl l whole c.in-Ok-Some.heard
+    (c.in-Ok-Some.ensures.heard c.in-Ok-Some.heard (Dominant ∷ take i rest) (ap Ok c.in-Ok-Some.field-0-is) c.loop-before.invariant)
 
-pub returns-in_err-front-clause-only : goal.returns-in_err-front-clause-only
-returns-in_err-front-clause-only c = λ h w rest spelled whole. absurd (c.in_err-front.ensures.fault.unspelled h w rest spelled whole)
+-- the levels end before the frame
+short : (c : After-fault-2) → IsCodeFault c.args.levels.now c.fault-2.result
+short c =
+    let l = c.args.levels.now in
+    let rest = c.in-Some.rest.now in
+    let whole = start_and_rest l c.in-Some.first.now rest c.in-Some.ensures.cases.0 (sym c.if-is_recessive.ensures) in
+    let p = c.loop-before in
+    subst (IsCodeFault l) (sym c.fault-2.ensures) (HasHeard-short p.decoder l (subst (HasHeard p.decoder) (all_heard rest p.before l whole (omega arith)) p.invariant))
 
-pub returns-then-not-check_agrees-clause-only : goal.returns-then-not-check_agrees-clause-only
-returns-then-not-check_agrees-clause-only c = λ h w rest spelled whole. absurd ((wrong_check c).unspelled h w rest spelled whole)
+pub returns-in_default-clause-fault : goal.returns-in_default-clause-fault
+returns-in_default-clause-fault c = subst (IsCodeFault c.args.levels.now) (sym c.fault.ensures) (nothing_first c.args.levels.now c.in_default.ensures.cases)
 
-pub returns-then-not-check_agrees-clause-fault : goal.returns-then-not-check_agrees-clause-fault
-returns-then-not-check_agrees-clause-fault c = wrong_check c
+pub returns-then-is_recessive-clause-only : goal.returns-then-is_recessive-clause-only
+returns-then-is_recessive-clause-only c = λ h w rest spelled whole. absurd ((no_start c).unspelled h w rest spelled whole)
 
-pub returns-in_err-acked-clause-only : goal.returns-in_err-acked-clause-only
-returns-in_err-acked-clause-only c = λ h w rest spelled whole. absurd (c.in_err-acked.ensures.fault.unspelled h w rest spelled whole)
+pub returns-then-is_recessive-clause-fault : goal.returns-then-is_recessive-clause-fault
+returns-then-is_recessive-clause-fault c = no_start c
 
-pub returns-clause-found : goal.returns-clause-found
-returns-clause-found c = found c
+pub loop-before-init : goal.loop-before-init
+loop-before-init c = c.begin-decoder.ensures
+
+pub returns-in-Ok-Some-clause-found : goal.returns-in-Ok-Some-clause-found
+returns-in-Ok-Some-clause-found c = found c
+
+pub returns-in-Ok-Some-clause-only : goal.returns-in-Ok-Some-clause-only
+returns-in-Ok-Some-clause-only c = λ h w rest spelled whole.
+    let mine = found c in
+    only_spelled c.args.levels.now c.in-Ok-Some.heard h (c.loop-before.before + 1 + 1) w rest mine.1 mine.0 spelled whole
+
+pub returns-in-Err-clause-only : goal.returns-in-Err-clause-only
+returns-in-Err-clause-only c = λ h w rest spelled whole. absurd ((at_level c).unspelled h w rest spelled whole)
+
+pub returns-in-Err-clause-fault : goal.returns-in-Err-clause-fault
+returns-in-Err-clause-fault c = at_level c
+
+pub loop-before-preserved : goal.loop-before-preserved
+loop-before-preserved c =
+    let rest = c.in-Some.rest.now in
+    let i = c.loop-before.before in
+    subst (HasHeard c.hear.new.self) (front_longer rest i (get_or rest i Dominant) c.loop-before-test.true refl)
+    (c.in-Ok-None.ensures.more (ap Ok c.in-Ok-None.field-0-is) (Dominant ∷ take i rest) c.loop-before.invariant)
 
 pub returns-clause-only : goal.returns-clause-only
-returns-clause-only c = λ h w rest spelled whole.
-    let mine = found c in
-    only_spelled c.args.levels.now c.heard.result h (c.in_ok-front.len + 10) w rest mine.1 mine.0 spelled whole
+returns-clause-only c = λ h w rest spelled whole. absurd ((short c).unspelled h w rest spelled whole)
+
+pub returns-clause-fault : goal.returns-clause-fault
+returns-clause-fault c = short c
