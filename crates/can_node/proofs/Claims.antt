@@ -12,7 +12,7 @@ use Rattle.can_node.proofs.Resting.{WaitsOnlyOff, turns_rested}
 
 -- A controller that is on the bus has a TEC below 256, so it has seen nothing towards recovery.
 pub WaitsOnlyOff-from : (m : MacState) → IsConfine m.counters → (is_off_phase m.phase ≡ false → m.counters.tec < 256) → WaitsOnlyOff m
-WaitsOnlyOff-from m c on = record { none = λ h. c.none_while_on (on h); empty = λ h. c.empty_while_on (on h) }
+WaitsOnlyOff-from m c on = record { none = λ h. c.no_occurrences (on h); empty = λ h. c.empty_row (on h) }
 
 -- between an error, an overload or going off and the next event of a frame the bus rests
 pub port_rested : (p : PortState) (levels : List Level) → WaitsOnlyOff p.mac → Rested levels (port_events p levels)
