@@ -1,13 +1,12 @@
 -- The bits of a number as levels.
 use Rattle.std.proofs.Common.{◌≡◌, ℕ, suc, zero, ◌+◌, ◌-◌, ◌*◌, ◌/◌, ◌%◌, ◌^◌, ◌<◌, ◌≤◌, List, [], ◌∷◌, ◌++◌, refl, sym, ◌∙◌, ap, arith, replicate, add-zero, append_assoc, ◌⊎◌, inl, inr}
-use Rattle.std.specs.Prelude.{bit_and, bit_xor}
-use Rattle.std.proofs.Math.Dec.{eqb}
+use Rattle.std.specs.Prelude.{bit_xor}
 use Rattle.std.specs.Int.{bit_at}
-use Rattle.std.proofs.lemmas.Nat.Bits.{bit_at_xor, bit_at-zero, shr_and_one, bit_at_cat_low}
+use Rattle.std.proofs.lemmas.Nat.Bits.{bit_at_xor, bit_at-zero, bit_at_cat_low}
 use Rattle.std.proofs.lemmas.Nat.{shr_split, shl-shr}
 use Rattle.can_frame.specs.declared.level.Level.{Level}
 use Rattle.can_frame.specs.declared.level.Level.TheVariants.{Dominant}
-use Rattle.can_frame.specs.Levels.{level_from, level_of, bits_of}
+use Rattle.can_frame.specs.Levels.{level_of, bits_of}
 pub use Rattle.can_frame.proofs.LevelLemmas.{bit_cases, length-bits_of, bits_of-same, bits_of-append, number_from-split, number_from-lt, bits_of-number_from}
 use Rattle.can_code.specs.Crc.{plus, xor}
 
@@ -51,19 +50,10 @@ bits_of-shl n k x =
     ap (λ t. bit_at t i) (sym (add-zero (x * 2 ^ k))) ∙ bit_at_cat_low x k 0 i l) in
     bits_of-append n k (x * 2 ^ k) ∙ ap (λ t. bits_of n t ++ bits_of k (x * 2 ^ k)) (shl-shr x k) ∙ ap (λ t. bits_of n x ++ t) (low ∙ bits_of-none k)
 
--- a bit as code reads it
-level_from-bit : (x i : ℕ) → level_from (eqb (bit_and (x / 2 ^ i) 1) 1) ≡ level_of (bit_at x i)
-level_from-bit x i = ap (λ b. level_from (eqb b 1)) (shr_and_one x i) ∙ by_cases (bit_at x i) (bit_cases x i)
-  where
-    by_cases : (b : ℕ) → (b ≡ 0) ⊎ (b ≡ 1) → level_from (eqb b 1) ≡ level_of b
-    by_cases b (inl p) = rw p refl
-    by_cases b (inr p) = rw p refl
-
 -- behind the levels that are there stand the n lowest bits of x, of which the highest is put there first
-pub bits_of-pushed : (items : List Level) (n x : ℕ) → 0 < n → (items ++ level_from (eqb (bit_and (x / 2 ^ (n - 1)) 1) 1) ∷ []) ++ bits_of (n - 1) x ≡ items ++ bits_of n x
+pub bits_of-pushed : (items : List Level) (n x : ℕ) → 0 < n → (items ++ level_of (bit_at x (n - 1)) ∷ []) ++ bits_of (n - 1) x ≡ items ++ bits_of n x
 bits_of-pushed items zero x h = absurd (omega arith)
 bits_of-pushed items (suc n) x h =
     let e : suc n - 1 ≡ n = omega arith in
-    ap (λ k. (items ++ level_from (eqb (bit_and (x / 2 ^ k) 1) 1) ∷ []) ++ bits_of k x) e
-    ∙ append_assoc items (level_from (eqb (bit_and (x / 2 ^ n) 1) 1) ∷ []) (bits_of n x)
-    ∙ ap (λ l. items ++ l ∷ bits_of n x) (level_from-bit x n) ∙ ap (λ t. items ++ t) (sym (bits_of-suc n x))
+    ap (λ k. (items ++ level_of (bit_at x k) ∷ []) ++ bits_of k x) e
+    ∙ append_assoc items (level_of (bit_at x n) ∷ []) (bits_of n x) ∙ ap (λ t. items ++ t) (sym (bits_of-suc n x))

@@ -8,7 +8,7 @@ use Rattle.can_frame.specs.Arbitration.{arbitration_field}
 use Rattle.can_frame.specs.Parts.{Parts}
 use Rattle.can_code.specs.Crc.{crc_of}
 use Rattle.can_code.specs.Stuffing.{stuffed}
-use Rattle.can_code.specs.Wire.{head, stuffed_part, driven}
+use Rattle.can_code.specs.Wire.{head, unstuffed, stuffed_part, driven}
 
 -- the levels of a text of `0` and `1`
 abbrev levels_of : List ℕ → List Level
@@ -27,5 +27,5 @@ frame_001 : Parts
 frame_001 = record { id = record { raw = 1; extended = false }; remote = false; dlc = 0; bytes = [] }
 
 driven_001 : driven frame_001 ≡ levels_of (codes "00000100000101000001000100010000100111111111111")
-unfolding stuffed_part stuffed crc_of head arbitration_field bits_of frame_001
+unfolding stuffed_part unstuffed stuffed crc_of head arbitration_field bits_of frame_001
 driven_001 = refl

@@ -5,7 +5,7 @@ use Rattle.can_frame.specs.declared.level.Level.TheVariants.{Dominant, Recessive
 use Rattle.can_frame.specs.Parts.{Parts, IsFrame}
 use Rattle.can_code.specs.Crc.{crc_of}
 use Rattle.can_code.specs.Stuffing.{stuffed}
-use Rattle.can_code.specs.Wire.{head, tail, IsSpelling, stuffed_part, wire, driven}
+use Rattle.can_code.specs.Wire.{head, tail, IsSpelling, unstuffed, stuffed_part, wire, driven}
 use Rattle.can_code.specs.Heard.{sent}
 use Rattle.can_code.proofs.DivisionLemmas.{length-crc_of, IsCrc-crc_of, IsCrc-only}
 use Rattle.can_code.proofs.StuffingLemmas.{length-stuffed, Stuffs-stuffed, stuffed-only}
@@ -59,11 +59,11 @@ length-spelling_of-le extended u ack last h =
 
 -- the wire of a frame, and what its sender drives, are spellings of its head
 pub wire-spelling_of : (f : Parts) → wire f ≡ spelling_of (head f) Dominant Recessive
-unfolding stuffed_part
+unfolding stuffed_part unstuffed
 wire-spelling_of f = refl
 
 pub driven-spelling_of : (f : Parts) → driven f ≡ spelling_of (head f) Recessive Recessive
-unfolding stuffed_part
+unfolding stuffed_part unstuffed
 driven-spelling_of f = refl
 
 -- the parts of a frame are no longer than those of the longest frame of its format
@@ -72,9 +72,9 @@ module _ (f : Parts) (h : IsFrame f) where
   length-head-le = omega (arith, length-heard_head-le (sent f) h, ap length (heard_head-sent f))
 
   pub length-stuffed_part-le : length (stuffed_part f) ≤ cond f.id.extended 147 122
-  unfolding stuffed_part
+  unfolding stuffed_part unstuffed
   length-stuffed_part-le = length-stuffed_with_check-le f.id.extended (head f) length-head-le
 
   pub length-wire-le : length (wire f) ≤ cond f.id.extended 157 132
-  unfolding stuffed_part
+  unfolding stuffed_part unstuffed
   length-wire-le = length-spelling_of-le f.id.extended (head f) Dominant Recessive length-head-le

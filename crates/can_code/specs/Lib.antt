@@ -7,3 +7,4 @@ pub mod Reading
 pub mod Front
 pub mod CodeFaults
 pub mod Decoder
+pub mod Sending

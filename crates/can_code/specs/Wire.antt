@@ -30,9 +30,13 @@ pub record IsSpelling (u : List Level) (ack last : Level) (w : List Level) : Typ
   pub is_stuffed : Stuffs (u ++ check) stuffed
   pub whole : w ≡ stuffed ++ tail ack last
 
--- the part of a frame that is stuffed, from the start of frame to the end of the check sequence
+-- the unstuffed levels of a frame, from the start of frame to the end of the check sequence
+unfoldable pub unstuffed : Parts → List Level
+unstuffed f = head f ++ crc_of (head f)
+
+-- the part of a frame that is stuffed
 unfoldable pub stuffed_part : Parts → List Level
-stuffed_part f = stuffed (head f ++ crc_of (head f))
+stuffed_part f = stuffed (unstuffed f)
 
 -- the levels of a frame that is acknowledged
 abbrev pub wire : Parts → List Level

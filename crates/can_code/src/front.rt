@@ -1,13 +1,14 @@
 ghost use Rattle.std.specs.Prelude.{◌≡◌, ◌≢◌, ◌<◌, ◌↔◌, length, IsTrue, IsErr, OnOk, OnErr};
+ghost use Rattle.can_frame.specs.Parts.{IsFrame};
 ghost use Rattle.can_code.specs.Crc.{IsCrc};
-ghost use Rattle.can_code.specs.Layout.{check_of, extended_of, head_of, heard_of};
+ghost use Rattle.can_code.specs.Layout.{check_of, extended_of, frame_of, head_of, heard_of};
 ghost use Rattle.can_code.specs.Front.{IsFront, first_front, heard_level, is_stuff_error, next_place as next_place_of};
 
 use crate::frame_bits::FrameBits;
 use crate::heard::Heard;
-use crate::reading::{frame_len, heard, is_extended};
+use crate::reading::{frame, frame_len, heard, is_extended};
 use crate::stuffing::{LONGEST_RUN, run_after};
-use can_frame::Level;
+use can_frame::{Frame, Level};
 use std::marker::Model;
 use thiserror::Error;
 
@@ -130,6 +131,18 @@ impl<B: FrameBits> Front<B> {
         ensures { IsTrue result ↔ IsCrc (head_of self.now.unstuffed) (check_of self.now.unstuffed) }
     {
         self.bits.check_agrees()
+    }
+
+    /// The frame.
+    pub fn frame(&self) -> Frame
+        requires { next_place_of self.now ≡ Place.CrcDelimiter }
+        ensures value { result ≡ frame_of self.now.unstuffed }
+        ensures whole { IsFrame result }
+    {
+        let frame = frame(&self.bits);
+        // its bytes tell that it is within its limits
+        let _ = frame.bytes();
+        frame
     }
 
     /// What has been heard, with the levels behind the stuffed part: whether the frame was

@@ -8,10 +8,10 @@ use can_frame::{Frame, Level};
 use std::marker::Model;
 
 /// The SRR bit as it is sent.
-const SUBSTITUTE_REMOTE_REQUEST: Level = Level::Recessive;
+pub(crate) const SUBSTITUTE_REMOTE_REQUEST: Level = Level::Recessive;
 
 /// The reserved bits r1 and r0 as they are sent.
-const RESERVED: Level = Level::Dominant;
+pub(crate) const RESERVED: Level = Level::Dominant;
 
 /// Each of the seven levels of the end of frame as it is sent.
 pub(crate) const END_OF_FRAME: Level = Level::Recessive;

@@ -1,8 +1,8 @@
-ghost use Rattle.std.specs.Prelude.{◌≡◌, ◌+◌, ◌*◌, ◌/◌, ◌^◌, ◌≤◌, [], ◌∷◌, ◌++◌, length};
+ghost use Rattle.std.specs.Prelude.{◌≡◌, ◌+◌, ◌*◌, ◌/◌, ◌%◌, ◌^◌, ◌<◌, ◌≤◌, [], ◌∷◌, ◌++◌, length};
 ghost use Rattle.std.specs.List.{flat_map};
 ghost use Rattle.arrayvec.specs.ArrayVec.{array_vec_len};
 ghost use Rattle.can_frame.specs.declared.level.Level.TheVariants.{Dominant, Recessive};
-ghost use Rattle.can_frame.specs.Levels.{level_from, bits_of};
+ghost use Rattle.can_frame.specs.Levels.{level_from, level_of, bits_of};
 ghost use Rattle.can_code.specs.Crc.{crc_of};
 ghost use Rattle.can_code.specs.Heard.{IsHeard, heard_head, data_field};
 
@@ -12,13 +12,13 @@ use arrayvec::ArrayVec;
 use can_frame::{Frame, Level};
 
 /// The start of frame (SOF).
-const START_OF_FRAME: Level = Level::Dominant;
+pub(crate) const START_OF_FRAME: Level = Level::Dominant;
 
 /// The IDE bit of a standard frame.
-const STANDARD_FORMAT: Level = Level::Dominant;
+pub(crate) const STANDARD_FORMAT: Level = Level::Dominant;
 
 /// The IDE bit of an extended frame.
-const EXTENDED_FORMAT: Level = Level::Recessive;
+pub(crate) const EXTENDED_FORMAT: Level = Level::Recessive;
 
 /// Room for the unstuffed levels of the longest frame, up to the end of its CRC sequence.
 pub(crate) type Unstuffed = ArrayVec<Level, 118>;
@@ -116,6 +116,14 @@ fn push_bits(levels: &mut Unstuffed, value: u32, count: u32)
     ensures len { array_vec_len levels.new ≡ array_vec_len levels.old + count }
 {
     for place in (0..count).rev() {
-        levels.push(Level::from_bool((value >> place) & 1 == 1));
+        levels.push(bit(value, place));
     }
+}
+
+/// One bit of a number. Bit 0 is the lowest.
+pub(crate) fn bit(value: u32, place: u32) -> Level
+    requires { place < 32 }
+    ensures { result ≡ level_of (value / 2 ^ place % 2) }
+{
+    Level::from_bool((value >> place) & 1 == 1)
 }

@@ -16,6 +16,8 @@
 //! | `layout.rt` | the head and the CRC sequence of what is heard, unstuffed | `specs/Heard.antt` |
 //! | `spelling.rt` | [`respell`], the levels that spell what is heard | `specs/Heard.antt` |
 //! | `encoding.rt` | [`encode`], the levels that the sender of a frame drives | `specs/Wire.antt` |
+//! | `sending.rt` | [`Sending`], the unstuffed levels of a frame, each by its place | `specs/Sending.antt` |
+//! | `places.rt` | where the unstuffed levels of a frame stand | `specs/Layout.antt` |
 //! | `frame_bits.rt` | [`FrameBits`], the unstuffed levels that have been heard of a frame | |
 //! | `plain_bits.rt` | [`PlainBits`], these levels one by one | |
 //! | `reading.rt` | what the unstuffed levels tell of the frame | `specs/Layout.antt`, `specs/Reading.antt` |
@@ -33,8 +35,10 @@
 //! `Runs`, `StuffingLemmas`), that it is unique (`OneStuffing`) and begins no other's
 //! (`StuffedFronts`), what unstuffed levels tell (`LayoutLengths`, `LayoutRead`, `LayoutWrite`), how
 //! long each part is (`LayoutHead`, `WireLemmas`, `SpellingLemmas`), how a check sequence grows
-//! (`Register`), which front levels make that are heard one by one (`FrontsOf`, `HeardLevels`), and
-//! that levels are too short which a decoder has heard (`DecoderLemmas`).
+//! (`Register`), which front levels make that are heard one by one (`FrontsOf`, `HeardLevels`), that
+//! levels are too short which a decoder has heard (`DecoderLemmas`), which front a frame's own levels
+//! make and what its sender drives next (`WireFronts`, `UnstuffedLevels`), that no wire begins another
+//! (`WireOnce`), and how two frames that are sent together part (`WireOrder`).
 #![tactic(auto)]
 
 mod crc;
@@ -47,8 +51,10 @@ mod front;
 mod heard;
 mod laws;
 mod layout;
+mod places;
 mod plain_bits;
 mod reading;
+mod sending;
 mod spelling;
 mod stuffing;
 #[cfg(test)]
@@ -67,5 +73,6 @@ pub use laws::{
     one_stuffing, one_wire, stuffed_parts_are_heard, unfinished_frames_are_short,
 };
 pub use plain_bits::PlainBits;
+pub use sending::Sending;
 pub use spelling::respell;
 pub use stuffing::stuff;

@@ -7,26 +7,12 @@ ghost use Rattle.can_code.specs.Reading.{HasControl, HasData, TellsLength, bytes
 
 use crate::frame_bits::FrameBits;
 use crate::heard::Heard;
+use crate::places::{
+    EXTENDED_RTR_PLACE, EXTENSION_BITS, EXTENSION_PLACE, IDE_PLACE, R1_PLACE, RTR_TO_DATA,
+    SRR_PLACE, STANDARD_RTR_PLACE,
+};
 use arrayvec::ArrayVec;
 use can_frame::{Frame, Id, Level};
-
-/// Where the IDE bit stands.
-const IDE_PLACE: usize = 13;
-
-/// How far the data stand behind the RTR bit.
-const RTR_TO_DATA: usize = 7;
-
-/// Where the SRR bit of an extended frame stands.
-const SRR_PLACE: usize = 12;
-
-/// Where the reserved bit r1 of an extended frame stands.
-const R1_PLACE: usize = 33;
-
-/// Where the rest of an extended identifier stands, behind the IDE bit.
-const EXTENSION_PLACE: usize = 14;
-
-/// How many bits of an extended identifier stand there.
-const EXTENSION_BITS: usize = 18;
 
 /// How many unstuffed levels the frame has that begins with these, if they tell it.
 pub(crate) fn frame_len<B: FrameBits>(bits: &B) -> Option<usize>
@@ -54,7 +40,11 @@ pub(crate) fn is_extended<B: FrameBits>(bits: &B) -> bool
 fn rtr_place(extended: bool) -> usize
     ensures { result ≡ rtr_place_of extended }
 {
-    if extended { 32 } else { 12 }
+    if extended {
+        EXTENDED_RTR_PLACE
+    } else {
+        STANDARD_RTR_PLACE
+    }
 }
 
 /// How many data bytes the frame has.
@@ -121,7 +111,7 @@ fn r1<B: FrameBits>(bits: &B) -> Level
 }
 
 /// The frame that these are all of the unstuffed levels of.
-fn frame<B: FrameBits>(bits: &B) -> Frame
+pub(crate) fn frame<B: FrameBits>(bits: &B) -> Frame
     requires { HasData (B.levels bits.now) }
     ensures { result ≡ frame_of (B.levels bits.now) }
 {

@@ -7,6 +7,7 @@ use std::test::Fail;
 mod decoder;
 mod decoding;
 mod heard;
+mod sending;
 
 /// A list of levels that can be longer than any frame's.
 type Levels = ArrayVec<Level, 200>;

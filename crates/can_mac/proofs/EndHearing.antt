@@ -17,7 +17,7 @@ use Rattle.can_mac.specs.declared.phase.Role.{Role}
 use Rattle.can_mac.specs.declared.phase.Role.TheVariants.{Receiver, Sender}
 use Rattle.can_mac.specs.declared.phase.Reading.{Reading}
 use Rattle.can_mac.specs.Moves.{agrees, reading_of}
-use Rattle.can_mac.proofs.Agreement.{IsCrc-agrees}
+use Rattle.can_mac.proofs.PartEnds.{agrees-Decides}
 use Rattle.can_mac.proofs.Hearing.{EndsIn, EndsIn-more, IsOwn, HeardPart, HeardSlot, HeardEnd, to_end, EndsSpelled}
 
 -- one level more behind the stuffed part
@@ -69,7 +69,7 @@ EndsSpelled-received r levels agreed h =
     let u = h.heard.u in
     let part = h.heard.part in
     let acked = not (is_recessive h.ack) in
-    let is_crc : IsCrc (head_of u) (check_of u) = IsCrc-agrees u (ap (λ s. s.agrees) (sym h.heard.read) ∙ agreed) in
+    let is_crc : IsCrc (head_of u) (check_of u) = (agrees-Decides u).0 (ap (λ s. s.agrees) (sym h.heard.read) ∙ agreed) in
     let spells = Spells-part u part acked Recessive h.heard.is_part is_crc in
     let whole : part ++ tail (ack_slot acked) Recessive ≡ (part ++ to_end 6 h.ack) ++ Recessive ∷ [] =
     ap (λ a. part ++ tail a Recessive) (ack_slot-told h.ack) ∙ sym (append_assoc part (to_end 6 h.ack) (Recessive ∷ [])) in

@@ -17,7 +17,7 @@ use Rattle.can_mac.specs.declared.phase.Role.TheVariants.{Receiver, Sender}
 use Rattle.can_mac.specs.declared.phase.Reading.{Reading}
 use Rattle.can_mac.specs.declared.phase.Phase.TheVariants.{Joining, Idle, StuffedPart, CrcDelimiter, AckSlot, AckDelimiter, EndOfFrame, ErrorFlag, PassiveFlag, OverloadFlag, AfterFlag, Delimiter, Intermission, Suspend, BusOff}
 use Rattle.can_mac.specs.State.{MacPhase, MacState}
-use Rattle.can_mac.specs.Moves.{Move, reading_of}
+use Rattle.can_mac.specs.Moves.{MacMove, reading_of}
 
 -- the levels end in this stretch
 abbrev pub EndsIn : List Level → List Level → Type 0
@@ -25,11 +25,6 @@ EndsIn stretch levels = (before : List Level) × (levels ≡ before ++ stretch)
 
 pub EndsIn-more : (stretch levels : List Level) (x : Level) → EndsIn stretch levels → EndsIn (stretch ++ x ∷ []) (levels ++ x ∷ [])
 EndsIn-more stretch levels x h = (h.0, ap (λ l. l ++ x ∷ []) h.1 ∙ append_assoc h.0 stretch (x ∷ []))
-
--- the frame that waits is one
-abbrev pub IsWaiting : Option Parts → Type 0
-IsWaiting None = Unit {0}
-IsWaiting (Some f) = IsFrame f
 
 -- these unstuffed levels begin those of the frame that the controller sends
 abbrev pub BeginsOwn : Role → List Level → Type 0
@@ -124,6 +119,6 @@ IsTold (Some Recovered) levels = Unit {0}
 IsTold None levels = Unit {0}
 
 -- a move behind which a controller knows these levels, and what it tells of them is so
-pub record KnowsAfter (v : Move) (levels : List Level) : Type 0 where
+pub record KnowsAfter (v : MacMove) (levels : List Level) : Type 0 where
   pub knows : Knows v.phase v.role levels
   pub told : IsTold v.event levels

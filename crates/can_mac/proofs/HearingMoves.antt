@@ -17,9 +17,10 @@ use Rattle.can_mac.specs.declared.phase.Role.TheVariants.{Receiver, Sender}
 use Rattle.can_mac.specs.declared.phase.Reading.{Reading}
 use Rattle.can_mac.specs.declared.phase.Overloads.{Overloads}
 use Rattle.can_mac.specs.declared.phase.Phase.TheVariants.{Joining, Idle, StuffedPart, CrcDelimiter, AckSlot, AckDelimiter, EndOfFrame, ErrorFlag, PassiveFlag, OverloadFlag, AfterFlag, Delimiter, Intermission, Suspend, BusOff}
-use Rattle.can_mac.specs.State.{MacPhase}
-use Rattle.can_mac.specs.Moves.{Stance, Move, flag, errs_by, begins, in_arbitration, is_uncounted, hears, stuff_error_move, stuff_bit_move, sent_bit_move, bit_move, refuses, enters_intermission, ack_slot_move, end_of_frame_move, flag_run, passive_phase, is_held_back, next_role, move}
-use Rattle.can_mac.proofs.Hearing.{IsWaiting, BeginsOwn, HearsPart, HeardPart, HeardSlot, HeardEnd, Accepts, to_slot, to_end, Knows, KnowsAfter}
+use Rattle.can_mac.specs.declared.moves.Stance.{Stance}
+use Rattle.can_mac.specs.State.{MacPhase, IsWaiting}
+use Rattle.can_mac.specs.Moves.{MacMove, flag, errs_by, begins, in_arbitration, is_uncounted, hears, stuff_error_move, stuff_bit_move, sent_bit_move, bit_move, refuses, enters_intermission, ack_slot_move, end_of_frame_move, flag_run, passive_phase, is_held_back, next_role, move}
+use Rattle.can_mac.proofs.Hearing.{BeginsOwn, HearsPart, HeardPart, HeardSlot, HeardEnd, Accepts, to_slot, to_end, Knows, KnowsAfter}
 use Rattle.can_mac.proofs.PartHearing.{BeginsOwn-first, BeginsOwn-next, HearsPart-first, HearsPart-more}
 use Rattle.can_mac.proofs.EndHearing.{HeardPart-more, HeardSlot-more, EndsSpelled-received, EndsIn-sent}
 
@@ -27,7 +28,7 @@ use Rattle.can_mac.proofs.EndHearing.{HeardPart-more, HeardSlot-more, EndsSpelle
 
 
 
-either : {v w : Move} {levels : List Level} (b : Bool) → KnowsAfter v levels → KnowsAfter w levels → KnowsAfter (cond b v w) levels
+either : {v w : MacMove} {levels : List Level} (b : Bool) → KnowsAfter v levels → KnowsAfter w levels → KnowsAfter (cond b v w) levels
 either true p q = p
 either false p q = q
 
@@ -62,7 +63,7 @@ module _ (passive : Bool) (overloads : Overloads) (levels : List Level) where
   module _ (front : FrontParts) (x : Level) where
     stuff_bit-knows : (role : Role) → HearsPart role front levels → eqb front.run 5 ≡ true → KnowsAfter (stuff_bit_move (acting role) front x) (levels ++ x ∷ [])
     stuff_bit-knows role h due =
-        cond_both {A = Move} (same x front.last) (stuff_error_move (acting role) front x) (hears (acting role) front x) (λ v. KnowsAfter v (levels ++ x ∷ []))
+        cond_both {A = MacMove} (same x front.last) (stuff_error_move (acting role) front x) (hears (acting role) front x) (λ v. KnowsAfter v (levels ++ x ∷ []))
         (λ e. either (is_uncounted role front.unstuffed x) (error _ _ _ _) (error _ _ _ _))
         (λ e.
             let no_error : is_stuff_error front x ≡ false = ap (λ b. b && same x front.last) due ∙ e in
@@ -113,7 +114,7 @@ module _ (passive : Bool) (overloads : Overloads) (levels : List Level) where
 
   ack_delimiter-knows : (role : Role) (r : Reading) → HeardSlot role r to_slot levels → KnowsAfter (move (acting role) (AckDelimiter r) None Recessive) (levels ++ Recessive ∷ [])
   ack_delimiter-knows role r h =
-      cond_both {A = Move} (refuses role r) _ _ (λ v. KnowsAfter v (levels ++ Recessive ∷ []))
+      cond_both {A = MacMove} (refuses role r) _ _ (λ v. KnowsAfter v (levels ++ Recessive ∷ []))
       (λ e. error _ _ _ _)
       (λ e. record {
           knows = record {
@@ -132,7 +133,7 @@ module _ (passive : Bool) (overloads : Overloads) (levels : List Level) where
     end-knows : (role : Role) (x : Level) → HeardEnd role r place levels → KnowsAfter (end_of_frame_move (acting role) role r place x) (levels ++ x ∷ [])
     end-knows (Sender f) Dominant h = error _ _ _ _
     end-knows (Sender f) Recessive h =
-        cond_both {A = Move} (nat_lt place 6) _ _ (λ v. KnowsAfter v (levels ++ Recessive ∷ []))
+        cond_both {A = MacMove} (nat_lt place 6) _ _ (λ v. KnowsAfter v (levels ++ Recessive ∷ []))
         (λ e. record { knows = more-end (Sender f) (ltb-true place 6 e) h; told = tt })
         (λ e.
             let last : place + 1 ≡ 7 = omega (arith, ltb-false place 6 e, h.within) in
@@ -140,9 +141,9 @@ module _ (passive : Bool) (overloads : Overloads) (levels : List Level) where
             record { knows = tt; told = EndsIn-sent f r (levels ++ Recessive ∷ []) slot })
     end-knows Receiver Dominant h = either (nat_lt place 6) (error _ _ _ _) (record { knows = tt; told = tt })
     end-knows Receiver Recessive h =
-        cond_both {A = Move} (nat_lt place 5) _ _ (λ v. KnowsAfter v (levels ++ Recessive ∷ []))
+        cond_both {A = MacMove} (nat_lt place 5) _ _ (λ v. KnowsAfter v (levels ++ Recessive ∷ []))
         (λ e. record { knows = more-end Receiver (omega (arith, ltb-true place 5 e)) h; told = tt })
-        (λ late. cond_both {A = Move} (nat_lt place 6) _ _ (λ v. KnowsAfter v (levels ++ Recessive ∷ []))
+        (λ late. cond_both {A = MacMove} (nat_lt place 6) _ _ (λ v. KnowsAfter v (levels ++ Recessive ∷ []))
             (λ e.
                 let sixth : place + 1 ≡ 6 = omega (arith, ltb-false place 5 late, ltb-true place 6 e) in
                 let next = subst (λ n. HeardEnd Receiver r n (levels ++ Recessive ∷ [])) sixth (more-end Receiver (ltb-true place 6 e) h) in
@@ -158,7 +159,7 @@ module _ (passive : Bool) (overloads : Overloads) (levels : List Level) where
   move-knows role Idle (Some f) Dominant is h = begin levels (acting role) (Sender f) (BeginsOwn-first f is)
   move-knows role Idle (Some f) Recessive is h = error _ _ (acting (Sender f)) _
   move-knows role (StuffedPart front) waiting x is h =
-      cond_both {A = Move} (eqb front.run 5) (stuff_bit_move (acting role) front x) (bit_move (acting role) role front x) (λ v. KnowsAfter v (levels ++ x ∷ []))
+      cond_both {A = MacMove} (eqb front.run 5) (stuff_bit_move (acting role) front x) (bit_move (acting role) role front x) (λ v. KnowsAfter v (levels ++ x ∷ []))
       (λ due. stuff_bit-knows front x role h due)
       (λ not_due. bit-knows front role x not_due h)
   move-knows role (CrcDelimiter r) waiting Dominant is h = error _ _ _ _

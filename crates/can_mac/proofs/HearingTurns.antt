@@ -8,11 +8,11 @@ use Rattle.can_fault.specs.Recovery.{ends_bus_off, recovered}
 use Rattle.can_mac.specs.declared.event.Event.{Event}
 use Rattle.can_mac.specs.declared.event.Event.TheVariants.{WentOff, Recovered}
 use Rattle.can_mac.specs.declared.phase.Phase.TheVariants.{Idle, BusOff}
-use Rattle.can_mac.specs.State.{MacPhase, MacState}
-use Rattle.can_mac.specs.Machine.{stance, is_off_phase, off_step, mac_step}
+use Rattle.can_mac.specs.State.{MacPhase, MacState, is_off_phase, IsWaiting}
+use Rattle.can_mac.specs.Machine.{stance, off_step, mac_step}
 use Rattle.can_mac.proofs.Turns.{Turn, levels_of, after_turn, turn_event, after_turns, turn_events}
-use Rattle.can_mac.proofs.Landing.{on_bus, off_bus}
-use Rattle.can_mac.proofs.Hearing.{IsWaiting, Knows, IsTold}
+use Rattle.can_mac.proofs.TurnEnds.{on_bus, off_bus, off_is}
+use Rattle.can_mac.proofs.Hearing.{Knows, IsTold}
 use Rattle.can_mac.proofs.HearingMoves.{move-knows}
 
 -- in each bit time the frame that waits is one
@@ -22,10 +22,6 @@ AreTurns (t ∷ turns) = IsWaiting t.waiting × AreTurns turns
 
 abbrev pub MacKnows : MacState → List Level → Type 0
 MacKnows m levels = Knows m.phase m.role levels
-
-off_is : (phase : MacPhase) → is_off_phase phase ≡ true → phase ≡ BusOff
-off_is BusOff h = refl
-off_is _ h = cc
 
 -- one bit time
 module _ (m : MacState) (waiting : Option Parts) (x : Level) (levels : List Level) where

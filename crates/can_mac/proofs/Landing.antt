@@ -1,73 +1,104 @@
--- Where a bit time lands: at its move's phase, or off the bus.
-use Rattle.std.proofs.Common.{◌≡◌, Bool, true, false, Option, Some, None, refl, cond}
+-- Where a move lands: what was counted makes the controller bus off, or it does not.
+use Rattle.std.proofs.Common.{◌≡◌, ◌≤◌, Bool, true, false, Option, Some, None, refl, sym, ◌∙◌, ap, subst, arith, cond}
+use Rattle.std.proofs.Math.Dec.{leb}
+use Rattle.std.proofs.lemmas.Bool.{cond-true, cond-false, le-leb, leb-true, or_left}
 use Rattle.can_frame.specs.declared.level.Level.{Level}
 use Rattle.can_frame.specs.Parts.{Parts}
 use Rattle.can_fault.specs.declared.cause.Cause.{Cause}
-use Rattle.can_fault.specs.declared.cause.Cause.TheVariants.{ReceiverError, ReceiverFlagBit, ReceiverFirstDominant, ReceiverDominantRun, SenderError, SenderFlagBit, SenderDominantRun, PassiveUnacknowledged, FrameSent, FrameReceived}
-use Rattle.can_fault.specs.Counters.{ConfineParts, is_bus_off, changed, counted}
-use Rattle.can_mac.specs.declared.event.Event.{Event}
+use Rattle.can_fault.specs.declared.state.State.TheVariants.{Active, Passive, BusOff as off_state}
+use Rattle.can_fault.specs.Counters.{ConfineParts, counted, is_bus_off, is_passive, state_of}
 use Rattle.can_mac.specs.declared.event.Event.TheVariants.{WentOff}
+use Rattle.can_mac.specs.declared.moves.Move.{Move}
 use Rattle.can_mac.specs.declared.phase.Role.TheVariants.{Receiver}
 use Rattle.can_mac.specs.declared.phase.Phase.TheVariants.{BusOff}
-use Rattle.can_mac.specs.State.{MacState}
-use Rattle.can_mac.specs.Moves.{Move, move}
-use Rattle.can_mac.specs.Machine.{stance, moved, landed, off_step, is_off_phase, mac_step}
+use Rattle.can_mac.specs.State.{MacPhase, MacState, IsMac, IsWaiting, is_off_phase}
+use Rattle.can_mac.specs.Moves.{MacMove, move, placed}
+use Rattle.can_mac.specs.Machine.{landed, mac_step, moved, off_step, on_step, stance}
+use Rattle.can_mac.proofs.Kept.{on_kept}
 
--- c and d count alike what recovery has seen
-pub record SameWait (c d : ConfineParts) : Type 0 where
-  pub occurrences : d.occurrences ≡ c.occurrences
-  pub row : d.row ≡ c.row
+-- the state of a controller that goes off the bus
+abbrev pub gone : MacMove → ConfineParts → MacState
+gone v c = record { phase = BusOff; role = Receiver; overloads = v.overloads; counters = c }
 
-same_wait : (c : ConfineParts) → SameWait c c
-same_wait c = record { occurrences = refl; row = refl }
+-- what counting a cause, if there is one, leaves, and whether it makes the controller bus off
+pub record IsCounted (cause : Option Cause) (old new : ConfineParts) (off : Bool) : Type 0 where
+  pub none : cause ≡ None → (new ≡ old) × (off ≡ false)
+  pub some : (k : Cause) → cause ≡ Some k → (new ≡ counted k old) × (off ≡ is_bus_off new)
 
--- what is counted for errors leaves them
-changed-wait : (cause : Cause) (c : ConfineParts) → SameWait c (changed cause c)
-changed-wait ReceiverError c = record { occurrences = refl; row = refl }
-changed-wait ReceiverFlagBit c = record { occurrences = refl; row = refl }
-changed-wait ReceiverFirstDominant c = record { occurrences = refl; row = refl }
-changed-wait ReceiverDominantRun c = record { occurrences = refl; row = refl }
-changed-wait SenderError c = record { occurrences = refl; row = refl }
-changed-wait SenderFlagBit c = record { occurrences = refl; row = refl }
-changed-wait SenderDominantRun c = record { occurrences = refl; row = refl }
-changed-wait PassiveUnacknowledged c = record { occurrences = refl; row = refl }
-changed-wait FrameSent c = record { occurrences = refl; row = refl }
-changed-wait FrameReceived c = record { occurrences = refl; row = refl }
+pub landed-off : (v : MacMove) (cause : Option Cause) (old new : ConfineParts) (off : Bool) → IsCounted cause old new off → off ≡ true → landed v old cause ≡ (gone v new, Some WentOff)
+landed-off v None old new off h e = cc ((h.none refl).1)
+landed-off v (Some k) old new off h e =
+    let s = h.some k refl in
+    rw (← s.0) (cond-true (is_bus_off new) (gone v new, Some WentOff) (moved v new, v.event) (sym s.1 ∙ e))
 
-counted-wait : (cause : Cause) (c : ConfineParts) → SameWait c (counted cause c)
-counted-wait cause c = elim (is_bus_off c) as (λ b. SameWait c (cond b c (changed cause c))) [ true ↦ same_wait c | false ↦ changed-wait cause c ]
+pub landed-on : (v : MacMove) (cause : Option Cause) (old new : ConfineParts) (off : Bool) → IsCounted cause old new off → off ≡ false → landed v old cause ≡ (moved v new, v.event)
+landed-on v None old new off h e = rw (h.none refl).0
+landed-on v (Some k) old new off h e =
+    let s = h.some k refl in
+    rw (← s.0) (cond-false (is_bus_off new) (gone v new, Some WentOff) (moved v new, v.event) (sym s.1 ∙ e))
 
--- a controller that goes off the bus
-abbrev pub gone : Move → ConfineParts → MacState
-gone v d = record { phase = BusOff; role = Receiver; overloads = v.overloads; counters = d }
+-- A controller whose fields are these, and which it is from outside; what its move is; and what is counted.
+module _ (m now : MacState) (view : m ≡ now) (h : IsMac m) (on : is_off_phase now.phase ≡ false) (waiting : Option Parts) (whole : IsWaiting waiting) (x : Level) where
+  module _ (passive : Bool) (told : passive ≡ is_passive m.counters) (kept : MacPhase) (next : Move (Option MacPhase))
+      (is : placed kept next ≡ move (record { passive = passive; role = m.role; overloads = m.overloads }) m.phase waiting x)
+      (new : ConfineParts) (off : Bool) (count : IsCounted next.cause m.counters new off) where
+    same_move : placed kept next ≡ move (stance m) m.phase waiting x
+    same_move = subst (λ p. placed kept next ≡ move (record { passive = p; role = m.role; overloads = m.overloads }) m.phase waiting x) told is
 
--- a move lands at its phase with its event, or off the bus
-pub landed_at : (P : MacState → Option Event → Type 0) (v : Move) (c : ConfineParts) (cause : Option Cause)
-    → ((d : ConfineParts) → SameWait c d → P (moved v d) v.event)
-    → ((d : ConfineParts) → SameWait c d → is_bus_off d ≡ true → P (gone v d) (Some WentOff))
-    → P (landed v c cause).0 (landed v c cause).1
-landed_at P v c None on off = on c (same_wait c)
-landed_at P v c (Some cause) on off = by_test (is_bus_off (counted cause c)) refl
-  where
-    d : ConfineParts
-    d = counted cause c
+    same_step : landed (placed kept next) m.counters next.cause ≡ on_step now (move (stance now) now.phase waiting x)
+    same_step = ap (λ v. landed v m.counters v.cause) same_move ∙ ap (λ n. on_step n (move (stance n) n.phase waiting x)) view
 
-    by_test : (b : Bool) → is_bus_off d ≡ b → P (cond {A = MacState × Option Event} b (gone v d, Some WentOff) (moved v d, v.event)).0 (cond {A = MacState × Option Event} b (gone v d, Some WentOff) (moved v d, v.event)).1
-    by_test true e = off d (counted-wait cause c) e
-    by_test false e = on d (counted-wait cause c)
+    pub goes_off : off ≡ true → (gone (placed kept next) new, Some WentOff) ≡ on_step now (move (stance now) now.phase waiting x)
+    goes_off e = sym (landed-off (placed kept next) next.cause m.counters new off count e) ∙ same_step
 
--- on the bus, a bit time is its move's landing
-pub on_bus : (P : MacState → Option Event → Type 0) (m : MacState) (waiting : Option Parts) (x : Level) → is_off_phase m.phase ≡ false
-    → ((d : ConfineParts) → SameWait m.counters d → P (moved (move (stance m) m.phase waiting x) d) (move (stance m) m.phase waiting x).event)
-    → ((d : ConfineParts) → SameWait m.counters d → is_bus_off d ≡ true → P (gone (move (stance m) m.phase waiting x) d) (Some WentOff))
-    → P (mac_step m waiting x).0 (mac_step m waiting x).1
+    pub stays_on : off ≡ false → (moved (placed kept next) new, next.event) ≡ on_step now (move (stance now) now.phase waiting x)
+    stays_on e = sym (landed-on (placed kept next) next.cause m.counters new off count e) ∙ same_step
+
+    step_is_mac : IsMac (on_step now (move (stance now) now.phase waiting x)).0
+    step_is_mac = on_kept now (subst IsMac view h) waiting x on whole
+
+    pub goes_off-IsMac : off ≡ true → IsMac (gone (placed kept next) new)
+    goes_off-IsMac e = subst (λ p. IsMac p.0) (sym (goes_off e)) step_is_mac
+
+    pub stays_on-IsMac : off ≡ false → IsMac (moved (placed kept next) new)
+    stays_on-IsMac e = subst (λ p. IsMac p.0) (sym (stays_on e)) step_is_mac
+
+-- one bit time, off the bus and on it
+pub step_off : (m : MacState) (waiting : Option Parts) (x : Level) → is_off_phase m.phase ≡ true → mac_step m waiting x ≡ off_step m x
 unfolding mac_step
-on_bus P m waiting x h on off =
-    let v = move (stance m) m.phase waiting x in
-    rw h (landed_at P v m.counters v.cause on off)
+step_off m waiting x h = cond-true (is_off_phase m.phase) (off_step m x) (on_step m (move (stance m) m.phase waiting x)) h
 
--- off the bus, it is one for recovery
-pub off_bus : (P : MacState → Option Event → Type 0) (m : MacState) (waiting : Option Parts) (x : Level) → is_off_phase m.phase ≡ true
-    → P (off_step m x).0 (off_step m x).1 → P (mac_step m waiting x).0 (mac_step m waiting x).1
+pub step_on : (m : MacState) (waiting : Option Parts) (x : Level) → is_off_phase m.phase ≡ false → mac_step m waiting x ≡ on_step m (move (stance m) m.phase waiting x)
 unfolding mac_step
-off_bus P m waiting x h is = rw h is
+step_on m waiting x h = cond-false (is_off_phase m.phase) (off_step m x) (on_step m (move (stance m) m.phase waiting x)) h
+
+-- What a controller's state tells of whether it is error passive.
+module _ (c : ConfineParts) where
+  pub active_told : Active ≡ state_of c → false ≡ is_passive c
+  active_told e = by_tests (is_bus_off c) (is_passive c) e
+    where
+      by_tests : (off passive : Bool) → Active ≡ cond off off_state (cond passive Passive Active) → false ≡ passive
+      by_tests true passive e = cc
+      by_tests false true e = cc
+      by_tests false false e = refl
+
+  pub passive_told : Passive ≡ state_of c → true ≡ is_passive c
+  passive_told e = by_tests (is_bus_off c) (is_passive c) e
+    where
+      by_tests : (off passive : Bool) → Passive ≡ cond off off_state (cond passive Passive Active) → true ≡ passive
+      by_tests true passive e = cc
+      by_tests false true e = refl
+      by_tests false false e = cc
+
+  pub off_told : off_state ≡ state_of c → true ≡ is_passive c
+  off_told e =
+      let high : 256 ≤ c.tec = by_test (is_bus_off c) refl e in
+      sym (or_left (leb 128 c.tec) (leb 128 c.rec) (le-leb 128 c.tec (omega arith)))
+    where
+      by_test : (off : Bool) → is_bus_off c ≡ off → off_state ≡ cond off off_state (cond (is_passive c) Passive Active) → 256 ≤ c.tec
+      by_test true d e = leb-true 256 c.tec d
+      by_test false d e = by_passive (is_passive c) e
+        where
+          by_passive : (passive : Bool) → off_state ≡ cond passive Passive Active → 256 ≤ c.tec
+          by_passive true f = cc
+          by_passive false f = cc

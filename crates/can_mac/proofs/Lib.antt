@@ -1,8 +1,12 @@
--- one bit time, and bit times in a row
-pub mod Turns
+pub mod ConfineKept
+mod DriveLemmas
+pub mod Kept
+pub mod KeptMoves
 pub mod Landing
--- known values
-mod Rows
+pub mod PartEnds
+-- bit times in a row, and where each ends
+pub mod Turns
+pub mod TurnEnds
 -- what a controller knows of the levels that it has seen
 pub mod Agreement
 pub mod Hearing
@@ -10,3 +14,4 @@ pub mod PartHearing
 pub mod EndHearing
 pub mod HearingMoves
 pub mod HearingTurns
+mod Rows

@@ -1,6 +1,7 @@
 -- Medium access, one bit time after another: what a controller drives, and what the level that it samples
--- makes of it. (Bosch CAN 2.0 part B, sections 3.2 and 7)
-use Rattle.std.specs.Prelude.{ℕ, ◌==◌, Bool, true, false, ◌&&◌, if◌then◌else◌, List, [], ◌∷◌, length, Option, Some, None}
+-- makes of it. (Bosch CAN 2.0 part B, sections 3.2 and 7) What stands in
+-- brackets is a rule of docs/ACCESS.md.
+use Rattle.std.specs.Prelude.{ℕ, ◌==◌, Bool, if◌then◌else◌, length, Option, Some, None}
 use Rattle.can_frame.specs.declared.level.Level.{Level}
 use Rattle.can_frame.specs.declared.level.Level.TheVariants.{Dominant, Recessive}
 use Rattle.can_frame.specs.Levels.{opposite}
@@ -12,23 +13,24 @@ use Rattle.can_fault.specs.Counters.{ConfineParts, counted, is_bus_off, is_passi
 use Rattle.can_fault.specs.Recovery.{ends_bus_off, recovered}
 use Rattle.can_mac.specs.declared.event.Event.{Event}
 use Rattle.can_mac.specs.declared.event.Event.TheVariants.{WentOff, Recovered}
+use Rattle.can_mac.specs.declared.moves.Stance.{Stance}
 use Rattle.can_mac.specs.declared.phase.Role.{Role}
 use Rattle.can_mac.specs.declared.phase.Role.TheVariants.{Receiver, Sender}
 use Rattle.can_mac.specs.declared.phase.Phase.TheVariants.{Joining, Idle, StuffedPart, CrcDelimiter, AckSlot, AckDelimiter, EndOfFrame, ErrorFlag, PassiveFlag, OverloadFlag, AfterFlag, Delimiter, Intermission, Suspend, BusOff}
-use Rattle.can_mac.specs.State.{MacPhase, MacState}
-use Rattle.can_mac.specs.Moves.{Stance, Move, move}
+use Rattle.can_mac.specs.State.{MacPhase, MacState, is_off_phase}
+use Rattle.can_mac.specs.Moves.{MacMove, move}
 
--- at a stuff place a sender drives the opposite of the last level, else its frame's next level
+-- [Stuff places] there a sender drives the opposite of the last level, else its frame's next level
 abbrev pub part_drives : Role → FrontParts → Level
 part_drives Receiver front = Recessive
 part_drives (Sender f) front = if front.run == 5 then opposite front.last else sent_level f (length front.unstuffed)
 
--- a receiver whose check sequence agrees acknowledges
+-- [Acknowledgement] a receiver whose check sequence agrees acknowledges
 abbrev pub slot_drives : Role → Bool → Level
 slot_drives Receiver agrees = if agrees then Dominant else Recessive
 slot_drives (Sender f) agrees = Recessive
 
--- with a frame that waits an idle controller drives a start of frame
+-- [Start of frame] with a frame that waits an idle controller drives a start of frame
 abbrev pub idle_drives : Option Parts → Level
 idle_drives None = Recessive
 idle_drives (Some f) = Dominant
@@ -54,21 +56,28 @@ phase_drives BusOff role waiting = Recessive
 unfoldable pub mac_drives : MacState → Option Parts → Level
 mac_drives m waiting = phase_drives m.phase m.role waiting
 
+-- a phase in which a controller is silent
+pub data IsSilent : MacPhase → Type 0 where
+  joining : (row : ℕ) → IsSilent (Joining row)
+  passive_flag : (last : Level) (run : ℕ) (unacknowledged : Bool) → IsSilent (PassiveFlag last run unacknowledged)
+  off : IsSilent BusOff
+
 abbrev pub stance : MacState → Stance
 stance m = record { passive = is_passive m.counters; role = m.role; overloads = m.overloads }
 
 -- a move, with these counters
-abbrev pub moved : Move → ConfineParts → MacState
+abbrev pub moved : MacMove → ConfineParts → MacState
 moved v counters = record { phase = v.phase; role = v.role; overloads = v.overloads; counters = counters }
 
--- what was counted makes the controller bus off: this is told in place of all else
-abbrev pub settled : Move → ConfineParts → MacState × Option Event
+-- [Bus off] what was counted makes the controller bus off, and this is told in
+-- place of all else
+abbrev pub settled : MacMove → ConfineParts → MacState × Option Event
 settled v counters =
     if is_bus_off counters then (record { phase = BusOff; role = Receiver; overloads = v.overloads; counters = counters }, Some WentOff)
     else (moved v counters, v.event)
 
 -- a move, and what it counts
-abbrev pub landed : Move → ConfineParts → Option Cause → MacState × Option Event
+abbrev pub landed : MacMove → ConfineParts → Option Cause → MacState × Option Event
 landed v counters None = (moved v counters, v.event)
 landed v counters (Some cause) = settled v (counted cause counters)
 
@@ -78,24 +87,7 @@ off_step m x =
     if ends_bus_off x m.counters then (record m { phase = Idle; counters = recovered x m.counters }, Some Recovered)
     else (record m { counters = recovered x m.counters }, None)
 
-abbrev pub is_off_phase : MacPhase → Bool
-is_off_phase BusOff = true
-is_off_phase (Joining row) = false
-is_off_phase Idle = false
-is_off_phase (StuffedPart front) = false
-is_off_phase (CrcDelimiter r) = false
-is_off_phase (AckSlot r) = false
-is_off_phase (AckDelimiter r) = false
-is_off_phase (EndOfFrame r place) = false
-is_off_phase (ErrorFlag place) = false
-is_off_phase (PassiveFlag last run unacknowledged) = false
-is_off_phase (OverloadFlag place) = false
-is_off_phase (AfterFlag first dominant) = false
-is_off_phase (Delimiter place) = false
-is_off_phase (Intermission place) = false
-is_off_phase (Suspend place) = false
-
-abbrev pub on_step : MacState → Move → MacState × Option Event
+abbrev pub on_step : MacState → MacMove → MacState × Option Event
 on_step m v = landed v m.counters v.cause
 
 -- one bit time, in which this frame waits and this level is sampled: the next state, and what is told

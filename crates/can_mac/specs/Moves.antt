@@ -1,5 +1,6 @@
--- What a level makes of each phase. (Bosch CAN 2.0 part B, sections 3.2, 5, 7 and 8)
-use Rattle.std.specs.Prelude.{ℕ, suc, ◌+◌, ◌-◌, ◌==◌, nat_lt, nat_le, Bool, true, false, ◌&&◌, not, if◌then◌else◌, List, length, Option, Some, None}
+-- What a level makes of each phase. (Bosch CAN 2.0 part B, sections 3.2, 5, 7 and 8) What stands in
+-- brackets is a rule of docs/ACCESS.md.
+use Rattle.std.specs.Prelude.{ℕ, ◌+◌, ◌-◌, ◌==◌, nat_lt, nat_le, Bool, true, false, ◌&&◌, not, if◌then◌else◌, List, length, Option, Some, None}
 use Rattle.std.specs.Cmp.Lexicographic.{pointwise}
 use Rattle.can_frame.specs.declared.level.Level.{Level}
 use Rattle.can_frame.specs.declared.level.Level.TheVariants.{Dominant, Recessive}
@@ -15,50 +16,49 @@ use Rattle.can_mac.specs.declared.event.Event.{Event}
 use Rattle.can_mac.specs.declared.event.Event.TheVariants.{Sent, Received, Lost, Error, Overload}
 use Rattle.can_mac.specs.declared.event.ErrorKind.{ErrorKind}
 use Rattle.can_mac.specs.declared.event.ErrorKind.TheVariants.{Bit, Stuff, Crc, Form, Ack}
+use Rattle.can_mac.specs.declared.moves.Move.{Move}
+use Rattle.can_mac.specs.declared.moves.Stance.{Stance}
 use Rattle.can_mac.specs.declared.phase.Reading.{Reading}
 use Rattle.can_mac.specs.declared.phase.Role.{Role}
 use Rattle.can_mac.specs.declared.phase.Role.TheVariants.{Receiver, Sender}
-use Rattle.can_mac.specs.declared.phase.Overloads.{Overloads}
 use Rattle.can_mac.specs.declared.phase.Phase.TheVariants.{Joining, Idle, StuffedPart, CrcDelimiter, AckSlot, AckDelimiter, EndOfFrame, ErrorFlag, PassiveFlag, OverloadFlag, AfterFlag, Delimiter, Intermission, Suspend, BusOff}
 use Rattle.can_mac.specs.State.{MacPhase}
 
--- what a phase reads of the rest of the state: whether the controller is error passive, what it is to the
--- frame on the bus, and its own overload frames
-pub record Stance : Type 0 where
-  pub passive : Bool
-  pub role : Role
-  pub overloads : Overloads
+-- what a level makes of a controller
+abbrev pub MacMove : Type 0
+MacMove = Move MacPhase
 
--- what a level makes of it: the next phase, role and overload frames, what is counted, and what is told
-pub record Move : Type 0 where
-  pub phase : MacPhase
-  pub role : Role
-  pub overloads : Overloads
-  pub cause : Option Cause
-  pub event : Option Event
+-- a phase, or where there is none the first one
+abbrev pub phase_after : MacPhase → Option MacPhase → MacPhase
+phase_after kept None = kept
+phase_after kept (Some phase) = phase
 
-abbrev pub goes : Stance → MacPhase → Move
+-- a move that leaves the phase as it is where it names none
+abbrev pub placed : MacPhase → Move (Option MacPhase) → MacMove
+placed kept v = record { phase = phase_after kept v.phase; role = v.role; overloads = v.overloads; cause = v.cause; event = v.event }
+
+abbrev pub goes : Stance → MacPhase → MacMove
 goes s phase = record { phase = phase; role = s.role; overloads = s.overloads; cause = None; event = None }
 
-abbrev pub tells : Stance → MacPhase → Event → Move
+abbrev pub tells : Stance → MacPhase → Event → MacMove
 tells s phase event = record { phase = phase; role = s.role; overloads = s.overloads; cause = None; event = Some event }
 
--- an overload flag starts
-abbrev pub overload : Stance → Move
+-- [Overload flags] an overload flag starts
+abbrev pub overload : Stance → MacMove
 overload s = tells s (OverloadFlag 0) Overload
 
--- a frame begins: its start of frame is dominant
-abbrev pub begins : Stance → Role → Move
+-- [Start of frame] a frame begins
+abbrev pub begins : Stance → Role → MacMove
 begins s role = record { phase = StuffedPart first_front; role = role; overloads = record { pending = s.overloads.pending; used = 0 }; cause = None; event = None }
 
 -- Errors.
 
--- the error flag that starts: passive at an error passive controller
+-- [Error flags] the error flag that starts, passive at an error passive controller
 abbrev pub flag : Bool → Bool → MacPhase
 flag passive unacknowledged = if passive then PassiveFlag Recessive 0 unacknowledged else ErrorFlag 0
 
 -- an error, and what it counts
-abbrev pub errs_by : Option Cause → Bool → Stance → ErrorKind → Move
+abbrev pub errs_by : Option Cause → Bool → Stance → ErrorKind → MacMove
 errs_by cause unacknowledged s kind = record { phase = flag s.passive unacknowledged; role = s.role; overloads = s.overloads; cause = cause; event = Some (Error kind) }
 
 abbrev pub error_cause : Role → Cause
@@ -70,25 +70,25 @@ flag_bit_cause Receiver = ReceiverFlagBit
 flag_bit_cause (Sender f) = SenderFlagBit
 
 -- an error in a frame or in a delimiter
-abbrev pub errs : Stance → ErrorKind → Move
+abbrev pub errs : Stance → ErrorKind → MacMove
 errs s kind = errs_by (Some (error_cause s.role)) false s kind
 
--- a bit error in an own active error flag or overload flag
-abbrev pub errs_in_flag : Stance → Move
+-- [Error in an own flag] a bit error in an own active error flag or overload flag
+abbrev pub errs_in_flag : Stance → MacMove
 errs_in_flag s = errs_by (Some (flag_bit_cause s.role)) false s Bit
 
--- a bit of fixed form has the other level: to its sender this is a bit error
+-- [Fixed form] a bit of fixed form has the other level, which to its sender is a bit error
 abbrev pub form_kind : Role → ErrorKind
 form_kind Receiver = Form
 form_kind (Sender f) = Bit
 
--- Joining, and idle.
+-- Joining, and idle: [Joining], [Start of frame], [Kept frame].
 
-abbrev pub joining_move : Stance → ℕ → Level → Move
+abbrev pub joining_move : Stance → ℕ → Level → MacMove
 joining_move s row Dominant = goes s (Joining 0)
 joining_move s row Recessive = if nat_lt row 10 then goes s (Joining (row + 1)) else goes s Idle
 
-abbrev pub idle_move : Stance → Option Parts → Level → Move
+abbrev pub idle_move : Stance → Option Parts → Level → MacMove
 idle_move s None Dominant = begins s Receiver
 idle_move s None Recessive = goes s Idle
 idle_move s (Some f) Dominant = begins s (Sender f)
@@ -105,14 +105,14 @@ agrees u = pointwise same (check_of u) (crc_of (head_of u))
 abbrev pub reading_of : List Level → Reading
 reading_of u = record { frame = frame_of u; agrees = agrees u }
 
--- the stuffed part ends where the unstuffed levels have their whole check sequence and no stuff bit is due
+-- [End of the stuffed part] where the unstuffed levels have their whole check sequence and no stuff bit is due
 abbrev pub ends_part : FrontParts → Bool
 ends_part front = has_check front.unstuffed && not (front.run == 5)
 
 abbrev pub part_phase : FrontParts → MacPhase
 part_phase front = if ends_part front then CrcDelimiter (reading_of front.unstuffed) else StuffedPart front
 
-abbrev pub hears : Stance → FrontParts → Level → Move
+abbrev pub hears : Stance → FrontParts → Level → MacMove
 hears s front x = goes s (part_phase (heard_level front x))
 
 -- the next unstuffed level of a frame belongs to its identifier or is a bit that stands with it: SRR and IDE
@@ -120,142 +120,148 @@ hears s front x = goes s (part_phase (heard_level front x))
 abbrev pub in_arbitration : Parts → List Level → Bool
 in_arbitration f u = nat_le (length u) (rtr_place f.id.extended)
 
--- In arbitration a sender sent a recessive stuff bit and saw a dominant one: this counts nothing.
+-- [Overridden stuff bit] in arbitration a sender sent a recessive stuff bit and saw a dominant one, which
+-- counts nothing.
 abbrev pub is_uncounted : Role → List Level → Level → Bool
 is_uncounted Receiver u x = false
 is_uncounted (Sender f) u Dominant = in_arbitration f u
 is_uncounted (Sender f) u Recessive = false
 
--- a stuff place repeats the level before it
-abbrev pub stuff_error_move : Stance → FrontParts → Level → Move
+-- [Stuff places] a stuff place repeats the level before it
+abbrev pub stuff_error_move : Stance → FrontParts → Level → MacMove
 stuff_error_move s front x = if is_uncounted s.role front.unstuffed x then errs_by None false s Stuff else errs s Stuff
 
-abbrev pub stuff_bit_move : Stance → FrontParts → Level → Move
+abbrev pub stuff_bit_move : Stance → FrontParts → Level → MacMove
 stuff_bit_move s front x = if same x front.last then stuff_error_move s front x else hears s front x
 
--- a sender of f sent the first level and saw the second: a recessive level that is overridden in its
--- arbitration field loses arbitration
-abbrev pub sent_bit_move : Stance → Parts → FrontParts → Level → Level → Move
+-- [Arbitration] a sender of f sent the first level and saw the second. A recessive level that is overridden
+-- in its arbitration field loses arbitration.
+abbrev pub sent_bit_move : Stance → Parts → FrontParts → Level → Level → MacMove
 sent_bit_move s f front Dominant Dominant = hears s front Dominant
 sent_bit_move s f front Recessive Recessive = hears s front Recessive
 sent_bit_move s f front Dominant Recessive = errs s Bit
 sent_bit_move s f front Recessive Dominant =
     if in_arbitration f front.unstuffed then record (hears s front Dominant) { role = Receiver; event = Some Lost } else errs s Bit
 
-abbrev pub bit_move : Stance → Role → FrontParts → Level → Move
+abbrev pub bit_move : Stance → Role → FrontParts → Level → MacMove
 bit_move s Receiver front x = hears s front x
 bit_move s (Sender f) front x = sent_bit_move s f front (sent_level f (length front.unstuffed)) x
 
-abbrev pub stuffed_part_move : Stance → FrontParts → Level → Move
+abbrev pub stuffed_part_move : Stance → FrontParts → Level → MacMove
 stuffed_part_move s front x = if front.run == 5 then stuff_bit_move s front x else bit_move s s.role front x
 
 -- The end of a frame.
 
-abbrev pub crc_delimiter_move : Stance → Reading → Level → Move
+abbrev pub crc_delimiter_move : Stance → Reading → Level → MacMove
 crc_delimiter_move s r Recessive = goes s (AckSlot r)
 crc_delimiter_move s r Dominant = errs s (form_kind s.role)
 
--- a sender that has no acknowledgement: if it is error passive this counts nothing yet
-abbrev pub unacknowledged_move : Stance → Move
+-- [Unacknowledged passive sender] a sender that has no acknowledgement, which if it is error passive counts
+-- nothing yet
+abbrev pub unacknowledged_move : Stance → MacMove
 unacknowledged_move s = if s.passive then errs_by None true s Ack else errs s Ack
 
-abbrev pub ack_slot_move : Stance → Role → Reading → Level → Move
+abbrev pub ack_slot_move : Stance → Role → Reading → Level → MacMove
 ack_slot_move s (Sender f) r Dominant = goes s (AckDelimiter r)
 ack_slot_move s (Sender f) r Recessive = unacknowledged_move s
--- a receiver whose check sequence agrees acknowledges; another one only listens
+-- [Acknowledgement] a receiver whose check sequence agrees acknowledges; another one only listens
 ack_slot_move s Receiver r Dominant = if r.agrees then record (goes s (AckDelimiter r)) { cause = Some FrameReceived } else goes s (AckDelimiter r)
 ack_slot_move s Receiver r Recessive = if r.agrees then errs s Bit else goes s (AckDelimiter r)
 
--- a receiver whose check sequence differs
+-- [Refused check sequence] a receiver whose check sequence differs
 abbrev pub refuses : Role → Reading → Bool
 refuses Receiver r = not r.agrees
 refuses (Sender f) r = false
 
-abbrev pub ack_delimiter_move : Stance → Reading → Level → Move
+abbrev pub ack_delimiter_move : Stance → Reading → Level → MacMove
 ack_delimiter_move s r Dominant = errs s (form_kind s.role)
 ack_delimiter_move s r Recessive = if refuses s.role r then errs s Crc else goes s (EndOfFrame r 0)
 
--- Intermission is entered. A receiver that has asked for an overload frame starts its flag.
-abbrev pub enters_intermission : Stance → Role → Move
+-- [Own overload frames] intermission is entered. A receiver that has asked for an overload frame starts its
+-- flag.
+abbrev pub enters_intermission : Stance → Role → MacMove
 enters_intermission s (Sender f) = goes s (Intermission 0)
 enters_intermission s Receiver =
     if nat_lt 0 s.overloads.pending && nat_lt s.overloads.used 2
     then record (overload s) { overloads = record { pending = s.overloads.pending - 1; used = s.overloads.used + 1 } }
     else goes s (Intermission 0)
 
--- the sender's frame is valid where no level of the end of frame is dominant
-abbrev pub sender_end_move : Stance → Parts → Reading → ℕ → Level → Move
+-- [Frame validation] the sender's frame is valid where no level of the end of frame is dominant
+abbrev pub sender_end_move : Stance → Parts → Reading → ℕ → Level → MacMove
 sender_end_move s f r place Dominant = errs s Bit
 sender_end_move s f r place Recessive =
     if nat_lt place 6 then goes s (EndOfFrame r (place + 1)) else record (enters_intermission s s.role) { cause = Some FrameSent; event = Some (Sent f) }
 
--- the frame is valid for a receiver where none but the last is dominant
-abbrev pub receiver_end_move : Stance → Reading → ℕ → Level → Move
+-- [Frame validation], [Dominant last level] the frame is valid for a receiver where none but the last is
+-- dominant
+abbrev pub receiver_end_move : Stance → Reading → ℕ → Level → MacMove
 receiver_end_move s r place Dominant = if nat_lt place 6 then errs s Form else overload s
 receiver_end_move s r place Recessive =
     if nat_lt place 5 then goes s (EndOfFrame r (place + 1))
     else if nat_lt place 6 then tells s (EndOfFrame r 6) (Received r.frame)
     else enters_intermission s s.role
 
-abbrev pub end_of_frame_move : Stance → Role → Reading → ℕ → Level → Move
+abbrev pub end_of_frame_move : Stance → Role → Reading → ℕ → Level → MacMove
 end_of_frame_move s (Sender f) r place x = sender_end_move s f r place x
 end_of_frame_move s Receiver r place x = receiver_end_move s r place x
 
 -- Flags.
 
 -- a flag of six dominant levels, which goes on to the next place or ends
-abbrev pub flag_move : Stance → (ℕ → MacPhase) → MacPhase → ℕ → Level → Move
+abbrev pub flag_move : Stance → (ℕ → MacPhase) → MacPhase → ℕ → Level → MacMove
 flag_move s next ended place Dominant = if nat_lt place 5 then goes s (next (place + 1)) else goes s ended
 flag_move s next ended place Recessive = errs_in_flag s
 
-abbrev pub error_flag_move : Stance → ℕ → Level → Move
+abbrev pub error_flag_move : Stance → ℕ → Level → MacMove
 error_flag_move s place x = flag_move s (λ p. ErrorFlag p) (AfterFlag true 0) place x
 
-abbrev pub overload_flag_move : Stance → ℕ → Level → Move
+abbrev pub overload_flag_move : Stance → ℕ → Level → MacMove
 overload_flag_move s place x = flag_move s (λ p. OverloadFlag p) (AfterFlag false 0) place x
 
 -- the run that a level ends, in a flag
 abbrev pub flag_run : Level → ℕ → Level → ℕ
 flag_run last run x = if same x last then run + 1 else 1
 
--- a passive flag is complete where six levels in a row are equal
+-- [Error flags] a passive flag is complete where six levels in a row are equal
 abbrev pub passive_phase : Level → ℕ → Bool → MacPhase
 passive_phase x run unacknowledged = if nat_lt run 6 then PassiveFlag x run unacknowledged else AfterFlag true 0
 
--- the first dominant level in the passive flag of a sender without acknowledgement is counted
-abbrev pub passive_flag_move : Stance → Level → ℕ → Bool → Level → Move
+-- [Unacknowledged passive sender] the first dominant level in the passive flag of a sender without
+-- acknowledgement is counted
+abbrev pub passive_flag_move : Stance → Level → ℕ → Bool → Level → MacMove
 passive_flag_move s last run unacknowledged x =
     record (goes s (passive_phase x (flag_run last run x) (unacknowledged && is_recessive x)))
     { cause = if unacknowledged && not (is_recessive x) then Some PassiveUnacknowledged else None }
 
--- what a dominant level behind a flag counts: at a receiver the first one behind an error flag, and at any
--- controller each eighth in a row
+-- [Behind a flag] what a dominant level behind a flag counts: at a receiver the first one behind an error
+-- flag, and at any controller each eighth in a row
 abbrev pub dominant_cause : Role → Bool → ℕ → Option Cause
 dominant_cause Receiver first dominant = if first then Some ReceiverFirstDominant else if nat_lt dominant 7 then None else Some ReceiverDominantRun
 dominant_cause (Sender f) first dominant = if nat_lt dominant 7 then None else Some SenderDominantRun
 
-abbrev pub after_flag_move : Stance → Bool → ℕ → Level → Move
+abbrev pub after_flag_move : Stance → Bool → ℕ → Level → MacMove
 after_flag_move s first dominant Recessive = goes s (Delimiter 1)
 after_flag_move s first dominant Dominant =
     record (goes s (AfterFlag false (if nat_lt dominant 7 then dominant + 1 else 0))) { cause = dominant_cause s.role first dominant }
 
-abbrev pub delimiter_move : Stance → ℕ → Level → Move
+-- [Delimiter]
+abbrev pub delimiter_move : Stance → ℕ → Level → MacMove
 delimiter_move s place Dominant = if nat_lt place 7 then errs s Form else overload s
 delimiter_move s place Recessive = if nat_lt place 7 then goes s (Delimiter (place + 1)) else enters_intermission s s.role
 
 -- Between frames.
 
--- an error passive controller that was the sender
+-- [Suspend transmission] an error passive controller that was the sender
 abbrev pub is_held_back : Stance → Role → Bool
 is_held_back s Receiver = false
 is_held_back s (Sender f) = s.passive
 
--- what a controller is to a frame that begins in the last bit of intermission
+-- [Intermission], [Kept frame] what a controller is to a frame that begins in the last bit of intermission
 abbrev pub next_role : Bool → Option Parts → Role
 next_role held_back None = Receiver
 next_role held_back (Some f) = if held_back then Receiver else Sender f
 
-abbrev pub intermission_move : Stance → ℕ → Option Parts → Level → Move
+abbrev pub intermission_move : Stance → ℕ → Option Parts → Level → MacMove
 intermission_move s place waiting Dominant =
     if nat_lt place 2 then overload s else begins s (next_role (is_held_back s s.role) waiting)
 intermission_move s place waiting Recessive =
@@ -263,12 +269,12 @@ intermission_move s place waiting Recessive =
     else if is_held_back s s.role then goes s (Suspend 0)
     else goes (record s { role = Receiver }) Idle
 
-abbrev pub suspend_move : Stance → ℕ → Level → Move
+abbrev pub suspend_move : Stance → ℕ → Level → MacMove
 suspend_move s place Dominant = begins s Receiver
 suspend_move s place Recessive = if nat_lt place 7 then goes s (Suspend (place + 1)) else goes (record s { role = Receiver }) Idle
 
 -- All phases. Off the bus a level only counts for recovery.
-abbrev pub move : Stance → MacPhase → Option Parts → Level → Move
+abbrev pub move : Stance → MacPhase → Option Parts → Level → MacMove
 move s (Joining row) waiting x = joining_move s row x
 move s Idle waiting x = idle_move s waiting x
 move s (StuffedPart front) waiting x = stuffed_part_move s front x

@@ -1,11 +1,13 @@
 -- The state of a controller's medium access.
-use Rattle.std.specs.Prelude.{ℕ, Bool, true, false}
-use Rattle.can_code.specs.Front.{FrontParts}
-use Rattle.can_fault.specs.Counters.{ConfineParts, fresh}
+use Rattle.std.specs.Prelude.{◌≡◌, ◌≢◌, ◌<◌, ◌≤◌, Bool, true, false, Option, Some, None}
+use Rattle.can_frame.specs.Parts.{Parts, IsFrame}
+use Rattle.can_code.specs.declared.front.Place.TheVariants.{CrcDelimiter as ended}
+use Rattle.can_code.specs.Front.{FrontParts, IsFront, next_place}
+use Rattle.can_fault.specs.Counters.{ConfineParts, IsConfine, fresh, is_bus_off}
 use Rattle.can_mac.specs.declared.phase.Phase.{Phase}
-use Rattle.can_mac.specs.declared.phase.Phase.TheVariants.{Joining, Idle}
+use Rattle.can_mac.specs.declared.phase.Phase.TheVariants.{Joining, Idle, StuffedPart, CrcDelimiter, AckSlot, AckDelimiter, EndOfFrame, ErrorFlag, PassiveFlag, OverloadFlag, AfterFlag, Delimiter, Intermission, Suspend, BusOff}
 use Rattle.can_mac.specs.declared.phase.Role.{Role}
-use Rattle.can_mac.specs.declared.phase.Role.TheVariants.{Receiver}
+use Rattle.can_mac.specs.declared.phase.Role.TheVariants.{Receiver, Sender}
 use Rattle.can_mac.specs.declared.phase.Overloads.{Overloads}
 
 -- the phase of a controller, which has heard the front of a frame where its stuffed part goes on
@@ -33,3 +35,63 @@ idle = starting Idle
 -- not yet on the bus, with all its numbers 0
 abbrev pub joining : MacState
 joining = starting (Joining 0)
+
+-- whether it is the phase of a controller that is off the bus
+abbrev pub is_off_phase : MacPhase → Bool
+is_off_phase BusOff = true
+is_off_phase (Joining row) = false
+is_off_phase Idle = false
+is_off_phase (StuffedPart front) = false
+is_off_phase (CrcDelimiter r) = false
+is_off_phase (AckSlot r) = false
+is_off_phase (AckDelimiter r) = false
+is_off_phase (EndOfFrame r place) = false
+is_off_phase (ErrorFlag place) = false
+is_off_phase (PassiveFlag last run unacknowledged) = false
+is_off_phase (OverloadFlag place) = false
+is_off_phase (AfterFlag first dominant) = false
+is_off_phase (Delimiter place) = false
+is_off_phase (Intermission place) = false
+is_off_phase (Suspend place) = false
+
+-- What holds of every controller.
+
+-- a frame whose stuffed part goes on
+pub record IsOpen (f : FrontParts) : Type 0 where
+  pub front : IsFront f
+  pub goes_on : next_place f ≢ ended
+
+abbrev pub IsPhase : MacPhase → Type 0
+IsPhase (Joining row) = row < 11
+IsPhase Idle = Unit {0}
+IsPhase (StuffedPart front) = IsOpen front
+IsPhase (CrcDelimiter r) = IsFrame r.frame
+IsPhase (AckSlot r) = IsFrame r.frame
+IsPhase (AckDelimiter r) = IsFrame r.frame
+IsPhase (EndOfFrame r place) = IsFrame r.frame × (place < 7)
+IsPhase (ErrorFlag place) = place < 6
+IsPhase (PassiveFlag last run unacknowledged) = run < 6
+IsPhase (OverloadFlag place) = place < 6
+IsPhase (AfterFlag first dominant) = dominant < 8
+IsPhase (Delimiter place) = (1 ≤ place) × (place < 8)
+IsPhase (Intermission place) = place < 3
+IsPhase (Suspend place) = place < 8
+IsPhase BusOff = Unit {0}
+
+abbrev pub IsRole : Role → Type 0
+IsRole Receiver = Unit {0}
+IsRole (Sender f) = IsFrame f
+
+-- a frame that waits is one
+abbrev pub IsWaiting : Option Parts → Type 0
+IsWaiting None = Unit {0}
+IsWaiting (Some f) = IsFrame f
+
+pub record IsMac (m : MacState) : Type 0 where
+  pub phase : IsPhase m.phase
+  pub role : IsRole m.role
+  pub pending : m.overloads.pending ≤ 2
+  pub used : m.overloads.used ≤ 2
+  pub counters : IsConfine m.counters
+  -- off the bus exactly where the counters say so
+  pub off : is_off_phase m.phase ≡ is_bus_off m.counters

@@ -1,8 +1,39 @@
-//! Medium access of one port.
+//! Medium access of one controller: what it drives in each bit time, and what the level that it sees
+//! makes of it. (Bosch CAN 2.0 part B, sections 3.2, 5, 7 and 8)
+//!
+//! [`MediumAccess`] knows levels and frames, and nothing of a queue: in each bit time it is handed
+//! the frame that waits, if there is one. It tells at most one [`Event`] in a bit time. What its
+//! phases are has a picture at [`Phase`]; what a level makes of each is said by the rules of
+//! docs/ACCESS.md.
+//!
+//! | File | What it has | Defined in |
+//! |---|---|---|
+//! | `event.rt` | [`Event`], what a bit time brings, [`ErrorKind`] | |
+//! | `phase.rt` | [`Phase`], [`Role`], [`Overloads`], the parts of a controller's state | `specs/State.antt` |
+//! | `machine.rt` | [`MediumAccess`], a controller, bit by bit | `specs/Machine.antt` |
+//! | `driving.rt` | what it drives of a frame | `specs/Machine.antt` |
+//! | `moves.rt` | what a level makes of a phase | `specs/Moves.antt` |
+//! | `moves/stuffed_part.rt` | a frame up to the end of its CRC sequence, heard in place | `specs/Moves.antt` |
+//! | `moves/frame_end.rt` | CRC delimiter, ACK slot, ACK delimiter, end of frame | `specs/Moves.antt` |
+//! | `moves/flags.rt` | error flags, overload flags, their delimiters | `specs/Moves.antt` |
+//! | `moves/between_frames.rt` | joining, idle, intermission, suspend transmission | `specs/Moves.antt` |
+//! | `laws.rt` | that what holds of every controller stays | `specs/State.antt` |
+//!
+//! Each function of `moves` has the cases of one definition, in the same order. Crates above find
+//! lemmas in `proofs/`: that what holds of every controller stays (`Kept`, `KeptMoves`), and of
+//! its counters (`ConfineKept`). `Rows` computes the definitions on levels whose outcome is known.
 #![tactic(auto)]
 
+mod driving;
 mod event;
+mod laws;
+mod machine;
+mod moves;
 mod phase;
+#[cfg(test)]
+mod tests;
 
 pub use event::{ErrorKind, Event};
+pub use laws::access_is_kept;
+pub use machine::{Mac, MediumAccess};
 pub use phase::{Overloads, Phase, Reading, Role};

@@ -2,8 +2,7 @@
 use Rattle.std.proofs.Common.{◌≡◌, ◌<◌, false, List, subst, sym}
 use Rattle.can_frame.specs.declared.level.Level.{Level}
 use Rattle.can_fault.specs.Counters.{IsConfine}
-use Rattle.can_mac.specs.State.{MacState}
-use Rattle.can_mac.specs.Machine.{is_off_phase}
+use Rattle.can_mac.specs.State.{MacState, is_off_phase}
 use Rattle.can_mac.proofs.Turns.{levels_of}
 use Rattle.can_node.specs.Ports.{PortState, port_events}
 use Rattle.can_node.specs.Listening.{Rested}

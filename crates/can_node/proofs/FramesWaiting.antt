@@ -5,7 +5,7 @@ use Rattle.can_frame.specs.declared.level.Level.{Level}
 use Rattle.can_frame.specs.Parts.{Parts, IsFrame}
 use Rattle.can_mac.specs.declared.event.Event.{Event}
 use Rattle.can_mac.specs.declared.event.Event.TheVariants.{Sent, Received, Lost, Error, Overload, WentOff, Recovered}
-use Rattle.can_mac.proofs.Hearing.{IsWaiting}
+use Rattle.can_mac.specs.State.{IsWaiting}
 use Rattle.can_mac.proofs.HearingTurns.{AreTurns}
 use Rattle.can_node.specs.declared.entry.Entry.{Entry}
 use Rattle.can_node.specs.Ports.{PortState, goes_before, same_field, earlier, waiting, without, logged, noted, port_event, port_step}

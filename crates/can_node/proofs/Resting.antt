@@ -11,10 +11,10 @@ use Rattle.can_fault.specs.Recovery.{after_level, ends_bus_off, recovered}
 use Rattle.can_mac.specs.declared.event.Event.{Event}
 use Rattle.can_mac.specs.declared.event.Event.TheVariants.{Recovered}
 use Rattle.can_mac.specs.declared.phase.Phase.TheVariants.{Idle, BusOff}
-use Rattle.can_mac.specs.State.{MacPhase, MacState}
-use Rattle.can_mac.specs.Machine.{stance, off_step, is_off_phase, mac_step}
+use Rattle.can_mac.specs.State.{MacPhase, MacState, is_off_phase}
+use Rattle.can_mac.specs.Machine.{stance, off_step, mac_step}
 use Rattle.can_mac.proofs.Turns.{Turn, levels_of, after_turn, turn_event, turn_events}
-use Rattle.can_mac.proofs.Landing.{SameWait, on_bus, off_bus}
+use Rattle.can_mac.proofs.TurnEnds.{SameWait, on_bus, off_bus, off_is}
 use Rattle.can_node.specs.Listening.{is_upset, is_of_frame, Rested}
 use Rattle.can_node.proofs.Rests.{EndsInRest, HasRested, EndsInRest-none, EndsInRest-more, HasRested-ends, HasRested-append, RestsBetween-first, RestsBetween-more}
 use Rattle.can_node.proofs.RestingMoves.{WaitsOff, WaitsAt, move-begins}
@@ -43,10 +43,6 @@ module _ (c : ConfineParts) (since : List Level) (h : WaitsOff c since) (early :
       let ends = cond-false (ends_bus_off x c) fresh (after_level x c) (stays_off x) in
       let is : recovered x c ≡ after_level x c = cond-true (is_bus_off c) (cond (ends_bus_off x c) fresh (after_level x c)) c h.off ∙ ends in
       subst (λ d. WaitsOff d (since ++ x ∷ [])) (sym is) (after_level-waits x)
-
-off_is : (phase : MacPhase) → is_off_phase phase ≡ true → phase ≡ BusOff
-off_is BusOff h = refl
-off_is _ h = cc
 
 -- what a controller that waits has come to
 abbrev Waits : MacState → List Level → Type 0

@@ -15,8 +15,9 @@ use Rattle.can_mac.specs.declared.phase.Role.{Role}
 use Rattle.can_mac.specs.declared.phase.Role.TheVariants.{Receiver, Sender}
 use Rattle.can_mac.specs.declared.phase.Reading.{Reading}
 use Rattle.can_mac.specs.declared.phase.Phase.TheVariants.{Joining, Idle, StuffedPart, CrcDelimiter, AckSlot, AckDelimiter, EndOfFrame, ErrorFlag, PassiveFlag, OverloadFlag, AfterFlag, Delimiter, Intermission, Suspend, BusOff}
+use Rattle.can_mac.specs.declared.moves.Stance.{Stance}
 use Rattle.can_mac.specs.State.{MacPhase}
-use Rattle.can_mac.specs.Moves.{Stance, Move, flag, errs_by, in_arbitration, is_uncounted, stuff_bit_move, sent_bit_move, bit_move, refuses, enters_intermission, ack_slot_move, end_of_frame_move, move, is_held_back}
+use Rattle.can_mac.specs.Moves.{MacMove, flag, errs_by, in_arbitration, is_uncounted, stuff_bit_move, sent_bit_move, bit_move, refuses, enters_intermission, ack_slot_move, end_of_frame_move, move, is_held_back}
 use Rattle.can_node.specs.Listening.{is_upset}
 use Rattle.can_node.proofs.Rests.{EndsInRest}
 
@@ -45,13 +46,13 @@ WaitsAt (Suspend place) c levels = ⊥
 WaitsAt BusOff c levels = WaitsOff c levels
 
 -- a move that begins the wait if it tells of an upset
-pub record BeginsWait (v : Move) : Type 0 where
+pub record BeginsWait (v : MacMove) : Type 0 where
   pub begins : is_upset v.event ≡ true → (c : ConfineParts) (levels : List Level) → WaitsAt v.phase c levels
 
-calm : {v : Move} → is_upset v.event ≡ false → BeginsWait v
+calm : {v : MacMove} → is_upset v.event ≡ false → BeginsWait v
 calm h = record { begins = λ e. cc }
 
-either : {v w : Move} (b : Bool) → BeginsWait v → BeginsWait w → BeginsWait (cond b v w)
+either : {v w : MacMove} (b : Bool) → BeginsWait v → BeginsWait w → BeginsWait (cond b v w)
 either true p q = p
 either false p q = q
 

@@ -13,19 +13,19 @@ use Rattle.can_mac.specs.declared.event.ErrorKind.{ErrorKind}
 use Rattle.can_mac.specs.declared.phase.Role.{Role}
 use Rattle.can_mac.specs.declared.phase.Role.TheVariants.{Receiver, Sender}
 use Rattle.can_mac.specs.declared.phase.Phase.TheVariants.{Joining, Idle, StuffedPart, CrcDelimiter, AckSlot, AckDelimiter, EndOfFrame, ErrorFlag, PassiveFlag, OverloadFlag, AfterFlag, Delimiter, Intermission, Suspend, BusOff}
-use Rattle.can_mac.specs.State.{MacPhase}
-use Rattle.can_mac.specs.Moves.{Stance, Move, errs_by, flag_run, passive_phase, enters_intermission, move}
-use Rattle.can_mac.specs.Machine.{is_off_phase}
+use Rattle.can_mac.specs.declared.moves.Stance.{Stance}
+use Rattle.can_mac.specs.State.{MacPhase, is_off_phase}
+use Rattle.can_mac.specs.Moves.{MacMove, errs_by, flag_run, passive_phase, enters_intermission, move}
 use Rattle.can_node.specs.Listening.{is_of_frame}
 use Rattle.can_node.proofs.Rests.{EndsInRest, HasRested, EndsInRest-more, EndsInRest-fewer, HasRested-ends}
 use Rattle.can_node.proofs.RestingMoves.{WaitsAt, flag-waits}
 
 -- a move that keeps waiting with these levels, and tells of no frame
-pub record KeepsWait (v : Move) (levels : List Level) : Type 0 where
+pub record KeepsWait (v : MacMove) (levels : List Level) : Type 0 where
   pub at : (c : ConfineParts) → WaitsAt v.phase c levels
   pub no_frame : is_of_frame v.event ≡ false
 
-either : {v w : Move} {levels : List Level} (b : Bool) → KeepsWait v levels → KeepsWait w levels → KeepsWait (cond b v w) levels
+either : {v w : MacMove} {levels : List Level} (b : Bool) → KeepsWait v levels → KeepsWait w levels → KeepsWait (cond b v w) levels
 either true p q = p
 either false p q = q
 
@@ -45,7 +45,7 @@ passive_flag x run un c levels = by_test (nat_lt run 6)
     by_test false = tt
 
 -- behind ten recessive levels in a row, or still waiting
-abbrev RestedOr : Move → List Level → Level → Type 0
+abbrev RestedOr : MacMove → List Level → Level → Type 0
 RestedOr v since x = HasRested since ⊎ KeepsWait v (since ++ x ∷ [])
 
 module _ (s : Stance) (waiting : Option Parts) (since : List Level) where

@@ -7,7 +7,7 @@ use Rattle.can_code.proofs.layout.push_bits.Goals as goal
 pub loop-place-preserved : goal.loop-place-preserved
 loop-place-preserved c =
     let items = c.loop-place.levels.items in
-    let pushed = c.push.ensures.items ∙ ap (λ t. items ++ t ∷ []) c.from_bool.ensures in record {
+    let pushed = c.push.ensures.items ∙ ap (λ t. items ++ t ∷ []) c.bit.ensures in record {
       items = ap (λ t. t ++ bits_of (c.loop-place.place - 1) c.args.value) pushed
           ∙ bits_of-pushed items c.loop-place.place c.args.value (omega arith) ∙ c.loop-place.invariant.items;
       len = omega (arith, c.push.ensures.len, c.loop-place.invariant.len);

@@ -1,0 +1,53 @@
+//! Where the unstuffed levels of a frame stand, counted from its start of frame. (Bosch CAN 2.0
+//! part B, section 3.2.1)
+
+/// Where the start of frame stands.
+pub(crate) const SOF_PLACE: usize = 0;
+
+/// Where the identifier stands: all of a standard one, the eleven highest bits of an extended one.
+pub(crate) const IDENTIFIER_PLACE: usize = 1;
+
+/// How many bits of the identifier stand there.
+pub(crate) const IDENTIFIER_BITS: usize = 11;
+
+/// Where the RTR bit of a standard frame stands.
+pub(crate) const STANDARD_RTR_PLACE: usize = 12;
+
+/// Where the SRR bit of an extended frame stands.
+pub(crate) const SRR_PLACE: usize = 12;
+
+/// Where the IDE bit stands.
+pub(crate) const IDE_PLACE: usize = 13;
+
+/// Where the reserved bit r0 of a standard frame stands.
+pub(crate) const STANDARD_R0_PLACE: usize = 14;
+
+/// Where the data length code of a standard frame stands.
+pub(crate) const STANDARD_DLC_PLACE: usize = 15;
+
+/// Where the rest of an extended identifier stands, behind the IDE bit.
+pub(crate) const EXTENSION_PLACE: usize = 14;
+
+/// How many bits of an extended identifier stand there.
+pub(crate) const EXTENSION_BITS: usize = 18;
+
+/// Where the RTR bit of an extended frame stands.
+pub(crate) const EXTENDED_RTR_PLACE: usize = 32;
+
+/// Where the reserved bit r1 of an extended frame stands.
+pub(crate) const R1_PLACE: usize = 33;
+
+/// Where the reserved bit r0 of an extended frame stands.
+pub(crate) const EXTENDED_R0_PLACE: usize = 34;
+
+/// Where the data length code of an extended frame stands.
+pub(crate) const EXTENDED_DLC_PLACE: usize = 35;
+
+/// How far the data stand behind the RTR bit.
+pub(crate) const RTR_TO_DATA: usize = 7;
+
+/// How many bits the data length code has.
+pub(crate) const DLC_BITS: usize = 4;
+
+/// How many bits the CRC sequence has.
+pub(crate) const CHECK_BITS: usize = 15;

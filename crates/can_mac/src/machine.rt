@@ -1,0 +1,221 @@
+ghost use Rattle.std.specs.Prelude.{◌≡◌, ◌≤◌, ◌↔◌, length, true, false, IsTrue, IsFalse};
+ghost use Rattle.std.specs.Option.{option_copied};
+ghost use Rattle.can_code.specs.Front.{FrontParts};
+ghost use Rattle.can_fault.specs.Counters.{counted, is_bus_off, is_passive as is_passive_by};
+ghost use Rattle.can_mac.specs.State.{idle as idle_state, IsMac, IsPhase, IsWaiting, is_off_phase, joining as joining_state, starting};
+ghost use Rattle.can_mac.specs.Moves.{move, phase_after};
+ghost use Rattle.can_mac.specs.Machine.{holding, IsSilent, mac_drives, mac_step, off_step, on_step, stance as stance_of};
+
+use crate::driving::{level_of_part, level_of_slot};
+use crate::event::Event;
+use crate::moves::{MOST_OVERLOADS, Move, NewFrame, Stance, next_move};
+use crate::phase::{Overloads, Phase, Role};
+use can_code::{FrameBits, Front, PlainBits};
+use can_fault::{Cause, Confine, State};
+use can_frame::{Frame, Level};
+use std::marker::Model;
+
+/// A controller's medium access, one bit time after another: what it drives, and what the level makes
+/// of it that it samples. (Bosch CAN 2.0 part B, sections 3.2 and 7) `B` holds the unstuffed levels of
+/// the frame on the bus.
+///
+/// No call takes memory, and none depends on how long the controller has run.
+#[derive(Drop)]
+pub struct MediumAccess<B: FrameBits> {
+    phase: Phase<Front<B>>,
+    role: Role,
+    overloads: Overloads,
+    confine: Confine,
+}
+
+/// The medium access of a controller that holds the unstuffed levels one by one.
+pub type Mac = MediumAccess<PlainBits>;
+
+impl<B: FrameBits> Model for MediumAccess<B> {
+    ghost use Rattle.can_mac.specs.State.{IsMac, MacState};
+
+    ghost Value = { MacState };
+
+    ghost view = { λ a. record { phase = a.phase; role = a.role; overloads = a.overloads; counters = a.confine } };
+
+    ghost invariant = { λ a. IsMac (record { phase = a.phase; role = a.role; overloads = a.overloads; counters = a.confine }) };
+}
+
+impl<B: FrameBits> MediumAccess<B> {
+    /// A controller that is on the bus and idle, with all its numbers 0.
+    pub fn idle() -> Self
+        ensures { result ≡ idle_state }
+    {
+        MediumAccess::starting(Phase::Idle)
+    }
+
+    /// A controller that waits for eleven recessive levels in a row before it is on the bus, with all
+    /// its numbers 0.
+    pub fn joining() -> Self
+        ensures { result ≡ joining_state }
+    {
+        MediumAccess::starting(Phase::Joining { row: 0 })
+    }
+
+    /// A receiver in this phase, with all its numbers 0.
+    fn starting(phase: Phase<Front<B>>) -> Self
+        requires kept { IsPhase phase }
+        requires on_bus { is_off_phase phase ≡ false }
+        ensures { result ≡ starting phase }
+    {
+        MediumAccess {
+            phase,
+            role: Role::Receiver,
+            overloads: Overloads {
+                pending: 0,
+                used: 0,
+            },
+            confine: Confine::new(),
+        }
+    }
+
+    /// What the controller drives in the next bit time, where this frame waits to be sent.
+    #[tactic(auto, using(crate::proofs::DriveLemmas::longest_part), unfolding(crate::specs::Machine::mac_drives))]
+    pub fn drive(&self, waiting: Option<&Frame>) -> Level
+        ensures level { result ≡ mac_drives self.now (option_copied waiting.entry) }
+        ensures silent { IsSilent self.now.phase → result ≡ Level.Recessive }
+        ensures kept { IsMac self.now }
+        ensures longest { (front : FrontParts) → self.now.phase ≡ Phase.StuffedPart front → length front.unstuffed ≤ 118 }
+    {
+        match &self.phase {
+            Phase::Idle if waiting.is_some() => Level::Dominant,
+            Phase::StuffedPart(front) => level_of_part(&self.role, front),
+            Phase::AckSlot(reading) => level_of_slot(&self.role, reading),
+            Phase::ErrorFlag { .. } | Phase::OverloadFlag { .. } => Level::Dominant,
+            Phase::Joining { .. }
+            | Phase::Idle
+            | Phase::CrcDelimiter(_)
+            | Phase::AckDelimiter(_)
+            | Phase::EndOfFrame { .. }
+            | Phase::PassiveFlag { .. }
+            | Phase::AfterFlag { .. }
+            | Phase::Delimiter { .. }
+            | Phase::Intermission { .. }
+            | Phase::Suspend { .. }
+            | Phase::BusOff => Level::Recessive,
+        }
+    }
+
+    /// Takes the level that the bus has in this bit time, where this frame waits to be sent: what is
+    /// told. What the controller drove is what [`MediumAccess::drive`] answers for the same frame.
+    #[tactic(auto, unfolding(crate::specs::Machine::mac_step))]
+    pub fn sample(&mut self, waiting: Option<&Frame>, seen: Level) -> Option<Event>
+        ensures state { self.new ≡ (mac_step self.old (option_copied waiting.entry) seen).0 }
+        ensures event { result ≡ (mac_step self.old (option_copied waiting.entry) seen).1 }
+    {
+        match self.phase {
+            Phase::BusOff => self.wait_for_recovery(seen),
+            _ => self.take_part(waiting, seen),
+        }
+    }
+
+    /// Asks for `count` overload frames of its own, in place of what was asked for before. `false`
+    /// where they are more than two: then nothing changes.
+    pub fn hold(&mut self, count: u8) -> bool
+        ensures fits { IsTrue result ↔ (count ≤ 2) }
+        ensures held { IsTrue result → self.new ≡ holding count self.old }
+        ensures unchanged { IsFalse result → self.new ≡ self.old }
+    {
+        if count > MOST_OVERLOADS {
+            return false;
+        }
+        self.overloads.pending = count;
+        true
+    }
+
+    /// Its error counters.
+    pub fn confine(&self) -> &Confine
+        ensures { result.now ≡ self.now.counters }
+    {
+        &self.confine
+    }
+
+    /// Off the bus each level counts for recovery.
+    fn wait_for_recovery(&mut self, seen: Level) -> Option<Event>
+        requires { is_off_phase self.old.phase ≡ true }
+        ensures state { self.new ≡ (off_step self.old seen).0 }
+        ensures event { result ≡ (off_step self.old seen).1 }
+    {
+        if self.confine.recover(seen) {
+            self.phase = Phase::Idle;
+            return Some(Event::Recovered);
+        }
+        None
+    }
+
+    /// A level at a controller that isn't off the bus.
+    fn take_part(&mut self, waiting: Option<&Frame>, seen: Level) -> Option<Event>
+        requires { is_off_phase self.old.phase ≡ false }
+        ensures state { self.new ≡ (on_step self.old (move (stance_of self.old) self.old.phase (option_copied waiting.entry) seen)).0 }
+        ensures event { result ≡ (on_step self.old (move (stance_of self.old) self.old.phase (option_copied waiting.entry) seen)).1 }
+    {
+        within_limits(waiting);
+        let stance = Stance {
+            passive: is_passive(&self.confine),
+            role: self.role,
+            overloads: self.overloads,
+        };
+        let Move {
+            phase,
+            role,
+            overloads,
+            cause,
+            event,
+        } = next_move(&stance, &mut self.phase, waiting, seen);
+        self.overloads = overloads;
+        if count(&mut self.confine, cause) {
+            self.phase = Phase::BusOff;
+            self.role = Role::Receiver;
+            return Some(Event::WentOff);
+        }
+        enter(&mut self.phase, phase);
+        self.role = role;
+        event
+    }
+}
+
+/// A frame that waits is within its limits, which its bytes tell.
+fn within_limits(waiting: Option<&Frame>)
+    ensures { IsWaiting (option_copied waiting.entry) }
+{
+    if let Some(frame) = waiting {
+        let _ = frame.bytes();
+    }
+}
+
+/// Whether the controller is error passive.
+#[tactic(auto, using(crate::proofs::Landing::active_told, crate::proofs::Landing::passive_told, crate::proofs::Landing::off_told))]
+fn is_passive(confine: &Confine) -> bool
+    ensures { result ≡ is_passive_by confine.now }
+{
+    match confine.state() {
+        State::Active => false,
+        State::Passive | State::BusOff => true,
+    }
+}
+
+/// Enters a phase, if there is one.
+fn enter<B: FrameBits>(phase: &mut Phase<Front<B>>, next: Option<Phase<NewFrame>>)
+    ensures { phase.new ≡ phase_after phase.old next }
+{
+    if let Some(next) = next {
+        *phase = next.entered();
+    }
+}
+
+/// Counts what a move counts, if anything: whether this makes the controller bus off.
+fn count(confine: &mut Confine, cause: Option<Cause>) -> bool
+    ensures none { cause ≡ None → (confine.new ≡ confine.old) × (result ≡ false) }
+    ensures some { (c : Cause) → cause ≡ Some c → (confine.new ≡ counted c confine.old) × (result ≡ is_bus_off confine.new) }
+{
+    let Some(cause) = cause else {
+        return false;
+    };
+    confine.apply(cause);
+    confine.state() == State::BusOff
+}

@@ -1,0 +1,118 @@
+//! The stuffed part of a frame, heard in place. (Bosch CAN 2.0 part B, sections 2, 6, 7.1 and 8)
+
+ghost use Rattle.std.specs.Prelude.{◌≡◌, ◌≢◌, List, length, if◌then◌else◌};
+ghost use Rattle.can_frame.specs.declared.level.Level.{Level as Bit};
+ghost use Rattle.can_code.specs.Front.{FrontParts, is_stuff_error, next_place as next_place_of};
+ghost use Rattle.can_mac.specs.Moves.{hears, in_arbitration, part_phase, phase_after, placed, sent_bit_move, stuff_error_move, stuffed_part_move};
+ghost use Rattle.can_mac.specs.declared.phase.Phase.TheVariants.{StuffedPart};
+
+use crate::event::{ErrorKind, Event};
+use crate::moves::{Entering, Hearing, Move, NewFrame, Stance};
+use crate::phase::{Phase, Reading, Role};
+use can_code::{FrameBits, Front, Place, Sending};
+use can_frame::Level;
+
+/// Where the RTR bit stands, which ends the arbitration of a standard frame.
+const STANDARD_RTR_PLACE: usize = 12;
+
+/// Where the RTR bit stands, which ends the arbitration of an extended frame.
+const EXTENDED_RTR_PLACE: usize = 32;
+
+/// A level of the stuffed part.
+pub(crate) fn stuffed_part<B: FrameBits>(
+    stance: &Stance,
+    front: &mut Front<B>,
+    seen: Level,
+) -> Hearing
+    requires { next_place_of front.old ≢ Place.CrcDelimiter }
+    ensures { placed (StuffedPart front.new) result ≡ stuffed_part_move stance.now front.old seen }
+{
+    match (&stance.role, front.next_place()) {
+        (Role::Sender(sending), Place::Bit) => {
+            let sent = sending.level_at(front.len());
+            sent_bit(stance, sending, sent, front, seen)
+        }
+        _ => hear(stance, front, seen),
+    }
+}
+
+/// Hears a level, which may be a wrong stuff bit.
+fn hear<B: FrameBits>(stance: &Stance, front: &mut Front<B>, seen: Level) -> Hearing
+    requires { next_place_of front.old ≢ Place.CrcDelimiter }
+    ensures { placed (StuffedPart front.new) result ≡ (if is_stuff_error front.old seen then stuff_error_move stance.now front.old seen else hears stance.now front.old seen) }
+{
+    if front.hear(seen).is_err() {
+        return stuff_error(stance, front.len(), seen).leaves();
+    }
+    Move {
+        phase: end_of_part(front),
+        role: stance.role,
+        overloads: stance.overloads,
+        cause: None,
+        event: None,
+    }
+}
+
+/// Where the stuffed part has ended, what it has told.
+fn end_of_part<B: FrameBits>(front: &Front<B>) -> Option<Phase<NewFrame>>
+    ensures { phase_after (StuffedPart front.now) result ≡ part_phase front.now }
+{
+    match front.next_place() {
+        Place::StuffBit | Place::Bit => None,
+        Place::CrcDelimiter => Some(Phase::CrcDelimiter(Reading {
+            frame: front.frame(),
+            agrees: front.check_agrees(),
+        })),
+    }
+}
+
+/// A stuff place repeats the level before it. In arbitration a sender sent a recessive stuff bit and
+/// saw a dominant one: this counts nothing.
+fn stuff_error(stance: &Stance, place: usize, seen: Level) -> Entering
+    ensures { (front : FrontParts) → length front.unstuffed ≡ place → result ≡ stuff_error_move stance.now front seen }
+{
+    match (&stance.role, seen) {
+        (Role::Sender(sending), Level::Dominant) if is_in_arbitration(sending, place) => {
+            stance.errs_by(None, false, ErrorKind::Stuff)
+        }
+        _ => stance.errs(ErrorKind::Stuff),
+    }
+}
+
+/// Whether the unstuffed level at this place of a frame belongs to its identifier or is a bit that
+/// stands with it: SRR and IDE of an extended frame, RTR.
+fn is_in_arbitration(sending: &Sending, place: usize) -> bool
+    ensures { (u : List Bit) → length u ≡ place → result ≡ in_arbitration sending.now u }
+{
+    let rtr_place = if sending.frame().is_extended() {
+        EXTENDED_RTR_PLACE
+    } else {
+        STANDARD_RTR_PLACE
+    };
+    place <= rtr_place
+}
+
+/// A level of its frame that a sender sent, and the one that it sees. A recessive level that is overridden in its
+/// arbitration loses arbitration.
+fn sent_bit<B: FrameBits>(
+    stance: &Stance,
+    sending: &Sending,
+    sent: Level,
+    front: &mut Front<B>,
+    seen: Level,
+) -> Hearing
+    requires { next_place_of front.old ≡ Place.Bit }
+    ensures { placed (StuffedPart front.new) result ≡ sent_bit_move stance.now sending.now front.old sent seen }
+{
+    match (sent, seen) {
+        (Level::Dominant, Level::Dominant) | (Level::Recessive, Level::Recessive) => {
+            hear(stance, front, seen)
+        }
+        (Level::Recessive, Level::Dominant) if is_in_arbitration(sending, front.len()) => Move {
+            role: Role::Receiver,
+            event: Some(Event::Lost),
+            ..hear(stance, front, seen)
+        },
+        _ => stance.errs(ErrorKind::Bit).leaves(),
+    }
+}
