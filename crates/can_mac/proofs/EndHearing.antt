@@ -1,14 +1,14 @@
 -- The levels behind the stuffed part, and what stands in the levels at the end of a frame.
-use Rattle.std.proofs.Common.{◌≡◌, ℕ, ◌+◌, ◌≤◌, Bool, true, false, not, List, [], ◌∷◌, ◌++◌, replicate, refl, sym, ◌∙◌, ap, subst, append_assoc}
+use Rattle.std.proofs.Common.{◌≡◌, ℕ, ◌+◌, Bool, true, not, List, [], ◌∷◌, ◌++◌, refl, sym, ◌∙◌, ap, subst, append_assoc}
 use Rattle.std.proofs.lemmas.List.{replicate-append-replicate}
 use Rattle.can_frame.specs.declared.level.Level.{Level}
 use Rattle.can_frame.specs.declared.level.Level.TheVariants.{Dominant, Recessive}
 use Rattle.can_frame.specs.Levels.{is_recessive}
-use Rattle.can_frame.specs.Parts.{Parts, IsFrame}
+use Rattle.can_frame.specs.Parts.{Parts}
 use Rattle.can_code.specs.Crc.{IsCrc}
 use Rattle.can_code.specs.Stuffing.{Stuffs}
 use Rattle.can_code.specs.Wire.{unstuffed, stuffed_part, wire, tail}
-use Rattle.can_code.specs.Heard.{HeardParts, ack_slot, Spells}
+use Rattle.can_code.specs.Heard.{ack_slot, Spells}
 use Rattle.can_code.specs.Layout.{frame_of, heard_of, check_of, head_of}
 use Rattle.can_code.specs.Reading.{IsPart}
 use Rattle.can_code.proofs.StuffingLemmas.{stuffed-only}
@@ -16,9 +16,8 @@ use Rattle.can_code.proofs.LayoutWrite.{IsHeard-heard_of, heard_head-heard_of, h
 use Rattle.can_mac.specs.declared.phase.Role.{Role}
 use Rattle.can_mac.specs.declared.phase.Role.TheVariants.{Receiver, Sender}
 use Rattle.can_mac.specs.declared.phase.Reading.{Reading}
-use Rattle.can_mac.specs.Moves.{agrees, reading_of}
 use Rattle.can_mac.proofs.PartEnds.{agrees-Decides}
-use Rattle.can_mac.proofs.Hearing.{EndsIn, EndsIn-more, IsOwn, HeardPart, HeardSlot, HeardEnd, to_end, EndsSpelled}
+use Rattle.can_mac.proofs.Hearing.{EndsIn, EndsIn-more, IsOwn, HeardPart, HeardSlot, to_end, EndsSpelled}
 
 -- one level more behind the stuffed part
 pub HeardPart-more : (role : Role) (r : Reading) (behind levels : List Level) (x : Level) → HeardPart role r behind levels → HeardPart role r (behind ++ x ∷ []) (levels ++ x ∷ [])

@@ -1,6 +1,6 @@
 -- What a controller knows of the levels that it has seen: where a frame goes on, its levels so far stand at
 -- their end; and if the controller sends it, they are those of its own frame.
-use Rattle.std.proofs.Common.{◌≡◌, ◌≢◌, ℕ, ◌+◌, ◌≤◌, true, Option, Some, None, List, [], ◌∷◌, ◌++◌, replicate, refl, sym, ◌∙◌, ap, append_assoc}
+use Rattle.std.proofs.Common.{◌≡◌, ◌≢◌, ℕ, ◌≤◌, true, Option, Some, None, List, [], ◌∷◌, ◌++◌, replicate, ◌∙◌, ap, append_assoc}
 use Rattle.can_frame.specs.declared.level.Level.{Level}
 use Rattle.can_frame.specs.declared.level.Level.TheVariants.{Dominant, Recessive}
 use Rattle.can_frame.specs.Parts.{Parts, IsFrame}
@@ -16,7 +16,7 @@ use Rattle.can_mac.specs.declared.phase.Role.{Role}
 use Rattle.can_mac.specs.declared.phase.Role.TheVariants.{Receiver, Sender}
 use Rattle.can_mac.specs.declared.phase.Reading.{Reading}
 use Rattle.can_mac.specs.declared.phase.Phase.TheVariants.{Joining, Idle, StuffedPart, CrcDelimiter, AckSlot, AckDelimiter, EndOfFrame, ErrorFlag, PassiveFlag, OverloadFlag, AfterFlag, Delimiter, Intermission, Suspend, BusOff}
-use Rattle.can_mac.specs.State.{MacPhase, MacState}
+use Rattle.can_mac.specs.State.{MacPhase}
 use Rattle.can_mac.specs.Moves.{MacMove, reading_of}
 
 -- the levels end in this stretch

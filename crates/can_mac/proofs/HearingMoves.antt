@@ -1,14 +1,14 @@
 -- What a controller knows of the levels stays so with each move, and what a move tells of them is so.
-use Rattle.std.proofs.Common.{◌≡◌, ℕ, ◌+◌, ◌<◌, ◌≤◌, Bool, true, false, not, ◌&&◌, Option, Some, None, List, [], ◌∷◌, ◌++◌, length, refl, sym, ◌∙◌, ap, subst, arith, cond}
+use Rattle.std.proofs.Common.{◌≡◌, ℕ, ◌+◌, ◌<◌, Bool, true, false, not, ◌&&◌, Option, Some, None, List, [], ◌∷◌, ◌++◌, length, refl, sym, ◌∙◌, ap, subst, arith, cond}
 use Rattle.std.proofs.Math.Dec.{eqb}
 use Rattle.std.specs.Prelude.{nat_lt}
-use Rattle.std.proofs.lemmas.Bool.{cond_both, cases_Bool, cond-true, cond-false, eqb-true, eqb-false, ltb-true, ltb-false}
+use Rattle.std.proofs.lemmas.Bool.{cond_both, cond-true, cond-false, eqb-false, ltb-true, ltb-false}
 use Rattle.can_frame.specs.declared.level.Level.{Level}
 use Rattle.can_frame.specs.declared.level.Level.TheVariants.{Dominant, Recessive}
 use Rattle.can_frame.specs.Levels.{same, is_recessive}
-use Rattle.can_frame.specs.Parts.{Parts, IsFrame}
+use Rattle.can_frame.specs.Parts.{Parts}
 use Rattle.can_code.specs.Sending.{sent_level}
-use Rattle.can_code.specs.Front.{FrontParts, first_front, has_check, is_stuff_error, heard_level}
+use Rattle.can_code.specs.Front.{FrontParts, is_stuff_error, heard_level}
 use Rattle.can_code.proofs.FrontLemmas.{next_place-partial}
 use Rattle.can_fault.specs.declared.cause.Cause.{Cause}
 use Rattle.can_mac.specs.declared.event.ErrorKind.{ErrorKind}
@@ -23,10 +23,6 @@ use Rattle.can_mac.specs.Moves.{MacMove, flag, errs_by, begins, in_arbitration, 
 use Rattle.can_mac.proofs.Hearing.{BeginsOwn, HearsPart, HeardPart, HeardSlot, HeardEnd, Accepts, to_slot, to_end, Knows, KnowsAfter}
 use Rattle.can_mac.proofs.PartHearing.{BeginsOwn-first, BeginsOwn-next, HearsPart-first, HearsPart-more}
 use Rattle.can_mac.proofs.EndHearing.{HeardPart-more, HeardSlot-more, EndsSpelled-received, EndsIn-sent}
-
-
-
-
 
 either : {v w : MacMove} {levels : List Level} (b : Bool) → KnowsAfter v levels → KnowsAfter w levels → KnowsAfter (cond b v w) levels
 either true p q = p
@@ -66,9 +62,9 @@ module _ (passive : Bool) (overloads : Overloads) (levels : List Level) where
         cond_both {A = MacMove} (same x front.last) (stuff_error_move (acting role) front x) (hears (acting role) front x) (λ v. KnowsAfter v (levels ++ x ∷ []))
         (λ e. either (is_uncounted role front.unstuffed x) (error _ _ _ _) (error _ _ _ _))
         (λ e.
-            let no_error : is_stuff_error front x ≡ false = ap (λ b. b && same x front.last) due ∙ e in
-            let own : BeginsOwn role (heard_level front x).unstuffed = subst (λ g. BeginsOwn role g.unstuffed) (sym (cond-true {A = FrontParts} (eqb front.run 5) _ _ due)) h.own in
-            record { knows = HearsPart-more role role front x levels h no_error own; told = tt })
+        let no_error : is_stuff_error front x ≡ false = ap (λ b. b && same x front.last) due ∙ e in
+        let own : BeginsOwn role (heard_level front x).unstuffed = subst (λ g. BeginsOwn role g.unstuffed) (sym (cond-true {A = FrontParts} (eqb front.run 5) _ _ due)) h.own in
+        record { knows = HearsPart-more role role front x levels h no_error own; told = tt })
 
     module _ (not_due : eqb front.run 5 ≡ false) where
       no_error-bit : is_stuff_error front x ≡ false
@@ -117,13 +113,13 @@ module _ (passive : Bool) (overloads : Overloads) (levels : List Level) where
       cond_both {A = MacMove} (refuses role r) _ _ (λ v. KnowsAfter v (levels ++ Recessive ∷ []))
       (λ e. error _ _ _ _)
       (λ e. record {
-          knows = record {
-            within = omega arith;
-            accepts = accepts-from role r e;
-            slot = record { ack = h.ack; fits = h.fits; heard = HeardPart-more role r (to_slot h.ack) levels Recessive h.heard };
-          };
-          told = tt;
-        })
+        knows = record {
+          within = omega arith;
+          accepts = accepts-from role r e;
+          slot = record { ack = h.ack; fits = h.fits; heard = HeardPart-more role r (to_slot h.ack) levels Recessive h.heard };
+        };
+        told = tt;
+      })
 
   -- the end of a frame
   module _ (r : Reading) (place : ℕ) where
@@ -136,19 +132,19 @@ module _ (passive : Bool) (overloads : Overloads) (levels : List Level) where
         cond_both {A = MacMove} (nat_lt place 6) _ _ (λ v. KnowsAfter v (levels ++ Recessive ∷ []))
         (λ e. record { knows = more-end (Sender f) (ltb-true place 6 e) h; told = tt })
         (λ e.
-            let last : place + 1 ≡ 7 = omega (arith, ltb-false place 6 e, h.within) in
-            let slot = subst (λ n. HeardSlot (Sender f) r (to_end n) (levels ++ Recessive ∷ [])) last (HeardSlot-more (Sender f) r place levels h.slot) in
-            record { knows = tt; told = EndsIn-sent f r (levels ++ Recessive ∷ []) slot })
+        let last : place + 1 ≡ 7 = omega (arith, ltb-false place 6 e, h.within) in
+        let slot = subst (λ n. HeardSlot (Sender f) r (to_end n) (levels ++ Recessive ∷ [])) last (HeardSlot-more (Sender f) r place levels h.slot) in
+        record { knows = tt; told = EndsIn-sent f r (levels ++ Recessive ∷ []) slot })
     end-knows Receiver Dominant h = either (nat_lt place 6) (error _ _ _ _) (record { knows = tt; told = tt })
     end-knows Receiver Recessive h =
         cond_both {A = MacMove} (nat_lt place 5) _ _ (λ v. KnowsAfter v (levels ++ Recessive ∷ []))
         (λ e. record { knows = more-end Receiver (omega (arith, ltb-true place 5 e)) h; told = tt })
         (λ late. cond_both {A = MacMove} (nat_lt place 6) _ _ (λ v. KnowsAfter v (levels ++ Recessive ∷ []))
-            (λ e.
-                let sixth : place + 1 ≡ 6 = omega (arith, ltb-false place 5 late, ltb-true place 6 e) in
-                let next = subst (λ n. HeardEnd Receiver r n (levels ++ Recessive ∷ [])) sixth (more-end Receiver (ltb-true place 6 e) h) in
-                record { knows = next; told = EndsSpelled-received r (levels ++ Recessive ∷ []) h.accepts next.slot })
-            (λ e. enters (acting Receiver) Receiver))
+        (λ e.
+        let sixth : place + 1 ≡ 6 = omega (arith, ltb-false place 5 late, ltb-true place 6 e) in
+        let next = subst (λ n. HeardEnd Receiver r n (levels ++ Recessive ∷ [])) sixth (more-end Receiver (ltb-true place 6 e) h) in
+        record { knows = next; told = EndsSpelled-received r (levels ++ Recessive ∷ []) h.accepts next.slot })
+        (λ e. enters (acting Receiver) Receiver))
 
   -- any phase
   pub move-knows : (role : Role) (phase : MacPhase) (waiting : Option Parts) (x : Level) → IsWaiting waiting → Knows phase role levels → KnowsAfter (move (acting role) phase waiting x) (levels ++ x ∷ [])

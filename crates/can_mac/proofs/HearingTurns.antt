@@ -1,14 +1,14 @@
 -- What a controller knows of the levels, over bit times in a row.
-use Rattle.std.proofs.Common.{◌≡◌, ℕ, zero, suc, ◌+◌, true, false, Option, Some, None, List, [], ◌∷◌, ◌++◌, length, take, refl, sym, ◌∙◌, ap, subst, arith, append-nil, append_assoc, inl, inr}
+use Rattle.std.proofs.Common.{◌≡◌, ℕ, zero, suc, true, Option, Some, None, List, [], ◌∷◌, ◌++◌, take, sym, subst, append-nil, append_assoc, inl, inr}
 use Rattle.std.specs.List.{slice_get}
 use Rattle.std.proofs.lemmas.Bool.{cases_Bool, cond_both}
 use Rattle.can_frame.specs.declared.level.Level.{Level}
 use Rattle.can_frame.specs.Parts.{Parts}
 use Rattle.can_fault.specs.Recovery.{ends_bus_off, recovered}
 use Rattle.can_mac.specs.declared.event.Event.{Event}
-use Rattle.can_mac.specs.declared.event.Event.TheVariants.{WentOff, Recovered}
-use Rattle.can_mac.specs.declared.phase.Phase.TheVariants.{Idle, BusOff}
-use Rattle.can_mac.specs.State.{MacPhase, MacState, is_off_phase, IsWaiting}
+use Rattle.can_mac.specs.declared.event.Event.TheVariants.{Recovered}
+use Rattle.can_mac.specs.declared.phase.Phase.TheVariants.{Idle}
+use Rattle.can_mac.specs.State.{MacState, is_off_phase, IsWaiting}
 use Rattle.can_mac.specs.Machine.{stance, off_step, mac_step}
 use Rattle.can_mac.proofs.Turns.{Turn, levels_of, after_turn, turn_event, after_turns, turn_events}
 use Rattle.can_mac.proofs.TurnEnds.{on_bus, off_bus, off_is}

@@ -8,7 +8,6 @@ pub mod PartEnds
 pub mod Turns
 pub mod TurnEnds
 -- what a controller knows of the levels that it has seen
-pub mod Agreement
 pub mod Hearing
 pub mod PartHearing
 pub mod EndHearing

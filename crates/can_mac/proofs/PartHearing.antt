@@ -1,14 +1,12 @@
 -- One more level of a stuffed part.
-use Rattle.std.proofs.Common.{◌≡◌, ◌≢◌, ℕ, ◌+◌, Bool, true, false, not, ◌&&◌, List, [], ◌∷◌, ◌++◌, length, refl, sym, ◌∙◌, ap, subst, append_assoc, cond}
+use Rattle.std.proofs.Common.{◌≡◌, ◌≢◌, Bool, true, false, not, ◌&&◌, List, [], ◌∷◌, ◌++◌, length, refl, sym, ◌∙◌, ap, subst, append_assoc, cond}
 use Rattle.std.proofs.Math.Dec.{eqb}
-use Rattle.std.proofs.lemmas.Bool.{cond_both, cond-true, cond-false, eq-eqb, both_ways}
+use Rattle.std.proofs.lemmas.Bool.{cond_both, eq-eqb, both_ways}
 use Rattle.std.proofs.lemmas.List.{append-nil, get_or_at}
 use Rattle.can_frame.specs.declared.level.Level.{Level}
-use Rattle.can_frame.specs.declared.level.Level.TheVariants.{Dominant, Recessive}
-use Rattle.can_frame.specs.Levels.{same}
+use Rattle.can_frame.specs.declared.level.Level.TheVariants.{Dominant}
 use Rattle.can_frame.specs.Parts.{Parts, IsFrame}
 use Rattle.can_code.specs.declared.front.Place.TheVariants.{StuffBit, Bit, CrcDelimiter as ended}
-use Rattle.can_code.specs.Crc.{crc_of}
 use Rattle.can_code.specs.Wire.{head, unstuffed}
 use Rattle.can_code.specs.Layout.{level_at, frame_len, IsComplete}
 use Rattle.can_code.specs.Sending.{sent_level}
@@ -22,7 +20,7 @@ use Rattle.can_mac.specs.declared.phase.Role.TheVariants.{Receiver, Sender}
 use Rattle.can_mac.specs.declared.phase.Phase.TheVariants.{StuffedPart, CrcDelimiter}
 use Rattle.can_mac.specs.State.{MacPhase}
 use Rattle.can_mac.specs.Moves.{reading_of, ends_part, part_phase}
-use Rattle.can_mac.proofs.Hearing.{EndsIn, EndsIn-more, BeginsOwn, IsOwn, HearsPart, HeardPart, Knows}
+use Rattle.can_mac.proofs.Hearing.{EndsIn, EndsIn-more, BeginsOwn, IsOwn, HearsPart, Knows}
 
 -- a stuffed part ends where the CRC delimiter is next
 ends_part-ended : (front : FrontParts) → ends_part front ≡ true → next_place front ≡ ended
@@ -85,13 +83,13 @@ HearsPart-more old role front x levels h no_error own =
     let ends : EndsIn part (levels ++ x ∷ []) = EndsIn-more h.part levels x h.ends in
     cond_both {A = MacPhase} (ends_part next) (CrcDelimiter (reading_of next.unstuffed)) (StuffedPart next) (λ phase. Knows phase role (levels ++ x ∷ []))
     (λ e.
-        let is_part = IsFrontOf-part part next front_of (ends_part-ended next e) in
-        record {
-          u = next.unstuffed;
-          part = part;
-          ends = subst (λ l. EndsIn l (levels ++ x ∷ [])) (sym (append-nil part)) ends;
-          is_part = is_part;
-          read = refl;
-          own = IsOwn-complete role next.unstuffed is_part.complete own;
-        })
+    let is_part = IsFrontOf-part part next front_of (ends_part-ended next e) in
+    record {
+      u = next.unstuffed;
+      part = part;
+      ends = subst (λ l. EndsIn l (levels ++ x ∷ [])) (sym (append-nil part)) ends;
+      is_part = is_part;
+      read = refl;
+      own = IsOwn-complete role next.unstuffed is_part.complete own;
+    })
     (λ e. record { part = part; ends = ends; front_of = front_of; goes_on = ends_part-going next e; own = own })

@@ -7,7 +7,6 @@ use Rattle.can_fault.specs.declared.cause.Cause.TheVariants.{ReceiverError, Rece
 use Rattle.can_fault.specs.Counters.{ConfineParts, is_bus_off, changed, counted}
 use Rattle.can_mac.specs.declared.event.Event.{Event}
 use Rattle.can_mac.specs.declared.event.Event.TheVariants.{WentOff}
-use Rattle.can_mac.specs.declared.phase.Role.TheVariants.{Receiver}
 use Rattle.can_mac.specs.declared.phase.Phase.TheVariants.{BusOff}
 use Rattle.can_mac.specs.State.{MacPhase, MacState, is_off_phase}
 use Rattle.can_mac.proofs.Landing.{gone, step_off, step_on}

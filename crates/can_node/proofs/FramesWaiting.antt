@@ -1,5 +1,7 @@
 -- What waits at a port is a frame, while all in its queue are.
-use Rattle.std.proofs.Common.{◌≡◌, ℕ, ◌+◌, Bool, true, false, Option, Some, None, List, [], ◌∷◌, ◌++◌, refl, subst, sym, ◌∙◌, ap, cond}
+use Rattle.std.proofs.Common.{◌≡◌, ℕ, suc, zero, true, false, Option, Some, None, List, [], ◌∷◌, length, refl, subst, sym}
+use Rattle.std.specs.Prelude.{nat_lt}
+use Rattle.std.specs.List.{slice_get}
 use Rattle.std.proofs.lemmas.Bool.{cond_both}
 use Rattle.can_frame.specs.declared.level.Level.{Level}
 use Rattle.can_frame.specs.Parts.{Parts, IsFrame}
@@ -15,6 +17,11 @@ use Rattle.can_node.proofs.PortTurns.{port_turns}
 abbrev pub AreFrames : List Parts → Type 0
 AreFrames [] = Unit {0}
 AreFrames (f ∷ queue) = IsFrame f × AreFrames queue
+
+-- the same, place by place
+pub AreFrames-from : (queue : List Parts) → ((n : ℕ) (f : Parts) → slice_get queue n ≡ Some f → IsFrame f) → AreFrames queue
+AreFrames-from [] each = tt
+AreFrames-from (f ∷ queue) each = (each zero f refl, AreFrames-from queue (λ n g at. each (suc n) g at))
 
 IsFrame-earlier : (f : Parts) (next : Option Parts) → IsFrame f → IsWaiting next → IsFrame (earlier f next)
 IsFrame-earlier f None is others = is

@@ -11,7 +11,7 @@ use Rattle.can_fault.specs.Recovery.{after_level, ends_bus_off, recovered}
 use Rattle.can_mac.specs.declared.event.Event.{Event}
 use Rattle.can_mac.specs.declared.event.Event.TheVariants.{Recovered}
 use Rattle.can_mac.specs.declared.phase.Phase.TheVariants.{Idle, BusOff}
-use Rattle.can_mac.specs.State.{MacPhase, MacState, is_off_phase}
+use Rattle.can_mac.specs.State.{MacState, is_off_phase}
 use Rattle.can_mac.specs.Machine.{stance, off_step, mac_step}
 use Rattle.can_mac.proofs.Turns.{Turn, levels_of, after_turn, turn_event, turn_events}
 use Rattle.can_mac.proofs.TurnEnds.{SameWait, on_bus, off_bus, off_is}
