@@ -7,17 +7,16 @@ use Rattle.can_frame.specs.Levels.{is_recessive}
 use Rattle.can_frame.specs.Parts.{Parts}
 use Rattle.can_code.specs.Crc.{IsCrc}
 use Rattle.can_code.specs.Stuffing.{Stuffs}
-use Rattle.can_code.specs.Wire.{unstuffed, stuffed_part, wire, tail}
+use Rattle.can_code.specs.Wire.{wire, tail}
 use Rattle.can_code.specs.Heard.{ack_slot, Spells}
 use Rattle.can_code.specs.Layout.{frame_of, heard_of, check_of, head_of}
 use Rattle.can_code.specs.Reading.{IsPart}
-use Rattle.can_code.proofs.StuffingLemmas.{stuffed-only}
 use Rattle.can_code.proofs.LayoutWrite.{IsHeard-heard_of, heard_head-heard_of, head_of-heard_head}
 use Rattle.can_mac.specs.declared.phase.Role.{Role}
 use Rattle.can_mac.specs.declared.phase.Role.TheVariants.{Receiver, Sender}
 use Rattle.can_mac.specs.declared.phase.Reading.{Reading}
 use Rattle.can_mac.proofs.PartEnds.{agrees-Decides}
-use Rattle.can_mac.proofs.Hearing.{EndsIn, EndsIn-more, IsOwn, HeardPart, HeardSlot, to_end, EndsSpelled}
+use Rattle.can_mac.proofs.Hearing.{EndsIn, EndsIn-more, HeardPart, HeardSlot, to_end, EndsSpelled}
 
 -- one level more behind the stuffed part
 pub HeardPart-more : (role : Role) (r : Reading) (behind levels : List Level) (x : Level) → HeardPart role r behind levels → HeardPart role r (behind ++ x ∷ []) (levels ++ x ∷ [])
@@ -81,14 +80,8 @@ EndsSpelled-received r levels agreed h =
       ends = h.heard.ends;
     }
 
--- the stuffed part of a frame that is sent is its own
-pub part-own : (f : Parts) (u part : List Level) → IsPart u part → IsOwn (Sender f) u → part ≡ stuffed_part f
-unfolding stuffed_part
-part-own f u part is_part own = stuffed-only (unstuffed f) part (subst (λ a. Stuffs a part) own.1 is_part.stuffs)
-
 -- at the last level of the end of frame a sender has seen its own wire
 pub EndsIn-sent : (f : Parts) (r : Reading) (levels : List Level) → HeardSlot (Sender f) r (to_end 7) levels → EndsIn (wire f) levels
 EndsIn-sent f r levels h =
-    let mine = part-own f h.heard.u h.heard.part h.heard.is_part h.heard.own in
-    let whole : h.heard.part ++ to_end 7 h.ack ≡ wire f = ap (λ a. h.heard.part ++ to_end 7 a) h.fits ∙ ap (λ p. p ++ to_end 7 Dominant) mine in
+    let whole : h.heard.part ++ to_end 7 h.ack ≡ wire f = ap (λ a. h.heard.part ++ to_end 7 a) h.fits ∙ ap (λ p. p ++ to_end 7 Dominant) h.heard.own.part_is in
     subst (λ l. EndsIn l levels) whole h.heard.ends

@@ -1,15 +1,16 @@
 -- What a controller knows of the levels that it has seen: where a frame goes on, its levels so far stand at
 -- their end; and if the controller sends it, they are those of its own frame.
-use Rattle.std.proofs.Common.{◌≡◌, ◌≢◌, ℕ, ◌≤◌, true, Option, Some, None, List, [], ◌∷◌, ◌++◌, replicate, ◌∙◌, ap, append_assoc}
+use Rattle.std.proofs.Common.{◌≡◌, ◌≢◌, ℕ, ◌<◌, ◌≤◌, true, Option, Some, None, List, [], ◌∷◌, ◌++◌, length, take, replicate, ◌∙◌, ap, append_assoc}
 use Rattle.can_frame.specs.declared.level.Level.{Level}
 use Rattle.can_frame.specs.declared.level.Level.TheVariants.{Dominant, Recessive}
 use Rattle.can_frame.specs.Parts.{Parts, IsFrame}
 use Rattle.can_code.specs.declared.front.Place.TheVariants.{CrcDelimiter as ended}
-use Rattle.can_code.specs.Wire.{unstuffed, wire}
+use Rattle.can_code.specs.Wire.{unstuffed, stuffed_part, wire}
 use Rattle.can_code.specs.Heard.{HeardParts, Spells}
 use Rattle.can_code.specs.Reading.{IsPart}
 use Rattle.can_code.specs.Front.{FrontParts, next_place}
 use Rattle.can_code.proofs.FrontsOf.{IsFrontOf}
+use Rattle.can_code.proofs.WireFronts.{front_at}
 use Rattle.can_mac.specs.declared.event.Event.{Event}
 use Rattle.can_mac.specs.declared.event.Event.TheVariants.{Sent, Received, Lost, Error, Overload, WentOff, Recovered}
 use Rattle.can_mac.specs.declared.phase.Role.{Role}
@@ -26,15 +27,29 @@ EndsIn stretch levels = (before : List Level) × (levels ≡ before ++ stretch)
 pub EndsIn-more : (stretch levels : List Level) (x : Level) → EndsIn stretch levels → EndsIn (stretch ++ x ∷ []) (levels ++ x ∷ [])
 EndsIn-more stretch levels x h = (h.0, ap (λ l. l ++ x ∷ []) h.1 ∙ append_assoc h.0 stretch (x ∷ []))
 
--- these unstuffed levels begin those of the frame that the controller sends
-abbrev pub BeginsOwn : Role → List Level → Type 0
-BeginsOwn Receiver u = Unit {0}
-BeginsOwn (Sender f) u = IsFrame f × ((rest : List Level) × (unstuffed f ≡ u ++ rest))
+-- what a sender of f has heard is the front of its own first o levels, and these are the part so far
+pub record OwnFront (f : Parts) (part : List Level) (front : FrontParts) : Type 0 where
+  pub is : IsFrame f
+  pub o : ℕ
+  pub some : 0 < o
+  pub within : o ≤ length (stuffed_part f)
+  pub part_is : part ≡ take o (stuffed_part f)
+  pub front_is : front ≡ front_at f o
 
--- they are all of them
-abbrev pub IsOwn : Role → List Level → Type 0
-IsOwn Receiver u = Unit {0}
-IsOwn (Sender f) u = IsFrame f × (u ≡ unstuffed f)
+-- the whole part is its own
+pub record OwnPart (f : Parts) (part u : List Level) : Type 0 where
+  pub is : IsFrame f
+  pub part_is : part ≡ stuffed_part f
+  pub unstuffed_is : u ≡ unstuffed f
+
+-- what a controller knows to be its own
+abbrev pub IsOwnFront : Role → List Level → FrontParts → Type 0
+IsOwnFront Receiver part front = Unit {0}
+IsOwnFront (Sender f) part front = OwnFront f part front
+
+abbrev pub IsOwnPart : Role → (part u : List Level) → Type 0
+IsOwnPart Receiver part u = Unit {0}
+IsOwnPart (Sender f) part u = OwnPart f part u
 
 -- the ACK slot behind which a controller goes on: to a sender it is dominant
 abbrev pub FitsSlot : Role → Level → Type 0
@@ -52,7 +67,7 @@ pub record HearsPart (role : Role) (front : FrontParts) (levels : List Level) : 
   pub ends : EndsIn part levels
   pub front_of : IsFrontOf part front
   pub goes_on : next_place front ≢ ended
-  pub own : BeginsOwn role front.unstuffed
+  pub own : IsOwnFront role part front
 
 -- a whole stuffed part, of which r tells, and behind it these levels are at the end of the levels
 pub record HeardPart (role : Role) (r : Reading) (behind levels : List Level) : Type 0 where
@@ -61,7 +76,7 @@ pub record HeardPart (role : Role) (r : Reading) (behind levels : List Level) : 
   pub ends : EndsIn (part ++ behind) levels
   pub is_part : IsPart u part
   pub read : r ≡ reading_of u
-  pub own : IsOwn role u
+  pub own : IsOwnPart role part u
 
 -- the same up to the ACK delimiter, and to the n-th level of the end of frame
 pub record HeardSlot (role : Role) (r : Reading) (behind : Level → List Level) (levels : List Level) : Type 0 where

@@ -1,15 +1,14 @@
 -- What a controller knows of the levels stays so with each move, and what a move tells of them is so.
-use Rattle.std.proofs.Common.{◌≡◌, ℕ, ◌+◌, ◌<◌, Bool, true, false, not, ◌&&◌, Option, Some, None, List, [], ◌∷◌, ◌++◌, length, refl, sym, ◌∙◌, ap, subst, arith, cond}
+use Rattle.std.proofs.Common.{◌≡◌, ℕ, ◌+◌, ◌<◌, Bool, true, false, not, ◌&&◌, Option, Some, None, List, [], ◌∷◌, ◌++◌, length, refl, ◌∙◌, ap, subst, arith, cond}
 use Rattle.std.proofs.Math.Dec.{eqb}
 use Rattle.std.specs.Prelude.{nat_lt}
-use Rattle.std.proofs.lemmas.Bool.{cond_both, cond-true, cond-false, eqb-false, ltb-true, ltb-false}
+use Rattle.std.proofs.lemmas.Bool.{cond_both, eqb-true, eqb-false, ltb-true, ltb-false}
 use Rattle.can_frame.specs.declared.level.Level.{Level}
 use Rattle.can_frame.specs.declared.level.Level.TheVariants.{Dominant, Recessive}
 use Rattle.can_frame.specs.Levels.{same, is_recessive}
 use Rattle.can_frame.specs.Parts.{Parts}
 use Rattle.can_code.specs.Sending.{sent_level}
-use Rattle.can_code.specs.Front.{FrontParts, is_stuff_error, heard_level}
-use Rattle.can_code.proofs.FrontLemmas.{next_place-partial}
+use Rattle.can_code.specs.Front.{FrontParts, first_front, is_stuff_error, heard_level}
 use Rattle.can_fault.specs.declared.cause.Cause.{Cause}
 use Rattle.can_mac.specs.declared.event.ErrorKind.{ErrorKind}
 use Rattle.can_mac.specs.declared.phase.Role.{Role}
@@ -20,8 +19,8 @@ use Rattle.can_mac.specs.declared.phase.Phase.TheVariants.{Joining, Idle, Stuffe
 use Rattle.can_mac.specs.declared.moves.Stance.{Stance}
 use Rattle.can_mac.specs.State.{MacPhase, IsWaiting}
 use Rattle.can_mac.specs.Moves.{MacMove, flag, errs_by, begins, in_arbitration, is_uncounted, hears, stuff_error_move, stuff_bit_move, sent_bit_move, bit_move, refuses, enters_intermission, ack_slot_move, end_of_frame_move, flag_run, passive_phase, is_held_back, next_role, move}
-use Rattle.can_mac.proofs.Hearing.{BeginsOwn, HearsPart, HeardPart, HeardSlot, HeardEnd, Accepts, to_slot, to_end, Knows, KnowsAfter}
-use Rattle.can_mac.proofs.PartHearing.{BeginsOwn-first, BeginsOwn-next, HearsPart-first, HearsPart-more}
+use Rattle.can_mac.proofs.Hearing.{IsOwnFront, HearsPart, HeardPart, HeardSlot, HeardEnd, Accepts, to_slot, to_end, Knows, KnowsAfter}
+use Rattle.can_mac.proofs.PartHearing.{OwnFront-first, OwnFront-stuff_bit, OwnFront-bit, HearsPart-first, HearsPart-more}
 use Rattle.can_mac.proofs.EndHearing.{HeardPart-more, HeardSlot-more, EndsSpelled-received, EndsIn-sent}
 
 either : {v w : MacMove} {levels : List Level} (b : Bool) → KnowsAfter v levels → KnowsAfter w levels → KnowsAfter (cond b v w) levels
@@ -43,13 +42,13 @@ enters s (Sender f) = record { knows = tt; told = tt }
 enters s Receiver = either (nat_lt 0 s.overloads.pending && nat_lt s.overloads.used 2) (record { knows = tt; told = tt }) (record { knows = tt; told = tt })
 
 -- a frame begins
-begin : (levels : List Level) (s : Stance) (role : Role) → BeginsOwn role (Dominant ∷ []) → KnowsAfter (begins s role) (levels ++ Dominant ∷ [])
+begin : (levels : List Level) (s : Stance) (role : Role) → IsOwnFront role (Dominant ∷ []) first_front → KnowsAfter (begins s role) (levels ++ Dominant ∷ [])
 begin levels s role own = record { knows = HearsPart-first role levels own; told = tt }
 
-next_role-own : (held_back : Bool) (waiting : Option Parts) → IsWaiting waiting → BeginsOwn (next_role held_back waiting) (Dominant ∷ [])
+next_role-own : (held_back : Bool) (waiting : Option Parts) → IsWaiting waiting → IsOwnFront (next_role held_back waiting) (Dominant ∷ []) first_front
 next_role-own held_back None is = tt
 next_role-own true (Some f) is = tt
-next_role-own false (Some f) is = BeginsOwn-first f is
+next_role-own false (Some f) is = OwnFront-first f is
 
 module _ (passive : Bool) (overloads : Overloads) (levels : List Level) where
   abbrev acting : Role → Stance
@@ -61,19 +60,18 @@ module _ (passive : Bool) (overloads : Overloads) (levels : List Level) where
     stuff_bit-knows role h due =
         cond_both {A = MacMove} (same x front.last) (stuff_error_move (acting role) front x) (hears (acting role) front x) (λ v. KnowsAfter v (levels ++ x ∷ []))
         (λ e. either (is_uncounted role front.unstuffed x) (error _ _ _ _) (error _ _ _ _))
-        (λ e.
-        let no_error : is_stuff_error front x ≡ false = ap (λ b. b && same x front.last) due ∙ e in
-        let own : BeginsOwn role (heard_level front x).unstuffed = subst (λ g. BeginsOwn role g.unstuffed) (sym (cond-true {A = FrontParts} (eqb front.run 5) _ _ due)) h.own in
-        record { knows = HearsPart-more role role front x levels h no_error own; told = tt })
+        (λ e. record { knows = HearsPart-more role role front x levels h (ap (λ b. b && same x front.last) due ∙ e) (own role h e); told = tt })
+      where
+        own : (role : Role) (h : HearsPart role front levels) → same x front.last ≡ false → IsOwnFront role (h.part ++ x ∷ []) (heard_level front x)
+        own Receiver h other = tt
+        own (Sender f) h other = OwnFront-stuff_bit f h.part front h.own h.goes_on x (eqb-true front.run 5 due) other
 
     module _ (not_due : eqb front.run 5 ≡ false) where
       no_error-bit : is_stuff_error front x ≡ false
       no_error-bit = ap (λ b. b && same x front.last) not_due
 
-      sent-own : (f : Parts) → HearsPart (Sender f) front levels → sent_level f (length front.unstuffed) ≡ x → BeginsOwn (Sender f) (heard_level front x).unstuffed
-      sent-own f h sent =
-          let partial = next_place-partial front h.goes_on (eqb-false front.run 5 not_due) in
-          subst (λ g. BeginsOwn (Sender f) g.unstuffed) (sym (cond-false {A = FrontParts} (eqb front.run 5) _ _ not_due)) (BeginsOwn-next f front.unstuffed x partial h.own sent)
+      sent-own : (f : Parts) (h : HearsPart (Sender f) front levels) → sent_level f (length front.unstuffed) ≡ x → IsOwnFront (Sender f) (h.part ++ x ∷ []) (heard_level front x)
+      sent-own f h sent = OwnFront-bit f h.part front h.own h.goes_on x (eqb-false front.run 5 not_due) sent
 
   sent_bit-knows : (front : FrontParts) (f : Parts) (driven x : Level) → eqb front.run 5 ≡ false → HearsPart (Sender f) front levels → sent_level f (length front.unstuffed) ≡ driven
       → KnowsAfter (sent_bit_move (acting (Sender f)) f front driven x) (levels ++ x ∷ [])
@@ -152,7 +150,7 @@ module _ (passive : Bool) (overloads : Overloads) (levels : List Level) where
   move-knows role (Joining row) waiting Recessive is h = either (nat_lt row 10) (record { knows = tt; told = tt }) (record { knows = tt; told = tt })
   move-knows role Idle None Dominant is h = begin levels (acting role) Receiver tt
   move-knows role Idle None Recessive is h = record { knows = tt; told = tt }
-  move-knows role Idle (Some f) Dominant is h = begin levels (acting role) (Sender f) (BeginsOwn-first f is)
+  move-knows role Idle (Some f) Dominant is h = begin levels (acting role) (Sender f) (OwnFront-first f is)
   move-knows role Idle (Some f) Recessive is h = error _ _ (acting (Sender f)) _
   move-knows role (StuffedPart front) waiting x is h =
       cond_both {A = MacMove} (eqb front.run 5) (stuff_bit_move (acting role) front x) (bit_move (acting role) role front x) (λ v. KnowsAfter v (levels ++ x ∷ []))
