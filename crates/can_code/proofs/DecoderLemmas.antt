@@ -1,13 +1,13 @@
 -- What a decoder has heard, level by level: it grows with each level, ends with the last one, and shows the fault where there is one.
-use Rattle.std.proofs.Common.{◌≡◌, ◌≢◌, ℕ, zero, suc, ◌+◌, ◌-◌, ◌<◌, Bool, true, false, not, Option, Some, None, List, [], ◌∷◌, ◌++◌, length, get_or, take, drop, refl, sym, ◌∙◌, ap, subst, arith, append_assoc, length-append, inl, inr}
+use Rattle.std.proofs.Common.{◌≡◌, ◌≢◌, ℕ, ◌-◌, ◌<◌, Bool, true, false, Option, Some, None, List, [], ◌∷◌, ◌++◌, length, take, drop, refl, sym, ◌∙◌, ap, subst, arith, append_assoc, length-append, inl, inr}
 use Rattle.std.specs.Option.{option_and_then}
 use Rattle.std.proofs.Math.Dec.{eqb}
-use Rattle.std.proofs.lemmas.List.{append-nil, take_more, take-append-drop, length-take-le, length-drop, get_or_at}
+use Rattle.std.proofs.lemmas.List.{append-nil, take-append-drop, length-drop}
 use Rattle.std.proofs.lemmas.Bool.{and_parts, eqb-true}
 use denote.Enum.Bare.{sameb}
 use Rattle.can_frame.specs.declared.level.Level.{Level}
 use Rattle.can_frame.specs.declared.level.Level.TheVariants.{Dominant, Recessive}
-use Rattle.can_frame.specs.Levels.{is_recessive, same}
+use Rattle.can_frame.specs.Levels.{same}
 use Rattle.can_code.specs.declared.fault.CodeFaultKind.TheVariants.{Short, Stuff, Crc, Form}
 use Rattle.can_code.specs.contracts.front.Place.{the_type}
 use Rattle.can_code.specs.declared.front.Place.{Place}

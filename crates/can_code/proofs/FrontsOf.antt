@@ -49,12 +49,16 @@ module _ (b : List Level) (f : FrontParts) (r : IsFrontOf b f) where
       nonempty [] e = absurd (omega (arith, e.run_is, r.front.some))
       nonempty (x ∷ b) e = omega arith
 
+  -- where no stuff bit is due the levels are the stuffed list of the unstuffed ones
+  pub IsFrontOf-stuffs : f.run ≢ 5 → Stuffs f.unstuffed b
+  IsFrontOf-stuffs other = Stuffs-from f.unstuffed b r.inserts (not_due other)
+
   -- where the stuffed part has ended it is complete
   pub IsFrontOf-part : next_place f ≡ CrcDelimiter → IsPart f.unstuffed b
   IsFrontOf-part ended =
       let h = next_place-ended f ended in record {
         complete = IsFront-complete f r.front h.1;
-        stuffs = Stuffs-from f.unstuffed b r.inserts (not_due h.0);
+        stuffs = IsFrontOf-stuffs h.0;
       }
 
   -- the stuff bit

@@ -42,6 +42,18 @@ ended_or_going StuffBit = inr (λ e. cc)
 ended_or_going Bit = inr (λ e. cc)
 ended_or_going CrcDelimiter = inl refl
 
+-- within a stuffed part a level is heard: the part has not ended, and the level is no wrong stuff bit
+pub IsFrontOf-goes_on : (p : List Level) (f : FrontParts) (u : List Level) (x : Level) (xs : List Level) → IsFrontOf p f → IsPart u (p ++ x ∷ xs)
+    → (next_place f ≢ CrcDelimiter) × (is_stuff_error f x ≡ false)
+IsFrontOf-goes_on p f u x xs r part =
+    let going : next_place f ≢ CrcDelimiter = λ ended.
+    let one = IsPart-once f.unstuffed u p (p ++ x ∷ xs) (x ∷ xs) [] (IsFrontOf-part p f r ended) part (sym (append-nil (p ++ x ∷ xs))) in
+    absurd (omega (arith, ap length one.1, length-append p (x ∷ xs))) in
+    let no_error : is_stuff_error f x ≡ false = false_from_ne_true (is_stuff_error f x) (λ error.
+    let both = and_parts (eqb f.run 5) (same x f.last) error in
+    IsFrontOf-no_part_repeated p f r x (eqb-true f.run 5 both.0) both.1 u (p ++ x ∷ xs) [] xs part (append-nil (p ++ x ∷ xs))) in
+    (going, no_error)
+
 -- the levels xs behind p complete a stuffed part
 pub heard_levels-part : (xs p u : List Level) (f : FrontParts) → IsFrontOf p f → IsPart u (p ++ xs) → (g : FrontParts) × (heard_levels f xs ≡ Some g) × (g.unstuffed ≡ u) × (next_place g ≡ CrcDelimiter)
 heard_levels-part [] p u f r part =
@@ -51,14 +63,9 @@ heard_levels-part [] p u f r part =
       | inr going ↦ absurd (IsFrontOf-no_part p f r going u p [] mine (append-nil p))
     ]
 heard_levels-part (x ∷ xs) p u f r part =
-    let going : next_place f ≢ CrcDelimiter = λ ended.
-    let one = IsPart-once f.unstuffed u p (p ++ x ∷ xs) (x ∷ xs) [] (IsFrontOf-part p f r ended) part (sym (append-nil (p ++ x ∷ xs))) in
-    absurd (omega (arith, ap length one.1, length-append p (x ∷ xs))) in
-    let no_error : is_stuff_error f x ≡ false = false_from_ne_true (is_stuff_error f x) (λ error.
-    let both = and_parts (eqb f.run 5) (same x f.last) error in
-    IsFrontOf-no_part_repeated p f r x (eqb-true f.run 5 both.0) both.1 u (p ++ x ∷ xs) [] xs part (append-nil (p ++ x ∷ xs))) in
-    let more = heard_levels-part xs (p ++ x ∷ []) u (heard_level f x) (IsFrontOf-heard_level p f r x going no_error) (subst (IsPart u) (sym (append_assoc p (x ∷ []) xs)) part) in
-    (more.0, ap (option_and_then (λ g. heard_levels g xs)) (hear_at-going f x (next_place f) going no_error) ∙ more.1, more.2, more.3)
+    let on = IsFrontOf-goes_on p f u x xs r part in
+    let more = heard_levels-part xs (p ++ x ∷ []) u (heard_level f x) (IsFrontOf-heard_level p f r x on.0 on.1) (subst (IsPart u) (sym (append_assoc p (x ∷ []) xs)) part) in
+    (more.0, ap (option_and_then (λ g. heard_levels g xs)) (hear_at-going f x (next_place f) on.0 on.1) ∙ more.1, more.2, more.3)
 
 -- what levels make of the front of p is the front of all of them
 pub heard_levels-front : (xs p : List Level) (f g : FrontParts) → IsFrontOf p f → heard_levels f xs ≡ Some g → IsFrontOf (p ++ xs) g

@@ -18,11 +18,11 @@ length_from extended rtr code = data_place extended + 8 * byte_count (is_recessi
 abbrev length_by : Bool → List Level → ℕ
 length_by extended u = length_from extended (level_at u (rtr_place extended)) (levels_at u (rtr_place extended + 3) 4)
 
-rtr_place_ge : (extended : Bool) → 12 ≤ rtr_place extended
+pub rtr_place_ge : (extended : Bool) → 12 ≤ rtr_place extended
 rtr_place_ge true = omega arith
 rtr_place_ge false = omega arith
 
-rtr_place_le : (extended : Bool) → rtr_place extended ≤ 32
+pub rtr_place_le : (extended : Bool) → rtr_place extended ≤ 32
 rtr_place_le true = omega arith
 rtr_place_le false = omega arith
 

@@ -26,6 +26,7 @@ pub mod WireLemmas
 pub mod SpellingLemmas
 pub mod StuffedFronts
 pub mod SpellingFronts
+pub mod WireOnce
 -- levels as they are heard
 pub mod ReadingLemmas
 pub mod FrontLemmas
@@ -39,6 +40,14 @@ pub mod OneCodeFault
 pub mod DecodingLemmas
 pub mod DecoderLemmas
 pub mod TailLemmas
+-- levels as they are sent, one by one
+pub mod PartFronts
+pub mod UnstuffedLevels
+pub mod WireFronts
+-- arbitration, level by level
+pub mod UnstuffedOrder
+pub mod StuffedOrder
+pub mod WireOrder
 -- known values
 pub mod LayoutRows
 pub mod Rows

@@ -1,5 +1,5 @@
 -- What a decoder has heard of a frame, level by level. (Bosch CAN 2.0 part B, sections 3.2.1 and 7.1)
-use Rattle.std.specs.Prelude.{ℕ, ◌≡◌, ◌≢◌, ◌<◌, Bool, Some, List, [], ◌∷◌, ◌++◌, length}
+use Rattle.std.specs.Prelude.{◌≡◌, ◌≢◌, ◌<◌, Bool, Some, List, [], ◌∷◌, ◌++◌, length}
 use Rattle.can_frame.specs.declared.level.Level.{Level}
 use Rattle.can_frame.specs.declared.level.Level.TheVariants.{Dominant}
 use Rattle.can_code.specs.declared.front.Place.TheVariants.{CrcDelimiter}

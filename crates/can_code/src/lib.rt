@@ -35,8 +35,10 @@
 //! `Runs`, `StuffingLemmas`), that it is unique (`OneStuffing`) and begins no other's
 //! (`StuffedFronts`), what unstuffed levels tell (`LayoutLengths`, `LayoutRead`, `LayoutWrite`), how
 //! long each part is (`LayoutHead`, `WireLemmas`, `SpellingLemmas`), how a check sequence grows
-//! (`Register`), which front levels make that are heard one by one (`FrontsOf`, `HeardLevels`), and
-//! that levels are too short which a decoder has heard (`DecoderLemmas`).
+//! (`Register`), which front levels make that are heard one by one (`FrontsOf`, `HeardLevels`), that
+//! levels are too short which a decoder has heard (`DecoderLemmas`), which front a frame's own levels
+//! make and what its sender drives next (`WireFronts`, `UnstuffedLevels`), that no wire begins another
+//! (`WireOnce`), and how two frames that are sent together part (`WireOrder`).
 #![tactic(auto)]
 
 mod crc;

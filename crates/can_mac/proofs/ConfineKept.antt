@@ -1,5 +1,5 @@
 -- What holds of every node's counters stays, whatever is counted and seen.
-use Rattle.std.proofs.Common.{◌≡◌, ℕ, ◌+◌, ◌-◌, ◌<◌, ◌≤◌, Bool, true, false, min, refl, arith, cond}
+use Rattle.std.proofs.Common.{◌≡◌, ℕ, ◌+◌, ◌-◌, ◌<◌, ◌≤◌, Bool, true, false, refl, arith, cond}
 use Rattle.std.specs.Prelude.{◌&&◌}
 use Rattle.std.proofs.Math.Dec.{leb, ltb}
 use Rattle.std.proofs.Math.Nat.{min-le_right}
@@ -8,8 +8,8 @@ use Rattle.can_frame.specs.declared.level.Level.{Level}
 use Rattle.can_frame.specs.declared.level.Level.TheVariants.{Dominant, Recessive}
 use Rattle.can_fault.specs.declared.cause.Cause.{Cause}
 use Rattle.can_fault.specs.declared.cause.Cause.TheVariants.{ReceiverError, ReceiverFlagBit, ReceiverFirstDominant, ReceiverDominantRun, SenderError, SenderFlagBit, SenderDominantRun, PassiveUnacknowledged, FrameSent, FrameReceived}
-use Rattle.can_fault.specs.Counters.{ConfineParts, IsConfine, changed, counted, fresh, is_bus_off, rec_after_reception, receiver_raised, sender_raised}
-use Rattle.can_fault.specs.Recovery.{after_level, ends_bus_off, recovered}
+use Rattle.can_fault.specs.Counters.{ConfineParts, IsConfine, changed, counted, fresh, rec_after_reception, receiver_raised, sender_raised}
+use Rattle.can_fault.specs.Recovery.{after_level, recovered}
 
 pub IsConfine-fresh : IsConfine fresh
 IsConfine-fresh = record { tec = omega arith; rec = omega arith; occurrences = omega arith; row = omega arith; no_occurrences = λ h. refl; empty_row = λ h. refl }

@@ -1,6 +1,5 @@
 -- One bit time keeps what holds of every controller.
-use Rattle.std.proofs.Common.{◌≡◌, ℕ, ◌+◌, ◌<◌, ◌≤◌, Bool, true, false, Option, Some, None, refl, sym, ◌∙◌, ap, arith, cond}
-use Rattle.std.specs.Prelude.{◌&&◌}
+use Rattle.std.proofs.Common.{◌≡◌, ℕ, ◌+◌, ◌≤◌, true, false, Option, Some, None, refl, sym, ◌∙◌, ap, arith, cond}
 use Rattle.std.proofs.Math.Dec.{leb, ltb}
 use Rattle.std.proofs.lemmas.Bool.{cond_both, cond-true, cond-false}
 use Rattle.can_frame.specs.declared.level.Level.{Level}
@@ -15,7 +14,7 @@ use Rattle.can_mac.specs.declared.phase.Role.TheVariants.{Receiver}
 use Rattle.can_mac.specs.declared.phase.Phase.TheVariants.{Joining, Idle, BusOff}
 use Rattle.can_mac.specs.State.{MacPhase, MacState, IsMac, IsPhase, IsWaiting, idle, is_off_phase, joining, starting}
 use Rattle.can_mac.specs.Moves.{MacMove, move}
-use Rattle.can_mac.specs.Machine.{holding, landed, mac_step, moved, off_step, on_step, settled, stance}
+use Rattle.can_mac.specs.Machine.{holding, landed, mac_step, moved, off_step, on_step, stance}
 use Rattle.can_mac.proofs.ConfineKept.{IsConfine-fresh, IsConfine-counted, IsConfine-recovered}
 use Rattle.can_mac.proofs.KeptMoves.{IsKept, move_kept}
 

@@ -1,26 +1,22 @@
 -- Each move keeps what holds of every controller.
-use Rattle.std.proofs.Common.{◌≡◌, ◌≢◌, ℕ, ◌+◌, ◌-◌, [], ◌∷◌, ◌++◌, ◌<◌, ◌≤◌, Bool, true, false, Option, Some, None, List, length, refl, sym, ◌∙◌, ap, arith, cond}
-use Rattle.std.specs.Prelude.{nat_lt, not, ◌&&◌}
+use Rattle.std.proofs.Common.{◌≡◌, ◌≢◌, ℕ, ◌+◌, ◌-◌, [], ◌∷◌, ◌++◌, ◌<◌, ◌≤◌, Bool, true, false, Option, Some, None, length, refl, arith, cond}
+use Rattle.std.specs.Prelude.{◌&&◌}
 use Rattle.std.proofs.Math.Dec.{eqb, ltb}
 use Rattle.std.proofs.lemmas.Bool.{cond_both, ltb-true, ltb-false, eqb-true, eqb-false}
 use Rattle.can_frame.specs.declared.level.Level.{Level}
 use Rattle.can_frame.specs.declared.level.Level.TheVariants.{Dominant, Recessive}
 use Rattle.can_frame.specs.Levels.{same, is_recessive}
 use Rattle.can_frame.specs.Parts.{Parts, IsFrame}
-use Rattle.can_code.specs.declared.front.Place.TheVariants.{StuffBit, Bit, CrcDelimiter as ended}
 use Rattle.can_code.specs.Stuffing.{run_after}
-use Rattle.can_code.specs.Layout.{frame_of}
-use Rattle.can_code.specs.Front.{FrontParts, IsFront, first_front, has_check, heard_level, next_place}
+use Rattle.can_code.specs.Front.{FrontParts, IsFront, first_front, has_check, heard_level}
 use Rattle.can_code.specs.Sending.{sent_level}
 use Rattle.can_code.proofs.LayoutWrite.{IsFrame-frame_of}
 use Rattle.can_code.proofs.FrontLemmas.{IsFront-first_front, IsFront-stuff_bit, IsFront-bit, next_place-partial, next_place-ended, next_place-first_front}
 use Rattle.can_fault.specs.declared.cause.Cause.{Cause}
 use Rattle.can_fault.specs.declared.cause.Cause.TheVariants.{FrameSent, FrameReceived}
-use Rattle.can_mac.specs.declared.event.Event.{Event}
 use Rattle.can_mac.specs.declared.event.Event.TheVariants.{Sent, Received, Lost}
 use Rattle.can_mac.specs.declared.event.ErrorKind.{ErrorKind}
 use Rattle.can_mac.specs.declared.event.ErrorKind.TheVariants.{Bit as bit_error, Crc, Form, Stuff, Ack}
-use Rattle.can_mac.specs.declared.moves.Move.{Move}
 use Rattle.can_mac.specs.declared.moves.Stance.{Stance}
 use Rattle.can_mac.specs.declared.phase.Overloads.{Overloads}
 use Rattle.can_mac.specs.declared.phase.Reading.{Reading}
@@ -28,7 +24,7 @@ use Rattle.can_mac.specs.declared.phase.Role.{Role}
 use Rattle.can_mac.specs.declared.phase.Role.TheVariants.{Receiver, Sender}
 use Rattle.can_mac.specs.declared.phase.Phase.TheVariants.{Joining, Idle, StuffedPart, CrcDelimiter, AckSlot, AckDelimiter, EndOfFrame, ErrorFlag, PassiveFlag, OverloadFlag, AfterFlag, Delimiter, Intermission, Suspend, BusOff}
 use Rattle.can_mac.specs.State.{MacPhase, IsOpen, IsPhase, IsRole, IsWaiting, is_off_phase}
-use Rattle.can_mac.specs.Moves.{MacMove, goes, tells, begins, overload, flag, errs_by, errs, errs_in_flag, error_cause, flag_bit_cause, form_kind, joining_move, idle_move, reading_of, ends_part, part_phase, hears, in_arbitration, is_uncounted, stuff_error_move, stuff_bit_move, sent_bit_move, bit_move, stuffed_part_move, crc_delimiter_move, unacknowledged_move, ack_slot_move, refuses, ack_delimiter_move, enters_intermission, sender_end_move, receiver_end_move, end_of_frame_move, error_flag_move, overload_flag_move, flag_run, passive_phase, passive_flag_move, dominant_cause, after_flag_move, delimiter_move, is_held_back, next_role, intermission_move, suspend_move, move}
+use Rattle.can_mac.specs.Moves.{MacMove, goes, tells, begins, overload, flag, errs_by, errs, errs_in_flag, error_cause, flag_bit_cause, form_kind, joining_move, idle_move, reading_of, ends_part, part_phase, hears, in_arbitration, is_uncounted, stuff_error_move, stuff_bit_move, sent_bit_move, bit_move, stuffed_part_move, crc_delimiter_move, ack_slot_move, refuses, ack_delimiter_move, enters_intermission, sender_end_move, receiver_end_move, end_of_frame_move, error_flag_move, overload_flag_move, flag_run, passive_flag_move, after_flag_move, delimiter_move, is_held_back, next_role, intermission_move, suspend_move, move}
 
 -- what a move keeps
 pub record Keeps (p : MacPhase) (r : Role) (o : Overloads) : Type 0 where

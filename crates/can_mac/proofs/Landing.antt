@@ -7,7 +7,6 @@ use Rattle.can_frame.specs.Parts.{Parts}
 use Rattle.can_fault.specs.declared.cause.Cause.{Cause}
 use Rattle.can_fault.specs.declared.state.State.TheVariants.{Active, Passive, BusOff as off_state}
 use Rattle.can_fault.specs.Counters.{ConfineParts, counted, is_bus_off, is_passive, state_of}
-use Rattle.can_mac.specs.declared.event.Event.{Event}
 use Rattle.can_mac.specs.declared.event.Event.TheVariants.{WentOff}
 use Rattle.can_mac.specs.declared.moves.Move.{Move}
 use Rattle.can_mac.specs.declared.phase.Role.TheVariants.{Receiver}
@@ -41,8 +40,8 @@ landed-on v (Some k) old new off h e =
 -- A controller whose fields are these, and which it is from outside; what its move is; and what is counted.
 module _ (m now : MacState) (view : m ≡ now) (h : IsMac m) (on : is_off_phase now.phase ≡ false) (waiting : Option Parts) (whole : IsWaiting waiting) (x : Level) where
   module _ (passive : Bool) (told : passive ≡ is_passive m.counters) (kept : MacPhase) (next : Move (Option MacPhase))
-    (is : placed kept next ≡ move (record { passive = passive; role = m.role; overloads = m.overloads }) m.phase waiting x)
-    (new : ConfineParts) (off : Bool) (count : IsCounted next.cause m.counters new off) where
+      (is : placed kept next ≡ move (record { passive = passive; role = m.role; overloads = m.overloads }) m.phase waiting x)
+      (new : ConfineParts) (off : Bool) (count : IsCounted next.cause m.counters new off) where
     same_move : placed kept next ≡ move (stance m) m.phase waiting x
     same_move = subst (λ p. placed kept next ≡ move (record { passive = p; role = m.role; overloads = m.overloads }) m.phase waiting x) told is
 

@@ -1,8 +1,8 @@
 -- How the end of a stuffed part is told, and what its check sequence tells.
-use Rattle.std.proofs.Common.{◌≡◌, ◌≢◌, ℕ, Bool, true, false, List, [], ◌∷◌, ◌↔◌, refl, sym, subst, ◌∙◌, ap, cond}
+use Rattle.std.proofs.Common.{◌≡◌, ◌≢◌, Bool, true, false, List, ◌↔◌, refl, sym, subst, ◌∙◌, ap, cond}
 use Rattle.std.specs.Prelude.{◌&&◌, not, IsTrue}
 use Rattle.std.specs.Bool.{Decides, one_answer}
-use Rattle.std.specs.Cmp.Lexicographic.{pointwise, pointwise_decides}
+use Rattle.std.specs.Cmp.Lexicographic.{pointwise_decides}
 use Rattle.std.proofs.Math.Dec.{eqb}
 use Rattle.std.proofs.lemmas.Bool.{cond-true}
 use Rattle.can_frame.specs.declared.level.Level.{Level}
@@ -16,7 +16,6 @@ use Rattle.can_code.specs.Front.{FrontParts, has_check, next_place}
 use Rattle.can_code.proofs.DivisionLemmas.{IsCrc-crc_of, IsCrc-only}
 use Rattle.can_mac.specs.declared.phase.Reading.{Reading}
 use Rattle.can_mac.specs.declared.phase.Phase.TheVariants.{StuffedPart, CrcDelimiter}
-use Rattle.can_mac.specs.State.{MacPhase}
 use Rattle.can_mac.specs.Moves.{agrees, ends_part, part_phase, reading_of}
 
 -- the stuffed part has ended exactly where the next place is the CRC delimiter
@@ -45,7 +44,7 @@ same-Decides Dominant Recessive = (λ e. cc, λ e. cc)
 same-Decides Recessive Dominant = (λ e. cc, λ e. cc)
 
 -- there is one check sequence, so it is told by being it
-agrees-Decides : (u : List Level) → Decides (agrees u) (IsCrc (head_of u) (check_of u))
+pub agrees-Decides : (u : List Level) → Decides (agrees u) (IsCrc (head_of u) (check_of u))
 unfolding agrees
 agrees-Decides u =
     let d = pointwise_decides same-Decides (check_of u) (crc_of (head_of u)) in

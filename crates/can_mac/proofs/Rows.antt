@@ -1,21 +1,20 @@
 -- The machine computed on levels whose outcome is known from elsewhere.
-use Rattle.std.proofs.Common.{◌≡◌, ℕ, zero, suc, ◌+◌, ◌-◌, List, [], ◌∷◌, ◌++◌, map, replicate, take, Option, Some, None, refl, true, false}
+use Rattle.std.proofs.Common.{◌≡◌, ℕ, zero, suc, ◌+◌, ◌-◌, List, [], ◌∷◌, ◌++◌, map, replicate, take, Option, Some, None, refl, false}
 use Rattle.std.specs.Prelude.{codes}
 use Rattle.can_frame.specs.declared.level.Level.{Level}
 use Rattle.can_frame.specs.declared.level.Level.TheVariants.{Dominant, Recessive}
-use Rattle.can_frame.specs.Levels.{level_of, bits_of, number_from}
+use Rattle.can_frame.specs.Levels.{level_of, bits_of}
 use Rattle.can_frame.specs.Arbitration.{arbitration_field}
 use Rattle.can_frame.specs.Parts.{Parts}
 use Rattle.can_code.specs.Crc.{crc_of}
 use Rattle.can_code.specs.Wire.{head, unstuffed}
-use Rattle.can_code.specs.Sending.{sent_level}
 use Rattle.can_code.specs.Layout.{frame_of, frame_len}
-use Rattle.can_fault.specs.Counters.{ConfineParts, fresh}
+use Rattle.can_fault.specs.Counters.{fresh}
 use Rattle.can_mac.specs.declared.event.Event.{Event}
-use Rattle.can_mac.specs.declared.event.Event.TheVariants.{Sent, Received, Lost, Error, Overload, WentOff, Recovered}
-use Rattle.can_mac.specs.declared.event.ErrorKind.TheVariants.{Bit, Stuff, Crc, Form, Ack}
+use Rattle.can_mac.specs.declared.event.Event.TheVariants.{Sent, Received, Lost, Error, Overload}
+use Rattle.can_mac.specs.declared.event.ErrorKind.TheVariants.{Bit, Stuff, Crc, Form}
 use Rattle.can_mac.specs.declared.phase.Phase.TheVariants.{Idle, Delimiter, Intermission, ErrorFlag, PassiveFlag}
-use Rattle.can_mac.specs.State.{MacPhase, MacState, idle, joining}
+use Rattle.can_mac.specs.State.{MacState, idle, joining}
 use Rattle.can_mac.specs.Moves.{agrees}
 use Rattle.can_mac.specs.Machine.{mac_drives, mac_step}
 

@@ -1,7 +1,7 @@
 -- Medium access, one bit time after another: what a controller drives, and what the level that it samples
 -- makes of it. (Bosch CAN 2.0 part B, sections 3.2 and 7) What stands in
 -- brackets is a rule of docs/ACCESS.md.
-use Rattle.std.specs.Prelude.{ℕ, ◌==◌, Bool, true, false, ◌&&◌, if◌then◌else◌, List, [], ◌∷◌, length, Option, Some, None}
+use Rattle.std.specs.Prelude.{ℕ, ◌==◌, Bool, if◌then◌else◌, length, Option, Some, None}
 use Rattle.can_frame.specs.declared.level.Level.{Level}
 use Rattle.can_frame.specs.declared.level.Level.TheVariants.{Dominant, Recessive}
 use Rattle.can_frame.specs.Levels.{opposite}

@@ -4,7 +4,7 @@ ghost use Rattle.std.specs.Prelude.{◌≡◌};
 ghost use Rattle.can_mac.specs.Machine.{part_drives, slot_drives};
 
 use crate::phase::{Reading, Role};
-use can_code::{Front, FrameBits, Place};
+use can_code::{FrameBits, Front, Place};
 use can_frame::Level;
 
 /// In the stuffed part a sender drives its frame's next level, or a stuff bit.

@@ -10,7 +10,7 @@ use crate::driving::{level_of_part, level_of_slot};
 use crate::event::Event;
 use crate::moves::{MOST_OVERLOADS, Move, NewFrame, Stance, next_move};
 use crate::phase::{Overloads, Phase, Role};
-use can_code::{Front, FrameBits, PlainBits};
+use can_code::{FrameBits, Front, PlainBits};
 use can_fault::{Cause, Confine, State};
 use can_frame::{Frame, Level};
 use std::marker::Model;

@@ -14,7 +14,7 @@ ghost use Rattle.can_mac.specs.Moves.{begins, enters_intermission, errs, errs_by
 use crate::event::{ErrorKind, Event};
 use crate::phase::{Overloads, Phase, Role};
 use between_frames::{idle, intermission, joining, suspend};
-use can_code::{Front, FrameBits};
+use can_code::{FrameBits, Front};
 use can_fault::Cause;
 use can_frame::{Frame, Level};
 use flags::{after_flag, delimiter, error_flag, overload_flag, passive_flag};

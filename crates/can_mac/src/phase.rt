@@ -35,7 +35,9 @@ pub struct Reading {
 #[derive(Debug, Drop)]
 pub enum Phase<F> {
     /// Not yet on the bus: so many recessive levels in a row, 0 to 10.
-    Joining { row: u8 },
+    Joining {
+        row: u8,
+    },
     /// On the bus, between frames.
     Idle,
     /// Between the start of frame and the end of the CRC sequence.
@@ -47,23 +49,43 @@ pub enum Phase<F> {
     /// The next level is the ACK delimiter.
     AckDelimiter(Reading),
     /// The next level is one of the seven of the end of frame, 0 to 6.
-    EndOfFrame { reading: Reading, place: u8 },
+    EndOfFrame {
+        reading: Reading,
+        place: u8,
+    },
     /// An active error flag, 0 to 5.
-    ErrorFlag { place: u8 },
+    ErrorFlag {
+        place: u8,
+    },
     /// A passive error flag: the last level and how many levels in a row equal it, 0 to 5, none before
     /// the flag counted; and whether it came from a missing acknowledgement that isn't counted yet.
-    PassiveFlag { last: Level, run: u8, unacknowledged: bool },
+    PassiveFlag {
+        last: Level,
+        run: u8,
+        unacknowledged: bool,
+    },
     /// An overload flag, 0 to 5.
-    OverloadFlag { place: u8 },
+    OverloadFlag {
+        place: u8,
+    },
     /// Behind a flag, before the first recessive level: whether the next level is the first one behind an
     /// error flag, and how many dominant levels have come, modulo eight.
-    AfterFlag { first: bool, dominant: u8 },
+    AfterFlag {
+        first: bool,
+        dominant: u8,
+    },
     /// The delimiter behind a flag, 1 to 7: its first level has come.
-    Delimiter { place: u8 },
+    Delimiter {
+        place: u8,
+    },
     /// Intermission, 0 to 2.
-    Intermission { place: u8 },
+    Intermission {
+        place: u8,
+    },
     /// An error passive controller waits after its own frame, 0 to 7.
-    Suspend { place: u8 },
+    Suspend {
+        place: u8,
+    },
     /// Off the bus.
     BusOff,
 }

@@ -9,6 +9,7 @@ const WIRE_000: &str = "00000100000100000100000100000100000100001011111111";
 /// The levels of the standard data frame 001 without data, acknowledged: its stuffed part, and the
 /// rest.
 const PART_001: &str = "0000010000010100000100010001000010011";
+
 const TAIL: &str = "1011111111";
 
 fn empty_frame(raw: u16) -> Result<Frame, Fail> {
@@ -102,10 +103,12 @@ fn the_last_level_of_the_end_of_frame_is_dominant(rt: HostRuntime) -> Result<(),
     let frame = empty_frame(1)?;
     let mut port = Port::idle();
     port.sees(&rt, None, PART_001, &[]);
-    port.sees(&rt, None, "1011111110", &[
-        (45, Event::Received(frame)),
-        (46, Event::Overload),
-    ]);
+    port.sees(
+        &rt,
+        None,
+        "1011111110",
+        &[(45, Event::Received(frame)), (46, Event::Overload)],
+    );
     for _ in 47..53u32 {
         assert_eq!(rt; port.drives(None), Level::Dominant);
         port.sees(&rt, None, "0", &[]);
@@ -220,10 +223,12 @@ fn overload_frames_of_its_own(rt: HostRuntime) -> Result<(), Fail> {
     assert!(rt; !port.mac.hold(3));
     assert!(rt; port.mac.hold(2));
     port.sees(&rt, None, PART_001, &[]);
-    port.sees(&rt, None, TAIL, &[
-        (45, Event::Received(frame)),
-        (46, Event::Overload),
-    ]);
+    port.sees(
+        &rt,
+        None,
+        TAIL,
+        &[(45, Event::Received(frame)), (46, Event::Overload)],
+    );
     // flag, delimiter, and the second one at the next intermission
     port.sees(&rt, None, "00000011111111", &[(60, Event::Overload)]);
     port.sees(&rt, None, "00000011111111", &[]);
@@ -242,7 +247,12 @@ fn a_sender_alone(rt: HostRuntime) -> Result<(), Fail> {
             Level::Dominant => "0",
             Level::Recessive => "1",
         };
-        port.sees(&rt, Some(&frame), text, &[(41, Event::Error(ErrorKind::Ack))]);
+        port.sees(
+            &rt,
+            Some(&frame),
+            text,
+            &[(41, Event::Error(ErrorKind::Ack))],
+        );
     }
     assert_eq!(rt; port.tec(), 8);
     Ok(())

@@ -5,3 +5,15 @@ pub mod WaitingLaws
 pub mod PortLemmas
 -- a run, level by level
 pub mod RunLemmas
+-- a port's run is that of its controller, and what waits in it are frames
+pub mod PortTurns
+pub mod FramesWaiting
+-- the bus rests between an upset and the next event of a frame
+pub mod Rests
+pub mod RestingMoves
+pub mod WaitingMoves
+pub mod Resting
+-- each frame that was received or sent stands in the levels
+pub mod Taking
+-- what a port claims
+pub mod Claims

@@ -1,3 +1,3 @@
 pub mod Walks
 pub mod Parses
-pub mod Statuses
+pub mod Faults

@@ -1,3 +1,4 @@
+pub mod Answers
 pub mod Status
 pub mod Subcommands
 pub mod Words

@@ -1,28 +1,21 @@
 -- What the exit status of a run says.
-use Rattle.std.specs.Prelude.{◌⊎◌, ℕ, Bool, List, Result, Ok, Err}
-use Rattle.can_trace.specs.Coded.{EncodesTooLong, IsFirstBadLine}
-use Rattle.can_trace.specs.declared.fault.TraceFault.{TraceFault}
+use Rattle.std.specs.Prelude.{ℕ, Result, Ok, Err}
 use Rattle.can_trace.specs.declared.fault.TraceFault.TheVariants.{BadByte, Read, Write, Long, FrameLine}
 use Rattle.canbit.specs.declared.fault.RunFault.{RunFault}
-use Rattle.canbit.specs.declared.fault.RunFault.TheVariants.{Usage, Memory, Stream}
+use Rattle.canbit.specs.declared.fault.RunFault.TheVariants.{VectorsDiffer, Usage, Memory, Stream}
 
 -- 1: the input is refused. 2: the words are. 3: a stream failed. 4: memory ran out.
 abbrev pub status_of : RunFault → ℕ
 status_of (Stream (BadByte place)) = 1
 status_of (Stream Long) = 1
 status_of (Stream (FrameLine line fault)) = 1
+status_of VectorsDiffer = 1
 status_of Usage = 2
 status_of (Stream Read) = 3
 status_of (Stream Write) = 3
 status_of Memory = 4
 
 -- 0 where all was done
-abbrev pub exit_status : Result (Unit {0}) TraceFault → ℕ
+abbrev pub exit_status : Result (Unit {0}) RunFault → ℕ
 exit_status (Ok done) = 0
-exit_status (Err fault) = status_of (Stream fault)
-
--- why the input is refused: some line of it is no frame's text, or it is too long; the output is the answer
--- to what stands before
-abbrev pub RefusesInput : Bool → List ℕ → List ℕ → Type 0
-RefusesInput reader_ended input output =
-    ((number : ℕ) × ((fault : _) × IsFirstBadLine number fault reader_ended input output)) ⊎ EncodesTooLong input output
+exit_status (Err fault) = status_of fault

@@ -3,15 +3,16 @@ use Rattle.std.specs.Prelude.{List, [], ◌∷◌, codes, fold, true}
 use Rattle.clap.specs.Words.{App, Text, new_app, with_subcommand}
 use Rattle.clap.specs.Simple.{on_top, new_shape}
 use Rattle.canbit.specs.declared.subcommands.Chosen.{Chosen}
-use Rattle.canbit.specs.declared.subcommands.Chosen.TheVariants.{Encode}
+use Rattle.canbit.specs.declared.subcommands.Chosen.TheVariants.{Encode, Check}
 
 -- every subcommand, in the order of the help text
 abbrev pub subcommands : List Chosen
-subcommands = Encode ∷ []
+subcommands = Encode ∷ Check ∷ []
 
 -- the word that names it
 abbrev pub name_of : Chosen → Text
 name_of Encode = codes "encode"
+name_of Check = codes "check"
 
 -- the command named canbit, which requires a subcommand
 abbrev pub without_subcommands : App

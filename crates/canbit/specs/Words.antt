@@ -24,6 +24,10 @@ named_in words = option_map (λ met. met.0) (subcommand_of canbit words)
 abbrev pub AsksFor : Chosen → List Text → Type 0
 AsksFor chosen words = (faults_in words ≡ []) × (named_in words ≡ Some (name_of chosen))
 
+-- the command takes the words, and they name one of the subcommands
+abbrev pub AsksForOne : List Text → Type 0
+AsksForOne words = (chosen : Chosen) × AsksFor chosen words
+
 -- the words may be refused as a request for help
 abbrev pub AsksForHelp : List Text → Type 0
 AsksForHelp words = IsAmong DisplayHelp (faults_in words)

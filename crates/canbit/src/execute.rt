@@ -1,17 +1,17 @@
 //! What the program does, over any streams.
-ghost use Rattle.std.specs.Prelude.{◌≡◌, ◌⊎◌, ◌↔◌, ◌<◌, ◌∷◌, [], false, IsTrue, IsFalse, OnOk, List, ℕ};
-ghost use Rattle.std.specs.Io.KnownBytes.{Appends};
+ghost use Rattle.std.specs.Prelude.{◌≡◌, ◌≢◌, ◌⊎◌, ◌<◌, ◌∷◌, [], false, is_err, IfErr, OnOk, IsTrue, IsFalse, List, ℕ};
+ghost use Rattle.std.specs.Io.KnownBytes.{Appends, IsAtEnd};
 ghost use Rattle.can_trace.specs.Told.{Told};
-ghost use Rattle.can_trace.specs.Coded.{EncodesAll, EncodesEnded, BeginsEncoding};
+ghost use Rattle.canbit.specs.Answers.{AnswersAll, AnswersEnded, BeginsAnswering, HasBadByte, RefusesInput};
+ghost use Rattle.canbit.specs.Status.{exit_status, status_of};
 ghost use Rattle.canbit.specs.Subcommands.{name_of};
-ghost use Rattle.canbit.specs.Status.{RefusesInput, exit_status, status_of};
-ghost use Rattle.canbit.specs.Words.{AsksFor, AsksForHelp, IsMisuse, texts_of};
+ghost use Rattle.canbit.specs.Words.{AsksFor, AsksForHelp, AsksForOne, IsMisuse, texts_of};
 
 use crate::fault::RunFault;
 use crate::subcommands::Chosen;
 use crate::words::{WordFault, chosen};
 use arrayvec::ArrayString;
-use can_trace::{Sink, Source, TraceFault, encode_lines, write_all};
+use can_trace::{Sink, Source, check_lines, encode_lines, write_all};
 use std::alloc::Global;
 use std::fmt::Write;
 
@@ -25,7 +25,8 @@ const LINE_ROOM: usize = 80;
 /// | Status | Line | Why |
 /// |---|---|---|
 /// | 0 | none | all was done |
-/// | 1 | `canbit: P7 line 2 X4 at 9`, `canbit: P6 long` | the input is refused |
+/// | 1 | `canbit: P1 byte 3`, `canbit: P6 long`, `canbit: P7 line 2 X4 at 9` | the input is refused |
+/// | 1 | `canbit: vectors differ` | all was checked, and not all vectors passed |
 /// | 2 | `canbit: usage` | the words are refused |
 /// | 3 | `canbit: P3 read`, `canbit: P4 write` | `r` or `w` failed |
 /// | 4 | `canbit: P5 memory` | memory ran out in reading the words |
@@ -45,49 +46,97 @@ pub fn execute<R: Source, W: Sink, E: Sink>(
     ensures alone { (name : List ℕ) (chosen : Chosen)
         → texts_of words.now ≡ name ∷ name_of chosen ∷ [] → AsksFor chosen (texts_of words.now) }
 
-    // What `encode` wrote of what it read.
-    ensures encoded { result ≡ 0 → AsksFor Chosen.Encode (texts_of words.now)
-        → IsTrue (R.has_ended r.new)
-        × Told R.remaining r.old r.new W.contents w.old w.new EncodesAll }
-    ensures input_refused { result ≡ 1 → AsksFor Chosen.Encode (texts_of words.now)
-        × Told R.remaining r.old r.new W.contents w.old w.new (RefusesInput (R.has_ended r.new)) }
-    ensures reader_failed { IsTrue (R.has_failed r.new) → IsFalse (W.has_failed w.new)
-        → AsksFor Chosen.Encode (texts_of words.now)
-        × Told R.remaining r.old r.new W.contents w.old w.new EncodesEnded }
-    ensures writer_failed { IsTrue (W.has_failed w.new) → AsksFor Chosen.Encode (texts_of words.now)
-        → Told R.remaining r.old r.new W.contents w.old w.new (BeginsEncoding (R.has_ended r.new)) }
+    // What the subcommand wrote of what it read.
+    ensures all_done { result ≡ 0 → (chosen : Chosen) → AsksFor chosen (texts_of words.now)
+        → Told R.remaining r.old r.new W.contents w.old w.new (AnswersAll chosen) }
+    ensures all_read { result ≡ 0 → AsksForOne (texts_of words.now)
+        → IsTrue (R.has_ended r.new) × IsAtEnd (R.remaining r.new) }
+    ensures input_refused { result ≡ 1 → (chosen : Chosen) × AsksFor chosen (texts_of words.now)
+        × Told R.remaining r.old r.new W.contents w.old w.new (RefusesInput chosen (R.has_ended r.new)) }
+    ensures reader_failed { result ≡ 3 → IsFalse (W.has_failed w.new)
+        → (chosen : Chosen) × AsksFor chosen (texts_of words.now)
+        × Told R.remaining r.old r.new W.contents w.old w.new (AnswersEnded chosen) }
+    ensures writer_failed { IsTrue (W.has_failed w.new) → (chosen : Chosen) → AsksFor chosen (texts_of words.now)
+        → Told R.remaining r.old r.new W.contents w.old w.new (BeginsAnswering chosen (R.has_ended r.new)) }
+
+    // A stream's failure is told, but for a reader's where a bad byte came before it.
+    ensures stream_failed { result ≡ 3 → IsTrue (R.has_failed r.new) ⊎ IsTrue (W.has_failed w.new) }
+    ensures write_told { IsTrue (W.has_failed w.new) → result ≡ 3 }
+    ensures read_told { IsTrue (R.has_failed r.new) → (result ≡ 3)
+        ⊎ ((result ≡ 1) × ((chosen : Chosen) × AsksFor chosen (texts_of words.now) × ((place : ℕ)
+        × Told R.remaining r.old r.new W.contents w.old w.new (HasBadByte chosen place)))) }
 
     // Help is written where the words ask for it.
-    ensures helped { result ≡ 0 → AsksFor Chosen.Encode (texts_of words.now)
+    ensures helped { result ≡ 0 → AsksForOne (texts_of words.now)
         ⊎ (AsksForHelp (texts_of words.now)
         × ((text : List ℕ) × Appends (W.contents w.old) (W.contents w.new) text)) }
-
-    // The other statuses, each by its cause.
     ensures words_refused { result ≡ 2 → IsMisuse (texts_of words.now) }
-    ensures stream_failed { (result ≡ 3)
-        ↔ (IsTrue (R.has_failed r.new) ⊎ IsTrue (W.has_failed w.new)) }
 
     // Nothing else is read or written.
-    ensures only_encode_reads { AsksFor Chosen.Encode (texts_of words.now) ⊎ (r.new ≡ r.old) }
+    ensures only_subcommands_read { AsksForOne (texts_of words.now) ⊎ (r.new ≡ r.old) }
     ensures untouched { (result ≡ 2) ⊎ (result ≡ 4) → (r.new ≡ r.old) × (w.new ≡ w.old) }
     ensures no_fault_line { result ≡ 0 → e.new ≡ e.old }
 {
     match chosen(alloc, words) {
-        Ok(Chosen::Encode) => conclude(encode_lines(r, w), e),
-        Err(WordFault::Help(text)) => conclude(write_all(w, text.as_bytes()), e),
+        Ok(chosen) => conclude(answer(chosen, r, w), e),
+        Err(WordFault::Help(text)) => conclude(help(text.as_str(), w), e),
         Err(WordFault::Usage) => refuse(RunFault::Usage, e),
         Err(WordFault::Memory) => refuse(RunFault::Memory, e),
     }
 }
 
+/// Does what the subcommand asks.
+fn answer<R: Source, W: Sink>(chosen: Chosen, r: &mut R, w: &mut W) -> Result<(), RunFault>
+    requires reader_unfailed { R.has_failed r.old ≡ false }
+    requires reader_unended { R.has_ended r.old ≡ false }
+    requires writer_unfailed { W.has_failed w.old ≡ false }
+    ensures all_done { exit_status result ≡ 0 →
+        Told R.remaining r.old r.new W.contents w.old w.new (AnswersAll chosen) }
+    ensures all_read { exit_status result ≡ 0 → IsTrue (R.has_ended r.new) × IsAtEnd (R.remaining r.new) }
+    ensures input_refused { exit_status result ≡ 1 →
+        Told R.remaining r.old r.new W.contents w.old w.new (RefusesInput chosen (R.has_ended r.new)) }
+    ensures reader_failed { exit_status result ≡ 3 → IsFalse (W.has_failed w.new) →
+        Told R.remaining r.old r.new W.contents w.old w.new (AnswersEnded chosen) }
+    ensures writer_failed { IsTrue (W.has_failed w.new) →
+        Told R.remaining r.old r.new W.contents w.old w.new (BeginsAnswering chosen (R.has_ended r.new)) }
+    ensures stream_failed { exit_status result ≡ 3 → IsTrue (R.has_failed r.new) ⊎ IsTrue (W.has_failed w.new) }
+    ensures write_told { IsTrue (W.has_failed w.new) → exit_status result ≡ 3 }
+    ensures read_told { IsTrue (R.has_failed r.new) → (exit_status result ≡ 3)
+        ⊎ ((exit_status result ≡ 1) × ((place : ℕ)
+        × Told R.remaining r.old r.new W.contents w.old w.new (HasBadByte chosen place))) }
+    ensures no_other { (exit_status result ≢ 2) × (exit_status result ≢ 4) }
+{
+    match chosen {
+        Chosen::Encode => Ok(encode_lines(r, w)?),
+        Chosen::Check => {
+            let (passed, count) = check_lines(r, w)?;
+            if passed == count {
+                Ok(())
+            } else {
+                Err(RunFault::VectorsDiffer)
+            }
+        }
+    }
+}
+
+/// Writes the text of help.
+fn help<W: Sink>(text: &str, w: &mut W) -> Result<(), RunFault>
+    requires { W.has_failed w.old ≡ false }
+    ensures ok { OnOk result (Appends (W.contents w.old) (W.contents w.new) text.now) }
+    ensures failed { W.has_failed w.new ≡ is_err result }
+    ensures fault { IfErr result (λ e. status_of e ≡ 3) }
+{
+    Ok(write_all(w, text.as_bytes())?)
+}
+
 /// The exit status of this outcome, whose fault is told.
-fn conclude<E: Sink>(outcome: Result<(), TraceFault>, e: &mut E) -> u8
+fn conclude<E: Sink>(outcome: Result<(), RunFault>, e: &mut E) -> u8
     ensures status { result ≡ exit_status outcome }
-    ensures silent { OnOk outcome (e.new ≡ e.old) }
+    ensures silent { result ≡ 0 → e.new ≡ e.old }
 {
     match outcome {
         Ok(()) => 0,
-        Err(fault) => refuse(RunFault::Stream(fault), e),
+        Err(fault) => refuse(fault, e),
     }
 }
 

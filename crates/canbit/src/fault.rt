@@ -11,6 +11,9 @@ pub enum RunFault {
     /// The words are no use of the program.
     #[error("usage")]
     Usage,
+    /// Not all vectors have the levels of their frames.
+    #[error("vectors differ")]
+    VectorsDiffer,
     /// Memory ran out.
     #[error("P5 memory")]
     Memory,
@@ -19,13 +22,24 @@ pub enum RunFault {
     Stream(TraceFault),
 }
 
+impl From<TraceFault> for RunFault {
+    ghost use Rattle.canbit.specs.declared.fault.RunFault.TheVariants.{Stream};
+
+    ghost from_gives = { λ fault run_fault. run_fault ≡ Stream fault };
+
+    fn from(fault: TraceFault) -> RunFault {
+        RunFault::Stream(fault)
+    }
+}
+
 impl RunFault {
     /// The exit status, 1 to 4.
     pub fn status(self) -> u8
         ensures { result ≡ status_of self }
     {
         match self {
-            RunFault::Stream(
+            RunFault::VectorsDiffer
+            | RunFault::Stream(
                 TraceFault::BadByte { .. } | TraceFault::Long | TraceFault::FrameLine { .. },
             ) => 1,
             RunFault::Usage => 2,

@@ -1,5 +1,5 @@
-//! The command `canbit`: it codes frames of a classical CAN bus, from standard input to standard
-//! output.
+//! The command `canbit`: it codes and checks frames of a classical CAN bus, from standard input to
+//! standard output.
 //!
 //! - `subcommands.rt`: the table of subcommands.
 //! - `words.rt`: which of them the words of a command line name, as `clap` reads them. The contract of

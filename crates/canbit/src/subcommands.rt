@@ -7,11 +7,13 @@ ghost use Rattle.canbit.specs.Subcommands.{name_of};
 pub enum Chosen {
     /// Frame lines in, lines of levels out.
     Encode,
+    /// Vector lines in, a verdict for each out, and their total.
+    Check,
 }
 
 impl Chosen {
     /// Every subcommand, in the order of the help text.
-    pub const ALL: [Chosen; 1] = [Chosen::Encode];
+    pub const ALL: [Chosen; 2] = [Chosen::Encode, Chosen::Check];
 
     /// The word that names it.
     pub fn name(self) -> &'static str
@@ -19,6 +21,7 @@ impl Chosen {
     {
         match self {
             Chosen::Encode => "encode",
+            Chosen::Check => "check",
         }
     }
 
@@ -26,6 +29,7 @@ impl Chosen {
     pub fn about(self) -> &'static str {
         match self {
             Chosen::Encode => "Writes the levels of each frame line",
+            Chosen::Check => "Tells of each vector line whether its levels are its frame's",
         }
     }
 

@@ -9,7 +9,7 @@ ghost use Rattle.can_mac.specs.declared.phase.Phase.TheVariants.{StuffedPart};
 use crate::event::{ErrorKind, Event};
 use crate::moves::{Entering, Hearing, Move, NewFrame, Stance};
 use crate::phase::{Phase, Reading, Role};
-use can_code::{Front, FrameBits, Place, Sending};
+use can_code::{FrameBits, Front, Place, Sending};
 use can_frame::Level;
 
 /// Where the RTR bit stands, which ends the arbitration of a standard frame.

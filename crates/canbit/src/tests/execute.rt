@@ -117,94 +117,145 @@ const LINE_000: &str = "00000100000100000100000100000100000100001111111111\n";
 
 const LINE_001: &str = "00000100000101000001000100010000100111111111111\n";
 
-#[test]
-fn answers_whatever_the_pieces(rt: HostRuntime) -> Result<(), Fail> {
-    let alloc = rt.alloc();
-    let encode: &[&str] = &["encode"];
-    let rows: [(&[&str], &str, u8, &str, &str); 9] = [
-        (encode, "S 000 D 0\n", 0, LINE_000, ""),
-        (encode, "", 0, "", ""),
-        (encode, "S 001 D 0", 0, LINE_001, ""),
-        (
-            encode,
-            "S 000 D 0\nS 123 D 16\n",
-            1,
-            LINE_000,
-            "canbit: P7 line 2 X4 at 9\n",
-        ),
-        (&[], "S 000 D 0\n", 2, "", "canbit: usage\n"),
-        (&["decode"], "S 000 D 0\n", 2, "", "canbit: usage\n"),
-        (&["encode", "more"], "S 000 D 0\n", 2, "", "canbit: usage\n"),
-        (&["--nonsense"], "S 000 D 0\n", 2, "", "canbit: usage\n"),
-        (&["help", "nonsense"], "", 2, "", "canbit: usage\n"),
-    ];
-    for (words, input, status, output, fault) in rows {
+/// The levels of `S 001 D 0` as its sender drives them, and then as they stand on the bus, with the ACK
+/// slot dominant.
+const VECTORS: &str = "\
+S 001 D 0 = 00000100000101000001000100010000100111111111111
+S 001 D 0 = 00000100000101000001000100010000100111011111111
+";
+
+/// Input, and then the status, the output and the fault line that a run leaves.
+type Row<'a> = (&'a str, u8, &'a str, &'a str);
+
+/// Stops the test unless each row holds, however the input is cut and however few bytes a write takes.
+fn expect_whatever_the_pieces(
+    rt: &impl Abort,
+    alloc: Global,
+    words: &[&str],
+    rows: &[Row<'_>],
+) -> Result<(), Fail> {
+    for (input, status, output, fault) in rows {
         for step in [1, 7, ALL] {
             let script = Script::new(input, step, false);
             let tape = Tape::new(alloc, step, ALL);
             let run = executed(alloc, words, script, tape, Tape::new(alloc, step, ALL))?;
-            expect_run(&rt, &run, status, output, fault);
+            expect_run(rt, &run, *status, output, fault);
         }
     }
     Ok(())
 }
 
 #[test]
-fn a_failing_stream_ends_the_run(rt: HostRuntime) -> Result<(), Fail> {
-    let alloc = rt.alloc();
-    let encode: &[&str] = &["encode"];
-    let rows: [(&[&str], &str, bool, usize, u8, &str, &str); 8] = [
+fn encode_answers_whatever_the_pieces(rt: HostRuntime) -> Result<(), Fail> {
+    let rows = [
+        ("S 000 D 0\n", 0, LINE_000, ""),
+        ("", 0, "", ""),
+        ("S 001 D 0", 0, LINE_001, ""),
         (
-            encode,
-            "S 000 D 0\nS 0",
-            true,
-            ALL,
-            3,
+            "S 000 D 0\nS 123 D 16\n",
+            1,
             LINE_000,
-            "canbit: P3 read\n",
+            "canbit: P7 line 2 X4 at 9\n",
         ),
-        (encode, "", true, ALL, 3, "", "canbit: P3 read\n"),
-        (encode, "S 000 D 0\n", false, 0, 3, "", "canbit: P4 write\n"),
-        (
-            encode,
-            "S 000 D 0\n",
-            false,
-            7,
-            3,
-            "0000010",
-            "canbit: P4 write\n",
-        ),
-        (
-            encode,
-            "S 000 D 0\nS 0",
-            true,
-            7,
-            3,
-            "0000010",
-            "canbit: P4 write\n",
-        ),
-        (
-            encode,
-            "S 000 D 0\nno frame\n",
-            false,
-            7,
-            3,
-            "0000010",
-            "canbit: P4 write\n",
-        ),
-        (&["help"], "", true, 5, 3, "Codes", "canbit: P4 write\n"),
-        // Words that are no use are told before any stream is touched.
-        (&["decode"], "", true, 0, 2, "", "canbit: usage\n"),
+        (VECTORS, 1, "", "canbit: P7 line 1 X6 at 9\n"),
     ];
-    for (words, input, fails, room, status, output, fault) in rows {
+    expect_whatever_the_pieces(&rt, rt.alloc(), &["encode"], &rows)
+}
+
+#[test]
+fn check_answers_whatever_the_pieces(rt: HostRuntime) -> Result<(), Fail> {
+    let rows = [
+        (
+            VECTORS,
+            1,
+            "ok\ndiffers at 38\npassed 1 of 2\n",
+            "canbit: vectors differ\n",
+        ),
+        (
+            "S 001 D 0 = ",
+            1,
+            "differs at 0\npassed 0 of 1\n",
+            "canbit: vectors differ\n",
+        ),
+        ("", 0, "passed 0 of 0\n", ""),
+        ("S 001 D 0 = 0x", 1, "", "canbit: P1 byte 13\n"),
+        ("S 000 D 0\n", 1, "", "canbit: P7 line 1 X6 at 9\n"),
+    ];
+    expect_whatever_the_pieces(&rt, rt.alloc(), &["check"], &rows)
+}
+
+#[test]
+fn misuse_is_told(rt: HostRuntime) -> Result<(), Fail> {
+    let misuses: [&[&str]; 5] = [
+        &[],
+        &["codes"],
+        &["encode", "more"],
+        &["--nonsense"],
+        &["help", "nonsense"],
+    ];
+    let rows = [("S 000 D 0\n", 2, "", "canbit: usage\n")];
+    for words in misuses {
+        expect_whatever_the_pieces(&rt, rt.alloc(), words, &rows)?;
+    }
+    Ok(())
+}
+
+/// Input, whether the reader fails behind it, the room of the writer, and then what a run leaves.
+type FailingRow<'a> = (&'a str, bool, usize, u8, &'a str, &'a str);
+
+/// Stops the test unless each row holds, however the input is cut.
+fn expect_failing(
+    rt: &impl Abort,
+    alloc: Global,
+    words: &[&str],
+    rows: &[FailingRow<'_>],
+) -> Result<(), Fail> {
+    for (input, fails, room, status, output, fault) in rows {
         for step in [1, ALL] {
-            let script = Script::new(input, step, fails);
-            let tape = Tape::new(alloc, step, room);
+            let script = Script::new(input, step, *fails);
+            let tape = Tape::new(alloc, step, *room);
             let run = executed(alloc, words, script, tape, Tape::new(alloc, step, ALL))?;
-            expect_run(&rt, &run, status, output, fault);
+            expect_run(rt, &run, *status, output, fault);
         }
     }
     Ok(())
+}
+
+#[test]
+fn a_failing_stream_ends_encoding(rt: HostRuntime) -> Result<(), Fail> {
+    let read = "canbit: P3 read\n";
+    let write = "canbit: P4 write\n";
+    let rows = [
+        ("S 000 D 0\nS 0", true, ALL, 3, LINE_000, read),
+        ("", true, ALL, 3, "", read),
+        ("S 000 D 0\n", false, 0, 3, "", write),
+        ("S 000 D 0\n", false, 7, 3, "0000010", write),
+        ("S 000 D 0\nS 0", true, 7, 3, "0000010", write),
+        ("S 000 D 0\nno frame\n", false, 7, 3, "0000010", write),
+    ];
+    expect_failing(&rt, rt.alloc(), &["encode"], &rows)
+}
+
+#[test]
+fn a_failing_stream_ends_checking(rt: HostRuntime) -> Result<(), Fail> {
+    let read = "canbit: P3 read\n";
+    let write = "canbit: P4 write\n";
+    let rows = [
+        ("S 001 D 0 = \nS 0", true, ALL, 3, "differs at 0\n", read),
+        ("S 001 D 0 = ", false, 7, 3, "differs", write),
+        // A bad byte is told although the reader fails behind it.
+        ("S 001 D 0 = 0x", true, ALL, 1, "", "canbit: P1 byte 13\n"),
+    ];
+    expect_failing(&rt, rt.alloc(), &["check"], &rows)
+}
+
+#[test]
+fn failing_streams_and_no_subcommand(rt: HostRuntime) -> Result<(), Fail> {
+    let help = [("", true, 5, 3, "Codes", "canbit: P4 write\n")];
+    expect_failing(&rt, rt.alloc(), &["help"], &help)?;
+    // Words that are no use are told before any stream is touched.
+    let misuse = [("", true, 0, 2, "", "canbit: usage\n")];
+    expect_failing(&rt, rt.alloc(), &["codes"], &misuse)
 }
 
 #[test]
@@ -228,6 +279,7 @@ fn a_lost_fault_line_changes_nothing(rt: HostRuntime) -> Result<(), Fail> {
 fn each_fault_has_a_line_and_a_status(rt: HostRuntime) -> Result<(), Fail> {
     let rows = [
         (RunFault::Stream(TraceFault::Long), 1, "canbit: P6 long\n"),
+        (RunFault::VectorsDiffer, 1, "canbit: vectors differ\n"),
         (RunFault::Usage, 2, "canbit: usage\n"),
         (RunFault::Stream(TraceFault::Read), 3, "canbit: P3 read\n"),
         (RunFault::Stream(TraceFault::Write), 3, "canbit: P4 write\n"),

@@ -1,5 +1,4 @@
 use super::command_line;
-use crate::subcommands::Chosen;
 use crate::words::{WordFault, chosen};
 use std::alloc::{AllocError, Global};
 use std::test::Fail;
@@ -8,7 +7,7 @@ use std::test::Fail;
 fn outcome(alloc: Global, words: &[&str]) -> Result<&'static str, AllocError> {
     let all = command_line(alloc, words)?;
     Ok(match chosen(alloc, all.as_slice()) {
-        Ok(Chosen::Encode) => "encode",
+        Ok(chosen) => chosen.name(),
         Err(WordFault::Usage) => "usage",
         Err(WordFault::Help(_)) => "help",
         Err(WordFault::Memory) => "memory",
@@ -17,14 +16,16 @@ fn outcome(alloc: Global, words: &[&str]) -> Result<&'static str, AllocError> {
 
 #[test]
 fn words_name_a_subcommand_or_none(rt: HostRuntime) -> Result<(), Fail> {
-    let runs: [(&[&str], &str); 14] = [
+    let runs: [(&[&str], &str); 16] = [
         (&["encode"], "encode"),
         (&["encode", "--"], "encode"),
+        (&["check"], "check"),
         (&[], "usage"),
         (&["--"], "usage"),
-        (&["decode"], "usage"),
+        (&["checks"], "usage"),
         (&["Encode"], "usage"),
         (&["encode", "more"], "usage"),
+        (&["encode", "check"], "usage"),
         (&["--", "encode"], "usage"),
         (&["--nonsense"], "usage"),
         (&["help"], "help"),
@@ -47,6 +48,8 @@ fn help_is_the_text_of_the_crate(rt: HostRuntime) -> Result<(), Fail> {
         return Err(Fail::from("no help"));
     };
     assert!(rt; text.as_str().contains("Usage: canbit <COMMAND>"), "{text}");
-    assert!(rt; text.as_str().contains("encode"), "{text}");
+    for name in ["encode", "check"] {
+        assert!(rt; text.as_str().contains(name), "{text}");
+    }
     Ok(())
 }

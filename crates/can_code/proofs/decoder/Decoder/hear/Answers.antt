@@ -8,7 +8,7 @@ use Rattle.can_code.specs.Crc.{IsCrc}
 use Rattle.can_code.specs.Wire.{tail}
 use Rattle.can_code.specs.Heard.{ack_slot, Spells}
 use Rattle.can_code.specs.Layout.{check_of, head_of, heard_of}
-use Rattle.can_code.specs.Front.{FrontParts, next_place, is_stuff_error, heard_level}
+use Rattle.can_code.specs.Front.{next_place, is_stuff_error, heard_level}
 use Rattle.can_code.proofs.TailLemmas.{ack_slot_heard, recessive_heard, dominant_breaks}
 use Rattle.can_code.proofs.DecoderLemmas.{is_ended, is_going, HasHeard-stuff, HasHeard-crc, HasHeard-level, HasHeard-form, HasHeard-behind, HasHeard-last}
 use Rattle.can_code.proofs.decoder.Decoder.hear.Goals as goal

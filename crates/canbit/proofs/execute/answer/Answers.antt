@@ -1,0 +1,41 @@
+use Rattle.std.proofs.Common.{◌≡◌, ap, rules, Err}
+use Rattle.canbit.proofs.Faults.{passes_all, read_told, refused, weaker}
+use Rattle.canbit.specs.Answers.{HasBadLine}
+use Rattle.canbit.specs.declared.fault.RunFault.TheVariants.{Stream}
+use Rattle.canbit.specs.declared.subcommands.Chosen.TheVariants.{Encode, Check}
+use Rattle.canbit.proofs.execute.answer.Goals as goal
+
+pub returns-in_err-encode_lines-in-Encode-clause-input_refused : goal.returns-in_err-encode_lines-in-Encode-clause-input_refused
+returns-in_err-encode_lines-in-Encode-clause-input_refused g c is =
+    let told = c.in_err-encode_lines-in-Encode.ensures in
+    let fault = c.in_err-encode_lines-in-Encode.field-0.0 in
+    let outcome : c.from_residual.result ≡ Err (Stream fault) = search rules in
+    let ended = g.R.Source.has_ended c.encode_lines.new.r in
+    rw c.in-Encode.is (refused _ _ _ _ _ _ Encode ended fault (rw outcome at is) (λ place e. absurd (told.no_byte place (ap Err e))) (λ e. told.long (ap Err e))
+    (λ number bad e. weaker _ _ _ _ _ _ _ (HasBadLine Encode number ended) (λ input output h. (bad, h)) (told.line number bad (ap Err e))))
+
+pub returns-in_err-encode_lines-in-Encode-clause-writer_failed : goal.returns-in_err-encode_lines-in-Encode-clause-writer_failed
+returns-in_err-encode_lines-in-Encode-clause-writer_failed g c failed =
+    let told = c.in_err-encode_lines-in-Encode.ensures in
+    rw c.in-Encode.is (told.write (told.write_failed.1 failed))
+
+pub returns-in_err-passed-in-Check-clause-input_refused : goal.returns-in_err-passed-in-Check-clause-input_refused
+returns-in_err-passed-in-Check-clause-input_refused g c is =
+    let told = c.in_err-passed-in-Check.ensures in
+    let fault = c.in_err-passed-in-Check.field-0.0 in
+    let outcome : c.from_residual-in_err-passed-in-Check.result ≡ Err (Stream fault) = search rules in
+    let ended = g.R.Source.has_ended c.check_lines.new.r in
+    rw c.in-Check.is (refused _ _ _ _ _ _ Check ended fault (rw outcome at is) (λ place e. told.byte place (ap Err e)) (λ e. told.long (ap Err e))
+    (λ number bad e. weaker _ _ _ _ _ _ _ (HasBadLine Check number ended) (λ input output h. (bad, h)) (told.line number bad (ap Err e))))
+
+pub returns-in_err-passed-in-Check-clause-read_told : goal.returns-in_err-passed-in-Check-clause-read_told
+returns-in_err-passed-in-Check-clause-read_told g c failed =
+    let told = c.in_err-passed-in-Check.ensures in
+    let fault = c.in_err-passed-in-Check.field-0.0 in
+    let outcome : c.from_residual-in_err-passed-in-Check.result ≡ Err (Stream fault) = search rules in
+    rw outcome (rw c.in-Check.is (read_told _ _ _ _ _ _ Check fault told.byte (told.failed_read failed)))
+
+pub returns-then-passed-count-clause-all_done : goal.returns-then-passed-count-clause-all_done
+returns-then-passed-count-clause-all_done g c is =
+    let told = c.in_ok-passed-in-Check.ensures in
+    rw c.in-Check.is (passes_all _ _ _ _ _ _ _ _ c.if-passed-count.true told.ok)
