@@ -1,6 +1,7 @@
 use Rattle.std.proofs.Common.{◌≡◌, arith, length, refl, sym, ◌∙◌, ap}
 use Rattle.can_frame.specs.declared.level.Level.TheVariants.{Dominant}
 use Rattle.can_node.proofs.Claims.{port_rested, port_took-idle, port_took-joining}
+use Rattle.can_node.proofs.FramesWaiting.{AreFrames-from}
 use Rattle.can_node.proofs.RunLemmas.{port_run-next, port_run-all}
 use Rattle.can_node.proofs.listening.listen.Goals as goal
 
@@ -19,9 +20,9 @@ returns-clause-rested g c =
 pub returns-clause-took_from_idle : goal.returns-clause-took_from_idle
 returns-clause-took_from_idle g c idle =
     let valid = g.met.P.Port.valid c.args.port.now in
-    port_took-idle (g.P.Port.port c.args.port.now) c.args.seen.now valid.queued idle
+    port_took-idle (g.P.Port.port c.args.port.now) c.args.seen.now (AreFrames-from (g.P.Port.port c.args.port.now).queue valid.queued) idle
 
 pub returns-clause-took_from_joining : goal.returns-clause-took_from_joining
 returns-clause-took_from_joining g c row joining =
     let valid = g.met.P.Port.valid c.args.port.now in
-    port_took-joining (g.P.Port.port c.args.port.now) row c.args.seen.now valid.queued joining
+    port_took-joining (g.P.Port.port c.args.port.now) row c.args.seen.now (AreFrames-from (g.P.Port.port c.args.port.now).queue valid.queued) joining
