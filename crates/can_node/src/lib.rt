@@ -8,6 +8,8 @@ mod log;
 mod node;
 mod port;
 mod queue;
+#[cfg(test)]
+mod tests;
 
 pub use entry::Entry;
 pub use laws::first_frame_waits;
