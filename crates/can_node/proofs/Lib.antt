@@ -17,3 +17,5 @@ pub mod Resting
 pub mod Taking
 -- what a port claims
 pub mod Claims
+-- known runs
+mod Rows

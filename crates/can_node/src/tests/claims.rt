@@ -6,6 +6,7 @@ use can_code::{Heard, decode, respell};
 use can_frame::{Frame, Id, Level};
 use can_mac::Event;
 use std::alloc::{AllocError, Global};
+use std::process::Abort;
 use std::test::Fail;
 
 /// Numbers that look random, the same in each run.
@@ -46,22 +47,34 @@ impl Numbers {
     }
 }
 
-/// Two ports that see the same levels, and what they tell.
+/// A port, and what it told.
+#[derive(Drop)]
+struct Witness {
+    port: PlainNode,
+    told: Vec<Option<Event>>,
+}
+
+impl Witness {
+    fn sees(&mut self, level: Level) -> Result<(), AllocError> {
+        let event = self.port.sample(level);
+        self.told.push(event)?;
+        Ok(())
+    }
+}
+
+/// Two ports that see the same levels.
 #[derive(Drop)]
 struct Trial {
-    ports: [PlainNode; 2],
+    first: Witness,
+    second: Witness,
     levels: Vec<Level>,
-    told: [Vec<Option<Event>>; 2],
 }
 
 impl Trial {
     fn sees(&mut self, level: Level) -> Result<(), AllocError> {
         self.levels.push(level)?;
-        let [first, second] = &mut self.ports;
-        let [of_first, of_second] = &mut self.told;
-        of_first.push(first.sample(level))?;
-        of_second.push(second.sample(level))?;
-        Ok(())
+        self.first.sees(level)?;
+        self.second.sees(level)
     }
 
     /// What the ports drive, but for a level in so many that is turned.
@@ -69,8 +82,7 @@ impl Trial {
         requires { 0 < turned }
     {
         for _ in 0..times {
-            let [first, second] = &self.ports;
-            let level = first.drive().min(second.drive());
+            let level = self.first.port.drive().min(self.second.port.drive());
             self.sees(disturbed(numbers, level, turned))?;
         }
         Ok(())
@@ -166,7 +178,7 @@ fn is_rested(levels: &[Level], told: &[Option<Event>]) -> bool {
 }
 
 /// Two ports with frames to send, one of which may have to join first.
-fn ports(alloc: Global, seed: u64) -> Result<[PlainNode; 2], Fail> {
+fn ports(alloc: Global, seed: u64) -> Result<(PlainNode, PlainNode), Fail> {
     let mut numbers = Numbers(seed);
     let mut first = PlainNode::new(alloc, 3, 64)?;
     let mut second = if numbers.below(2) == 0 {
@@ -178,47 +190,68 @@ fn ports(alloc: Global, seed: u64) -> Result<[PlainNode; 2], Fail> {
         let _ = first.offer(numbers.frame()?);
         let _ = second.offer(numbers.frame()?);
     }
-    Ok([first, second])
+    Ok((first, second))
+}
+
+/// Runs two ports over levels of many kinds.
+fn run_trial(alloc: Global, seed: u64) -> Result<Trial, Fail> {
+    let mut numbers = Numbers(seed);
+    let (first, second) = ports(alloc, seed)?;
+    let mut trial = Trial {
+        first: Witness {
+            port: first,
+            told: Vec::new(alloc),
+        },
+        second: Witness {
+            port: second,
+            told: Vec::new(alloc),
+        },
+        levels: Vec::new(alloc),
+    };
+    for _ in 0..5u32 {
+        let turned = 1 + numbers.below(4096);
+        match numbers.below(4) {
+            0 => trial.hears(&mut numbers, turned)?,
+            1 => {
+                for _ in 0..numbers.below(40) {
+                    trial.sees(disturbed(&mut numbers, Level::Recessive, 3))?;
+                }
+            }
+            _ => trial.runs(&mut numbers, 200, turned)?,
+        }
+    }
+    Ok(trial)
+}
+
+/// What a port told is true, and one that listens to the levels comes to the same: how many frames it
+/// told.
+fn agrees(
+    rt: &impl Abort,
+    alloc: Global,
+    levels: &[Level],
+    witness: &Witness,
+    listener: &mut PlainNode,
+) -> Result<usize, AllocError> {
+    assert!(rt; is_true(alloc, levels, &witness.told)?);
+    assert!(rt; is_rested(levels, &witness.told));
+    listen(listener, levels);
+    assert_eq!(rt; listener.log(), witness.port.log());
+    assert_eq!(rt; listener.counters(), witness.port.counters());
+    Ok(witness.port.log().len())
 }
 
 #[test]
 fn claims_are_true_of_a_thousand_lists(rt: HostRuntime) -> Result<(), Fail> {
-    let mut frames_told = 0usize;
+    let mut frames = 0usize;
     for seed in 0..1000u64 {
-        let mut numbers = Numbers(seed);
-        let mut trial = Trial {
-            ports: ports(rt.alloc(), seed)?,
-            levels: Vec::new(rt.alloc()),
-            told: [Vec::new(rt.alloc()), Vec::new(rt.alloc())],
-        };
-        for _ in 0..5u32 {
-            let turned = 1 << numbers.below(13);
-            match numbers.below(4) {
-                0 => trial.hears(&mut numbers, turned)?,
-                1 => {
-                    for _ in 0..numbers.below(40) {
-                        trial.sees(disturbed(&mut numbers, Level::Recessive, 3))?;
-                    }
-                }
-                _ => trial.runs(&mut numbers, 200, turned)?,
-            }
-        }
-        let mut listeners = ports(rt.alloc(), seed)?;
-        for ((port, told), listener) in trial
-            .ports
-            .iter()
-            .zip(trial.told.iter())
-            .zip(listeners.iter_mut())
-        {
-            assert!(rt; is_true(rt.alloc(), &trial.levels, told)?, "list {seed}");
-            assert!(rt; is_rested(&trial.levels, told), "list {seed}");
-            listen(listener, &trial.levels);
-            assert_eq!(rt; listener.log(), port.log(), "list {seed}");
-            assert_eq!(rt; listener.counters(), port.counters(), "list {seed}");
-            frames_told = frames_told.saturating_add(port.log().len());
-        }
+        let trial = run_trial(rt.alloc(), seed)?;
+        let (mut first, mut second) = ports(rt.alloc(), seed)?;
+        let levels = &trial.levels;
+        let of_first = agrees(&rt, rt.alloc(), levels, &trial.first, &mut first)?;
+        let of_second = agrees(&rt, rt.alloc(), levels, &trial.second, &mut second)?;
+        frames = frames.saturating_add(of_first).saturating_add(of_second);
     }
     // The lists aren't such that nothing comes of them.
-    assert!(rt; frames_told > 1000, "{frames_told} frames");
+    assert!(rt; frames > 1000, "{frames} frames");
     Ok(())
 }
