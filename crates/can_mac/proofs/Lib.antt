@@ -2,6 +2,15 @@ pub mod ConfineKept
 mod DriveLemmas
 pub mod Kept
 pub mod KeptMoves
-mod Landing
-mod PartEnds
+pub mod Landing
+pub mod PartEnds
+-- bit times in a row, and where each ends
+pub mod Turns
+pub mod TurnEnds
+-- what a controller knows of the levels that it has seen
+pub mod Hearing
+pub mod PartHearing
+pub mod EndHearing
+pub mod HearingMoves
+pub mod HearingTurns
 mod Rows

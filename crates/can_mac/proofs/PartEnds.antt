@@ -44,7 +44,7 @@ same-Decides Dominant Recessive = (λ e. cc, λ e. cc)
 same-Decides Recessive Dominant = (λ e. cc, λ e. cc)
 
 -- there is one check sequence, so it is told by being it
-agrees-Decides : (u : List Level) → Decides (agrees u) (IsCrc (head_of u) (check_of u))
+pub agrees-Decides : (u : List Level) → Decides (agrees u) (IsCrc (head_of u) (check_of u))
 unfolding agrees
 agrees-Decides u =
     let d = pointwise_decides same-Decides (check_of u) (crc_of (head_of u)) in
