@@ -1,0 +1,4 @@
+pub mod Wired
+pub mod Hits
+pub mod Run
+pub mod Quiet
