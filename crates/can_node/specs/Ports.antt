@@ -1,13 +1,14 @@
 -- A port: a controller with the frames that wait to be sent, and the frames that it has taken and sent.
-use Rattle.std.specs.Prelude.{ℕ, ◌+◌, ◌-◌, ◌^◌, nat_lt, min, Bool, true, false, if◌then◌else◌, List, [], ◌∷◌, ◌++◌, length, Option, Some, None}
+use Rattle.std.specs.Prelude.{ℕ, ◌≡◌, ◌≤◌, ◌+◌, ◌-◌, ◌^◌, nat_lt, min, Bool, true, false, if◌then◌else◌, List, [], ◌∷◌, ◌++◌, length, Option, Some, None, slice_get}
 use Rattle.std.specs.declared.cmp.Ordering.{Ordering}
 use Rattle.std.specs.declared.cmp.Ordering.TheVariants.{Less, Equal, Greater}
 use Rattle.can_frame.specs.declared.level.Level.{Level}
-use Rattle.can_frame.specs.Parts.{Parts}
+use Rattle.can_frame.specs.Parts.{Parts, IsFrame}
 use Rattle.can_frame.specs.Arbitration.{arbitration_field, field_cmp}
 use Rattle.can_mac.specs.declared.event.Event.{Event}
 use Rattle.can_mac.specs.declared.event.Event.TheVariants.{Sent, Received, Lost, Error, Overload, WentOff, Recovered}
-use Rattle.can_mac.specs.State.{MacState}
+use Rattle.can_mac.specs.declared.phase.Phase.TheVariants.{Joining, Idle, StuffedPart, CrcDelimiter, AckSlot, AckDelimiter, EndOfFrame, ErrorFlag, PassiveFlag, OverloadFlag, AfterFlag, Delimiter, Intermission, Suspend, BusOff}
+use Rattle.can_mac.specs.State.{MacPhase, MacState}
 use Rattle.can_mac.specs.Machine.{mac_drives, mac_step, holding}
 use Rattle.can_node.specs.declared.entry.Entry.{Entry}
 
@@ -22,8 +23,8 @@ pub record PortState : Type 0 where
   pub missed : ℕ
 
 -- a port with these rooms, before anything was offered to it
-abbrev pub port : MacState → ℕ → ℕ → PortState
-port mac queue_room log_room = record { mac = mac; queue = []; queue_room = queue_room; log = []; log_room = log_room; missed = 0 }
+abbrev pub fresh_port : MacState → ℕ → ℕ → PortState
+fresh_port mac queue_room log_room = record { mac = mac; queue = []; queue_room = queue_room; log = []; log_room = log_room; missed = 0 }
 
 abbrev pub is_less : Ordering → Bool
 is_less Less = true
@@ -105,3 +106,29 @@ port_run p (x ∷ levels) = port_run (port_step p x) levels
 unfoldable pub port_events : PortState → List Level → List (Option Event)
 port_events p [] = []
 port_events p (x ∷ levels) = port_event p x ∷ port_events (port_step p x) levels
+
+-- a port that is joining, bus off or in a passive error flag
+abbrev pub is_silent : MacPhase → Bool
+is_silent (Joining row) = true
+is_silent (PassiveFlag last run unacknowledged) = true
+is_silent BusOff = true
+is_silent Idle = false
+is_silent (StuffedPart front) = false
+is_silent (CrcDelimiter r) = false
+is_silent (AckSlot r) = false
+is_silent (AckDelimiter r) = false
+is_silent (EndOfFrame r place) = false
+is_silent (ErrorFlag place) = false
+is_silent (OverloadFlag place) = false
+is_silent (AfterFlag first dominant) = false
+is_silent (Delimiter place) = false
+is_silent (Intermission place) = false
+is_silent (Suspend place) = false
+
+-- what holds of every port: its frames are frames, and queue and log keep within their rooms
+pub record IsPort (p : PortState) : Type 0 where
+  pub queued : (n : ℕ) (f : Parts) → slice_get p.queue n ≡ Some f → IsFrame f
+  pub logged : (n : ℕ) (entry : Entry) → slice_get p.log n ≡ Some entry → IsFrame entry.frame
+  pub queue_fits : length p.queue ≤ p.queue_room
+  pub log_fits : length p.log ≤ p.log_room
+  pub missed_fits : p.missed ≤ missed_limit

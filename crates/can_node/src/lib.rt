@@ -2,5 +2,7 @@
 #![tactic(auto)]
 
 mod entry;
+mod port;
 
 pub use entry::Entry;
+pub use port::Port;
