@@ -1,0 +1,5 @@
+pub mod HitOrder
+pub mod CursorLemmas
+pub mod PortLoops
+pub mod StepLemmas
+pub mod CheckLemmas

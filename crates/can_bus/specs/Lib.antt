@@ -1,4 +1,6 @@
 pub mod Wired
 pub mod Hits
 pub mod Run
+pub mod State
+pub mod Walks
 pub mod Quiet

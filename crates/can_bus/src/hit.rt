@@ -1,5 +1,8 @@
 /// A disturbance of one bit time. Times are counted from the first bit time of the call.
-#[derive(Clone, Copy, Debug, PartialEq, Eq)]
+///
+/// Hits are in order first by their kind, as the kinds stand here, and then by their numbers, as
+/// these stand in each.
+#[derive(Clone, Copy, Debug, PartialEq, Eq, PartialOrd, Ord)]
 pub enum Hit {
     /// The wired level is inverted at this time.
     At(u64),
