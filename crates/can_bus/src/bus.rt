@@ -1,6 +1,8 @@
-ghost use Rattle.std.specs.Prelude.{ℕ, ◌≡◌, ◌-◌, ◌+◌, ◌<◌, ◌≤◌, ◌^◌, ◌↔◌, length, map, slice_get, Some, IsOk, OnOk, OnErr, IfErr, if◌then◌else◌};
+ghost use Rattle.std.specs.Prelude.{ℕ, ◌≡◌, ◌-◌, ◌+◌, ◌<◌, ◌≤◌, ◌^◌, ◌↔◌, length, map, slice_get, Some, IsOk, IsSome, OnOk, OnErr, IfErr, IfOk, IfSome, if◌then◌else◌};
 ghost use Rattle.can_bus.specs.Hits.{AreTaken, IsFirstFault};
 ghost use Rattle.can_bus.specs.Run.{Course as Running, all_sampled, bus_level, bus_run, bus_step, inverted_if as inverted_if_of, recorded};
+ghost use Rattle.std.specs.Borrow.{sem};
+ghost use Rattle.can_bus.specs.Lends.{lends_port};
 ghost use Rattle.can_bus.specs.State.{state_of};
 ghost use Rattle.can_bus.specs.Walks.{AreBelow, AreRising, IsCall};
 ghost use Rattle.can_node.specs.Ports.{PortState};
@@ -10,15 +12,19 @@ use crate::check::check;
 use crate::cursor::Cursor;
 use crate::fault::BusFault;
 use crate::hit::Hit;
-use crate::moment::{attempt_now, rest_after};
+use crate::moment::{FREE, attempt_now, rest_after};
 use crate::wire::wired_level;
 use can_frame::Level;
 use can_node::Port;
 
-/// Ports on one wire.
+/// How many ports a bus may have.
+const MOST_PORTS: usize = 64;
+
+/// Ports on one wire, one bit time after another.
 #[derive(Drop)]
 pub struct Bus<P> {
     ports: Vec<P>,
+    /// How many recessive levels were recorded last in a row, counted up to eleven.
     rest: u8,
 }
 
@@ -44,6 +50,47 @@ fn sample_all<P: Port>(ports: &mut [P], hits: &[Hit], view: &mut Cursor, time: u
 }
 
 impl<P: Port> Bus<P> {
+    /// These ports on one wire, 1 to 64 of them, which has been recessive for eleven bit times.
+    /// Other numbers of ports are handed back. It takes no memory.
+    pub fn new(ports: Vec<P>) -> Result<Bus<P>, (BusFault, Vec<P>)>
+        ensures made { IfOk result (λ bus. (bus.ports ≡ ports) × (bus.rest ≡ 11)) }
+        ensures taken { IsOk result ↔ ((1 ≤ length ports.items) × (length ports.items ≤ 64)) }
+        ensures none { IfErr result (λ refused. (refused.0 ≡ BusFault.NoPort) ↔ (length ports.items ≡ 0)) }
+        ensures many { IfErr result (λ refused. (refused.0 ≡ BusFault.TooManyPorts) ↔ (64 < length ports.items)) }
+        ensures back { IfErr result (λ refused. refused.1 ≡ ports) }
+    {
+        if ports.is_empty() {
+            return Err((BusFault::NoPort, ports));
+        }
+        if ports.len() > MOST_PORTS {
+            return Err((BusFault::TooManyPorts, ports));
+        }
+        Ok(Bus { ports, rest: FREE })
+    }
+
+    /// The ports, in order.
+    pub fn ports(&self) -> &[P]
+        ensures { result.now ≡ self.now.ports.items }
+    {
+        self.ports.as_slice()
+    }
+
+    /// The port of this number, to be changed in its place.
+    pub fn port_mut(&mut self, node: usize) -> Option<&mut P>
+        ensures* writes_back { sem 𝓛 (lends_port P.row self.entry node result) }
+        ensures some { IsSome result ↔ (node < length self.old.ports.items) }
+        ensures port { IfSome result (λ port. slice_get self.old.ports.items node ≡ Some port.now) }
+    {
+        self.ports.get_mut(node)
+    }
+
+    /// The ports, in order.
+    pub fn into_ports(self) -> Vec<P>
+        ensures { result ≡ self.ports }
+    {
+        self.ports
+    }
+
     /// One bit time.
     fn step(&mut self, hits: &[Hit], call: &mut Call) -> Level
         requires rising { AreRising hits.now }
