@@ -33,9 +33,9 @@ other_goes f g e other =
     elim (fields_ranked f g) [
       | inl h ↦ h
       | inr ranked ↦ elim ranked [
-          | inl same ↦ absurd (other same)
-          | inr after ↦ absurd (let h : true ≡ false = sym (ap is_less ((key_cmp-tells g f).less.1 after)) ∙ e in cc)
-        ]
+        | inl same ↦ absurd (other same)
+        | inr after ↦ absurd (let h : true ≡ false = sym (ap is_less ((key_cmp-tells g f).less.1 after)) ∙ e in cc)
+      ]
     ]
 
 -- ---- lists that rise
@@ -79,8 +79,8 @@ rising_placed true f g frames e rising other more =
 rising_placed false f g frames e rising other more =
     let first : Goes f g = other_goes f g e (other 0 g (omega arith)) in
     rising_cons f (g ∷ frames)
-      (All-cons (Goes f) g frames first (λ k d h. Before-trans (arbitration_field f) (arbitration_field g) (arbitration_field (get_or frames k d)) first (rising_head g frames rising k d h)))
-      rising
+    (All-cons (Goes f) g frames first (λ k d h. Before-trans (arbitration_field f) (arbitration_field g) (arbitration_field (get_or frames k d)) first (rising_head g frames rising k d h)))
+    rising
 
 rising_inserted : (f : Parts) (frames : List Parts) → IsRising frames → All (Other f) frames → IsRising (inserted f frames)
 rising_inserted f [] rising other = rising_cons f [] (λ k d h. absurd (omega arith)) rising
@@ -90,7 +90,7 @@ rising_inserted f (g ∷ frames) rising other =
 moved_placed : (place : Bool) (f g : Parts) (frames : List Parts) → IsPermutation (f ∷ frames) (inserted f frames) → IsPermutation (f ∷ g ∷ frames) (if place then g ∷ inserted f frames else f ∷ g ∷ frames)
 moved_placed true f g frames more =
     IsPermutation-trans (f ∷ g ∷ frames) (g ∷ f ∷ frames) (g ∷ inserted f frames)
-      (IsPermutation-middle (f ∷ []) g frames) (IsPermutation-cons g (f ∷ frames) (inserted f frames) more)
+    (IsPermutation-middle (f ∷ []) g frames) (IsPermutation-cons g (f ∷ frames) (inserted f frames) more)
 moved_placed false f g frames more = IsPermutation-refl (f ∷ g ∷ frames)
 
 moved_inserted : (f : Parts) (frames : List Parts) → IsPermutation (f ∷ frames) (inserted f frames)
@@ -107,9 +107,9 @@ AreDifferent-Differ frames different m n d a b apart same =
     elim (cases_order m n) [
       | inl e ↦ apart e
       | inr order ↦ elim order [
-          | inl less ↦ different m n (get_or frames m d) (get_or frames n d) less (slice_get-get_or frames m d a) (slice_get-get_or frames n d b) same
-          | inr more ↦ different n m (get_or frames n d) (get_or frames m d) more (slice_get-get_or frames n d b) (slice_get-get_or frames m d a) (sym same)
-        ]
+        | inl less ↦ different m n (get_or frames m d) (get_or frames n d) less (slice_get-get_or frames m d a) (slice_get-get_or frames n d b) same
+        | inr more ↦ different n m (get_or frames n d) (get_or frames m d) more (slice_get-get_or frames n d b) (slice_get-get_or frames m d a) (sym same)
+      ]
     ]
 
 rising-Differ : (frames : List Parts) → IsRising frames → Differ frames
@@ -132,18 +132,27 @@ swap_source xs i j m d a b h =
     let is : get_or (swap xs i j) m d ≡ get_or (set (set xs i (get_or xs j d)) j (get_or xs i d)) m d = ap (λ ys. get_or ys m d) (sym (swap_is xs i j d a b)) in
     let long : j < length (set xs i (get_or xs j d)) = omega (arith, length-set xs i (get_or xs j d)) in
     elim (cases_eq m j) [
-      | inl e ↦ (i, a,
-          is ∙ ap (λ k. get_or (set (set xs i (get_or xs j d)) j (get_or xs i d)) k d) e ∙ get_or-set_same (set xs i (get_or xs j d)) j (get_or xs i d) d long,
-          inl (e, refl))
+      | inl e ↦ (
+        i,
+        a,
+        is ∙ ap (λ k. get_or (set (set xs i (get_or xs j d)) j (get_or xs i d)) k d) e ∙ get_or-set_same (set xs i (get_or xs j d)) j (get_or xs i d) d long,
+        inl (e, refl),
+      )
       | inr last ↦ elim (cases_eq m i) [
-          | inl e ↦ (j, b,
-              is ∙ get_or-set_other (set xs i (get_or xs j d)) j m (get_or xs i d) d last
+        | inl e ↦ (
+          j,
+          b,
+          is ∙ get_or-set_other (set xs i (get_or xs j d)) j m (get_or xs i d) d last
               ∙ ap (λ k. get_or (set xs i (get_or xs j d)) k d) e ∙ get_or-set_same xs i (get_or xs j d) d a,
-              inr (inl (e, refl)))
-          | inr first ↦ (m, h,
-              is ∙ get_or-set_other (set xs i (get_or xs j d)) j m (get_or xs i d) d last ∙ get_or-set_other xs i m (get_or xs j d) d first,
-              inr (inr (refl, first, last)))
-        ]
+          inr (inl (e, refl)),
+        )
+        | inr first ↦ (
+          m,
+          h,
+          is ∙ get_or-set_other (set xs i (get_or xs j d)) j m (get_or xs i d) d last ∙ get_or-set_other xs i m (get_or xs j d) d first,
+          inr (inr (refl, first, last)),
+        )
+      ]
     ]
 
 sources_apart : (i j m n k l : ℕ) → IsSource i j m k → IsSource i j n l → k ≡ l → m ≡ n
@@ -180,14 +189,14 @@ unfolding ascending
 ascending_all [] = IsPermutation-refl []
 ascending_all (f ∷ frames) =
     IsPermutation-trans (f ∷ frames) (f ∷ ascending frames) (inserted f (ascending frames))
-      (IsPermutation-cons f frames (ascending frames) (ascending_all frames)) (moved_inserted f (ascending frames))
+    (IsPermutation-cons f frames (ascending frames) (ascending_all frames)) (moved_inserted f (ascending frames))
 
 ascending_rising : (frames : List Parts) → Differ frames → IsRising (ascending frames)
 unfolding ascending
 ascending_rising [] differ = rising_none
 ascending_rising (f ∷ frames) differ =
     rising_inserted f (ascending frames) (ascending_rising frames (differ_tail f frames differ))
-      (All-permutation (Other f) frames (ascending frames) (ascending_all frames) (differ_head f frames differ))
+    (All-permutation (Other f) frames (ascending frames) (ascending_all frames) (differ_head f frames differ))
 
 ascending_of : (frames : List Parts) → Differ frames → IsAscending frames (ascending frames)
 ascending_of frames differ = record { rising = ascending_rising frames differ; all = ascending_all frames }
@@ -215,10 +224,10 @@ heads_same f g a b r s p q =
     elim (contains_cases g f b p) [
       | inl e ↦ sym e
       | inr behind ↦ elim (contains_cases f g a q) [
-          | inl e ↦ e
-          | inr later ↦ absurd (Before-one_way (arbitration_field g) (arbitration_field f)
-              (contains_goes g f b (rising_head g b s) behind) (contains_goes f g a (rising_head f a r) later))
-        ]
+        | inl e ↦ e
+        | inr later ↦ absurd (Before-one_way (arbitration_field g) (arbitration_field f)
+            (contains_goes g f b (rising_head g b s) behind) (contains_goes f g a (rising_head f a r) later))
+      ]
     ]
 
 tail_contained : (f g : Parts) (a b : List Parts) → f ≡ g → IsRising (f ∷ a) → ((x : Parts) → Contains (f ∷ a) x → Contains (g ∷ b) x) → (x : Parts) → Contains a x → Contains b x

@@ -22,9 +22,9 @@ rising_each hits each m (suc k) a b h at to =
     elim (cases_order m k) [
       | inl same ↦ subst (λ x. is_above b x ≡ true) (get_or_from_slice_get hits k a b (ap (slice_get hits) (sym same) ∙ at)) up
       | inr apart ↦ elim apart [
-          | inl less ↦ above-transitive b (get_or hits k b) a up (rising_each hits each m k a (get_or hits k b) less at there)
-          | inr more ↦ absurd (omega arith)
-        ]
+        | inl less ↦ above-transitive b (get_or hits k b) a up (rising_each hits each m k a (get_or hits k b) less at there)
+        | inr more ↦ absurd (omega arith)
+      ]
     ]
 
 -- an element of a front
@@ -75,11 +75,12 @@ pub taken_more : (ports : ℕ) (hits : List Hit) (place : ℕ) (d : Hit) →
 taken_more ports hits place d each above names n hit less there =
     elim (cases_order n place) [
       | inl same ↦
-          let e : get_or hits place d ≡ hit = ap (λ k. get_or hits k d) (sym same) ∙ get_or_from_slice_get hits n hit d there in
-          (λ m last next at. subst (λ h. is_above h last ≡ true) e (above m last (next ∙ same) at),
-            subst (λ h. names_port ports h ≡ true) e names)
+          let e : get_or hits place d ≡ hit = ap (λ k. get_or hits k d) (sym same) ∙ get_or_from_slice_get hits n hit d there in (
+            λ m last next at. subst (λ h. is_above h last ≡ true) e (above m last (next ∙ same) at),
+            subst (λ h. names_port ports h ≡ true) e names,
+          )
       | inr apart ↦ elim apart [
-          | inl below ↦ each n hit below there
-          | inr more ↦ absurd (omega arith)
-        ]
+        | inl below ↦ each n hit below there
+        | inr more ↦ absurd (omega arith)
+      ]
     ]

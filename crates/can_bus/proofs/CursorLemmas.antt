@@ -23,9 +23,9 @@ below_more hits place q d below within above n before h e =
     elim (cases_order n place) [
       | inl same ↦ subst (λ x. is_above q x ≡ true) (ap (λ k. get_or hits k d) (sym same) ∙ get_or_from_slice_get hits n before d e) above
       | inr other ↦ elim other [
-          | inl less ↦ below n before less e
-          | inr more ↦ absurd (omega arith)
-        ]
+        | inl less ↦ below n before less e
+        | inr more ↦ absurd (omega arith)
+      ]
     ]
 
 -- what lies below a hit lies below each that is above it
@@ -36,7 +36,7 @@ below_above hits place q r above below n before h e = above-transitive r q befor
 pub reach_none : (hits : List Hit) (place : ℕ) (q : Hit) → AreBelow hits place q → length hits ≤ place → false ≡ list_any (is_hit q) hits
 reach_none hits place q below end =
     sym (list_any_none (is_hit q) hits (λ k d within.
-      above-other q (get_or hits k d) (below k (get_or hits k d) (omega arith) (slice_get-get_or hits k d within))))
+    above-other q (get_or hits k d) (below k (get_or hits k d) (omega arith) (slice_get-get_or hits k d within))))
 
 -- the first that isn't passed is the one
 pub reach_same : (hits : List Hit) (place : ℕ) (q d : Hit) → place < length hits → is_hit q (get_or hits place d) ≡ true → true ≡ list_any (is_hit q) hits
@@ -66,13 +66,13 @@ reach_past hits place q d rising below within above =
         elim (cases_order k place) [
           | inl same ↦
               let at : get_or hits place d ≡ get_or hits k e =
-                  get_or_from_slice_get hits place (get_or hits k e) d (ap (slice_get hits) (sym same) ∙ here) in
+              get_or_from_slice_get hits place (get_or hits k e) d (ap (slice_get hits) (sym same) ∙ here) in
               not_same q (get_or hits k e) (subst (λ h. is_above h q ≡ true) at above)
           | inr apart ↦ elim apart [
-              | inl less ↦ above-other q (get_or hits k e) (below k (get_or hits k e) less here)
-              | inr more ↦ not_same q (get_or hits k e)
-                  (above-transitive (get_or hits k e) (get_or hits place d) q (rising place k (get_or hits place d) (get_or hits k e) more first here) above)
-            ]
+            | inl less ↦ above-other q (get_or hits k e) (below k (get_or hits k e) less here)
+            | inr more ↦ not_same q (get_or hits k e)
+                (above-transitive (get_or hits k e) (get_or hits place d) q (rising place k (get_or hits place d) (get_or hits k e) more first here) above)
+          ]
         ]
 
 -- tests that agree on each element

@@ -58,18 +58,19 @@ pub step_is : (hits : List Hit) (ports next : List PortState) (rest time : ℕ) 
     x ≡ inverted_if (list_any (hits_wire time now) hits) w → next ≡ all_sampled hits time x 0 ports →
     (x ≡ recorded hits (record { bus = record { ports = ports; rest = rest }; time = time; latest = latest })) ×
     (record { bus = record { ports = next; rest = rest_after rest x }; time = time + 1; latest = now }
-      ≡ bus_step hits (record { bus = record { ports = ports; rest = rest }; time = time; latest = latest }))
+    ≡ bus_step hits (record { bus = record { ports = ports; rest = rest }; time = time; latest = latest }))
 unfolding recorded bus_step
 step_is hits ports next rest time latest now w x a b d e =
     let c : Course = record { bus = record { ports = ports; rest = rest }; time = time; latest = latest } in
     let n : now ≡ (if begins rest (wired (map port_drives ports)) then Some (following latest) else aged latest) =
-        b ∙ ap (λ v. if begins rest v then Some (following latest) else aged latest) a in
+    b ∙ ap (λ v. if begins rest v then Some (following latest) else aged latest) a in
     let r : x ≡ recorded hits c = d ∙ ap (λ m. inverted_if (list_any (hits_wire time m) hits) w) n
-        ∙ ap (λ v. inverted_if (list_any (hits_wire time (if begins rest (wired (map port_drives ports)) then Some (following latest) else aged latest)) hits) v) a in
-    (r,
+    ∙ ap (λ v. inverted_if (list_any (hits_wire time (if begins rest (wired (map port_drives ports)) then Some (following latest) else aged latest)) hits) v) a in (
+      r,
       ap (λ ps. record { bus = record { ports = ps; rest = rest_after rest x }; time = time + 1; latest = now }) e
-      ∙ ap (λ v. record { bus = record { ports = all_sampled hits time v 0 ports; rest = rest_after rest v }; time = time + 1; latest = now }) r
-      ∙ ap (λ m. record { bus = record { ports = all_sampled hits time (recorded hits c) 0 ports; rest = rest_after rest (recorded hits c) }; time = time + 1; latest = m }) n)
+          ∙ ap (λ v. record { bus = record { ports = all_sampled hits time v 0 ports; rest = rest_after rest v }; time = time + 1; latest = now }) r
+          ∙ ap (λ m. record { bus = record { ports = all_sampled hits time (recorded hits c) 0 ports; rest = rest_after rest (recorded hits c) }; time = time + 1; latest = m }) n,
+    )
 
 -- the course of a call, a bit time further
 pub course_more : (hits : List Hit) (i : ℕ) (bus : BusState) (c next : Course) → c ≡ bus_after hits i (course bus) → next ≡ bus_step hits c → next ≡ bus_after hits (i + 1) (course bus)
@@ -86,9 +87,9 @@ pub level_more : (hits : List Hit) (i : ℕ) (bus : BusState) (c : Course) (rec 
 unfolding bus_level
 level_more hits i bus c rec x h e f before t d =
     below_more (λ n. get_or (set rec i x) n d ≡ bus_level hits n bus) i
-      (λ n b. let ne : n ≢ i = omega arith in rw get_or-set_other (before n d b))
-      (rw get_or-set_same (f ∙ ap (recorded hits) e))
-      t
+    (λ n b. let ne : n ≢ i = omega arith in rw get_or-set_other (before n d b))
+    (rw get_or-set_same (f ∙ ap (recorded hits) e))
+    t
 
 pub run_is : (hits : List Hit) (n : ℕ) (bus : BusState) (c : Course) → c ≡ bus_after hits n (course bus) → c.bus ≡ bus_run hits n bus
 unfolding bus_run

@@ -88,10 +88,11 @@ impl<P: Port> Bus<P> {
     pub fn into_ports(self) -> Vec<P>
         ensures { result ≡ self.ports }
     {
-        self.ports
+        let Bus { ports, rest: _ } = self;
+        ports
     }
 
-    /// One bit time.
+    /// One bit time, and the level that is recorded in it.
     fn step(&mut self, hits: &[Hit], call: &mut Call) -> Level
         requires rising { AreRising hits.now }
         requires call { IsCall hits.now call.old }
@@ -106,13 +107,21 @@ impl<P: Port> Bus<P> {
         call.latest = attempt_now(call.latest, self.rest, wired);
         let hit = call.hits_wire(hits);
         let level = inverted_if(hit, wired);
-        sample_all(self.ports.as_mut_slice(), hits, &mut call.view, call.time, level);
+        sample_all(
+            self.ports.as_mut_slice(),
+            hits,
+            &mut call.view,
+            call.time,
+            level,
+        );
         self.rest = rest_after(self.rest, level);
         call.time += 1;
         level
     }
 
-    /// Runs as many bit times as `rec` is long.
+    /// Runs as many bit times as `rec` is long, and records a level in each. The hits must rise, and
+    /// name ports that there are: else the first that doesn't is told, nothing has run, and `rec` is
+    /// as it was. It takes no memory. Its work is in proportion to the hits, and to ports and bit times.
     pub fn run(&mut self, hits: &[Hit], rec: &mut [Level]) -> Result<(), BusFault>
         ensures taken { IsOk result ↔ AreTaken (length self.old.ports.items) hits.now }
         ensures fault { IfErr result (λ fault. IsFirstFault (length self.old.ports.items) hits.now fault) }

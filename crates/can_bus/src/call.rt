@@ -50,7 +50,10 @@ impl Call {
             None => false,
             Some(attempt) => self.within.reach(
                 hits,
-                Hit::In { attempt: attempt.number, offset: attempt.offset },
+                Hit::In {
+                    attempt: attempt.number,
+                    offset: attempt.offset,
+                },
             ),
         };
         by_time || by_attempt

@@ -33,7 +33,10 @@ fn aged(latest: Option<Attempt>) -> Option<Attempt>
 {
     match latest {
         None => None,
-        Some(Attempt { number, offset }) => Some(Attempt { number, offset: offset + 1 }),
+        Some(Attempt { number, offset }) => Some(Attempt {
+            number,
+            offset: offset + 1,
+        }),
     }
 }
 

@@ -12,9 +12,9 @@ loop-node-preserved g c = record {
   ports = front_at_more g.P.Port.port (sampled c.args.hits.now c.args.time c.args.level) c.loop-node.node c.loop-node.ports _ c.sample-event.new.self c.index-ports-node.result
       (omega arith) c.loop-node.invariant.ports
       (c.sample-event.ensures.port
-        ∙ ap (port_step (g.P.Port.port (get_or c.loop-node.ports c.loop-node.node c.index-ports-node.result)))
-            (c.inverted_if-seen.ensures
-              ∙ ap (λ b. inverted_if b c.args.level) (c.reach-hit.ensures.result ∙ view_found c.args.time c.loop-node.node c.args.hits.now)));
+      ∙ ap (port_step (g.P.Port.port (get_or c.loop-node.ports c.loop-node.node c.index-ports-node.result)))
+      (c.inverted_if-seen.ensures
+      ∙ ap (λ b. inverted_if b c.args.level) (c.reach-hit.ensures.result ∙ view_found c.args.time c.loop-node.node c.args.hits.now)));
   passed = view_next c.args.hits.now c.reach-hit.new.self.place c.args.time c.loop-node.node c.reach-hit.ensures.passed;
 }
 

@@ -13,7 +13,7 @@ pub returns-in_err-check-clause-taken : goal.returns-in_err-check-clause-taken
 returns-in_err-check-clause-taken g c =
     let size : c.len.result ≡ length c.args.self.now.ports.items = search rules in
     let untaken : AreTaken (length c.args.self.now.ports.items) c.args.hits.now → ⊥ =
-        λ taken. let e : false ≡ true = c.in_err-check.ensures.taken.1 (subst (λ n. AreTaken n c.args.hits.now) (sym size) taken) in cc in
+    λ taken. let e : false ≡ true = c.in_err-check.ensures.taken.1 (subst (λ n. AreTaken n c.args.hits.now) (sym size) taken) in cc in
     (search rules, λ taken. absurd (untaken taken))
 
 pub loop-slot-init : goal.loop-slot-init

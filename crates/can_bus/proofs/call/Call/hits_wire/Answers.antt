@@ -12,16 +12,16 @@ pub returns-then-by_time-clause-result : goal.returns-then-by_time-clause-result
 returns-then-by_time-clause-result c =
     true_or c.reach-by_time.result c.match-self.by_attempt c.if-by_time.true
     ∙ wire_answer c.args.self.now.time c.args.self.now.latest c.args.hits.now _ _ c.reach-by_time.ensures.result
-        (elim c.match-self.branch [
-          | in-None w ↦ inl (w.in-None.is, w.by_attempt-is)
-          | in-Some w ↦ inr (w.in-Some.attempt, w.in-Some.is, w.by_attempt-is ∙ w.reach-by_attempt.ensures.result)
-        ])
+    (elim c.match-self.branch [
+      | in-None w ↦ inl (w.in-None.is, w.by_attempt-is)
+      | in-Some w ↦ inr (w.in-Some.attempt, w.in-Some.is, w.by_attempt-is ∙ w.reach-by_attempt.ensures.result)
+    ])
 
 pub returns-else-by_time-clause-result : goal.returns-else-by_time-clause-result
 returns-else-by_time-clause-result c =
     false_or c.reach-by_time.result c.match-self.by_attempt c.if-by_time.false
     ∙ wire_answer c.args.self.now.time c.args.self.now.latest c.args.hits.now _ _ c.reach-by_time.ensures.result
-        (elim c.match-self.branch [
-          | in-None w ↦ inl (w.in-None.is, w.by_attempt-is)
-          | in-Some w ↦ inr (w.in-Some.attempt, w.in-Some.is, w.by_attempt-is ∙ w.reach-by_attempt.ensures.result)
-        ])
+    (elim c.match-self.branch [
+      | in-None w ↦ inl (w.in-None.is, w.by_attempt-is)
+      | in-Some w ↦ inr (w.in-Some.attempt, w.in-Some.is, w.by_attempt-is ∙ w.reach-by_attempt.ensures.result)
+    ])
