@@ -30,6 +30,7 @@ use Rattle.can_mac.proofs.PartEnds.{ends_part-ended, ends_part-partial, agrees-D
 abbrev pub own_reading : Parts → Reading
 own_reading f = record { frame = f; agrees = true }
 
+-- what its unstuffed levels tell
 pub reading_of-unstuffed : (f : Parts) → IsFrame f → reading_of (unstuffed f) ≡ own_reading f
 reading_of-unstuffed f is =
     let agreed : agrees (unstuffed f) ≡ true = (agrees-Decides (unstuffed f)).1 (unstuffed-agrees f) in
@@ -57,6 +58,7 @@ GoesWith f o (Sender g) = IsFrame g × (o < length (stuffed_part g)) × (front_a
 pub GoesWith-own : (f : Parts) (o : ℕ) → IsFrame f → o < length (stuffed_part f) → GoesWith f o (Sender f)
 GoesWith-own f o is more = (is, more, refl, refl)
 
+-- a sender that sees what it sent hears it
 same_as_sent : (s : Stance) (f : Parts) (front : FrontParts) (driven x : Level) → driven ≡ x → sent_bit_move s f front driven x ≡ hears s front x
 same_as_sent s f front Dominant Dominant e = refl
 same_as_sent s f front Recessive Recessive e = refl
@@ -98,14 +100,17 @@ module _ (f : Parts) (is : IsFrame f) (o : ℕ) (some : 0 < o) (more : o < lengt
 
 -- a sender of g that has a recessive level where this frame's is dominant, behind one front, loses arbitration
 module _ (f g : Parts) (f_is : IsFrame f) (g_is : IsFrame g) (o : ℕ) (some : 0 < o) (more_f : o < length (stuffed_part f)) (more_g : o < length (stuffed_part g)) (one : front_at f o ≡ front_at g o) (wins : WinsAt f g o) where
+  -- the controller as that sender
   losing : Stance → Stance
   losing s = record s { role = Sender g }
 
+  -- it sent a recessive level
   driven : sent_level g (length (front_at f o).unstuffed) ≡ Recessive
   driven =
       let free : (front_at g o).run ≢ 5 = λ five. wins.free (ap (λ a. a.run) one ∙ five) in
       ap (λ a. sent_level g (length a.unstuffed)) one ∙ sym (sent_bit g g_is o some more_g free) ∙ wins.high
 
+  -- and goes on as a receiver
   pub part-loses : (s : Stance) → stuffed_part_move (record s { role = Sender g }) (front_at f o) (level_at (stuffed_part f) o)
       ≡ record (goes s (part_phase (front_at f (o + 1)))) { role = Receiver; event = Some Lost }
   unfolding losing

@@ -3,8 +3,7 @@
 use Rattle.std.proofs.Common.{◌≡◌, ◌-◌, false, Option, Some, None, List, [], ◌∷◌, ◌++◌, length, drop, replicate, refl, ◌∙◌, ap}
 use Rattle.can_frame.specs.declared.level.Level.TheVariants.{Dominant, Recessive}
 use Rattle.can_frame.specs.Parts.{Parts, IsFrame}
-use Rattle.can_code.specs.Wire.{head, unstuffed, stuffed_part, wire, tail}
-use Rattle.can_code.specs.Stuffing.{stuffed}
+use Rattle.can_code.specs.Wire.{stuffed_part, wire, tail}
 use Rattle.can_code.specs.Front.{first_front}
 use Rattle.can_fault.specs.declared.cause.Cause.TheVariants.{FrameSent, FrameReceived}
 use Rattle.can_fault.specs.Counters.{ConfineParts, counted, is_bus_off}
@@ -17,6 +16,7 @@ use Rattle.can_mac.specs.declared.phase.Phase.TheVariants.{Idle, StuffedPart, In
 use Rattle.can_mac.specs.State.{MacState}
 use Rattle.can_mac.specs.Machine.{mac_step}
 use Rattle.can_mac.proofs.Turns.{Turn, levels_of, after_turns, turn_events}
+use Rattle.can_mac.proofs.PartHearing.{stuffed_part-first}
 use Rattle.can_mac.proofs.Yields.{Yields}
 use Rattle.can_mac.proofs.WireYields.{in_phase, HasNoOverload, received-wire, sent-wire}
 
@@ -26,8 +26,7 @@ begun own = record { pending = own.pending; used = 0 }
 
 -- a wire begins with its start of frame
 pub wire-first : (f : Parts) → wire f ≡ Dominant ∷ (drop 1 (stuffed_part f) ++ tail Dominant Recessive)
-unfolding stuffed_part unstuffed stuffed head
-wire-first f = refl
+wire-first f = ap (λ b. b ++ tail Dominant Recessive) (stuffed_part-first f)
 
 -- bit times in which a wire is seen, of which this frame waits in the first
 abbrev pub wire_turns : Option Parts → List Turn → List Turn

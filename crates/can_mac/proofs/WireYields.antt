@@ -38,6 +38,7 @@ abbrev pub IsOf : Parts → Role → Type 0
 IsOf f Receiver = Unit {0}
 IsOf f (Sender g) = g ≡ f
 
+-- either goes on with it
 IsOf-goes : (f : Parts) (o : ℕ) (role : Role) → IsFrame f → o < length (stuffed_part f) → IsOf f role → GoesWith f o role
 IsOf-goes f o Receiver is more of = tt
 IsOf-goes f o (Sender g) is more of = subst (λ h. GoesWith f o (Sender h)) (sym of) (GoesWith-own f o is more)
@@ -45,12 +46,14 @@ IsOf-goes f o (Sender g) is more of = subst (λ h. GoesWith f o (Sender h)) (sym
 module _ (own : Overloads) (c : ConfineParts) where
   -- one level of the stuffed part
   module _ (f : Parts) (is : IsFrame f) (o : ℕ) (some : 0 < o) (more : o < length (stuffed_part f)) where
+    -- a receiver, and a sender of the same levels so far
     pub part-step : (role : Role) (waiting : Option Parts) → GoesWith f o role
         → mac_step (in_phase own c (StuffedPart (front_at f o)) role) waiting (level_at (stuffed_part f) o) ≡ (in_phase own c (part_phase (front_at f (o + 1))) role, None)
     part-step role waiting goes_with =
         let m = in_phase own c (StuffedPart (front_at f o)) role in
         step_on m waiting (level_at (stuffed_part f) o) refl ∙ ap (on_step m) (part-hears f is o some more (stance m) goes_with)
 
+    -- a sender that loses arbitration
     pub part-step-lost : (g : Parts) (waiting : Option Parts) → IsFrame g → o < length (stuffed_part g) → front_at f o ≡ front_at g o → WinsAt f g o
         → mac_step (in_phase own c (StuffedPart (front_at f o)) (Sender g)) waiting (level_at (stuffed_part f) o) ≡ (in_phase own c (part_phase (front_at f (o + 1))) Receiver, Some Lost)
     part-step-lost g waiting g_is more_g one wins =
@@ -73,6 +76,7 @@ module _ (own : Overloads) (c : ConfineParts) where
     abbrev b : List Level
     b = stuffed_part f
 
+    -- the rest, of n levels
     rest-yields : (n o : ℕ) → 0 < o → o + n ≡ length b → Yields (behind o) (drop o b) (replicate n None) whole
     rest-yields zero o some size =
         let all : o ≡ length b = omega arith in
@@ -99,10 +103,11 @@ module _ (own : Overloads) (c : ConfineParts) where
         let first : part_phase (front_at f 1) ≡ StuffedPart first_front = part_phase-going f is 1 (omega arith) (omega arith) ∙ ap StuffedPart (front_at-first f) in
         subst (λ phase. Yields (in_phase own c phase role) (drop 1 b) (replicate (length b - 1) None) whole) first (part-yields 1 (omega arith) (omega arith))
 
--- what a frame that is received or sent counts leaves a controller on the bus
+-- what a frame that is received counts leaves a controller on the bus
 received-on : (c : ConfineParts) → is_bus_off c ≡ false → is_bus_off (counted FrameReceived c) ≡ false
 received-on c on = cond_both {A = ConfineParts} (is_bus_off c) c (changed FrameReceived c) (λ d. is_bus_off d ≡ false) (λ e. on) (λ e. on)
 
+-- and what a frame that is sent counts
 sent-on : (c : ConfineParts) → is_bus_off c ≡ false → is_bus_off (counted FrameSent c) ≡ false
 sent-on c on =
     let low = leb-false 256 c.tec on in
