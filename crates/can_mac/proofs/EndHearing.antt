@@ -53,10 +53,12 @@ Spells-part u part acked last is_part is_crc = record {
   };
 }
 
+-- the frame that is heard is the one that the unstuffed levels tell
 frame_of-heard_of : (u : List Level) (acked : Bool) (last : Level) → (heard_of u acked last).frame ≡ frame_of u
 unfolding heard_of
 frame_of-heard_of u acked last = refl
 
+-- the ACK slot tells whether anyone has acknowledged
 ack_slot-told : (ack : Level) → ack_slot (not (is_recessive ack)) ≡ ack
 ack_slot-told Dominant = refl
 ack_slot-told Recessive = refl

@@ -24,6 +24,7 @@ use Rattle.can_mac.specs.Moves.{MacMove, reading_of}
 abbrev pub EndsIn : List Level → List Level → Type 0
 EndsIn stretch levels = (before : List Level) × (levels ≡ before ++ stretch)
 
+-- with one level more they end in the longer stretch
 pub EndsIn-more : (stretch levels : List Level) (x : Level) → EndsIn stretch levels → EndsIn (stretch ++ x ∷ []) (levels ++ x ∷ [])
 EndsIn-more stretch levels x h = (h.0, ap (λ l. l ++ x ∷ []) h.1 ∙ append_assoc h.0 stretch (x ∷ []))
 
@@ -42,11 +43,12 @@ pub record OwnPart (f : Parts) (part u : List Level) : Type 0 where
   pub part_is : part ≡ stuffed_part f
   pub unstuffed_is : u ≡ unstuffed f
 
--- what a controller knows to be its own
+-- what a controller knows to be its own of a front
 abbrev pub IsOwnFront : Role → List Level → FrontParts → Type 0
 IsOwnFront Receiver part front = Unit {0}
 IsOwnFront (Sender f) part front = OwnFront f part front
 
+-- and of a whole part
 abbrev pub IsOwnPart : Role → (part u : List Level) → Type 0
 IsOwnPart Receiver part u = Unit {0}
 IsOwnPart (Sender f) part u = OwnPart f part u
@@ -78,18 +80,21 @@ pub record HeardPart (role : Role) (r : Reading) (behind levels : List Level) : 
   pub read : r ≡ reading_of u
   pub own : IsOwnPart role part u
 
--- the same up to the ACK delimiter, and to the n-th level of the end of frame
+-- the same with an ACK slot, behind which the controller goes on
 pub record HeardSlot (role : Role) (r : Reading) (behind : Level → List Level) (levels : List Level) : Type 0 where
   pub ack : Level
   pub fits : FitsSlot role ack
   pub heard : HeardPart role r (behind ack) levels
 
+-- the levels behind the stuffed part, up to the ACK slot
 abbrev pub to_slot : Level → List Level
 to_slot ack = Recessive ∷ ack ∷ []
 
+-- and up to the n-th level of the end of frame
 abbrev pub to_end : ℕ → Level → List Level
 to_end n ack = Recessive ∷ ack ∷ Recessive ∷ replicate n Recessive
 
+-- the same in the end of frame, of which so many levels have come
 pub record HeardEnd (role : Role) (r : Reading) (place : ℕ) (levels : List Level) : Type 0 where
   pub within : place ≤ 6
   pub accepts : Accepts role r

@@ -23,20 +23,25 @@ use Rattle.can_mac.proofs.Hearing.{IsOwnFront, HearsPart, HeardPart, HeardSlot, 
 use Rattle.can_mac.proofs.PartHearing.{OwnFront-first, OwnFront-stuff_bit, OwnFront-bit, HearsPart-first, HearsPart-more}
 use Rattle.can_mac.proofs.EndHearing.{HeardPart-more, HeardSlot-more, EndsSpelled-received, EndsIn-sent}
 
+-- either of two moves
 either : {v w : MacMove} {levels : List Level} (b : Bool) → KnowsAfter v levels → KnowsAfter w levels → KnowsAfter (cond b v w) levels
 either true p q = p
 either false p q = q
 
+-- an error flag, active or passive
 flag-knows : (passive un : Bool) (role : Role) (levels : List Level) → Knows (flag passive un) role levels
 flag-knows true un role levels = tt
 flag-knows false un role levels = tt
 
+-- an error
 error : {levels : List Level} (cause : Option Cause) (un : Bool) (s : Stance) (kind : ErrorKind) → KnowsAfter (errs_by cause un s kind) levels
 error {levels} cause un s kind = record { knows = flag-knows s.passive un s.role levels; told = tt }
 
+-- a passive error flag, and behind it
 passive_flag-knows : (x : Level) (run : ℕ) (un : Bool) (role : Role) (levels : List Level) → Knows (passive_phase x run un) role levels
 passive_flag-knows x run un role levels = cond_both {A = MacPhase} (nat_lt run 6) (PassiveFlag x run un) (AfterFlag true 0) (λ phase. Knows phase role levels) (λ e. tt) (λ e. tt)
 
+-- intermission, or an overload frame of the controller's own
 enters : {levels : List Level} (s : Stance) (role : Role) → KnowsAfter (enters_intermission s role) levels
 enters s (Sender f) = record { knows = tt; told = tt }
 enters s Receiver = either (nat_lt 0 s.overloads.pending && nat_lt s.overloads.used 2) (record { knows = tt; told = tt }) (record { knows = tt; told = tt })
@@ -45,17 +50,20 @@ enters s Receiver = either (nat_lt 0 s.overloads.pending && nat_lt s.overloads.u
 begin : (levels : List Level) (s : Stance) (role : Role) → IsOwnFront role (Dominant ∷ []) first_front → KnowsAfter (begins s role) (levels ++ Dominant ∷ [])
 begin levels s role own = record { knows = HearsPart-first role levels own; told = tt }
 
+-- to its sender, where the frame that waits is one
 next_role-own : (held_back : Bool) (waiting : Option Parts) → IsWaiting waiting → IsOwnFront (next_role held_back waiting) (Dominant ∷ []) first_front
 next_role-own held_back None is = tt
 next_role-own true (Some f) is = tt
 next_role-own false (Some f) is = OwnFront-first f is
 
 module _ (passive : Bool) (overloads : Overloads) (levels : List Level) where
+  -- a controller that is this to the frame on the bus
   abbrev acting : Role → Stance
   acting role = record { passive = passive; role = role; overloads = overloads }
 
   -- a stuffed part goes on
   module _ (front : FrontParts) (x : Level) where
+    -- at a stuff place
     stuff_bit-knows : (role : Role) → HearsPart role front levels → eqb front.run 5 ≡ true → KnowsAfter (stuff_bit_move (acting role) front x) (levels ++ x ∷ [])
     stuff_bit-knows role h due =
         cond_both {A = MacMove} (same x front.last) (stuff_error_move (acting role) front x) (hears (acting role) front x) (λ v. KnowsAfter v (levels ++ x ∷ []))
@@ -67,12 +75,15 @@ module _ (passive : Bool) (overloads : Overloads) (levels : List Level) where
         own (Sender f) h other = OwnFront-stuff_bit f h.part front h.own h.goes_on x (eqb-true front.run 5 due) other
 
     module _ (not_due : eqb front.run 5 ≡ false) where
+      -- no level at another place is a wrong stuff bit
       no_error-bit : is_stuff_error front x ≡ false
       no_error-bit = ap (λ b. b && same x front.last) not_due
 
+      -- the level that a sender sent is its own
       sent-own : (f : Parts) (h : HearsPart (Sender f) front levels) → sent_level f (length front.unstuffed) ≡ x → IsOwnFront (Sender f) (h.part ++ x ∷ []) (heard_level front x)
       sent-own f h sent = OwnFront-bit f h.part front h.own h.goes_on x (eqb-false front.run 5 not_due) sent
 
+  -- at another place, to a sender
   sent_bit-knows : (front : FrontParts) (f : Parts) (driven x : Level) → eqb front.run 5 ≡ false → HearsPart (Sender f) front levels → sent_level f (length front.unstuffed) ≡ driven
       → KnowsAfter (sent_bit_move (acting (Sender f)) f front driven x) (levels ++ x ∷ [])
   sent_bit-knows front f Dominant Dominant not_due h sent =
@@ -83,11 +94,12 @@ module _ (passive : Bool) (overloads : Overloads) (levels : List Level) where
   sent_bit-knows front f Recessive Dominant not_due h sent =
       either (in_arbitration f front.unstuffed) (record { knows = HearsPart-more (Sender f) Receiver front Dominant levels h (no_error-bit front Dominant not_due) tt; told = tt }) (error _ _ _ _)
 
+  -- and to any controller
   bit-knows : (front : FrontParts) (role : Role) (x : Level) → eqb front.run 5 ≡ false → HearsPart role front levels → KnowsAfter (bit_move (acting role) role front x) (levels ++ x ∷ [])
   bit-knows front Receiver x not_due h = record { knows = HearsPart-more Receiver Receiver front x levels h (no_error-bit front x not_due) tt; told = tt }
   bit-knows front (Sender f) x not_due h = sent_bit-knows front f (sent_level f (length front.unstuffed)) x not_due h refl
 
-  -- the levels behind it
+  -- the ACK slot
   ack_slot-knows : (role : Role) (r : Reading) (x : Level) → HeardPart role r (Recessive ∷ []) levels → KnowsAfter (ack_slot_move (acting role) role r x) (levels ++ x ∷ [])
   ack_slot-knows (Sender f) r Dominant h = record { knows = record { ack = Dominant; fits = refl; heard = HeardPart-more (Sender f) r (Recessive ∷ []) levels Dominant h }; told = tt }
   ack_slot-knows (Sender f) r Recessive h = either passive (error _ _ _ _) (error _ _ _ _)
@@ -98,6 +110,7 @@ module _ (passive : Bool) (overloads : Overloads) (levels : List Level) where
       let slot : HeardSlot Receiver r to_slot (levels ++ Recessive ∷ []) = record { ack = Recessive; fits = tt; heard = HeardPart-more Receiver r (Recessive ∷ []) levels Recessive h } in
       either r.agrees (error _ _ _ _) (record { knows = slot; told = tt })
 
+  -- what a controller doesn't refuse it accepts
   accepts-from : (role : Role) (r : Reading) → refuses role r ≡ false → Accepts role r
   accepts-from (Sender f) r e = tt
   accepts-from Receiver r e = by_test r.agrees e
@@ -106,6 +119,7 @@ module _ (passive : Bool) (overloads : Overloads) (levels : List Level) where
       by_test true e = refl
       by_test false e = cc
 
+  -- the ACK delimiter
   ack_delimiter-knows : (role : Role) (r : Reading) → HeardSlot role r to_slot levels → KnowsAfter (move (acting role) (AckDelimiter r) None Recessive) (levels ++ Recessive ∷ [])
   ack_delimiter-knows role r h =
       cond_both {A = MacMove} (refuses role r) _ _ (λ v. KnowsAfter v (levels ++ Recessive ∷ []))
@@ -121,9 +135,11 @@ module _ (passive : Bool) (overloads : Overloads) (levels : List Level) where
 
   -- the end of a frame
   module _ (r : Reading) (place : ℕ) where
+    -- one level more
     more-end : (role : Role) → place < 6 → HeardEnd role r place levels → HeardEnd role r (place + 1) (levels ++ Recessive ∷ [])
     more-end role room h = record { within = omega arith; accepts = h.accepts; slot = HeardSlot-more role r place levels h.slot }
 
+    -- and the last ones
     end-knows : (role : Role) (x : Level) → HeardEnd role r place levels → KnowsAfter (end_of_frame_move (acting role) role r place x) (levels ++ x ∷ [])
     end-knows (Sender f) Dominant h = error _ _ _ _
     end-knows (Sender f) Recessive h =

@@ -20,14 +20,17 @@ abbrev pub AreTurns : List Turn → Type 0
 AreTurns [] = Unit {0}
 AreTurns (t ∷ turns) = IsWaiting t.waiting × AreTurns turns
 
+-- what a controller knows of the levels
 abbrev pub MacKnows : MacState → List Level → Type 0
 MacKnows m levels = Knows m.phase m.role levels
 
 -- one bit time
 module _ (m : MacState) (waiting : Option Parts) (x : Level) (levels : List Level) where
+  -- what it knows and tells then
   abbrev KnowsThen : MacState → Option Event → Type 0
   KnowsThen n e = MacKnows n (levels ++ x ∷ []) × IsTold e (levels ++ x ∷ [])
 
+  -- off the bus it knows nothing
   off-knows : is_off_phase m.phase ≡ true → KnowsThen (off_step m x).0 (off_step m x).1
   off-knows off =
       cond_both {A = MacState × Option Event} (ends_bus_off x m.counters)
@@ -37,6 +40,7 @@ module _ (m : MacState) (waiting : Option Parts) (x : Level) (levels : List Leve
       (λ e. (tt, tt))
       (λ e. (subst (λ phase. Knows phase m.role (levels ++ x ∷ [])) (sym (off_is m.phase off)) tt, tt))
 
+  -- anywhere
   pub step-knows : IsWaiting waiting → MacKnows m levels → KnowsThen (mac_step m waiting x).0 (mac_step m waiting x).1
   step-knows is h = elim (cases_Bool (is_off_phase m.phase)) [
     | inl off ↦ off_bus KnowsThen m waiting x off (off-knows off)

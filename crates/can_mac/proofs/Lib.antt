@@ -13,4 +13,9 @@ pub mod PartHearing
 pub mod EndHearing
 pub mod HearingMoves
 pub mod HearingTurns
+-- what the levels of a wire make of a controller
+pub mod Yields
+pub mod WireMoves
+pub mod WireYields
+pub mod WireRuns
 mod Rows

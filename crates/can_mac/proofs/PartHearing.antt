@@ -1,10 +1,10 @@
 -- One more level of a stuffed part.
-use Rattle.std.proofs.Common.{◌≡◌, ◌≢◌, ◌+◌, ◌<◌, Bool, true, false, not, ◌&&◌, List, [], ◌∷◌, ◌++◌, length, take, refl, sym, ◌∙◌, ap, subst, arith, cond, inl, inr}
+use Rattle.std.proofs.Common.{◌≡◌, ◌≢◌, ◌+◌, ◌<◌, Bool, true, false, not, ◌&&◌, List, [], ◌∷◌, ◌++◌, length, take, drop, refl, sym, ◌∙◌, ap, subst, arith, cond, inl, inr}
 use Rattle.std.proofs.Math.Dec.{eqb}
 use Rattle.std.proofs.lemmas.Bool.{cond_both, cases_lt}
 use Rattle.std.proofs.lemmas.List.{append-nil, take_more, take_all}
 use Rattle.can_frame.specs.declared.level.Level.{Level}
-use Rattle.can_frame.specs.declared.level.Level.TheVariants.{Dominant, Recessive}
+use Rattle.can_frame.specs.declared.level.Level.TheVariants.{Dominant}
 use Rattle.can_frame.specs.Levels.{same, opposite}
 use Rattle.can_frame.specs.Parts.{Parts, IsFrame}
 use Rattle.can_code.specs.declared.front.Place.TheVariants.{StuffBit, Bit, CrcDelimiter as ended}
@@ -16,6 +16,7 @@ use Rattle.can_code.specs.Front.{FrontParts, first_front, has_check, next_place,
 use Rattle.can_code.proofs.StuffedParts.{IsPart-length}
 use Rattle.can_code.proofs.FrontLemmas.{next_place-first_front}
 use Rattle.can_code.proofs.FrontsOf.{IsFrontOf, IsFrontOf-first_front, IsFrontOf-part, IsFrontOf-heard_level}
+use Rattle.can_code.proofs.PartFronts.{opposite_from}
 use Rattle.can_code.proofs.UnstuffedLevels.{stuffed_part-part}
 use Rattle.can_code.proofs.WireFronts.{front_at, front_at-first, front_at-next, sent_stuff_bit, sent_bit, front_at-ended, front_at-unstuffed, front_at-ends}
 use Rattle.can_mac.specs.declared.phase.Role.{Role}
@@ -24,12 +25,6 @@ use Rattle.can_mac.specs.declared.phase.Phase.TheVariants.{StuffedPart, CrcDelim
 use Rattle.can_mac.specs.State.{MacPhase}
 use Rattle.can_mac.specs.Moves.{reading_of, ends_part, part_phase}
 use Rattle.can_mac.proofs.Hearing.{EndsIn, EndsIn-more, OwnFront, IsOwnFront, IsOwnPart, HearsPart, Knows}
-
-opposite_from : (x y : Level) → same x y ≡ false → x ≡ opposite y
-opposite_from Dominant Recessive h = refl
-opposite_from Recessive Dominant h = refl
-opposite_from Dominant Dominant h = cc
-opposite_from Recessive Recessive h = cc
 
 -- a stuffed part ends where the CRC delimiter is next
 ended-from_ends_part : (front : FrontParts) → ends_part front ≡ true → next_place front ≡ ended
@@ -41,6 +36,7 @@ ended-from_ends_part front = by_tests (eqb front.run 5) (has_check front.unstuff
     by_tests false true h = refl
     by_tests false false h = cc
 
+-- and else it goes on
 goes_on-from_ends_part : (front : FrontParts) → ends_part front ≡ false → next_place front ≢ ended
 goes_on-from_ends_part front = by_tests (eqb front.run 5) (has_check front.unstuffed)
   where
@@ -51,22 +47,24 @@ goes_on-from_ends_part front = by_tests (eqb front.run 5) (has_check front.unstu
     by_tests false false h e = cc
 
 -- a frame's own levels begin with its start of frame
-stuffed_part-first : (f : Parts) → take 1 (stuffed_part f) ≡ Dominant ∷ []
+pub stuffed_part-first : (f : Parts) → stuffed_part f ≡ Dominant ∷ drop 1 (stuffed_part f)
 unfolding stuffed_part unstuffed stuffed head
 stuffed_part-first f = refl
 
+-- so with it a sender has heard a front of its own
 pub OwnFront-first : (f : Parts) → IsFrame f → OwnFront f (Dominant ∷ []) first_front
 OwnFront-first f is = record {
   is = is;
   o = 1;
   some = omega arith;
   within = omega (arith, IsPart-length (unstuffed f) (stuffed_part f) (stuffed_part-part f is));
-  part_is = sym (stuffed_part-first f);
+  part_is = ap (take 1) (sym (stuffed_part-first f));
   front_is = sym (front_at-first f);
 }
 
 -- where a sender's own stuffed part goes on
 module _ (f : Parts) (part : List Level) (front : FrontParts) (own : OwnFront f part front) (goes_on : next_place front ≢ ended) where
+  -- more of it follows
   pub OwnFront-more : own.o < length (stuffed_part f)
   OwnFront-more = elim (cases_lt own.o (length (stuffed_part f))) [
     | inl more ↦ more

@@ -18,6 +18,7 @@ pub record SameWait (c d : ConfineParts) : Type 0 where
   pub occurrences : d.occurrences ≡ c.occurrences
   pub row : d.row ≡ c.row
 
+-- what counts nothing leaves them
 same_wait : (c : ConfineParts) → SameWait c c
 same_wait c = record { occurrences = refl; row = refl }
 
@@ -34,6 +35,7 @@ changed-wait PassiveUnacknowledged c = record { occurrences = refl; row = refl }
 changed-wait FrameSent c = record { occurrences = refl; row = refl }
 changed-wait FrameReceived c = record { occurrences = refl; row = refl }
 
+-- counted or not
 counted-wait : (cause : Cause) (c : ConfineParts) → SameWait c (counted cause c)
 counted-wait cause c = elim (is_bus_off c) as (λ b. SameWait c (cond b c (changed cause c))) [ true ↦ same_wait c | false ↦ changed-wait cause c ]
 

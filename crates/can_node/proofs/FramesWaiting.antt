@@ -23,15 +23,18 @@ pub AreFrames-from : (queue : List Parts) → ((n : ℕ) (f : Parts) → slice_g
 AreFrames-from [] each = tt
 AreFrames-from (f ∷ queue) each = (each zero f refl, AreFrames-from queue (λ n g at. each (suc n) g at))
 
+-- of two frames either is one
 IsFrame-earlier : (f : Parts) (next : Option Parts) → IsFrame f → IsWaiting next → IsFrame (earlier f next)
 IsFrame-earlier f None is others = is
 IsFrame-earlier f (Some g) is others = cond_both {A = Parts} (goes_before g f) g f IsFrame (λ e. others) (λ e. is)
 
+-- so the one that waits is
 pub IsWaiting-waiting : (queue : List Parts) → AreFrames queue → IsWaiting (waiting queue)
 unfolding waiting
 IsWaiting-waiting [] are = tt
 IsWaiting-waiting (f ∷ queue) are = IsFrame-earlier f (waiting queue) are.0 (IsWaiting-waiting queue are.1)
 
+-- the others stay frames where one leaves the queue
 pub AreFrames-without : (f : Parts) (queue : List Parts) → AreFrames queue → AreFrames (without f queue)
 unfolding without
 AreFrames-without f [] are = tt
@@ -42,6 +45,7 @@ AreFrames-without f (g ∷ queue) are =
 logged-queue : (entry : Entry) (p : PortState) → (logged entry p).queue ≡ p.queue
 logged-queue entry p = cond_both {A = PortState} (nat_lt (length p.log) p.log_room) _ _ (λ q. q.queue ≡ p.queue) (λ e. refl) (λ e. refl)
 
+-- whatever is told of a bit time
 AreFrames-noted : (event : Option Event) (p : PortState) → AreFrames p.queue → AreFrames (noted event p).queue
 AreFrames-noted (Some (Sent f)) p are = subst AreFrames (sym (logged-queue (record { frame = f; sent = true }) (record p { queue = without f p.queue }))) (AreFrames-without f p.queue are)
 AreFrames-noted (Some (Received f)) p are = subst AreFrames (sym (logged-queue (record { frame = f; sent = false }) p)) are
@@ -52,6 +56,7 @@ AreFrames-noted (Some WentOff) p are = are
 AreFrames-noted (Some Recovered) p are = are
 AreFrames-noted None p are = are
 
+-- and over a bit time
 pub AreFrames-port_step : (p : PortState) (x : Level) → AreFrames p.queue → AreFrames (port_step p x).queue
 unfolding port_step
 AreFrames-port_step p x are = AreFrames-noted (port_event p x) (record p { mac = _ }) are

@@ -27,17 +27,20 @@ pub record WaitsOnlyOff (m : MacState) : Type 0 where
 
 -- off the bus, of a controller that has no occurrence and has not rested
 module _ (c : ConfineParts) (since : List Level) (h : WaitsOff c since) (early : c.row < 10) where
+  -- one more level goes on waiting
   after_level-waits : (x : Level) → WaitsOff (after_level x c) (since ++ x ∷ [])
   after_level-waits Dominant = record { off = h.off; none = h.none; ends = EndsInRest-none (since ++ Dominant ∷ []) }
   after_level-waits Recessive =
       let more : WaitsOff (record c { row = c.row + 1 }) (since ++ Recessive ∷ []) = record { off = h.off; none = h.none; ends = EndsInRest-more c.row since h.ends } in
       subst (λ d. WaitsOff d (since ++ Recessive ∷ [])) (cond_below c.row 10 _ _ early) more
 
+  -- it doesn't end bus off
   stays_off : (x : Level) → ends_bus_off x c ≡ false
   stays_off x =
       let none : (after_level x c).occurrences ≡ 0 = (after_level-waits x).none in
       ap (λ n. is_bus_off c && nat_le 128 n) none ∙ ap (λ b. b && false) h.off
 
+  -- so the counters go on waiting
   recovered-waits : (x : Level) → WaitsOff (recovered x c) (since ++ x ∷ [])
   recovered-waits x =
       let ends = cond-false (ends_bus_off x c) fresh (after_level x c) (stays_off x) in
@@ -58,14 +61,15 @@ module _ (m : MacState) (waiting : Option Parts) (x : Level) where
   abbrev c : ConfineParts
   c = m.counters
 
-  -- the two ends of a bit time off the bus
+  -- the two ends of a bit time off the bus: back on it
   abbrev back : MacState × Option Event
   back = (record m { phase = Idle; counters = recovered x c }, Some Recovered)
 
+  -- or still off it
   abbrev still : MacState × Option Event
   still = (record m { counters = recovered x c }, None)
 
-  -- a controller keeps seeing levels towards recovery only off the bus
+  -- this stays so
   pub step-only : WaitsOnlyOff m → WaitsOnlyOff (mac_step m waiting x).0
   step-only only = elim (cases_Bool (is_off_phase m.phase)) [
     | inl off ↦ off_bus Only m waiting x off (cond_both (ends_bus_off x c) back still (λ p. WaitsOnlyOff p.0)
@@ -100,6 +104,7 @@ module _ (m : MacState) (waiting : Option Parts) (x : Level) where
     abbrev RestedOrWaits : MacState → Option Event → Type 0
     RestedOrWaits n e = HasRested since ⊎ (Waits n (since ++ x ∷ []) × (is_of_frame e ≡ false))
 
+    -- off the bus
     step-off : is_off_phase m.phase ≡ true → Waits m since → RestedOrWaits (off_step m x).0 (off_step m x).1
     step-off off h =
         let at : m.phase ≡ BusOff = off_is m.phase off in
@@ -112,6 +117,7 @@ module _ (m : MacState) (waiting : Option Parts) (x : Level) where
           | inr late ↦ inl (HasRested-ends c.row since late w.ends)
         ]
 
+    -- anywhere
     pub step-waits : WaitsOnlyOff m → Waits m since → RestedOrWaits (mac_step m waiting x).0 (mac_step m waiting x).1
     step-waits only h = elim (cases_Bool (is_off_phase m.phase)) [
       | inl off ↦ off_bus RestedOrWaits m waiting x off (step-off off h)

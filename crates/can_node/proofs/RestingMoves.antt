@@ -49,50 +49,60 @@ WaitsAt BusOff c levels = WaitsOff c levels
 pub record BeginsWait (v : MacMove) : Type 0 where
   pub begins : is_upset v.event ≡ true → (c : ConfineParts) (levels : List Level) → WaitsAt v.phase c levels
 
+-- a move that tells of no upset
 calm : {v : MacMove} → is_upset v.event ≡ false → BeginsWait v
 calm h = record { begins = λ e. cc }
 
+-- either of two moves
 either : {v w : MacMove} (b : Bool) → BeginsWait v → BeginsWait w → BeginsWait (cond b v w)
 either true p q = p
 either false p q = q
 
+-- an error flag, active or passive
 pub flag-waits : (passive un : Bool) (c : ConfineParts) (levels : List Level) → WaitsAt (flag passive un) c levels
 flag-waits true un c levels = tt
 flag-waits false un c levels = tt
 
+-- an error
 error : (cause : Option Cause) (un : Bool) (s : Stance) (kind : ErrorKind) → BeginsWait (errs_by cause un s kind)
 error cause un s kind = record { begins = λ e c levels. flag-waits s.passive un c levels }
 
+-- an overload frame of the controller's own, at the start of intermission
 enters : (s : Stance) (role : Role) → BeginsWait (enters_intermission s role)
 enters s (Sender f) = calm refl
 enters s Receiver = either (nat_lt 0 s.overloads.pending && nat_lt s.overloads.used 2) (record { begins = λ e c levels. tt }) (calm refl)
 
+-- a stuff place
 begins-stuff_bit : (s : Stance) (front : FrontParts) (x : Level) → BeginsWait (stuff_bit_move s front x)
 begins-stuff_bit s front x = either (same x front.last) (either (is_uncounted s.role front.unstuffed x) (error _ _ _ _) (error _ _ _ _)) (calm refl)
 
+-- another place of the stuffed part, to a sender
 begins-sent_bit : (s : Stance) (f : Parts) (front : FrontParts) (driven x : Level) → BeginsWait (sent_bit_move s f front driven x)
 begins-sent_bit s f front Dominant Dominant = calm refl
 begins-sent_bit s f front Recessive Recessive = calm refl
 begins-sent_bit s f front Dominant Recessive = error _ _ _ _
 begins-sent_bit s f front Recessive Dominant = either (in_arbitration f front.unstuffed) (calm refl) (error _ _ _ _)
 
+-- and to any controller
 begins-bit : (s : Stance) (role : Role) (front : FrontParts) (x : Level) → BeginsWait (bit_move s role front x)
 begins-bit s Receiver front x = calm refl
 begins-bit s (Sender f) front x = begins-sent_bit s f front (sent_level f (length front.unstuffed)) x
 
+-- the ACK slot
 begins-ack_slot : (s : Stance) (role : Role) (r : Reading) (x : Level) → BeginsWait (ack_slot_move s role r x)
 begins-ack_slot s (Sender f) r Dominant = calm refl
 begins-ack_slot s (Sender f) r Recessive = either s.passive (error _ _ _ _) (error _ _ _ _)
 begins-ack_slot s Receiver r Dominant = either r.agrees (calm refl) (calm refl)
 begins-ack_slot s Receiver r Recessive = either r.agrees (error _ _ _ _) (calm refl)
 
+-- the end of frame
 begins-end : (s : Stance) (role : Role) (r : Reading) (place : ℕ) (x : Level) → BeginsWait (end_of_frame_move s role r place x)
 begins-end s (Sender f) r place Dominant = error _ _ _ _
 begins-end s (Sender f) r place Recessive = either (nat_lt place 6) (calm refl) (calm refl)
 begins-end s Receiver r place Dominant = either (nat_lt place 6) (error _ _ _ _) (record { begins = λ e c levels. tt })
 begins-end s Receiver r place Recessive = either (nat_lt place 5) (calm refl) (either (nat_lt place 6) (calm refl) (enters s s.role))
 
--- an error, an overload: from any phase
+-- any phase: each error, and each overload, begins the wait
 pub move-begins : (s : Stance) (phase : MacPhase) (waiting : Option Parts) (x : Level) → BeginsWait (move s phase waiting x)
 move-begins s (Joining row) waiting Dominant = calm refl
 move-begins s (Joining row) waiting Recessive = either (nat_lt row 10) (calm refl) (calm refl)

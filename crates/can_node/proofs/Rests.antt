@@ -13,6 +13,7 @@ EndsInRest n levels = (before : List Level) × (levels ≡ before ++ replicate n
 abbrev pub HasRested : List Level → Type 0
 HasRested levels = (before : List Level) × (after : List Level) × (levels ≡ before ++ (replicate 10 Recessive ++ after))
 
+-- none of them need be there
 pub EndsInRest-none : (levels : List Level) → EndsInRest 0 levels
 EndsInRest-none levels = (levels, sym (append-nil levels))
 

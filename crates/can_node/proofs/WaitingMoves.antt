@@ -25,18 +25,22 @@ pub record KeepsWait (v : MacMove) (levels : List Level) : Type 0 where
   pub at : (c : ConfineParts) → WaitsAt v.phase c levels
   pub no_frame : is_of_frame v.event ≡ false
 
+-- either of two moves
 either : {v w : MacMove} {levels : List Level} (b : Bool) → KeepsWait v levels → KeepsWait w levels → KeepsWait (cond b v w) levels
 either true p q = p
 either false p q = q
 
+-- an error
 error : (cause : Option Cause) (un : Bool) (s : Stance) (kind : ErrorKind) (levels : List Level) → KeepsWait (errs_by cause un s kind) levels
 error cause un s kind levels = record { at = λ c. flag-waits s.passive un c levels; no_frame = refl }
 
+-- intermission, or an overload frame of the controller's own, behind eight recessive levels
 enters : (s : Stance) (role : Role) (levels : List Level) → EndsInRest 8 levels → KeepsWait (enters_intermission s role) levels
 enters s (Sender f) levels h = record { at = λ c. h; no_frame = refl }
 enters s Receiver levels h =
     either (nat_lt 0 s.overloads.pending && nat_lt s.overloads.used 2) (record { at = λ c. tt; no_frame = refl }) (record { at = λ c. h; no_frame = refl })
 
+-- a passive error flag, and behind it
 passive_flag : (x : Level) (run : ℕ) (un : Bool) (c : ConfineParts) (levels : List Level) → WaitsAt (passive_phase x run un) c levels
 passive_flag x run un c levels = by_test (nat_lt run 6)
   where
@@ -49,6 +53,7 @@ abbrev RestedOr : MacMove → List Level → Level → Type 0
 RestedOr v since x = HasRested since ⊎ KeepsWait v (since ++ x ∷ [])
 
 module _ (s : Stance) (waiting : Option Parts) (since : List Level) where
+  -- the delimiter: its recessive levels are the last ones
   in_delimiter : (place : ℕ) (x : Level) → EndsInRest place since → KeepsWait (move s (Delimiter place) waiting x) (since ++ x ∷ [])
   in_delimiter place Dominant h = either (nat_lt place 7) (error _ _ _ _ _) (record { at = λ c. tt; no_frame = refl })
   in_delimiter place Recessive h =
@@ -57,6 +62,7 @@ module _ (s : Stance) (waiting : Option Parts) (since : List Level) where
       (λ e. record { at = λ c. more; no_frame = refl })
       (λ e. enters s s.role (since ++ Recessive ∷ []) (EndsInRest-fewer 8 (place + 1) (since ++ Recessive ∷ []) (omega (arith, ltb-false place 7 e)) more))
 
+  -- intermission: the last levels are those of the delimiter too
   in_intermission : (place : ℕ) (x : Level) → EndsInRest (8 + place) since → RestedOr (move s (Intermission place) waiting x) since x
   in_intermission place x h = elim (cases_Bool (nat_lt place 2)) [
     | inl e ↦ inr (early x e)
@@ -70,7 +76,7 @@ module _ (s : Stance) (waiting : Option Parts) (since : List Level) where
           let more = subst (λ n. EndsInRest n (since ++ Recessive ∷ [])) size (EndsInRest-more (8 + place) since h) in
           rw e (record { at = λ c. more; no_frame = refl })
 
-  -- on the bus
+  -- any phase on the bus
   pub move-waits : (phase : MacPhase) (c : ConfineParts) (x : Level) → is_off_phase phase ≡ false → WaitsAt phase c since → RestedOr (move s phase waiting x) since x
   move-waits (Joining row) c x on h = absurd h
   move-waits Idle c x on h = absurd h
