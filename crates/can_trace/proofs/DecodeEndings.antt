@@ -1,17 +1,17 @@
 -- What was read and written while a trace is decoded, and when the call ends.
-use Rattle.std.proofs.Common.{◌≡◌, ◌⊎◌, inl, inr, ℕ, ◌+◌, ◌^◌, ◌<◌, ◌≤◌, Bool, true, false, List, [], ◌∷◌, ◌++◌, length, filter, Option, Result, Ok, Err, OnOk, OnErr, IfErr, refl, sym, ap, subst, ◌∙◌, append_assoc, arith, length-append}
+use Rattle.std.proofs.Common.{◌≡◌, inl, inr, ℕ, ◌+◌, ◌^◌, ◌≤◌, Bool, true, false, List, [], ◌∷◌, ◌++◌, length, filter, Option, Result, Ok, Err, OnOk, OnErr, IfErr, refl, sym, ap, subst, ◌∙◌, append_assoc, arith, length-append}
 use Rattle.std.proofs.lemmas.List.{append-nil}
 use Rattle.std.proofs.lemmas.List.Elements.{filter-append}
 use Rattle.std.proofs.lemmas.Bool.{cases_lt}
 use Rattle.std.proofs.lemmas.Grind.{flat_map-append}
 use Rattle.std.proofs.KnownBytes.{Appends-nil, Appends-trans, Consumes-nil, Consumes-trans}
-use Rattle.std.specs.Io.KnownBytes.{Appends, Consumes}
+use Rattle.std.specs.Io.KnownBytes.{Consumes}
 use Rattle.std.specs.List.{flat_map, AllByRecursion}
 use Rattle.can_frame.specs.declared.level.Level.{Level}
 use Rattle.can_trace.specs.Told.{Told}
 use Rattle.can_trace.specs.Inbox.{StopsReading}
 use Rattle.can_trace.specs.Outbox.{PassesOn, TakesFront}
-use Rattle.can_trace.specs.TraceText.{IsTraceText, IsFirstBadTraceByte, is_trace_byte, levels_in}
+use Rattle.can_trace.specs.TraceText.{IsTraceText, is_trace_byte, levels_in}
 use Rattle.can_trace.specs.Decoded.{BeginsDecoding, DecodesAll, DecodesClosed, DecodesSoFar, DecodesToBadByte, DecodesTooLong, FullAnswer, Finds, finding_line, is_closed}
 use Rattle.can_trace.specs.Decoding.{Decodes, EndsWith, FailsToTell, Hearing, HearsText, MeetsBadByte, StopsHearing}
 use Rattle.can_trace.specs.declared.fault.TraceFault.{TraceFault}
@@ -112,13 +112,14 @@ module _ (trace : Trace) (input output : List ℕ) (so_far : HeardSoFar trace in
         (later.0, FullAnswer.to_limit (record { long = long; decodes = record { text = text-append input more so_far.is_text is_text; decodes = later.1 } }))
     | inr within ↦
         let later = Finds-later more in
-        let lines = ap (λ t. t ++ flat_map finding_line later.0) so_far.lines ∙ sym (lines-append so_far.told later.0) in
-        (flat_map finding_line later.0,
-         FullAnswer.to_end (record {
-           within = within;
-           text = text-append input more so_far.is_text is_text;
-           decodes = record { found = so_far.told ++ later.0; finds = later.1; lines = lines };
-         }))
+        let lines = ap (λ t. t ++ flat_map finding_line later.0) so_far.lines ∙ sym (lines-append so_far.told later.0) in (
+          flat_map finding_line later.0,
+          FullAnswer.to_end (record {
+            within = within;
+            text = text-append input more so_far.is_text is_text;
+            decodes = record { found = so_far.told ++ later.0; finds = later.1; lines = lines };
+          }),
+        )
   ]
 
   FullAnswer-bad : (good : List ℕ) (bad : ℕ) (after : List ℕ) → IsTraceText good → is_trace_byte bad ≡ false → (rest : List ℕ) × FullAnswer (input ++ (good ++ bad ∷ after)) (output ++ rest)

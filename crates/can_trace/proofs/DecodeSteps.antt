@@ -1,16 +1,16 @@
 -- The steps of hearing bytes: their levels are heard, and the lines of what is found go through the buffer to the writer.
-use Rattle.std.proofs.Common.{◌≡◌, ℕ, ◌+◌, ◌≤◌, ◌<◌, nat_eq, cond, Bool, true, false, List, [], ◌∷◌, ◌++◌, length, replicate, zero, suc, take, drop, get_or, Option, Some, None, refl, sym, ap, subst, ◌∙◌, append_assoc, arith, length-append}
+use Rattle.std.proofs.Common.{◌≡◌, ℕ, ◌+◌, ◌≤◌, ◌<◌, nat_eq, cond, Bool, true, false, List, [], ◌∷◌, ◌++◌, length, replicate, zero, suc, take, drop, get_or, Option, refl, sym, ap, subst, ◌∙◌, append_assoc, arith, length-append}
 use Rattle.std.proofs.lemmas.List.{append-nil, take_more, take-append-drop, length-take}
 use Rattle.std.proofs.Math.Seq.{take-add}
 use Rattle.std.proofs.lemmas.Grind.{flat_map-append}
 use Rattle.std.proofs.KnownBytes.{Appends-nil, Appends-trans}
-use Rattle.std.specs.List.{flat_map, AllByRecursion}
+use Rattle.std.specs.List.{flat_map}
 use Rattle.can_frame.specs.declared.level.Level.{Level}
 use Rattle.can_frame.specs.declared.level.Level.TheVariants.{Dominant, Recessive}
 use Rattle.can_trace.specs.Outbox.{PassesOn, TakesFront}
 use Rattle.can_trace.specs.TraceText.{IsTraceText, is_trace_byte, levels_in, levels_of_byte}
 use Rattle.can_trace.specs.Decoded.{finding_line}
-use Rattle.can_trace.specs.Decoding.{Hearing, Hears, HearsText, FailsToTell, MeetsBadByte, StopsHearing, IsByteAs, told_of}
+use Rattle.can_trace.specs.Decoding.{Hearing, Hears, HearsText, FailsToTell, MeetsBadByte, StopsHearing}
 use Rattle.can_trace.specs.declared.fault.TraceFault.{TraceFault}
 use Rattle.can_trace.specs.declared.fault.TraceFault.TheVariants.{BadByte, Read, Write, Long, FrameLine}
 use Rattle.can_trace.specs.declared.finding.Finding.{Finding}

@@ -2,11 +2,9 @@
 use Rattle.std.proofs.Common.{◌≡◌, ℕ, ◌+◌, ◌^◌, ◌≤◌, ◌<◌, Bool, true, false, List, [], ◌∷◌, ◌++◌, Option, Result, Ok, Err, OnOk, sym, ap, subst, ◌∙◌, append_assoc, arith}
 use Rattle.std.proofs.lemmas.List.{append-nil}
 use Rattle.std.proofs.KnownBytes.{Appends-trans, Appends-kept}
-use Rattle.std.specs.Io.KnownBytes.{Appends}
 use Rattle.can_frame.specs.Text.{IsTextFault, IsFrameText}
 use Rattle.can_frame.specs.declared.text.TextFault.{TextFault}
 use Rattle.can_trace.specs.Lines.{lines_of, ended_lines, whole_lines}
-use Rattle.can_trace.specs.Outbox.{TakesFront}
 use Rattle.can_trace.specs.Coded.{Codes, EncodesAll, EncodesEnded, EncodesTooLong, BeginsEncoding, IsFirstBadLine}
 use Rattle.can_trace.specs.Answering.{Answers, FailsToAnswer, Encodes}
 use Rattle.can_trace.specs.Inbox.{StopsReading}

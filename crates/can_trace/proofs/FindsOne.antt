@@ -1,8 +1,6 @@
 -- In levels one list is found, and no other.
-use Rattle.std.proofs.Common.{◌≡◌, ◌≢◌, ◌⊎◌, inl, inr, ℕ, zero, suc, ◌+◌, ◌<◌, ◌≤◌, Bool, true, false, List, [], ◌∷◌, ◌++◌, length, filter, refl, sym, ap, subst, ◌∙◌, append_assoc, arith, length-append}
+use Rattle.std.proofs.Common.{◌≡◌, ◌⊎◌, inl, inr, ℕ, zero, suc, ◌+◌, ◌<◌, ◌≤◌, List, [], ◌∷◌, ◌++◌, length, refl, sym, ap, subst, ◌∙◌, append_assoc, arith, length-append}
 use Rattle.std.proofs.lemmas.List.{append-nil, append_cancel_left}
-use Rattle.std.proofs.lemmas.Bool.{cases_order}
-use Rattle.std.specs.List.{flat_map}
 use Rattle.can_frame.specs.declared.level.Level.{Level}
 use Rattle.can_frame.specs.declared.level.Level.TheVariants.{Dominant, Recessive}
 use Rattle.can_code.specs.declared.fault.CodeFault.{CodeFault}
@@ -14,7 +12,7 @@ use Rattle.can_code.proofs.StuffedParts.{Spells-part, IsPart-from, IsPart-start}
 use Rattle.can_code.proofs.SpellingFronts.{Spells-apart}
 use Rattle.can_code.proofs.OneCodeFault.{IsCodeFault-one}
 use Rattle.can_code.proofs.FrameOrFault.{frame_or_fault}
-use Rattle.can_trace.specs.Decoded.{EndsIdle, Finds, SkipsToIdle}
+use Rattle.can_trace.specs.Decoded.{Finds, SkipsToIdle}
 use Rattle.can_trace.specs.declared.finding.Finding.{Finding}
 use Rattle.can_trace.specs.declared.finding.Finding.TheVariants.{Frame, Fault}
 

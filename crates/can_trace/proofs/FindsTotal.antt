@@ -1,23 +1,19 @@
 -- In all levels something is found, be it nothing at all.
-use Rattle.std.proofs.Common.{◌≡◌, ◌≢◌, ◌⊎◌, inl, inr, ℕ, zero, suc, ◌+◌, ◌<◌, ◌≤◌, List, [], ◌∷◌, ◌++◌, length, refl, sym, ap, subst, ◌∙◌, append_assoc, arith, length-append}
-use Rattle.std.proofs.lemmas.List.{append-nil}
+use Rattle.std.proofs.Common.{◌≡◌, inl, inr, ℕ, zero, suc, ◌+◌, ◌<◌, ◌≤◌, List, [], ◌∷◌, ◌++◌, length, refl, sym, ap, subst, ◌∙◌, append_assoc, arith, length-append}
 use Rattle.std.proofs.lemmas.Bool.{cases_lt}
 use Rattle.can_frame.specs.declared.level.Level.{Level}
 use Rattle.can_frame.specs.declared.level.Level.TheVariants.{Dominant, Recessive}
-use Rattle.can_code.specs.declared.fault.CodeFaultKind.{CodeFaultKind}
-use Rattle.can_code.specs.declared.fault.CodeFault.{CodeFault}
 use Rattle.can_code.specs.Wire.{tail}
 use Rattle.can_code.specs.Heard.{HeardParts, ack_slot, Spells}
-use Rattle.can_code.specs.CodeFaults.{IsCodeFault}
 use Rattle.can_trace.specs.Decoded.{Finds, SkipsToIdle}
-use Rattle.can_trace.specs.Decoding.{GoesOn, SearchesOn, IsInFrame, IsLost, Stands, Hearing}
+use Rattle.can_trace.specs.Decoding.{Stands, Hearing}
 use Rattle.can_trace.specs.declared.finding.Finding.{Finding}
 use Rattle.can_trace.specs.declared.finding.Finding.TheVariants.{Frame, Fault}
 use Rattle.can_trace.specs.declared.trace.Trace.{Trace}
 use Rattle.can_trace.specs.declared.trace.State.{State}
 use Rattle.can_trace.specs.declared.trace.State.TheVariants.{Idle, InFrame, Lost}
-use Rattle.can_code.proofs.FrameOrFault.{frame_or_fault, BeginsSpelled, HasFault}
-use Rattle.can_trace.proofs.IdleRows.{row, length-row, row-more, SkipsToIdle-dominant, SkipsToIdle-eleven, SkipsToIdle-few}
+use Rattle.can_code.proofs.FrameOrFault.{frame_or_fault, HasFault}
+use Rattle.can_trace.proofs.IdleRows.{row, row-more, SkipsToIdle-dominant, SkipsToIdle-eleven, SkipsToIdle-few}
 
 -- where the search for eleven recessive levels ends, in a row of which so many have been heard
 record Skips (n : ℕ) (levels : List Level) : Type 0 where

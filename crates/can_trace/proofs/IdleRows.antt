@@ -1,6 +1,5 @@
 -- The first eleven consecutive recessive levels.
 use Rattle.std.proofs.Common.{◌≡◌, ◌≢◌, ℕ, zero, suc, ◌+◌, ◌<◌, List, [], ◌∷◌, ◌++◌, length, replicate, refl, sym, ap, ◌∙◌, append_assoc, add-one, arith, length-append}
-use Rattle.std.proofs.lemmas.List.{append-nil}
 use Rattle.can_frame.specs.declared.level.Level.{Level}
 use Rattle.can_frame.specs.declared.level.Level.TheVariants.{Dominant, Recessive}
 use Rattle.can_trace.specs.Decoded.{EndsIdle, SkipsToIdle}

@@ -1,10 +1,10 @@
 -- Each input has one full answer.
-use Rattle.std.proofs.Common.{◌≡◌, ℕ, ◌^◌, ◌<◌, ◌≤◌, Bool, true, false, List, [], ◌∷◌, ◌++◌, length, filter, refl, sym, ap, subst, ◌∙◌, arith}
+use Rattle.std.proofs.Common.{◌≡◌, ℕ, false, List, [], ◌∷◌, ◌++◌, length, filter, refl, sym, ap, subst, ◌∙◌, arith}
 use Rattle.std.proofs.lemmas.Bool.{false≢true}
 use Rattle.std.specs.List.{flat_map}
 use Rattle.can_frame.specs.declared.level.Level.{Level}
-use Rattle.can_trace.specs.TraceText.{IsTraceText, IsFirstBadTraceByte, is_trace_byte, levels_in}
-use Rattle.can_trace.specs.Decoded.{DecodesAll, DecodesClosed, DecodesLevels, DecodesToBadByte, DecodesTooLong, Finds, FullAnswer, finding_line, is_closed}
+use Rattle.can_trace.specs.TraceText.{IsTraceText, is_trace_byte, levels_in}
+use Rattle.can_trace.specs.Decoded.{DecodesClosed, DecodesLevels, DecodesToBadByte, Finds, FullAnswer, finding_line, is_closed}
 use Rattle.can_trace.specs.Decoding.{Hearing}
 use Rattle.can_trace.specs.declared.finding.Finding.{Finding}
 use Rattle.can_trace.specs.declared.trace.Trace.{Trace}

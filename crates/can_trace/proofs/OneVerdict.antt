@@ -1,5 +1,5 @@
 -- Lines of vectors have one answer.
-use Rattle.std.proofs.Common.{◌≡◌, ◌≢◌, ℕ, ◌<◌, ◌≤◌, inl, inr, List, [], ◌∷◌, ◌++◌, length, get_or, take, drop, map, refl, sym, ap, subst, ◌∙◌, arith}
+use Rattle.std.proofs.Common.{◌≡◌, ℕ, inl, inr, List, [], ◌∷◌, get_or, drop, map, refl, sym, ap, subst, ◌∙◌, arith}
 use Rattle.std.proofs.lemmas.Bool.{cases_order}
 use Rattle.std.specs.List.{flat_map}
 use Rattle.can_frame.specs.declared.level.Level.{Level}
@@ -8,7 +8,7 @@ use Rattle.can_frame.specs.Parts.{Parts, IsFrame}
 use Rattle.can_frame.specs.Text.{frame_text}
 use Rattle.can_code.specs.Wire.{driven}
 use Rattle.can_trace.specs.Coded.{digit_of}
-use Rattle.can_trace.specs.Checked.{Checks, ChecksLines, Compares, IsCommonFront, IsVerdict, Judged, pass, passes, verdict_line}
+use Rattle.can_trace.specs.Checked.{Checks, Compares, IsCommonFront, IsVerdict, Judged, passes, verdict_line}
 use Rattle.can_trace.specs.declared.vector.Verdict.{Verdict}
 use Rattle.can_trace.specs.declared.vector.Verdict.TheVariants.{Agrees, DiffersAt}
 use Rattle.can_trace.proofs.MarkLemmas.{marked-text, marked-others}

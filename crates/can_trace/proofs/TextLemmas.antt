@@ -1,10 +1,9 @@
 -- A frame's text has at most 32 bytes, so the first 33 bytes of a line tell whether it is one, and which
 -- fault it has otherwise.
-use Rattle.std.proofs.Common.{◌≡◌, ℕ, zero, suc, ◌+◌, ◌/◌, ◌%◌, ◌≤◌, ◌↔◌, nat_lt, Bool, true, false, cond, List, [], ◌∷◌, ◌++◌, length, take, codes, refl, sym, ap, subst, ◌∙◌, arith}
+use Rattle.std.proofs.Common.{◌≡◌, ℕ, ◌≤◌, ◌↔◌, List, length, take, sym, ap, subst, ◌∙◌, arith}
 use Rattle.std.proofs.lemmas.List.{length-append, length-take, take_all, take-take}
 use Rattle.can_frame.specs.Parts.{Parts, IsFrame}
-use Rattle.can_frame.specs.Stored.{byte_count_le}
-use Rattle.can_frame.specs.Text.{frame_text, hex_digits, decimal_digits, identifier_digits, letter_part, identifier_part, direction_part, dlc_part, data_part, blank_before, blank, IsTextFault, IsLongestBeginning, Begins, BeginsSome, IsFrameText, part_at}
+use Rattle.can_frame.specs.Text.{frame_text, IsTextFault, IsLongestBeginning, Begins, BeginsSome, IsFrameText, part_at}
 use Rattle.can_frame.specs.declared.text.TextFaultKind.TheVariants.{Trailing}
 use Rattle.can_frame.specs.declared.text.TextFault.{TextFault}
 pub use Rattle.can_frame.proofs.TextLengths.{length-frame_text}

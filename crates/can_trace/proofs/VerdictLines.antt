@@ -1,5 +1,5 @@
 -- The lines that tell verdicts and their total.
-use Rattle.std.proofs.Common.{◌≡◌, ℕ, List, [], ◌∷◌, ◌++◌, codes, decimal, sym, ap, ◌∙◌, append_assoc}
+use Rattle.std.proofs.Common.{◌≡◌, ℕ, [], ◌∷◌, ◌++◌, codes, decimal, sym, ap, ◌∙◌, append_assoc}
 use Rattle.can_trace.specs.declared.vector.Verdict.{Verdict}
 use Rattle.can_trace.specs.declared.vector.Verdict.TheVariants.{Agrees, DiffersAt}
 use Rattle.can_trace.specs.Checked.{verdict_line}

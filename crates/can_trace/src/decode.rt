@@ -78,11 +78,7 @@ pub fn decode_stream<R: Source, W: Sink>(r: &mut R, w: &mut W) -> Result<(), Tra
 }
 
 /// Decodes all of the input. The last lines wait in the buffer.
-fn decode_all<R: Source, W: Sink>(
-    r: &mut R,
-    w: &mut W,
-    out: &mut Outbox,
-) -> Result<(), TraceFault>
+fn decode_all<R: Source, W: Sink>(r: &mut R, w: &mut W, out: &mut Outbox) -> Result<(), TraceFault>
     requires reader_unfailed { R.has_failed r.old ≡ false }
     requires reader_unended { R.has_ended r.old ≡ false }
     requires writer_unfailed { W.has_failed w.old ≡ false }

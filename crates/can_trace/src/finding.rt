@@ -14,7 +14,10 @@ use can_code::{CodeFaultKind, Heard};
 #[derive(Clone, Copy, Debug, PartialEq, Eq)]
 pub(crate) enum Finding {
     /// A frame begins there.
-    Frame { place: u64, heard: Heard },
+    Frame {
+        place: u64,
+        heard: Heard,
+    },
     /// None does, though a dominant level stands there: this fault shows at the other place.
     Fault {
         place: u64,

@@ -27,7 +27,9 @@ enum State {
         decoder: Decoder<PlainBits>,
     },
     /// Behind a fault, and behind so many recessive levels in a row.
-    Lost { row: u8 },
+    Lost {
+        row: u8,
+    },
 }
 
 /// A trace of which some levels have been heard.

@@ -74,7 +74,13 @@ fn bad_bytes(rt: HostRuntime) -> Result<(), Fail> {
         (b"2", 0, b""),
         (&behind_a_frame, 53, b"0 S 000 D 0 ack\n"),
     ] {
-        decodes(&rt, rt.alloc(), trace, Err(TraceFault::BadByte { place }), lines);
+        decodes(
+            &rt,
+            rt.alloc(),
+            trace,
+            Err(TraceFault::BadByte { place }),
+            lines,
+        );
     }
     Ok(())
 }
@@ -148,7 +154,11 @@ fn failing_reads_of_traces(rt: HostRuntime) -> Result<(), Fail> {
             );
             assert!(rt; reader.failed() && !reader.ended() && !writer.failed());
             assert_eq!(rt; reader.into_inner().stops, 1);
-            assert_eq!(rt; writer.into_inner().taken.as_slice(), lines, "{length} levels");
+            assert_eq!(rt;
+                writer.into_inner().taken.as_slice(),
+                lines,
+                "{length} levels"
+            );
         }
     }
     Ok(())

@@ -1,9 +1,9 @@
-use Rattle.std.proofs.Common.{◌≡◌, [], length, arith, sym, ap, ◌∙◌}
+use Rattle.std.proofs.Common.{◌≡◌, [], length, arith, ap, ◌∙◌}
 use Rattle.std.proofs.lemmas.Bool.{ne_eqb}
 use Rattle.std.proofs.lemmas.List.{drop_all, nil_from_length}
 use Rattle.std.proofs.lemmas.Result.{err_from_is_err_and}
 use Rattle.can_trace.specs.Inbox.{Received}
-use Rattle.can_trace.proofs.DecodeEndings.{Decoding-none, Decoding-more, place_within, Told-stopped, Told-unheard, Told-done, Told-finished}
+use Rattle.can_trace.proofs.DecodeEndings.{Decoding-none, Decoding-more, place_within, Told-stopped, Told-unheard, Told-finished}
 use Rattle.can_trace.proofs.decode.decode_all.Goals as goal
 
 pub loop-inbox-init : goal.loop-inbox-init

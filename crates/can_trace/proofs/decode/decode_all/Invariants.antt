@@ -1,4 +1,4 @@
-use Rattle.std.proofs.Common.{◌≡◌, ◌-◌, ◌^◌, ◌<◌, false, [], length}
+use Rattle.std.proofs.Common.{◌≡◌, ◌-◌, ◌^◌, ◌<◌, false, []}
 use Rattle.can_trace.proofs.DecodeEndings.{Decoding}
 use Rattle.can_trace.proofs.decode.decode_all.Given as goal
 

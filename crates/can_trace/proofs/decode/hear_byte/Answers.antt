@@ -1,4 +1,4 @@
-use Rattle.std.proofs.Common.{◌≡◌, List, [], Result, Ok, Err, OnErr, IfErr, ℕ}
+use Rattle.std.proofs.Common.{[], Result, Ok, Err, OnErr, IfErr}
 use Rattle.std.proofs.lemmas.Result.{on_ok_weaker}
 use Rattle.can_trace.specs.declared.fault.TraceFault.{TraceFault}
 use Rattle.can_trace.proofs.DecodeSteps.{HearsText-found, HearsText-level, StopsHearing-untold, MeetsBadByte-here}

@@ -1,7 +1,7 @@
-use Rattle.std.proofs.Common.{arith, sym, length-drop}
+use Rattle.std.proofs.Common.{arith, length-drop}
 use Rattle.std.proofs.lemmas.List.{take_rest}
 use Rattle.std.proofs.lemmas.Result.{err_from_is_err_and}
-use Rattle.can_trace.proofs.DecodeSteps.{HearsText-none, HearsText-untold_part, HearsText-next, StopsHearing-next}
+use Rattle.can_trace.proofs.DecodeSteps.{HearsText-untold_part, HearsText-next, StopsHearing-next}
 use Rattle.can_trace.proofs.decode.hear_bytes.Goals as goal
 
 pub returns-in_err-hear_byte-clause-err : goal.returns-in_err-hear_byte-clause-err

@@ -1,8 +1,7 @@
-use Rattle.std.proofs.Common.{◌≡◌, ◌++◌, [], List, replicate, subst, sym, ap, ◌∙◌}
-use Rattle.can_frame.specs.declared.level.Level.TheVariants.{Recessive}
+use Rattle.std.proofs.Common.{[], subst, sym, ap, ◌∙◌}
 use Rattle.can_trace.specs.TraceText.{levels_in}
 use Rattle.can_trace.specs.Decoding.{Hears}
-use Rattle.can_trace.proofs.DecodeSteps.{levels_in-row, IsTraceText-row}
+use Rattle.can_trace.proofs.DecodeSteps.{levels_in-row}
 use Rattle.can_trace.proofs.decode.skip_row.Goals as goal
 
 pub returns-clause-hears : goal.returns-clause-hears
