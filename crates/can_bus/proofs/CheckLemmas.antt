@@ -1,6 +1,6 @@
 -- Hits that are taken.
 use Rattle.std.specs.List.{slice_get}
-use Rattle.std.proofs.Common.{◌≡◌, ℕ, zero, suc, ◌+◌, ◌<◌, ◌≤◌, ◌⊎◌, true, false, List, Option, Some, None, length, get_or, take, refl, sym, ◌∙◌, ap, subst, inl, inr, arith, length-take}
+use Rattle.std.proofs.Common.{◌≡◌, ℕ, zero, suc, ◌+◌, ◌<◌, ◌≤◌, true, false, List, Some, length, get_or, take, sym, ◌∙◌, ap, subst, inl, inr, arith, length-take}
 use Rattle.std.proofs.lemmas.Bool.{cases_order}
 use Rattle.std.proofs.lemmas.List.{get_or-take}
 use Rattle.std.proofs.lemmas.Option.{slice_get-get_or, get_or_from_slice_get, slice_get_within}

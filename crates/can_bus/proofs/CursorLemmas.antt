@@ -1,16 +1,16 @@
 -- What a walk along rising hits finds.
 use Rattle.std.specs.List.{list_any, slice_get}
-use Rattle.std.proofs.Common.{◌≡◌, ℕ, ◌+◌, ◌<◌, ◌≤◌, ◌⊎◌, Bool, true, false, ◌||◌, List, [], ◌∷◌, Option, Some, None, length, get_or, All, refl, sym, ◌∙◌, ap, subst, inl, inr, arith}
-use Rattle.std.proofs.lemmas.Bool.{cases_order, lt-ltb}
+use Rattle.std.proofs.Common.{◌≡◌, ℕ, ◌+◌, ◌<◌, ◌≤◌, ◌⊎◌, Bool, true, false, ◌||◌, List, [], ◌∷◌, Option, Some, None, length, get_or, refl, sym, ◌∙◌, ap, subst, inl, inr, arith}
+use Rattle.std.proofs.lemmas.Bool.{cases_order}
 use Rattle.std.proofs.lemmas.Bool.Decides.{nat_tests}
-use Rattle.std.proofs.lemmas.List.Folds.{list_any_none, list_any_at}
-use Rattle.std.proofs.lemmas.Option.{slice_get-get_or, get_or_from_slice_get, slice_get_within}
+use Rattle.std.proofs.lemmas.List.Folds.{list_any_none}
+use Rattle.std.proofs.lemmas.Option.{slice_get-get_or, get_or_from_slice_get}
 use Rattle.can_bus.specs.declared.hit.Hit.{Hit}
 use Rattle.can_bus.specs.declared.hit.Hit.TheVariants.{At, In, View}
 use Rattle.can_bus.specs.declared.moment.Attempt.{Attempt}
 use Rattle.can_bus.specs.Hits.{is_above}
 use Rattle.can_bus.specs.Run.{hits_wire, hits_view}
-use Rattle.can_bus.specs.Walks.{is_hit, AreRising, AreBelow, in_now}
+use Rattle.can_bus.specs.Walks.{is_hit, AreRising, AreBelow}
 use Rattle.can_bus.proofs.HitOrder.{above-transitive, above-other}
 
 -- nothing is passed at first
@@ -37,10 +37,6 @@ pub reach_none : (hits : List Hit) (place : ℕ) (q : Hit) → AreBelow hits pla
 reach_none hits place q below end =
     sym (list_any_none (is_hit q) hits (λ k d within.
     above-other q (get_or hits k d) (below k (get_or hits k d) (omega arith) (slice_get-get_or hits k d within))))
-
--- the first that isn't passed is the one
-pub reach_same : (hits : List Hit) (place : ℕ) (q d : Hit) → place < length hits → is_hit q (get_or hits place d) ≡ true → true ≡ list_any (is_hit q) hits
-reach_same hits place q d within same = sym (list_any_at (is_hit q) hits place d within same)
 
 not_same : (q h : Hit) → is_above h q ≡ true → is_hit q h ≡ false
 not_same (At s) (At t) e = grind (arith, nat_tests)

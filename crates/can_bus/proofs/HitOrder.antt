@@ -1,6 +1,5 @@
 -- The order of hits.
-use Rattle.std.specs.Prelude.{nat_lt, ◌==◌}
-use Rattle.std.proofs.Common.{◌≡◌, ℕ, ◌+◌, ◌<◌, ◌≤◌, ◌⊎◌, Bool, true, false, ◌&&◌, ◌||◌, refl, inl, inr, arith}
+use Rattle.std.proofs.Common.{◌≡◌, ℕ, true, false, refl, arith}
 use Rattle.std.proofs.lemmas.Bool.Decides.{nat_tests}
 use Rattle.can_bus.specs.declared.hit.Hit.{Hit}
 use Rattle.can_bus.specs.declared.hit.Hit.TheVariants.{At, In, View}
@@ -40,15 +39,3 @@ above-other (In n o) (View u p) h = refl
 above-other (View t p) (At u) h = refl
 above-other (View t p) (In m r) h = refl
 above-other (View t p) (View u q) h = grind (arith, nat_tests)
-
--- of two hits that aren't one, one is above the other
-pub above-ranked : (a b : Hit) → is_above a b ≡ false → is_hit a b ≡ false → is_above b a ≡ true
-above-ranked (At s) (At t) h k = grind (arith, nat_tests)
-above-ranked (At s) (In m r) h k = refl
-above-ranked (At s) (View u p) h k = refl
-above-ranked (In n o) (At t) h k = absurd (let e : true ≡ false = h in cc)
-above-ranked (In n o) (In m r) h k = grind (arith, nat_tests)
-above-ranked (In n o) (View u p) h k = refl
-above-ranked (View t p) (At u) h k = absurd (let e : true ≡ false = h in cc)
-above-ranked (View t p) (In m r) h k = absurd (let e : true ≡ false = h in cc)
-above-ranked (View t p) (View u q) h k = grind (arith, nat_tests)

@@ -1,6 +1,6 @@
 -- The loops over the ports.
 use Rattle.std.specs.List.{list_any}
-use Rattle.std.proofs.Common.{◌≡◌, ℕ, zero, suc, ◌+◌, ◌<◌, ◌≤◌, List, [], ◌∷◌, length, map, get_or, set, drop, refl, ap, sym, ◌∙◌, arith, add-one, zero-add}
+use Rattle.std.proofs.Common.{◌≡◌, ℕ, zero, suc, ◌+◌, ◌<◌, ◌≤◌, List, [], ◌∷◌, length, map, get_or, set, refl, ap, sym, ◌∙◌, arith, add-one, zero-add}
 use Rattle.can_frame.specs.declared.level.Level.{Level}
 use Rattle.can_node.specs.Ports.{PortState, port_step}
 use Rattle.can_bus.specs.declared.hit.Hit.{Hit}

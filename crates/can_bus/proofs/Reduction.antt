@@ -1,5 +1,5 @@
 -- A bus of any machines, reduced to one machine alone: a leader, and others that join it.
-use Rattle.std.proofs.Common.{◌≡◌, ℕ, zero, suc, ◌+◌, ◌<◌, ◌≤◌, ◌⊎◌, List, [], ◌∷◌, ◌++◌, length, map, refl, ap, sym, ◌∙◌, subst, arith, inl, inr}
+use Rattle.std.proofs.Common.{◌≡◌, ◌<◌, ◌⊎◌, List, [], ◌∷◌, length, map, refl, ap, ◌∙◌, arith, inl, inr}
 use Rattle.std.proofs.lemmas.List.{length-map}
 use Rattle.can_frame.specs.declared.level.Level.{Level}
 use Rattle.can_frame.specs.declared.level.Level.TheVariants.{Dominant, Recessive}

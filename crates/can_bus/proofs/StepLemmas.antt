@@ -1,16 +1,15 @@
 -- One bit time of a call.
-use Rattle.std.specs.Prelude.{if◌then◌else◌, slice_get}
+use Rattle.std.specs.Prelude.{if◌then◌else◌}
 use Rattle.std.specs.List.{list_any}
-use Rattle.std.proofs.Common.{◌≡◌, ◌≢◌, ℕ, zero, suc, ◌+◌, ◌<◌, ◌≤◌, Bool, true, false, List, [], ◌∷◌, Option, Some, None, length, map, get_or, set, refl, ap, sym, ◌∙◌, arith, add-one, get_or-set_other, get_or-set_same, below_more}
+use Rattle.std.proofs.Common.{◌≡◌, ◌≢◌, ℕ, ◌+◌, ◌<◌, Bool, true, false, List, Option, Some, None, length, map, get_or, set, refl, ap, ◌∙◌, arith, add-one, get_or-set_other, get_or-set_same, below_more}
 use Rattle.std.proofs.lemmas.Bool.{lt-ltb}
 use Rattle.std.proofs.lemmas.Bool.Decides.{nat_tests}
-use Rattle.std.proofs.lemmas.Option.{slice_get-get_or}
 use Rattle.can_frame.specs.declared.level.Level.{Level}
 use Rattle.can_node.specs.Ports.{PortState, port_drives}
 use Rattle.can_bus.specs.declared.hit.Hit.{Hit}
 use Rattle.can_bus.specs.declared.hit.Hit.TheVariants.{At, In, View}
 use Rattle.can_bus.specs.declared.moment.Attempt.{Attempt}
-use Rattle.can_bus.specs.Hits.{is_above, is_pair_above}
+use Rattle.can_bus.specs.Hits.{is_pair_above}
 use Rattle.can_bus.specs.Wired.{wired}
 use Rattle.can_bus.specs.Run.{BusState, Course, course, begins, following, aged, hits_wire, inverted_if, all_sampled, rest_after, recorded, bus_step, bus_after, bus_level, bus_run}
 use Rattle.can_bus.specs.Walks.{AreBelow, IsPassed, IsCall, first_call, in_now, in_next}
@@ -41,10 +40,6 @@ within_now hits place false (Some a) below = below
 pub within_next : (hits : List Hit) (place : ℕ) (latest : Option Attempt) → AreBelow hits place (in_now latest) → AreBelow hits place (in_next latest)
 within_next hits place None below = below
 within_next hits place (Some a) below = below_above hits place (In a.number a.offset) (In a.number (a.offset + 1)) (pair_next a.number a.offset) below
-
-pub passed_within : (latest : Option Attempt) (time limit : ℕ) → time < limit → IsPassed latest time → IsPassed latest limit
-passed_within None time limit h passed = tt
-passed_within (Some a) time limit h passed = omega arith
 
 pub passed_more : (begun : Bool) (latest : Option Attempt) (time : ℕ) → IsPassed latest time → IsPassed (if begun then Some (following latest) else aged latest) (time + 1)
 passed_more true None time passed = let h : 0 + 0 < time + 1 = omega arith in h

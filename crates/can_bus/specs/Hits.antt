@@ -1,5 +1,5 @@
 -- Which disturbances a bus takes: their order, and the ports that they name.
-use Rattle.std.specs.Prelude.{ℕ, ◌≡◌, ◌+◌, ◌<◌, nat_lt, ◌==◌, Bool, true, false, ◌&&◌, ◌||◌, List, length, take, Option, Some, None, slice_get}
+use Rattle.std.specs.Prelude.{ℕ, ◌≡◌, ◌+◌, nat_lt, ◌==◌, Bool, true, false, ◌&&◌, ◌||◌, List, take, Some, slice_get}
 use Rattle.can_bus.specs.declared.hit.Hit.{Hit}
 use Rattle.can_bus.specs.declared.hit.Hit.TheVariants.{At, In, View}
 use Rattle.can_bus.specs.declared.fault.BusFault.{BusFault}

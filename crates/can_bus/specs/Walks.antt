@@ -1,5 +1,5 @@
 -- Walking along hits in their order.
-use Rattle.std.specs.Prelude.{ℕ, ◌≡◌, ◌+◌, ◌<◌, ◌==◌, Bool, true, false, ◌&&◌, ◌||◌, List, Option, Some, None, slice_get}
+use Rattle.std.specs.Prelude.{ℕ, ◌≡◌, ◌+◌, ◌<◌, ◌==◌, Bool, true, false, ◌&&◌, List, Option, Some, None, slice_get}
 use Rattle.can_bus.specs.declared.hit.Hit.{Hit}
 use Rattle.can_bus.specs.declared.hit.Hit.TheVariants.{At, In, View}
 use Rattle.can_bus.specs.declared.moment.Attempt.{Attempt}

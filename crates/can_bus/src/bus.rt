@@ -1,11 +1,10 @@
-ghost use Rattle.std.specs.Prelude.{ℕ, ◌≡◌, ◌-◌, ◌+◌, ◌<◌, ◌≤◌, ◌^◌, ◌↔◌, length, map, slice_get, Some, IsOk, IsSome, OnOk, OnErr, IfErr, IfOk, IfSome, if◌then◌else◌};
-ghost use Rattle.can_bus.specs.Hits.{AreTaken, IsFirstFault};
-ghost use Rattle.can_bus.specs.Run.{Course as Running, all_sampled, bus_level, bus_run, bus_step, inverted_if as inverted_if_of, recorded};
+ghost use Rattle.std.specs.Prelude.{ℕ, ◌≡◌, ◌-◌, ◌+◌, ◌<◌, ◌≤◌, ◌^◌, ◌↔◌, length, map, slice_get, Some, IsOk, IsSome, OnOk, OnErr, IfErr, IfOk, IfSome};
 ghost use Rattle.std.specs.Borrow.{sem};
+ghost use Rattle.can_bus.specs.Hits.{AreTaken, IsFirstFault};
+ghost use Rattle.can_bus.specs.Run.{all_sampled, bus_level, bus_run, bus_step, inverted_if as inverted_if_of, recorded};
 ghost use Rattle.can_bus.specs.Lends.{lends_port};
 ghost use Rattle.can_bus.specs.State.{state_of};
 ghost use Rattle.can_bus.specs.Walks.{AreBelow, AreRising, IsCall};
-ghost use Rattle.can_node.specs.Ports.{PortState};
 
 use crate::call::Call;
 use crate::check::check;
@@ -26,27 +25,6 @@ pub struct Bus<P> {
     ports: Vec<P>,
     /// How many recessive levels were recorded last in a row, counted up to eleven.
     rest: u8,
-}
-
-/// The opposite level where a hit falls on it.
-fn inverted_if(hit: bool, level: Level) -> Level
-    ensures { result ≡ inverted_if_of hit level }
-{
-    if hit { level.opposite() } else { level }
-}
-
-/// Each port samples the level, or its opposite where it alone is hit.
-fn sample_all<P: Port>(ports: &mut [P], hits: &[Hit], view: &mut Cursor, time: u64, level: Level)
-    requires rising { AreRising hits.now }
-    requires passed { AreBelow hits.now view.old.place (Hit.View time 0) }
-    ensures ports { map P.port ports.new ≡ all_sampled hits.now time level 0 (map P.port ports.old) }
-    ensures passed { AreBelow hits.now view.new.place (Hit.View (time + 1) 0) }
-{
-    for (node, port) in ports.iter_mut().enumerate() {
-        let hit = view.reach(hits, Hit::View { time, node });
-        let seen = inverted_if(hit, level);
-        let _event = port.sample(seen);
-    }
 }
 
 impl<P: Port> Bus<P> {
@@ -137,5 +115,26 @@ impl<P: Port> Bus<P> {
             *slot = self.step(hits, &mut call);
         }
         Ok(())
+    }
+}
+
+/// The opposite level where a hit falls on it.
+fn inverted_if(hit: bool, level: Level) -> Level
+    ensures { result ≡ inverted_if_of hit level }
+{
+    if hit { level.opposite() } else { level }
+}
+
+/// Each port samples the level, or its opposite where it alone is hit.
+fn sample_all<P: Port>(ports: &mut [P], hits: &[Hit], view: &mut Cursor, time: u64, level: Level)
+    requires rising { AreRising hits.now }
+    requires passed { AreBelow hits.now view.old.place (Hit.View time 0) }
+    ensures ports { map P.port ports.new ≡ all_sampled hits.now time level 0 (map P.port ports.old) }
+    ensures passed { AreBelow hits.now view.new.place (Hit.View (time + 1) 0) }
+{
+    for (node, port) in ports.iter_mut().enumerate() {
+        let hit = view.reach(hits, Hit::View { time, node });
+        let seen = inverted_if(hit, level);
+        let _event = port.sample(seen);
     }
 }

@@ -1,6 +1,6 @@
 ghost use Rattle.std.specs.Prelude.{◌≡◌, ◌≤◌, length, map};
 ghost use Rattle.can_node.specs.Ports.{port_drives};
-ghost use Rattle.can_bus.specs.Wired.{level_bit, over as over_of, wired as wired_of};
+ghost use Rattle.can_bus.specs.Wired.{level_bit, wired as wired_of};
 
 use can_frame::Level;
 use can_node::Port;

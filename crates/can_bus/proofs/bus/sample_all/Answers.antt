@@ -1,4 +1,4 @@
-use Rattle.std.proofs.Common.{◌≡◌, ◌<◌, ◌≤◌, arith, length, map, get_or, ap, ◌∙◌}
+use Rattle.std.proofs.Common.{arith, get_or, ap, ◌∙◌}
 use Rattle.std.proofs.lemmas.List.{length-map}
 use Rattle.can_node.specs.Ports.{port_step}
 use Rattle.can_bus.specs.Run.{inverted_if}

@@ -1,5 +1,4 @@
-use Rattle.std.specs.List.{slice_get}
-use Rattle.std.proofs.Common.{◌≡◌, ◌-◌, true, get_or, rules, arith, sym, ap, ◌∙◌}
+use Rattle.std.proofs.Common.{◌≡◌, ◌-◌, get_or, rules, arith, sym, ap, ◌∙◌}
 use Rattle.std.proofs.lemmas.Option.{slice_get-get_or, get_or_from_slice_get}
 use Rattle.can_bus.specs.declared.hit.Hit.TheVariants.{At}
 use Rattle.can_bus.specs.Hits.{is_above}

@@ -1,4 +1,4 @@
-use Rattle.std.proofs.Common.{◌≡◌, ◌≢◌, ◌<◌, ◌≤◌, ◌+◌, get_or, length, map, take, arith, rules, sym, ap, ◌∙◌, refl, get_or-set_other, length-set}
+use Rattle.std.proofs.Common.{◌≡◌, ◌≢◌, get_or, map, take, arith, rules, sym, ap, ◌∙◌, refl, get_or-set_other, length-set}
 use Rattle.std.proofs.lemmas.List.{take_all}
 use Rattle.std.proofs.lemmas.Simd.{map-map}
 use Rattle.can_frame.specs.declared.level.Level.TheVariants.{Recessive}

@@ -1,4 +1,4 @@
-use Rattle.std.proofs.Common.{◌≡◌, true, false, rules, arith, sym, ◌∙◌}
+use Rattle.std.proofs.Common.{◌≡◌, true, false, rules, sym, ◌∙◌}
 use Rattle.can_frame.specs.declared.level.Level.TheVariants.{Dominant}
 use Rattle.can_bus.proofs.WiredLemmas.{level_dominates, level_passes, levels_passed}
 use Rattle.can_bus.proofs.wire.wired_plainly.Goals as goal

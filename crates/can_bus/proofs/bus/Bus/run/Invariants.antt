@@ -1,6 +1,6 @@
 use Rattle.std.proofs.Common.{◌≡◌, ◌<◌, ℕ, get_or}
 use Rattle.can_frame.specs.declared.level.Level.{Level}
-use Rattle.can_bus.specs.Run.{Course, course, bus_after, bus_level}
+use Rattle.can_bus.specs.Run.{course, bus_after, bus_level}
 use Rattle.can_bus.specs.State.{state_of}
 use Rattle.can_bus.specs.Walks.{IsCall}
 use Rattle.can_bus.proofs.bus.Bus.run.Given as goal
