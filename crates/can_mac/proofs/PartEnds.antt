@@ -37,7 +37,7 @@ module _ (f : FrontParts) where
       by_tests false true h = absurd (h refl)
       by_tests false false h = refl
 
-same-Decides : (x y : Level) → Decides (same x y) (x ≡ y)
+pub same-Decides : (x y : Level) → Decides (same x y) (x ≡ y)
 same-Decides Dominant Dominant = (λ e. refl, λ e. refl)
 same-Decides Recessive Recessive = (λ e. refl, λ e. refl)
 same-Decides Dominant Recessive = (λ e. cc, λ e. cc)
