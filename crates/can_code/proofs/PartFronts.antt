@@ -62,7 +62,8 @@ begins_unstuffed u v p ys r s =
     ∙ ap (λ k. kept (p ++ ys) 0 p ++ kept (p ++ ys) k ys) start
     ∙ ap (λ t. t ++ kept (p ++ ys) (length p) ys) (kept-within p ys p 0 (omega arith) ∙ r.rest)
 
-opposite_from : (x y : Level) → same x y ≡ false → x ≡ opposite y
+-- of two levels that differ one is the other's opposite
+pub opposite_from : (x y : Level) → same x y ≡ false → x ≡ opposite y
 opposite_from Dominant Recessive h = refl
 opposite_from Recessive Dominant h = refl
 opposite_from Dominant Dominant h = cc

@@ -3,10 +3,12 @@ use Rattle.std.proofs.Common.{◌≡◌, ◌≢◌, ℕ, ◌+◌, ◌<◌, ◌�
 use Rattle.std.proofs.Math.Dec.{eqb}
 use Rattle.std.proofs.lemmas.Bool.{cases_eq, cases_lt, eq-eqb, ne_eqb, cond-true, cond-false}
 use Rattle.can_frame.specs.declared.level.Level.{Level}
+use Rattle.can_frame.specs.declared.level.Level.TheVariants.{Dominant}
 use Rattle.can_frame.specs.Levels.{opposite}
 use Rattle.can_frame.specs.Parts.{Parts, IsFrame}
 use Rattle.can_code.specs.declared.front.Place.TheVariants.{StuffBit, Bit, CrcDelimiter}
-use Rattle.can_code.specs.Wire.{unstuffed, stuffed_part}
+use Rattle.can_code.specs.Stuffing.{stuffed}
+use Rattle.can_code.specs.Wire.{head, unstuffed, stuffed_part}
 use Rattle.can_code.specs.Layout.{level_at}
 use Rattle.can_code.specs.Front.{FrontParts, first_front, next_place, is_stuff_error, heard_level, heard_levels}
 use Rattle.can_code.specs.Sending.{sent_level}
@@ -19,11 +21,16 @@ use Rattle.can_code.proofs.UnstuffedLevels.{stuffed_part-part}
 unfoldable pub front_at : Parts → ℕ → FrontParts
 front_at f o = front_made (take o (stuffed_part f))
 
+-- the first level is the start of frame
+pub stuffed_part-start : (f : Parts) → level_at (stuffed_part f) 0 ≡ Dominant
+unfolding stuffed_part unstuffed stuffed head
+stuffed_part-start f = refl
+
 first_of : (b : List Level) → drop 1 (take 1 b) ≡ []
 first_of [] = refl
 first_of (x ∷ b) = refl
 
--- the first level is the start of frame
+-- with the start of frame it is the first front
 pub front_at-first : (f : Parts) → front_at f 1 ≡ first_front
 unfolding front_at
 front_at-first f = rw (first_of (stuffed_part f)) refl

@@ -1,24 +1,23 @@
 -- Arbitration, level by level: two frames that are sent together drive the same levels until the one of the
 -- lesser arbitration field is dominant where the other is recessive.
-use Rattle.std.proofs.Common.{◌≡◌, ◌≢◌, ℕ, ◌<◌, ◌≤◌, Some, List, length, take, refl, sym, ◌∙◌, ap, subst, arith, ◌⊎◌, inl, inr}
+use Rattle.std.proofs.Common.{◌≡◌, ◌≢◌, ℕ, ◌+◌, ◌<◌, ◌≤◌, List, length, take, sym, ◌∙◌, ap, subst, arith, ◌⊎◌, inl, inr}
 use Rattle.std.proofs.lemmas.Option.{slice_get_within, get_or_from_slice_get}
 use Rattle.std.proofs.lemmas.Bool.{cases_eq, cases_lt}
-use Rattle.std.specs.Prelude.{slice_get}
 use Rattle.can_frame.specs.declared.level.Level.{Level}
 use Rattle.can_frame.specs.declared.level.Level.TheVariants.{Dominant, Recessive}
 use Rattle.can_frame.specs.Levels.{opposite}
 use Rattle.can_frame.specs.Parts.{Parts, IsFrame}
 use Rattle.can_frame.specs.Arbitration.{arbitration_field, Before}
 use Rattle.can_frame.proofs.FieldLemmas.{fields_ranked}
-use Rattle.can_code.specs.Stuffing.{stuffed}
-use Rattle.can_code.specs.Wire.{head, unstuffed, stuffed_part}
+use Rattle.can_code.specs.Wire.{unstuffed, stuffed_part}
 use Rattle.can_code.specs.Layout.{level_at, rtr_place}
+use Rattle.can_code.specs.Front.{heard_level}
 use Rattle.can_code.specs.Sending.{sent_level}
 use Rattle.can_code.proofs.LayoutLengths.{rtr_place_le}
 use Rattle.can_code.proofs.UnstuffedLevels.{length-unstuffed-ge}
 use Rattle.can_code.proofs.UnstuffedOrder.{unstuffed-before, DiffersAt, differs_at, beginning-within, beginning-next}
 use Rattle.can_code.proofs.StuffedOrder.{stuffed-before}
-use Rattle.can_code.proofs.WireFronts.{front_at, front_at-first, front_at-same, front_at-begins, front_at-unstuffed, sent_stuff_bit, sent_bit}
+use Rattle.can_code.proofs.WireFronts.{front_at, front_at-first, front_at-same, front_at-begins, front_at-next, front_at-unstuffed, stuffed_part-start, sent_stuff_bit, sent_bit}
 
 -- f is dominant and g recessive behind the first o levels of their stuffed parts, at no stuff place, in the
 -- arbitration field of g
@@ -90,6 +89,12 @@ module _ (f g : Parts) (f_is : IsFrame f) (g_is : IsFrame g) (before : Before (a
         ]
   ]
 
+  -- where their next levels are one they make one front again
+  pub one_front-stays : level_at (stuffed_part f) o ≡ level_at (stuffed_part g) o → front_at f (o + 1) ≡ front_at g (o + 1)
+  one_front-stays level =
+      front_at-next f f_is o some one_front-more.0 ∙ ap (λ a. heard_level a (level_at (stuffed_part f) o)) one ∙ ap (heard_level (front_at g o)) level
+      ∙ sym (front_at-next g g_is o some one_front-more.1)
+
 -- two frames begin alike: with the start of frame
 pub front_at-start : (f g : Parts) → front_at f 1 ≡ front_at g 1
 front_at-start f g = front_at-first f ∙ sym (front_at-first g)
@@ -117,10 +122,6 @@ pub record FirstDifference (f g : Parts) (o : ℕ) : Type 0 where
   pub more_g : o < length (stuffed_part g)
   pub wins : WinsAt f g o
 
-stuffed_part-first : (f : Parts) → slice_get (stuffed_part f) 0 ≡ Some Dominant
-unfolding stuffed_part unstuffed stuffed head
-stuffed_part-first f = refl
-
 -- so is the order of the stuffed parts that of the fields
 pub stuffed_part-before : (f g : Parts) → Before (arbitration_field f) (arbitration_field g) → Before (stuffed_part f) (stuffed_part g)
 unfolding stuffed_part
@@ -132,12 +133,12 @@ first_difference f g f_is g_is before =
     let o = h.place in
     let more_f = slice_get_within (stuffed_part f) o Dominant h.low in
     let more_g = slice_get_within (stuffed_part g) o Recessive h.high in
-    let some : 0 < o = elim (cases_eq o 0) [
-      | inl none ↦ let high = ap (slice_get (stuffed_part g)) (sym none) ∙ h.high in let first = stuffed_part-first g in cc
-      | inr other ↦ let not_first : o ≢ 0 = other in omega arith
-    ] in
     let low = get_or_from_slice_get (stuffed_part f) o Dominant Dominant h.low in
-    let high = get_or_from_slice_get (stuffed_part g) o Recessive Dominant h.high in (
+    let high = get_or_from_slice_get (stuffed_part g) o Recessive Dominant h.high in
+    let some : 0 < o = elim (cases_eq o 0) [
+      | inl none ↦ let first = ap (level_at (stuffed_part g)) none ∙ stuffed_part-start g in cc
+      | inr other ↦ let not_first : o ≢ 0 = other in omega arith
+    ] in (
       o,
       record {
         some = some;

@@ -1,5 +1,4 @@
 ghost use Rattle.std.specs.Prelude.{◌≡◌, ◌≢◌, ◌<◌, ◌↔◌, length, IsTrue, IsErr, OnOk, OnErr};
-ghost use Rattle.can_frame.specs.Parts.{IsFrame};
 ghost use Rattle.can_code.specs.Crc.{IsCrc};
 ghost use Rattle.can_code.specs.Layout.{check_of, extended_of, frame_of, head_of, heard_of};
 ghost use Rattle.can_code.specs.Front.{IsFront, first_front, heard_level, is_stuff_error, next_place as next_place_of};
@@ -136,13 +135,9 @@ impl<B: FrameBits> Front<B> {
     /// The frame.
     pub fn frame(&self) -> Frame
         requires { next_place_of self.now ≡ Place.CrcDelimiter }
-        ensures value { result ≡ frame_of self.now.unstuffed }
-        ensures whole { IsFrame result }
+        ensures { result ≡ frame_of self.now.unstuffed }
     {
-        let frame = frame(&self.bits);
-        // its bytes tell that it is within its limits
-        let _ = frame.bytes();
-        frame
+        frame(&self.bits)
     }
 
     /// What has been heard, with the levels behind the stuffed part: whether the frame was

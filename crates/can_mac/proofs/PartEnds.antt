@@ -37,14 +37,14 @@ module _ (f : FrontParts) where
       by_tests false true h = absurd (h refl)
       by_tests false false h = refl
 
-same-Decides : (x y : Level) → Decides (same x y) (x ≡ y)
+pub same-Decides : (x y : Level) → Decides (same x y) (x ≡ y)
 same-Decides Dominant Dominant = (λ e. refl, λ e. refl)
 same-Decides Recessive Recessive = (λ e. refl, λ e. refl)
 same-Decides Dominant Recessive = (λ e. cc, λ e. cc)
 same-Decides Recessive Dominant = (λ e. cc, λ e. cc)
 
 -- there is one check sequence, so it is told by being it
-agrees-Decides : (u : List Level) → Decides (agrees u) (IsCrc (head_of u) (check_of u))
+pub agrees-Decides : (u : List Level) → Decides (agrees u) (IsCrc (head_of u) (check_of u))
 unfolding agrees
 agrees-Decides u =
     let d = pointwise_decides same-Decides (check_of u) (crc_of (head_of u)) in

@@ -1,3 +1,4 @@
 pub mod State
 pub mod Moves
 pub mod Machine
+pub mod Frames

@@ -112,6 +112,8 @@ pub fn chosen(alloc: Global, words: &[String]) -> Result<Chosen, WordFault>
     ensures alone { (name : List ℕ) (chosen : Chosen)
         → texts_of words.now ≡ name ∷ name_of chosen ∷ []
         → (result ≡ Ok chosen) ⊎ (result ≡ Err WordFault.Memory) }
+    ensures alone_asks { (name : List ℕ) (chosen : Chosen)
+        → texts_of words.now ≡ name ∷ name_of chosen ∷ [] → AsksFor chosen (texts_of words.now) }
 {
     match parsed(alloc, words) {
         Ok(matches) => Ok(met(&matches)),

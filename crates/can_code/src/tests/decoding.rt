@@ -71,7 +71,7 @@ fn found(rt: HostRuntime) -> Result<(), Fail> {
 }
 
 #[test]
-fn front_at_its_end(rt: HostRuntime) {
+fn front_at_its_end(rt: HostRuntime) -> Result<(), Fail> {
     let mut front = Front::<PlainBits>::begin();
     for level in levels_of(FRAME_001).iter().skip(1) {
         if front.next_place() != Place::CrcDelimiter {
@@ -83,6 +83,8 @@ fn front_at_its_end(rt: HostRuntime) {
     assert!(rt; front.last().is_recessive());
     assert!(rt; !front.is_extended());
     assert!(rt; front.check_agrees());
+    assert!(rt; front.frame() == Frame::data(standard(0x001)?, 0, &[])?);
+    Ok(())
 }
 
 #[test]

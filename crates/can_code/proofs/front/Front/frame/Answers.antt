@@ -4,8 +4,8 @@ use Rattle.can_code.proofs.ReadingLemmas.{IsComplete-HasData}
 use Rattle.can_code.proofs.FrontLemmas.{IsFront-complete, next_place-ended}
 use Rattle.can_code.proofs.front.Front.frame.Goals as goal
 
-pub frame-frame-requires : goal.frame-frame-requires
-frame-frame-requires g c =
+pub frame-requires : goal.frame-requires
+frame-requires g c =
     let inside = c.self.inside in
     let front : FrontParts = record { unstuffed = g.B.FrameBits.levels inside.bits; last = inside.last; run = inside.run } in
     let ended = next_place-ended front (ap next_place c.self.view_is ∙ c.requires) in

@@ -1,0 +1,9 @@
+pub mod HitOrder
+pub mod CursorLemmas
+pub mod WiredLemmas
+pub mod PortLoops
+pub mod StepLemmas
+pub mod CheckLemmas
+pub mod RunLemmas
+pub mod Reduction
+pub mod Ascending

@@ -1,0 +1,95 @@
+-- One bit time of a call.
+use Rattle.std.specs.Prelude.{if◌then◌else◌}
+use Rattle.std.specs.List.{list_any}
+use Rattle.std.proofs.Common.{◌≡◌, ◌≢◌, ℕ, ◌+◌, ◌<◌, Bool, true, false, List, Option, Some, None, length, map, get_or, set, refl, ap, ◌∙◌, arith, add-one, get_or-set_other, get_or-set_same, below_more}
+use Rattle.std.proofs.lemmas.Bool.{lt-ltb}
+use Rattle.std.proofs.lemmas.Bool.Decides.{nat_tests}
+use Rattle.can_frame.specs.declared.level.Level.{Level}
+use Rattle.can_node.specs.Ports.{PortState, port_drives}
+use Rattle.can_bus.specs.declared.hit.Hit.{Hit}
+use Rattle.can_bus.specs.declared.hit.Hit.TheVariants.{At, In, View}
+use Rattle.can_bus.specs.declared.moment.Attempt.{Attempt}
+use Rattle.can_bus.specs.Hits.{is_pair_above}
+use Rattle.can_bus.specs.Wired.{wired}
+use Rattle.can_bus.specs.Run.{BusState, Course, course, begins, following, aged, hits_wire, inverted_if, all_sampled, rest_after, recorded, bus_step, bus_after, bus_level, bus_run}
+use Rattle.can_bus.specs.Walks.{AreBelow, IsPassed, IsCall, first_call, in_now, in_next}
+use Rattle.can_bus.proofs.CursorLemmas.{below_none, below_above}
+
+pair_later : (a b : ℕ) → is_pair_above (a + 1) 0 a b ≡ true
+pair_later a b = grind (arith, nat_tests)
+
+pair_next : (a b : ℕ) → is_pair_above a (b + 1) a b ≡ true
+pair_next a b = grind (arith, nat_tests)
+
+pub at_next : (hits : List Hit) (place t : ℕ) → AreBelow hits place (At t) → AreBelow hits place (At (t + 1))
+at_next hits place t below = below_above hits place (At t) (At (t + 1)) (lt-ltb t (t + 1) (omega arith)) below
+
+pub view_next : (hits : List Hit) (place t n : ℕ) → AreBelow hits place (View t n) → AreBelow hits place (View t (n + 1))
+view_next hits place t n below = below_above hits place (View t n) (View t (n + 1)) (pair_next t n) below
+
+pub view_later : (hits : List Hit) (place t n : ℕ) → AreBelow hits place (View t n) → AreBelow hits place (View (t + 1) 0)
+view_later hits place t n below = below_above hits place (View t n) (View (t + 1) 0) (pair_later t n) below
+
+pub within_now : (hits : List Hit) (place : ℕ) (begun : Bool) (latest : Option Attempt) → AreBelow hits place (in_next latest) →
+    AreBelow hits place (in_now (if begun then Some (following latest) else aged latest))
+within_now hits place true None below = below
+within_now hits place true (Some a) below = below_above hits place (In a.number (a.offset + 1)) (In (a.number + 1) 0) (pair_later a.number (a.offset + 1)) below
+within_now hits place false None below = below
+within_now hits place false (Some a) below = below
+
+pub within_next : (hits : List Hit) (place : ℕ) (latest : Option Attempt) → AreBelow hits place (in_now latest) → AreBelow hits place (in_next latest)
+within_next hits place None below = below
+within_next hits place (Some a) below = below_above hits place (In a.number a.offset) (In a.number (a.offset + 1)) (pair_next a.number a.offset) below
+
+pub passed_more : (begun : Bool) (latest : Option Attempt) (time : ℕ) → IsPassed latest time → IsPassed (if begun then Some (following latest) else aged latest) (time + 1)
+passed_more true None time passed = let h : 0 + 0 < time + 1 = omega arith in h
+passed_more true (Some a) time passed = let h : (a.number + 1) + 0 < time + 1 = omega arith in h
+passed_more false None time passed = tt
+passed_more false (Some a) time passed = let h : a.number + (a.offset + 1) < time + 1 = omega arith in h
+
+-- what is recorded, and the bus a bit time later
+pub step_is : (hits : List Hit) (ports next : List PortState) (rest time : ℕ) (latest now : Option Attempt) (w x : Level) →
+    w ≡ wired (map port_drives ports) → now ≡ (if begins rest w then Some (following latest) else aged latest) →
+    x ≡ inverted_if (list_any (hits_wire time now) hits) w → next ≡ all_sampled hits time x 0 ports →
+    (x ≡ recorded hits (record { bus = record { ports = ports; rest = rest }; time = time; latest = latest })) ×
+    (record { bus = record { ports = next; rest = rest_after rest x }; time = time + 1; latest = now }
+    ≡ bus_step hits (record { bus = record { ports = ports; rest = rest }; time = time; latest = latest }))
+unfolding recorded bus_step
+step_is hits ports next rest time latest now w x a b d e =
+    let c : Course = record { bus = record { ports = ports; rest = rest }; time = time; latest = latest } in
+    let n : now ≡ (if begins rest (wired (map port_drives ports)) then Some (following latest) else aged latest) =
+    b ∙ ap (λ v. if begins rest v then Some (following latest) else aged latest) a in
+    let r : x ≡ recorded hits c = d ∙ ap (λ m. inverted_if (list_any (hits_wire time m) hits) w) n
+    ∙ ap (λ v. inverted_if (list_any (hits_wire time (if begins rest (wired (map port_drives ports)) then Some (following latest) else aged latest)) hits) v) a in (
+      r,
+      ap (λ ps. record { bus = record { ports = ps; rest = rest_after rest x }; time = time + 1; latest = now }) e
+          ∙ ap (λ v. record { bus = record { ports = all_sampled hits time v 0 ports; rest = rest_after rest v }; time = time + 1; latest = now }) r
+          ∙ ap (λ m. record { bus = record { ports = all_sampled hits time (recorded hits c) 0 ports; rest = rest_after rest (recorded hits c) }; time = time + 1; latest = m }) n,
+    )
+
+-- the course of a call, a bit time further
+pub course_more : (hits : List Hit) (i : ℕ) (bus : BusState) (c next : Course) → c ≡ bus_after hits i (course bus) → next ≡ bus_step hits c → next ≡ bus_after hits (i + 1) (course bus)
+unfolding bus_after
+course_more hits i bus c next e f = rw add-one (f ∙ ap (bus_step hits) e)
+
+pub course_none : (hits : List Hit) (bus : BusState) → course bus ≡ bus_after hits 0 (course bus)
+unfolding bus_after
+course_none hits bus = refl
+
+-- one level more is recorded
+pub level_more : (hits : List Hit) (i : ℕ) (bus : BusState) (c : Course) (rec : List Level) (x : Level) → i < length rec → c ≡ bus_after hits i (course bus) → x ≡ recorded hits c →
+    ((t : ℕ) (d : Level) → t < i → get_or rec t d ≡ bus_level hits t bus) → (t : ℕ) (d : Level) → t < i + 1 → get_or (set rec i x) t d ≡ bus_level hits t bus
+unfolding bus_level
+level_more hits i bus c rec x h e f before t d =
+    below_more (λ n. get_or (set rec i x) n d ≡ bus_level hits n bus) i
+    (λ n b. let ne : n ≢ i = omega arith in rw get_or-set_other (before n d b))
+    (rw get_or-set_same (f ∙ ap (recorded hits) e))
+    t
+
+pub run_is : (hits : List Hit) (n : ℕ) (bus : BusState) (c : Course) → c ≡ bus_after hits n (course bus) → c.bus ≡ bus_run hits n bus
+unfolding bus_run
+run_is hits n bus c e = ap (λ (k : Course). k.bus) e
+
+-- a call begins
+pub first_ready : (hits : List Hit) → IsCall hits first_call
+first_ready hits = record { at = below_none hits (At 0); within = below_none hits (In 0 0); view = below_none hits (View 0 0); passed = tt }

@@ -1,0 +1,14 @@
+use Rattle.std.proofs.Common.{◌≡◌, ◌<◌, ℕ, get_or}
+use Rattle.can_frame.specs.declared.level.Level.{Level}
+use Rattle.can_bus.specs.Run.{course, bus_after, bus_level}
+use Rattle.can_bus.specs.State.{state_of}
+use Rattle.can_bus.specs.Walks.{IsCall}
+use Rattle.can_bus.proofs.bus.Bus.run.Given as goal
+
+abbrev pub invariant-loop-slot : goal.invariant-loop-slot
+invariant-loop-slot g l = record {
+  course : record { bus = state_of g.P.Port.port l.self; time = l.call.time; latest = l.call.latest } ≡ bus_after l.hits l.slot-index (course (state_of g.P.Port.port l.fn.self));
+  levels : (t : ℕ) (d : Level) → t < l.slot-index → get_or l.rec t d ≡ bus_level l.hits t (state_of g.P.Port.port l.fn.self);
+  call : IsCall l.hits l.call;
+  time : l.call.time ≡ l.slot-index;
+}

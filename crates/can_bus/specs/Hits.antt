@@ -1,0 +1,52 @@
+-- Which disturbances a bus takes: their order, and the ports that they name.
+use Rattle.std.specs.Prelude.{ℕ, ◌≡◌, ◌+◌, nat_lt, ◌==◌, Bool, true, false, ◌&&◌, ◌||◌, List, take, Some, slice_get}
+use Rattle.can_bus.specs.declared.hit.Hit.{Hit}
+use Rattle.can_bus.specs.declared.hit.Hit.TheVariants.{At, In, View}
+use Rattle.can_bus.specs.declared.fault.BusFault.{BusFault}
+use Rattle.can_bus.specs.declared.fault.BusFault.TheVariants.{NoPort, TooManyPorts, NotRising, NoSuchPort}
+
+-- one pair of numbers is above another: the first decides, then the second
+abbrev pub is_pair_above : ℕ → ℕ → ℕ → ℕ → Bool
+is_pair_above a b c d = nat_lt c a || ((c == a) && nat_lt d b)
+
+-- the first hit is above the second: all `At` by rising time, then all `In` by rising attempt and offset,
+-- then all `View` by rising time and port
+abbrev pub is_above : Hit → Hit → Bool
+is_above (At time) (At before) = nat_lt before time
+is_above (At time) (In attempt offset) = false
+is_above (At time) (View before node) = false
+is_above (In attempt offset) (At before) = true
+is_above (In attempt offset) (In other before) = is_pair_above attempt offset other before
+is_above (In attempt offset) (View before node) = false
+is_above (View time node) (At before) = true
+is_above (View time node) (In attempt offset) = true
+is_above (View time node) (View before other) = is_pair_above time node before other
+
+-- of so many ports the hit names one, if it names any
+abbrev pub names_port : ℕ → Hit → Bool
+names_port ports (At time) = true
+names_port ports (In attempt offset) = true
+names_port ports (View time node) = nat_lt node ports
+
+-- the hit at this place is above the one before it
+abbrev pub IsAboveLast : List Hit → ℕ → Hit → Type 0
+IsAboveLast hits place hit = (n : ℕ) (last : Hit) → n + 1 ≡ place → slice_get hits n ≡ Some last → is_above hit last ≡ true
+
+-- the hits stand in strict order, and each names a port that there is, if it names any
+abbrev pub AreTaken : ℕ → List Hit → Type 0
+AreTaken ports hits = (place : ℕ) (hit : Hit) → slice_get hits place ≡ Some hit → IsAboveLast hits place hit × (names_port ports hit ≡ true)
+
+-- what is wrong with the hit at this place: its order counts before its port
+abbrev pub HasFault : ℕ → List Hit → ℕ → Hit → BusFault → Type 0
+HasFault ports hits place hit NotRising = IsAboveLast hits place hit → ⊥
+HasFault ports hits place hit NoSuchPort = IsAboveLast hits place hit × (names_port ports hit ≡ false)
+HasFault ports hits place hit NoPort = ⊥
+HasFault ports hits place hit TooManyPorts = ⊥
+
+-- the first hit that is refused has this fault
+pub record IsFirstFault (ports : ℕ) (hits : List Hit) (fault : BusFault) : Type 0 where
+  pub place : ℕ
+  pub hit : Hit
+  pub there : slice_get hits place ≡ Some hit
+  pub before : AreTaken ports (take place hits)
+  pub wrong : HasFault ports hits place hit fault

@@ -1,0 +1,96 @@
+-- A quiet bus: every queued frame goes out once, in arbitration order.
+use Rattle.std.specs.Prelude.{ℕ, ◌≡◌, ◌≢◌, ◌+◌, ◌<◌, ◌≤◌, Bool, if◌then◌else◌, List, [], ◌∷◌, ◌++◌, length, map, replicate, sum_by, slice_get, slice_index_or, Some}
+use Rattle.std.specs.List.{flat_map, list_any}
+use Rattle.std.specs.List.Sorted.{IsPermutation}
+use Rattle.can_frame.specs.declared.level.Level.{Level}
+use Rattle.can_frame.specs.declared.level.Level.TheVariants.{Recessive}
+use Rattle.can_frame.specs.Parts.{Parts}
+use Rattle.can_frame.specs.Arbitration.{arbitration_field, Before}
+use Rattle.can_code.specs.Wire.{wire}
+use Rattle.can_mac.specs.declared.phase.Phase.TheVariants.{Idle}
+use Rattle.can_node.specs.declared.entry.Entry.{Entry}
+use Rattle.can_node.specs.Ports.{PortState, goes_before, same_field}
+
+-- each earlier frame goes before each later one
+abbrev pub IsRising : List Parts → Type 0
+IsRising frames = (m n : ℕ) (f g : Parts) → m < n → slice_get frames m ≡ Some f → slice_get frames n ≡ Some g → Before (arbitration_field f) (arbitration_field g)
+
+-- the list of the frames that wait, each once, in the order of arbitration
+pub record IsAscending (waiting frames : List Parts) : Type 0 where
+  pub rising : IsRising frames
+  pub all : IsPermutation waiting frames
+
+-- the same, computed: f at its place in an ascending list
+abbrev pub inserted : Parts → List Parts → List Parts
+inserted f [] = f ∷ []
+inserted f (g ∷ frames) = if goes_before g f then g ∷ inserted f frames else f ∷ g ∷ frames
+
+unfoldable pub ascending : List Parts → List Parts
+ascending [] = []
+ascending (f ∷ frames) = inserted f (ascending frames)
+
+-- what a frame takes on the wire: its levels, and three of intermission
+abbrev pub with_intermission : Parts → List Level
+with_intermission f = wire f ++ replicate 3 Recessive
+
+-- how many bit times the frames take
+unfoldable pub span : List Parts → ℕ
+span frames = sum_by (λ f. length (wire f) + 3) frames
+
+-- the level at a time where the frames go out one after another, and the bus rests ever after
+unfoldable pub line_at : List Parts → ℕ → Level
+line_at frames t = slice_index_or (flat_map with_intermission frames) t Recessive
+
+-- the frames that wait at all ports
+abbrev pub queued : List PortState → List Parts
+queued ports = flat_map (λ p. p.queue) ports
+
+-- an idle port that has counted no error, asks for no overload frame, and has logged nothing, with room for
+-- so many entries
+pub record IsQuietPort (entries : ℕ) (p : PortState) : Type 0 where
+  pub idle : p.mac.phase ≡ Idle
+  pub tec : p.mac.counters.tec ≡ 0
+  pub rec : p.mac.counters.rec ≡ 0
+  pub unasked : p.mac.overloads.pending ≡ 0
+  pub empty : p.log ≡ []
+  pub room : entries ≤ p.log_room
+
+-- no two places of the list have frames of one arbitration field
+abbrev pub AreDifferent : List Parts → Type 0
+AreDifferent frames =
+    (m n : ℕ) (f g : Parts) → m < n → slice_get frames m ≡ Some f → slice_get frames n ≡ Some g → arbitration_field f ≢ arbitration_field g
+
+-- what the theorem asks of a bus
+pub record IsQuiet (ports : List PortState) : Type 0 where
+  pub two : 2 ≤ length ports
+  pub most : length ports ≤ 64
+  pub quiet : (n : ℕ) (p : PortState) → slice_get ports n ≡ Some p → IsQuietPort (length (queued ports)) p
+  pub different : AreDifferent (queued ports)
+
+-- a frame of this arbitration field is in the queue
+abbrev pub holds : List Parts → Parts → Bool
+holds queue f = list_any (same_field f) queue
+
+-- the log of a port that has taken these frames, and sent those that were in its queue
+abbrev pub marked : List Parts → List Parts → List Entry
+marked queue frames = map (λ f. record { frame = f; sent = holds queue f }) frames
+
+-- a is a beginning of b
+abbrev pub Begins : {A : Type 0} → List A → List A → Type 0
+Begins {A} a b = (rest : List A) × (a ++ rest ≡ b)
+
+-- at each port, before and after
+abbrev pub AtEachPort : (PortState → PortState → Type 0) → List PortState → List PortState → Type 0
+AtEachPort R before after = (n : ℕ) (p q : PortState) → slice_get before n ≡ Some p → slice_get after n ≡ Some q → R p q
+
+-- the log is a beginning of the marked list
+abbrev pub LogsBegin : List Parts → PortState → PortState → Type 0
+LogsBegin frames p q = Begins q.log (marked p.queue frames)
+
+-- the log is the whole marked list
+abbrev pub LogsWhole : List Parts → PortState → PortState → Type 0
+LogsWhole frames p q = q.log ≡ marked p.queue frames
+
+-- no counter has moved
+abbrev pub CountsNothing : PortState → PortState → Type 0
+CountsNothing p q = q.mac.counters ≡ p.mac.counters

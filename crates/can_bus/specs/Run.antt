@@ -1,0 +1,106 @@
+-- The bus, one bit time after another: all ports drive, the levels are wired, a disturbance may invert the
+-- wired level, and each port samples what is recorded, or its opposite where it alone is disturbed.
+use Rattle.std.specs.Prelude.{ℕ, zero, suc, ◌+◌, ◌==◌, min, Bool, false, ◌&&◌, if◌then◌else◌, List, [], ◌∷◌, map, Option, Some, None}
+use Rattle.std.specs.List.{list_any}
+use Rattle.can_frame.specs.declared.level.Level.{Level}
+use Rattle.can_frame.specs.declared.level.Level.TheVariants.{Dominant, Recessive}
+use Rattle.can_frame.specs.Levels.{opposite}
+use Rattle.can_node.specs.Ports.{PortState, port_drives, port_step}
+use Rattle.can_bus.specs.declared.hit.Hit.{Hit}
+use Rattle.can_bus.specs.declared.hit.Hit.TheVariants.{At, In, View}
+use Rattle.can_bus.specs.declared.moment.Attempt.{Attempt}
+use Rattle.can_bus.specs.Wired.{wired}
+
+-- a bus: its ports, and how many recessive levels were recorded last in a row, counted up to eleven
+pub record BusState : Type 0 where
+  pub ports : List PortState
+  pub rest : ℕ
+
+-- a call in its course: the bus, the bit time, and the latest attempt of the call
+pub record Course : Type 0 where
+  pub bus : BusState
+  pub time : ℕ
+  pub latest : Option Attempt
+
+-- a call begins
+abbrev pub course : BusState → Course
+course bus = record { bus = bus; time = 0; latest = None }
+
+-- what the ports drive together
+abbrev pub wired_level : Course → Level
+wired_level c = wired (map port_drives c.bus.ports)
+
+-- an attempt begins at a wired dominant level that follows eleven recessive recorded ones
+abbrev pub begins : ℕ → Level → Bool
+begins rest Dominant = rest == 11
+begins rest Recessive = false
+
+-- the attempt that begins behind this one
+abbrev pub following : Option Attempt → Attempt
+following None = record { number = 0; offset = 0 }
+following (Some a) = record { number = a.number + 1; offset = 0 }
+
+-- one bit time later
+abbrev pub aged : Option Attempt → Option Attempt
+aged None = None
+aged (Some a) = Some (record { number = a.number; offset = a.offset + 1 })
+
+-- the latest attempt in this bit time
+abbrev pub attempt_now : Course → Option Attempt
+attempt_now c = if begins c.bus.rest (wired_level c) then Some (following c.latest) else aged c.latest
+
+-- the attempt has this number, and began so many bit times ago
+abbrev pub is_attempt : Option Attempt → ℕ → ℕ → Bool
+is_attempt None number offset = false
+is_attempt (Some a) number offset = (a.number == number) && (a.offset == offset)
+
+-- the hit inverts the wired level at this time, in this attempt
+abbrev pub hits_wire : ℕ → Option Attempt → Hit → Bool
+hits_wire time attempt (At t) = t == time
+hits_wire time attempt (In number offset) = is_attempt attempt number offset
+hits_wire time attempt (View t node) = false
+
+-- the hit inverts what this port sees at this time
+abbrev pub hits_view : ℕ → ℕ → Hit → Bool
+hits_view time port (At t) = false
+hits_view time port (In number offset) = false
+hits_view time port (View t node) = (t == time) && (node == port)
+
+abbrev pub inverted_if : Bool → Level → Level
+inverted_if hit x = if hit then opposite x else x
+
+-- the recorded level: the wired one, inverted once if any hit falls on it
+unfoldable pub recorded : List Hit → Course → Level
+recorded hits c = inverted_if (list_any (hits_wire c.time (attempt_now c)) hits) (wired_level c)
+
+-- each port, the first of which has this number, after it has sampled the level
+abbrev pub all_sampled : List Hit → ℕ → Level → ℕ → List PortState → List PortState
+all_sampled hits time x number [] = []
+all_sampled hits time x number (p ∷ ports) =
+    port_step p (inverted_if (list_any (hits_view time number) hits) x) ∷ all_sampled hits time x (number + 1) ports
+
+-- how many recessive levels were recorded last, with this one
+abbrev pub rest_after : ℕ → Level → ℕ
+rest_after rest Dominant = 0
+rest_after rest Recessive = min (rest + 1) 11
+
+-- one bit time
+unfoldable pub bus_step : List Hit → Course → Course
+bus_step hits c = record {
+  bus = record { ports = all_sampled hits c.time (recorded hits c) 0 c.bus.ports; rest = rest_after c.bus.rest (recorded hits c) };
+  time = c.time + 1;
+  latest = attempt_now c;
+}
+
+-- so many bit times
+unfoldable pub bus_after : List Hit → ℕ → Course → Course
+bus_after hits zero c = c
+bus_after hits (suc n) c = bus_step hits (bus_after hits n c)
+
+-- the level that is recorded at time t of a call
+unfoldable pub bus_level : List Hit → ℕ → BusState → Level
+bus_level hits t bus = recorded hits (bus_after hits t (course bus))
+
+-- the bus after n bit times of a call
+unfoldable pub bus_run : List Hit → ℕ → BusState → BusState
+bus_run hits n bus = (bus_after hits n (course bus)).bus

@@ -1,0 +1,56 @@
+-- Walking along hits in their order.
+use Rattle.std.specs.Prelude.{ℕ, ◌≡◌, ◌+◌, ◌<◌, ◌==◌, Bool, true, false, ◌&&◌, List, Option, Some, None, slice_get}
+use Rattle.can_bus.specs.declared.hit.Hit.{Hit}
+use Rattle.can_bus.specs.declared.hit.Hit.TheVariants.{At, In, View}
+use Rattle.can_bus.specs.declared.moment.Attempt.{Attempt}
+use Rattle.can_bus.specs.declared.call.Call.{Call}
+use Rattle.can_bus.specs.declared.cursor.Cursor.{Cursor}
+use Rattle.can_bus.specs.Hits.{is_above}
+
+-- the second hit is the first
+abbrev pub is_hit : Hit → Hit → Bool
+is_hit (At time) (At t) = t == time
+is_hit (At time) (In number offset) = false
+is_hit (At time) (View t port) = false
+is_hit (In attempt offset) (At t) = false
+is_hit (In attempt offset) (In number o) = (attempt == number) && (offset == o)
+is_hit (In attempt offset) (View t port) = false
+is_hit (View time node) (At t) = false
+is_hit (View time node) (In number offset) = false
+is_hit (View time node) (View t port) = (t == time) && (port == node)
+
+-- each earlier hit is below each later one
+abbrev pub AreRising : List Hit → Type 0
+AreRising hits = (m n : ℕ) (a b : Hit) → m < n → slice_get hits m ≡ Some a → slice_get hits n ≡ Some b → is_above b a ≡ true
+
+-- each hit before this place is below this one
+abbrev pub AreBelow : List Hit → ℕ → Hit → Type 0
+AreBelow hits place hit = (n : ℕ) (before : Hit) → n < place → slice_get hits n ≡ Some before → is_above hit before ≡ true
+
+-- an attempt of a call falls within the bit times that have passed
+abbrev pub IsPassed : Option Attempt → ℕ → Type 0
+IsPassed None time = Unit {0}
+IsPassed (Some a) time = a.number + a.offset < time
+
+-- the least disturbance of an attempt that may come in this bit time, and in the next
+abbrev pub in_now : Option Attempt → Hit
+in_now None = In 0 0
+in_now (Some a) = In a.number a.offset
+
+abbrev pub in_next : Option Attempt → Hit
+in_next None = In 0 0
+in_next (Some a) = In a.number (a.offset + 1)
+
+-- what was passed lies behind the bit time that is to come
+pub record IsCall (hits : List Hit) (call : Call) : Type 0 where
+  pub at : AreBelow hits call.at.place (At call.time)
+  pub within : AreBelow hits call.within.place (in_next call.latest)
+  pub view : AreBelow hits call.view.place (View call.time 0)
+  pub passed : IsPassed call.latest call.time
+
+-- a call before its first bit time
+abbrev pub first_place : Cursor
+first_place = record { place = 0 }
+
+abbrev pub first_call : Call
+first_call = record { time = 0; latest = None; at = first_place; within = first_place; view = first_place }

@@ -1,0 +1,73 @@
+ghost use Rattle.std.specs.Prelude.{◌≡◌, ◌-◌, ◌^◌, if◌then◌else◌, Some};
+ghost use Rattle.can_bus.specs.Run.{aged as aged_of, begins as begins_of, following as following_of, rest_after as rest_after_of};
+ghost use Rattle.can_bus.specs.Walks.{IsPassed};
+
+use can_frame::Level;
+
+/// An attempt to send, counted from 0 within a call, and how many bit times ago it began.
+#[derive(Clone, Copy, Debug, PartialEq, Eq)]
+pub struct Attempt {
+    pub number: u64,
+    pub offset: u64,
+}
+
+/// The bus is free once so many recessive levels were recorded in a row.
+pub(crate) const FREE: u8 = 11;
+
+/// The attempt that begins behind this one.
+fn following(latest: Option<Attempt>) -> Attempt
+    requires { IsPassed latest (2 ^ 64 - 1) }
+    ensures { result ≡ following_of latest }
+{
+    let number = match latest {
+        None => 0,
+        Some(attempt) => attempt.number + 1,
+    };
+    Attempt { number, offset: 0 }
+}
+
+/// The attempt one bit time later.
+fn aged(latest: Option<Attempt>) -> Option<Attempt>
+    requires { IsPassed latest (2 ^ 64 - 1) }
+    ensures { result ≡ aged_of latest }
+{
+    match latest {
+        None => None,
+        Some(Attempt { number, offset }) => Some(Attempt {
+            number,
+            offset: offset + 1,
+        }),
+    }
+}
+
+/// Whether an attempt begins at this wired level, behind so many recessive recorded ones.
+fn begins(rest: u8, wired: Level) -> bool
+    ensures { result ≡ begins_of rest wired }
+{
+    match wired {
+        Level::Dominant => rest == FREE,
+        Level::Recessive => false,
+    }
+}
+
+/// The latest attempt, in a bit time with this wired level.
+pub(crate) fn attempt_now(latest: Option<Attempt>, rest: u8, wired: Level) -> Option<Attempt>
+    requires { IsPassed latest (2 ^ 64 - 1) }
+    ensures { result ≡ (if begins_of rest wired then Some (following_of latest) else aged_of latest) }
+{
+    if begins(rest, wired) {
+        Some(following(latest))
+    } else {
+        aged(latest)
+    }
+}
+
+/// How many recessive levels were recorded last, with this one, counted up to eleven.
+pub(crate) fn rest_after(rest: u8, level: Level) -> u8
+    ensures { result ≡ rest_after_of rest level }
+{
+    match level {
+        Level::Dominant => 0,
+        Level::Recessive => if rest < FREE { rest + 1 } else { FREE },
+    }
+}

@@ -1,0 +1,96 @@
+ghost use Rattle.std.specs.Prelude.{◌≡◌, ◌≤◌, length, map};
+ghost use Rattle.can_node.specs.Ports.{port_drives};
+ghost use Rattle.can_bus.specs.Wired.{level_bit, wired as wired_of};
+
+use can_frame::Level;
+use can_node::Port;
+use std::simd::prelude::*;
+
+/// How many levels are wired at once.
+const LANES: usize = 32;
+
+/// How many ports' levels are gathered at once: as many as a bus may have.
+const PIECE: usize = 64;
+
+/// A level as a lane.
+fn bit(level: Level) -> u8
+    ensures { result ≡ level_bit level }
+{
+    match level {
+        Level::Dominant => 0,
+        Level::Recessive => 1,
+    }
+}
+
+/// A full vector of levels as lanes.
+fn lanes(levels: &[Level; LANES]) -> u8x32
+    ensures lanes { result ≡ map level_bit levels.now }
+    ensures whole { length result ≡ 32 }
+{
+    let mut bits = [0; LANES];
+    for place in 0..LANES {
+        bits[place] = bit(levels[place]);
+    }
+    u8x32::from_array(bits)
+}
+
+/// The wired level of a full vector of levels, by lanes.
+fn wired_lanes(levels: &[Level; LANES]) -> Level
+    ensures { result ≡ wired_of levels.now }
+{
+    let dominant = lanes(levels).simd_eq(u8x32::splat(0)).to_bitmask();
+    Level::from_bool(dominant == 0)
+}
+
+/// The wired level of a few levels, one after another.
+fn wired_plainly(levels: &[Level]) -> Level
+    ensures { result ≡ wired_of levels.now }
+{
+    for level in levels {
+        if !level.is_recessive() {
+            return Level::Dominant;
+        }
+    }
+    Level::Recessive
+}
+
+/// The level of a wire that is driven by these levels: dominant if one of them is, else recessive
+/// (Bosch CAN 2.0 part B, section 2). Full vectors of levels are wired by lanes.
+pub fn wired(levels: &[Level]) -> Level
+    ensures { result ≡ wired_of levels.now }
+{
+    let (vectors, rest) = levels.as_chunks::<LANES>();
+    for vector in vectors {
+        if !wired_lanes(vector).is_recessive() {
+            return Level::Dominant;
+        }
+    }
+    wired_plainly(rest)
+}
+
+/// What so few ports drive together.
+fn wired_piece<P: Port>(ports: &[P]) -> Level
+    requires { length ports.now ≤ 64 }
+    ensures { result ≡ wired_of (map port_drives (map P.port ports.now)) }
+{
+    let mut levels = [Level::Recessive; PIECE];
+    for (node, port) in ports.iter().enumerate() {
+        levels[node] = port.drive();
+    }
+    wired(&levels)
+}
+
+/// What the ports drive together.
+pub(crate) fn wired_level<P: Port>(ports: &[P]) -> Level
+    ensures { result ≡ wired_of (map port_drives (map P.port ports.now)) }
+{
+    let mut ahead = ports;
+    while !ahead.is_empty() {
+        let (piece, rest) = ahead.split_at(ahead.len().min(PIECE));
+        if !wired_piece(piece).is_recessive() {
+            return Level::Dominant;
+        }
+        ahead = rest;
+    }
+    Level::Recessive
+}

@@ -1,0 +1,150 @@
+-- Which controllers send a frame as it goes on, level by level.
+use Rattle.std.proofs.Common.{◌≡◌, ◌≢◌, ℕ, ◌+◌, ◌<◌, ◌≤◌, Option, Some, None, [], ◌∷◌, length, take, refl, sym, ◌∙◌, ap, subst, arith, inl, inr}
+use Rattle.std.proofs.lemmas.Bool.{cond-true, cond-false, cases_lt, cases_eq, false_from_ne_true}
+use Rattle.std.proofs.lemmas.List.{take-take, take-append-le, get_or-take}
+use Rattle.std.specs.Cmp.Lexicographic.{pointwise, pointwise_decides}
+use Rattle.can_frame.specs.declared.level.Level.TheVariants.{Dominant, Recessive}
+use Rattle.can_frame.specs.Levels.{same}
+use Rattle.can_frame.specs.Parts.{Parts, IsFrame}
+use Rattle.can_code.specs.Stuffing.{stuffed}
+use Rattle.can_code.specs.Wire.{head, unstuffed, stuffed_part}
+use Rattle.can_code.specs.Layout.{level_at, rtr_place}
+use Rattle.can_code.specs.Sending.{sent_level}
+use Rattle.can_code.proofs.WireFronts.{front_at, front_at-same, sent_next, sent_bit}
+use Rattle.can_code.proofs.WireOrder.{FirstDifference, first_difference}
+use Rattle.can_mac.specs.declared.phase.Role.{Role}
+use Rattle.can_mac.specs.declared.phase.Role.TheVariants.{Receiver, Sender}
+use Rattle.can_mac.specs.State.{IsWaiting}
+use Rattle.can_mac.specs.Frames.{line, role_at, GoesBehind}
+use Rattle.can_mac.proofs.PartEnds.{same-Decides}
+use Rattle.can_mac.proofs.FrameEnds.{end_levels}
+use Rattle.can_mac.proofs.FrameParts.{Takes, line-parts, line-early}
+
+-- a sender of g loses arbitration against f with the level behind the first o
+pub record Loses (f g : Parts) (o : ℕ) : Type 0 where
+  pub low : level_at (stuffed_part f) o ≡ Dominant
+  pub free : (front_at f o).run ≢ 5
+  pub sent : sent_level g (length (front_at f o).unstuffed) ≡ Recessive
+  pub within : length (front_at f o).unstuffed ≤ rtr_place g.id.extended
+  pub was : role_at f (Some g) o ≡ Sender g
+  pub is : role_at f (Some g) (o + 1) ≡ Receiver
+
+module _ (f g : Parts) (o : ℕ) where
+  role-alike : take o (line g) ≡ take o (line f) → role_at f (Some g) o ≡ Sender g
+  role-alike alike = cond-true (pointwise same (take o (line g)) (take o (line f))) (Sender g) Receiver ((pointwise_decides same-Decides (take o (line g)) (take o (line f))).1 alike)
+
+  role-apart : take o (line g) ≢ take o (line f) → role_at f (Some g) o ≡ Receiver
+  role-apart apart =
+      cond-false (pointwise same (take o (line g)) (take o (line f))) (Sender g) Receiver
+      (false_from_ne_true _ (λ e. apart ((pointwise_decides same-Decides (take o (line g)) (take o (line f))).0 e)))
+
+-- the sender of f
+pub role-own : (f : Parts) (o : ℕ) → role_at f (Some f) o ≡ Sender f
+role-own f o = role-alike f f o refl
+
+-- f and g part behind their first d levels
+module _ (f g : Parts) (f_is : IsFrame f) (g_is : IsFrame g) (d : ℕ) (parts : FirstDifference f g d) where
+  beginning : (h : Parts) (o : ℕ) → o ≤ d → d < length (stuffed_part h) → take o (line h) ≡ take o (take d (stuffed_part h))
+  beginning h o within more =
+      ap (take o) (line-parts h) ∙ take-append-le o (stuffed_part h) end_levels (omega arith) ∙ sym (take-take o d (stuffed_part h) within)
+
+  -- up to there they are alike
+  alike : (o : ℕ) → o ≤ d → take o (line g) ≡ take o (line f)
+  alike o within = beginning g o within parts.more_g ∙ ap (take o) (sym parts.same) ∙ sym (beginning f o within parts.more_f)
+
+  -- behind it they are not
+  apart : (o : ℕ) → d < o → take o (line g) ≢ take o (line f)
+  apart o past one =
+      let low = parts.wins.low in
+      let high = parts.wins.high in
+      let at : (h : Parts) → d < length (stuffed_part h) → level_at (take o (line h)) d ≡ level_at (stuffed_part h) d =
+      (λ h more. get_or-take o (line h) d Dominant past ∙ line-early h d more) in
+      let both = sym (at g parts.more_g) ∙ ap (λ l. level_at l d) one ∙ at f parts.more_f in
+      cc
+
+  pub contender-early : (o : ℕ) → o ≤ d → role_at f (Some g) o ≡ Sender g
+  contender-early o within = role-alike f g o (alike o within)
+
+  pub contender-late : (o : ℕ) → d < o → role_at f (Some g) o ≡ Receiver
+  contender-late o past = role-apart f g o (apart o past)
+
+  -- before it the contender drives what the bus has
+  pub contender-takes : (o : ℕ) → 0 < o → o < d → Takes (Sender g) (front_at f o) (level_at (stuffed_part f) o)
+  contender-takes o some within =
+      let more_f = parts.more_f in
+      let more_g = parts.more_g in
+      let one : take o (stuffed_part f) ≡ take o (stuffed_part g) =
+      sym (take-take o d (stuffed_part f) (omega arith)) ∙ ap (take o) parts.same ∙ take-take o d (stuffed_part g) (omega arith) in
+      let same_level : level_at (stuffed_part g) o ≡ level_at (stuffed_part f) o =
+      sym (get_or-take d (stuffed_part g) o Dominant within) ∙ ap (λ l. level_at l o) (sym parts.same) ∙ get_or-take d (stuffed_part f) o Dominant within in
+      subst (λ v. Takes (Sender g) v (level_at (stuffed_part f) o)) (sym (front_at-same f g o one)) (sym (sent_next g g_is o some (omega arith)) ∙ same_level)
+
+  -- there it loses
+  pub contender-loses : Loses f g d
+  contender-loses =
+      let one = front_at-same f g d parts.same in
+      let other : (front_at g d).run ≢ 5 = λ five. parts.wins.free (ap (λ v. v.run) one ∙ five) in
+      record {
+        low = parts.wins.low;
+        free = parts.wins.free;
+        sent = ap (λ v. sent_level g (length v.unstuffed)) one ∙ sym (sent_bit g g_is d parts.some parts.more_g other) ∙ parts.wins.high;
+        within = parts.wins.within;
+        was = contender-early d (omega arith);
+        is = contender-late (d + 1) (omega arith);
+      }
+
+-- what a controller is to the next level of the stuffed part of f: it stays what it is and takes the level, or it loses arbitration
+pub data Standing (f : Parts) (waiting : Option Parts) (o : ℕ) : Type 0 where
+  stays : role_at f waiting o ≡ role_at f waiting (o + 1) → Takes (role_at f waiting o) (front_at f o) (level_at (stuffed_part f) o) → Standing f waiting o
+  loses : (g : Parts) → waiting ≡ Some g → Loses f g o → Standing f waiting o
+
+stays-as : (f : Parts) (waiting : Option Parts) (o : ℕ) (role : Role) → role_at f waiting o ≡ role → role_at f waiting (o + 1) ≡ role
+    → Takes role (front_at f o) (level_at (stuffed_part f) o) → Standing f waiting o
+stays-as f waiting o role was is takes = stays (was ∙ sym is) (subst (λ r. Takes r (front_at f o) (level_at (stuffed_part f) o)) (sym was) takes)
+
+own-standing : (f : Parts) → IsFrame f → (o : ℕ) → 0 < o → o < length (stuffed_part f) → Standing f (Some f) o
+own-standing f is o some more = stays-as f (Some f) o (Sender f) (role-own f o) (role-own f (o + 1)) (sym (sent_next f is o some more))
+
+pub standing : (f : Parts) (waiting : Option Parts) → IsFrame f → IsWaiting waiting → GoesBehind f waiting → (o : ℕ) → 0 < o → o < length (stuffed_part f) → Standing f waiting o
+standing f None f_is is behind o some more = stays refl tt
+standing f (Some g) f_is is (inl own) o some more = subst (λ h. Standing f (Some h) o) (sym own) (own-standing f f_is o some more)
+standing f (Some g) f_is g_is (inr before) o some more =
+    let first = first_difference f g f_is g_is before in
+    let d = first.0 in
+    let parts = first.1 in
+    elim (cases_lt o d) [
+      | inl early ↦
+          stays-as f (Some g) o (Sender g) (contender-early f g f_is g_is d parts o (omega (arith, early))) (contender-early f g f_is g_is d parts (o + 1) (omega (arith, early)))
+          (contender-takes f g f_is g_is d parts o some early)
+      | inr rest ↦ elim (cases_eq o d) [
+        | inl here ↦ loses g refl (subst (Loses f g) (sym here) (contender-loses f g f_is g_is d parts))
+        | inr later ↦
+            let past : d < o = omega (arith, rest, later) in
+            stays-as f (Some g) o Receiver (contender-late f g f_is g_is d parts o past) (contender-late f g f_is g_is d parts (o + 1) (omega arith)) tt
+      ]
+    ]
+
+-- behind the stuffed part there is no sender but that of f
+pub data Ending (f : Parts) (waiting : Option Parts) : Type 0 where
+  receives : ((o : ℕ) → length (stuffed_part f) ≤ o → role_at f waiting o ≡ Receiver) → Ending f waiting
+  sends : ((o : ℕ) → role_at f waiting o ≡ Sender f) → Ending f waiting
+
+pub ending : (f : Parts) (waiting : Option Parts) → IsFrame f → IsWaiting waiting → GoesBehind f waiting → Ending f waiting
+ending f None f_is is behind = receives (λ o past. refl)
+ending f (Some g) f_is is (inl own) = sends (λ o. subst (λ h. role_at f (Some h) o ≡ Sender f) (sym own) (role-own f o))
+ending f (Some g) f_is g_is (inr before) =
+    let first = first_difference f g f_is g_is before in
+    let more = first.1.more_f in
+    receives (λ o past. contender-late f g f_is g_is first.0 first.1 o (omega arith))
+
+line-first : (f : Parts) → take 1 (line f) ≡ Dominant ∷ []
+unfolding stuffed_part unstuffed stuffed head
+line-first f = refl
+
+-- all senders start alike
+pub role-start : (f g : Parts) → role_at f (Some g) 1 ≡ Sender g
+role-start f g = role-alike f g 1 (line-first g ∙ sym (line-first f))
+
+pub line-start : (f : Parts) → level_at (line f) 0 ≡ Dominant
+unfolding stuffed_part unstuffed stuffed head
+line-start f = refl

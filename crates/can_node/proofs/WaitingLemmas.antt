@@ -1,0 +1,210 @@
+-- Which frame of a queue waits, as frames come and go.
+use Rattle.std.proofs.Common.{◌≡◌, ◌≢◌, ℕ, zero, suc, ◌+◌, ◌<◌, ◌≤◌, Bool, true, false, cond, not, List, [], ◌∷◌, ◌++◌, length, take, drop, refl, sym, ◌∙◌, ap, subst, arith, inl, inr, add-one}
+use Rattle.std.specs.Prelude.{Option, Some, None, slice_get, ◌⊎◌, nat_lt, position, remove}
+use Rattle.std.specs.List.{position_or_len}
+use Rattle.std.specs.declared.cmp.Ordering.{Ordering}
+use Rattle.std.specs.declared.cmp.Ordering.TheVariants.{Less, Equal, Greater}
+use Rattle.std.proofs.lemmas.Bool.{cond-true, cond-false, cases_Bool, ltb-false}
+use Rattle.can_frame.specs.Parts.{Parts, IsFrame}
+use Rattle.can_frame.specs.Arbitration.{arbitration_field, field_cmp, Before}
+use Rattle.can_frame.proofs.BeforeLemmas.{Before-trans, Before-one_way, Before-differs, Ranked, Tells}
+use Rattle.can_frame.proofs.FieldLemmas.{fields_ranked, key_cmp-tells}
+use Rattle.can_node.specs.Ports.{is_less, is_equal, goes_before, same_field, earlier, waiting, without}
+
+-- ---- the tests of two frames, and the order of their arbitration fields
+
+is_less-Less : (o : Ordering) → is_less o ≡ true → o ≡ Less
+is_less-Less Less e = refl
+is_less-Less Equal e = cc
+is_less-Less Greater e = cc
+
+is_equal-Equal : (o : Ordering) → is_equal o ≡ true → o ≡ Equal
+is_equal-Equal Less e = cc
+is_equal-Equal Equal e = refl
+is_equal-Equal Greater e = cc
+
+abbrev pub Wins : Parts → Parts → Type 0
+Wins f g = Before (arbitration_field f) (arbitration_field g)
+
+abbrev pub Shares : Parts → Parts → Type 0
+Shares f g = arbitration_field f ≡ arbitration_field g
+
+module _ (f g : Parts) where
+  compared : Ordering
+  compared = field_cmp (arbitration_field f) (arbitration_field g)
+
+  pub goes_before-Wins : goes_before f g ≡ true → Wins f g
+  goes_before-Wins e = (key_cmp-tells f g).less.0 (is_less-Less (field_cmp (arbitration_field f) (arbitration_field g)) e)
+
+  pub Wins-goes_before : Wins f g → goes_before f g ≡ true
+  Wins-goes_before h = ap is_less ((key_cmp-tells f g).less.1 h)
+
+  pub not_before : goes_before f g ≡ false → Wins f g → ⊥
+  not_before e h = let t = Wins-goes_before h in cc
+
+  pub same_field-Shares : same_field f g ≡ true → Shares f g
+  same_field-Shares e = (key_cmp-tells f g).equal.0 (is_equal-Equal (field_cmp (arbitration_field f) (arbitration_field g)) e)
+
+  pub Shares-same_field : Shares f g → same_field f g ≡ true
+  Shares-same_field h = ap is_equal ((key_cmp-tells f g).equal.1 h)
+
+  pub not_same : same_field f g ≡ false → Shares f g → ⊥
+  not_same e h = let t = Shares-same_field h in cc
+
+-- of three frames: where the first goes before the third, it goes before the second, or the second before the third
+pub Wins-between : (f g h : Parts) → Wins f h → Wins f g ⊎ Wins g h
+Wins-between f g h w = by_rank (fields_ranked f g)
+  where
+    by_rank : Ranked (arbitration_field f) (arbitration_field g) → Wins f g ⊎ Wins g h
+    by_rank (inl a) = inl a
+    by_rank (inr (inl e)) = inr (subst (λ field. Before field (arbitration_field h)) e w)
+    by_rank (inr (inr b)) = inr (Before-trans (arbitration_field g) (arbitration_field f) (arbitration_field h) b w)
+
+module _ (f g h : Parts) where
+  before_trans : goes_before f g ≡ true → goes_before g h ≡ true → goes_before f h ≡ true
+  before_trans a b = Wins-goes_before f h (Before-trans (arbitration_field f) (arbitration_field g) (arbitration_field h) (goes_before-Wins f g a) (goes_before-Wins g h b))
+
+  none_between : goes_before f g ≡ false → goes_before g h ≡ false → goes_before f h ≡ false
+  none_between a b =
+      elim (cases_Bool (goes_before f h)) [
+        | inl t ↦ absurd (elim (Wins-between f g h (goes_before-Wins f h t)) [ inl x ↦ not_before f g a x | inr y ↦ not_before g h b y ])
+        | inr n ↦ n
+      ]
+
+-- ---- places of a list
+
+slice_get-front : (xs ys : List Parts) (n : ℕ) (x : Parts) → slice_get xs n ≡ Some x → slice_get (xs ++ ys) n ≡ Some x
+slice_get-front [] ys n x e = cc
+slice_get-front (y ∷ xs) ys zero x e = e
+slice_get-front (y ∷ xs) ys (suc n) x e = slice_get-front xs ys n x e
+
+slice_get-last : (xs : List Parts) (x : Parts) → slice_get (xs ++ x ∷ []) (length xs) ≡ Some x
+slice_get-last [] x = refl
+slice_get-last (y ∷ xs) x = slice_get-last xs x
+
+-- what holds of each of a list's elements holds of each of those that are left
+pub each-remove : (P : Parts → Type 0) (xs : List Parts) (place : ℕ) → ((n : ℕ) (x : Parts) → slice_get xs n ≡ Some x → P x) →
+    (n : ℕ) (x : Parts) → slice_get (remove xs place) n ≡ Some x → P x
+each-remove P [] zero h n x e = h n x e
+each-remove P [] (suc place) h n x e = h n x e
+each-remove P (y ∷ xs) zero h n x e = h (suc n) x e
+each-remove P (y ∷ xs) (suc place) h zero x e = h 0 x e
+each-remove P (y ∷ xs) (suc place) h (suc n) x e = each-remove P xs place (λ m z k. h (suc m) z k) n x e
+
+remove_past : (xs : List Parts) (n : ℕ) → length xs ≤ n → remove xs n ≡ xs
+remove_past [] zero h = refl
+remove_past [] (suc n) h = refl
+remove_past (x ∷ xs) zero h = absurd (omega arith)
+remove_past (x ∷ xs) (suc n) h = ap (λ l. x ∷ l) (remove_past xs n (omega arith))
+
+-- ---- a frame more
+
+-- which of two goes, by any test
+abbrev pick : (Parts → Parts → Bool) → Parts → Parts → Parts
+pick test f g = cond (test g f) g f
+
+-- of three it doesn't matter which two are compared first
+pick_assoc : (test : Parts → Parts → Bool) (f g h : Parts) → (test h g ≡ true → test g f ≡ true → test h f ≡ true) → (test h g ≡ false → test g f ≡ false → test h f ≡ false) →
+    pick test f (pick test g h) ≡ pick test (pick test f g) h
+pick_assoc test f g h trans between =
+    elim (cases_Bool (test h g)) [
+      | inl a ↦ elim (cases_Bool (test g f)) [
+        | inl b ↦ let c : test h f ≡ true = trans a b in simp (a, b, c)
+        | inr b ↦ simp (a, b)
+      ]
+      | inr a ↦ elim (cases_Bool (test g f)) [
+        | inl b ↦ simp (a, b)
+        | inr b ↦ let c : test h f ≡ false = between a b in simp (a, b, c)
+      ]
+    ]
+
+-- what waits when a frame is put behind those of which this one waits
+abbrev pub behind : Option Parts → Parts → Option Parts
+behind None f = Some f
+behind (Some w) f = Some (earlier w (Some f))
+
+earlier_behind : (f : Parts) (w : Option Parts) (g : Parts) → Some (earlier f (behind w g)) ≡ behind (Some (earlier f w)) g
+earlier_behind f None g = refl
+earlier_behind f (Some w) g = ap Some (pick_assoc goes_before f w g (before_trans g w f) (none_between g w f))
+
+pub waiting-push : (queue : List Parts) (f : Parts) → waiting (queue ++ f ∷ []) ≡ behind (waiting queue) f
+unfolding waiting
+waiting-push [] f = refl
+waiting-push (g ∷ queue) f = ap (λ w. Some (earlier g w)) (waiting-push queue f) ∙ earlier_behind g (waiting queue) f
+
+-- ---- a frame less
+
+-- one frame in front: the test of it decides
+without_by : (f g : Parts) (queue : List Parts) (same : Bool) (n : ℕ) → without f queue ≡ remove queue n →
+    cond same queue (g ∷ without f queue) ≡ remove (g ∷ queue) (cond (not same) (1 + n) 0)
+without_by f g queue true n e = refl
+without_by f g queue false n e = ap (λ q. g ∷ q) e ∙ ap (remove (g ∷ queue)) (let k : suc n ≡ 1 + n = omega arith in k)
+
+without-remove : (f : Parts) (queue : List Parts) → without f queue ≡ remove queue (position_or_len (same_field f) queue)
+unfolding without
+without-remove f [] = refl
+without-remove f (g ∷ queue) = without_by f g queue (same_field f g) (position_or_len (same_field f) queue) (without-remove f queue)
+
+place_found : (b : Bool) (m n : ℕ) → cond b (Some m) None ≡ Some n → m ≡ n
+place_found true m n e = cc
+place_found false m n e = cc
+
+none_found : (b : Bool) (m : ℕ) → cond b (Some m) None ≡ None → b ≡ false
+none_found true m e = cc
+none_found false m e = refl
+
+pub without-found : (f : Parts) (queue : List Parts) (place : ℕ) → position (same_field f) queue ≡ Some place → without f queue ≡ remove queue place
+without-found f queue place e =
+    let len = position_or_len (same_field f) queue in
+    without-remove f queue ∙ ap (remove queue) (place_found (nat_lt len (length queue)) len place e)
+
+pub without-none : (f : Parts) (queue : List Parts) → position (same_field f) queue ≡ None → without f queue ≡ queue
+without-none f queue e =
+    let len = position_or_len (same_field f) queue in
+    let past : length queue ≤ len = ltb-false len (length queue) (none_found (nat_lt len (length queue)) len e) in
+    without-remove f queue ∙ remove_past queue len past
+
+-- ---- the place of the frame that waits
+
+pub waiting-empty : (queue : List Parts) → queue ≡ [] → slice_get queue 0 ≡ waiting queue
+unfolding waiting
+waiting-empty queue e = ap (λ q. slice_get q 0) e ∙ sym (ap waiting e)
+
+pub first-begins : (queue : List Parts) → slice_get queue 0 ≡ waiting (take 1 queue)
+unfolding waiting
+first-begins [] = refl
+first-begins (f ∷ queue) = refl
+
+-- the frame at a place waits with one more frame behind the queue, unless this goes before it
+module _ (queue : List Parts) (f w : Parts) (waits : waiting queue ≡ Some w) where
+  waits_behind : waiting (queue ++ f ∷ []) ≡ Some (earlier w (Some f))
+  waits_behind = waiting-push queue f ∙ ap (λ o. behind o f) waits
+
+  pub next-stays : (next : ℕ) → slice_get queue next ≡ Some w → goes_before f w ≡ false → slice_get (queue ++ f ∷ []) next ≡ waiting (queue ++ f ∷ [])
+  next-stays next stands after = slice_get-front queue (f ∷ []) next w stands ∙ ap Some (sym (cond-false (goes_before f w) f w after)) ∙ sym waits_behind
+
+  pub next-new : goes_before f w ≡ true → slice_get (queue ++ f ∷ []) (length queue) ≡ waiting (queue ++ f ∷ [])
+  next-new before = slice_get-last queue f ∙ ap Some (sym (cond-true (goes_before f w) f w before)) ∙ sym waits_behind
+
+pub next-only : (queue : List Parts) (f : Parts) → waiting queue ≡ None → slice_get (queue ++ f ∷ []) (length queue) ≡ waiting (queue ++ f ∷ [])
+next-only queue f none = slice_get-last queue f ∙ sym (waiting-push queue f ∙ ap (λ o. behind o f) none)
+
+take_next : (queue : List Parts) (n : ℕ) (f : Parts) → slice_get queue n ≡ Some f → take (n + 1) queue ≡ take n queue ++ f ∷ []
+take_next queue n f e = ap (λ k. take k queue) (add-one n) ∙ by_suc queue n e
+  where
+    by_suc : (xs : List Parts) (k : ℕ) → slice_get xs k ≡ Some f → take (suc k) xs ≡ take k xs ++ f ∷ []
+    by_suc [] k h = cc
+    by_suc (x ∷ xs) zero h = let s : x ≡ f = cc in ap (λ y. y ∷ []) s
+    by_suc (x ∷ xs) (suc k) h = ap (λ l. x ∷ l) (by_suc xs k h)
+
+-- one frame more is looked at, which stands behind those that were
+module _ (queue : List Parts) (place first : ℕ) (f w : Parts) (at : slice_get queue place ≡ Some f) (stands : slice_get queue first ≡ Some w)
+    (goes_first : slice_get queue first ≡ waiting (take place queue)) where
+  waits_next : waiting (take (place + 1) queue) ≡ Some (earlier w (Some f))
+  waits_next = ap waiting (take_next queue place f at) ∙ waits_behind (take place queue) f w (sym goes_first ∙ stands)
+
+  pub first-new : goes_before f w ≡ true → slice_get queue place ≡ waiting (take (place + 1) queue)
+  first-new before = at ∙ ap Some (sym (cond-true (goes_before f w) f w before)) ∙ sym waits_next
+
+  pub first-stays : goes_before f w ≡ false → slice_get queue first ≡ waiting (take (place + 1) queue)
+  first-stays after = stands ∙ ap Some (sym (cond-false (goes_before f w) f w after)) ∙ sym waits_next

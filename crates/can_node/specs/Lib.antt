@@ -1,0 +1,4 @@
+pub mod Ports
+pub mod Listening
+pub mod Waiting
+pub mod MacProps

@@ -1,0 +1,70 @@
+-- What a port may claim of the levels that it has seen, in words of levels, spellings and events alone.
+use Rattle.std.specs.Prelude.{ℕ, ◌≡◌, ◌+◌, ◌<◌, ◌≤◌, Bool, true, false, List, [], ◌∷◌, ◌++◌, length, take, drop, replicate, Option, Some, None, slice_get, ⊤}
+use Rattle.can_frame.specs.declared.level.Level.{Level}
+use Rattle.can_frame.specs.declared.level.Level.TheVariants.{Recessive}
+use Rattle.can_frame.specs.Parts.{Parts}
+use Rattle.can_code.specs.Wire.{wire}
+use Rattle.can_code.specs.Heard.{HeardParts, Spells}
+use Rattle.can_mac.specs.declared.event.Event.{Event}
+use Rattle.can_mac.specs.declared.event.Event.TheVariants.{Sent, Received, Lost, Error, Overload, WentOff, Recovered}
+
+-- these levels are the last ones up to time t, that of t among them
+abbrev pub EndsAt : List Level → ℕ → List Level → Type 0
+EndsAt levels t stretch = (before : List Level) × (take (t + 1) levels ≡ before ++ stretch)
+
+-- a frame that was received stands in the levels as a spelling that ends one level later (Bosch CAN 2.0
+-- part B, section 5: it is valid for a receiver up to the last but one level of its end of frame)
+pub record WasSpelled (levels : List Level) (t : ℕ) (f : Parts) : Type 0 where
+  pub h : HeardParts
+  pub spelled : List Level
+  pub last : Level
+  pub spells : Spells h (spelled ++ last ∷ [])
+  pub holds : h.frame ≡ f
+  pub ends : EndsAt levels t spelled
+
+-- what the event of time t claims of the levels
+abbrev pub IsTrueAt : List Level → ℕ → Option Event → Type 0
+IsTrueAt levels t (Some (Received f)) = WasSpelled levels t f
+IsTrueAt levels t (Some (Sent f)) = EndsAt levels t (wire f)
+IsTrueAt levels t (Some Lost) = ⊤
+IsTrueAt levels t (Some (Error kind)) = ⊤
+IsTrueAt levels t (Some Overload) = ⊤
+IsTrueAt levels t (Some WentOff) = ⊤
+IsTrueAt levels t (Some Recovered) = ⊤
+IsTrueAt levels t None = ⊤
+
+-- each frame that was received or sent stands in the levels
+abbrev pub Took : List Level → List (Option Event) → Type 0
+Took levels events = (t : ℕ) (event : Option Event) → slice_get events t ≡ Some event → IsTrueAt levels t event
+
+-- after these a controller waits for the bus to rest
+abbrev pub is_upset : Option Event → Bool
+is_upset (Some (Error kind)) = true
+is_upset (Some Overload) = true
+is_upset (Some WentOff) = true
+is_upset (Some (Sent f)) = false
+is_upset (Some (Received f)) = false
+is_upset (Some Lost) = false
+is_upset (Some Recovered) = false
+is_upset None = false
+
+-- these tell of a frame
+abbrev pub is_of_frame : Option Event → Bool
+is_of_frame (Some (Sent f)) = true
+is_of_frame (Some (Received f)) = true
+is_of_frame (Some Lost) = true
+is_of_frame (Some (Error kind)) = false
+is_of_frame (Some Overload) = false
+is_of_frame (Some WentOff) = false
+is_of_frame (Some Recovered) = false
+is_of_frame None = false
+
+-- ten recessive levels in a row stand after time s and before time t: eight of a delimiter and two of
+-- intermission (Bosch CAN 2.0 part B, sections 3.2.3, 3.2.4 and 3.2.5)
+abbrev pub RestsBetween : List Level → ℕ → ℕ → Type 0
+RestsBetween levels s t = (n : ℕ) × (s < n) × (n + 10 ≤ t) × (take 10 (drop n levels) ≡ replicate 10 Recessive)
+
+-- between an error, an overload or going off and the next event of a frame the bus rests
+abbrev pub Rested : List Level → List (Option Event) → Type 0
+Rested levels events =
+    (s t : ℕ) (upset told : Option Event) → s < t → slice_get events s ≡ Some upset → slice_get events t ≡ Some told → is_upset upset ≡ true → is_of_frame told ≡ true → RestsBetween levels s t

@@ -1,0 +1,136 @@
+-- A port: a controller with the frames that wait to be sent, and the frames that it has taken and sent.
+use Rattle.std.specs.Prelude.{ℕ, ◌≡◌, ◌≤◌, ◌+◌, ◌-◌, ◌^◌, nat_lt, min, Bool, true, false, if◌then◌else◌, List, [], ◌∷◌, ◌++◌, length, Option, Some, None, slice_get}
+use Rattle.std.specs.declared.cmp.Ordering.{Ordering}
+use Rattle.std.specs.declared.cmp.Ordering.TheVariants.{Less, Equal, Greater}
+use Rattle.can_frame.specs.declared.level.Level.{Level}
+use Rattle.can_frame.specs.Parts.{Parts, IsFrame}
+use Rattle.can_frame.specs.Arbitration.{arbitration_field, field_cmp}
+use Rattle.can_mac.specs.declared.event.Event.{Event}
+use Rattle.can_mac.specs.declared.event.Event.TheVariants.{Sent, Received, Lost, Error, Overload, WentOff, Recovered}
+use Rattle.can_mac.specs.declared.phase.Phase.TheVariants.{Joining, Idle, StuffedPart, CrcDelimiter, AckSlot, AckDelimiter, EndOfFrame, ErrorFlag, PassiveFlag, OverloadFlag, AfterFlag, Delimiter, Intermission, Suspend, BusOff}
+use Rattle.can_mac.specs.State.{MacPhase, MacState, IsMac}
+use Rattle.can_mac.specs.Machine.{mac_drives, mac_step, holding}
+use Rattle.can_node.specs.declared.entry.Entry.{Entry}
+
+-- the controller; the frames that wait, in the order in which they were offered, and how many there may
+-- be; the log and how many entries it may have; and how many entries it had no room for
+pub record PortState : Type 0 where
+  pub mac : MacState
+  pub queue : List Parts
+  pub queue_room : ℕ
+  pub log : List Entry
+  pub log_room : ℕ
+  pub missed : ℕ
+
+-- a port with these rooms, before anything was offered to it
+abbrev pub fresh_port : MacState → ℕ → ℕ → PortState
+fresh_port mac queue_room log_room = record { mac = mac; queue = []; queue_room = queue_room; log = []; log_room = log_room; missed = 0 }
+
+abbrev pub is_less : Ordering → Bool
+is_less Less = true
+is_less Equal = false
+is_less Greater = false
+
+abbrev pub is_equal : Ordering → Bool
+is_equal Less = false
+is_equal Equal = true
+is_equal Greater = false
+
+-- the order in which frames win arbitration
+abbrev pub goes_before : Parts → Parts → Bool
+goes_before f g = is_less (field_cmp (arbitration_field f) (arbitration_field g))
+
+abbrev pub same_field : Parts → Parts → Bool
+same_field f g = is_equal (field_cmp (arbitration_field f) (arbitration_field g))
+
+-- of two, the one that goes before the other, else the first
+abbrev pub earlier : Parts → Option Parts → Parts
+earlier f None = f
+earlier f (Some g) = if goes_before g f then g else f
+
+-- the frame that waits: the first in the queue of those that no other goes before
+unfoldable pub waiting : List Parts → Option Parts
+waiting [] = None
+waiting (f ∷ queue) = Some (earlier f (waiting queue))
+
+-- the queue without the first frame that has the arbitration field of this one
+unfoldable pub without : Parts → List Parts → List Parts
+without f [] = []
+without f (g ∷ queue) = if same_field f g then queue else g ∷ without f queue
+
+-- the highest number of missed entries that is told apart
+abbrev pub missed_limit : ℕ
+missed_limit = 2 ^ 32 - 1
+
+-- one entry more in the log, or one missed where the log is full
+abbrev pub logged : Entry → PortState → PortState
+logged entry p = if nat_lt (length p.log) p.log_room then record p { log = p.log ++ entry ∷ [] } else record p { missed = min (p.missed + 1) missed_limit }
+
+-- what an event makes of queue and log
+abbrev pub noted : Option Event → PortState → PortState
+noted (Some (Sent f)) p = logged (record { frame = f; sent = true }) (record p { queue = without f p.queue })
+noted (Some (Received f)) p = logged (record { frame = f; sent = false }) p
+noted (Some Lost) p = p
+noted (Some (Error kind)) p = p
+noted (Some Overload) p = p
+noted (Some WentOff) p = p
+noted (Some Recovered) p = p
+noted None p = p
+
+-- what a port drives
+unfoldable pub port_drives : PortState → Level
+port_drives p = mac_drives p.mac (waiting p.queue)
+
+-- the event of a bit time in which a port samples this level
+abbrev pub port_event : PortState → Level → Option Event
+port_event p seen = (mac_step p.mac (waiting p.queue) seen).1
+
+-- the port after it
+unfoldable pub port_step : PortState → Level → PortState
+port_step p seen = noted (port_event p seen) (record p { mac = (mac_step p.mac (waiting p.queue) seen).0 })
+
+-- one more frame waits
+abbrev pub offered : Parts → PortState → PortState
+offered f p = record p { queue = p.queue ++ f ∷ [] }
+
+-- n overload frames of the port's own are asked for
+abbrev pub port_holding : ℕ → PortState → PortState
+port_holding n p = record p { mac = holding n p.mac }
+
+-- the port after these levels, one a bit time
+unfoldable pub port_run : PortState → List Level → PortState
+port_run p [] = p
+port_run p (x ∷ levels) = port_run (port_step p x) levels
+
+-- the events of these bit times
+unfoldable pub port_events : PortState → List Level → List (Option Event)
+port_events p [] = []
+port_events p (x ∷ levels) = port_event p x ∷ port_events (port_step p x) levels
+
+-- a port that is joining, bus off or in a passive error flag
+abbrev pub is_silent : MacPhase → Bool
+is_silent (Joining row) = true
+is_silent (PassiveFlag last run unacknowledged) = true
+is_silent BusOff = true
+is_silent Idle = false
+is_silent (StuffedPart front) = false
+is_silent (CrcDelimiter r) = false
+is_silent (AckSlot r) = false
+is_silent (AckDelimiter r) = false
+is_silent (EndOfFrame r place) = false
+is_silent (ErrorFlag place) = false
+is_silent (OverloadFlag place) = false
+is_silent (AfterFlag first dominant) = false
+is_silent (Delimiter place) = false
+is_silent (Intermission place) = false
+is_silent (Suspend place) = false
+
+-- what holds of every port: what holds of every controller, its frames are frames, and queue and log keep
+-- within their rooms
+pub record IsPort (p : PortState) : Type 0 where
+  pub mac : IsMac p.mac
+  pub queued : (n : ℕ) (f : Parts) → slice_get p.queue n ≡ Some f → IsFrame f
+  pub logged : (n : ℕ) (entry : Entry) → slice_get p.log n ≡ Some entry → IsFrame entry.frame
+  pub queue_fits : length p.queue ≤ p.queue_room
+  pub log_fits : length p.log ≤ p.log_room
+  pub missed_fits : p.missed ≤ missed_limit

@@ -1,0 +1,38 @@
+//! Ports: a controller with a queue of frames to send and a log of the frames that were on the bus, and
+//! what it may claim of the levels that it saw. (Bosch CAN 2.0 part B, sections 2, 3.2 and 5)
+//!
+//! [`Port`] is what a bus needs of one; [`Node`] is a port with memory of its own, all of which is
+//! taken when it is made. [`listen`] has a port sample levels, and its contract says what is then true
+//! of them, whatever they are: a frame that was received or sent stands in them, and between an error
+//! and the next frame the bus was at rest.
+//!
+//! | File | What it has | Defined in |
+//! |---|---|---|
+//! | `port.rt` | [`Port`], what a port does | `specs/Ports.antt` |
+//! | `entry.rt` | [`Entry`], a frame in a log | |
+//! | `node.rt` | [`Node`], a controller with a queue and a log | `specs/Ports.antt` |
+//! | `queue.rt` | the frames that wait, and which goes first | `specs/Ports.antt`, `specs/Waiting.antt` |
+//! | `log.rt` | the frames that were sent and taken | `specs/Ports.antt` |
+//! | `listening.rt` | [`listen`], and what a port claims | `specs/Listening.antt` |
+//! | `laws.rt` | which frame of a queue waits | `specs/Waiting.antt` |
+//!
+//! Crates above find lemmas in `proofs/`: a port's run as its controller's turns (`PortTurns`), that what
+//! waits are frames (`FramesWaiting`), which frame waits as others come and go (`WaitingLemmas`,
+//! `WaitingLaws`). `Rows` computes the definitions on levels whose outcome is known.
+#![tactic(auto)]
+
+mod entry;
+mod laws;
+mod listening;
+mod log;
+mod node;
+mod port;
+mod queue;
+#[cfg(test)]
+mod tests;
+
+pub use entry::Entry;
+pub use laws::first_frame_waits;
+pub use listening::listen;
+pub use node::{Node, PlainNode};
+pub use port::Port;

@@ -1,0 +1,66 @@
+ghost use Rattle.std.specs.Prelude.{◌≡◌, ◌<◌, ◌≤◌, ◌+◌, ◌++◌, ◌∷◌, ℕ, [], length, min, vec_capacity, IfOk, IsOk, Some, slice_get};
+ghost use Rattle.can_frame.specs.Parts.{IsFrame};
+ghost use Rattle.can_node.specs.declared.entry.Entry.{Entry as Logged};
+ghost use Rattle.can_node.specs.Ports.{missed_limit};
+
+use crate::entry::Entry;
+use std::alloc::{AllocError, Global};
+
+/// The frames that were sent and taken, the oldest first.
+#[derive(Drop)]
+pub struct Log {
+    entries: Vec<Entry>,
+    room: usize,
+    missed: u32,
+    ghost are_frames: { (n : ℕ) (entry : Logged) → slice_get entries.items n ≡ Some entry → IsFrame entry.frame },
+    ghost fits: { length entries.items ≤ room },
+    ghost has_room: { room ≤ vec_capacity entries },
+    ghost counted: { missed ≤ missed_limit },
+}
+
+impl Log {
+    /// An empty log, with memory for so many entries.
+    pub fn with_room(alloc: Global, room: usize) -> Result<Log, AllocError>
+        ensures entries { IfOk result (λ l. l.entries.items ≡ []) }
+        ensures room { IfOk result (λ l. l.room ≡ room) }
+        ensures missed { IfOk result (λ l. l.missed ≡ 0) }
+        ensures no_room { room ≡ 0 → IsOk result }
+    {
+        Ok(Log {
+            entries: Vec::with_capacity(alloc, room)?,
+            room,
+            missed: 0,
+        })
+    }
+
+    /// The entries, the oldest first.
+    pub fn entries(&self) -> &[Entry]
+        ensures { result.now ≡ self.now.entries.items }
+    {
+        &self.entries
+    }
+
+    /// How many entries there was no room for. It stops at the highest number.
+    pub fn missed(&self) -> u32
+        ensures { result ≡ self.now.missed }
+    {
+        self.missed
+    }
+
+    /// Puts an entry behind the others. Where the log is full, the entry is missed.
+    pub fn push(&mut self, entry: Entry)
+        ensures taken { length self.old.entries.items < self.old.room → self.new.entries.items ≡ self.old.entries.items ++ entry ∷ [] }
+        ensures none_missed { length self.old.entries.items < self.old.room → self.new.missed ≡ self.old.missed }
+        ensures full { self.old.room ≤ length self.old.entries.items → self.new.entries.items ≡ self.old.entries.items }
+        ensures missed { self.old.room ≤ length self.old.entries.items → self.new.missed ≡ min (self.old.missed + 1) missed_limit }
+        ensures room { self.new.room ≡ self.old.room }
+    {
+        // Who reads a frame's bytes knows that it is a frame.
+        let _ = entry.frame.bytes();
+        if self.entries.len() < self.room {
+            self.entries.push_reserved(entry);
+        } else {
+            self.missed = self.missed.saturating_add(1);
+        }
+    }
+}

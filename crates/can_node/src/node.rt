@@ -1,0 +1,136 @@
+ghost use Rattle.std.specs.Prelude.{◌≡◌, IfOk, IsOk};
+ghost use Rattle.can_mac.specs.State.{IsMac};
+ghost use Rattle.can_node.specs.MacProps.{IsMac-prop};
+
+use crate::entry::Entry;
+use crate::log::Log;
+use crate::port::Port;
+use crate::queue::Queue;
+use can_code::{FrameBits, PlainBits};
+use can_fault::State;
+use can_frame::{Frame, Level};
+use can_mac::{Event, MediumAccess};
+use std::alloc::{AllocError, Global};
+
+/// A port with memory of its own, all of which is taken when it is made: no later call takes memory,
+/// and none can fail for lack of it. `B` holds the unstuffed levels of the frame on the bus.
+#[derive(Drop)]
+pub struct Node<B: FrameBits> {
+    mac: MediumAccess<B>,
+    queue: Queue,
+    log: Log,
+    ghost kept: { IsMac mac } by { IsMac-prop mac },
+}
+
+/// A port that holds the unstuffed levels one by one.
+pub type PlainNode = Node<PlainBits>;
+
+impl<B: FrameBits> Node<B> {
+    ghost use Rattle.can_mac.specs.State.{idle, joining};
+    ghost use Rattle.can_node.specs.Ports.{fresh_port};
+
+    /// A port that is on the bus and idle, with room for so many frames that wait and so many entries
+    /// of the log. It fails only where an allocation does, and then keeps nothing.
+    pub fn new(alloc: Global, queue: usize, log: usize) -> Result<Self, AllocError>
+        ensures port { IfOk result (λ n. ⟦<Node<B> as Port>⟧.port n ≡ fresh_port idle queue log) }
+        ensures no_rooms { queue ≡ 0 → log ≡ 0 → IsOk result }
+    {
+        Node::starting(MediumAccess::idle(), alloc, queue, log)
+    }
+
+    /// The same, of a port that waits for eleven recessive levels in a row before it is on the bus.
+    pub fn joining(alloc: Global, queue: usize, log: usize) -> Result<Self, AllocError>
+        ensures port { IfOk result (λ n. ⟦<Node<B> as Port>⟧.port n ≡ fresh_port joining queue log) }
+        ensures no_rooms { queue ≡ 0 → log ≡ 0 → IsOk result }
+    {
+        Node::starting(MediumAccess::joining(), alloc, queue, log)
+    }
+
+    /// A port with this controller, before anything was offered to it.
+    fn starting(
+        mac: MediumAccess<B>,
+        alloc: Global,
+        queue: usize,
+        log: usize,
+    ) -> Result<Self, AllocError>
+        requires { IsMac mac }
+        ensures port { IfOk result (λ n. ⟦<Node<B> as Port>⟧.port n ≡ fresh_port mac queue log) }
+        ensures no_rooms { queue ≡ 0 → log ≡ 0 → IsOk result }
+    {
+        Ok(Node {
+            mac,
+            queue: Queue::with_room(alloc, queue)?,
+            log: Log::with_room(alloc, log)?,
+        })
+    }
+}
+
+impl<B: FrameBits> Node<B> {
+    ghost use Rattle.can_node.specs.Ports.{noted};
+
+    /// What an event makes of queue and log.
+    #[tactic(auto, using(crate::proofs::PortLemmas::logged_is))]
+    fn note(&mut self, event: &Option<Event>)
+        ensures { ⟦<Node<B> as Port>⟧.port self.new ≡ noted event.now (⟦<Node<B> as Port>⟧.port self.old) }
+    {
+        match event {
+            Some(Event::Sent(frame)) => {
+                self.queue.remove(frame);
+                self.log.push(Entry {
+                    frame: *frame,
+                    sent: true,
+                });
+            }
+            Some(Event::Received(frame)) => self.log.push(Entry {
+                frame: *frame,
+                sent: false,
+            }),
+            Some(
+                Event::Lost | Event::Error(_) | Event::Overload | Event::WentOff | Event::Recovered,
+            )
+            | None => {}
+        }
+    }
+}
+
+impl<B: FrameBits> Port for Node<B> {
+    ghost port = { λ n. record { mac = n.mac; queue = n.queue.frames.items; queue_room = n.queue.room; log = n.log.entries.items; log_room = n.log.room; missed = n.log.missed } };
+
+    ghost valid = { λ n. record { mac = n.kept; queued = n.queue.are_frames; logged = n.log.are_frames; queue_fits = n.queue.fits; log_fits = n.log.fits; missed_fits = n.log.counted } };
+
+    #[tactic(auto, using(crate::proofs::PortLemmas::is_silent_told), unfolding(crate::specs::Ports::port_drives))]
+    fn drive(&self) -> Level {
+        self.mac.drive(self.queue.waiting())
+    }
+
+    #[tactic(auto, unfolding(crate::specs::Ports::port_step))]
+    fn sample(&mut self, seen: Level) -> Option<Event> {
+        let event = self.mac.sample(self.queue.waiting(), seen);
+        self.note(&event);
+        event
+    }
+
+    fn offer(&mut self, frame: Frame) -> Result<(), Frame> {
+        self.queue.push(frame)
+    }
+
+    fn hold(&mut self, count: u8) -> bool {
+        self.mac.hold(count)
+    }
+
+    fn log(&self) -> &[Entry] {
+        self.log.entries()
+    }
+
+    fn missed(&self) -> u32 {
+        self.log.missed()
+    }
+
+    fn counters(&self) -> (u16, u16) {
+        (self.mac.confine().tec(), self.mac.confine().rec())
+    }
+
+    fn state(&self) -> State {
+        self.mac.confine().state()
+    }
+}

@@ -1,0 +1,62 @@
+ghost use Rattle.std.specs.Prelude.{◌≡◌, ◌<◌, ◌≤◌, ◌↔◌, true, length, IsTrue, IsFalse, IsOk, OnOk, OnErr, IfErr};
+ghost use Rattle.can_fault.specs.Counters.{state_of};
+ghost use Rattle.can_frame.specs.declared.level.Level.TheVariants.{Recessive};
+ghost use Rattle.can_node.specs.Ports.{PortState, IsPort, is_silent, offered, port_drives, port_event, port_holding, port_step};
+
+use crate::entry::Entry;
+use can_fault::State;
+use can_frame::{Frame, Level};
+use can_mac::Event;
+
+/// A port of a bus: a controller with a queue of frames to send and a log of the frames that were on
+/// the bus.
+pub trait Port {
+    /// The port as a contract sees it.
+    ghost port: { Self → PortState };
+
+    /// What the port drives in this bit time, which its state alone tells. A port that is joining,
+    /// bus off or in a passive error flag drives recessive.
+    fn drive(&self) -> Level
+        ensures level { result ≡ port_drives (port self.now) }
+        ensures silent { is_silent (port self.now).mac.phase ≡ true → result ≡ Recessive };
+
+    /// Samples a level, and answers what the bit time brought.
+    fn sample(&mut self, seen: Level) -> Option<Event>
+        ensures port { port self.new ≡ port_step (port self.old) seen }
+        ensures event { result ≡ port_event (port self.old) seen };
+
+    /// Queues a frame behind those that wait. A full queue refuses it: the frame comes back, and
+    /// nothing changes.
+    fn offer(&mut self, frame: Frame) -> Result<(), Frame>
+        ensures fits { IsOk result ↔ (length (port self.old).queue < (port self.old).queue_room) }
+        ensures taken { OnOk result (port self.new ≡ offered frame (port self.old)) }
+        ensures back { IfErr result (λ refused. refused ≡ frame) }
+        ensures unchanged { OnErr result (port self.new ≡ port self.old) };
+
+    /// Asks for so many overload frames of the port's own, 0 to 2, in place of an earlier wish. Above 2
+    /// the answer is false, and nothing changes.
+    fn hold(&mut self, count: u8) -> bool
+        ensures answer { IsTrue result ↔ (count ≤ 2) }
+        ensures held { IsTrue result → port self.new ≡ port_holding count (port self.old) }
+        ensures unchanged { IsFalse result → port self.new ≡ port self.old };
+
+    /// The frames that were sent and taken, the oldest first.
+    fn log(&self) -> &[Entry]
+        ensures { result.now ≡ (port self.now).log };
+
+    /// How many entries the log had no room for. It stops at the highest number.
+    fn missed(&self) -> u32
+        ensures { result ≡ (port self.now).missed };
+
+    /// The transmit and the receive error counter.
+    fn counters(&self) -> (u16, u16)
+        ensures transmit { result.0 ≡ (port self.now).mac.counters.tec }
+        ensures receive { result.1 ≡ (port self.now).mac.counters.rec };
+
+    /// The state of fault confinement.
+    fn state(&self) -> State
+        ensures { result ≡ state_of (port self.now).mac.counters };
+
+    /// A port's controller is one, its frames are frames, and queue and log keep within their rooms.
+    ghost valid: { (x : Self) → IsPort (port x) };
+}
