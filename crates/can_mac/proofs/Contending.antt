@@ -1,12 +1,10 @@
 -- A controller whose frame g comes behind the frame f on the bus, up to the place where they part, there, and behind it.
-use Rattle.std.proofs.Common.{◌≡◌, ℕ, ◌+◌, ◌<◌, ◌≤◌, Option, Some, length, refl, sym, ◌∙◌, ap, arith}
+use Rattle.std.proofs.Common.{◌≡◌, ℕ, ◌+◌, ◌<◌, ◌≤◌, Option, Some, refl, sym, ◌∙◌, ap, arith}
 use Rattle.std.proofs.Math.Dec.{ltb}
-use Rattle.std.proofs.lemmas.Bool.{cond-true, cond_both, lt-ltb}
+use Rattle.std.proofs.lemmas.Bool.{cond_both}
 use Rattle.can_frame.specs.Parts.{Parts}
-use Rattle.can_code.specs.Wire.{stuffed_part, wire}
 use Rattle.can_code.specs.Layout.{level_at}
 use Rattle.can_mac.specs.declared.event.Event.TheVariants.{Lost}
-use Rattle.can_mac.specs.declared.phase.Role.{Role}
 use Rattle.can_mac.specs.declared.phase.Role.TheVariants.{Receiver, Sender}
 use Rattle.can_mac.specs.State.{MacState}
 use Rattle.can_mac.specs.Frames.{state_after, told_at, driven_at, line, behind_part, role_at, role_after, role_drives, frame_drives, frame_event, loss, StartsWith, AreHeard, PartsAt}

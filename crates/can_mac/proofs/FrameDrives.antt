@@ -1,12 +1,12 @@
 -- What a controller drives of a frame, level by level.
-use Rattle.std.proofs.Common.{◌≡◌, ◌≢◌, ℕ, zero, suc, ◌+◌, ◌-◌, ◌<◌, ◌≤◌, Option, Some, None, List, [], ◌∷◌, ◌++◌, length, refl, sym, ◌∙◌, ap, subst, arith, inl, inr, append_assoc, ◌⊎◌}
+use Rattle.std.proofs.Common.{◌≡◌, ◌≢◌, ℕ, zero, suc, ◌+◌, ◌<◌, ◌≤◌, Option, Some, None, List, [], ◌∷◌, ◌++◌, length, refl, sym, ◌∙◌, ap, subst, arith, inl, inr, append_assoc, ◌⊎◌}
 use Rattle.std.proofs.Math.Dec.{eqb}
 use Rattle.std.proofs.lemmas.Bool.{cond-true, cond-false, eq-eqb, ne_eqb, cases_eq, cases_lt}
 use Rattle.can_frame.specs.declared.level.Level.{Level}
 use Rattle.can_frame.specs.declared.level.Level.TheVariants.{Dominant, Recessive}
 use Rattle.can_frame.specs.Parts.{Parts, IsFrame}
 use Rattle.can_code.specs.Stuffing.{stuffed}
-use Rattle.can_code.specs.Wire.{head, unstuffed, stuffed_part, wire, driven, tail}
+use Rattle.can_code.specs.Wire.{head, unstuffed, stuffed_part, tail}
 use Rattle.can_code.specs.Layout.{level_at}
 use Rattle.can_code.proofs.LayoutPlaces.{level_at-append}
 use Rattle.can_code.proofs.SentLevels.{level_at-behind}
@@ -14,14 +14,14 @@ use Rattle.can_code.proofs.WireFronts.{front_at}
 use Rattle.can_fault.specs.Counters.{ConfineParts}
 use Rattle.can_mac.specs.declared.phase.Role.{Role}
 use Rattle.can_mac.specs.declared.phase.Role.TheVariants.{Receiver, Sender}
-use Rattle.can_mac.specs.declared.phase.Phase.TheVariants.{Idle, StuffedPart}
-use Rattle.can_mac.specs.State.{MacPhase, MacState, IsWaiting}
+use Rattle.can_mac.specs.declared.phase.Phase.TheVariants.{Idle}
+use Rattle.can_mac.specs.State.{MacState, IsWaiting}
 use Rattle.can_mac.specs.Machine.{mac_drives, part_drives}
-use Rattle.can_mac.specs.Frames.{state_after, driven_at, line, behind_part, driven_line, slot_place, role_at, role_drives, frame_state, frame_drives, StartsWith, AreHeard, PartsAt, GoesBehind}
+use Rattle.can_mac.specs.Frames.{driven_at, line, behind_part, driven_line, slot_place, role_at, role_drives, frame_state, frame_drives, StartsWith, AreHeard, PartsAt, GoesBehind}
 use Rattle.can_mac.proofs.FrameEnds.{Each, Each-at, end_levels, end_state}
 use Rattle.can_mac.proofs.FrameParts.{part_state, length-line, line-early, line-late, phase-early}
-use Rattle.can_mac.proofs.FrameRoles.{role-own, role-together, role-parted, level-together, parting, Driving, listens, drives, driving, Ending, receives, sends, ending}
-use Rattle.can_mac.proofs.FrameSteps.{some_part, state-early, state-late}
+use Rattle.can_mac.proofs.FrameRoles.{role-own, role-together, role-parted, level-together, parting, listens, drives, driving, receives, sends, ending}
+use Rattle.can_mac.proofs.FrameSteps.{state-early, state-late}
 use Rattle.can_mac.proofs.FrameRuns.{state_after-frame}
 
 -- the levels of a sender behind the stuffed part, up to the end of intermission
@@ -97,9 +97,9 @@ module _ (f : Parts) (is : IsFrame f) (waiting : Option Parts) (kept : IsWaiting
   drives-early some more =
       let here : (role : Role) → role_at f waiting o ≡ role → mac_drives state now ≡ part_drives role (front_at f o) =
       (λ role was.
-        ap (λ m. mac_drives m now) (state-early f is waiting pending c o (omega (arith, more)))
-        ∙ ap (λ p. mac_drives (part_state p (role_at f waiting o) (record { pending = pending; used = 0 }) c) now) (phase-early f is o some more)
-        ∙ ap (λ r. part_drives r (front_at f o)) was) in
+      ap (λ m. mac_drives m now) (state-early f is waiting pending c o (omega (arith, more)))
+      ∙ ap (λ p. mac_drives (part_state p (role_at f waiting o) (record { pending = pending; used = 0 }) c) now) (phase-early f is o some more)
+      ∙ ap (λ r. part_drives r (front_at f o)) was) in
       elim (driving f waiting is kept behind o some more) [
         | listens was ↦ drives-as Receiver was (here Receiver was ∙ sym (receiver-elsewhere f o (λ e. omega (arith, e, more))))
         | drives g was level more_g ↦ drives-as (Sender g) was (here (Sender g) was ∙ level ∙ sym (own-early g o more_g))

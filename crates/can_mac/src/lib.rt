@@ -35,6 +35,9 @@ mod phase;
 mod tests;
 
 pub use event::{ErrorKind, Event};
-pub use laws::{a_frame_leads_all_to_one_phase, a_loser_goes_on_as_a_receiver, a_sender_drives_its_wire, access_is_kept};
+pub use laws::{
+    a_frame_leads_all_to_one_phase, a_loser_goes_on_as_a_receiver, a_sender_drives_its_wire,
+    access_is_kept,
+};
 pub use machine::{Mac, MediumAccess};
 pub use phase::{Overloads, Phase, Reading, Role};
