@@ -19,11 +19,11 @@ use Rattle.can_mac.specs.Machine.{mac_step}
 use Rattle.can_mac.specs.Frames.{IsActive, own_reading, end_phases, role_after, counters_after, end_event}
 
 -- it holds of each of n numbers in a row
-abbrev Each : (ℕ → Type 0) → ℕ → ℕ → Type 0
+abbrev pub Each : (ℕ → Type 0) → ℕ → ℕ → Type 0
 Each P start zero = Unit {0}
 Each P start (suc n) = P start × Each P (start + 1) n
 
-Each-at : (P : ℕ → Type 0) (start n k : ℕ) → Each P start n → start ≤ k → k < start + n → P k
+pub Each-at : (P : ℕ → Type 0) (start n k : ℕ) → Each P start n → start ≤ k → k < start + n → P k
 Each-at P start zero k h from to = absurd (omega arith)
 Each-at P start (suc n) k h from to = elim (cases_lt start k) [
   | inl more ↦ Each-at P (start + 1) n k h.1 (omega arith) (omega arith)

@@ -1,21 +1,26 @@
 -- Which controllers send a frame as it goes on, level by level.
 use Rattle.std.proofs.Common.{◌≡◌, ◌≢◌, ℕ, ◌+◌, ◌<◌, ◌≤◌, Option, Some, None, [], ◌∷◌, length, take, refl, sym, ◌∙◌, ap, subst, arith, inl, inr}
-use Rattle.std.proofs.lemmas.Bool.{cond-true, cond-false, cases_lt, cases_eq, false_from_ne_true}
+use Rattle.std.proofs.lemmas.Bool.{cond-true, cond-false, cases_lt, cases_eq, false_from_ne_true, le-leb}
 use Rattle.std.proofs.lemmas.List.{take-take, take-append-le, get_or-take}
 use Rattle.std.specs.Cmp.Lexicographic.{pointwise, pointwise_decides}
+use Rattle.std.specs.Prelude.{unwrap_or}
 use Rattle.can_frame.specs.declared.level.Level.TheVariants.{Dominant, Recessive}
 use Rattle.can_frame.specs.Levels.{same}
+use Rattle.can_frame.specs.Arbitration.{arbitration_field, Before}
 use Rattle.can_frame.specs.Parts.{Parts, IsFrame}
 use Rattle.can_code.specs.Stuffing.{stuffed}
 use Rattle.can_code.specs.Wire.{head, unstuffed, stuffed_part}
 use Rattle.can_code.specs.Layout.{level_at, rtr_place}
 use Rattle.can_code.specs.Sending.{sent_level}
-use Rattle.can_code.proofs.WireFronts.{front_at, front_at-same, sent_next, sent_bit}
+use Rattle.can_code.specs.Front.{first_front}
+use Rattle.can_code.proofs.WireFronts.{front_at, front_at-heard, front_at-same, sent_next, sent_bit}
 use Rattle.can_code.proofs.WireOrder.{FirstDifference, first_difference}
 use Rattle.can_mac.specs.declared.phase.Role.{Role}
 use Rattle.can_mac.specs.declared.phase.Role.TheVariants.{Receiver, Sender}
 use Rattle.can_mac.specs.State.{IsWaiting}
-use Rattle.can_mac.specs.Frames.{line, role_at, GoesBehind}
+use Rattle.can_mac.specs.Machine.{part_drives}
+use Rattle.can_mac.specs.Moves.{in_arbitration}
+use Rattle.can_mac.specs.Frames.{line, role_at, GoesBehind, PartsAt}
 use Rattle.can_mac.proofs.PartEnds.{same-Decides}
 use Rattle.can_mac.proofs.FrameEnds.{end_levels}
 use Rattle.can_mac.proofs.FrameParts.{Takes, line-parts, line-early}
@@ -42,47 +47,68 @@ module _ (f g : Parts) (o : ℕ) where
 pub role-own : (f : Parts) (o : ℕ) → role_at f (Some f) o ≡ Sender f
 role-own f o = role-alike f f o refl
 
+-- f and g part at this place
+module _ (f g : Parts) (place : ℕ) (parts : PartsAt f g place) where
+  -- up to there g is sent
+  pub role-together : (o : ℕ) → o ≤ place → role_at f (Some g) o ≡ Sender g
+  role-together o within =
+      role-alike f g o (sym (take-take o place (line g) within) ∙ ap (take o) parts.alike ∙ take-take o place (line f) within)
+
+  pub level-together : (o : ℕ) → o < place → level_at (line g) o ≡ level_at (line f) o
+  level-together o within =
+      sym (get_or-take place (line g) o Dominant within) ∙ ap (λ l. level_at l o) parts.alike ∙ get_or-take place (line f) o Dominant within
+
+  -- behind it g is not sent
+  pub role-parted : (o : ℕ) → place < o → role_at f (Some g) o ≡ Receiver
+  role-parted o past = role-apart f g o (λ one.
+      let low = parts.low in
+      let high = parts.high in
+      let both = sym (get_or-take o (line g) place Dominant past) ∙ ap (λ l. level_at l place) one ∙ get_or-take o (line f) place Dominant past in
+      cc)
+
 -- f and g part behind their first d levels
 module _ (f g : Parts) (f_is : IsFrame f) (g_is : IsFrame g) (d : ℕ) (parts : FirstDifference f g d) where
-  beginning : (h : Parts) (o : ℕ) → o ≤ d → d < length (stuffed_part h) → take o (line h) ≡ take o (take d (stuffed_part h))
-  beginning h o within more =
-      ap (take o) (line-parts h) ∙ take-append-le o (stuffed_part h) end_levels (omega arith) ∙ sym (take-take o d (stuffed_part h) within)
+  beginning : (h : Parts) → d < length (stuffed_part h) → take d (line h) ≡ take d (stuffed_part h)
+  beginning h more = ap (take d) (line-parts h) ∙ take-append-le d (stuffed_part h) end_levels (omega arith)
 
-  -- up to there they are alike
-  alike : (o : ℕ) → o ≤ d → take o (line g) ≡ take o (line f)
-  alike o within = beginning g o within parts.more_g ∙ ap (take o) (sym parts.same) ∙ sym (beginning f o within parts.more_f)
-
-  -- behind it they are not
-  apart : (o : ℕ) → d < o → take o (line g) ≢ take o (line f)
-  apart o past one =
-      let low = parts.wins.low in
-      let high = parts.wins.high in
-      let at : (h : Parts) → d < length (stuffed_part h) → level_at (take o (line h)) d ≡ level_at (stuffed_part h) d =
-      (λ h more. get_or-take o (line h) d Dominant past ∙ line-early h d more) in
-      let both = sym (at g parts.more_g) ∙ ap (λ l. level_at l d) one ∙ at f parts.more_f in
-      cc
+  pub parts_at : PartsAt f g d
+  parts_at =
+      let more_f = parts.more_f in
+      let within = parts.wins.within in
+      record {
+        alike = beginning g parts.more_g ∙ sym parts.same ∙ sym (beginning f more_f);
+        low = line-early f d more_f ∙ parts.wins.low;
+        high = line-early g d parts.more_g ∙ parts.wins.high;
+        within = more_f;
+        within_sent = parts.more_g;
+        arbitration =
+            ap (λ v. in_arbitration g (unwrap_or v first_front).unstuffed) (front_at-heard f f_is d parts.some (omega arith))
+            ∙ le-leb (length (front_at f d).unstuffed) (rtr_place g.id.extended) within;
+      }
 
   pub contender-early : (o : ℕ) → o ≤ d → role_at f (Some g) o ≡ Sender g
-  contender-early o within = role-alike f g o (alike o within)
+  contender-early o within = role-together f g d parts_at o within
 
   pub contender-late : (o : ℕ) → d < o → role_at f (Some g) o ≡ Receiver
-  contender-late o past = role-apart f g o (apart o past)
+  contender-late o past = role-parted f g d parts_at o past
+
+  -- up to there they make one front
+  pub contender-one : (o : ℕ) → o ≤ d → front_at f o ≡ front_at g o
+  contender-one o within =
+      front_at-same f g o (sym (take-take o d (stuffed_part f) within) ∙ ap (take o) parts.same ∙ take-take o d (stuffed_part g) within)
 
   -- before it the contender drives what the bus has
   pub contender-takes : (o : ℕ) → 0 < o → o < d → Takes (Sender g) (front_at f o) (level_at (stuffed_part f) o)
   contender-takes o some within =
-      let more_f = parts.more_f in
       let more_g = parts.more_g in
-      let one : take o (stuffed_part f) ≡ take o (stuffed_part g) =
-      sym (take-take o d (stuffed_part f) (omega arith)) ∙ ap (take o) parts.same ∙ take-take o d (stuffed_part g) (omega arith) in
       let same_level : level_at (stuffed_part g) o ≡ level_at (stuffed_part f) o =
       sym (get_or-take d (stuffed_part g) o Dominant within) ∙ ap (λ l. level_at l o) (sym parts.same) ∙ get_or-take d (stuffed_part f) o Dominant within in
-      subst (λ v. Takes (Sender g) v (level_at (stuffed_part f) o)) (sym (front_at-same f g o one)) (sym (sent_next g g_is o some (omega arith)) ∙ same_level)
+      subst (λ v. Takes (Sender g) v (level_at (stuffed_part f) o)) (sym (contender-one o (omega arith))) (sym (sent_next g g_is o some (omega arith)) ∙ same_level)
 
   -- there it loses
   pub contender-loses : Loses f g d
   contender-loses =
-      let one = front_at-same f g d parts.same in
+      let one = contender-one d (omega arith) in
       let other : (front_at g d).run ≢ 5 = λ five. parts.wins.free (ap (λ v. v.run) one ∙ five) in
       record {
         low = parts.wins.low;
@@ -92,6 +118,12 @@ module _ (f g : Parts) (f_is : IsFrame f) (g_is : IsFrame g) (d : ℕ) (parts : 
         was = contender-early d (omega arith);
         is = contender-late (d + 1) (omega arith);
       }
+
+-- of two frames one of which is before the other there is such a place
+pub parting : (f g : Parts) → IsFrame f → IsFrame g → Before (arbitration_field f) (arbitration_field g) → (place : ℕ) × PartsAt f g place
+parting f g f_is g_is before =
+    let first = first_difference f g f_is g_is before in
+    (first.0, parts_at f g f_is g_is first.0 first.1)
 
 -- what a controller is to the next level of the stuffed part of f: it stays what it is and takes the level, or it loses arbitration
 pub data Standing (f : Parts) (waiting : Option Parts) (o : ℕ) : Type 0 where
@@ -136,6 +168,30 @@ ending f (Some g) f_is g_is (inr before) =
     let first = first_difference f g f_is g_is before in
     let more = first.1.more_f in
     receives (λ o past. contender-late f g f_is g_is first.0 first.1 o (omega arith))
+
+-- what a controller drives next of the stuffed part: it receives, or it sends a frame that has made the same front
+pub data Driving (f : Parts) (waiting : Option Parts) (o : ℕ) : Type 0 where
+  listens : role_at f waiting o ≡ Receiver → Driving f waiting o
+  drives : (g : Parts) → role_at f waiting o ≡ Sender g → part_drives (Sender g) (front_at f o) ≡ level_at (stuffed_part g) o → o < length (stuffed_part g) → Driving f waiting o
+
+own-driving : (f : Parts) → IsFrame f → (o : ℕ) → 0 < o → o < length (stuffed_part f) → Driving f (Some f) o
+own-driving f is o some more = drives f (role-own f o) (sym (sent_next f is o some more)) more
+
+pub driving : (f : Parts) (waiting : Option Parts) → IsFrame f → IsWaiting waiting → GoesBehind f waiting → (o : ℕ) → 0 < o → o < length (stuffed_part f) → Driving f waiting o
+driving f None f_is is behind o some more = listens refl
+driving f (Some g) f_is is (inl own) o some more = subst (λ h. Driving f (Some h) o) (sym own) (own-driving f f_is o some more)
+driving f (Some g) f_is g_is (inr before) o some more =
+    let first = first_difference f g f_is g_is before in
+    let d = first.0 in
+    let parts = first.1 in
+    let more_g = parts.more_g in
+    elim (cases_lt d o) [
+      | inl past ↦ listens (contender-late f g f_is g_is d parts o past)
+      | inr within ↦
+          let one = contender-one f g f_is g_is d parts o within in
+          let more_here : o < length (stuffed_part g) = omega (arith, within, more_g) in
+          drives g (contender-early f g f_is g_is d parts o within) (ap (part_drives (Sender g)) one ∙ sym (sent_next g g_is o some more_here)) more_here
+    ]
 
 line-first : (f : Parts) → take 1 (line f) ≡ Dominant ∷ []
 unfolding stuffed_part unstuffed stuffed head

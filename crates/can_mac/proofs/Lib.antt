@@ -1,5 +1,7 @@
 pub mod ConfineKept
+pub mod Contending
 mod DriveLemmas
+pub mod FrameDrives
 pub mod FrameEnds
 pub mod FrameParts
 pub mod FrameRoles

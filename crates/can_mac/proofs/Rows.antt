@@ -7,7 +7,8 @@ use Rattle.can_frame.specs.Levels.{level_of, bits_of}
 use Rattle.can_frame.specs.Arbitration.{arbitration_field}
 use Rattle.can_frame.specs.Parts.{Parts}
 use Rattle.can_code.specs.Crc.{crc_of}
-use Rattle.can_code.specs.Wire.{head, unstuffed}
+use Rattle.can_code.specs.Stuffing.{stuffed}
+use Rattle.can_code.specs.Wire.{head, unstuffed, stuffed_part}
 use Rattle.can_code.specs.Layout.{frame_of, frame_len}
 use Rattle.can_fault.specs.Counters.{fresh}
 use Rattle.can_mac.specs.declared.event.Event.{Event}
@@ -17,6 +18,7 @@ use Rattle.can_mac.specs.declared.phase.Phase.TheVariants.{Idle, Delimiter, Inte
 use Rattle.can_mac.specs.State.{MacState, idle, joining}
 use Rattle.can_mac.specs.Moves.{agrees}
 use Rattle.can_mac.specs.Machine.{mac_drives, mac_step}
+use Rattle.can_mac.specs.Frames.{line, frame_event, frame_state}
 
 -- the levels of a text of `0` and `1`
 abbrev levels_of : List ℕ → List Level
@@ -216,3 +218,24 @@ wrong_form = (refl, refl)
 wrong_slot : errs_once (part_001 ++ levels_of (codes "11")) (at 38 (Error Bit) ∷ [])
 unfolding mac_step agrees crc_of frame_of frame_len bits_of
 wrong_slot = (refl, refl)
+
+-- What the definitions of a frame at a controller say of the same frames.
+line_001 : line (empty_frame 1) ≡ wire_001 ++ silence 3
+unfolding stuffed_part unstuffed stuffed head arbitration_field crc_of bits_of
+line_001 = refl
+
+received_001 : frame_event (empty_frame 1) None 45 ≡ Some (Received (empty_frame 1))
+unfolding stuffed_part unstuffed stuffed head arbitration_field crc_of bits_of
+received_001 = refl
+
+sent_001 : frame_event (empty_frame 1) (Some (empty_frame 1)) 46 ≡ Some (Sent (empty_frame 1))
+unfolding stuffed_part unstuffed stuffed head arbitration_field crc_of bits_of
+sent_001 = refl
+
+lost_001 : frame_event (empty_frame 0) (Some (empty_frame 1)) 13 ≡ Some Lost
+unfolding stuffed_part unstuffed stuffed head arbitration_field crc_of bits_of
+lost_001 = refl
+
+idle_001 : frame_state (empty_frame 1) None 0 fresh 50 ≡ idle
+unfolding stuffed_part unstuffed stuffed head arbitration_field crc_of bits_of
+idle_001 = refl

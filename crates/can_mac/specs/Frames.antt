@@ -19,6 +19,7 @@ use Rattle.can_mac.specs.declared.phase.Role.{Role}
 use Rattle.can_mac.specs.declared.phase.Role.TheVariants.{Receiver, Sender}
 use Rattle.can_mac.specs.declared.phase.Phase.TheVariants.{Idle, StuffedPart, CrcDelimiter, AckSlot, AckDelimiter, EndOfFrame, Intermission}
 use Rattle.can_mac.specs.State.{MacPhase, MacState, IsWaiting}
+use Rattle.can_mac.specs.Moves.{in_arbitration}
 use Rattle.can_mac.specs.Machine.{mac_drives, mac_step}
 
 -- Runs.
@@ -41,6 +42,14 @@ driven_at m waits levels o = mac_drives (state_after m waits levels o) (waits o)
 -- the levels of a frame on the bus, and the intermission behind it
 abbrev pub line : Parts → List Level
 line f = wire f ++ (Recessive ∷ Recessive ∷ Recessive ∷ [])
+
+-- the levels that its sender drives: in the ACK slot it listens
+abbrev pub driven_line : Parts → List Level
+driven_line f = driven f ++ (Recessive ∷ Recessive ∷ Recessive ∷ [])
+
+-- how many levels stand before its ACK slot
+abbrev pub slot_place : Parts → ℕ
+slot_place f = length (stuffed_part f) + 1
 
 -- how many of its first o levels stand behind the stuffed part
 abbrev pub behind_part : Parts → ℕ → ℕ
@@ -113,8 +122,8 @@ frame_event f waiting o =
 
 -- what is driven: by a sender its own levels, by a receiver the acknowledgement
 abbrev pub role_drives : Parts → Role → ℕ → Level
-role_drives f Receiver o = if o == length (stuffed_part f) + 1 then Dominant else Recessive
-role_drives f (Sender g) o = level_at (driven g ++ (Recessive ∷ Recessive ∷ Recessive ∷ [])) o
+role_drives f Receiver o = if o == slot_place f then Dominant else Recessive
+role_drives f (Sender g) o = level_at (driven_line g) o
 
 abbrev pub frame_drives : Parts → Option Parts → ℕ → Level
 frame_drives f waiting o = role_drives f (role_at f waiting o) o
@@ -145,3 +154,13 @@ pub record AreHeard (f : Parts) (m : MacState) (o : ℕ) : Type 0 where
   pub some : 0 < o
   pub within : o ≤ length (line f)
   pub no_wish : length (wire f) ≤ o → m.overloads.pending ≡ 0
+
+-- [Arbitration] the place where f and g part: their levels are alike before it, and there, in the arbitration
+-- field of g, f is dominant and g recessive
+pub record PartsAt (f g : Parts) (place : ℕ) : Type 0 where
+  pub alike : take place (line g) ≡ take place (line f)
+  pub low : level_at (line f) place ≡ Dominant
+  pub high : level_at (line g) place ≡ Recessive
+  pub within : place < length (stuffed_part f)
+  pub within_sent : place < length (stuffed_part g)
+  pub arbitration : in_arbitration g (heard_front f place).unstuffed ≡ true

@@ -1,8 +1,12 @@
-ghost use Rattle.std.specs.Prelude.{ℕ, ◌≡◌, ◌+◌, ◌≤◌, Option, Some, None};
+ghost use Rattle.std.specs.Prelude.{ℕ, ◌≡◌, ◌≢◌, ◌+◌, ◌<◌, ◌≤◌, ◌⊎◌, Option, Some, None};
 ghost use Rattle.can_frame.specs.declared.level.Level.{Level as Bit};
-ghost use Rattle.can_frame.specs.Parts.{Parts};
+ghost use Rattle.can_frame.specs.declared.level.Level.TheVariants.{Dominant, Recessive};
+ghost use Rattle.can_frame.specs.Arbitration.{arbitration_field, Before};
+ghost use Rattle.can_frame.specs.Parts.{IsFrame, Parts};
+ghost use Rattle.can_code.specs.Layout.{level_at};
+ghost use Rattle.can_mac.specs.declared.event.Event.TheVariants.{Lost};
 ghost use Rattle.can_mac.specs.declared.phase.Role.TheVariants.{Receiver, Sender};
-ghost use Rattle.can_mac.specs.Frames.{AreHeard, frame_event, frame_state, line, phase_at, role_at, StartsWith, state_after, told_at};
+ghost use Rattle.can_mac.specs.Frames.{AreHeard, driven_at, frame_drives, frame_event, frame_state, line, PartsAt, phase_at, role_at, slot_place, StartsWith, state_after, told_at};
 ghost use Rattle.can_mac.specs.State.{idle, IsMac, IsWaiting, joining, MacState};
 ghost use Rattle.can_mac.specs.Machine.{holding, mac_step};
 
@@ -25,4 +29,27 @@ pub fn a_frame_leads_all_to_one_phase()
     ensures event { (f : Parts) (m : MacState) (waits : ℕ → Option Parts) (o : ℕ) → StartsWith f m (waits 0) → AreHeard f m (o + 1) → told_at m waits (line f) o ≡ frame_event f (waits 0) o }
     ensures receiver { (f : Parts) (o : ℕ) → role_at f None o ≡ Receiver }
     ensures sender { (f : Parts) (o : ℕ) → role_at f (Some f) o ≡ Sender f }
+{}
+
+/// The sender of a frame drives the levels that the bus has, but for the ACK slot, in which it
+/// listens. A receiver drives the ACK slot alone. So whoever takes part drives the level that the bus
+/// has, or recessive.
+pub fn a_sender_drives_its_wire()
+    ensures drives { (f : Parts) (m : MacState) (waits : ℕ → Option Parts) (o : ℕ) → StartsWith f m (waits 0) → AreHeard f m (o + 1) → driven_at m waits (line f) o ≡ frame_drives f (waits 0) o }
+    ensures sender { (f : Parts) (m : MacState) (waits : ℕ → Option Parts) (o : ℕ) → StartsWith f m (waits 0) → AreHeard f m (o + 1) → waits 0 ≡ Some f → o ≢ slot_place f → driven_at m waits (line f) o ≡ level_at (line f) o }
+    ensures sender_slot { (f : Parts) (m : MacState) (waits : ℕ → Option Parts) (o : ℕ) → StartsWith f m (waits 0) → AreHeard f m (o + 1) → waits 0 ≡ Some f → o ≡ slot_place f → driven_at m waits (line f) o ≡ Recessive }
+    ensures receiver { (f : Parts) (m : MacState) (waits : ℕ → Option Parts) (o : ℕ) → StartsWith f m (waits 0) → AreHeard f m (o + 1) → waits 0 ≡ None → o ≢ slot_place f → driven_at m waits (line f) o ≡ Recessive }
+    ensures receiver_slot { (f : Parts) (m : MacState) (waits : ℕ → Option Parts) (o : ℕ) → StartsWith f m (waits 0) → AreHeard f m (o + 1) → waits 0 ≡ None → o ≡ slot_place f → driven_at m waits (line f) o ≡ Dominant }
+    ensures over { (f : Parts) (m : MacState) (waits : ℕ → Option Parts) (o : ℕ) → StartsWith f m (waits 0) → AreHeard f m (o + 1) → (driven_at m waits (line f) o ≡ Recessive) ⊎ (driven_at m waits (line f) o ≡ level_at (line f) o) }
+{}
+
+/// A controller whose frame comes behind the frame on the bus drives its own levels up to the place, in
+/// its arbitration field, where the two part: there it drives recessive, tells that it has lost, and
+/// is a receiver from then on.
+pub fn a_loser_goes_on_as_a_receiver()
+    ensures parts { (f g : Parts) → IsFrame f → IsFrame g → Before (arbitration_field f) (arbitration_field g) → (place : ℕ) × PartsAt f g place }
+    ensures sender { (f g : Parts) (m : MacState) (waits : ℕ → Option Parts) (place : ℕ) (o : ℕ) → StartsWith f m (waits 0) → waits 0 ≡ Some g → PartsAt f g place → 0 < o → o ≤ place → (state_after m waits (line f) o).role ≡ Sender g }
+    ensures drives { (f g : Parts) (m : MacState) (waits : ℕ → Option Parts) (place : ℕ) (o : ℕ) → StartsWith f m (waits 0) → waits 0 ≡ Some g → PartsAt f g place → o ≤ place → driven_at m waits (line f) o ≡ level_at (line g) o }
+    ensures lost { (f g : Parts) (m : MacState) (waits : ℕ → Option Parts) (place : ℕ) → StartsWith f m (waits 0) → waits 0 ≡ Some g → PartsAt f g place → told_at m waits (line f) place ≡ Some Lost }
+    ensures receiver { (f g : Parts) (m : MacState) (waits : ℕ → Option Parts) (place : ℕ) (o : ℕ) → StartsWith f m (waits 0) → waits 0 ≡ Some g → PartsAt f g place → place < o → AreHeard f m o → (state_after m waits (line f) o).role ≡ Receiver }
 {}

@@ -17,12 +17,12 @@
 //! | `moves/frame_end.rt` | CRC delimiter, ACK slot, ACK delimiter, end of frame | `specs/Moves.antt` |
 //! | `moves/flags.rt` | error flags, overload flags, their delimiters | `specs/Moves.antt` |
 //! | `moves/between_frames.rt` | joining, idle, intermission, suspend transmission | `specs/Moves.antt` |
-//! | `laws.rt` | that what holds of every controller stays; where a frame leads each of them | `specs/State.antt`, `specs/Frames.antt` |
+//! | `laws.rt` | that what holds of every controller stays; a frame at each of them: where it leads, what is driven, who loses | `specs/State.antt`, `specs/Frames.antt` |
 //!
 //! Each function of `moves` has the cases of one definition, in the same order. Crates above find
 //! lemmas in `proofs/`: that what holds of every controller stays (`Kept`, `KeptMoves`), and of
 //! its counters (`ConfineKept`); and of a frame at each controller, level by level (`FrameEnds`,
-//! `FrameParts`, `FrameRoles`, `FrameSteps`, `FrameRuns`). `Rows` computes the definitions on levels whose outcome is known.
+//! `FrameParts`, `FrameRoles`, `FrameSteps`, `FrameRuns`, `FrameDrives`, `Contending`). `Rows` computes the definitions on levels whose outcome is known.
 #![tactic(auto)]
 
 mod driving;
@@ -35,6 +35,9 @@ mod phase;
 mod tests;
 
 pub use event::{ErrorKind, Event};
-pub use laws::{a_frame_leads_all_to_one_phase, access_is_kept};
+pub use laws::{
+    a_frame_leads_all_to_one_phase, a_loser_goes_on_as_a_receiver, a_sender_drives_its_wire,
+    access_is_kept,
+};
 pub use machine::{Mac, MediumAccess};
 pub use phase::{Overloads, Phase, Reading, Role};
