@@ -1,6 +1,6 @@
 -- Ports computed on levels whose outcome is known from elsewhere.
 use Rattle.std.proofs.Common.{◌≡◌, ℕ, List, [], ◌∷◌, ◌++◌, map, drop, replicate, take, refl, true, false}
-use Rattle.std.specs.Prelude.{codes, ◌-◌, Option, Some, None, slice_get}
+use Rattle.std.specs.Prelude.{codes, ◌-◌, Some, None, slice_get}
 use Rattle.can_frame.specs.declared.level.Level.{Level}
 use Rattle.can_frame.specs.declared.level.Level.TheVariants.{Dominant, Recessive}
 use Rattle.can_frame.specs.Levels.{level_of, bits_of}
@@ -9,7 +9,6 @@ use Rattle.can_frame.specs.Parts.{Parts}
 use Rattle.can_code.specs.Crc.{crc_of}
 use Rattle.can_code.specs.Wire.{head, unstuffed}
 use Rattle.can_code.specs.Layout.{frame_of, frame_len}
-use Rattle.can_fault.specs.Counters.{fresh}
 use Rattle.can_mac.specs.declared.event.Event.TheVariants.{Overload}
 use Rattle.can_mac.specs.State.{idle}
 use Rattle.can_mac.specs.Moves.{agrees}

@@ -1,13 +1,13 @@
 -- Which frame of a queue waits, as frames come and go.
-use Rattle.std.proofs.Common.{◌≡◌, ◌≢◌, ℕ, zero, suc, ◌+◌, ◌<◌, ◌≤◌, Bool, true, false, cond, not, List, [], ◌∷◌, ◌++◌, length, take, drop, refl, sym, ◌∙◌, ap, subst, arith, inl, inr, add-one}
+use Rattle.std.proofs.Common.{◌≡◌, ℕ, zero, suc, ◌+◌, ◌≤◌, Bool, true, false, cond, not, List, [], ◌∷◌, ◌++◌, length, take, refl, sym, ◌∙◌, ap, subst, arith, inl, inr, add-one}
 use Rattle.std.specs.Prelude.{Option, Some, None, slice_get, ◌⊎◌, nat_lt, position, remove}
 use Rattle.std.specs.List.{position_or_len}
 use Rattle.std.specs.declared.cmp.Ordering.{Ordering}
 use Rattle.std.specs.declared.cmp.Ordering.TheVariants.{Less, Equal, Greater}
 use Rattle.std.proofs.lemmas.Bool.{cond-true, cond-false, cases_Bool, ltb-false}
-use Rattle.can_frame.specs.Parts.{Parts, IsFrame}
+use Rattle.can_frame.specs.Parts.{Parts}
 use Rattle.can_frame.specs.Arbitration.{arbitration_field, field_cmp, Before}
-use Rattle.can_frame.proofs.BeforeLemmas.{Before-trans, Before-one_way, Before-differs, Ranked, Tells}
+use Rattle.can_frame.proofs.BeforeLemmas.{Before-trans, Ranked}
 use Rattle.can_frame.proofs.FieldLemmas.{fields_ranked, key_cmp-tells}
 use Rattle.can_node.specs.Ports.{is_less, is_equal, goes_before, same_field, earlier, waiting, without}
 

@@ -1,4 +1,4 @@
-use Rattle.std.proofs.Common.{◌≡◌, arith, length, refl, sym, ◌∙◌, ap}
+use Rattle.std.proofs.Common.{arith, sym, ◌∙◌}
 use Rattle.can_frame.specs.declared.level.Level.TheVariants.{Dominant}
 use Rattle.can_node.proofs.Claims.{port_rested, port_took-idle, port_took-joining}
 use Rattle.can_node.proofs.FramesWaiting.{AreFrames-from}

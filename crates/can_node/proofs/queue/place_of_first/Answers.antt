@@ -1,4 +1,4 @@
-use Rattle.std.proofs.Common.{◌≡◌, ◌<◌, ℕ, true, false, arith, length, refl, sym, ◌∙◌}
+use Rattle.std.proofs.Common.{◌≡◌, true, false, arith, length, refl}
 use Rattle.std.specs.Prelude.{Some, slice_get}
 use Rattle.std.proofs.lemmas.Option.{slice_get_read}
 use Rattle.can_node.specs.Ports.{goes_before}

@@ -1,4 +1,3 @@
-use Rattle.std.proofs.Common.{◌≡◌}
 use Rattle.std.specs.Option.{option_copied}
 use Rattle.can_mac.specs.State.{IsWaiting}
 use Rattle.can_mac.proofs.Kept.{step_kept}

@@ -1,4 +1,4 @@
-use Rattle.std.proofs.Common.{◌≡◌, ℕ, true, false, arith, length, sym, ◌∙◌, subst}
+use Rattle.std.proofs.Common.{◌≡◌, true, false, arith, length, sym, ◌∙◌, subst}
 use Rattle.std.specs.Prelude.{Some, None, slice_get, ◌++◌, ◌∷◌, []}
 use Rattle.can_node.specs.Ports.{goes_before, waiting}
 use Rattle.can_node.proofs.WaitingLemmas.{next-stays, next-new, next-only}

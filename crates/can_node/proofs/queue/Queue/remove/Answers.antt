@@ -1,5 +1,5 @@
-use Rattle.std.proofs.Common.{◌≡◌, ℕ, sym, ◌∙◌, ap}
-use Rattle.std.specs.Prelude.{Some, None, position, remove}
+use Rattle.std.proofs.Common.{◌≡◌, sym, ◌∙◌}
+use Rattle.std.specs.Prelude.{Some, None, position}
 use Rattle.can_frame.specs.Parts.{IsFrame}
 use Rattle.can_node.specs.Ports.{same_field}
 use Rattle.can_node.proofs.WaitingLemmas.{each-remove, without-found, without-none}
