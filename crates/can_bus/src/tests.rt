@@ -1,3 +1,5 @@
+mod ports;
+
 use crate::{BusFault, Hit, wired};
 use can_frame::Level;
 use std::test::Fail;
