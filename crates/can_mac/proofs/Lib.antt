@@ -1,16 +1,18 @@
+-- what holds of every controller stays
 pub mod ConfineKept
-pub mod Contending
-mod DriveLemmas
-pub mod FrameDrives
-pub mod FrameEnds
-pub mod FrameParts
-pub mod FrameRoles
-pub mod FrameRuns
-pub mod FrameSteps
 pub mod Kept
 pub mod KeptMoves
 pub mod Landing
+mod DriveLemmas
 pub mod PartEnds
+-- a frame at each controller, level by level
+pub mod FrameEnds
+pub mod FrameParts
+pub mod FrameRoles
+pub mod FrameSteps
+pub mod FrameRuns
+pub mod FrameDrives
+pub mod Contending
 -- bit times in a row, and where each ends
 pub mod Turns
 pub mod TurnEnds
@@ -20,9 +22,5 @@ pub mod PartHearing
 pub mod EndHearing
 pub mod HearingMoves
 pub mod HearingTurns
--- what the levels of a wire make of a controller
-pub mod Yields
-pub mod WireMoves
-pub mod WireYields
-pub mod WireRuns
+-- known values
 mod Rows

@@ -21,8 +21,10 @@
 //!
 //! Each function of `moves` has the cases of one definition, in the same order. Crates above find
 //! lemmas in `proofs/`: that what holds of every controller stays (`Kept`, `KeptMoves`), and of
-//! its counters (`ConfineKept`); and of a frame at each controller, level by level (`FrameEnds`,
-//! `FrameParts`, `FrameRoles`, `FrameSteps`, `FrameRuns`, `FrameDrives`, `Contending`). `Rows` computes the definitions on levels whose outcome is known.
+//! its counters (`ConfineKept`); of a frame at each controller, level by level (`FrameEnds`,
+//! `FrameParts`, `FrameRoles`, `FrameSteps`, `FrameRuns`, `FrameDrives`, `Contending`); and what a
+//! controller knows of the levels that it has seen (`Turns`, `TurnEnds`, `Hearing`, `HearingTurns`).
+//! `Rows` computes the definitions on levels whose outcome is known.
 #![tactic(auto)]
 
 mod driving;

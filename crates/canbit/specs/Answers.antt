@@ -11,8 +11,8 @@ abbrev pub PassesAll : List ℕ → List ℕ → Type 0
 PassesAll input output = (count : ℕ) × ChecksAll count count input output
 
 -- the output is the answer to vectors that do not all pass
-abbrev pub PassesSome : List ℕ → List ℕ → Type 0
-PassesSome input output = (passed : ℕ) × ((count : ℕ) × (passed ≢ count) × ChecksAll passed count input output)
+abbrev pub PassesNotAll : List ℕ → List ℕ → Type 0
+PassesNotAll input output = (passed : ℕ) × ((count : ℕ) × (passed ≢ count) × ChecksAll passed count input output)
 
 -- all is done
 abbrev pub AnswersAll : Chosen → List ℕ → List ℕ → Type 0
@@ -54,7 +54,7 @@ HasBadLine Check number reader_ended input output = (fault : _) × IsFirstBadVec
 abbrev pub HasDifferences : Chosen → Bool → List ℕ → List ℕ → Type 0
 HasDifferences Encode reader_ended input output = ⊥
 HasDifferences Decode reader_ended input output = ⊥
-HasDifferences Check reader_ended input output = IsTrue reader_ended × PassesSome input output
+HasDifferences Check reader_ended input output = IsTrue reader_ended × PassesNotAll input output
 
 -- the input is refused
 abbrev pub RefusesInput : Chosen → Bool → List ℕ → List ℕ → Type 0
