@@ -1,3 +1,5 @@
+mod rules;
+
 use crate::{ErrorKind, Event, Mac};
 use can_frame::{Frame, Id, Level};
 use std::process::Abort;
