@@ -7,3 +7,6 @@ pub mod CheckLemmas
 pub mod RunLemmas
 pub mod Reduction
 pub mod Ascending
+-- a quiet bus
+pub mod PlainRuns
+pub mod FrameOnBus
