@@ -43,7 +43,7 @@ other_goes f g e other =
 rising_head : (f : Parts) (frames : List Parts) → IsRising (f ∷ frames) → All (Goes f) frames
 rising_head f frames rising k d h = rising 0 (suc k) f (get_or frames k d) (omega arith) refl (slice_get-get_or frames k d h)
 
-rising_tail : (f : Parts) (frames : List Parts) → IsRising (f ∷ frames) → IsRising frames
+pub rising_tail : (f : Parts) (frames : List Parts) → IsRising (f ∷ frames) → IsRising frames
 rising_tail f frames rising m n g h less a b = rising (suc m) (suc n) g h (omega arith) a b
 
 rising_cons : (f : Parts) (frames : List Parts) → All (Goes f) frames → IsRising frames → IsRising (f ∷ frames)

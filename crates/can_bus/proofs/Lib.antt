@@ -10,3 +10,6 @@ pub mod Ascending
 -- a quiet bus
 pub mod PlainRuns
 pub mod FrameOnBus
+pub mod Contests
+pub mod Rounds
+pub mod QuietLine
