@@ -203,7 +203,7 @@ ascending_of frames differ = record { rising = ascending_rising frames differ; a
 
 -- ---- two lists that rise and have the same elements
 
-contains_cases : (g x : Parts) (b : List Parts) → Contains (g ∷ b) x → (g ≡ x) ⊎ Contains b x
+pub contains_cases : (g x : Parts) (b : List Parts) → Contains (g ∷ b) x → (g ≡ x) ⊎ Contains b x
 contains_cases g x b (zero, h, e) = inl e
 contains_cases g x b (suc k, h, e) = inr (k, omega arith, e)
 

@@ -13,3 +13,4 @@ pub mod FrameOnBus
 pub mod Contests
 pub mod Rounds
 pub mod QuietLine
+pub mod QuietStart
