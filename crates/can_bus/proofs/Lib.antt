@@ -14,3 +14,4 @@ pub mod Contests
 pub mod Rounds
 pub mod QuietLine
 pub mod QuietStart
+pub mod QuietLogs

@@ -63,7 +63,7 @@ none-queued : (queue : List Parts) → ((x : Parts) → Has x queue → ⊥) →
 none-queued [] none = refl
 none-queued (f ∷ queue) none = absurd (none f (inl refl))
 
-calm-rests : (n : ℕ) (ports : List PortState) → AllPorts (IsCalm n) ports → ((x : Parts) → Has x (queued ports) → ⊥) → AllPorts IsAtRest ports
+pub calm-rests : (n : ℕ) (ports : List PortState) → AllPorts (IsCalm n) ports → ((x : Parts) → Has x (queued ports) → ⊥) → AllPorts IsAtRest ports
 calm-rests n [] calm none = tt
 calm-rests n (p ∷ ports) calm none = (
   record { idle = calm.0.idle; empty = none-queued p.queue (λ x h. none x (has-front x p.queue (queued ports) h)) },

@@ -142,7 +142,7 @@ received-next f queue before after has distinct next = record {
   ];
 }
 
-sends-has : (f : Parts) (p : PortState) → Sends f p → Has f p.queue
+pub sends-has : (f : Parts) (p : PortState) → Sends f p → Has f p.queue
 sends-has f p sends = let is : IsWaiting p.queue f = waiting-IsWaiting p.queue f sends.own in has-at f p.queue is.place is.stands
 
 one-has : (f : Parts) (ports : List PortState) → OneSends f ports → Has f (queued ports)
@@ -169,7 +169,7 @@ pub record Round (frames : List Parts) (ports : List PortState) : Type 0 where
   pub from : (x : Parts) → Has x frames → Has x (queued ports)
   pub calm : AllPorts (IsCalm (length frames)) ports
 
-rising-goes : (f : Parts) (frames : List Parts) → IsRising (f ∷ frames) → (x : Parts) → Has x frames → Goes f x
+pub rising-goes : (f : Parts) (frames : List Parts) → IsRising (f ∷ frames) → (x : Parts) → Has x frames → Goes f x
 rising-goes f frames rising x h = let i = at-has x frames h in rising 0 (suc i.0) f x (omega arith) refl i.1
 
 frame-has : (x : Parts) (queue : List Parts) → AreFrames queue → Has x queue → IsFrame x
