@@ -15,3 +15,4 @@ pub mod Rounds
 pub mod QuietLine
 pub mod QuietStart
 pub mod QuietLogs
+pub mod QuietBus

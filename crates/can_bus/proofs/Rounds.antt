@@ -31,7 +31,7 @@ pub record IsClean (c : ConfineParts) : Type 0 where
   pub rec : c.rec ≡ 0
 
 -- a sent frame changes nothing then, nor does a received one
-sent-clean : (c : ConfineParts) → IsClean c → counted FrameSent c ≡ c
+pub sent-clean : (c : ConfineParts) → IsClean c → counted FrameSent c ≡ c
 sent-clean c clean =
     let none : c.tec - 1 ≡ c.tec = omega (arith, clean.tec) in
     cond_both {A = ConfineParts} (is_bus_off c) c (changed FrameSent c) (λ d. d ≡ c) (λ e. refl) (λ e. ap (λ n. record c { tec = n }) none)
@@ -39,7 +39,7 @@ sent-clean c clean =
 rec-clean : (rec : ℕ) → rec ≡ 0 → rec_after_reception rec ≡ rec
 rec-clean rec none = ap rec_after_reception none ∙ sym none
 
-received-clean : (c : ConfineParts) → IsClean c → counted FrameReceived c ≡ c
+pub received-clean : (c : ConfineParts) → IsClean c → counted FrameReceived c ≡ c
 received-clean c clean =
     cond_both {A = ConfineParts} (is_bus_off c) c (changed FrameReceived c) (λ d. d ≡ c) (λ e. refl) (λ e. ap (λ n. record c { rec = n }) (rec-clean c.rec clean.rec))
 
