@@ -17,12 +17,13 @@ use Rattle.can_mac.specs.Frames.{line, behind_part, role_at, counters_after}
 use Rattle.can_node.specs.Ports.{PortState, IsPort, waiting, port_step, port_run}
 use Rattle.can_node.proofs.OneFrame.{Meets, port_at, port_step-at}
 use Rattle.can_node.proofs.FrameLeaves.{sends-Meets, receives-Meets}
-use Rattle.can_bus.specs.Run.{BusState, bus_run}
-use Rattle.can_bus.specs.Quiet.{IsQuiet, IsQuietPort, IsAscending, AtEachPort, LogsBegin, LogsWhole, CountsNothing, queued, span, marked, with_intermission}
+use Rattle.can_bus.specs.declared.hit.Hit.{Hit}
+use Rattle.can_bus.specs.Run.{BusState, bus_level, bus_run}
+use Rattle.can_bus.specs.Quiet.{IsQuiet, IsQuietPort, IsQuietCall, IsAscending, line_at, AtEachPort, LogsBegin, LogsWhole, CountsNothing, queued, span, marked, with_intermission}
 use Rattle.can_bus.proofs.PlainRuns.{sees, Follows, all_run, follows-run}
 use Rattle.can_bus.proofs.Contests.{AllPorts}
 use Rattle.can_bus.proofs.Rounds.{IsClean, Round, sent-clean, received-clean}
-use Rattle.can_bus.proofs.QuietLine.{IsAtRest, rest-step, round-follows}
+use Rattle.can_bus.proofs.QuietLine.{IsAtRest, rest-step, round-follows, round-levels}
 use Rattle.can_bus.proofs.QuietStart.{each-port, quiet-round}
 use Rattle.can_bus.proofs.QuietLogs.{Chain, TakesPart, round-chain, frames_then, frames_then-first, chain-log, log-begins}
 
@@ -171,3 +172,24 @@ module _ (frames : List Parts) (bus : BusState) (n : ℕ) (valid : AllPorts IsPo
       omega (arith, past, length-append (flat_map with_intermission frames) (replicate m Recessive), length-replicate m Recessive, length-frames frames) in
       subst (AtEachPort (LogsWhole frames) bus.ports) (sym (ports-after (frames_then frames m) n bus size (round-follows frames m bus.ports two round)))
       (each-run (LogsWhole frames) Starts (λ p. port_run p (frames_then frames m)) (log-is m) bus.ports starts)
+
+-- ---- a call
+
+module _ (hits : List Hit) (bus : BusState) (valid : AllPorts IsPort bus.ports) where
+  pub call-line : (frames : List Parts) → IsQuietCall hits bus.ports frames → (t : ℕ) → bus_level hits t bus ≡ line_at frames t
+  call-line frames call t =
+      ap (λ none. bus_level none t bus) call.undisturbed
+      ∙ round-levels frames bus t (omega (arith, call.quiet.two)) (quiet-round frames bus.ports valid call.quiet call.ascending)
+
+  module _ (n : ℕ) (after : BusState) (ran : after ≡ bus_run hits n bus) where
+    plain : (frames : List Parts) → IsQuietCall hits bus.ports frames → (bus_run [] n bus).ports ≡ after.ports
+    plain frames call = sym (ap (λ (b : BusState). b.ports) (ran ∙ ap (λ none. bus_run none n bus) call.undisturbed))
+
+    pub call-logs : (frames : List Parts) → IsQuietCall hits bus.ports frames → AtEachPort (LogsBegin frames) bus.ports after.ports
+    call-logs frames call = subst (AtEachPort (LogsBegin frames) bus.ports) (plain frames call) (quiet-logs frames bus n valid call.quiet call.ascending)
+
+    pub call-whole : (frames : List Parts) → IsQuietCall hits bus.ports frames → span frames ≤ n → AtEachPort (LogsWhole frames) bus.ports after.ports
+    call-whole frames call past = subst (AtEachPort (LogsWhole frames) bus.ports) (plain frames call) (quiet-whole frames bus n valid call.quiet call.ascending past)
+
+    pub call-counters : (frames : List Parts) → IsQuietCall hits bus.ports frames → AtEachPort CountsNothing bus.ports after.ports
+    call-counters frames call = subst (AtEachPort CountsNothing bus.ports) (plain frames call) (quiet-counters frames bus n valid call.quiet call.ascending)
