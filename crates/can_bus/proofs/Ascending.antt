@@ -17,7 +17,7 @@ use Rattle.can_frame.proofs.FieldLemmas.{fields_ranked, key_cmp-tells}
 use Rattle.can_node.specs.Ports.{is_less, goes_before}
 use Rattle.can_bus.specs.Quiet.{IsRising, IsAscending, AreDifferent, inserted, ascending}
 
-abbrev Goes : Parts → Parts → Type 0
+abbrev pub Goes : Parts → Parts → Type 0
 Goes f g = Before (arbitration_field f) (arbitration_field g)
 
 is_less-true : (o : Ordering) → is_less o ≡ true → o ≡ Less
@@ -69,7 +69,7 @@ ahead_inserted h f [] first all = All-cons (Goes h) f [] first all
 ahead_inserted h f (g ∷ frames) first all =
     ahead_placed (goes_before g f) h f g frames first all (ahead_inserted h f frames first (All-tail (Goes h) g frames all))
 
-abbrev Other : Parts → Parts → Type 0
+abbrev pub Other : Parts → Parts → Type 0
 Other f g = arbitration_field f ≢ arbitration_field g
 
 rising_placed : (place : Bool) (f g : Parts) (frames : List Parts) → goes_before g f ≡ place → IsRising (g ∷ frames) → All (Other f) (g ∷ frames) → IsRising (inserted f frames) →

@@ -1,23 +1,17 @@
 -- Who sends: of ports whose frames all differ, the one that has the least frame; and what is left behind it.
-use Rattle.std.proofs.Common.{◌≡◌, ◌≢◌, ℕ, zero, suc, ◌+◌, ◌<◌, ◌≤◌, ◌⊎◌, true, false, Option, Some, None, List, [], ◌∷◌, ◌++◌, length, map, refl, sym, ◌∙◌, ap, subst, arith, inl, inr}
+use Rattle.std.proofs.Common.{◌≡◌, ◌≢◌, ℕ, zero, suc, ◌⊎◌, true, Option, Some, None, List, [], ◌∷◌, ◌++◌, refl, sym, ◌∙◌, ap, subst, inl, inr}
 use Rattle.std.specs.Prelude.{slice_get}
 use Rattle.std.proofs.lemmas.Bool.{cond-true, cond-false, cases_Bool}
-use Rattle.can_frame.specs.Parts.{Parts, IsFrame}
+use Rattle.can_frame.specs.Parts.{Parts}
 use Rattle.can_frame.specs.Arbitration.{arbitration_field, Before}
-use Rattle.can_frame.proofs.BeforeLemmas.{Before-differs}
 use Rattle.can_node.specs.Ports.{PortState, same_field, waiting, without}
 use Rattle.can_node.specs.Waiting.{IsWaiting}
 use Rattle.can_node.proofs.WaitingLemmas.{same_field-Shares, Shares-same_field}
 use Rattle.can_node.proofs.WaitingLaws.{waiting-none, waiting-IsWaiting}
-use Rattle.can_node.proofs.FrameLeaves.{IsReady, Sends, Receives, ComesBehind}
+use Rattle.can_node.proofs.FrameLeaves.{IsReady, ComesBehind}
 use Rattle.can_bus.specs.Quiet.{queued}
+use Rattle.can_bus.proofs.Ascending.{Goes, Other}
 use Rattle.can_bus.proofs.FrameOnBus.{AllReceive, OneSends}
-
-abbrev pub Goes : Parts → Parts → Type 0
-Goes f g = Before (arbitration_field f) (arbitration_field g)
-
-abbrev pub Other : Parts → Parts → Type 0
-Other f g = arbitration_field f ≢ arbitration_field g
 
 -- the frame is one of these
 abbrev pub Has : Parts → List Parts → Type 0

@@ -1,6 +1,6 @@
 -- One frame on a bus whose ports are idle: at one port it is the frame that waits, and at each other one a frame waits
 -- that comes behind it, or none. Then the wire has the levels of the frame.
-use Rattle.std.proofs.Common.{◌≡◌, ℕ, ◌+◌, ◌<◌, ◌⊎◌, Option, Some, None, List, [], ◌∷◌, length, refl, ap, sym, ◌∙◌, arith, inl, inr}
+use Rattle.std.proofs.Common.{◌≡◌, ℕ, ◌+◌, ◌<◌, ◌⊎◌, Option, List, [], ◌∷◌, length, refl, ap, ◌∙◌, arith, inl, inr}
 use Rattle.std.proofs.lemmas.Bool.{cases_eq}
 use Rattle.std.proofs.lemmas.List.{length-append}
 use Rattle.can_frame.specs.declared.level.Level.{Level}
@@ -8,13 +8,11 @@ use Rattle.can_frame.specs.declared.level.Level.TheVariants.{Dominant, Recessive
 use Rattle.can_frame.specs.Parts.{Parts, IsFrame}
 use Rattle.can_code.specs.Wire.{stuffed_part, tail, driven}
 use Rattle.can_code.specs.Layout.{level_at}
-use Rattle.can_mac.specs.declared.phase.Role.{Role}
-use Rattle.can_mac.specs.declared.phase.Role.TheVariants.{Receiver, Sender}
 use Rattle.can_mac.specs.State.{IsWaiting}
-use Rattle.can_mac.specs.Frames.{line, driven_line, slot_place, role_at, role_drives, frame_drives, GoesBehind}
+use Rattle.can_mac.specs.Frames.{line, driven_line, slot_place, role_drives, frame_drives, GoesBehind}
 use Rattle.can_mac.proofs.FrameParts.{length-line}
 use Rattle.can_mac.proofs.FrameRoles.{role-own}
-use Rattle.can_mac.proofs.FrameDrives.{Over, own-line, own-slot, receiver-slot, frame-over}
+use Rattle.can_mac.proofs.FrameDrives.{own-line, own-slot, receiver-slot, frame-over}
 use Rattle.can_node.specs.Ports.{PortState, waiting, port_drives}
 use Rattle.can_node.proofs.OneFrame.{Meets, port_at, port_step-at, port_drives-at}
 use Rattle.can_node.proofs.FrameLeaves.{Sends, Receives, ComesBehind, sends-Meets, receives-Meets, receiver-late}

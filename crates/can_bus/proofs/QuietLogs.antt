@@ -1,7 +1,7 @@
 -- What the frames of a quiet bus leave in the logs.
 use Rattle.std.specs.Prelude.{nat_lt, ◌||◌}
 use Rattle.std.specs.List.{flat_map}
-use Rattle.std.proofs.Common.{◌≡◌, ◌≢◌, ℕ, zero, suc, ◌+◌, ◌<◌, ◌≤◌, ◌⊎◌, Bool, true, false, Option, Some, None, List, [], ◌∷◌, ◌++◌, length, map, take, drop, replicate, refl, sym, ◌∙◌, ap, subst, arith, inl, inr, append_assoc}
+use Rattle.std.proofs.Common.{◌≡◌, ℕ, zero, suc, ◌⊎◌, Bool, true, false, Option, Some, None, List, [], ◌∷◌, ◌++◌, length, take, drop, replicate, refl, sym, ◌∙◌, ap, subst, inl, inr, append_assoc}
 use Rattle.std.proofs.lemmas.Bool.{cases_Bool, cond-true, cond-false, cond_both}
 use Rattle.std.proofs.lemmas.List.{append-nil, take-append-drop}
 use Rattle.can_frame.specs.declared.level.Level.{Level}
@@ -18,12 +18,12 @@ use Rattle.can_node.specs.Ports.{PortState, same_field, waiting, without, logged
 use Rattle.can_node.specs.Waiting.{IsWaiting}
 use Rattle.can_node.proofs.WaitingLemmas.{same_field-Shares, Shares-same_field}
 use Rattle.can_node.proofs.WaitingLaws.{waiting-none, waiting-IsWaiting}
-use Rattle.can_node.proofs.FrameLeaves.{Sends, Receives, ComesBehind, sent_port, received_port, port_run-sent, port_run-received}
+use Rattle.can_node.proofs.FrameLeaves.{Sends, Receives, ComesBehind, port_run-sent, port_run-received}
 use Rattle.can_bus.specs.Quiet.{IsRising, with_intermission, holds, marked, Begins}
-use Rattle.can_bus.proofs.Ascending.{rising_tail}
+use Rattle.can_bus.proofs.Ascending.{Other, rising_tail}
 use Rattle.can_bus.proofs.PlainRuns.{all_run}
 use Rattle.can_bus.proofs.FrameOnBus.{AllReceive, OneSends}
-use Rattle.can_bus.proofs.Contests.{Goes, Other, Has, AllPorts, at-has, has-at}
+use Rattle.can_bus.proofs.Contests.{Has, AllPorts, at-has}
 use Rattle.can_bus.proofs.Rounds.{Round, round-sends, round-next, rising-goes, sends-has}
 use Rattle.can_bus.proofs.QuietLine.{IsAtRest, rest-step, calm-rests}
 
@@ -136,7 +136,6 @@ frames_then-first f frames m = append_assoc (with_intermission f) (flat_map with
 pub chain-log : (frames : List Parts) (m : ℕ) (p : PortState) → IsRising frames → Chain frames p → (port_run p (frames_then frames m)).log ≡ p.log ++ marked p.queue frames
 chain-log [] m p rising chain = ap (λ (q : PortState). q.log) (rest-run m p chain) ∙ sym (append-nil p.log)
 chain-log (f ∷ frames) m p rising chain =
-    let q : PortState = port_run p (line f) in
     ap (λ levels. (port_run p levels).log) (frames_then-first f frames m)
     ∙ ap (λ (r : PortState). r.log) (port_run-append (line f) (frames_then frames m) p)
     ∙ chain-log frames m (port_run p (line f)) (rising_tail f frames rising) chain.1

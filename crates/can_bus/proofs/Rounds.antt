@@ -1,29 +1,24 @@
 -- One frame after another on a quiet bus, and then nothing.
-use Rattle.std.specs.List.{flat_map}
-use Rattle.std.proofs.Common.{◌≡◌, ◌≢◌, ℕ, zero, suc, ◌+◌, ◌-◌, ◌<◌, ◌≤◌, ◌⊎◌, true, false, Option, Some, None, List, [], ◌∷◌, ◌++◌, length, map, replicate, refl, sym, ◌∙◌, ap, subst, arith, inl, inr, append_assoc}
-use Rattle.std.proofs.lemmas.Bool.{cond_both, leb-true}
-use Rattle.std.proofs.lemmas.List.{length-map, length-append}
-use Rattle.can_frame.specs.declared.level.Level.{Level}
-use Rattle.can_frame.specs.declared.level.Level.TheVariants.{Recessive}
+use Rattle.std.proofs.Common.{◌≡◌, ℕ, suc, ◌+◌, ◌-◌, ◌≤◌, true, false, List, [], ◌∷◌, ◌++◌, length, refl, sym, ◌∙◌, ap, subst, arith, inl, inr}
+use Rattle.std.proofs.lemmas.Bool.{cond_both}
+use Rattle.std.proofs.lemmas.List.{length-append}
 use Rattle.can_frame.specs.Parts.{Parts, IsFrame}
 use Rattle.can_frame.proofs.BeforeLemmas.{Before-differs}
 use Rattle.can_frame.specs.Arbitration.{arbitration_field}
 use Rattle.can_fault.specs.declared.cause.Cause.TheVariants.{FrameSent, FrameReceived}
 use Rattle.can_fault.specs.Counters.{ConfineParts, is_bus_off, changed, counted, rec_after_reception}
 use Rattle.can_mac.specs.declared.phase.Phase.TheVariants.{Idle}
-use Rattle.can_mac.specs.Frames.{line, IsActive}
-use Rattle.can_mac.specs.Machine.{mac_step, mac_drives}
-use Rattle.can_node.specs.Ports.{PortState, waiting, without, port_drives, port_step, port_run}
+use Rattle.can_mac.specs.Frames.{line}
+use Rattle.can_node.specs.Ports.{PortState, without, port_run}
 use Rattle.can_node.proofs.FramesWaiting.{AreFrames, AreFrames-without, IsWaiting-waiting}
 use Rattle.can_node.specs.Waiting.{IsWaiting}
 use Rattle.can_node.proofs.WaitingLaws.{waiting-IsWaiting}
-use Rattle.can_node.proofs.FrameLeaves.{IsReady, Sends, Receives, sent_port, received_port, port_run-sent, port_run-received}
-use Rattle.can_bus.specs.Wired.{over, wired}
-use Rattle.can_bus.specs.Quiet.{IsRising, queued, with_intermission}
-use Rattle.can_bus.proofs.Ascending.{rising_tail}
-use Rattle.can_bus.proofs.PlainRuns.{sees, Follows, all_run, follows-append}
-use Rattle.can_bus.proofs.FrameOnBus.{AllReceive, OneSends, frame-follows}
-use Rattle.can_bus.proofs.Contests.{Goes, Other, Has, Distinct, AllPorts, has-front, has-back, has-cases, distinct-front, distinct-back, distinct-across, distinct-append, winner, has-at, at-has, has-without, has-left, gone, distinct-without}
+use Rattle.can_node.proofs.FrameLeaves.{IsReady, Sends, Receives, port_run-sent, port_run-received}
+use Rattle.can_bus.specs.Quiet.{IsRising, queued}
+use Rattle.can_bus.proofs.Ascending.{Goes, Other, rising_tail}
+use Rattle.can_bus.proofs.PlainRuns.{all_run}
+use Rattle.can_bus.proofs.FrameOnBus.{AllReceive, OneSends}
+use Rattle.can_bus.proofs.Contests.{Has, Distinct, AllPorts, has-front, has-back, has-cases, distinct-front, distinct-back, distinct-across, distinct-append, winner, has-at, at-has, has-without, has-left, gone, distinct-without}
 
 -- no error has been counted
 pub record IsClean (c : ConfineParts) : Type 0 where
@@ -115,7 +110,7 @@ sent-next : (f : Parts) (queue rest : List Parts) → Has f queue → Distinct (
 sent-next f queue rest has distinct = record {
   distinct =
       distinct-append (without f queue) rest (distinct-without f queue (distinct-front queue rest distinct)) (distinct-back queue rest distinct)
-          (λ x y i j. distinct-across queue rest distinct x y (has-without f x queue i) j);
+      (λ x y i j. distinct-across queue rest distinct x y (has-without f x queue i) j);
   from = λ x h. elim (has-cases x (without f queue) rest h) [ inl i ↦ has-front x queue rest (has-without f x queue i) | inr j ↦ has-back x queue rest j ];
   other = λ x h. elim (has-cases x (without f queue) rest h) [
     | inl i ↦ gone f queue (distinct-front queue rest distinct) x i
