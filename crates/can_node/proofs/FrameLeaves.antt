@@ -1,30 +1,28 @@
 -- What a frame leaves at a port: it has sent it, or received it, and is idle again.
-use Rattle.std.proofs.Common.{◌≡◌, ◌≢◌, ℕ, zero, suc, ◌+◌, ◌-◌, ◌<◌, ◌≤◌, Bool, true, false, Option, Some, None, List, [], ◌∷◌, ◌++◌, length, take, refl, sym, ◌∙◌, ap, subst, arith, inl, inr}
+use Rattle.std.proofs.Common.{◌≡◌, ◌≢◌, ℕ, zero, suc, ◌+◌, ◌<◌, ◌≤◌, Bool, true, false, Option, Some, None, [], ◌∷◌, ◌++◌, length, refl, ◌∙◌, ap, arith, inl, inr}
 use Rattle.std.specs.Prelude.{nat_lt}
 use Rattle.std.proofs.Math.Dec.{ltb, eqb}
-use Rattle.std.proofs.lemmas.Bool.{cond-true, cond-false, cond_both, cases_lt, lt-ltb, le-ltb, ne_eqb}
-use Rattle.can_frame.specs.declared.level.Level.{Level}
+use Rattle.std.proofs.lemmas.Bool.{cond-true, cond-false, cases_lt, lt-ltb, le-ltb, ne_eqb}
 use Rattle.can_frame.specs.Parts.{Parts, IsFrame}
 use Rattle.can_frame.specs.Arbitration.{arbitration_field, Before}
 use Rattle.can_code.specs.Wire.{stuffed_part}
-use Rattle.can_code.specs.Layout.{level_at}
 use Rattle.can_fault.specs.declared.cause.Cause.{Cause}
 use Rattle.can_fault.specs.declared.cause.Cause.TheVariants.{FrameSent, FrameReceived}
-use Rattle.can_fault.specs.Counters.{ConfineParts, counted}
+use Rattle.can_fault.specs.Counters.{counted}
 use Rattle.can_mac.specs.declared.event.Event.{Event}
 use Rattle.can_mac.specs.declared.event.Event.TheVariants.{Sent, Received}
 use Rattle.can_mac.specs.declared.phase.Role.{Role}
 use Rattle.can_mac.specs.declared.phase.Role.TheVariants.{Receiver, Sender}
 use Rattle.can_mac.specs.declared.phase.Phase.TheVariants.{Idle}
 use Rattle.can_mac.specs.State.{MacState, IsWaiting}
-use Rattle.can_mac.specs.Frames.{line, behind_part, role_at, frame_state, frame_event, end_event, loss, counters_after, IsActive, GoesBehind}
+use Rattle.can_mac.specs.Frames.{line, behind_part, role_at, frame_state, frame_event, end_event, loss, IsActive, GoesBehind}
 use Rattle.can_mac.proofs.FrameParts.{length-line}
 use Rattle.can_mac.proofs.FrameEnds.{end_state}
 use Rattle.can_mac.proofs.FrameRoles.{role-own, role-parted, parting}
 use Rattle.can_mac.proofs.FrameSteps.{event-early, state-late}
 use Rattle.can_node.specs.declared.entry.Entry.{Entry}
-use Rattle.can_node.specs.Ports.{PortState, waiting, without, logged, noted, port_step, port_run}
-use Rattle.can_node.proofs.OneFrame.{Meets, at_mac, noted_at, port_at, port_run-at, port_step-at}
+use Rattle.can_node.specs.Ports.{PortState, waiting, without, logged, noted, port_run}
+use Rattle.can_node.proofs.OneFrame.{Meets, at_mac, noted_at, port_at, port_run-at}
 
 -- an event that leaves queue and log as they are
 abbrev IsUnnoted : Option Event → Type 0

@@ -3,28 +3,18 @@ use Rattle.std.proofs.Common.{◌≡◌, ℕ, zero, suc, ◌+◌, ◌<◌, ◌�
 use Rattle.std.specs.Prelude.{nat_lt}
 use Rattle.std.proofs.lemmas.Bool.{cond-true, cond-false, cases_Bool}
 use Rattle.can_frame.specs.declared.level.Level.{Level}
-use Rattle.can_frame.specs.Parts.{Parts, IsFrame}
-use Rattle.can_frame.specs.Arbitration.{arbitration_field, Before}
-use Rattle.can_code.specs.Wire.{stuffed_part, wire}
+use Rattle.can_frame.specs.Parts.{Parts}
 use Rattle.can_code.specs.Layout.{level_at}
-use Rattle.can_fault.specs.declared.cause.Cause.{Cause}
-use Rattle.can_fault.specs.declared.cause.Cause.TheVariants.{FrameSent, FrameReceived}
-use Rattle.can_fault.specs.Counters.{ConfineParts, counted}
 use Rattle.can_mac.specs.declared.event.Event.{Event}
 use Rattle.can_mac.specs.declared.event.Event.TheVariants.{Sent, Received, Lost, Error, Overload, WentOff, Recovered}
-use Rattle.can_mac.specs.declared.phase.Role.{Role}
-use Rattle.can_mac.specs.declared.phase.Role.TheVariants.{Receiver, Sender}
-use Rattle.can_mac.specs.declared.phase.Phase.TheVariants.{Idle}
-use Rattle.can_mac.specs.State.{MacState, IsWaiting}
-use Rattle.can_mac.specs.Machine.{mac_drives, mac_step}
-use Rattle.can_mac.specs.Frames.{line, behind_part, role_at, frame_state, frame_event, frame_drives, end_event, loss, StartsWith, AreHeard}
-use Rattle.can_mac.proofs.FrameParts.{length-wire, length-line}
-use Rattle.can_mac.proofs.FrameEnds.{end_state}
-use Rattle.can_mac.proofs.FrameSteps.{outcome, event-early, state-late, step-next}
+use Rattle.can_mac.specs.State.{MacState}
+use Rattle.can_mac.specs.Machine.{mac_step}
+use Rattle.can_mac.specs.Frames.{line, frame_state, frame_event, frame_drives, StartsWith, AreHeard}
+use Rattle.can_mac.proofs.FrameSteps.{step-next}
 use Rattle.can_mac.proofs.FrameRuns.{state_after-frame, told_at-frame}
 use Rattle.can_mac.proofs.FrameDrives.{driven_at-frame, drives-frame}
 use Rattle.can_node.specs.declared.entry.Entry.{Entry}
-use Rattle.can_node.specs.Ports.{PortState, waiting, without, logged, noted, port_drives, port_event, port_step, port_run}
+use Rattle.can_node.specs.Ports.{PortState, waiting, without, logged, noted, port_drives, port_step, port_run}
 
 -- a run through known states
 pub port_run-through : (levels : List Level) (s : ℕ → PortState) → ((o : ℕ) → o < length levels → port_step (s o) (level_at levels o) ≡ s (suc o)) → port_run (s 0) levels ≡ s (length levels)
