@@ -17,7 +17,7 @@ use Rattle.can_frame.proofs.FieldLemmas.{fields_ranked, key_cmp-tells}
 use Rattle.can_node.specs.Ports.{is_less, goes_before}
 use Rattle.can_bus.specs.Quiet.{IsRising, IsAscending, AreDifferent, inserted, ascending}
 
-abbrev Goes : Parts → Parts → Type 0
+abbrev pub Goes : Parts → Parts → Type 0
 Goes f g = Before (arbitration_field f) (arbitration_field g)
 
 is_less-true : (o : Ordering) → is_less o ≡ true → o ≡ Less
@@ -43,7 +43,7 @@ other_goes f g e other =
 rising_head : (f : Parts) (frames : List Parts) → IsRising (f ∷ frames) → All (Goes f) frames
 rising_head f frames rising k d h = rising 0 (suc k) f (get_or frames k d) (omega arith) refl (slice_get-get_or frames k d h)
 
-rising_tail : (f : Parts) (frames : List Parts) → IsRising (f ∷ frames) → IsRising frames
+pub rising_tail : (f : Parts) (frames : List Parts) → IsRising (f ∷ frames) → IsRising frames
 rising_tail f frames rising m n g h less a b = rising (suc m) (suc n) g h (omega arith) a b
 
 rising_cons : (f : Parts) (frames : List Parts) → All (Goes f) frames → IsRising frames → IsRising (f ∷ frames)
@@ -69,7 +69,7 @@ ahead_inserted h f [] first all = All-cons (Goes h) f [] first all
 ahead_inserted h f (g ∷ frames) first all =
     ahead_placed (goes_before g f) h f g frames first all (ahead_inserted h f frames first (All-tail (Goes h) g frames all))
 
-abbrev Other : Parts → Parts → Type 0
+abbrev pub Other : Parts → Parts → Type 0
 Other f g = arbitration_field f ≢ arbitration_field g
 
 rising_placed : (place : Bool) (f g : Parts) (frames : List Parts) → goes_before g f ≡ place → IsRising (g ∷ frames) → All (Other f) (g ∷ frames) → IsRising (inserted f frames) →
@@ -203,7 +203,7 @@ ascending_of frames differ = record { rising = ascending_rising frames differ; a
 
 -- ---- two lists that rise and have the same elements
 
-contains_cases : (g x : Parts) (b : List Parts) → Contains (g ∷ b) x → (g ≡ x) ⊎ Contains b x
+pub contains_cases : (g x : Parts) (b : List Parts) → Contains (g ∷ b) x → (g ≡ x) ⊎ Contains b x
 contains_cases g x b (zero, h, e) = inl e
 contains_cases g x b (suc k, h, e) = inr (k, omega arith, e)
 

@@ -10,6 +10,7 @@ use Rattle.can_code.specs.Wire.{wire}
 use Rattle.can_mac.specs.declared.phase.Phase.TheVariants.{Idle}
 use Rattle.can_node.specs.declared.entry.Entry.{Entry}
 use Rattle.can_node.specs.Ports.{PortState, goes_before, same_field}
+use Rattle.can_bus.specs.declared.hit.Hit.{Hit}
 
 -- each earlier frame goes before each later one
 abbrev pub IsRising : List Parts → Type 0
@@ -66,6 +67,12 @@ pub record IsQuiet (ports : List PortState) : Type 0 where
   pub most : length ports ≤ 64
   pub quiet : (n : ℕ) (p : PortState) → slice_get ports n ≡ Some p → IsQuietPort (length (queued ports)) p
   pub different : AreDifferent (queued ports)
+
+-- a call without disturbances on a quiet bus, and the frames that wait there, in the order of arbitration
+pub record IsQuietCall (hits : List Hit) (ports : List PortState) (frames : List Parts) : Type 0 where
+  pub undisturbed : hits ≡ []
+  pub quiet : IsQuiet ports
+  pub ascending : IsAscending (queued ports) frames
 
 -- a frame of this arbitration field is in the queue
 abbrev pub holds : List Parts → Parts → Bool

@@ -1,6 +1,8 @@
-ghost use Rattle.std.specs.Prelude.{ℕ, ◌≡◌, ◌-◌, ◌+◌, ◌<◌, ◌≤◌, ◌^◌, ◌↔◌, length, map, slice_get, Some, IsOk, IsSome, OnOk, OnErr, IfErr, IfOk, IfSome};
+ghost use Rattle.std.specs.Prelude.{ℕ, List, ◌≡◌, ◌-◌, ◌+◌, ◌<◌, ◌≤◌, ◌^◌, ◌↔◌, length, map, slice_get, Some, IsOk, IsSome, OnOk, OnErr, IfErr, IfOk, IfSome};
 ghost use Rattle.std.specs.Borrow.{sem};
+ghost use Rattle.can_frame.specs.Parts.{Parts};
 ghost use Rattle.can_bus.specs.Hits.{AreTaken, IsFirstFault};
+ghost use Rattle.can_bus.specs.Quiet.{AtEachPort, CountsNothing, IsQuietCall, line_at, LogsBegin, LogsWhole, span};
 ghost use Rattle.can_bus.specs.Run.{all_sampled, bus_level, bus_run, bus_step, inverted_if as inverted_if_of, recorded};
 ghost use Rattle.can_bus.specs.Lends.{lends_port};
 ghost use Rattle.can_bus.specs.State.{state_of};
@@ -100,12 +102,26 @@ impl<P: Port> Bus<P> {
     /// Runs as many bit times as `rec` is long, and records a level in each. The hits must rise, and
     /// name ports that there are: else the first that doesn't is told, nothing has run, and `rec` is
     /// as it was. It takes no memory. Its work is in proportion to the hits, and to ports and bit times.
+    ///
+    /// Without hits, on a bus of two ports or more that are idle, have counted no error, ask for no overload
+    /// frame, and have empty logs with room for all frames that wait, no two of which have one
+    /// arbitration field: the frames go out one after another in the order of arbitration, and then the
+    /// bus rests. Each log names them in this order, as sent at the port where the frame waited, and as
+    /// received at each other port. No counter moves.
     pub fn run(&mut self, hits: &[Hit], rec: &mut [Level]) -> Result<(), BusFault>
         ensures taken { IsOk result ↔ AreTaken (length self.old.ports.items) hits.now }
         ensures fault { IfErr result (λ fault. IsFirstFault (length self.old.ports.items) hits.now fault) }
         ensures bus { OnOk result (state_of P.port self.new ≡ bus_run hits.now (length rec.new) (state_of P.port self.old)) }
         ensures levels { OnOk result ((t : ℕ) → t < length rec.new →
             slice_get rec.new t ≡ Some (bus_level hits.now t (state_of P.port self.old))) }
+        ensures line { OnOk result ((frames : List Parts) → IsQuietCall hits.now (map P.port self.old.ports.items) frames → (t : ℕ) → t < length rec.new →
+            slice_get rec.new t ≡ Some (line_at frames t)) }
+        ensures logs { OnOk result ((frames : List Parts) → IsQuietCall hits.now (map P.port self.old.ports.items) frames →
+            AtEachPort (LogsBegin frames) (map P.port self.old.ports.items) (map P.port self.new.ports.items)) }
+        ensures whole { OnOk result ((frames : List Parts) → IsQuietCall hits.now (map P.port self.old.ports.items) frames → span frames ≤ length rec.new →
+            AtEachPort (LogsWhole frames) (map P.port self.old.ports.items) (map P.port self.new.ports.items)) }
+        ensures counters { OnOk result ((frames : List Parts) → IsQuietCall hits.now (map P.port self.old.ports.items) frames →
+            AtEachPort CountsNothing (map P.port self.old.ports.items) (map P.port self.new.ports.items)) }
         ensures unchanged { OnErr result (self.new ≡ self.old) }
         ensures unrecorded { OnErr result (rec.new ≡ rec.old) }
     {

@@ -19,3 +19,6 @@ pub mod Taking
 pub mod Claims
 -- known runs
 mod Rows
+-- a frame at one port
+pub mod OneFrame
+pub mod FrameLeaves

@@ -7,6 +7,8 @@ use Rattle.can_bus.specs.Run.{Course, bus_run}
 use Rattle.can_bus.specs.State.{state_of}
 use Rattle.can_bus.specs.Walks.{IsCall}
 use Rattle.can_bus.proofs.StepLemmas.{first_ready, course_none, course_more, level_more, run_is}
+use Rattle.can_bus.proofs.QuietBus.{call-line, call-logs, call-whole, call-counters}
+use Rattle.can_bus.proofs.QuietStart.{valid-ports}
 use Rattle.can_bus.proofs.bus.Bus.run.Goals as goal
 
 pub returns-in_err-check-clause-taken : goal.returns-in_err-check-clause-taken
@@ -43,3 +45,23 @@ returns-clause-bus g c =
 pub returns-clause-levels : goal.returns-clause-levels
 returns-clause-levels g c = λ t h.
     slice_get-get_or c.loop-slot.rec t Recessive h ∙ ap Some (c.loop-slot.invariant.levels t Recessive (omega arith))
+
+pub returns-clause-line : goal.returns-clause-line
+returns-clause-line g c = λ frames call t h.
+    returns-clause-levels g c t h
+    ∙ ap Some (call-line c.args.hits.now (state_of g.P.Port.port c.args.self.now) (valid-ports g.P.Port.port (λ x. g.met.P.Port.valid x) c.args.self.now.ports.items) frames call t)
+
+pub returns-clause-logs : goal.returns-clause-logs
+returns-clause-logs g c = λ frames call.
+    call-logs c.args.hits.now (state_of g.P.Port.port c.args.self.now) (valid-ports g.P.Port.port (λ x. g.met.P.Port.valid x) c.args.self.now.ports.items)
+    _ _ (returns-clause-bus g c) frames call
+
+pub returns-clause-whole : goal.returns-clause-whole
+returns-clause-whole g c = λ frames call past.
+    call-whole c.args.hits.now (state_of g.P.Port.port c.args.self.now) (valid-ports g.P.Port.port (λ x. g.met.P.Port.valid x) c.args.self.now.ports.items)
+    _ _ (returns-clause-bus g c) frames call past
+
+pub returns-clause-counters : goal.returns-clause-counters
+returns-clause-counters g c = λ frames call.
+    call-counters c.args.hits.now (state_of g.P.Port.port c.args.self.now) (valid-ports g.P.Port.port (λ x. g.met.P.Port.valid x) c.args.self.now.ports.items)
+    _ _ (returns-clause-bus g c) frames call

@@ -1,0 +1,184 @@
+-- What a frame leaves at a port: it has sent it, or received it, and is idle again.
+use Rattle.std.proofs.Common.{◌≡◌, ◌≢◌, ℕ, zero, suc, ◌+◌, ◌<◌, ◌≤◌, Bool, true, false, Option, Some, None, [], ◌∷◌, ◌++◌, length, refl, ◌∙◌, ap, arith, inl, inr}
+use Rattle.std.specs.Prelude.{nat_lt}
+use Rattle.std.proofs.Math.Dec.{ltb, eqb}
+use Rattle.std.proofs.lemmas.Bool.{cond-true, cond-false, cases_lt, lt-ltb, le-ltb, ne_eqb}
+use Rattle.can_frame.specs.Parts.{Parts, IsFrame}
+use Rattle.can_frame.specs.Arbitration.{arbitration_field, Before}
+use Rattle.can_code.specs.Wire.{stuffed_part}
+use Rattle.can_fault.specs.declared.cause.Cause.{Cause}
+use Rattle.can_fault.specs.declared.cause.Cause.TheVariants.{FrameSent, FrameReceived}
+use Rattle.can_fault.specs.Counters.{counted}
+use Rattle.can_mac.specs.declared.event.Event.{Event}
+use Rattle.can_mac.specs.declared.event.Event.TheVariants.{Sent, Received}
+use Rattle.can_mac.specs.declared.phase.Role.{Role}
+use Rattle.can_mac.specs.declared.phase.Role.TheVariants.{Receiver, Sender}
+use Rattle.can_mac.specs.declared.phase.Phase.TheVariants.{Idle}
+use Rattle.can_mac.specs.State.{MacState, IsWaiting}
+use Rattle.can_mac.specs.Frames.{line, behind_part, role_at, frame_state, frame_event, end_event, loss, IsActive, GoesBehind}
+use Rattle.can_mac.proofs.FrameParts.{length-line}
+use Rattle.can_mac.proofs.FrameEnds.{end_state}
+use Rattle.can_mac.proofs.FrameRoles.{role-own, role-parted, parting}
+use Rattle.can_mac.proofs.FrameSteps.{event-early, state-late}
+use Rattle.can_node.specs.declared.entry.Entry.{Entry}
+use Rattle.can_node.specs.Ports.{PortState, waiting, without, logged, noted, port_run}
+use Rattle.can_node.proofs.OneFrame.{Meets, at_mac, noted_at, port_at, port_run-at}
+
+-- an event that leaves queue and log as they are
+abbrev IsUnnoted : Option Event → Type 0
+IsUnnoted event = (q : PortState) → noted event q ≡ q
+
+loss-unnoted : (old new : Role) → IsUnnoted (loss old new)
+loss-unnoted Receiver new q = refl
+loss-unnoted (Sender g) Receiver q = refl
+loss-unnoted (Sender g) (Sender h) q = refl
+
+received-once : (f : Parts) (k : ℕ) → k ≢ 8 → end_event f Receiver k ≡ None
+received-once f k other = cond-false (eqb k 8) (Some (Received f)) None (ne_eqb k 8 other)
+
+sent-once : (f : Parts) (k : ℕ) → k ≢ 9 → end_event f (Sender f) k ≡ None
+sent-once f k other = cond-false (eqb k 9) (Some (Sent f)) None (ne_eqb k 9 other)
+
+-- a controller that is idle again, where this was counted
+abbrev pub rested : Cause → MacState → MacState
+rested cause m = record { phase = Idle; role = Receiver; overloads = record { pending = m.overloads.pending; used = 0 }; counters = counted cause m.counters }
+
+module _ (f : Parts) (p : PortState) (meets : Meets f p) where
+  abbrev n : ℕ
+  n = length (stuffed_part f)
+
+  abbrev last : ℕ
+  last = suc (n + 12)
+
+  length-last : length (line f) ≡ last
+  length-last = length-line f ∙ (let e : n + 13 ≡ last = omega arith in e)
+
+  abbrev event : ℕ → Option Event
+  event o = frame_event f (waiting p.queue) o
+
+  early-unnoted : (o : ℕ) → o < n → IsUnnoted (event o)
+  early-unnoted o more q =
+      ap (λ e. noted e q) (event-early f (waiting p.queue) o more) ∙ loss-unnoted (role_at f (waiting p.queue) o) (role_at f (waiting p.queue) (o + 1)) q
+
+  -- behind the stuffed part it has this role, and one level tells this, and no other
+  module _ (role : Role) (place : ℕ) (told : Option Event) (cause : Cause) (few : place < 13) (keeps : (o : ℕ) → n ≤ o → role_at f (waiting p.queue) o ≡ role)
+      (here : end_event f role place ≡ told) (elsewhere : (k : ℕ) → k ≢ place → end_event f role k ≡ None)
+      (ends : end_state f role p.mac.overloads.pending p.mac.counters 13 ≡ rested cause p.mac) where
+    late : (o : ℕ) → n ≤ o → event o ≡ end_event f role (behind_part f o)
+    late o past = cond-false (ltb o n) _ _ (le-ltb o n past) ∙ ap (λ r. end_event f r (behind_part f o)) (keeps o past)
+
+    unnoted : (o : ℕ) → o ≢ n + place → IsUnnoted (event o)
+    unnoted o other q = elim (cases_lt o n) [
+      | inl more ↦ early-unnoted o more q
+      | inr past ↦ ap (λ e. noted e q) (late o past ∙ elsewhere (behind_part f o) (λ e. other (omega (arith, e, past))))
+    ]
+
+    before : (o : ℕ) → o ≤ n + place → noted_at f p o ≡ p
+    before zero within = refl
+    before (suc o) within = unnoted o (λ e. omega (arith, e, within)) (noted_at f p o) ∙ before o (omega (arith, within))
+
+    behind : (o : ℕ) → n + place < o → noted_at f p o ≡ noted told p
+    behind zero past = absurd (omega (arith, past))
+    behind (suc o) past = elim (cases_lt (n + place) o) [
+      | inl more ↦ unnoted o (λ e. omega (arith, e, more)) (noted_at f p o) ∙ behind o more
+      | inr there ↦
+          let same : o ≡ n + place = omega (arith, past, there) in
+          let first : behind_part f (n + place) ≡ place = omega arith in
+          ap (λ k. noted (event k) (noted_at f p k)) same
+          ∙ ap (noted (event (n + place))) (before (n + place) (omega arith))
+          ∙ ap (λ e. noted e p) (late (n + place) (omega arith) ∙ ap (end_event f role) first ∙ here)
+    ]
+
+    all-noted : noted_at f p last ≡ noted told p
+    all-noted = behind last (omega (arith, few))
+
+    last-mac : frame_state f (waiting p.queue) p.mac.overloads.pending p.mac.counters last ≡ rested cause p.mac
+    last-mac =
+        let thirteen : behind_part f last ≡ 13 = omega arith in
+        state-late f meets.start.frame (waiting p.queue) p.mac.overloads.pending p.mac.counters last (omega arith)
+        ∙ ap (λ r. end_state f r p.mac.overloads.pending p.mac.counters (behind_part f last)) (keeps last (omega arith))
+        ∙ ap (end_state f role p.mac.overloads.pending p.mac.counters) thirteen
+        ∙ ends
+
+    pub leaves : port_run p (line f) ≡ at_mac (rested cause p.mac) (noted told p)
+    leaves =
+        port_run-at f p meets ∙ ap (port_at f p) length-last
+        ∙ ap (λ m. at_mac m (noted_at f p last)) last-mac ∙ ap (at_mac (rested cause p.mac)) all-noted
+
+-- what waits comes behind f, or nothing waits
+abbrev pub ComesBehind : Parts → Option Parts → Type 0
+ComesBehind f None = Unit {0}
+ComesBehind f (Some g) = Before (arbitration_field f) (arbitration_field g)
+
+-- an idle, error active port with room in its log, that asks for no overload frame
+pub record IsReady (f : Parts) (p : PortState) : Type 0 where
+  pub frame : IsFrame f
+  pub idle : p.mac.phase ≡ Idle
+  pub active : IsActive p.mac.counters
+  pub unasked : p.mac.overloads.pending ≡ 0
+  pub kept : IsWaiting (waiting p.queue)
+  pub room : length p.log < p.log_room
+
+-- f is the frame that waits
+pub record Sends (f : Parts) (p : PortState) : Type 0 where
+  pub ready : IsReady f p
+  pub own : waiting p.queue ≡ Some f
+
+-- it isn't
+pub record Receives (f : Parts) (p : PortState) : Type 0 where
+  pub ready : IsReady f p
+  pub other : ComesBehind f (waiting p.queue)
+
+goes-own : (f : Parts) (w : Option Parts) → w ≡ Some f → GoesBehind f w
+goes-own f None e = cc
+goes-own f (Some g) e = inl (let s : g ≡ f = cc in s)
+
+goes-behind : (f : Parts) (w : Option Parts) → ComesBehind f w → GoesBehind f w
+goes-behind f None h = tt
+goes-behind f (Some g) h = inr h
+
+ready-meets : (f : Parts) (p : PortState) → IsReady f p → GoesBehind f (waiting p.queue) → Meets f p
+ready-meets f p ready behind = record {
+  start = record { frame = ready.frame; idle = ready.idle; active = ready.active; kept = ready.kept; behind = behind };
+  unasked = ready.unasked;
+}
+
+pub sends-Meets : (f : Parts) (p : PortState) → Sends f p → Meets f p
+sends-Meets f p h = ready-meets f p h.ready (goes-own f (waiting p.queue) h.own)
+
+pub receives-Meets : (f : Parts) (p : PortState) → Receives f p → Meets f p
+receives-Meets f p h = ready-meets f p h.ready (goes-behind f (waiting p.queue) h.other)
+
+-- who receives is no sender behind the stuffed part
+pub receiver-late : (f : Parts) (w : Option Parts) → IsFrame f → IsWaiting w → ComesBehind f w → (o : ℕ) → length (stuffed_part f) ≤ o → role_at f w o ≡ Receiver
+receiver-late f None is kept other o past = refl
+receiver-late f (Some g) is kept other o past =
+    let parts = parting f g is kept other in
+    let within = parts.1.within in
+    role-parted f g parts.0 parts.1 o (omega arith)
+
+-- a port with one entry more
+abbrev pub with_entry : Parts → Bool → PortState → PortState
+with_entry f sent p = record p { log = p.log ++ record { frame = f; sent = sent } ∷ [] }
+
+logged-room : (entry : Entry) (p : PortState) → length p.log < p.log_room → logged entry p ≡ record p { log = p.log ++ entry ∷ [] }
+logged-room entry p room = cond-true (nat_lt (length p.log) p.log_room) _ _ (lt-ltb (length p.log) p.log_room room)
+
+-- the port that has sent f, and one that has received it
+abbrev pub sent_port : Parts → PortState → PortState
+sent_port f p = at_mac (rested FrameSent p.mac) (with_entry f true (record p { queue = without f p.queue }))
+
+abbrev pub received_port : Parts → PortState → PortState
+received_port f p = at_mac (rested FrameReceived p.mac) (with_entry f false p)
+
+pub port_run-sent : (f : Parts) (p : PortState) → Sends f p → port_run p (line f) ≡ sent_port f p
+port_run-sent f p h =
+    leaves f p (sends-Meets f p h) (Sender f) 9 (Some (Sent f)) FrameSent (omega arith)
+    (λ o past. ap (λ w. role_at f w o) h.own ∙ role-own f o) refl (sent-once f) refl
+    ∙ ap (at_mac (rested FrameSent p.mac)) (logged-room (record { frame = f; sent = true }) (record p { queue = without f p.queue }) h.ready.room)
+
+pub port_run-received : (f : Parts) (p : PortState) → Receives f p → port_run p (line f) ≡ received_port f p
+port_run-received f p h =
+    leaves f p (receives-Meets f p h) Receiver 8 (Some (Received f)) FrameReceived (omega arith)
+    (receiver-late f (waiting p.queue) h.ready.frame h.ready.kept h.other) refl (received-once f) refl
+    ∙ ap (at_mac (rested FrameReceived p.mac)) (logged-room (record { frame = f; sent = false }) p h.ready.room)
