@@ -4,15 +4,15 @@ use thiserror::Error;
 #[derive(Clone, Copy, Debug, PartialEq, Eq, Error)]
 pub enum BusFault {
     /// There is no port.
-    #[error("B1")]
+    #[error("there is no port")]
     NoPort,
     /// There are more than 64 ports.
-    #[error("B2")]
+    #[error("there are more than 64 ports")]
     TooManyPorts,
     /// A hit is not above the one before it.
-    #[error("B3")]
+    #[error("a hit is not above the one before it")]
     NotRising,
     /// A hit names no port.
-    #[error("B4")]
+    #[error("a hit names no port")]
     NoSuchPort,
 }

@@ -64,16 +64,16 @@ fn hits_by_kind_then_by_numbers(rt: HostRuntime) {
 }
 
 #[test]
-fn codes_of_faults(rt: HostRuntime) -> Result<(), Fail> {
-    let codes = [
-        (BusFault::NoPort, "B1"),
-        (BusFault::TooManyPorts, "B2"),
-        (BusFault::NotRising, "B3"),
-        (BusFault::NoSuchPort, "B4"),
+fn sentences_of_faults(rt: HostRuntime) -> Result<(), Fail> {
+    let sentences = [
+        (BusFault::NoPort, "there is no port"),
+        (BusFault::TooManyPorts, "there are more than 64 ports"),
+        (BusFault::NotRising, "a hit is not above the one before it"),
+        (BusFault::NoSuchPort, "a hit names no port"),
     ];
-    for (fault, code) in codes {
+    for (fault, sentence) in sentences {
         let text = format!(in rt.alloc(); "{fault}")?;
-        assert_eq!(rt; text.as_str(), code);
+        assert_eq!(rt; text.as_str(), sentence);
     }
     Ok(())
 }
