@@ -11,7 +11,7 @@ use Rattle.can_trace.specs.Coded.{Codes, coded_line}
 use Rattle.can_trace.specs.Answering.{Answers, FailsToAnswer}
 use Rattle.can_trace.specs.Outbox.{PassesOn}
 use Rattle.can_trace.specs.declared.fault.TraceFault.{TraceFault}
-use Rattle.can_trace.specs.declared.fault.TraceFault.TheVariants.{BadByte, Read, Write, Long, FrameLine}
+use Rattle.can_trace.specs.declared.fault.TraceFault.TheVariants.{BadByte, Read, Write, Long, FrameLine, ScenarioField, Memory}
 use Rattle.can_trace.specs.declared.lines.LineReader.{LineReader}
 use Rattle.can_trace.proofs.Elements.{AllByRecursion-append}
 use Rattle.can_trace.proofs.Codings.{Codes-push}
@@ -195,6 +195,8 @@ FailsToAnswer-front (FrameLine n fault) number line held holds old new fails = (
 FailsToAnswer-front (BadByte place) number line held holds old new fails = fails
 FailsToAnswer-front Read number line held holds old new fails = fails
 FailsToAnswer-front Long number line held holds old new fails = fails
+FailsToAnswer-front (ScenarioField wrong) number line held holds old new fails = fails
+FailsToAnswer-front Memory number line held holds old new fails = fails
 
 pub empty_from_front : (kept : ℕ) (line : List ℕ) → 0 < kept → (length (take kept line) == 0) ≡ true → line ≡ []
 empty_from_front kept [] some h = refl

@@ -9,7 +9,7 @@ use Rattle.can_trace.specs.Checked.{total_line, BeginsChecking, Checks, ChecksAl
 use Rattle.can_trace.specs.Checking.{Comes, FailsToCheck, IsBadAt, IsUnbroken, Judges, StopsChecking}
 use Rattle.can_trace.specs.Told.{Told}
 use Rattle.can_trace.specs.declared.fault.TraceFault.{TraceFault}
-use Rattle.can_trace.specs.declared.fault.TraceFault.TheVariants.{BadByte, Read, Write, Long, FrameLine}
+use Rattle.can_trace.specs.declared.fault.TraceFault.TheVariants.{BadByte, Read, Write, Long, FrameLine, ScenarioField, Memory}
 use Rattle.can_trace.proofs.LineLemmas.{open_lines, whole_lines-before, whole_lines-from_ended}
 use Rattle.can_trace.proofs.Answering.{AtLine, lines_of-last, ended_lines-last}
 use Rattle.can_trace.proofs.CheckSteps.{Checks-answered, Passing}
@@ -115,6 +115,8 @@ module _ {R W : Type 0} (remaining : R → Option (List ℕ)) (r_before r : R) (
       by_fault Long stops = record { long = omega (arith, at.counted, stops.1); checks = ChecksEnded-at at stops.2 }
       by_fault Write stops = absurd stops
       by_fault (FrameLine n fault) stops = absurd stops
+      by_fault (ScenarioField wrong) stops = absurd stops
+      by_fault Memory stops = absurd stops
 
   -- the line was not answered
   pub Told-unanswered : (found ended : Bool) (others more : List (List ℕ)) (w_after : W) (waiting_after : List ℕ) (e : TraceFault) (at : At found)
@@ -153,6 +155,8 @@ module _ {R W : Type 0} (remaining : R → Option (List ℕ)) (r_before r : R) (
   }
   Told-unanswered found ended others more w_after waiting_after Read at whole lines start_is fails = absurd fails
   Told-unanswered found ended others more w_after waiting_after Long at whole lines start_is fails = absurd fails
+  Told-unanswered found ended others more w_after waiting_after (ScenarioField wrong) at whole lines start_is fails = absurd fails
+  Told-unanswered found ended others more w_after waiting_after Memory at whole lines start_is fails = absurd fails
 
   module _ (ended : Bool) (at : At false) (within : taken ≤ 2 ^ 63) where
     -- the reader ended behind a line end
@@ -238,6 +242,8 @@ BeginsChecking-from (Err (FrameLine n fault)) ended input output waiting taken l
   lines = bad.lines;
   answers = ChecksLines-split _ output waiting taken left split bad.answers;
 })
+BeginsChecking-from (Err (ScenarioField wrong)) ended input output waiting taken left _ split none = absurd none
+BeginsChecking-from (Err Memory) ended input output waiting taken left _ split none = absurd none
 BeginsChecking-from (Err (BadByte place)) ended input output waiting taken left _ split bad = let whole = whole_lines-before ended input bad.before bad.bad bad.after bad.lines in inl (record {
   good = bad.before;
   others = whole.0;

@@ -8,7 +8,7 @@ use Rattle.can_trace.specs.Inbox.{StopsReading}
 use Rattle.can_trace.specs.Checked.{pass, passes, verdict_line, Checks, IsVerdict, Judged}
 use Rattle.can_trace.specs.Checking.{IsOpenFault, Judges, StopsChecking}
 use Rattle.can_trace.specs.declared.fault.TraceFault.{TraceFault}
-use Rattle.can_trace.specs.declared.fault.TraceFault.TheVariants.{BadByte, Read, Write, Long, FrameLine}
+use Rattle.can_trace.specs.declared.fault.TraceFault.TheVariants.{BadByte, Read, Write, Long, FrameLine, ScenarioField, Memory}
 use Rattle.can_trace.specs.declared.lines.LineReader.{LineReader}
 use Rattle.can_trace.specs.declared.vector.Verdict.{Verdict}
 use Rattle.can_trace.proofs.Answering.{AtLine}
@@ -90,3 +90,5 @@ StopsChecking-from fault result start line failed taken stops (inr good) = subst
     same Write stops = absurd stops
     same (BadByte place) stops = absurd stops
     same (FrameLine n f) stops = absurd stops
+    same (ScenarioField wrong) stops = absurd stops
+    same Memory stops = absurd stops

@@ -15,7 +15,7 @@ use Rattle.can_trace.specs.TraceText.{IsTraceText, is_trace_byte, levels_in}
 use Rattle.can_trace.specs.Decoded.{BeginsDecoding, DecodesAll, DecodesClosed, DecodesSoFar, DecodesToBadByte, DecodesTooLong, FullAnswer, Finds, finding_line, is_closed}
 use Rattle.can_trace.specs.Decoding.{Decodes, EndsWith, FailsToTell, Hearing, HearsText, MeetsBadByte, StopsHearing}
 use Rattle.can_trace.specs.declared.fault.TraceFault.{TraceFault}
-use Rattle.can_trace.specs.declared.fault.TraceFault.TheVariants.{BadByte, Read, Write, Long, FrameLine}
+use Rattle.can_trace.specs.declared.fault.TraceFault.TheVariants.{BadByte, Read, Write, Long, FrameLine, ScenarioField, Memory}
 use Rattle.can_trace.specs.declared.finding.Finding.{Finding}
 use Rattle.can_trace.specs.declared.trace.Trace.{Trace}
 use Rattle.can_trace.proofs.Elements.{AllByRecursion-append}
@@ -211,6 +211,8 @@ module _ {R W : Type 0} (remaining : R → Option (List ℕ)) (r_before : R) (co
         by_fault Write stops = absurd stops
         by_fault (BadByte place) stops = absurd stops
         by_fault (FrameLine n fault) stops = absurd stops
+        by_fault (ScenarioField wrong) stops = absurd stops
+        by_fault Memory stops = absurd stops
 
     module _ (bytes : List ℕ) (consumes : Consumes (remaining r) (remaining r_now) bytes) (new : Trace) (w_now : W) (waiting_now : List ℕ) where
       -- all bytes were heard
@@ -271,6 +273,8 @@ module _ {R W : Type 0} (remaining : R → Option (List ℕ)) (r_before : R) (co
       Told-unheard Read start start_is stops = absurd stops
       Told-unheard Long start start_is stops = absurd stops
       Told-unheard (FrameLine n fault) start start_is stops = absurd stops
+      Told-unheard (ScenarioField wrong) start start_is stops = absurd stops
+      Told-unheard Memory start start_is stops = absurd stops
 
     -- the reader ended, and nothing is left to be told
     module _ (bytes : List ℕ) (consumes : Consumes (remaining r) (remaining r_now) bytes) (none : bytes ≡ []) where
@@ -357,3 +361,5 @@ BeginsDecoding-within (Err Read) input output waiting taken left split so_far = 
 BeginsDecoding-within (Err Long) input output waiting taken left split long = record { rest = left; answer = FullAnswer.to_limit (subst (DecodesTooLong input) (moved output waiting taken left split) long) }
 BeginsDecoding-within (Err Write) input output waiting taken left split begins = BeginsDecoding-moved input output waiting taken left split begins
 BeginsDecoding-within (Err (FrameLine n fault)) input output waiting taken left split none = absurd none
+BeginsDecoding-within (Err (ScenarioField wrong)) input output waiting taken left split none = absurd none
+BeginsDecoding-within (Err Memory) input output waiting taken left split none = absurd none

@@ -12,7 +12,7 @@ use Rattle.can_trace.specs.TraceText.{IsTraceText, is_trace_byte, levels_in, lev
 use Rattle.can_trace.specs.Decoded.{finding_line}
 use Rattle.can_trace.specs.Decoding.{Hearing, Hears, HearsText, FailsToTell, MeetsBadByte, StopsHearing}
 use Rattle.can_trace.specs.declared.fault.TraceFault.{TraceFault}
-use Rattle.can_trace.specs.declared.fault.TraceFault.TheVariants.{BadByte, Read, Write, Long, FrameLine}
+use Rattle.can_trace.specs.declared.fault.TraceFault.TheVariants.{BadByte, Read, Write, Long, FrameLine, ScenarioField, Memory}
 use Rattle.can_trace.specs.declared.finding.Finding.{Finding}
 use Rattle.can_trace.specs.declared.trace.Trace.{Trace}
 use Rattle.can_trace.proofs.Elements.{AllByRecursion-append}
@@ -141,6 +141,8 @@ module _ (a b c : Trace) (text more : List ℕ) (held between holds : Option (Li
   StopsHearing-then Read start stops = stops
   StopsHearing-then Long start stops = stops
   StopsHearing-then (FrameLine n fault) start stops = stops
+  StopsHearing-then (ScenarioField wrong) start stops = stops
+  StopsHearing-then Memory start stops = stops
 
 -- ---- one byte
 

@@ -10,7 +10,7 @@ use Rattle.can_trace.specs.Answering.{Answers, FailsToAnswer, Encodes}
 use Rattle.can_trace.specs.Inbox.{StopsReading}
 use Rattle.can_trace.specs.Told.{Told}
 use Rattle.can_trace.specs.declared.fault.TraceFault.{TraceFault}
-use Rattle.can_trace.specs.declared.fault.TraceFault.TheVariants.{BadByte, Read, Write, Long, FrameLine}
+use Rattle.can_trace.specs.declared.fault.TraceFault.TheVariants.{BadByte, Read, Write, Long, FrameLine, ScenarioField, Memory}
 use Rattle.can_trace.proofs.LineLemmas.{open_lines, whole_lines-from_ended}
 use Rattle.can_trace.proofs.Codings.{Codes-split}
 use Rattle.can_trace.proofs.Answering.{AtLine, Codes-answered, lines_of-last, ended_lines-last}
@@ -93,6 +93,8 @@ module _ {R W : Type 0} (remaining : R → Option (List ℕ)) (r_before r : R) (
       by_fault Write stops = absurd stops
       by_fault (BadByte place) stops = absurd stops
       by_fault (FrameLine n fault) stops = absurd stops
+      by_fault (ScenarioField wrong) stops = absurd stops
+      by_fault Memory stops = absurd stops
 
   -- the line was not answered
   pub Told-unanswered : (found ended : Bool) (others : List (List ℕ)) (w_after : W) (waiting_after : List ℕ) (e : TraceFault) (at : At found)
@@ -117,6 +119,8 @@ module _ {R W : Type 0} (remaining : R → Option (List ℕ)) (r_before r : R) (
   Told-unanswered found ended others w_after waiting_after (BadByte place) at whole fails = absurd fails
   Told-unanswered found ended others w_after waiting_after Read at whole fails = absurd fails
   Told-unanswered found ended others w_after waiting_after Long at whole fails = absurd fails
+  Told-unanswered found ended others w_after waiting_after (ScenarioField wrong) at whole fails = absurd fails
+  Told-unanswered found ended others w_after waiting_after Memory at whole fails = absurd fails
 
   module _ (ended : Bool) (at : At false) (within : taken ≤ 2 ^ 63) where
     -- the reader ended behind a line end
@@ -153,6 +157,8 @@ BeginsEncoding-from (Ok u) ended input output waiting taken left is_ended split 
   answers = Codes-split _ output waiting taken left split all.codes;
 }
 BeginsEncoding-from (Err (BadByte place)) ended input output waiting taken left _ split none = absurd none
+BeginsEncoding-from (Err (ScenarioField wrong)) ended input output waiting taken left _ split none = absurd none
+BeginsEncoding-from (Err Memory) ended input output waiting taken left _ split none = absurd none
 BeginsEncoding-from (Err Read) ended input output waiting taken left _ split codes = let whole = whole_lines-from_ended ended input in record {
   good = ended_lines input;
   others = whole.0;

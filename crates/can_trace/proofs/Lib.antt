@@ -25,3 +25,4 @@ pub mod FindsOne
 pub mod OneDecoding
 pub mod OneVerdict
 pub mod Rows
+pub mod DemandLemmas

@@ -4,7 +4,7 @@ use Rattle.std.specs.Io.KnownBytes.{Keeps}
 use Rattle.can_frame.specs.Parts.{Parts, IsFrame}
 use Rattle.can_frame.specs.Text.{frame_text, IsFrameText, IsTextFault}
 use Rattle.can_trace.specs.declared.fault.TraceFault.{TraceFault}
-use Rattle.can_trace.specs.declared.fault.TraceFault.TheVariants.{BadByte, Read, Write, Long, FrameLine}
+use Rattle.can_trace.specs.declared.fault.TraceFault.TheVariants.{BadByte, Read, Write, Long, FrameLine, ScenarioField, Memory}
 use Rattle.can_trace.specs.Outbox.{PassesOn, TakesFront}
 use Rattle.can_trace.specs.Coded.{coded_line, EncodesAll, EncodesEnded, EncodesTooLong, BeginsEncoding, IsFirstBadLine}
 
@@ -14,6 +14,8 @@ is_read Read = true
 is_read Write = false
 is_read Long = false
 is_read (FrameLine line fault) = false
+is_read (ScenarioField wrong) = false
+is_read Memory = false
 
 abbrev pub is_write : TraceFault → Bool
 is_write (BadByte place) = false
@@ -21,6 +23,8 @@ is_write Read = false
 is_write Write = true
 is_write Long = false
 is_write (FrameLine line fault) = false
+is_write (ScenarioField wrong) = false
+is_write Memory = false
 
 abbrev pub is_err_by : {A : Type 0} → (TraceFault → Bool) → Result A TraceFault → Bool
 is_err_by test (Ok done) = false
@@ -40,6 +44,8 @@ FailsToAnswer (FrameLine n fault) number line held holds old new = (n ≡ number
 FailsToAnswer (BadByte place) number line held holds old new = ⊥
 FailsToAnswer Read number line held holds old new = ⊥
 FailsToAnswer Long number line held holds old new = ⊥
+FailsToAnswer (ScenarioField wrong) number line held holds old new = ⊥
+FailsToAnswer Memory number line held holds old new = ⊥
 
 -- How the output answers the input when a call ends so. Here any byte may stand in a line.
 abbrev pub Encodes : {A : Type 0} → Result A TraceFault → Bool → List ℕ → List ℕ → Type 0
@@ -49,3 +55,5 @@ Encodes (Err Read) reader_ended = EncodesEnded
 Encodes (Err Write) reader_ended = BeginsEncoding reader_ended
 Encodes (Err Long) reader_ended = EncodesTooLong
 Encodes (Err (FrameLine n fault)) reader_ended = IsFirstBadLine n fault reader_ended
+Encodes (Err (ScenarioField wrong)) reader_ended = λ input output. ⊥
+Encodes (Err Memory) reader_ended = λ input output. ⊥

@@ -2,7 +2,7 @@
 use Rattle.std.specs.Prelude.{◌≡◌, ◌⊎◌, ℕ, ◌+◌, ◌^◌, ◌<◌, Bool, true, false, List, [], Option, Result, Ok, Err}
 use Rattle.std.specs.Io.KnownBytes.{Keeps}
 use Rattle.can_trace.specs.declared.fault.TraceFault.{TraceFault}
-use Rattle.can_trace.specs.declared.fault.TraceFault.TheVariants.{BadByte, Read, Write, Long, FrameLine}
+use Rattle.can_trace.specs.declared.fault.TraceFault.TheVariants.{BadByte, Read, Write, Long, FrameLine, ScenarioField, Memory}
 use Rattle.can_trace.specs.declared.vector.Verdict.{Verdict}
 use Rattle.can_trace.specs.Outbox.{PassesOn, TakesFront}
 use Rattle.can_trace.specs.Checked.{pass, verdict_line, BeginsChecking, ChecksEnded, ChecksTooLong, IsBadLevelByte, IsBadVectorLine, IsFirstBadByte, IsFirstBadVectorLine, IsVerdict}
@@ -13,6 +13,8 @@ is_bad_byte Read = false
 is_bad_byte Write = false
 is_bad_byte Long = false
 is_bad_byte (FrameLine line fault) = false
+is_bad_byte (ScenarioField wrong) = false
+is_bad_byte Memory = false
 
 -- the line has a verdict, whose line went into the buffer, and so many lines passed by it, one or none
 pub record Judges (line : List ℕ) (passed : ℕ) (held holds : Option (List ℕ)) (old new : List ℕ) : Type 0 where
@@ -35,6 +37,8 @@ FailsToCheck (FrameLine n fault) number start line held holds old new = (n ≡ n
 FailsToCheck (BadByte place) number start line held holds old new = IsBadAt start line place × Keeps held holds × (new ≡ old)
 FailsToCheck Read number start line held holds old new = ⊥
 FailsToCheck Long number start line held holds old new = ⊥
+FailsToCheck (ScenarioField wrong) number start line held holds old new = ⊥
+FailsToCheck Memory number start line held holds old new = ⊥
 
 -- no byte of the line is bad
 abbrev pub IsUnbroken : List ℕ → Type 0
@@ -52,6 +56,8 @@ StopsChecking Read start line failed taken = (failed ≡ true) × IsUnbroken lin
 StopsChecking Long start line failed taken = (failed ≡ false) × (2 ^ 63 < taken) × IsUnbroken line
 StopsChecking Write start line failed taken = ⊥
 StopsChecking (FrameLine n fault) start line failed taken = ⊥
+StopsChecking (ScenarioField wrong) start line failed taken = ⊥
+StopsChecking Memory start line failed taken = ⊥
 
 -- How the output answers the input when a call ends so, where `Whole` says what is done when all is.
 abbrev pub Comes : (ℕ → ℕ → List ℕ → List ℕ → Type 0) → Result (ℕ × ℕ) TraceFault → Bool → List ℕ → List ℕ → Type 0
@@ -61,3 +67,5 @@ Comes Whole (Err Read) reader_ended = ChecksEnded
 Comes Whole (Err Write) reader_ended = BeginsChecking reader_ended
 Comes Whole (Err Long) reader_ended = ChecksTooLong
 Comes Whole (Err (FrameLine n fault)) reader_ended = IsFirstBadVectorLine n fault reader_ended
+Comes Whole (Err (ScenarioField wrong)) reader_ended = λ input output. ⊥
+Comes Whole (Err Memory) reader_ended = λ input output. ⊥

@@ -8,7 +8,7 @@ use Rattle.can_trace.specs.TraceText.{IsTraceText, is_trace_byte, levels_in, lev
 use Rattle.can_trace.specs.Decoded.{Finds, SkipsToIdle, finding_line, is_closed, BeginsDecoding, DecodesAll, DecodesSoFar, DecodesToBadByte, DecodesTooLong}
 use Rattle.can_trace.specs.Outbox.{PassesOn, TakesFront}
 use Rattle.can_trace.specs.declared.fault.TraceFault.{TraceFault}
-use Rattle.can_trace.specs.declared.fault.TraceFault.TheVariants.{BadByte, Read, Write, Long, FrameLine}
+use Rattle.can_trace.specs.declared.fault.TraceFault.TheVariants.{BadByte, Read, Write, Long, FrameLine, ScenarioField, Memory}
 use Rattle.can_trace.specs.declared.finding.Finding.{Finding}
 use Rattle.can_trace.specs.declared.trace.Trace.{Trace}
 use Rattle.can_trace.specs.declared.trace.State.{State}
@@ -112,6 +112,8 @@ StopsHearing (BadByte place) old new first bytes held holds waiting waiting_now 
 StopsHearing Read old new first bytes held holds waiting waiting_now = ⊥
 StopsHearing Long old new first bytes held holds waiting waiting_now = ⊥
 StopsHearing (FrameLine n fault) old new first bytes held holds waiting waiting_now = ⊥
+StopsHearing (ScenarioField wrong) old new first bytes held holds waiting waiting_now = ⊥
+StopsHearing Memory old new first bytes held holds waiting waiting_now = ⊥
 
 -- ---- the whole input
 
@@ -123,3 +125,5 @@ Decodes (Err Read) = λ input output. DecodesSoFar input output × BeginsDecodin
 Decodes (Err Write) = BeginsDecoding
 Decodes (Err Long) = DecodesTooLong
 Decodes (Err (FrameLine n fault)) = λ input output. ⊥
+Decodes (Err (ScenarioField wrong)) = λ input output. ⊥
+Decodes (Err Memory) = λ input output. ⊥

@@ -1,7 +1,7 @@
 -- What a stream has read, and not used yet.
 use Rattle.std.specs.Prelude.{◌≡◌, ℕ, ◌^◌, ◌<◌, Bool, true, false, List}
 use Rattle.can_trace.specs.declared.fault.TraceFault.{TraceFault}
-use Rattle.can_trace.specs.declared.fault.TraceFault.TheVariants.{BadByte, Read, Write, Long, FrameLine}
+use Rattle.can_trace.specs.declared.fault.TraceFault.TheVariants.{BadByte, Read, Write, Long, FrameLine, ScenarioField, Memory}
 
 -- the bytes that were read and not used yet, and how many bytes were read in all
 pub record Received : Type 0 where
@@ -15,3 +15,5 @@ StopsReading Long failed taken = (failed ≡ false) × (2 ^ 63 < taken)
 StopsReading Write failed taken = ⊥
 StopsReading (BadByte place) failed taken = ⊥
 StopsReading (FrameLine line fault) failed taken = ⊥
+StopsReading (ScenarioField wrong) failed taken = ⊥
+StopsReading Memory failed taken = ⊥

@@ -12,3 +12,6 @@ pub mod Answering
 pub mod TraceText
 pub mod Decoded
 pub mod Decoding
+pub mod ScenarioProps
+pub mod Scenarios
+pub mod Report

@@ -1,6 +1,7 @@
 ghost use Rattle.std.specs.Prelude.{◌≡◌, ◌⊎◌, ℕ, ◌+◌, ◌^◌, ◌<◌, ◌≤◌, ◌↔◌, true, false, not, [], ◌++◌, length, Ok, is_err, IsTrue, IsFalse, IsErrOf, IfOk, IfErr, OnOk, OnErr};
 ghost use Rattle.std.specs.Io.KnownBytes.{IsAtEnd};
 ghost use Rattle.can_frame.specs.declared.text.TextFault.{TextFault};
+ghost use Rattle.can_trace.specs.declared.scenario.field.Field.{Field};
 ghost use Rattle.can_trace.specs.Told.{Told};
 ghost use Rattle.can_trace.specs.Outbox.{PassesOn, TakesFront};
 ghost use Rattle.can_trace.specs.LineReader.{ReadsLine, is_found};
@@ -50,6 +51,8 @@ pub fn check_lines<R: Source, W: Sink>(r: &mut R, w: &mut W) -> Result<(u64, u64
         Told R.remaining r.old r.new W.contents w.old w.new (IsFirstBadVectorLine n fault (R.has_ended r.new)) }
     ensures byte { (place : ℕ) → IsErrOf result (TraceFault.BadByte place) →
         Told R.remaining r.old r.new W.contents w.old w.new (IsFirstBadByte place) }
+    ensures no_field { (wrong : Field) → IsErrOf result (TraceFault.ScenarioField wrong) → ⊥ }
+    ensures no_memory { IsErrOf result TraceFault.Memory → ⊥ }
 
     // What the reader and the writer came to.
     ensures ended { OnOk result (IsTrue (R.has_ended r.new)) }

@@ -1,6 +1,7 @@
 ghost use Rattle.std.specs.Prelude.{◌≡◌, ℕ, ◌+◌, ◌^◌, ◌<◌, ◌≤◌, ◌↔◌, true, false, [], ◌∷◌, ◌++◌, length, take, replicate, is_err, IsTrue, IsFalse, IsErrOf, IfErr, OnOk, OnErr};
 ghost use Rattle.std.specs.Io.KnownBytes.{IsAtEnd};
 ghost use Rattle.can_frame.specs.declared.text.TextFault.{TextFault};
+ghost use Rattle.can_trace.specs.declared.scenario.field.Field.{Field};
 ghost use Rattle.can_trace.specs.Told.{Told};
 ghost use Rattle.can_trace.specs.TraceText.{IsTraceText, levels_in};
 ghost use Rattle.can_trace.specs.Answering.{is_err_by, is_read, is_write};
@@ -60,6 +61,8 @@ pub fn decode_stream<R: Source, W: Sink>(r: &mut R, w: &mut W) -> Result<(), Tra
         Told R.remaining r.old r.new W.contents w.old w.new (DecodesToBadByte place) }
 
     ensures no_line { (n : ℕ) (fault : TextFault) → IsErrOf result (TraceFault.FrameLine n fault) → ⊥ }
+    ensures no_field { (wrong : Field) → IsErrOf result (TraceFault.ScenarioField wrong) → ⊥ }
+    ensures no_memory { IsErrOf result TraceFault.Memory → ⊥ }
 
     // What the reader and the writer came to.
     ensures ended { OnOk result (IsTrue (R.has_ended r.new)) }

@@ -1,6 +1,7 @@
 ghost use Rattle.std.specs.Prelude.{◌≡◌, ℕ, ◌+◌, ◌<◌, ◌≤◌, ◌↔◌, true, false, [], ◌++◌, length, take, map, is_err, IsTrue, IsFalse, IsErrOf, IfErr, OnOk, OnErr};
 ghost use Rattle.std.specs.Io.KnownBytes.{IsAtEnd};
 ghost use Rattle.can_frame.specs.declared.text.TextFault.{TextFault};
+ghost use Rattle.can_trace.specs.declared.scenario.field.Field.{Field};
 ghost use Rattle.can_trace.specs.Told.{Told};
 ghost use Rattle.can_trace.specs.Outbox.{PassesOn, TakesFront};
 ghost use Rattle.can_trace.specs.Coded.{digit_of, coded_line, EncodesAll, EncodesEnded, EncodesTooLong, BeginsEncoding, IsFirstBadLine};
@@ -45,6 +46,8 @@ pub fn encode_lines<R: Source, W: Sink>(r: &mut R, w: &mut W) -> Result<(), Trac
         Told R.remaining r.old r.new W.contents w.old w.new (IsFirstBadLine n fault (R.has_ended r.new)) }
 
     ensures no_byte { (place : ℕ) → IsErrOf result (TraceFault.BadByte place) → ⊥ }
+    ensures no_field { (wrong : Field) → IsErrOf result (TraceFault.ScenarioField wrong) → ⊥ }
+    ensures no_memory { IsErrOf result TraceFault.Memory → ⊥ }
 
     // What the reader and the writer came to.
     ensures ended { OnOk result (IsTrue (R.has_ended r.new)) }

@@ -1,3 +1,4 @@
+use crate::scenario::Field;
 use can_frame::TextFault;
 use thiserror::Error;
 
@@ -7,12 +8,18 @@ pub enum TraceFault {
     /// A byte stands where a level's digit should. Bytes of the input are counted from 0.
     #[error("P1 byte {place}")]
     BadByte { place: u64 },
+    /// A scenario is refused for this field.
+    #[error("P2 {0}")]
+    ScenarioField(Field),
     /// The reader failed.
     #[error("P3 read")]
     Read,
     /// The writer failed, or took no byte.
     #[error("P4 write")]
     Write,
+    /// Memory ran out.
+    #[error("P5 memory")]
+    Memory,
     /// The input has more than 2^63 bytes.
     #[error("P6 long")]
     Long,

@@ -48,6 +48,7 @@ mod laws;
 mod line;
 mod lines;
 mod outbox;
+mod scenario;
 mod sink;
 mod source;
 #[cfg(test)]
@@ -62,5 +63,6 @@ pub use encode::encode_lines;
 pub use fault::TraceFault;
 pub use laws::{one_answer, one_check, one_decoding};
 pub use outbox::write_all;
+pub use scenario::{Field, HitList, PortField, PortPlan, Scenario};
 pub use sink::{Sink, ToWrite};
 pub use source::{FromRead, Source};
