@@ -29,8 +29,8 @@ fn logs_name(rt: &impl Abort, bus: &Bus<PlainNode>, ascending: &[Waiting]) -> Re
     Ok(())
 }
 
-/// The wires of the 64 frames have 3006 levels, as an encoder of its own told, and 64 intermissions
-/// have 192. The last frame has no level in the last three.
+/// The wires of the 64 frames have 3006 levels, by an encoder that is none of this repository's, and
+/// 64 intermissions have 192. The last frame's last level is 3194, and its sender logs it there.
 #[test]
 fn sixty_four_ports_take_turns(rt: HostRuntime) -> Result<(), Fail> {
     let alloc = rt.alloc();

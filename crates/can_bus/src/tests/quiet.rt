@@ -7,6 +7,7 @@ use super::lines::{
 use std::alloc::Global;
 use std::test::Fail;
 
+// Acknowledged frames, as spelled by an encoder that is none of this repository's.
 const WIRE_123: &str = "000100100011000001001101000010110001011111111";
 
 const WIRE_REMOTE_123: &str = "000100100011100000100011011100111011011111111";
