@@ -8,6 +8,7 @@ pub mod RunLemmas
 pub mod Reduction
 pub mod Ascending
 -- a quiet bus
+pub mod WireRuns
 pub mod PlainRuns
 pub mod FrameOnBus
 pub mod Contests

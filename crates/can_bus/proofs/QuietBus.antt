@@ -15,7 +15,8 @@ use Rattle.can_mac.specs.declared.phase.Role.{Role}
 use Rattle.can_mac.specs.declared.phase.Role.TheVariants.{Receiver, Sender}
 use Rattle.can_mac.specs.Frames.{line, behind_part, role_at, counters_after}
 use Rattle.can_node.specs.Ports.{PortState, IsPort, waiting, port_step, port_run}
-use Rattle.can_node.proofs.OneFrame.{Meets, port_at, port_step-at}
+use Rattle.can_node.proofs.Arrivals.{none}
+use Rattle.can_node.proofs.OneFrame.{Meets, port_at, port_step-at_none}
 use Rattle.can_node.proofs.FrameLeaves.{sends-Meets, receives-Meets}
 use Rattle.can_bus.specs.declared.hit.Hit.{Hit}
 use Rattle.can_bus.specs.Run.{BusState, bus_level, bus_run}
@@ -67,7 +68,7 @@ counts-role : (role : Role) (c : ConfineParts) (k : ℕ) → IsClean c → count
 counts-role Receiver c k clean = cond_both {A = ConfineParts} (nat_lt k 2) c (counted FrameReceived c) (λ d. d ≡ c) (λ e. refl) (λ e. received-clean c clean)
 counts-role (Sender f) c k clean = cond_both {A = ConfineParts} (nat_lt k 10) c (counted FrameSent c) (λ d. d ≡ c) (λ e. refl) (λ e. sent-clean c clean)
 
-counts-at : (f : Parts) (p : PortState) → IsClean p.mac.counters → (o : ℕ) → Counts p.mac.counters (port_at f p o)
+counts-at : (f : Parts) (p : PortState) → IsClean p.mac.counters → (o : ℕ) → Counts p.mac.counters (port_at f p none o)
 counts-at f p clean zero = refl
 counts-at f p clean (suc o) = counts-role (role_at f (waiting p.queue) (suc o)) p.mac.counters (behind_part f (suc o)) clean
 
@@ -78,7 +79,7 @@ part-meets f p (inr receives) = receives-Meets f p receives
 frame-counts : (f : Parts) (p : PortState) (c : ConfineParts) → IsClean c → Counts c p → TakesPart f p → Throughout (Counts c) (line f) p
 frame-counts f p c clean same part =
     subst (λ d. Throughout (Counts d) (line f) p) same
-    (throughout-states (Counts p.mac.counters) (line f) (port_at f p) (port_step-at f p (part-meets f p part)) (counts-at f p (subst IsClean (sym same) clean)))
+    (throughout-states (Counts p.mac.counters) (line f) (port_at f p none) (port_step-at_none f p (part-meets f p part)) (counts-at f p (subst IsClean (sym same) clean)))
 
 rest-counts : (m : ℕ) (p : PortState) (c : ConfineParts) → Counts c p → IsAtRest p → Throughout (Counts c) (replicate m Recessive) p
 rest-counts zero p c same rest = same
