@@ -11,6 +11,8 @@ pub mod Ascending
 pub mod WireRuns
 pub mod PlainRuns
 pub mod FrameOnBus
+pub mod RestInFrames
+pub mod GainingRuns
 pub mod Contests
 pub mod Rounds
 pub mod QuietLine

@@ -1,11 +1,12 @@
 -- Runs of a bus without disturbances, over levels that the wire is known to have.
 use Rattle.std.specs.Prelude.{slice_index_or}
 use Rattle.std.proofs.Common.{◌≡◌, ℕ, zero, suc, ◌+◌, ◌<◌, List, [], ◌∷◌, ◌++◌, length, map, refl, ap, sym, ◌∙◌, subst, arith}
+use Rattle.std.proofs.lemmas.List.{map-id}
 use Rattle.can_frame.specs.declared.level.Level.{Level}
 use Rattle.can_node.specs.Ports.{PortState, port_drives, port_step, port_run}
 use Rattle.can_bus.specs.Wired.{wired}
 use Rattle.can_bus.specs.Run.{BusState, all_sampled, rest_after, recorded, bus_step, bus_after, bus_level, bus_run}
-use Rattle.can_bus.proofs.Reduction.{Gives}
+use Rattle.can_bus.proofs.Reduction.{Gives, maps-alike}
 use Rattle.can_bus.proofs.WireRuns.{Wire, undisturbed, rest_run, all_after, wire_level, wire_step, wire_run, gives-run, gives-levels}
 use Rattle.can_bus.proofs.RunLemmas.{runs_joined}
 
@@ -22,13 +23,11 @@ all_run levels ports = map (λ p. port_run p levels) ports
 
 pub all_run-none : (ports : List PortState) → all_run [] ports ≡ ports
 unfolding port_run
-all_run-none [] = refl
-all_run-none (p ∷ ports) = ap (λ ps. p ∷ ps) (all_run-none ports)
+all_run-none ports = map-id ports
 
 pub all_run-first : (x : Level) (levels : List Level) (ports : List PortState) → all_run levels (map (sees x) ports) ≡ all_run (x ∷ levels) ports
 unfolding port_run
-all_run-first x levels [] = refl
-all_run-first x levels (p ∷ ports) = ap (λ ps. port_run (port_step p x) levels ∷ ps) (all_run-first x levels ports)
+all_run-first x levels ports = maps-alike (sees x) (λ p. port_run p levels) (λ p. port_run p (x ∷ levels)) (λ p. refl) ports
 
 all_run-after : (levels : List Level) (ports : List PortState) → all_after sees levels ports ≡ all_run levels ports
 all_run-after [] ports = sym (all_run-none ports)
@@ -67,7 +66,7 @@ level_now : (t : ℕ) (bus : BusState) → bus_level [] t bus ≡ wired (map por
 unfolding bus_level bus_run recorded
 level_now t bus = refl
 
-level_wire : (t : ℕ) (bus : BusState) → bus_level [] t bus ≡ wire_level port_drives (wire_run port_drives sees t (wire_of bus))
+pub level_wire : (t : ℕ) (bus : BusState) → bus_level [] t bus ≡ wire_level port_drives (wire_run port_drives sees t (wire_of bus))
 level_wire t bus = level_now t bus ∙ ap (λ (b : BusState). wired (map port_drives b.ports)) (run_wire t bus)
 
 -- the bus after them

@@ -14,13 +14,14 @@ use Rattle.can_fault.specs.Counters.{ConfineParts, counted}
 use Rattle.can_mac.specs.declared.phase.Role.{Role}
 use Rattle.can_mac.specs.declared.phase.Role.TheVariants.{Receiver, Sender}
 use Rattle.can_mac.specs.Frames.{line, behind_part, role_at, counters_after}
-use Rattle.can_node.specs.Ports.{PortState, IsPort, waiting, port_step, port_run}
+use Rattle.can_node.specs.Ports.{PortState, IsPort, waiting, port_drives, port_step, port_run}
 use Rattle.can_node.proofs.Arrivals.{none}
 use Rattle.can_node.proofs.OneFrame.{Meets, port_at, port_step-at_none}
 use Rattle.can_node.proofs.FrameLeaves.{sends-Meets, receives-Meets}
 use Rattle.can_bus.specs.declared.hit.Hit.{Hit}
 use Rattle.can_bus.specs.Run.{BusState, bus_level, bus_run}
 use Rattle.can_bus.specs.Quiet.{IsQuiet, IsQuietPort, IsQuietCall, IsAscending, line_at, AtEachPort, LogsBegin, LogsWhole, CountsNothing, queued, span, marked, with_intermission}
+use Rattle.can_bus.proofs.WireRuns.{gives-take}
 use Rattle.can_bus.proofs.PlainRuns.{sees, Follows, all_run, follows-run}
 use Rattle.can_bus.proofs.Contests.{AllPorts}
 use Rattle.can_bus.proofs.Rounds.{IsClean, Round, sent-clean, received-clean}
@@ -95,12 +96,6 @@ chain-counts (f ∷ frames) m p c clean same chain =
 
 -- ---- each port of the bus
 
-follows-take : (n : ℕ) (levels : List Level) (ports : List PortState) → Follows levels ports → Follows (take n levels) ports
-follows-take zero [] ports h = tt
-follows-take zero (x ∷ levels) ports h = tt
-follows-take (suc n) [] ports h = tt
-follows-take (suc n) (x ∷ levels) ports h = (h.0, follows-take n levels (map (sees x) ports) h.1)
-
 ports-after : (levels : List Level) (n : ℕ) (bus : BusState) → length levels ≡ n → Follows levels bus.ports → (bus_run [] n bus).ports ≡ all_run levels bus.ports
 ports-after levels n bus size follows = ap (λ k. (bus_run [] k bus).ports) (sym size) ∙ ap (λ (b : BusState). b.ports) (follows-run levels bus follows)
 
@@ -144,7 +139,7 @@ module _ (frames : List Parts) (bus : BusState) (n : ℕ) (valid : AllPorts IsPo
   long = length-take-le n levels (omega (arith, length-append (flat_map with_intermission frames) (replicate n Recessive), length-replicate n Recessive))
 
   after : (bus_run [] n bus).ports ≡ all_run (take n levels) bus.ports
-  after = ports-after (take n levels) n bus long (follows-take n levels bus.ports (round-follows frames n bus.ports two round))
+  after = ports-after (take n levels) n bus long (gives-take port_drives sees n levels bus.ports (round-follows frames n bus.ports two round))
 
   abbrev Starts : PortState → Type 0
   Starts p = IsQuietPort (length (queued bus.ports)) p × Chain frames p

@@ -1,5 +1,5 @@
 -- Frames that arrive at a port between bit times: they wait behind the others, and nothing else changes.
-use Rattle.std.proofs.Common.{◌≡◌, ℕ, zero, suc, ◌<◌, Bool, true, false, Some, List, [], ◌∷◌, ◌++◌, length, refl, sym, ◌∙◌, ap, arith, inl, inr, append_assoc}
+use Rattle.std.proofs.Common.{◌≡◌, ℕ, zero, suc, ◌+◌, ◌<◌, ◌≤◌, Bool, true, false, Some, List, [], ◌∷◌, ◌++◌, length, take, refl, sym, ◌∙◌, ap, arith, inl, inr, append_assoc}
 use Rattle.std.specs.Prelude.{nat_lt, slice_get, if◌then◌else◌}
 use Rattle.std.proofs.lemmas.Bool.{cond-true, cond-false, cases_Bool}
 use Rattle.std.proofs.lemmas.List.{append-nil}
@@ -40,10 +40,9 @@ pub later_by-later : (n : ℕ) (arrives : ℕ → List Parts) → later (later_b
 later_by-later zero arrives = refl
 later_by-later (suc n) arrives = later_by-later n (later arrives)
 
--- what arrives next
-pub later_by-next : (n : ℕ) (arrives : ℕ → List Parts) → later_by n arrives 1 ≡ arrives (suc n)
-later_by-next zero arrives = refl
-later_by-next (suc n) arrives = later_by-next n (later arrives)
+pub later_by-at : (n o : ℕ) (arrives : ℕ → List Parts) → later_by n arrives o ≡ arrives (n + o)
+later_by-at zero o arrives = ap arrives (omega arith)
+later_by-at (suc n) o arrives = later_by-at n o (later arrives) ∙ ap arrives (omega arith)
 
 -- no frames
 pub gains-none : (p : PortState) → gains [] p ≡ p
@@ -103,10 +102,14 @@ gaining_run g [] = g
 gaining_run g (x ∷ levels) = gaining_run (gaining_step g x) levels
 
 -- a run through known states
-pub gaining_run-through : (levels : List Level) (s : ℕ → GainingPort) → ((o : ℕ) → o < length levels → gaining_step (s o) (level_at levels o) ≡ s (suc o)) → gaining_run (s 0) levels ≡ s (length levels)
-gaining_run-through [] s each = refl
-gaining_run-through (x ∷ levels) s each =
-    ap (λ g. gaining_run g levels) (each 0 (omega arith)) ∙ gaining_run-through levels (λ o. s (suc o)) (λ o within. each (suc o) (omega (arith, within)))
+pub gaining_run-through : (levels : List Level) (s : ℕ → GainingPort) → ((o : ℕ) → o < length levels → gaining_step (s o) (level_at levels o) ≡ s (suc o)) →
+    (t : ℕ) → t ≤ length levels → gaining_run (s 0) (take t levels) ≡ s t
+gaining_run-through [] s each zero within = refl
+gaining_run-through [] s each (suc t) within = absurd (omega (arith, within))
+gaining_run-through (x ∷ levels) s each zero within = refl
+gaining_run-through (x ∷ levels) s each (suc t) within =
+    ap (λ g. gaining_run g (take t levels)) (each 0 (omega arith))
+    ∙ gaining_run-through levels (λ o. s (suc o)) (λ o within. each (suc o) (omega (arith, within))) t (omega (arith, within))
 
 -- a port at which nothing arrives is a port
 abbrev pub alone : PortState → GainingPort

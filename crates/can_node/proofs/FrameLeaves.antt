@@ -23,7 +23,7 @@ use Rattle.can_mac.proofs.FrameSteps.{event-early, state-late}
 use Rattle.can_node.specs.declared.entry.Entry.{Entry}
 use Rattle.can_node.specs.Ports.{PortState, waiting, without, logged, noted, port_run}
 use Rattle.can_node.proofs.Arrivals.{GainingPort, gaining, gains, gains-none, gains-twice, gains-arrived_none, logged-gains, without-gains, arrived, later_by, gaining_run, gaining_run-alone, alone}
-use Rattle.can_node.proofs.OneFrame.{Meets, at_mac, noted_at, port_at, gaining_run-at}
+use Rattle.can_node.proofs.OneFrame.{Meets, at_mac, noted_at, port_at, gaining_run-all}
 
 -- an event that leaves queue and log as they are
 abbrev IsUnnoted : Option Event → Type 0
@@ -201,12 +201,12 @@ left_behind f g p = gaining (gains (arrived g.arrives (length (line f))) p) (lat
 
 pub gaining_run-sent : (f : Parts) (g : GainingPort) → Sends f g.port → gaining_run g (line f) ≡ left_behind f g (sent_port f g.port)
 gaining_run-sent f g h =
-    gaining_run-at f g (sends-Meets f g.port h)
+    gaining_run-all f g (sends-Meets f g.port h)
     ∙ ap (λ p. gaining p (later_by (length (line f)) g.arrives)) (port_at-sent f g.port g.arrives h)
 
 pub gaining_run-received : (f : Parts) (g : GainingPort) → Receives f g.port → gaining_run g (line f) ≡ left_behind f g (received_port f g.port)
 gaining_run-received f g h =
-    gaining_run-at f g (receives-Meets f g.port h)
+    gaining_run-all f g (receives-Meets f g.port h)
     ∙ ap (λ p. gaining p (later_by (length (line f)) g.arrives)) (port_at-received f g.port g.arrives h)
 
 -- where nothing arrives

@@ -1,6 +1,7 @@
 -- A frame, and the intermission behind it, at one port, where frames may arrive between bit times.
-use Rattle.std.proofs.Common.{◌≡◌, ℕ, zero, suc, ◌+◌, ◌<◌, ◌≤◌, true, false, Option, Some, None, List, length, refl, sym, ◌∙◌, ap, arith}
+use Rattle.std.proofs.Common.{◌≡◌, ℕ, zero, suc, ◌+◌, ◌<◌, ◌≤◌, true, false, Option, Some, None, List, length, take, refl, sym, ◌∙◌, ap, arith}
 use Rattle.std.specs.Prelude.{nat_lt}
+use Rattle.std.proofs.lemmas.List.{take_all}
 use Rattle.can_frame.specs.declared.level.Level.{Level}
 use Rattle.can_frame.specs.Parts.{Parts}
 use Rattle.can_code.specs.Layout.{level_at}
@@ -14,7 +15,7 @@ use Rattle.can_mac.proofs.FrameRuns.{state_after-frame, told_at-frame}
 use Rattle.can_mac.proofs.FrameDrives.{driven_at-frame, drives-frame}
 use Rattle.can_node.specs.declared.entry.Entry.{Entry}
 use Rattle.can_node.specs.Ports.{PortState, waiting, without, logged, noted, port_drives, port_step}
-use Rattle.can_node.proofs.Arrivals.{GainingPort, gaining, gains, gains-none, none, later, later_by, later_by-later, later_by-next, gaining_step, gaining_run, gaining_run-through, if-change}
+use Rattle.can_node.proofs.Arrivals.{GainingPort, gaining, gains, gains-none, none, later, later_by, later_by-later, later_by-at, gaining_step, gaining_run, gaining_run-through, if-change}
 
 -- a controller's state, put into a port
 abbrev pub at_mac : MacState → PortState → PortState
@@ -105,9 +106,13 @@ module _ (f : Parts) (g : GainingPort) (meets : Meets f g.port) where
   pub gaining_step-at : (o : ℕ) → o < length (line f) → gaining_step (gaining_at f g o) (level_at (line f) o) ≡ gaining_at f g (suc o)
   gaining_step-at o within =
       let after = later (later_by o g.arrives) in
-      ap (λ frames. gaining (gains frames (port_step (port_at f g.port g.arrives o) (level_at (line f) o))) after) (later_by-next o g.arrives)
+      ap (λ frames. gaining (gains frames (port_step (port_at f g.port g.arrives o) (level_at (line f) o))) after) (later_by-at o 1 g.arrives ∙ ap g.arrives (let e : o + 1 ≡ suc o = omega arith in e))
       ∙ ap (λ p. gaining p after) (port_step-at f g.port g.arrives meets o within)
       ∙ ap (gaining (port_at f g.port g.arrives (suc o))) (later_by-later o g.arrives)
 
-  pub gaining_run-at : gaining_run g (line f) ≡ gaining_at f g (length (line f))
+  -- after the first t levels, and after all
+  pub gaining_run-at : (t : ℕ) → t ≤ length (line f) → gaining_run g (take t (line f)) ≡ gaining_at f g t
   gaining_run-at = gaining_run-through (line f) (gaining_at f g) gaining_step-at
+
+  pub gaining_run-all : gaining_run g (line f) ≡ gaining_at f g (length (line f))
+  gaining_run-all = ap (gaining_run g) (sym (take_all (length (line f)) (line f) (omega arith))) ∙ gaining_run-at (length (line f)) (omega arith)
