@@ -12,7 +12,7 @@ use Rattle.can_bus.specs.Wired.{wired}
 use Rattle.can_bus.specs.Run.{BusState, bus_level, bus_run, rest_after}
 use Rattle.can_bus.proofs.Reduction.{maps-alike}
 use Rattle.can_bus.proofs.WireRuns.{Wire, all_after, wire_level, wire_step, wire_run, rest_run, gives-part, gives-levels}
-use Rattle.can_bus.proofs.PlainRuns.{sees, run_one, level_wire, wire_of, bus_of}
+use Rattle.can_bus.proofs.PlainRuns.{sees, run_one, level_wire, wire_of}
 use Rattle.can_bus.proofs.FrameOnBus.{OneSends, gaining_sees, ports_of, frame-gives}
 use Rattle.can_bus.proofs.RestInFrames.{rest-line}
 

@@ -1,5 +1,5 @@
 -- How many recessive levels stand last in a frame: eleven at its end, and fewer before.
-use Rattle.std.proofs.Common.{◌≡◌, ℕ, zero, suc, ◌+◌, ◌-◌, ◌<◌, ◌≤◌, true, false, ◌&&◌, List, [], ◌∷◌, ◌++◌, length, take, refl, sym, ap, subst, ◌∙◌, arith, inl, inr}
+use Rattle.std.proofs.Common.{◌≡◌, ℕ, zero, suc, ◌+◌, ◌-◌, ◌<◌, ◌≤◌, false, ◌&&◌, List, [], ◌∷◌, ◌++◌, length, take, refl, sym, ap, subst, ◌∙◌, arith, inl, inr}
 use Rattle.std.proofs.Math.Dec.{eqb}
 use Rattle.std.proofs.lemmas.Bool.{cases_lt, cond_both, ne_eqb}
 use Rattle.std.proofs.lemmas.List.{take_more}
@@ -9,9 +9,8 @@ use Rattle.can_frame.specs.Levels.{same}
 use Rattle.can_frame.specs.Parts.{Parts, IsFrame}
 use Rattle.can_code.specs.Wire.{stuffed_part}
 use Rattle.can_code.specs.Layout.{level_at}
-use Rattle.can_code.specs.Front.{FrontParts, is_stuff_error, heard_level, IsFront}
+use Rattle.can_code.specs.Front.{FrontParts, is_stuff_error, heard_level}
 use Rattle.can_code.specs.Stuffing.{run_after}
-use Rattle.can_code.proofs.FrontsOf.{IsFrontOf}
 use Rattle.can_code.proofs.WireFronts.{stuffed_part-start, front_at, front_at-first, front_at-front, front_at-no_error, front_at-next}
 use Rattle.can_mac.specs.Frames.{line}
 use Rattle.can_mac.proofs.FrameEnds.{end_levels}

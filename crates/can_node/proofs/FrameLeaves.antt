@@ -61,7 +61,8 @@ module _ (f : Parts) (p : PortState) (arrives : ℕ → List Parts) (meets : Mee
   early-unnoted o more q =
       ap (λ e. noted e q) (event-early f (waiting p.queue) o more) ∙ loss-unnoted (role_at f (waiting p.queue) o) (role_at f (waiting p.queue) (o + 1)) q
 
-  -- behind the stuffed part it has this role, and one level tells this, and no other
+  -- behind the stuffed part it has this role, and one level tells this, and no other; what is noted of it is noted
+  -- beside the frames that have arrived
   module _ (role : Role) (place : ℕ) (told : Option Event) (cause : Cause) (few : place < 13) (keeps : (o : ℕ) → n ≤ o → role_at f (waiting p.queue) o ≡ role)
       (here : end_event f role place ≡ told) (elsewhere : (k : ℕ) → k ≢ place → end_event f role k ≡ None)
       (ends : end_state f role p.mac.overloads.pending p.mac.counters 13 ≡ rested cause p.mac)
@@ -75,12 +76,14 @@ module _ (f : Parts) (p : PortState) (arrives : ℕ → List Parts) (meets : Mee
       | inr past ↦ ap (λ e. noted e q) (late o past ∙ elsewhere (behind_part f o) (λ e. other (omega (arith, e, past))))
     ]
 
+    -- up to that level frames arrive, and nothing is noted
     before : (o : ℕ) → o ≤ n + place → noted_at f p arrives o ≡ gains (arrived arrives o) p
     before zero within = sym (gains-none p)
     before (suc o) within =
         ap (gains (arrives (suc o))) (unnoted o (λ e. omega (arith, e, within)) (noted_at f p arrives o) ∙ before o (omega (arith, within)))
         ∙ gains-twice (arrived arrives o) (arrives (suc o)) p
 
+    -- behind it that is noted, and nothing more
     behind : (o : ℕ) → n + place < o → noted_at f p arrives o ≡ gains (arrived arrives o) (noted told p)
     behind zero past = absurd (omega (arith, past))
     behind (suc o) past = elim (cases_lt (n + place) o) [
