@@ -14,12 +14,14 @@ use Rattle.can_fault.specs.Counters.{ConfineParts, counted}
 use Rattle.can_mac.specs.declared.phase.Role.{Role}
 use Rattle.can_mac.specs.declared.phase.Role.TheVariants.{Receiver, Sender}
 use Rattle.can_mac.specs.Frames.{line, behind_part, role_at, counters_after}
-use Rattle.can_node.specs.Ports.{PortState, IsPort, waiting, port_step, port_run}
-use Rattle.can_node.proofs.OneFrame.{Meets, port_at, port_step-at}
+use Rattle.can_node.specs.Ports.{PortState, IsPort, waiting, port_drives, port_step, port_run}
+use Rattle.can_node.proofs.Arrivals.{none}
+use Rattle.can_node.proofs.OneFrame.{Meets, port_at, port_step-at_none}
 use Rattle.can_node.proofs.FrameLeaves.{sends-Meets, receives-Meets}
 use Rattle.can_bus.specs.declared.hit.Hit.{Hit}
 use Rattle.can_bus.specs.Run.{BusState, bus_level, bus_run}
 use Rattle.can_bus.specs.Quiet.{IsQuiet, IsQuietPort, IsQuietCall, IsAscending, line_at, AtEachPort, LogsBegin, LogsWhole, CountsNothing, queued, span, marked, with_intermission}
+use Rattle.can_bus.proofs.WireRuns.{gives-take}
 use Rattle.can_bus.proofs.PlainRuns.{sees, Follows, all_run, follows-run}
 use Rattle.can_bus.proofs.Contests.{AllPorts}
 use Rattle.can_bus.proofs.Rounds.{IsClean, Round, sent-clean, received-clean}
@@ -67,7 +69,7 @@ counts-role : (role : Role) (c : ConfineParts) (k : ℕ) → IsClean c → count
 counts-role Receiver c k clean = cond_both {A = ConfineParts} (nat_lt k 2) c (counted FrameReceived c) (λ d. d ≡ c) (λ e. refl) (λ e. received-clean c clean)
 counts-role (Sender f) c k clean = cond_both {A = ConfineParts} (nat_lt k 10) c (counted FrameSent c) (λ d. d ≡ c) (λ e. refl) (λ e. sent-clean c clean)
 
-counts-at : (f : Parts) (p : PortState) → IsClean p.mac.counters → (o : ℕ) → Counts p.mac.counters (port_at f p o)
+counts-at : (f : Parts) (p : PortState) → IsClean p.mac.counters → (o : ℕ) → Counts p.mac.counters (port_at f p none o)
 counts-at f p clean zero = refl
 counts-at f p clean (suc o) = counts-role (role_at f (waiting p.queue) (suc o)) p.mac.counters (behind_part f (suc o)) clean
 
@@ -78,7 +80,7 @@ part-meets f p (inr receives) = receives-Meets f p receives
 frame-counts : (f : Parts) (p : PortState) (c : ConfineParts) → IsClean c → Counts c p → TakesPart f p → Throughout (Counts c) (line f) p
 frame-counts f p c clean same part =
     subst (λ d. Throughout (Counts d) (line f) p) same
-    (throughout-states (Counts p.mac.counters) (line f) (port_at f p) (port_step-at f p (part-meets f p part)) (counts-at f p (subst IsClean (sym same) clean)))
+    (throughout-states (Counts p.mac.counters) (line f) (port_at f p none) (port_step-at_none f p (part-meets f p part)) (counts-at f p (subst IsClean (sym same) clean)))
 
 rest-counts : (m : ℕ) (p : PortState) (c : ConfineParts) → Counts c p → IsAtRest p → Throughout (Counts c) (replicate m Recessive) p
 rest-counts zero p c same rest = same
@@ -93,12 +95,6 @@ chain-counts (f ∷ frames) m p c clean same chain =
     (chain-counts frames m (port_run p (line f)) c clean (throughout-end (Counts c) (line f) p first) chain.1))
 
 -- ---- each port of the bus
-
-follows-take : (n : ℕ) (levels : List Level) (ports : List PortState) → Follows levels ports → Follows (take n levels) ports
-follows-take zero [] ports h = tt
-follows-take zero (x ∷ levels) ports h = tt
-follows-take (suc n) [] ports h = tt
-follows-take (suc n) (x ∷ levels) ports h = (h.0, follows-take n levels (map (sees x) ports) h.1)
 
 ports-after : (levels : List Level) (n : ℕ) (bus : BusState) → length levels ≡ n → Follows levels bus.ports → (bus_run [] n bus).ports ≡ all_run levels bus.ports
 ports-after levels n bus size follows = ap (λ k. (bus_run [] k bus).ports) (sym size) ∙ ap (λ (b : BusState). b.ports) (follows-run levels bus follows)
@@ -143,7 +139,7 @@ module _ (frames : List Parts) (bus : BusState) (n : ℕ) (valid : AllPorts IsPo
   long = length-take-le n levels (omega (arith, length-append (flat_map with_intermission frames) (replicate n Recessive), length-replicate n Recessive))
 
   after : (bus_run [] n bus).ports ≡ all_run (take n levels) bus.ports
-  after = ports-after (take n levels) n bus long (follows-take n levels bus.ports (round-follows frames n bus.ports two round))
+  after = ports-after (take n levels) n bus long (gives-take port_drives sees n levels bus.ports (round-follows frames n bus.ports two round))
 
   abbrev Starts : PortState → Type 0
   Starts p = IsQuietPort (length (queued bus.ports)) p × Chain frames p
