@@ -16,3 +16,5 @@ pub mod QuietLine
 pub mod QuietStart
 pub mod QuietLogs
 pub mod QuietBus
+pub mod QuietAgreement
+pub mod QuietPlans

@@ -37,7 +37,9 @@ mod wire;
 pub use bus::Bus;
 pub use fault::BusFault;
 pub use hit::Hit;
-pub use laws::{hits_are_ordered, one_ascending_list, runs_join};
+pub use laws::{
+    a_quiet_bus_can_be_made, hits_are_ordered, one_ascending_list, quiet_buses_agree, runs_join,
+};
 pub use moment::Attempt;
 pub use wire::wired;
 
