@@ -1,15 +1,17 @@
 -- Ports that are made idle and offered their frames are a quiet bus.
 use Rattle.std.specs.Prelude.{fold, slice_get}
+use Rattle.std.specs.List.Sorted.{IsPermutation}
 use Rattle.std.proofs.Common.{◌≡◌, ℕ, zero, suc, ◌≤◌, Some, None, List, [], ◌∷◌, ◌++◌, All, length, map, refl, sym, ◌∙◌, ap, subst, arith, append_assoc}
 use Rattle.std.proofs.lemmas.List.{append-nil, length-map}
-use Rattle.std.proofs.lemmas.List.Elements.{All-tail}
+use Rattle.std.proofs.lemmas.List.Elements.{All-cons, All-tail}
 use Rattle.std.proofs.lemmas.Option.{slice_get_within, get_or_from_slice_get}
 use Rattle.can_frame.specs.Parts.{Parts, IsFrame}
 use Rattle.can_mac.specs.State.{idle}
 use Rattle.can_mac.proofs.Kept.{IsMac-idle}
-use Rattle.can_node.specs.declared.entry.Entry.{Entry}
 use Rattle.can_node.specs.Ports.{PortState, IsPort, fresh_port, offered}
 use Rattle.can_bus.specs.Quiet.{AreDifferent, IsQuiet, IsQuietPort, queued}
+use Rattle.can_bus.specs.Run.{BusState}
+use Rattle.can_bus.specs.Agreement.{IsQuietBus, AreAlike}
 use Rattle.can_bus.specs.Plans.{PortPlan, FitsQueue, IsQuietPlan, planned, ready_port}
 
 -- frames that are offered one after another wait behind those that waited
@@ -60,3 +62,28 @@ ready-quiet plans is =
       quiet = subst (λ k. (n : ℕ) (p : PortState) → slice_get (map ready_port plans) n ≡ Some p → IsQuietPort k p) (ap length frames) (quiet-each (length (planned plans)) plans is.room);
       different = subst AreDifferent frames is.different;
     }
+
+-- ---- as a bus
+
+-- the bus of these ports
+abbrev pub ready_bus : ℕ → List PortPlan → BusState
+ready_bus rest plans = record { ports = map ready_port plans; rest = rest }
+
+ready-ports : (plans : List PortPlan) → All FitsQueue plans → All IsPort (map ready_port plans)
+ready-ports [] fit = λ k d h. absurd (omega arith)
+ready-ports (plan ∷ plans) fit =
+    All-cons IsPort (ready_port plan) (map ready_port plans) (ready-port plan (fit 0 plan (omega arith))) (ready-ports plans (All-tail FitsQueue plan plans fit))
+
+pub ready-bus : (rest : ℕ) (plans : List PortPlan) → All FitsQueue plans → IsQuietPlan plans → IsQuietBus (ready_bus rest plans)
+ready-bus rest plans fit is = record { ports = ready-ports plans fit; quiet = ready-quiet plans is }
+
+-- two that are made for the same frames are alike
+pub ready-alike : (rest left : ℕ) (plans others : List PortPlan) → All FitsQueue plans → IsQuietPlan plans → All FitsQueue others → IsQuietPlan others →
+    IsPermutation (planned plans) (planned others) → AreAlike (ready_bus rest plans) (ready_bus left others)
+ready-alike rest left plans others fit is fits are moved = record {
+  first = ready-bus rest plans fit is;
+  second = ready-bus left others fits are;
+  frames =
+      subst (λ frames. IsPermutation frames (queued (map ready_port others))) (sym (ready-queued plans))
+      (subst (IsPermutation (planned plans)) (sym (ready-queued others)) moved);
+}
