@@ -19,3 +19,5 @@ pub mod QuietLine
 pub mod QuietStart
 pub mod QuietLogs
 pub mod QuietBus
+pub mod QuietAgreement
+pub mod QuietPlans
