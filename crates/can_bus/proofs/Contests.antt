@@ -1,9 +1,9 @@
 -- Who sends: of ports whose frames all differ, the one that has the least frame; and what is left behind it.
-use Rattle.std.proofs.Common.{◌≡◌, ◌≢◌, ℕ, zero, suc, ◌⊎◌, true, Option, Some, None, List, [], ◌∷◌, ◌++◌, refl, sym, ◌∙◌, ap, subst, inl, inr}
+use Rattle.std.proofs.Common.{◌≡◌, ℕ, zero, suc, ◌⊎◌, true, Option, Some, None, List, [], ◌∷◌, ◌++◌, refl, sym, ◌∙◌, ap, subst, inl, inr}
 use Rattle.std.specs.Prelude.{slice_get}
 use Rattle.std.proofs.lemmas.Bool.{cond-true, cond-false, cases_Bool}
 use Rattle.can_frame.specs.Parts.{Parts}
-use Rattle.can_frame.specs.Arbitration.{arbitration_field, Before}
+use Rattle.can_frame.specs.Arbitration.{arbitration_field}
 use Rattle.can_node.specs.Ports.{PortState, same_field, waiting, without}
 use Rattle.can_node.specs.Waiting.{IsWaiting}
 use Rattle.can_node.proofs.WaitingLemmas.{same_field-Shares, Shares-same_field}

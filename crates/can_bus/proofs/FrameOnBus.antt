@@ -1,8 +1,8 @@
 -- One frame on a bus whose ports are idle: at one port it is the frame that waits, and at each other one a frame waits
--- that comes behind it, or none. Then the wire has the levels of the frame.
-use Rattle.std.proofs.Common.{◌≡◌, ℕ, ◌+◌, ◌<◌, ◌⊎◌, Option, List, [], ◌∷◌, length, refl, ap, ◌∙◌, arith, inl, inr}
+-- that comes behind it, or none. Then the wire has the levels of the frame, whatever arrives at the ports meanwhile.
+use Rattle.std.proofs.Common.{◌≡◌, ℕ, ◌+◌, ◌<◌, ◌⊎◌, Option, List, [], ◌∷◌, length, map, refl, sym, ap, subst, ◌∙◌, arith, inl, inr}
 use Rattle.std.proofs.lemmas.Bool.{cases_eq}
-use Rattle.std.proofs.lemmas.List.{length-append}
+use Rattle.std.proofs.lemmas.List.{length-append, length-map, map-id}
 use Rattle.can_frame.specs.declared.level.Level.{Level}
 use Rattle.can_frame.specs.declared.level.Level.TheVariants.{Dominant, Recessive}
 use Rattle.can_frame.specs.Parts.{Parts, IsFrame}
@@ -14,12 +14,14 @@ use Rattle.can_mac.proofs.FrameParts.{length-line}
 use Rattle.can_mac.proofs.FrameRoles.{role-own}
 use Rattle.can_mac.proofs.FrameDrives.{own-line, own-slot, receiver-slot, frame-over}
 use Rattle.can_node.specs.Ports.{PortState, waiting, port_drives}
-use Rattle.can_node.proofs.OneFrame.{Meets, port_at, port_step-at, port_drives-at}
+use Rattle.can_node.proofs.Arrivals.{GainingPort, gaining_step, gaining_drives, gaining_step-alone, alone}
+use Rattle.can_node.proofs.OneFrame.{Meets, port_drives-at, gaining_at, gaining_step-at}
 use Rattle.can_node.proofs.FrameLeaves.{Sends, Receives, ComesBehind, sends-Meets, receives-Meets, receiver-late}
 use Rattle.can_bus.specs.Wired.{over}
 use Rattle.can_bus.specs.Run.{BusState, bus_level, bus_run}
-use Rattle.can_bus.proofs.Reduction.{Leads, Joins, AllJoin, OneLeads, reduction}
-use Rattle.can_bus.proofs.PlainRuns.{undisturbed, sees, Follows, all_run, rest_run, follows-run, follows-levels, leads-through, joins-through}
+use Rattle.can_bus.proofs.Reduction.{Gives, Leads, Joins, AllJoin, OneLeads, reduction, maps-alike, gives-as}
+use Rattle.can_bus.proofs.WireRuns.{undisturbed, rest_run, leads-through, joins-through}
+use Rattle.can_bus.proofs.PlainRuns.{sees, Follows, all_run, follows-run, follows-levels}
 
 -- at each port f is received
 abbrev pub AllReceive : Parts → List PortState → Type 0
@@ -58,31 +60,57 @@ receiver-joins f w is kept other behind o within = elim (cases_eq o (slot_place 
       ∙ over-own (level_at (line f) o) (frame_drives f w o) (frame-over f w is kept behind o within)
 ]
 
-sends-leads : (f : Parts) (p : PortState) → Sends f p → Leads port_drives sees (undisturbed (line f)) (driven_line f) p
-sends-leads f p h =
-    let meets : Meets f p = sends-Meets f p h in
-    leads-through (line f) (driven_line f) (port_at f p) (length-driven f) (port_step-at f p meets)
-    (λ o within. port_drives-at f p meets o within ∙ ap (λ w. frame_drives f w o) h.own ∙ ap (λ r. role_drives f r o) (role-own f o))
+-- What the ports gain has no say: each goes through f as it would alone.
 
-receives-joins : (f : Parts) (p : PortState) → Receives f p → Joins port_drives sees (undisturbed (line f)) (driven_line f) p
-receives-joins f p h =
-    let meets : Meets f p = receives-Meets f p h in
-    joins-through (line f) (driven_line f) (port_at f p) (length-driven f) (port_step-at f p meets)
-    (λ o within. ap (over (level_at (driven_line f) o)) (port_drives-at f p meets o within)
-    ∙ receiver-joins f (waiting p.queue) h.ready.frame h.ready.kept h.other meets.start.behind o within)
+abbrev pub gaining_sees : Level → GainingPort → GainingPort
+gaining_sees x g = gaining_step g x
 
-all-join : (f : Parts) (ports : List PortState) → AllReceive f ports → AllJoin port_drives sees (undisturbed (line f)) (driven_line f) ports
+-- the ports, as this bit time begins
+abbrev pub ports_of : List GainingPort → List PortState
+ports_of gs = map (λ g. g.port) gs
+
+abbrev LeadsIn : Parts → GainingPort → Type 0
+LeadsIn f g = Leads gaining_drives gaining_sees (undisturbed (line f)) (driven_line f) g
+
+abbrev JoinsIn : Parts → GainingPort → Type 0
+JoinsIn f g = Joins gaining_drives gaining_sees (undisturbed (line f)) (driven_line f) g
+
+sends-leads : (f : Parts) (g : GainingPort) → Sends f g.port → LeadsIn f g
+sends-leads f g h =
+    let meets : Meets f g.port = sends-Meets f g.port h in
+    leads-through gaining_drives gaining_sees (line f) (driven_line f) (gaining_at f g) (length-driven f) (gaining_step-at f g meets)
+    (λ o within. port_drives-at f g.port g.arrives meets o within ∙ ap (λ w. frame_drives f w o) h.own ∙ ap (λ r. role_drives f r o) (role-own f o))
+
+receives-joins : (f : Parts) (g : GainingPort) → Receives f g.port → JoinsIn f g
+receives-joins f g h =
+    let meets : Meets f g.port = receives-Meets f g.port h in
+    joins-through gaining_drives gaining_sees (line f) (driven_line f) (gaining_at f g) (length-driven f) (gaining_step-at f g meets)
+    (λ o within. ap (over (level_at (driven_line f) o)) (port_drives-at f g.port g.arrives meets o within)
+    ∙ receiver-joins f (waiting g.port.queue) h.ready.frame h.ready.kept h.other meets.start.behind o within)
+
+all-join : (f : Parts) (gs : List GainingPort) → AllReceive f (ports_of gs) → AllJoin gaining_drives gaining_sees (undisturbed (line f)) (driven_line f) gs
 all-join f [] all = tt
-all-join f (p ∷ ports) all = (receives-joins f p all.0, all-join f ports all.1)
+all-join f (g ∷ gs) all = (receives-joins f g all.0, all-join f gs all.1)
 
-one-leads : (f : Parts) (ports : List PortState) → OneSends f ports → OneLeads port_drives sees (undisturbed (line f)) (driven_line f) ports
+one-leads : (f : Parts) (gs : List GainingPort) → OneSends f (ports_of gs) → OneLeads gaining_drives gaining_sees (undisturbed (line f)) (driven_line f) gs
 one-leads f [] one = one
-one-leads f (p ∷ ports) (inl one) = inl (sends-leads f p one.0, all-join f ports one.1)
-one-leads f (p ∷ ports) (inr one) = inr (receives-joins f p one.0, one-leads f ports one.1)
+one-leads f (g ∷ gs) (inl one) = inl (sends-leads f g one.0, all-join f gs one.1)
+one-leads f (g ∷ gs) (inr one) = inr (receives-joins f g one.0, one-leads f gs one.1)
+
+-- the wire has the levels of f
+pub frame-gives : (f : Parts) (gs : List GainingPort) → 1 < length gs → OneSends f (ports_of gs) → Gives gaining_drives gaining_sees (undisturbed (line f)) gs
+frame-gives f gs two one = reduction gaining_drives gaining_sees (undisturbed (line f)) (driven_line f) gs two (one-leads f gs one)
+
+-- Where nothing arrives.
+
+ports-alone : (ports : List PortState) → ports_of (map alone ports) ≡ ports
+ports-alone ports = maps-alike alone (λ g. g.port) (λ p. p) (λ p. refl) ports ∙ map-id ports
 
 -- the wire has the levels of f
 pub frame-follows : (f : Parts) (ports : List PortState) → 1 < length ports → OneSends f ports → Follows (line f) ports
-frame-follows f ports two one = reduction port_drives sees (undisturbed (line f)) (driven_line f) ports two (one-leads f ports one)
+frame-follows f ports two one =
+    gives-as port_drives sees gaining_drives gaining_sees alone (λ p. refl) (λ x p. gaining_step-alone p x) (undisturbed (line f)) ports
+    (frame-gives f (map alone ports) (simp length-map two) (subst (OneSends f) (sym (ports-alone ports)) one))
 
 -- they are recorded
 pub frame-levels : (f : Parts) (bus : BusState) (t : ℕ) → 1 < length bus.ports → OneSends f bus.ports → t < length (line f) → bus_level [] t bus ≡ level_at (line f) t

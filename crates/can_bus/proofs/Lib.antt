@@ -8,11 +8,16 @@ pub mod RunLemmas
 pub mod Reduction
 pub mod Ascending
 -- a quiet bus
+pub mod WireRuns
 pub mod PlainRuns
 pub mod FrameOnBus
+pub mod RestInFrames
+pub mod GainingRuns
 pub mod Contests
 pub mod Rounds
 pub mod QuietLine
 pub mod QuietStart
 pub mod QuietLogs
 pub mod QuietBus
+pub mod QuietAgreement
+pub mod QuietPlans

@@ -14,12 +14,14 @@ use Rattle.can_fault.specs.Counters.{ConfineParts, counted}
 use Rattle.can_mac.specs.declared.phase.Role.{Role}
 use Rattle.can_mac.specs.declared.phase.Role.TheVariants.{Receiver, Sender}
 use Rattle.can_mac.specs.Frames.{line, behind_part, role_at, counters_after}
-use Rattle.can_node.specs.Ports.{PortState, IsPort, waiting, port_step, port_run}
-use Rattle.can_node.proofs.OneFrame.{Meets, port_at, port_step-at}
-use Rattle.can_node.proofs.FrameLeaves.{sends-Meets, receives-Meets}
+use Rattle.can_node.specs.Ports.{PortState, IsPort, waiting, port_drives, port_step, port_run}
+use Rattle.can_node.proofs.Arrivals.{none}
+use Rattle.can_node.proofs.OneFrame.{Meets, port_at, port_step-at_none}
+use Rattle.can_node.proofs.FrameLeaves.{sends-Meets, receives-Meets, missed-sent, missed-received}
 use Rattle.can_bus.specs.declared.hit.Hit.{Hit}
 use Rattle.can_bus.specs.Run.{BusState, bus_level, bus_run}
-use Rattle.can_bus.specs.Quiet.{IsQuiet, IsQuietPort, IsQuietCall, IsAscending, line_at, AtEachPort, LogsBegin, LogsWhole, CountsNothing, queued, span, marked, with_intermission}
+use Rattle.can_bus.specs.Quiet.{IsQuiet, IsQuietPort, IsQuietCall, IsAscending, line_at, AtEachPort, LogsBegin, LogsWhole, CountsNothing, MissesNothing, queued, span, marked, with_intermission}
+use Rattle.can_bus.proofs.WireRuns.{gives-take}
 use Rattle.can_bus.proofs.PlainRuns.{sees, Follows, all_run, follows-run}
 use Rattle.can_bus.proofs.Contests.{AllPorts}
 use Rattle.can_bus.proofs.Rounds.{IsClean, Round, sent-clean, received-clean}
@@ -67,7 +69,7 @@ counts-role : (role : Role) (c : ConfineParts) (k : ℕ) → IsClean c → count
 counts-role Receiver c k clean = cond_both {A = ConfineParts} (nat_lt k 2) c (counted FrameReceived c) (λ d. d ≡ c) (λ e. refl) (λ e. received-clean c clean)
 counts-role (Sender f) c k clean = cond_both {A = ConfineParts} (nat_lt k 10) c (counted FrameSent c) (λ d. d ≡ c) (λ e. refl) (λ e. sent-clean c clean)
 
-counts-at : (f : Parts) (p : PortState) → IsClean p.mac.counters → (o : ℕ) → Counts p.mac.counters (port_at f p o)
+counts-at : (f : Parts) (p : PortState) → IsClean p.mac.counters → (o : ℕ) → Counts p.mac.counters (port_at f p none o)
 counts-at f p clean zero = refl
 counts-at f p clean (suc o) = counts-role (role_at f (waiting p.queue) (suc o)) p.mac.counters (behind_part f (suc o)) clean
 
@@ -78,27 +80,45 @@ part-meets f p (inr receives) = receives-Meets f p receives
 frame-counts : (f : Parts) (p : PortState) (c : ConfineParts) → IsClean c → Counts c p → TakesPart f p → Throughout (Counts c) (line f) p
 frame-counts f p c clean same part =
     subst (λ d. Throughout (Counts d) (line f) p) same
-    (throughout-states (Counts p.mac.counters) (line f) (port_at f p) (port_step-at f p (part-meets f p part)) (counts-at f p (subst IsClean (sym same) clean)))
+    (throughout-states (Counts p.mac.counters) (line f) (port_at f p none) (port_step-at_none f p (part-meets f p part)) (counts-at f p (subst IsClean (sym same) clean)))
 
-rest-counts : (m : ℕ) (p : PortState) (c : ConfineParts) → Counts c p → IsAtRest p → Throughout (Counts c) (replicate m Recessive) p
-rest-counts zero p c same rest = same
-rest-counts (suc m) p c same rest = (same, subst (Throughout (Counts c) (replicate m Recessive)) (sym (rest-step p rest)) (rest-counts m p c same rest))
+-- ---- entries that aren't missed
+
+abbrev Misses : ℕ → PortState → Type 0
+Misses m p = p.missed ≡ m
+
+misses-part : (f : Parts) (p : PortState) → TakesPart f p → (o : ℕ) → Misses p.missed (port_at f p none o)
+misses-part f p (inl sends) = missed-sent f p none sends
+misses-part f p (inr receives) = missed-received f p none receives
+
+frame-misses : (f : Parts) (p : PortState) (m : ℕ) → Misses m p → TakesPart f p → Throughout (Misses m) (line f) p
+frame-misses f p m same part =
+    subst (λ k. Throughout (Misses k) (line f) p) same
+    (throughout-states (Misses p.missed) (line f) (port_at f p none) (port_step-at_none f p (part-meets f p part)) (misses-part f p part))
+
+-- ---- frame after frame
+
+-- what holds throughout each frame holds throughout all of them, and at rest behind them
+module _ (P : PortState → Type 0) (in_frame : (f : Parts) (p : PortState) → P p → TakesPart f p → Throughout P (line f) p) where
+  rest-throughout : (m : ℕ) (p : PortState) → P p → IsAtRest p → Throughout P (replicate m Recessive) p
+  rest-throughout zero p holds rest = holds
+  rest-throughout (suc m) p holds rest = (holds, subst (Throughout P (replicate m Recessive)) (sym (rest-step p rest)) (rest-throughout m p holds rest))
+
+  chain-throughout : (frames : List Parts) (m : ℕ) (p : PortState) → P p → Chain frames p → Throughout P (frames_then frames m) p
+  chain-throughout [] m p holds chain = rest-throughout m p holds chain
+  chain-throughout (f ∷ frames) m p holds chain =
+      let first : Throughout P (line f) p = in_frame f p holds chain.0 in
+      subst (λ levels. Throughout P levels p) (sym (frames_then-first f frames m))
+      (throughout-append P (line f) (frames_then frames m) p first
+      (chain-throughout frames m (port_run p (line f)) (throughout-end P (line f) p first) chain.1))
 
 chain-counts : (frames : List Parts) (m : ℕ) (p : PortState) (c : ConfineParts) → IsClean c → Counts c p → Chain frames p → Throughout (Counts c) (frames_then frames m) p
-chain-counts [] m p c clean same chain = rest-counts m p c same chain
-chain-counts (f ∷ frames) m p c clean same chain =
-    let first : Throughout (Counts c) (line f) p = frame-counts f p c clean same chain.0 in
-    subst (λ levels. Throughout (Counts c) levels p) (sym (frames_then-first f frames m))
-    (throughout-append (Counts c) (line f) (frames_then frames m) p first
-    (chain-counts frames m (port_run p (line f)) c clean (throughout-end (Counts c) (line f) p first) chain.1))
+chain-counts frames m p c clean = chain-throughout (Counts c) (λ f q same part. frame-counts f q c clean same part) frames m p
+
+chain-misses : (frames : List Parts) (m : ℕ) (p : PortState) → Chain frames p → Throughout (Misses p.missed) (frames_then frames m) p
+chain-misses frames m p = chain-throughout (Misses p.missed) (λ f q same part. frame-misses f q p.missed same part) frames m p refl
 
 -- ---- each port of the bus
-
-follows-take : (n : ℕ) (levels : List Level) (ports : List PortState) → Follows levels ports → Follows (take n levels) ports
-follows-take zero [] ports h = tt
-follows-take zero (x ∷ levels) ports h = tt
-follows-take (suc n) [] ports h = tt
-follows-take (suc n) (x ∷ levels) ports h = (h.0, follows-take n levels (map (sees x) ports) h.1)
 
 ports-after : (levels : List Level) (n : ℕ) (bus : BusState) → length levels ≡ n → Follows levels bus.ports → (bus_run [] n bus).ports ≡ all_run levels bus.ports
 ports-after levels n bus size follows = ap (λ k. (bus_run [] k bus).ports) (sym size) ∙ ap (λ (b : BusState). b.ports) (follows-run levels bus follows)
@@ -143,7 +163,7 @@ module _ (frames : List Parts) (bus : BusState) (n : ℕ) (valid : AllPorts IsPo
   long = length-take-le n levels (omega (arith, length-append (flat_map with_intermission frames) (replicate n Recessive), length-replicate n Recessive))
 
   after : (bus_run [] n bus).ports ≡ all_run (take n levels) bus.ports
-  after = ports-after (take n levels) n bus long (follows-take n levels bus.ports (round-follows frames n bus.ports two round))
+  after = ports-after (take n levels) n bus long (gives-take port_drives sees n levels bus.ports (round-follows frames n bus.ports two round))
 
   abbrev Starts : PortState → Type 0
   Starts p = IsQuietPort (length (queued bus.ports)) p × Chain frames p
@@ -164,6 +184,12 @@ module _ (frames : List Parts) (bus : BusState) (n : ℕ) (valid : AllPorts IsPo
       subst (AtEachPort CountsNothing bus.ports) (sym after)
       (each-run CountsNothing Starts (λ p. port_run p (take n levels))
       (λ p start. throughout-take (Counts p.mac.counters) n levels p (chain-counts frames n p p.mac.counters (record { tec = start.0.tec; rec = start.0.rec }) refl start.1)) bus.ports starts)
+
+  pub quiet-missed : AtEachPort MissesNothing bus.ports (bus_run [] n bus).ports
+  quiet-missed =
+      subst (AtEachPort MissesNothing bus.ports) (sym after)
+      (each-run MissesNothing Starts (λ p. port_run p (take n levels))
+      (λ p start. throughout-take (Misses p.missed) n levels p (chain-misses frames n p start.1)) bus.ports starts)
 
   pub quiet-whole : span frames ≤ n → AtEachPort (LogsWhole frames) bus.ports (bus_run [] n bus).ports
   quiet-whole past =
@@ -193,3 +219,6 @@ module _ (hits : List Hit) (bus : BusState) (valid : AllPorts IsPort bus.ports) 
 
     pub call-counters : (frames : List Parts) → IsQuietCall hits bus.ports frames → AtEachPort CountsNothing bus.ports after.ports
     call-counters frames call = subst (AtEachPort CountsNothing bus.ports) (plain frames call) (quiet-counters frames bus n valid call.quiet call.ascending)
+
+    pub call-missed : (frames : List Parts) → IsQuietCall hits bus.ports frames → AtEachPort MissesNothing bus.ports after.ports
+    call-missed frames call = subst (AtEachPort MissesNothing bus.ports) (plain frames call) (quiet-missed frames bus n valid call.quiet call.ascending)

@@ -5,3 +5,5 @@ pub mod State
 pub mod Lends
 pub mod Walks
 pub mod Quiet
+pub mod Agreement
+pub mod Plans

@@ -101,3 +101,7 @@ LogsWhole frames p q = q.log ≡ marked p.queue frames
 -- no counter has moved
 abbrev pub CountsNothing : PortState → PortState → Type 0
 CountsNothing p q = q.mac.counters ≡ p.mac.counters
+
+-- no entry has been missed
+abbrev pub MissesNothing : PortState → PortState → Type 0
+MissesNothing p q = q.missed ≡ p.missed

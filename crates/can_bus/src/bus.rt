@@ -2,7 +2,7 @@ ghost use Rattle.std.specs.Prelude.{ℕ, List, ◌≡◌, ◌-◌, ◌+◌, ◌<
 ghost use Rattle.std.specs.Borrow.{sem};
 ghost use Rattle.can_frame.specs.Parts.{Parts};
 ghost use Rattle.can_bus.specs.Hits.{AreTaken, IsFirstFault};
-ghost use Rattle.can_bus.specs.Quiet.{AtEachPort, CountsNothing, IsQuietCall, line_at, LogsBegin, LogsWhole, span};
+ghost use Rattle.can_bus.specs.Quiet.{AtEachPort, CountsNothing, IsQuietCall, line_at, LogsBegin, LogsWhole, MissesNothing, span};
 ghost use Rattle.can_bus.specs.Run.{all_sampled, bus_level, bus_run, bus_step, inverted_if as inverted_if_of, recorded};
 ghost use Rattle.can_bus.specs.Lends.{lends_port};
 ghost use Rattle.can_bus.specs.State.{state_of};
@@ -107,7 +107,7 @@ impl<P: Port> Bus<P> {
     /// frame, and have empty logs with room for all frames that wait, no two of which have one
     /// arbitration field: the frames go out one after another in the order of arbitration, and then the
     /// bus rests. Each log names them in this order, as sent at the port where the frame waited, and as
-    /// received at each other port. No counter moves.
+    /// received at each other port. No counter moves, and no entry is missed.
     pub fn run(&mut self, hits: &[Hit], rec: &mut [Level]) -> Result<(), BusFault>
         ensures taken { IsOk result ↔ AreTaken (length self.old.ports.items) hits.now }
         ensures fault { IfErr result (λ fault. IsFirstFault (length self.old.ports.items) hits.now fault) }
@@ -122,6 +122,8 @@ impl<P: Port> Bus<P> {
             AtEachPort (LogsWhole frames) (map P.port self.old.ports.items) (map P.port self.new.ports.items)) }
         ensures counters { OnOk result ((frames : List Parts) → IsQuietCall hits.now (map P.port self.old.ports.items) frames →
             AtEachPort CountsNothing (map P.port self.old.ports.items) (map P.port self.new.ports.items)) }
+        ensures missed { OnOk result ((frames : List Parts) → IsQuietCall hits.now (map P.port self.old.ports.items) frames →
+            AtEachPort MissesNothing (map P.port self.old.ports.items) (map P.port self.new.ports.items)) }
         ensures unchanged { OnErr result (self.new ≡ self.old) }
         ensures unrecorded { OnErr result (rec.new ≡ rec.old) }
     {

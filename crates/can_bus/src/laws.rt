@@ -1,11 +1,14 @@
 //! Laws of the definitions, each a function that does nothing and ensures it.
-ghost use Rattle.std.specs.Prelude.{◌≡◌, ◌+◌, ℕ, List, []};
+ghost use Rattle.std.specs.Prelude.{◌≡◌, ◌≤◌, ◌+◌, ℕ, List, [], map};
 ghost use Rattle.std.specs.Ordering.{partial_lt};
 ghost use Rattle.std.specs.List.Sorted.{IsPermutation};
 ghost use Rattle.can_frame.specs.Parts.{Parts};
+ghost use Rattle.can_node.specs.Ports.{IsPort};
 ghost use Rattle.can_bus.specs.declared.hit.Hit.{Hit as Disturbance};
+ghost use Rattle.can_bus.specs.Agreement.{AreAlike, LogsAgree};
 ghost use Rattle.can_bus.specs.Hits.{is_above};
-ghost use Rattle.can_bus.specs.Quiet.{AreDifferent, IsAscending, ascending};
+ghost use Rattle.can_bus.specs.Plans.{FitsQueue, IsQuietPlan, PortPlan, planned, ready_port};
+ghost use Rattle.can_bus.specs.Quiet.{AreDifferent, IsAscending, IsQuiet, ascending, queued, span};
 ghost use Rattle.can_bus.specs.Run.{BusState, bus_level, bus_run};
 
 use crate::hit::Hit;
@@ -27,4 +30,22 @@ pub fn one_ascending_list()
     ensures exists { (waiting : List Parts) → AreDifferent waiting → IsAscending waiting (ascending waiting) }
     ensures only { (waiting frames : List Parts) → IsAscending waiting frames → frames ≡ ascending waiting }
     ensures in_any_order { (v w : List Parts) → IsPermutation v w → AreDifferent v → ascending v ≡ ascending w }
+{}
+
+/// Two quiet buses with the same frames have the same level at every time. Once each has run for as long
+/// as the frames take, all logs of both name the same frames in the same order.
+pub fn quiet_buses_agree()
+    ensures levels { (one other : BusState) → AreAlike one other → (t : ℕ) → bus_level [] t one ≡ bus_level [] t other }
+    ensures span { (one other : BusState) → AreAlike one other → span (queued one.ports) ≡ span (queued other.ports) }
+    ensures logs { (one other : BusState) → AreAlike one other → (m n : ℕ) → span (queued one.ports) ≤ m → span (queued other.ports) ≤ n →
+        LogsAgree (bus_run [] m one) (bus_run [] n other) }
+{}
+
+/// Ports that are made idle, with room in each log for all frames, and are offered their frames one
+/// after another, make a quiet bus, if they are two to 64 and no two of the frames have one
+/// arbitration field. The frames that wait at it are those that were offered.
+pub fn a_quiet_bus_can_be_made()
+    ensures quiet { (plans : List PortPlan) → IsQuietPlan plans → IsQuiet (map ready_port plans) }
+    ensures queued { (plans : List PortPlan) → queued (map ready_port plans) ≡ planned plans }
+    ensures ports { (plan : PortPlan) → FitsQueue plan → IsPort (ready_port plan) }
 {}

@@ -15,13 +15,14 @@
 //! | `moment.rt` | [`Attempt`], and when one begins | `specs/Run.antt` |
 //! | `call.rt` | how far a run is | `specs/Walks.antt` |
 //! | `fault.rt` | [`BusFault`], why a bus is not made or not run | |
-//! | `laws.rt` | the order of hits, runs one behind another, the ascending list of frames | `specs/Quiet.antt` |
+//! | `laws.rt` | the order of hits, runs one behind another, the ascending list of frames, quiet buses with the same frames, how one is made | `specs/Quiet.antt`, `specs/Agreement.antt`, `specs/Plans.antt` |
 //!
 //! A `Bus` knows nothing of its ports but the trait [`can_node::Port`]. No call takes memory.
 //!
 //! Crates above find lemmas in `proofs/`: a bus reduced to one machine that leads and others that
 //! join it (`Reduction`), the ascending list of frames (`Ascending`), runs one behind another
-//! (`RunLemmas`), and the wired level of lists that are put together (`WiredLemmas`).
+//! (`RunLemmas`), the wired level of lists that are put together (`WiredLemmas`), and the quiet bus of
+//! ports that are made and offered their frames (`QuietPlans`).
 #![tactic(auto)]
 
 mod bus;
@@ -37,7 +38,9 @@ mod wire;
 pub use bus::Bus;
 pub use fault::BusFault;
 pub use hit::Hit;
-pub use laws::{hits_are_ordered, one_ascending_list, runs_join};
+pub use laws::{
+    a_quiet_bus_can_be_made, hits_are_ordered, one_ascending_list, quiet_buses_agree, runs_join,
+};
 pub use moment::Attempt;
 pub use wire::wired;
 

@@ -1,4 +1,9 @@
+mod crowd;
+mod disturbed;
+mod lines;
 mod ports;
+mod quiet;
+mod states;
 
 use crate::{BusFault, Hit, wired};
 use can_frame::Level;

@@ -20,5 +20,6 @@ pub mod Claims
 -- known runs
 mod Rows
 -- a frame at one port
+pub mod Arrivals
 pub mod OneFrame
 pub mod FrameLeaves

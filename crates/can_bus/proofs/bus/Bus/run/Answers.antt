@@ -7,7 +7,7 @@ use Rattle.can_bus.specs.Run.{Course, bus_run}
 use Rattle.can_bus.specs.State.{state_of}
 use Rattle.can_bus.specs.Walks.{IsCall}
 use Rattle.can_bus.proofs.StepLemmas.{first_ready, course_none, course_more, level_more, run_is}
-use Rattle.can_bus.proofs.QuietBus.{call-line, call-logs, call-whole, call-counters}
+use Rattle.can_bus.proofs.QuietBus.{call-line, call-logs, call-whole, call-counters, call-missed}
 use Rattle.can_bus.proofs.QuietStart.{valid-ports}
 use Rattle.can_bus.proofs.bus.Bus.run.Goals as goal
 
@@ -64,4 +64,9 @@ returns-clause-whole g c = λ frames call past.
 pub returns-clause-counters : goal.returns-clause-counters
 returns-clause-counters g c = λ frames call.
     call-counters c.args.hits.now (state_of g.P.Port.port c.args.self.now) (valid-ports g.P.Port.port (λ x. g.met.P.Port.valid x) c.args.self.now.ports.items)
+    _ _ (returns-clause-bus g c) frames call
+
+pub returns-clause-missed : goal.returns-clause-missed
+returns-clause-missed g c = λ frames call.
+    call-missed c.args.hits.now (state_of g.P.Port.port c.args.self.now) (valid-ports g.P.Port.port (λ x. g.met.P.Port.valid x) c.args.self.now.ports.items)
     _ _ (returns-clause-bus g c) frames call

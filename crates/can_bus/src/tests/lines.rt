@@ -1,0 +1,180 @@
+//! Buses made from texts of frames, and texts of what their wires and ports come to.
+
+use crate::{Bus, Hit};
+use can_fault::State;
+use can_frame::{Frame, Level};
+use can_node::{Entry, PlainNode, Port};
+use std::alloc::{AllocError, Global};
+use std::process::Abort;
+use std::test::Fail;
+
+/// The levels of the standard data frames 000 and 001 without data, acknowledged.
+pub const WIRE_000: &str = "00000100000100000100000100000100000100001011111111";
+
+pub const WIRE_001: &str = "00000100000101000001000100010000100111011111111";
+
+/// Three recessive levels between a frame and what comes next.
+pub const INTERMISSION: &str = "111";
+
+/// The eight recessive levels of a delimiter behind a flag, and an intermission.
+pub const DELIMITER_AND_INTERMISSION: &str = "11111111111";
+
+/// More entries than any of these logs gets.
+const LOG_ROOM: usize = 70;
+
+/// These levels as a text of `0`, dominant, and `1`, recessive.
+fn text_of(alloc: Global, levels: &[Level]) -> Result<String, AllocError> {
+    let mut text = String::new(alloc);
+    for level in levels {
+        text.push(if level.is_recessive() { '1' } else { '0' })?;
+    }
+    Ok(text)
+}
+
+pub fn frame(text: &str) -> Result<Frame, Fail> {
+    Ok(Frame::from_text(text.as_bytes())?)
+}
+
+/// Queues a frame at the port of this number.
+pub fn offer(bus: &mut Bus<PlainNode>, node: usize, text: &str) -> Result<(), Fail> {
+    let port = bus.port_mut(node).ok_or("no such port")?;
+    match port.offer(frame(text)?) {
+        Ok(()) => Ok(()),
+        Err(_) => Err("a full queue".into()),
+    }
+}
+
+pub fn bus_of(ports: Vec<PlainNode>) -> Result<Bus<PlainNode>, Fail> {
+    match Bus::new(ports) {
+        Ok(bus) => Ok(bus),
+        Err((fault, _)) => Err(fault.into()),
+    }
+}
+
+/// So many idle ports, each with room for so many frames that wait.
+pub fn idle_ports(alloc: Global, count: usize, room: usize) -> Result<Vec<PlainNode>, AllocError> {
+    let mut ports = Vec::new(alloc);
+    for _ in 0..count {
+        ports.push(PlainNode::new(alloc, room, LOG_ROOM)?)?;
+    }
+    Ok(ports)
+}
+
+/// An idle port for each of these queues, offered its frames in turn. There is room for one more.
+pub fn bus_with(alloc: Global, queues: &[&[&str]]) -> Result<Bus<PlainNode>, Fail> {
+    let mut ports = Vec::new(alloc);
+    for queue in queues {
+        let room = queue.len().saturating_add(1);
+        ports.push(PlainNode::new(alloc, room, LOG_ROOM)?)?;
+    }
+    let mut bus = bus_of(ports)?;
+    for (node, queue) in queues.iter().enumerate() {
+        for text in *queue {
+            offer(&mut bus, node, text)?;
+        }
+    }
+    Ok(bus)
+}
+
+/// Runs the bus for so many bit times, and gives the levels that were recorded.
+pub fn recorded(
+    alloc: Global,
+    bus: &mut Bus<PlainNode>,
+    hits: &[Hit],
+    times: usize,
+) -> Result<String, Fail> {
+    let mut rec = [Level::Dominant].repeat(alloc, times)?;
+    bus.run(hits, &mut rec)?;
+    Ok(text_of(alloc, &rec)?)
+}
+
+/// The bus that these queues make, behind so many bit times with these hits.
+pub fn bus_after(
+    alloc: Global,
+    queues: &[&[&str]],
+    hits: &[Hit],
+    times: usize,
+) -> Result<Bus<PlainNode>, Fail> {
+    let mut bus = bus_with(alloc, queues)?;
+    let _levels = recorded(alloc, &mut bus, hits, times)?;
+    Ok(bus)
+}
+
+/// What the ports come to after each of these numbers of bit times, in runs of their own.
+pub fn stand(
+    rt: &impl Abort,
+    alloc: Global,
+    queues: &[&[&str]],
+    hits: &[Hit],
+    moments: &[(usize, &str)],
+) -> Result<(), Fail> {
+    for (times, want) in moments {
+        let bus = bus_after(alloc, queues, hits, *times)?;
+        assert_eq!(rt;
+            standing(alloc, &bus)?.as_str(),
+            *want,
+            "after {times} bit times"
+        );
+    }
+    Ok(())
+}
+
+/// Runs the bus for so many bit times without hits, and gives the levels that one port drove.
+pub fn driven(
+    alloc: Global,
+    bus: &mut Bus<PlainNode>,
+    node: usize,
+    times: usize,
+) -> Result<String, Fail> {
+    let mut levels = Vec::new(alloc);
+    for _ in 0..times {
+        let port = bus.ports().get(node).ok_or("no such port")?;
+        levels.push(port.drive())?;
+        bus.run(&[], &mut [Level::Dominant])?;
+    }
+    Ok(text_of(alloc, &levels)?)
+}
+
+/// What each port drives now, as a text of as many levels as there are ports.
+pub fn drives(alloc: Global, ports: &[PlainNode]) -> Result<String, Fail> {
+    let mut levels = Vec::new(alloc);
+    for port in ports {
+        levels.push(port.drive())?;
+    }
+    Ok(text_of(alloc, &levels)?)
+}
+
+/// Of each port its state, its counters (TEC, then REC), and the entries of its log.
+pub fn standing(alloc: Global, bus: &Bus<PlainNode>) -> Result<String, Fail> {
+    let mut text = String::new(alloc);
+    for port in bus.ports() {
+        if !text.is_empty() {
+            text.push_str(" | ")?;
+        }
+        push_standing(&mut text, port)?;
+    }
+    Ok(text)
+}
+
+fn push_standing(text: &mut String, port: &PlainNode) -> Result<(), Fail> {
+    let state = match port.state() {
+        State::Active => "active",
+        State::Passive => "passive",
+        State::BusOff => "off",
+    };
+    let (transmit, receive) = port.counters();
+    write!(text, "{state} {transmit} {receive}")?;
+    for entry in port.log() {
+        push_entry(text, entry)?;
+    }
+    Ok(())
+}
+
+fn push_entry(text: &mut String, entry: &Entry) -> Result<(), Fail> {
+    let what = if entry.sent { "sent" } else { "took" };
+    text.push_str(", ")?;
+    text.push_str(what)?;
+    text.push(' ')?;
+    text.push_str(entry.frame.to_text().as_str())?;
+    Ok(())
+}
