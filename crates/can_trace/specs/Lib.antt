@@ -15,3 +15,4 @@ pub mod Decoding
 pub mod ScenarioProps
 pub mod Scenarios
 pub mod Report
+pub mod QuietReport

@@ -11,7 +11,6 @@ use Rattle.can_mac.specs.State.{MacState, idle, joining}
 use Rattle.can_node.specs.declared.entry.Entry.{Entry}
 use Rattle.can_node.specs.Ports.{PortState, fresh_port, offered, port_holding}
 use Rattle.can_bus.specs.Run.{BusState, bus_level, bus_run}
-use Rattle.can_bus.specs.Quiet.{ascending, line_at, marked}
 use Rattle.can_trace.specs.Coded.{digit_of}
 use Rattle.can_trace.specs.declared.scenario.Scenario.{Scenario}
 use Rattle.can_trace.specs.declared.scenario.PortPlan.{PortPlan}
@@ -105,16 +104,3 @@ report_text levels ports = bits_line (length levels) ++ (levels_line levels ++ p
 -- the report of a scenario
 abbrev pub report : Scenario → List ℕ
 report s = report_text (recorded_levels s) (map reported (ended_bus s).ports)
-
--- ---- a quiet bus
-
--- a port of a quiet bus that has sent what was in its queue, and taken all other frames
-abbrev pub quiet_port : List Parts → List Parts → PortReport
-quiet_port frames queue = record { state = Active; tec = 0; rec = 0; missed = 0; log = marked queue frames }
-
--- the report of a quiet bus after so many bit times, where these frames wait at its ports: it names all frames in
--- the order of arbitration, at each port
-abbrev pub quiet_report : ℕ → List (List Parts) → List ℕ
-quiet_report bits queues =
-    let frames : List Parts = ascending (flat_map (λ queue. queue) queues) in
-    report_text (levels_until (line_at frames) bits) (map (quiet_port frames) queues)
