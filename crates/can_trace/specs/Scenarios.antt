@@ -123,9 +123,11 @@ IsFrameValue d = (text : List ℕ) × (d ≡ string text) × IsFrameText text
 abbrev pub frame_demands : ℕ → ℕ → Data → Demands
 frame_demands number place d = demand (field.Port number (of_port.Frame place)) (IsFrameValue d) no_demands
 
--- each element of a queue, the first of which has this place
-abbrev pub queue_demands : ℕ → ℕ → List Data → Demands
-queue_demands number = demands_on_each (frame_demands number)
+-- a queue and its elements
+abbrev pub queue_demands : ℕ → Data → Demands
+queue_demands number d =
+    demand (field.Port number of_port.Queue) (IsOptional IsArray (named (codes "queue") d))
+    (demands_on_each (frame_demands number) 0 (elements_in (named (codes "queue") d)))
 
 -- the fields of a port's table behind its queue
 abbrev pub room_demands : ℕ → Data → Demands
@@ -140,9 +142,8 @@ abbrev pub port_demands : ℕ → Data → Demands
 port_demands number d =
     demand (field.Port number of_port.Table) (IsTable d)
     (demand (field.Port number of_port.Unknown) (are_known port_fields (members_in d) ≡ true)
-    (demand (field.Port number of_port.Queue) (IsOptional IsArray (named (codes "queue") d))
-    (followed (queue_demands number 0 (elements_in (named (codes "queue") d)))
-    (room_demands number d))))
+    (followed (queue_demands number d)
+    (room_demands number d)))
 
 -- the tables of all ports, the first of which has this number
 abbrev pub ports_demands : ℕ → List Data → Demands
