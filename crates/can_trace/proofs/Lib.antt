@@ -29,3 +29,4 @@ pub mod DemandLemmas
 pub mod ReadValues
 pub mod ReadLists
 pub mod ScenarioParts
+pub mod ScenarioRows

@@ -45,7 +45,8 @@ impl Scenario {
     /// The scenario that a TOML document says: `version`, which is 1; `bits`, 0 to 1000000; `port`, an
     /// array of 1 to 64 tables; and `at`, `in` and `view`, the disturbances, each list strictly rising.
     /// A port has `queue`, an array of frame texts, `log`, 0 to 65536, `join`, a truth value, and `hold`,
-    /// 0 to 2. All but `version`, `bits` and `port` may be left out.
+    /// 0 to 2. All but `version`, `bits` and `port` may be left out: an array is then empty, `log` is 64,
+    /// `join` false and `hold` 0.
     ///
     /// `ScenarioField` names the first field that is wrong, in this order: the document; an unknown
     /// field; `version`, `bits` and `port`; of each port its table, an unknown field, `queue` and its

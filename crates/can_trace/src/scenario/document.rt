@@ -47,8 +47,9 @@ pub(crate) fn read_top(document: &Table) -> Result<(u32, &[Value]), TraceFault>
     if !is_version_one(document) {
         return Err(TraceFault::ScenarioField(Field::Version));
     }
-    let bits = required_number(document, "bits", MOST_BITS)
-        .ok_or(TraceFault::ScenarioField(Field::Bits))?;
+    let bits = required_number(document, "bits", MOST_BITS).ok_or(TraceFault::ScenarioField(
+        Field::Bits,
+    ))?;
     let ports = port_values(document).ok_or(TraceFault::ScenarioField(Field::Ports))?;
     Ok((bits as u32, ports))
 }

@@ -90,7 +90,7 @@ fn read_frames(alloc: Global, number: usize, texts: &[Value]) -> Result<Vec<Fram
 
 /// The port of this number with this queue, whose fields these are.
 fn with_queue(number: usize, fields: &Table, queue: Vec<Frame>) -> Result<PortPlan, TraceFault>
-    ensures queue { IfOk result (λ plan. plan.queue ≡ queue) }
+    ensures queue { IfOk result (λ plan. plan.queue.items ≡ queue.items) }
     ensures log_room { IfOk result (λ plan. SaysNumber usual_log_room (named (codes "log") (table (table_view fields.now))) plan.log_room) }
     ensures joins { IfOk result (λ plan. SaysWhether (named (codes "join") (table (table_view fields.now))) plan.joins) }
     ensures overloads { IfOk result (λ plan. SaysNumber 0 (named (codes "hold") (table (table_view fields.now))) plan.overloads) }
@@ -98,11 +98,15 @@ fn with_queue(number: usize, fields: &Table, queue: Vec<Frame>) -> Result<PortPl
     ensures unmet { (wrong : Wrong) → IsErrOf result (TraceFault.ScenarioField wrong) → IsFirstUnmet wrong (room_demands number (table (table_view fields.now))) }
     ensures other { IfErr result IsFieldOrMemory }
 {
-    let log_room = number_or(fields, "log", USUAL_LOG_ROOM, MOST_LOG_ROOM)
-        .ok_or(refused(number, PortField::Log))?;
+    let log_room = number_or(fields, "log", USUAL_LOG_ROOM, MOST_LOG_ROOM).ok_or(refused(
+        number,
+        PortField::Log,
+    ))?;
     let joins = truth(fields, "join").ok_or(refused(number, PortField::Join))?;
-    let overloads = number_or(fields, "hold", 0, MOST_OVERLOADS)
-        .ok_or(refused(number, PortField::Hold))?;
+    let overloads = number_or(fields, "hold", 0, MOST_OVERLOADS).ok_or(refused(
+        number,
+        PortField::Hold,
+    ))?;
     Ok(PortPlan {
         queue,
         log_room: log_room as usize,
