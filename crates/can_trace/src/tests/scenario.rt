@@ -100,12 +100,13 @@ fn fields_of_ports(rt: HostRuntime) -> Result<(), Fail> {
 
 #[test]
 fn numbers_of_ports(rt: HostRuntime) -> Result<(), Fail> {
-    let front = b"version = 1\nbits = 5\n".as_slice();
-    let most = [b"[[port]]\n".as_slice(); 64].concat(rt.alloc())?;
-    let taken = [front, &most].concat(rt.alloc())?;
-    assert_eq!(rt; told(rt.alloc(), &taken)?.as_str(), "");
-    let refused = [front, &most, b"[[port]]\nlog = -1\n"].concat(rt.alloc())?;
-    assert_eq!(rt; told(rt.alloc(), &refused)?.as_str(), "P2 port");
+    let mut document = b"version = 1\nbits = 5\n".to_vec(rt.alloc())?;
+    for _ in 0..64 {
+        document.extend_from_slice(b"[[port]]\n")?;
+    }
+    assert_eq!(rt; told(rt.alloc(), &document)?.as_str(), "");
+    document.extend_from_slice(b"[[port]]\nlog = -1\n")?;
+    assert_eq!(rt; told(rt.alloc(), &document)?.as_str(), "P2 port");
     Ok(())
 }
 
