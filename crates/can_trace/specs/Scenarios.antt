@@ -31,7 +31,7 @@ abbrev pub followed : Demands → Demands → Demands
 followed no_demands later = later
 followed (demand told met rest) later = demand told met (followed rest later)
 
--- those on each element, one after another, the first of which has this place
+-- what is demanded of each element, one after another, the first of which has this place
 abbrev pub demands_on_each : (ℕ → Data → Demands) → ℕ → List Data → Demands
 demands_on_each one place [] = no_demands
 demands_on_each one place (d ∷ ds) = followed (one place d) (demands_on_each one (place + 1) ds)
