@@ -26,3 +26,7 @@ pub mod OneDecoding
 pub mod OneVerdict
 pub mod Rows
 pub mod DemandLemmas
+pub mod ReadValues
+pub mod ReadLists
+pub mod ScenarioParts
+pub mod ScenarioRows

@@ -31,6 +31,11 @@ abbrev pub followed : Demands → Demands → Demands
 followed no_demands later = later
 followed (demand told met rest) later = demand told met (followed rest later)
 
+-- what is demanded of each element, one after another, the first of which has this place
+abbrev pub demands_on_each : (ℕ → Data → Demands) → ℕ → List Data → Demands
+demands_on_each one place [] = no_demands
+demands_on_each one place (d ∷ ds) = followed (one place d) (demands_on_each one (place + 1) ds)
+
 -- all are met
 abbrev pub AllMet : Demands → Type 0
 AllMet no_demands = Unit {0}
@@ -114,10 +119,15 @@ usual_log_room = 64
 abbrev pub IsFrameValue : Data → Type 0
 IsFrameValue d = (text : List ℕ) × (d ≡ string text) × IsFrameText text
 
--- each element of a queue, the first of which has this place, is the text of a frame
-abbrev pub queue_demands : ℕ → ℕ → List Data → Demands
-queue_demands number place [] = no_demands
-queue_demands number place (d ∷ ds) = demand (field.Port number (of_port.Frame place)) (IsFrameValue d) (queue_demands number (place + 1) ds)
+-- an element of a queue is the text of a frame
+abbrev pub frame_demands : ℕ → ℕ → Data → Demands
+frame_demands number place d = demand (field.Port number (of_port.Frame place)) (IsFrameValue d) no_demands
+
+-- a queue and its elements
+abbrev pub queue_demands : ℕ → Data → Demands
+queue_demands number d =
+    demand (field.Port number of_port.Queue) (IsOptional IsArray (named (codes "queue") d))
+    (demands_on_each (frame_demands number) 0 (elements_in (named (codes "queue") d)))
 
 -- the fields of a port's table behind its queue
 abbrev pub room_demands : ℕ → Data → Demands
@@ -132,14 +142,12 @@ abbrev pub port_demands : ℕ → Data → Demands
 port_demands number d =
     demand (field.Port number of_port.Table) (IsTable d)
     (demand (field.Port number of_port.Unknown) (are_known port_fields (members_in d) ≡ true)
-    (demand (field.Port number of_port.Queue) (IsOptional IsArray (named (codes "queue") d))
-    (followed (queue_demands number 0 (elements_in (named (codes "queue") d)))
-    (room_demands number d))))
+    (followed (queue_demands number d)
+    (room_demands number d)))
 
 -- the tables of all ports, the first of which has this number
 abbrev pub ports_demands : ℕ → List Data → Demands
-ports_demands number [] = no_demands
-ports_demands number (d ∷ ds) = followed (port_demands number d) (ports_demands (number + 1) ds)
+ports_demands = demands_on_each port_demands
 
 -- ---- disturbances
 
@@ -199,15 +207,21 @@ abbrev pub hits_demands : ℕ → Data → Demands
 hits_demands ports document =
     followed (list_demands At ports document) (followed (list_demands In ports document) (list_demands View ports document))
 
--- what a document of version 1 has to meet
-abbrev pub scenario_demands : Data → Demands
-scenario_demands document =
+-- the fields at the top, but for the disturbances
+abbrev pub top_demands : Data → Demands
+top_demands document =
     demand field.Unknown (are_known top_fields (members_in document) ≡ true)
     (demand field.Version (IsRequired (IsNumber 1) (named (codes "version") document))
     (demand field.Bits (IsRequired (IsUpTo most_bits) (named (codes "bits") document))
     (demand field.Ports (IsRequired IsPortArray (named (codes "port") document))
+    no_demands)))
+
+-- what a document of version 1 has to meet
+abbrev pub scenario_demands : Data → Demands
+scenario_demands document =
+    followed (top_demands document)
     (followed (ports_demands 0 (ports_in document))
-    (hits_demands (length (ports_in document)) document)))))
+    (hits_demands (length (ports_in document)) document))
 
 -- ---- which scenario it says
 
@@ -271,10 +285,14 @@ pub record IsDocument (bytes : List ℕ) (document : Data) : Type 0 where
 abbrev pub IsScenarioText : List ℕ → Scenario → Type 0
 IsScenarioText bytes s = (document : Data) × IsDocument bytes document × SaysScenario document s
 
+-- the bytes are no document, which is told by this field
+abbrev pub TellsDocument : Field → List ℕ → Type 0
+TellsDocument wrong bytes = (wrong ≡ field.Document) × ¬ ((document : Data) × IsDocument bytes document)
+
 -- the field that is told of bytes that say no scenario: they are no document, or it is the first that isn't met
 abbrev pub IsFirstWrong : Field → List ℕ → Type 0
 IsFirstWrong wrong bytes =
-    ((wrong ≡ field.Document) × ¬ ((document : Data) × IsDocument bytes document))
+    TellsDocument wrong bytes
     ⊎ ((document : Data) × IsDocument bytes document × IsFirstUnmet wrong (scenario_demands document))
 
 -- ---- refusals

@@ -1,5 +1,9 @@
+ghost use Rattle.std.specs.Prelude.{◌≡◌};
+ghost use Rattle.can_trace.specs.declared.fault.TraceFault.TheVariants.{Memory};
+
 use crate::scenario::Field;
 use can_frame::TextFault;
+use std::alloc::AllocFailed;
 use thiserror::Error;
 
 /// Why a stream's answer is not whole.
@@ -26,4 +30,12 @@ pub enum TraceFault {
     /// A line is no frame text. Lines are counted from 1.
     #[error("P7 line {line} {fault}")]
     FrameLine { line: u64, fault: TextFault },
+}
+
+impl<T: Drop> From<AllocFailed<T>> for TraceFault {
+    ghost from_gives = { λ _ fault. fault ≡ Memory };
+
+    fn from(_refused: AllocFailed<T>) -> TraceFault {
+        TraceFault::Memory
+    }
 }

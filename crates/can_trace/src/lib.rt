@@ -16,6 +16,11 @@
 //! | `decode.rt` | [`decode_stream`] | `specs/TraceText.antt`, `specs/Decoded.antt` |
 //! | `trace.rt` | a trace as it is heard, level by level | `specs/Decoding.antt` |
 //! | `finding.rt` | what is told of a trace, and its line | `specs/Decoded.antt` |
+//! | `scenario.rt` | [`Scenario`], a bus to be run, read from a document | `specs/Scenarios.antt` |
+//! | `scenario/document.rt` | the document, and its fields at the top | `specs/Scenarios.antt` |
+//! | `scenario/ports.rt` | its ports | `specs/Scenarios.antt` |
+//! | `scenario/values.rt` | the readers of values | `specs/Scenarios.antt` |
+//! | `scenario/field.rt` | [`Field`], what is wrong in a document | |
 //! | `line.rt` | a line that is put together | |
 //! | `fault.rt` | [`TraceFault`], why an answer is not whole | |
 //! | `laws.rt` | that lines, vectors and traces have one answer | `specs/Coded.antt`, `specs/Checked.antt`, `specs/Decoded.antt` |
@@ -35,7 +40,9 @@
 //! that each line has one verdict. Of decoding, `IdleRows` has the search for eleven recessive levels,
 //! `TraceSteps` what one level makes of a trace, `DecodeSteps` and `DecodeEndings` the steps and the ends of
 //! a run, `FindsTotal` and `FindsOne` that in all levels one list is found, `OneDecoding` that each input has
-//! one full answer.
+//! one full answer. Of scenarios, `DemandLemmas` has demands one behind another, `ReadValues` the values of a
+//! document, `ReadLists` its arrays, `ScenarioParts` what a port and a document come to; `ScenarioRows` has a
+//! few documents.
 #![tactic(auto)]
 
 mod check;

@@ -3,11 +3,17 @@ ghost use Rattle.std.specs.Prelude.{◌≤◌, length};
 ghost use Rattle.can_bus.specs.Hits.{AreTaken};
 ghost use Rattle.can_trace.specs.ScenarioProps.{AreTaken-prop};
 
+mod document;
 mod field;
+mod hits;
+mod ports;
+mod values;
 
+use crate::fault::TraceFault;
 use can_bus::Hit;
 use can_frame::Frame;
 pub use field::{Field, HitList, PortField};
+use std::alloc::Global;
 
 /// A bus to be run: its ports, 1 to 64 of them, how many bit times, and the disturbances, in order.
 #[derive(Debug, Drop)]
@@ -29,4 +35,32 @@ pub struct PortPlan {
     joins: bool,
     overloads: u8,
     ghost asks: { overloads ≤ 2 },
+}
+
+impl Scenario {
+    ghost use Rattle.std.specs.Prelude.{IfErr, IfOk, IsErrOf};
+    ghost use Rattle.can_trace.specs.declared.scenario.field.Field.{Field as Wrong};
+    ghost use Rattle.can_trace.specs.Scenarios.{IsFieldOrMemory, IsFirstWrong, IsScenarioText};
+
+    /// The scenario that a TOML document says: `version`, which is 1; `bits`, 0 to 1000000; `port`, an
+    /// array of 1 to 64 tables; and `at`, `in` and `view`, the disturbances, each list strictly rising.
+    /// A port has `queue`, an array of frame texts, `log`, 0 to 65536, `join`, a truth value, and `hold`,
+    /// 0 to 2. All but `version`, `bits` and `port` may be left out: an array is then empty, `log` is 64,
+    /// `join` false and `hold` 0.
+    ///
+    /// `ScenarioField` names the first field that is wrong, in this order: the document; an unknown
+    /// field; `version`, `bits` and `port`; of each port its table, an unknown field, `queue` and its
+    /// elements, `log`, `join` and `hold`; then `at`, `in` and `view`, each with its elements. `Memory`
+    /// says that memory ran out. The scenario holds all memory that it needs.
+    pub fn from_text(alloc: Global, text: &[u8]) -> Result<Scenario, TraceFault>
+        ensures found { IfOk result (IsScenarioText text.now) }
+        ensures wrong { (wrong : Wrong) → IsErrOf result (TraceFault.ScenarioField wrong) → IsFirstWrong wrong text.now }
+        ensures other { IfErr result IsFieldOrMemory }
+    {
+        let document = document::parse(alloc, text)?;
+        let (bits, tables) = document::read_top(&document)?;
+        let ports = ports::read_ports(alloc, tables)?;
+        let hits = hits::read_hits(alloc, &document, ports.len())?;
+        Ok(Scenario { bits, ports, hits })
+    }
 }

@@ -1,0 +1,228 @@
+//! Documents that are refused, each for its first wrong field, and documents that are taken.
+use crate::Scenario;
+use std::alloc::{AllocError, Global};
+use std::process::Abort;
+use std::test::Fail;
+
+/// What is told of a document that is refused; nothing where it is taken.
+fn told(alloc: Global, document: &[u8]) -> Result<String, AllocError> {
+    match Scenario::from_text(alloc, document) {
+        Ok(_) => Ok(String::new(alloc)),
+        Err(fault) => format!(in alloc; "{fault}"),
+    }
+}
+
+/// Behind this front, each text is a document of which this is told.
+fn are_told(
+    rt: &impl Abort,
+    alloc: Global,
+    front: &str,
+    rows: &[(&str, &str)],
+) -> Result<(), AllocError> {
+    for (text, fault) in rows {
+        let document = format!(in alloc; "{front}{text}")?;
+        let told = told(alloc, document.as_bytes())?;
+        assert_eq!(rt; told.as_str(), *fault, "{document}");
+    }
+    Ok(())
+}
+
+#[test]
+fn fields_at_the_top(rt: HostRuntime) -> Result<(), Fail> {
+    let rows = [
+        ("version = ", "P2 toml"),
+        ("version = 1\nversion = 1\n", "P2 toml"),
+        ("version = 1\nbits = 5\nspeed = 1\n[[port]]\n", "P2 key"),
+        ("version = 1\nbits = 5\n[[port]]\n[Port]\n", "P2 key"),
+        ("", "P2 version"),
+        ("bits = 5\n[[port]]\n", "P2 version"),
+        ("version = 2\nbits = 5\n[[port]]\n", "P2 version"),
+        ("version = 0\nbits = 5\n[[port]]\n", "P2 version"),
+        ("version = -1\nbits = 5\n[[port]]\n", "P2 version"),
+        ("version = 1.0\nbits = 5\n[[port]]\n", "P2 version"),
+        ("version = \"1\"\nbits = 5\n[[port]]\n", "P2 version"),
+        ("version = 1\n", "P2 bits"),
+        ("version = 1\nbits = -1\n[[port]]\n", "P2 bits"),
+        ("version = 1\nbits = 5.0\n[[port]]\n", "P2 bits"),
+        ("version = 1\nbits = [5]\n[[port]]\n", "P2 bits"),
+        ("version = 1\nbits = 1000001\n[[port]]\n", "P2 bits"),
+        ("version = 1\nbits = 1000000\n[[port]]\n", ""),
+        ("version = 1\nbits = 0\n[[port]]\n", ""),
+        ("version = 1\nbits = 5\n", "P2 port"),
+        ("version = 1\nbits = 5\nport = 1\n", "P2 port"),
+        ("version = 1\nbits = 5\nport = []\n", "P2 port"),
+        ("version = 1\nbits = 5\n[port]\n", "P2 port"),
+        ("version = 1\nbits = 5\nport = [{}]\n", ""),
+        ("version = 1\nbits = 5\n[[port]]\n", ""),
+    ];
+    are_told(&rt, rt.alloc(), "", &rows)?;
+    assert_eq!(rt;
+        told(rt.alloc(), b"version = 1 # \xff\n")?.as_str(),
+        "P2 toml"
+    );
+    Ok(())
+}
+
+#[test]
+fn fields_of_ports(rt: HostRuntime) -> Result<(), Fail> {
+    let rows = [
+        ("port = [1]", "P2 port[0]"),
+        ("port = [{}, []]", "P2 port[1]"),
+        ("[[port]]\nname = \"a\"", "P2 port[0].key"),
+        ("[[port]]\n[[port]]\nat = [1]", "P2 port[1].key"),
+        ("[[port]]\nqueue = \"S 001 D 0\"", "P2 port[0].queue"),
+        ("[[port]]\nqueue = [\"S 800 D 0\"]", "P2 port[0].queue[0]"),
+        (
+            "[[port]]\nqueue = [\"S 001 D 0\", \"S 001 D\"]",
+            "P2 port[0].queue[1]",
+        ),
+        (
+            "[[port]]\nqueue = [\"S 001 D 0\", 1]",
+            "P2 port[0].queue[1]",
+        ),
+        ("[[port]]\nqueue = []", ""),
+        ("[[port]]\nlog = 65537", "P2 port[0].log"),
+        ("[[port]]\nlog = -1", "P2 port[0].log"),
+        ("[[port]]\nlog = 64.0", "P2 port[0].log"),
+        ("[[port]]\nlog = 65536", ""),
+        ("[[port]]\nlog = 0", ""),
+        ("[[port]]\njoin = 1", "P2 port[0].join"),
+        ("[[port]]\njoin = \"true\"", "P2 port[0].join"),
+        ("[[port]]\nhold = 3", "P2 port[0].hold"),
+        ("[[port]]\nhold = -1", "P2 port[0].hold"),
+        ("[[port]]\nhold = true", "P2 port[0].hold"),
+        ("[[port]]\nhold = 2", ""),
+        ("[[port]]\n[[port]]\nhold = 3", "P2 port[1].hold"),
+    ];
+    are_told(&rt, rt.alloc(), "version = 1\nbits = 5\n", &rows)?;
+    Ok(())
+}
+
+#[test]
+fn numbers_of_ports(rt: HostRuntime) -> Result<(), Fail> {
+    let mut document = b"version = 1\nbits = 5\n".to_vec(rt.alloc())?;
+    for _ in 0..64 {
+        document.extend_from_slice(b"[[port]]\n")?;
+    }
+    assert_eq!(rt; told(rt.alloc(), &document)?.as_str(), "");
+    document.extend_from_slice(b"[[port]]\nlog = -1\n")?;
+    assert_eq!(rt; told(rt.alloc(), &document)?.as_str(), "P2 port");
+    Ok(())
+}
+
+#[test]
+fn disturbances(rt: HostRuntime) -> Result<(), Fail> {
+    let rows = [
+        ("at = 5", "P2 at"),
+        ("at = [1, 1]", "P2 at[1]"),
+        ("at = [-1]", "P2 at[0]"),
+        ("in = true", "P2 in"),
+        ("in = [[0, 0], [0]]", "P2 in[1]"),
+        ("view = {}", "P2 view"),
+        ("view = [[0, 1]]", "P2 view[0]"),
+        ("at = [0, 1]\nin = [[0, 1], [1, 0]]\nview = [[0, 0]]", ""),
+    ];
+    for (text, fault) in rows {
+        let document = format!(in rt.alloc(); "version = 1\nbits = 5\n{text}\n[[port]]\n")?;
+        let told = told(rt.alloc(), document.as_bytes())?;
+        assert_eq!(rt; told.as_str(), fault, "{document}");
+    }
+    Ok(())
+}
+
+/// Of two mistakes the one that stands first in the order of the fields is told.
+#[test]
+fn order_of_refusals(rt: HostRuntime) -> Result<(), Fail> {
+    let rows = [
+        ("speed = 1\nversion = ", "P2 toml"),
+        ("speed = 1\nversion = 2\n", "P2 key"),
+        ("bits = -1\nversion = 2\n", "P2 version"),
+        ("bits = -1\nversion = 1\nport = 1\n", "P2 bits"),
+        ("at = 1\nversion = 1\nbits = 5\n", "P2 port"),
+        (
+            "version = 1\nbits = 5\nport = [{speed = 1}, 1]\n",
+            "P2 port[0].key",
+        ),
+        (
+            "version = 1\nbits = 5\nport = [{hold = 3}, 1]\n",
+            "P2 port[0].hold",
+        ),
+        (
+            "version = 1\nbits = 5\nat = 1\nport = [{}, 1]\n",
+            "P2 port[1]",
+        ),
+    ];
+    are_told(&rt, rt.alloc(), "", &rows)?;
+    let rows = [
+        ("queue = 1\nspeed = 1", "P2 port[0].key"),
+        ("log = -1\nqueue = 1", "P2 port[0].queue"),
+        ("log = -1\nqueue = [\"\"]", "P2 port[0].queue[0]"),
+        ("join = 1\nlog = -1", "P2 port[0].log"),
+        ("hold = 3\njoin = 1", "P2 port[0].join"),
+    ];
+    are_told(
+        &rt,
+        rt.alloc(),
+        "version = 1\nbits = 5\nat = 1\n[[port]]\n",
+        &rows,
+    )?;
+    let rows = [
+        ("in = 1\nat = [1, 0]", "P2 at[1]"),
+        ("view = 1\nin = [0]", "P2 in[0]"),
+    ];
+    are_told(
+        &rt,
+        rt.alloc(),
+        "version = 1\nbits = 5\nport = [{}]\n",
+        &rows,
+    )?;
+    Ok(())
+}
+
+/// Two ports with a frame each, cut after each line and within one.
+#[test]
+fn a_document_cut(rt: HostRuntime) -> Result<(), Fail> {
+    let rows = [
+        ("version = 1\n", "P2 bits"),
+        ("version = 1\nbits = 1", "P2 port"),
+        ("version = 1\nbits = 103\n", "P2 port"),
+        ("version = 1\nbits = 103\n[[port]]\n", ""),
+        (
+            "version = 1\nbits = 103\n[[port]]\nqueue = [\"S 001 D 0\"]\n",
+            "",
+        ),
+        (
+            "version = 1\nbits = 103\n[[port]]\nqueue = [\"S 001 D 0\"]\n[[port]]\n",
+            "",
+        ),
+        (
+            "version = 1\nbits = 103\n[[port]]\nqueue = [\"S 001 D 0\"]\n[[port]]\nqueue = [\"S 000 D 0\"]\n",
+            "",
+        ),
+    ];
+    are_told(&rt, rt.alloc(), "", &rows)?;
+    Ok(())
+}
+
+/// What a document says stands in its scenario, and what it leaves out is the usual.
+#[test]
+fn values_of_scenarios(rt: HostRuntime) -> Result<(), Fail> {
+    let alloc = rt.alloc();
+    let usual = Scenario::from_text(alloc, b"bits = 7\nversion = 1\nport = [{}]\n")?;
+    assert_eq!(rt;
+        format!(in alloc; "{usual:?}")?.as_str(),
+        "Scenario { bits: 7, ports: [PortPlan { queue: [], log_room: 64, joins: false, overloads: 0 }], hits: [] }"
+    );
+    let all = Scenario::from_text(
+        alloc,
+        b"version = 1\nbits = 9\nat = [3]\n[[port]]\njoin = true\nhold = 2\nlog = 1\nqueue = [\"S 001 D 0\", \"E 00000002 R 3\"]\n",
+    )?;
+    assert_eq!(rt;
+        format!(in alloc; "{all:?}")?.as_str(),
+        "Scenario { bits: 9, ports: [PortPlan { queue: [\
+         Frame { id: Id { raw: 1, extended: false }, remote: false, dlc: 0, store: [0, 0, 0, 0, 0, 0, 0, 0] }, \
+         Frame { id: Id { raw: 2, extended: true }, remote: true, dlc: 3, store: [0, 0, 0, 0, 0, 0, 0, 0] }\
+         ], log_room: 1, joins: true, overloads: 2 }], hits: [At(3)] }"
+    );
+    Ok(())
+}
