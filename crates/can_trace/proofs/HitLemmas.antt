@@ -1,12 +1,15 @@
 -- The disturbances of a document: how its lists are read, and that they are in order one behind another.
 use Rattle.std.specs.List.{slice_get, AllByRecursion}
-use Rattle.std.proofs.Common.{◌≡◌, ℕ, zero, suc, ◌+◌, true, false, List, [], ◌∷◌, ◌++◌, length, map, Option, Some, None, IfSome, refl, sym, ap, ◌∙◌, subst, inl, inr, ◌⊎◌, pos, append_assoc, append-nil, arith}
+use Rattle.std.proofs.Common.{◌≡◌, ℕ, zero, suc, ◌+◌, true, false, List, [], ◌∷◌, ◌++◌, length, get_or, drop, map, Option, Some, None, IfSome, Err, IsErrOf, ◌<◌, refl, sym, ap, ◌∙◌, subst, inl, inr, ◌⊎◌, pos, append_assoc, append-nil, arith}
+use Rattle.std.proofs.lemmas.List.{drop_more}
 use Rattle.toml.specs.Data.{Data, string, integer, float, boolean, datetime, array, table, Items, no_items, item, as_array}
 use Rattle.toml.specs.View.{view, items_view}
 use Rattle.toml.specs.declared.value.Value.{Value}
 use Rattle.can_bus.specs.declared.hit.Hit.{Hit}
 use Rattle.can_bus.specs.declared.hit.Hit.TheVariants as hit
 use Rattle.can_bus.specs.Hits.{is_above, names_port, AreTaken, IsAboveLast}
+use Rattle.can_trace.specs.declared.fault.TraceFault.{TraceFault}
+use Rattle.can_trace.specs.declared.fault.TraceFault.TheVariants.{ScenarioField}
 use Rattle.can_trace.specs.declared.scenario.field.Field.{Field}
 use Rattle.can_trace.specs.declared.scenario.field.Field.TheVariants as field
 use Rattle.can_trace.specs.declared.scenario.field.HitList.{HitList}
@@ -54,11 +57,17 @@ IsReading-more list ports ds start place before d rest hits next reading says so
       unmet = λ wrong unmet. reading.unmet wrong (inr (here, subst (λ (o : Option Hit). IsFirstUnmet wrong (hit_demands list ports (place + 1) o rest)) (sym says) unmet));
     }
 
+-- the rest of some values begins with the next
+pub next_value : (values : List Value) (place : ℕ) (value : Value) → place < length values → value ≡ get_or values place value → map view (drop place values) ≡ view value ∷ map view (drop (place + 1) values)
+next_value values place value within is = ap (map view) (drop_more values place value within) ∙ ap (λ v. view v ∷ map view (drop (place + 1) values)) (sym is)
+
 -- the next element is the first that isn't sound
 pub IsReading-unmet : (list : HitList) (ports : ℕ) (ds : List Data) (start : List Hit) (place : ℕ) (before : Option Hit) (d : Data) (rest : List Data) (hits : List Hit) (wrong : Field) →
-    IsReading list ports ds start place before (d ∷ rest) hits → ¬ IsSoundHit ports before (hit_in list d) → wrong ≡ field.Hit list place →
+    IsReading list ports ds start place before (d ∷ rest) hits → ¬ IsSoundHit ports before (hit_in list d) → IsErrOf {T = Unit {0}} (Err (ScenarioField (field.Hit list place))) (ScenarioField wrong) →
     IsFirstUnmet wrong (hit_demands list ports 0 None ds)
-IsReading-unmet list ports ds start place before d rest hits wrong reading unsound is = reading.unmet wrong (inl (sym is, unsound))
+IsReading-unmet list ports ds start place before d rest hits wrong reading unsound is =
+    let told : field.Hit list place ≡ wrong = cc is in
+    reading.unmet wrong (inl (told, unsound))
 
 -- the list is read to its end
 pub IsReading-said : (list : HitList) (ports : ℕ) (ds : List Data) (start : List Hit) (place : ℕ) (before : Option Hit) (hits : List Hit) →
@@ -67,18 +76,9 @@ IsReading-said list ports ds start place before hits reading = subst (AddsHits l
 
 -- ---- a list of a document
 
--- a list that is left out has no elements
-pub left_out : (list : HitList) (ports : ℕ) (document : Data) (hits : List Hit) → named (list_name list) document ≡ None →
-    AddsHits list (elements_in (named (list_name list) document)) hits hits × AllMet (list_demands list ports document)
-left_out list ports document hits none = rw none (record { added = []; said = tt; all = sym (append-nil hits) }, (tt, tt))
-
-only_array : (d : Data) → as_array d ≡ None → ¬ IsArray d
-only_array d none is = let no : Some is.0 ≡ None = sym (ap as_array is.1) ∙ none in cc
-
--- the field is no array
-pub no_array : (list : HitList) (ports : ℕ) (document d : Data) (wrong : Field) → named (list_name list) document ≡ Some d → as_array d ≡ None → wrong ≡ field.Hits list →
-    IsFirstUnmet wrong (list_demands list ports document)
-no_array list ports document d wrong some none is = rw some (inl (sym is, only_array d none))
+-- the same error in place of another type's value
+pub err_instead : {A B : Type 0} (fault other : TraceFault) → IsErrOf {T = A} (Err fault) other → IsErrOf {T = B} (Err fault) other
+err_instead fault other is = let same : fault ≡ other = cc is in ap Err same
 
 array_from : (d : Data) (items : Items) → as_array d ≡ Some items → d ≡ array items
 array_from (string s) items e = cc
@@ -183,17 +183,17 @@ in_below (hit.At time) h low high = absurd low
 in_below (hit.View time node) h low high = absurd low
 
 -- the three lists one behind another say all disturbances of the document
-pub SaysHits-three : (document : Data) (first second third : List Hit) →
-    AddsHits At (elements_in (named (list_name At) document)) [] first → AddsHits In (elements_in (named (list_name In) document)) first second → AddsHits View (elements_in (named (list_name View) document)) second third →
+pub SaysHits-three : (document : Data) (start first second third : List Hit) → start ≡ [] →
+    AddsHits At (elements_in (named (list_name At) document)) start first → AddsHits In (elements_in (named (list_name In) document)) first second → AddsHits View (elements_in (named (list_name View) document)) second third →
     SaysHits document third
-SaysHits-three document first second third at within view = record {
+SaysHits-three document start first second third none at within view = record {
   at = at.added;
   within = within.added;
   view = view.added;
   at_said = at.said;
   within_said = within.said;
   view_said = view.said;
-  all = view.all ∙ ap (λ hits. hits ++ view.added) (within.all ∙ ap (λ hits. hits ++ within.added) at.all) ∙ append_assoc at.added within.added view.added;
+  all = view.all ∙ ap (λ hits. hits ++ view.added) (within.all ∙ ap (λ hits. hits ++ within.added) (at.all ∙ ap (λ hits. hits ++ at.added) none)) ∙ append_assoc at.added within.added view.added;
 }
 
 all_later : (hits more : List Hit) → AllByRecursion (IsOf In) hits → AllByRecursion (IsOf View) more → AllByRecursion (λ h. IsOf In h ⊎ IsOf View h) (hits ++ more)

@@ -4,7 +4,7 @@ ghost use Rattle.can_bus.specs.Hits.{AreTaken};
 ghost use Rattle.can_trace.specs.ScenarioProps.{AreTaken-prop};
 
 mod field;
-mod hits;
+pub(crate) mod hits;
 
 use can_bus::Hit;
 use can_frame::Frame;
