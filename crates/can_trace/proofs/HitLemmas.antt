@@ -25,11 +25,11 @@ two_items (v ∷ []) a b e = absurd (let no : item (view v) no_items ≡ item a 
 two_items (v ∷ w ∷ []) a b e = refl
 two_items (v ∷ w ∷ x ∷ values) a b e = absurd (let no : item (view v) (item (view w) (item (view x) (items_view values))) ≡ item a (item b no_items) = e in cc)
 
--- an array of two numbers has two elements
-pub pair_has_two : (values : List Value) (d : Data) (a b : ℕ) → Some (items_view values) ≡ as_array d → IsPair a b d → length values ≡ 2
-pair_has_two values d a b e is =
-    let same : Some (items_view values) ≡ Some (item (integer (pos a)) (item (integer (pos b)) no_items)) = e ∙ ap as_array is in
-    two_items values (integer (pos a)) (integer (pos b)) (cc)
+-- the elements of an array of two numbers are two
+pub pair_has_two : (values elements : List Value) (d : Data) (a b : ℕ) → elements ≡ values → Some (items_view values) ≡ as_array d → IsPair a b d → length elements ≡ 2
+pair_has_two values elements d a b same e is =
+    let pair : Some (items_view values) ≡ Some (item (integer (pos a)) (item (integer (pos b)) no_items)) = e ∙ ap as_array is in
+    ap length same ∙ two_items values (integer (pos a)) (integer (pos b)) (cc)
 
 -- ---- the elements of a list
 

@@ -64,7 +64,10 @@ fn hits_of_documents(rt: HostRuntime) -> Result<(), Fail> {
         ("at = [0, 9223372036854775807]\n", &greatest),
     ] {
         let read = read(rt.alloc(), text);
-        assert!(rt; matches!(&read, Ok(found) if found.as_slice() == hits), "{text}");
+        assert!(rt;
+            matches!(&read, Ok(found) if found.as_slice() == hits),
+            "{text}"
+        );
     }
     Ok(())
 }
