@@ -30,3 +30,4 @@ pub mod ReadValues
 pub mod ReadLists
 pub mod ScenarioParts
 pub mod ScenarioRows
+pub mod HitLemmas

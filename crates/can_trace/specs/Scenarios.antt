@@ -159,6 +159,10 @@ hit_in In (array (item (integer (pos attempt)) (item (integer (pos offset)) no_i
 hit_in View (array (item (integer (pos time)) (item (integer (pos node)) no_items))) = Some (hit.View time node)
 hit_in _ _ = None
 
+-- an array of these two whole numbers
+abbrev pub IsPair : ℕ → ℕ → Data → Type 0
+IsPair first second d = d ≡ array (item (integer (pos first)) (item (integer (pos second)) no_items))
+
 -- it is above the one before it, if there is one
 abbrev pub IsAboveBefore : Option Hit → Hit → Type 0
 IsAboveBefore None hit = Unit {0}
@@ -249,6 +253,12 @@ SaysFrame d f = IsFrame f × (d ≡ string (frame_text f))
 -- the element of such a list says this disturbance
 abbrev pub SaysHit : HitList → Data → Hit → Type 0
 SaysHit list d hit = hit_in list d ≡ Some hit
+
+-- behind the hits that were there stand those that these elements of such a list say
+pub record AddsHits (list : HitList) (ds : List Data) (before after : List Hit) : Type 0 where
+  pub added : List Hit
+  pub said : ArePaired (SaysHit list) ds added
+  pub all : after ≡ before ++ added
 
 -- the table says this port
 pub record SaysPort (d : Data) (plan : PortPlan) : Type 0 where

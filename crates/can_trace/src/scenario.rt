@@ -5,7 +5,7 @@ ghost use Rattle.can_trace.specs.ScenarioProps.{AreTaken-prop};
 
 mod document;
 mod field;
-mod hits;
+pub(crate) mod hits;
 mod ports;
 mod values;
 

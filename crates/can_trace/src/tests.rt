@@ -11,6 +11,7 @@ use std::test::Fail;
 
 mod decode;
 mod scenario;
+mod hits;
 
 /// The line of levels of `S 000 D 0`.
 const S000: &[u8] = b"00000100000100000100000100000100000100001111111111\n";
