@@ -26,3 +26,6 @@ pub mod OneDecoding
 pub mod OneVerdict
 pub mod Rows
 pub mod DemandLemmas
+pub mod PutParts
+pub mod ReportLines
+pub mod Started

@@ -16,6 +16,9 @@
 //! | `decode.rt` | [`decode_stream`] | `specs/TraceText.antt`, `specs/Decoded.antt` |
 //! | `trace.rt` | a trace as it is heard, level by level | `specs/Decoding.antt` |
 //! | `finding.rt` | what is told of a trace, and its line | `specs/Decoded.antt` |
+//! | `scenario.rt` | [`Scenario`], a bus to be run | `specs/Scenarios.antt` |
+//! | `run.rt` | [`run_scenario`] | `specs/Report.antt` |
+//! | `report.rt` | the report of a run, put line by line | `specs/Report.antt` |
 //! | `line.rt` | a line that is put together | |
 //! | `fault.rt` | [`TraceFault`], why an answer is not whole | |
 //! | `laws.rt` | that lines, vectors and traces have one answer | `specs/Coded.antt`, `specs/Checked.antt`, `specs/Decoded.antt` |
@@ -48,6 +51,8 @@ mod laws;
 mod line;
 mod lines;
 mod outbox;
+mod report;
+mod run;
 mod scenario;
 mod sink;
 mod source;
@@ -63,6 +68,7 @@ pub use encode::encode_lines;
 pub use fault::TraceFault;
 pub use laws::{one_answer, one_check, one_decoding};
 pub use outbox::write_all;
+pub use run::run_scenario;
 pub use scenario::{Field, HitList, PortField, PortPlan, Scenario};
 pub use sink::{Sink, ToWrite};
 pub use source::{FromRead, Source};
