@@ -78,3 +78,14 @@ module _ (held mid holds : Option (List ℕ)) (old between text left : List ℕ)
   pub PutsPart-last : {A : Type 0} (result : Result A TraceFault) (new : List ℕ) → Puts result mid holds between new left → Puts result held holds old new text
   PutsPart-last (Ok done) new passes = subst (PassesOn held holds old new) part.whole (PassesOn-joined held mid holds old between new part.done left part.passes passes)
   PutsPart-last (Err fault) new front = subst (λ t. TakesFront held holds (old ++ t)) part.whole (TakesFront-joined held mid holds old between part.done left part.passes front)
+
+-- all was put in an empty buffer, and then the writer took a front of what was in it
+pub flush-failed : {A : Type 0} (result : Result A TraceFault) (held mid holds : Option (List ℕ)) (waiting text : List ℕ) →
+    PassesOn held mid [] waiting text → OnErr result (TakesFront mid holds waiting) → OnErr result (TakesFront held holds text)
+flush-failed (Ok done) held mid holds waiting text p front = front
+flush-failed (Err fault) held mid holds waiting text p front = record {
+  taken = p.taken ++ front.taken;
+  left = front.left;
+  appends = Appends-trans held mid holds p.taken front.taken p.appends front.appends;
+  split = p.same ∙ ap (λ t. p.taken ++ t) front.split ∙ sym (append_assoc p.taken front.taken front.left);
+}

@@ -1,6 +1,6 @@
 -- The lines of a report, part by part.
-use Rattle.std.proofs.Common.{◌≡◌, ℕ, ◌+◌, ◌<◌, ◌≤◌, List, [], ◌∷◌, ◌++◌, length, map, get_or, drop, sym, ap, ◌∙◌, append_assoc}
-use Rattle.std.proofs.lemmas.List.{map-append, at_drop_more, at_drop_all}
+use Rattle.std.proofs.Common.{◌≡◌, ℕ, ◌+◌, ◌<◌, List, [], ◌∷◌, ◌++◌, length, map, get_or, drop, sym, ap, ◌∙◌, append_assoc}
+use Rattle.std.proofs.lemmas.List.{map-append, at_drop_more}
 use Rattle.std.specs.List.{flat_map}
 use Rattle.can_frame.specs.declared.level.Level.{Level}
 use Rattle.can_node.specs.declared.entry.Entry.{Entry}
@@ -24,12 +24,10 @@ digits-split ahead front rest split =
     ∙ append_assoc (map digit_of front) (map digit_of rest) line_end
 
 -- the line of an entry, and then those of the rest
-pub entries-next : (entries : List Entry) (n : ℕ) (d : Entry) → n < length entries →
-    flat_map entry_line (drop n entries) ≡ entry_line (get_or entries n d) ++ flat_map entry_line (drop (n + 1) entries)
-entries-next entries n d h = at_drop_more (flat_map entry_line) entries n d h
-
-pub entries-all : (entries : List Entry) (n : ℕ) → length entries ≤ n → flat_map entry_line (drop n entries) ≡ []
-entries-all entries n h = at_drop_all (flat_map entry_line) entries n h
+pub entries-next : (entries : List Entry) (n : ℕ) (x : Entry) → n < length entries → x ≡ get_or entries n x →
+    flat_map entry_line (drop n entries) ≡ entry_line x ++ flat_map entry_line (drop (n + 1) entries)
+entries-next entries n x h is =
+    at_drop_more (flat_map entry_line) entries n x h ∙ ap (λ y. entry_line y ++ flat_map entry_line (drop (n + 1) entries)) (sym is)
 
 module _ {P : Type 0} (port : P → PortState) (ports : List P) (n : ℕ) where
   -- the lines of the ports that are left
@@ -37,9 +35,8 @@ module _ {P : Type 0} (port : P → PortState) (ports : List P) (n : ℕ) where
   lines_left = ports_lines n (map reported (map port (drop n ports)))
 
   -- the lines of a port, and then those of the rest
-  pub ports-next : (d : P) → n < length ports →
-      lines_left ≡ port_lines n (reported (port (get_or ports n d))) ++ ports_lines (n + 1) (map reported (map port (drop (n + 1) ports)))
-  ports-next d h = at_drop_more (λ ps. ports_lines n (map reported (map port ps))) ports n d h
-
-  pub ports-all : length ports ≤ n → lines_left ≡ []
-  ports-all h = at_drop_all (λ ps. ports_lines n (map reported (map port ps))) ports n h
+  pub ports-next : (x : P) → n < length ports → x ≡ get_or ports n x →
+      lines_left ≡ port_lines n (reported (port x)) ++ ports_lines (n + 1) (map reported (map port (drop (n + 1) ports)))
+  ports-next x h is =
+      at_drop_more (λ ps. ports_lines n (map reported (map port ps))) ports n x h
+      ∙ ap (λ y. port_lines n (reported (port y)) ++ ports_lines (n + 1) (map reported (map port (drop (n + 1) ports)))) (sym is)

@@ -1,14 +1,18 @@
 -- How the run of a scenario begins and ends.
 use Rattle.std.specs.List.{slice_get}
 use Rattle.std.proofs.Common.{◌≡◌, ℕ, zero, suc, ◌+◌, ◌<◌, ◌≤◌, Some, List, [], ◌∷◌, ◌++◌, length, map, get_or, drop, take, refl, sym, ap, ◌∙◌, arith, add-one, length-take}
-use Rattle.std.proofs.lemmas.List.{at_drop_more, at_drop_all, nil_from_length, get_or-take, take_all, take_more}
+use Rattle.std.proofs.lemmas.List.{at_drop_more, at_drop_all, nil_from_length, get_or-take, length-map, map_more, map_push, take_all, take_more}
 use Rattle.std.proofs.lemmas.Option.{slice_get-get_or, get_or_from_slice_get}
 use Rattle.can_frame.specs.declared.level.Level.{Level}
 use Rattle.can_frame.specs.declared.level.Level.TheVariants.{Recessive}
 use Rattle.can_frame.specs.Parts.{Parts}
+use Rattle.can_code.specs.declared.plain_bits.PlainBits.{PlainBits}
+use Rattle.can_code.specs.contracts.plain_bits.PlainBitsFrameBits.TheImpl as plain_bits
+use Rattle.can_node.specs.declared.node.Node.{Node}
 use Rattle.can_node.specs.Ports.{PortState, offered}
 use Rattle.can_bus.specs.Run.{BusState, bus_level, bus_run}
 use Rattle.can_trace.specs.Report.{all_offered, ended_bus, levels_until, recorded_levels, started_bus, started_port}
+use Rattle.can_trace.specs.declared.scenario.PortPlan.{PortPlan}
 use Rattle.can_trace.specs.declared.scenario.Scenario.{Scenario}
 
 -- the frames that are left, offered behind one
@@ -19,6 +23,25 @@ offered-next frames n d p next h is =
 
 pub offered-all : (frames : List Parts) (n : ℕ) (p : PortState) → length frames ≤ n → all_offered (drop n frames) p ≡ p
 offered-all frames n p h = at_drop_all (λ left. all_offered left p) frames n h
+
+-- what a contract sees of a port with memory of its own
+abbrev pub node_port : Node PlainBits plain_bits.ghosts → PortState
+node_port n = record { mac = n.mac; queue = n.queue.frames.items; queue_room = n.queue.room; log = n.log.entries.items; log_room = n.log.room; missed = n.log.missed }
+
+-- one port more is made
+pub started-next : {N : Type 0} (port : N → PortState) (nodes : List N) (plans : List PortPlan) (n : ℕ) (node : N) (plan : PortPlan) → n < length plans →
+    map port nodes ≡ map started_port (take n plans) → port node ≡ started_port plan → plan ≡ get_or plans n plan → map port (nodes ++ node ∷ []) ≡ map started_port (take (n + 1) plans)
+started-next port nodes plans n node plan h before made is =
+    map_push port nodes node ∙ ap (λ ports. ports ++ port node ∷ []) before
+    ∙ ap (λ p. map started_port (take n plans) ++ p ∷ []) (made ∙ ap started_port is) ∙ sym (map_more started_port plans n plan h)
+
+pub started-all : {N : Type 0} (port : N → PortState) (nodes : List N) (plans : List PortPlan) (n : ℕ) → length plans ≤ n → map port nodes ≡ map started_port (take n plans) →
+    map port nodes ≡ map started_port plans
+started-all port nodes plans n h before = before ∙ ap (map started_port) (take_all n plans h)
+
+-- there are as many as are planned
+pub started-size : {N : Type 0} (port : N → PortState) (nodes : List N) (plans : List PortPlan) → map port nodes ≡ map started_port plans → length nodes ≡ length plans
+started-size port nodes plans is = sym (length-map nodes port) ∙ ap length is ∙ length-map plans started_port
 
 -- levels that are known one by one
 levels_until-is : (level : ℕ → Level) (n : ℕ) (levels : List Level) → length levels ≡ n → ((t : ℕ) → t < n → slice_get levels t ≡ Some (level t)) → levels ≡ levels_until level n
