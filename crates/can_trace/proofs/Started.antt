@@ -50,9 +50,9 @@ levels_until-is level (suc n) levels size known =
     let inside : n < length levels = omega arith in
     let short : length (take n levels) ≡ n = omega (arith, length-take n levels) in
     let front : take n levels ≡ levels_until level n = levels_until-is level n (take n levels) short
-        (λ t h. let within : t < length (take n levels) = omega arith in
-            slice_get-get_or (take n levels) t Recessive within
-            ∙ ap Some (get_or-take n levels t Recessive h ∙ get_or_from_slice_get levels t (level t) Recessive (known t (omega arith)))) in
+    (λ t h. let within : t < length (take n levels) = omega arith in
+    slice_get-get_or (take n levels) t Recessive within
+    ∙ ap Some (get_or-take n levels t Recessive h ∙ get_or_from_slice_get levels t (level t) Recessive (known t (omega arith)))) in
     let last : get_or levels n Recessive ≡ level n = get_or_from_slice_get levels n (level n) Recessive (known n (omega arith)) in
     sym (take_all (n + 1) levels (omega arith)) ∙ take_more levels n Recessive inside
     ∙ ap (λ xs. xs ++ get_or levels n Recessive ∷ []) front ∙ ap (λ x. levels_until level n ++ x ∷ []) last

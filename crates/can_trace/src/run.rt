@@ -61,7 +61,8 @@ fn run(alloc: Global, scenario: &Scenario) -> Result<Ended, AllocError>
     let Ok(mut bus) = Bus::new(ports) else {
         unreachable!();
     };
-    let Ok(()) = bus.run(&scenario.hits, &mut levels) else {
+    let hits = scenario.hits.as_slice();
+    let Ok(()) = bus.run(hits, &mut levels) else {
         unreachable!();
     };
     Ok(Ended {

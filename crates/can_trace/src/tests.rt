@@ -10,6 +10,7 @@ use std::io::{Error, ErrorKind, Read, Write};
 use std::test::Fail;
 
 mod decode;
+mod run;
 
 /// The line of levels of `S 000 D 0`.
 const S000: &[u8] = b"00000100000100000100000100000100000100001111111111\n";

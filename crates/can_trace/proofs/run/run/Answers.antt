@@ -9,8 +9,8 @@ use Rattle.can_trace.proofs.run.run.Goals as goal
 pub unreachable-requires-in_default-run : goal.unreachable-requires-in_default-run
 unreachable-requires-in_default-run c =
     let ports = started-size node_port c.in_ok-ports.ports.items c.deref.result.now c.in_ok-ports.ensures in
-    let taken : AreTaken (length c.in-Ok.bus.ports.items) c.deref-2.result.now =
-        rw (c.in-Ok.ensures.made.0, ports, c.deref.ensures.value, c.deref-2.ensures.value) c.args.scenario.now.taken in
+    let taken : AreTaken (length c.in-Ok.bus.ports.items) c.as_slice-hits.result.now =
+    rw (c.in-Ok.ensures.made.0, ports, c.deref.ensures.value, c.as_slice-hits.ensures.value) c.args.scenario.now.taken in
     let e : false ≡ true = c.in_default-run.ensures.taken.1 taken in
     cc
 
@@ -22,4 +22,4 @@ returns-clause-levels c =
     let start = started-is scenario (map node_port bus.ports.items) bus.rest ports c.in-Ok.ensures.made.1 in
     let whole : length c.run.new.rec ≡ c.in_ok-levels.levels.len = omega arith in
     let size : length c.run.new.rec ≡ scenario.bits = omega (arith, c.in_ok-levels.ensures.len) in
-    take_at c.run.new.rec _ _ whole ∙ recorded-is scenario (state_of node_port bus) start c.run.new.rec size (rw c.deref-2.ensures.value at c.in-Ok-run.ensures.levels)
+    take_at c.run.new.rec _ _ whole ∙ recorded-is scenario (state_of node_port bus) start c.run.new.rec size (rw c.as_slice-hits.ensures.value at c.in-Ok-run.ensures.levels)
