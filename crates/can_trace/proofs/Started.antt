@@ -15,15 +15,6 @@ use Rattle.can_trace.specs.Report.{all_offered, ended_bus, levels_until, recorde
 use Rattle.can_trace.specs.declared.scenario.PortPlan.{PortPlan}
 use Rattle.can_trace.specs.declared.scenario.Scenario.{Scenario}
 
--- the frames that are left, offered behind one
-pub offered-next : (frames : List Parts) (n : ℕ) (d : Parts) (p next : PortState) → n < length frames → next ≡ offered (get_or frames n d) p →
-    all_offered (drop (n + 1) frames) next ≡ all_offered (drop n frames) p
-offered-next frames n d p next h is =
-    ap (all_offered (drop (n + 1) frames)) is ∙ sym (at_drop_more (λ left. all_offered left p) frames n d h)
-
-pub offered-all : (frames : List Parts) (n : ℕ) (p : PortState) → length frames ≤ n → all_offered (drop n frames) p ≡ p
-offered-all frames n p h = at_drop_all (λ left. all_offered left p) frames n h
-
 -- what a contract sees of a port with memory of its own
 abbrev pub node_port : Node PlainBits plain_bits.ghosts → PortState
 node_port n = record { mac = n.mac; queue = n.queue.frames.items; queue_room = n.queue.room; log = n.log.entries.items; log_room = n.log.room; missed = n.log.missed }
@@ -64,13 +55,9 @@ started-is s ports rest ports_are rest_is =
     ap (λ ps. let start : BusState = record { ports = ps; rest = rest } in start) ports_are
     ∙ ap (λ r. let start : BusState = record { ports = map started_port s.ports.items; rest = r } in start) rest_is
 
-module _ (s : Scenario) (start : BusState) (is : start ≡ started_bus s) (levels : List Level) (size : length levels ≡ s.bits) where
-  -- the levels that are recorded
-  pub recorded-is : ((t : ℕ) → t < length levels → slice_get levels t ≡ Some (bus_level s.hits.items t start)) → levels ≡ recorded_levels s
-  recorded-is known =
-      levels_until-is (λ t. bus_level s.hits.items t (started_bus s)) s.bits levels size
-      (λ t h. known t (omega arith) ∙ ap (λ bus. Some (bus_level s.hits.items t bus)) is)
-
-  -- the bus as the run ends
-  pub ended-is : (bus : BusState) → bus ≡ bus_run s.hits.items (length levels) start → bus ≡ ended_bus s
-  ended-is bus ran = ran ∙ ap (λ n. bus_run s.hits.items n start) size ∙ ap (bus_run s.hits.items s.bits) is
+-- the levels that are recorded
+pub recorded-is : (s : Scenario) (start : BusState) → start ≡ started_bus s → (levels : List Level) → length levels ≡ s.bits →
+    ((t : ℕ) → t < length levels → slice_get levels t ≡ Some (bus_level s.hits.items t start)) → levels ≡ recorded_levels s
+recorded-is s start is levels size known =
+    levels_until-is (λ t. bus_level s.hits.items t (started_bus s)) s.bits levels size
+    (λ t h. known t (omega arith) ∙ ap (λ bus. Some (bus_level s.hits.items t bus)) is)

@@ -5,7 +5,8 @@
 //! [`decode_stream`] reads levels, and writes which frames and faults are found in them. Each promises
 //! what was written of what was read, for every way in which it can end, wherever the reader and the
 //! writer tell their bytes; and for all of them, which failure its answer stands for. It holds two fixed
-//! buffers and takes no memory.
+//! buffers and takes no memory. [`run_scenario`] runs a bus and writes what came of it: it takes its memory
+//! before the first byte is written.
 //!
 //! | File | What it has | Defined in |
 //! |---|---|---|
@@ -35,7 +36,8 @@
 //! `Flushing` what is written when what waits is flushed.
 //! Of checking, `MarkLemmas`, `DigitLemmas` and `VectorLemmas` have how a line is read, `VectorFronts` why
 //! 193 bytes of it tell all, `CheckSteps` and `CheckEndings` the steps and the ends of a run, `OneVerdict`
-//! that each line has one verdict. Of decoding, `IdleRows` has the search for eleven recessive levels,
+//! that each line has one verdict. Of reports, `PutParts` has a text that is put in parts, `ReportLines` the
+//! lines, `Started` how a run begins and which levels it records. Of decoding, `IdleRows` has the search for eleven recessive levels,
 //! `TraceSteps` what one level makes of a trace, `DecodeSteps` and `DecodeEndings` the steps and the ends of
 //! a run, `FindsTotal` and `FindsOne` that in all levels one list is found, `OneDecoding` that each input has
 //! one full answer.

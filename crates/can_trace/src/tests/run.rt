@@ -48,9 +48,6 @@ fn scenario(
     for _ in 0..ports.len() {
         nodes.push(PlainNode::new(alloc, 0, 0)?)?;
     }
-    if ports.is_empty() || ports.len() > 64 || nodes.len() != ports.len() {
-        return Err("1 to 64 ports".into());
-    }
     let Ok(mut bus) = Bus::new(nodes) else {
         return Err("1 to 64 ports".into());
     };
