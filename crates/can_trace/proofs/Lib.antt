@@ -31,3 +31,6 @@ pub mod ReadLists
 pub mod ScenarioParts
 pub mod ScenarioRows
 pub mod HitLemmas
+pub mod PutParts
+pub mod ReportLines
+pub mod Started

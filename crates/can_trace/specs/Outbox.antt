@@ -1,6 +1,7 @@
 -- What becomes of bytes that go through a buffer to a writer.
-use Rattle.std.specs.Prelude.{◌≡◌, ℕ, List, ◌++◌, Option}
+use Rattle.std.specs.Prelude.{◌≡◌, ℕ, List, ◌++◌, Option, Result, Ok, Err}
 use Rattle.std.specs.Io.KnownBytes.{Appends}
+use Rattle.can_trace.specs.declared.fault.TraceFault.{TraceFault}
 
 -- Bytes were put behind those in the buffer, and the writer took from its front: the bytes given so far,
 -- those that the writer holds and then those in the buffer, grew by what was put.
@@ -15,3 +16,8 @@ pub record TakesFront (held holds : Option (List ℕ)) (bytes : List ℕ) : Type
   pub left : List ℕ
   pub appends : Appends held holds taken
   pub split : bytes ≡ taken ++ left
+
+-- The bytes were put, or the writer failed: then it took a front of what was in the buffer and of these bytes behind it.
+abbrev pub Puts : {A : Type 0} → Result A TraceFault → (held holds : Option (List ℕ)) → (old new put : List ℕ) → Type 0
+Puts (Ok done) held holds old new put = PassesOn held holds old new put
+Puts (Err fault) held holds old new put = TakesFront held holds (old ++ put)

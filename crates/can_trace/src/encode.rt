@@ -147,7 +147,7 @@ fn write_line(frame: &Frame, line: &mut [u8]) -> usize
 }
 
 /// Writes the digit of each level.
-fn write_digits(levels: &[Level], digits: &mut [u8])
+pub(crate) fn write_digits(levels: &[Level], digits: &mut [u8])
     requires { length digits.old ≡ length levels.now }
     ensures { digits.new ≡ map digit_of levels.now }
 {

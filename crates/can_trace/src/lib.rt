@@ -5,7 +5,8 @@
 //! [`decode_stream`] reads levels, and writes which frames and faults are found in them. Each promises
 //! what was written of what was read, for every way in which it can end, wherever the reader and the
 //! writer tell their bytes; and for all of them, which failure its answer stands for. It holds two fixed
-//! buffers and takes no memory.
+//! buffers and takes no memory. [`run_scenario`] runs a bus and writes what came of it: it takes its memory
+//! before the first byte is written.
 //!
 //! | File | What it has | Defined in |
 //! |---|---|---|
@@ -19,8 +20,11 @@
 //! | `scenario.rt` | [`Scenario`], a bus to be run, read from a document | `specs/Scenarios.antt` |
 //! | `scenario/document.rt` | the document, and its fields at the top | `specs/Scenarios.antt` |
 //! | `scenario/ports.rt` | its ports | `specs/Scenarios.antt` |
+//! | `scenario/hits.rt` | its disturbances | `specs/Scenarios.antt` |
 //! | `scenario/values.rt` | the readers of values | `specs/Scenarios.antt` |
 //! | `scenario/field.rt` | [`Field`], what is wrong in a document | |
+//! | `run.rt` | [`run_scenario`] | `specs/Report.antt` |
+//! | `report.rt` | the report of a run, put line by line | `specs/Report.antt` |
 //! | `line.rt` | a line that is put together | |
 //! | `fault.rt` | [`TraceFault`], why an answer is not whole | |
 //! | `laws.rt` | that lines, vectors and traces have one answer | `specs/Coded.antt`, `specs/Checked.antt`, `specs/Decoded.antt` |
@@ -37,7 +41,8 @@
 //! `Flushing` what is written when what waits is flushed.
 //! Of checking, `MarkLemmas`, `DigitLemmas` and `VectorLemmas` have how a line is read, `VectorFronts` why
 //! 193 bytes of it tell all, `CheckSteps` and `CheckEndings` the steps and the ends of a run, `OneVerdict`
-//! that each line has one verdict. Of decoding, `IdleRows` has the search for eleven recessive levels,
+//! that each line has one verdict. Of reports, `PutParts` has a text that is put in parts, `ReportLines` the
+//! lines, `Started` how a run begins and which levels it records. Of decoding, `IdleRows` has the search for eleven recessive levels,
 //! `TraceSteps` what one level makes of a trace, `DecodeSteps` and `DecodeEndings` the steps and the ends of
 //! a run, `FindsTotal` and `FindsOne` that in all levels one list is found, `OneDecoding` that each input has
 //! one full answer. Of scenarios, `DemandLemmas` has demands one behind another, `ReadValues` the values of a
@@ -55,6 +60,8 @@ mod laws;
 mod line;
 mod lines;
 mod outbox;
+mod report;
+mod run;
 mod scenario;
 mod sink;
 mod source;
@@ -70,6 +77,7 @@ pub use encode::encode_lines;
 pub use fault::TraceFault;
 pub use laws::{one_answer, one_check, one_decoding};
 pub use outbox::write_all;
+pub use run::run_scenario;
 pub use scenario::{Field, HitList, PortField, PortPlan, Scenario};
 pub use sink::{Sink, ToWrite};
 pub use source::{FromRead, Source};

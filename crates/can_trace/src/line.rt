@@ -5,9 +5,8 @@ ghost use Rattle.can_trace.specs.Decoded.{word_if};
 use arrayvec::ArrayVec;
 use itoa::Buffer;
 
-/// How many bytes a line has at most: a number of 20 digits, a blank, a frame text of 32 bytes, and 23 bytes
-/// of notes; or two numbers, and 14 bytes.
-pub(crate) const LINE: usize = 80;
+/// How many bytes a line has at most: four numbers of 20 digits, and words of 32 bytes.
+pub(crate) const LINE: usize = 112;
 
 /// A line that is put together.
 pub(crate) type Line = ArrayVec<u8, LINE>;
@@ -30,6 +29,16 @@ pub(crate) fn push(line: &mut Line, bytes: &[u8])
     let Ok(()) = line.try_extend_from_slice(bytes) else {
         unreachable!();
     };
+}
+
+/// Appends a word, and a number in decimal behind it.
+pub(crate) fn push_named(line: &mut Line, name: &[u8], number: u64)
+    requires { length line.old.items + length name.now + 20 ≤ LINE }
+    ensures text { line.new.items ≡ line.old.items ++ (name.now ++ decimal number) }
+    ensures bound { length line.new.items ≤ length line.old.items + length name.now + 20 }
+{
+    push(line, name);
+    push_number(line, number);
 }
 
 /// Appends a word where something holds.

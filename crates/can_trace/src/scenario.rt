@@ -18,9 +18,9 @@ use std::alloc::Global;
 /// A bus to be run: its ports, 1 to 64 of them, how many bit times, and the disturbances, in order.
 #[derive(Debug, Drop)]
 pub struct Scenario {
-    bits: u32,
-    ports: Vec<PortPlan>,
-    hits: Vec<Hit>,
+    pub(crate) bits: u32,
+    pub(crate) ports: Vec<PortPlan>,
+    pub(crate) hits: Vec<Hit>,
     ghost some: { 1 ≤ length ports.items },
     ghost few: { length ports.items ≤ 64 },
     ghost taken: { AreTaken (length ports.items) hits.items } by { AreTaken-prop (length ports.items) hits.items },
@@ -30,10 +30,10 @@ pub struct Scenario {
 /// room for, whether it has to join the bus, and how many overload frames it asks for.
 #[derive(Debug, Drop)]
 pub struct PortPlan {
-    queue: Vec<Frame>,
-    log_room: usize,
-    joins: bool,
-    overloads: u8,
+    pub(crate) queue: Vec<Frame>,
+    pub(crate) log_room: usize,
+    pub(crate) joins: bool,
+    pub(crate) overloads: u8,
     ghost asks: { overloads ≤ 2 },
 }
 

@@ -12,6 +12,7 @@ use std::test::Fail;
 mod decode;
 mod scenario;
 mod hits;
+mod run;
 
 /// The line of levels of `S 000 D 0`.
 const S000: &[u8] = b"00000100000100000100000100000100000100001111111111\n";
