@@ -6,7 +6,7 @@ pub(crate) mod flags;
 pub(crate) mod frame_end;
 pub(crate) mod stuffed_part;
 
-ghost use Rattle.std.specs.Prelude.{◌≡◌, IsFalse, IsTrue};
+ghost use Rattle.std.specs.Prelude.{◌≡◌, ◌≢◌, IsFalse, IsTrue};
 ghost use Rattle.std.specs.Option.{option_copied};
 ghost use Rattle.can_code.specs.Front.{FrontParts};
 ghost use Rattle.can_mac.specs.State.{IsPhase};
@@ -305,29 +305,43 @@ pub(crate) fn next_move<B: FrameBits>(
     ensures { placed phase.new result ≡ move stance.now phase.old (option_copied waiting.entry) seen }
 {
     match phase {
-        Phase::Joining { row } => joining(stance, *row, seen).leaves(),
-        Phase::Idle => idle(stance, waiting, seen).leaves(),
         Phase::StuffedPart(front) => stuffed_part(stance, front, seen),
-        Phase::CrcDelimiter(reading) => crc_delimiter(stance, reading, seen).leaves(),
-        Phase::AckSlot(reading) => ack_slot(stance, reading, seen).leaves(),
-        Phase::AckDelimiter(reading) => ack_delimiter(stance, reading, seen).leaves(),
-        Phase::EndOfFrame { reading, place } => {
-            end_of_frame(stance, reading, *place, seen).leaves()
-        }
-        Phase::ErrorFlag { place } => error_flag(stance, *place, seen).leaves(),
+        _ => move_outside(stance, phase, waiting, seen).leaves(),
+    }
+}
+
+/// What a level makes of a phase outside of the stuffed part of a frame. Each move is made where it is
+/// answered, which is why the stuffed part stands apart.
+fn move_outside<B: FrameBits>(
+    stance: &Stance,
+    phase: &Phase<Front<B>>,
+    waiting: Option<&Frame>,
+    seen: Level,
+) -> Entering
+    requires phase { IsPhase phase.now }
+    requires outside { (front : FrontParts) → phase.now ≢ StuffedPart front }
+    ensures { result ≡ move stance.now phase.now (option_copied waiting.entry) seen }
+{
+    match phase {
+        Phase::Joining { row } => joining(stance, *row, seen),
+        Phase::Idle => idle(stance, waiting, seen),
+        Phase::StuffedPart(_) => unreachable!(),
+        Phase::CrcDelimiter(reading) => crc_delimiter(stance, reading, seen),
+        Phase::AckSlot(reading) => ack_slot(stance, reading, seen),
+        Phase::AckDelimiter(reading) => ack_delimiter(stance, reading, seen),
+        Phase::EndOfFrame { reading, place } => end_of_frame(stance, reading, *place, seen),
+        Phase::ErrorFlag { place } => error_flag(stance, *place, seen),
         Phase::PassiveFlag {
             last,
             run,
             unacknowledged,
-        } => passive_flag(stance, *last, *run, *unacknowledged, seen).leaves(),
-        Phase::OverloadFlag { place } => overload_flag(stance, *place, seen).leaves(),
-        Phase::AfterFlag { first, dominant } => {
-            after_flag(stance, *first, *dominant, seen).leaves()
-        }
-        Phase::Delimiter { place } => delimiter(stance, *place, seen).leaves(),
-        Phase::Intermission { place } => intermission(stance, *place, waiting, seen).leaves(),
-        Phase::Suspend { place } => suspend(stance, *place, seen).leaves(),
-        Phase::BusOff => stance.goes(Phase::BusOff).leaves(),
+        } => passive_flag(stance, *last, *run, *unacknowledged, seen),
+        Phase::OverloadFlag { place } => overload_flag(stance, *place, seen),
+        Phase::AfterFlag { first, dominant } => after_flag(stance, *first, *dominant, seen),
+        Phase::Delimiter { place } => delimiter(stance, *place, seen),
+        Phase::Intermission { place } => intermission(stance, *place, waiting, seen),
+        Phase::Suspend { place } => suspend(stance, *place, seen),
+        Phase::BusOff => stance.goes(Phase::BusOff),
     }
 }
 
