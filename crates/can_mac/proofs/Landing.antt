@@ -9,10 +9,11 @@ use Rattle.can_fault.specs.declared.state.State.TheVariants.{Active, Passive, Bu
 use Rattle.can_fault.specs.Counters.{ConfineParts, counted, is_bus_off, is_passive, state_of}
 use Rattle.can_mac.specs.declared.event.Event.TheVariants.{WentOff}
 use Rattle.can_mac.specs.declared.moves.Move.{Move}
+use Rattle.can_mac.specs.declared.moves.Stance.{Stance}
 use Rattle.can_mac.specs.declared.phase.Role.TheVariants.{Receiver}
 use Rattle.can_mac.specs.declared.phase.Phase.TheVariants.{BusOff}
 use Rattle.can_mac.specs.State.{MacPhase, MacState, IsMac, IsWaiting, is_off_phase}
-use Rattle.can_mac.specs.Moves.{MacMove, move, placed}
+use Rattle.can_mac.specs.Moves.{MacMove, goes, move, placed}
 use Rattle.can_mac.specs.Machine.{landed, mac_step, moved, off_step, on_step, stance}
 use Rattle.can_mac.proofs.Kept.{on_kept}
 
@@ -62,6 +63,14 @@ module _ (m now : MacState) (view : m ≡ now) (h : IsMac m) (on : is_off_phase 
 
     pub stays_on-IsMac : off ≡ false → IsMac (moved (placed kept next) new)
     stays_on-IsMac e = subst (λ p. IsMac p.0) (sym (stays_on e)) step_is_mac
+
+  -- where a level only makes another phase
+  module _ (p : MacPhase) (is : (s : Stance) → s.role ≡ m.role → move s m.phase waiting x ≡ goes s p) where
+    pub goes-on : (record { phase = p; role = m.role; overloads = m.overloads; counters = m.counters }, None) ≡ on_step now (move (stance now) now.phase waiting x)
+    goes-on = ap (on_step m) (sym (is (stance m) refl)) ∙ ap (λ n. on_step n (move (stance n) n.phase waiting x)) view
+
+    pub goes-on-IsMac : IsMac (record { phase = p; role = m.role; overloads = m.overloads; counters = m.counters })
+    goes-on-IsMac = subst (λ r. IsMac r.0) (sym goes-on) (on_kept now (subst IsMac view h) waiting x on whole)
 
 -- one bit time, off the bus and on it
 pub step_off : (m : MacState) (waiting : Option Parts) (x : Level) → is_off_phase m.phase ≡ true → mac_step m waiting x ≡ off_step m x

@@ -12,18 +12,21 @@
 //! | `phase.rt` | [`Phase`], [`Role`], [`Overloads`], the parts of a controller's state | `specs/State.antt` |
 //! | `machine.rt` | [`MediumAccess`], a controller, bit by bit | `specs/Machine.antt` |
 //! | `driving.rt` | what it drives of a frame | `specs/Machine.antt` |
-//! | `moves.rt` | what a level makes of a phase | `specs/Moves.antt` |
+//! | `moves.rt` | what a level makes of a phase, and the levels with which a controller just goes on | `specs/Moves.antt` |
 //! | `moves/stuffed_part.rt` | a frame up to the end of its CRC sequence, heard in place | `specs/Moves.antt` |
 //! | `moves/frame_end.rt` | CRC delimiter, ACK slot, ACK delimiter, end of frame | `specs/Moves.antt` |
 //! | `moves/flags.rt` | error flags, overload flags, their delimiters | `specs/Moves.antt` |
 //! | `moves/between_frames.rt` | joining, idle, intermission, suspend transmission | `specs/Moves.antt` |
 //! | `laws.rt` | that what holds of every controller stays; a frame at each of them: where it leads, what is driven, who loses | `specs/State.antt`, `specs/Frames.antt` |
 //!
-//! Each function of `moves` has the cases of one definition, in the same order. Crates above find
-//! lemmas in `proofs/`: that what holds of every controller stays (`Kept`, `KeptMoves`), and of
-//! its counters (`ConfineKept`); of a frame at each controller, level by level (`FrameEnds`,
-//! `FrameParts`, `FrameRoles`, `FrameSteps`, `FrameRuns`, `FrameDrives`, `Contending`); and what a
-//! controller knows of the levels that it has seen (`Turns`, `TurnEnds`, `Hearing`, `HearingTurns`).
+//! Each function of `moves` has the cases of one definition, in the same order. Most levels need none of
+//! them: `goes_on` takes these in place, and makes no move.
+//!
+//! Crates above find lemmas in `proofs/`: that what holds of every controller stays (`Kept`,
+//! `KeptMoves`), and of its counters (`ConfineKept`); of a frame at each controller, level by level
+//! (`FrameEnds`, `FrameParts`, `FrameRoles`, `FrameSteps`, `FrameRuns`, `FrameDrives`, `Contending`);
+//! and what a controller knows of the levels that it has seen (`Turns`, `TurnEnds`, `Hearing`,
+//! `HearingTurns`).
 //! `Rows` computes the definitions on levels whose outcome is known.
 #![tactic(auto)]
 

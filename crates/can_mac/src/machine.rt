@@ -3,12 +3,12 @@ ghost use Rattle.std.specs.Option.{option_copied};
 ghost use Rattle.can_code.specs.Front.{FrontParts};
 ghost use Rattle.can_fault.specs.Counters.{counted, is_bus_off, is_passive as is_passive_by};
 ghost use Rattle.can_mac.specs.State.{idle as idle_state, IsMac, IsPhase, IsWaiting, is_off_phase, joining as joining_state, starting};
-ghost use Rattle.can_mac.specs.Moves.{move, phase_after};
+ghost use Rattle.can_mac.specs.Moves.{move};
 ghost use Rattle.can_mac.specs.Machine.{holding, IsSilent, mac_drives, mac_step, off_step, on_step, stance as stance_of};
 
 use crate::driving::{level_of_part, level_of_slot};
 use crate::event::Event;
-use crate::moves::{MOST_OVERLOADS, Move, NewFrame, Stance, next_move};
+use crate::moves::{MOST_OVERLOADS, Move, Stance, enter, goes_on, next_move};
 use crate::phase::{Overloads, Phase, Role};
 use can_code::{FrameBits, Front, PlainBits};
 use can_fault::{Cause, Confine, State};
@@ -155,6 +155,20 @@ impl<B: FrameBits> MediumAccess<B> {
         ensures event { result ≡ (on_step self.old (move (stance_of self.old) self.old.phase (option_copied waiting.entry) seen)).1 }
     {
         within_limits(waiting);
+        if goes_on(&self.role, &mut self.phase, waiting, seen) {
+            return None;
+        }
+        self.make_move(waiting, seen)
+    }
+
+    /// A level that makes a move.
+    #[inline(never)]
+    fn make_move(&mut self, waiting: Option<&Frame>, seen: Level) -> Option<Event>
+        requires on_bus { is_off_phase self.old.phase ≡ false }
+        requires waiting { IsWaiting (option_copied waiting) }
+        ensures state { self.new ≡ (on_step self.old (move (stance_of self.old) self.old.phase (option_copied waiting.entry) seen)).0 }
+        ensures event { result ≡ (on_step self.old (move (stance_of self.old) self.old.phase (option_copied waiting.entry) seen)).1 }
+    {
         let stance = Stance {
             passive: is_passive(&self.confine),
             role: self.role,
@@ -196,15 +210,6 @@ fn is_passive(confine: &Confine) -> bool
     match confine.state() {
         State::Active => false,
         State::Passive | State::BusOff => true,
-    }
-}
-
-/// Enters a phase, if there is one.
-fn enter<B: FrameBits>(phase: &mut Phase<Front<B>>, next: Option<Phase<NewFrame>>)
-    ensures { phase.new ≡ phase_after phase.old next }
-{
-    if let Some(next) = next {
-        *phase = next.entered();
     }
 }
 

@@ -6,21 +6,24 @@ pub(crate) mod flags;
 pub(crate) mod frame_end;
 pub(crate) mod stuffed_part;
 
-ghost use Rattle.std.specs.Prelude.{◌≡◌};
+ghost use Rattle.std.specs.Prelude.{◌≡◌, ◌≢◌, IsFalse, IsTrue};
 ghost use Rattle.std.specs.Option.{option_copied};
+ghost use Rattle.can_code.specs.Front.{FrontParts};
 ghost use Rattle.can_mac.specs.State.{IsPhase};
-ghost use Rattle.can_mac.specs.Moves.{begins, enters_intermission, errs, errs_by, errs_in_flag, flag, goes, is_held_back, move, overload, placed, tells};
+ghost use Rattle.can_mac.specs.Moves.{begins, enters_intermission, errs, errs_by, errs_in_flag, flag, goes, is_held_back, move, overload, part_phase, phase_after, placed, tells};
+ghost use Rattle.can_mac.specs.declared.moves.Stance.{Stance as Standing};
+ghost use Rattle.can_mac.specs.declared.phase.Phase.TheVariants.{StuffedPart};
 
 use crate::event::{ErrorKind, Event};
 use crate::phase::{Overloads, Phase, Role};
-use between_frames::{idle, intermission, joining, suspend};
-use can_code::{FrameBits, Front};
+use between_frames::{LAST_OF_INTERMISSION, idle, intermission, joining, suspend};
+use can_code::{FrameBits, Front, Place};
 use can_fault::Cause;
 use can_frame::{Frame, Level};
 use flags::{after_flag, delimiter, error_flag, overload_flag, passive_flag};
-use frame_end::{ack_delimiter, ack_slot, crc_delimiter, end_of_frame};
+use frame_end::{LAST_OF_FRAME, ack_delimiter, ack_slot, crc_delimiter, end_of_frame};
 use std::marker::Model;
-use stuffed_part::stuffed_part;
+use stuffed_part::{end_of_part, is_in_order, stuffed_part};
 
 /// A frame of which the start of frame alone has been heard.
 #[derive(Debug, Drop)]
@@ -237,6 +240,60 @@ impl Phase<NewFrame> {
     }
 }
 
+/// Takes a level with which the controller just goes on, which most are: nothing but its phase changes, in
+/// place. It answers whether the level is one; else nothing changes.
+#[inline]
+pub(crate) fn goes_on<B: FrameBits>(
+    role: &Role,
+    phase: &mut Phase<Front<B>>,
+    waiting: Option<&Frame>,
+    seen: Level,
+) -> bool
+    requires { IsPhase phase.old }
+    ensures on { IsTrue result → (s : Standing) → s.role ≡ role.now → move s phase.old (option_copied waiting.entry) seen ≡ goes s phase.new }
+    ensures unchanged { IsFalse result → phase.new ≡ phase.old }
+{
+    match phase {
+        Phase::Idle => waiting.is_none() && seen.is_recessive(),
+        Phase::StuffedPart(front) if is_in_order(role, front, seen) => {
+            let _ = front.hear(seen);
+            if front.next_place() == Place::CrcDelimiter {
+                end_part(phase);
+            }
+            true
+        }
+        Phase::EndOfFrame { place, .. } if seen.is_recessive() && *place < LAST_OF_FRAME - 1 => {
+            *place += 1;
+            true
+        }
+        Phase::Intermission { place } if seen.is_recessive() && *place < LAST_OF_INTERMISSION => {
+            *place += 1;
+            true
+        }
+        _ => false,
+    }
+}
+
+/// Ends the stuffed part of a frame, where it has ended.
+#[inline(never)]
+fn end_part<B: FrameBits>(phase: &mut Phase<Front<B>>)
+    ensures { (front : FrontParts) → phase.old ≡ StuffedPart front → phase.new ≡ part_phase front }
+{
+    if let Phase::StuffedPart(front) = phase {
+        let next = end_of_part(front);
+        enter(phase, next);
+    }
+}
+
+/// Enters a phase, if there is one.
+pub(crate) fn enter<B: FrameBits>(phase: &mut Phase<Front<B>>, next: Option<Phase<NewFrame>>)
+    ensures { phase.new ≡ phase_after phase.old next }
+{
+    if let Some(next) = next {
+        *phase = next.entered();
+    }
+}
+
 /// What a level makes of a phase. The front of a frame is heard in place.
 pub(crate) fn next_move<B: FrameBits>(
     stance: &Stance,
@@ -248,29 +305,43 @@ pub(crate) fn next_move<B: FrameBits>(
     ensures { placed phase.new result ≡ move stance.now phase.old (option_copied waiting.entry) seen }
 {
     match phase {
-        Phase::Joining { row } => joining(stance, *row, seen).leaves(),
-        Phase::Idle => idle(stance, waiting, seen).leaves(),
         Phase::StuffedPart(front) => stuffed_part(stance, front, seen),
-        Phase::CrcDelimiter(reading) => crc_delimiter(stance, reading, seen).leaves(),
-        Phase::AckSlot(reading) => ack_slot(stance, reading, seen).leaves(),
-        Phase::AckDelimiter(reading) => ack_delimiter(stance, reading, seen).leaves(),
-        Phase::EndOfFrame { reading, place } => {
-            end_of_frame(stance, reading, *place, seen).leaves()
-        }
-        Phase::ErrorFlag { place } => error_flag(stance, *place, seen).leaves(),
+        _ => move_outside(stance, phase, waiting, seen).leaves(),
+    }
+}
+
+/// What a level makes of a phase outside of the stuffed part of a frame. Each move is made where it is
+/// answered, which is why the stuffed part stands apart.
+fn move_outside<B: FrameBits>(
+    stance: &Stance,
+    phase: &Phase<Front<B>>,
+    waiting: Option<&Frame>,
+    seen: Level,
+) -> Entering
+    requires phase { IsPhase phase.now }
+    requires outside { (front : FrontParts) → phase.now ≢ StuffedPart front }
+    ensures { result ≡ move stance.now phase.now (option_copied waiting.entry) seen }
+{
+    match phase {
+        Phase::Joining { row } => joining(stance, *row, seen),
+        Phase::Idle => idle(stance, waiting, seen),
+        Phase::StuffedPart(_) => unreachable!(),
+        Phase::CrcDelimiter(reading) => crc_delimiter(stance, reading, seen),
+        Phase::AckSlot(reading) => ack_slot(stance, reading, seen),
+        Phase::AckDelimiter(reading) => ack_delimiter(stance, reading, seen),
+        Phase::EndOfFrame { reading, place } => end_of_frame(stance, reading, *place, seen),
+        Phase::ErrorFlag { place } => error_flag(stance, *place, seen),
         Phase::PassiveFlag {
             last,
             run,
             unacknowledged,
-        } => passive_flag(stance, *last, *run, *unacknowledged, seen).leaves(),
-        Phase::OverloadFlag { place } => overload_flag(stance, *place, seen).leaves(),
-        Phase::AfterFlag { first, dominant } => {
-            after_flag(stance, *first, *dominant, seen).leaves()
-        }
-        Phase::Delimiter { place } => delimiter(stance, *place, seen).leaves(),
-        Phase::Intermission { place } => intermission(stance, *place, waiting, seen).leaves(),
-        Phase::Suspend { place } => suspend(stance, *place, seen).leaves(),
-        Phase::BusOff => stance.goes(Phase::BusOff).leaves(),
+        } => passive_flag(stance, *last, *run, *unacknowledged, seen),
+        Phase::OverloadFlag { place } => overload_flag(stance, *place, seen),
+        Phase::AfterFlag { first, dominant } => after_flag(stance, *first, *dominant, seen),
+        Phase::Delimiter { place } => delimiter(stance, *place, seen),
+        Phase::Intermission { place } => intermission(stance, *place, waiting, seen),
+        Phase::Suspend { place } => suspend(stance, *place, seen),
+        Phase::BusOff => stance.goes(Phase::BusOff),
     }
 }
 

@@ -14,7 +14,7 @@ use can_frame::{Frame, Level};
 const LAST_OF_JOINING: u8 = 10;
 
 /// The last place of intermission.
-const LAST_OF_INTERMISSION: u8 = 2;
+pub(crate) const LAST_OF_INTERMISSION: u8 = 2;
 
 /// The last place of suspend transmission.
 const LAST_OF_SUSPEND: u8 = 7;

@@ -11,7 +11,7 @@ use can_fault::Cause;
 use can_frame::Level;
 
 /// The last place of the end of frame.
-const LAST_OF_FRAME: u8 = 6;
+pub(crate) const LAST_OF_FRAME: u8 = 6;
 
 /// The CRC delimiter.
 pub(crate) fn crc_delimiter(stance: &Stance, reading: &Reading, seen: Level) -> Entering

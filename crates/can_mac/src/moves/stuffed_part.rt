@@ -1,9 +1,10 @@
 //! The stuffed part of a frame, heard in place. (Bosch CAN 2.0 part B, sections 2, 6, 7.1 and 8)
 
-ghost use Rattle.std.specs.Prelude.{◌≡◌, ◌≢◌, List, length, if◌then◌else◌};
+ghost use Rattle.std.specs.Prelude.{◌≡◌, ◌≢◌, List, length, if◌then◌else◌, false, IsTrue};
 ghost use Rattle.can_frame.specs.declared.level.Level.{Level as Bit};
 ghost use Rattle.can_code.specs.Front.{FrontParts, is_stuff_error, next_place as next_place_of};
 ghost use Rattle.can_mac.specs.Moves.{hears, in_arbitration, part_phase, phase_after, placed, sent_bit_move, stuff_error_move, stuffed_part_move};
+ghost use Rattle.can_mac.specs.declared.moves.Stance.{Stance as Standing};
 ghost use Rattle.can_mac.specs.declared.phase.Phase.TheVariants.{StuffedPart};
 
 use crate::event::{ErrorKind, Event};
@@ -36,6 +37,22 @@ pub(crate) fn stuffed_part<B: FrameBits>(
     }
 }
 
+/// Whether a level of the stuffed part is no error and loses no arbitration, so that it is only heard.
+#[inline]
+pub(crate) fn is_in_order<B: FrameBits>(role: &Role, front: &Front<B>, seen: Level) -> bool
+    requires { next_place_of front.now ≢ Place.CrcDelimiter }
+    ensures heard { IsTrue result → (s : Standing) → s.role ≡ role.now → stuffed_part_move s front.now seen ≡ hears s front.now seen }
+    ensures no_stuff_error { IsTrue result → is_stuff_error front.now seen ≡ false }
+{
+    match (role, front.next_place()) {
+        (_, Place::StuffBit) => seen != front.last(),
+        (Role::Receiver, Place::Bit | Place::CrcDelimiter) => true,
+        (Role::Sender(sending), Place::Bit | Place::CrcDelimiter) => {
+            seen == sending.level_at(front.len())
+        }
+    }
+}
+
 /// Hears a level, which may be a wrong stuff bit.
 fn hear<B: FrameBits>(stance: &Stance, front: &mut Front<B>, seen: Level) -> Hearing
     requires { next_place_of front.old ≢ Place.CrcDelimiter }
@@ -54,7 +71,7 @@ fn hear<B: FrameBits>(stance: &Stance, front: &mut Front<B>, seen: Level) -> Hea
 }
 
 /// Where the stuffed part has ended, what it has told.
-fn end_of_part<B: FrameBits>(front: &Front<B>) -> Option<Phase<NewFrame>>
+pub(crate) fn end_of_part<B: FrameBits>(front: &Front<B>) -> Option<Phase<NewFrame>>
     ensures { phase_after (StuffedPart front.now) result ≡ part_phase front.now }
 {
     match front.next_place() {
