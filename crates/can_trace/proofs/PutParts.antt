@@ -2,7 +2,6 @@
 use Rattle.std.proofs.Common.{◌≡◌, ℕ, List, [], ◌++◌, Option, Result, Ok, Err, refl, sym, ap, subst, ◌∙◌, append_assoc, append-nil}
 use Rattle.std.specs.Result.{OnOk, OnErr}
 use Rattle.std.proofs.KnownBytes.{Appends-trans, Appends-nil}
-use Rattle.std.specs.Io.KnownBytes.{Appends}
 use Rattle.can_trace.specs.Outbox.{PassesOn, TakesFront, Puts}
 use Rattle.can_trace.specs.declared.fault.TraceFault.{TraceFault}
 

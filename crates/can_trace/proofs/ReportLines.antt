@@ -1,12 +1,12 @@
 -- The lines of a report, part by part.
-use Rattle.std.proofs.Common.{◌≡◌, ℕ, ◌+◌, ◌<◌, List, [], ◌∷◌, ◌++◌, length, map, get_or, drop, sym, ap, ◌∙◌, append_assoc}
+use Rattle.std.proofs.Common.{◌≡◌, ℕ, ◌+◌, ◌<◌, List, ◌++◌, length, map, get_or, drop, sym, ap, ◌∙◌, append_assoc}
 use Rattle.std.proofs.lemmas.List.{map-append, at_drop_more}
 use Rattle.std.specs.List.{flat_map}
 use Rattle.can_frame.specs.declared.level.Level.{Level}
 use Rattle.can_node.specs.declared.entry.Entry.{Entry}
 use Rattle.can_node.specs.Ports.{PortState}
 use Rattle.can_trace.specs.Coded.{digit_of}
-use Rattle.can_trace.specs.Report.{PortReport, entry_line, line_end, port_lines, ports_lines, reported}
+use Rattle.can_trace.specs.Report.{entry_line, line_end, port_lines, ports_lines, reported}
 
 -- how the pieces of a port's line are put together
 pub port_parts : (a n b s c t d r e m f : List ℕ) →

@@ -1,17 +1,16 @@
 -- How the run of a scenario begins and ends.
 use Rattle.std.specs.List.{slice_get}
-use Rattle.std.proofs.Common.{◌≡◌, ℕ, zero, suc, ◌+◌, ◌<◌, ◌≤◌, Some, List, [], ◌∷◌, ◌++◌, length, map, get_or, drop, take, refl, sym, ap, ◌∙◌, arith, add-one, length-take}
-use Rattle.std.proofs.lemmas.List.{at_drop_more, at_drop_all, nil_from_length, get_or-take, length-map, map_more, map_push, take_all, take_more}
+use Rattle.std.proofs.Common.{◌≡◌, ℕ, zero, suc, ◌+◌, ◌<◌, ◌≤◌, Some, List, [], ◌∷◌, ◌++◌, length, map, get_or, take, sym, ap, ◌∙◌, arith, length-take}
+use Rattle.std.proofs.lemmas.List.{nil_from_length, get_or-take, length-map, map_more, map_push, take_all, take_more}
 use Rattle.std.proofs.lemmas.Option.{slice_get-get_or, get_or_from_slice_get}
 use Rattle.can_frame.specs.declared.level.Level.{Level}
 use Rattle.can_frame.specs.declared.level.Level.TheVariants.{Recessive}
-use Rattle.can_frame.specs.Parts.{Parts}
 use Rattle.can_code.specs.declared.plain_bits.PlainBits.{PlainBits}
 use Rattle.can_code.specs.contracts.plain_bits.PlainBitsFrameBits.TheImpl as plain_bits
 use Rattle.can_node.specs.declared.node.Node.{Node}
-use Rattle.can_node.specs.Ports.{PortState, offered}
-use Rattle.can_bus.specs.Run.{BusState, bus_level, bus_run}
-use Rattle.can_trace.specs.Report.{all_offered, ended_bus, levels_until, recorded_levels, started_bus, started_port}
+use Rattle.can_node.specs.Ports.{PortState}
+use Rattle.can_bus.specs.Run.{BusState, bus_level}
+use Rattle.can_trace.specs.Report.{levels_until, recorded_levels, started_bus, started_port}
 use Rattle.can_trace.specs.declared.scenario.PortPlan.{PortPlan}
 use Rattle.can_trace.specs.declared.scenario.Scenario.{Scenario}
 

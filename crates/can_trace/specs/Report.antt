@@ -1,5 +1,5 @@
 -- The report of a scenario: what the bus records, and what is told of each port behind the run.
-use Rattle.std.specs.Prelude.{ℕ, zero, suc, ◌+◌, Bool, if◌then◌else◌, List, [], ◌∷◌, ◌++◌, length, map, fold, codes, decimal}
+use Rattle.std.specs.Prelude.{ℕ, zero, suc, ◌+◌, Bool, if◌then◌else◌, List, [], ◌∷◌, ◌++◌, length, map, codes, decimal}
 use Rattle.std.specs.List.{flat_map}
 use Rattle.can_frame.specs.declared.level.Level.{Level}
 use Rattle.can_frame.specs.Parts.{Parts}
@@ -7,7 +7,7 @@ use Rattle.can_frame.specs.Text.{frame_text}
 use Rattle.can_fault.specs.declared.state.State.{State}
 use Rattle.can_fault.specs.declared.state.State.TheVariants.{Active, Passive, BusOff}
 use Rattle.can_fault.specs.Counters.{state_of}
-use Rattle.can_mac.specs.State.{MacState, idle, joining}
+use Rattle.can_mac.specs.State.{idle, joining}
 use Rattle.can_node.specs.declared.entry.Entry.{Entry}
 use Rattle.can_node.specs.Ports.{PortState, fresh_port, offered, port_holding}
 use Rattle.can_bus.specs.Run.{BusState, bus_level, bus_run}
