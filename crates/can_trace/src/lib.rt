@@ -33,6 +33,7 @@
 //! | `lines.rt` | the lines of a source, one after another | `specs/Lines.antt`, `specs/LineReader.antt` |
 //! | `inbox.rt` | the bytes that were read and not used yet | `specs/Inbox.antt` |
 //! | `outbox.rt` | the bytes on their way to a sink, and [`write_all`] | `specs/Outbox.antt` |
+//! | `whole.rt` | [`read_whole`], all that a source tells | |
 //!
 //! `specs/Answering.antt` has what the steps of `encode.rt` promise one another, `specs/Checking.antt`
 //! those of `check.rt`, `specs/Decoding.antt` those of `decode.rt` and `trace.rt`. Of the lemmas,
@@ -70,6 +71,7 @@ mod tests;
 mod trace;
 mod vector;
 mod verdict;
+mod whole;
 
 pub use check::check_lines;
 pub use decode::decode_stream;
@@ -81,3 +83,4 @@ pub use run::run_scenario;
 pub use scenario::{Field, HitList, PortField, PortPlan, Scenario};
 pub use sink::{Sink, ToWrite};
 pub use source::{FromRead, Source};
+pub use whole::read_whole;
