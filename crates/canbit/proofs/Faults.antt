@@ -4,10 +4,10 @@ use Rattle.std.specs.Result.{IsErrOf}
 use Rattle.can_trace.specs.Checked.{ChecksAll}
 use Rattle.can_trace.specs.Told.{Told}
 use Rattle.can_trace.specs.declared.fault.TraceFault.{TraceFault}
-use Rattle.can_trace.specs.declared.fault.TraceFault.TheVariants.{BadByte, Read, Write, Long, FrameLine}
+use Rattle.can_trace.specs.declared.fault.TraceFault.TheVariants.{BadByte, ScenarioField, Read, Write, Memory, Long, FrameLine}
 use Rattle.canbit.specs.declared.fault.RunFault.TheVariants.{Stream}
 use Rattle.canbit.specs.declared.subcommands.Chosen.{Chosen}
-use Rattle.canbit.specs.Answers.{AnswersTooLong, HasBadByte, HasBadLine, PassesAll, RefusesInput}
+use Rattle.canbit.specs.Answers.{AnswersTooLong, HasBadByte, HasBadLine, HasWrongField, PassesAll, RefusesInput}
 use Rattle.canbit.specs.Status.{status_of}
 
 module _ {R W : Type 0} (remaining : R → Option (List ℕ)) (before after : R) (contents : W → Option (List ℕ)) (held holds : W) where
@@ -29,12 +29,15 @@ module _ {R W : Type 0} (remaining : R → Option (List ℕ)) (before after : R)
       → ((place : ℕ) → fault ≡ BadByte place → Says (HasBadByte chosen place))
       → (fault ≡ Long → Says (AnswersTooLong chosen))
       → ((number : ℕ) (text_fault : _) → fault ≡ FrameLine number text_fault → Says (HasBadLine chosen number reader_ended))
+      → ((wrong : _) → fault ≡ ScenarioField wrong → Says (HasWrongField chosen reader_ended))
       → Says (RefusesInput chosen reader_ended)
-  refused chosen reader_ended (BadByte place) is byte long line = weaker _ _ (λ input output h. inl (place, h)) (byte place refl)
-  refused chosen reader_ended Read is byte long line = absurd (omega arith)
-  refused chosen reader_ended Write is byte long line = absurd (omega arith)
-  refused chosen reader_ended Long is byte long line = weaker _ _ (λ input output h. inr (inr (inl h))) (long refl)
-  refused chosen reader_ended (FrameLine number fault) is byte long line = weaker _ _ (λ input output h. inr (inl (number, h))) (line number fault refl)
+  refused chosen reader_ended (BadByte place) is byte long line field = weaker _ _ (λ input output h. inl (place, h)) (byte place refl)
+  refused chosen reader_ended (ScenarioField wrong) is byte long line field = weaker _ _ (λ input output h. inr (inr (inr (inr h)))) (field wrong refl)
+  refused chosen reader_ended Read is byte long line field = absurd (omega arith)
+  refused chosen reader_ended Write is byte long line field = absurd (omega arith)
+  refused chosen reader_ended Memory is byte long line field = absurd (omega arith)
+  refused chosen reader_ended Long is byte long line field = weaker _ _ (λ input output h. inr (inr (inl h))) (long refl)
+  refused chosen reader_ended (FrameLine number fault) is byte long line field = weaker _ _ (λ input output h. inr (inl (number, h))) (line number fault refl)
 
   -- so is that of a byte before which the reader failed
   pub read_told : {T : Type 0} (chosen : Chosen) (fault : TraceFault) → ((place : ℕ) → IsErrOf {T = T} (Err fault) (BadByte place) → Says (HasBadByte chosen place))
@@ -43,6 +46,12 @@ module _ {R W : Type 0} (remaining : R → Option (List ℕ)) (before after : R)
   read_told chosen (BadByte place) byte cause = inr (refl, (place, byte place refl))
   read_told chosen Read byte cause = inl refl
   read_told chosen Write byte cause = inl refl
+  read_told chosen (ScenarioField wrong) byte (inl read) = cc
+  read_told chosen (ScenarioField wrong) byte (inr (inl write)) = cc
+  read_told chosen (ScenarioField wrong) byte (inr (inr at)) = let e = at.1 in cc
+  read_told chosen Memory byte (inl read) = cc
+  read_told chosen Memory byte (inr (inl write)) = cc
+  read_told chosen Memory byte (inr (inr at)) = let e = at.1 in cc
   read_told chosen Long byte (inl read) = cc
   read_told chosen Long byte (inr (inl write)) = cc
   read_told chosen Long byte (inr (inr at)) = let e = at.1 in cc

@@ -11,7 +11,7 @@ use Rattle.clap.specs.Simple.{subcommand_rows}
 use Rattle.std.specs.Box.{box_value}
 use Rattle.clap.proofs.OnLiterals.{clap_on_literals}
 use Rattle.canbit.specs.declared.subcommands.Chosen.{Chosen}
-use Rattle.canbit.specs.declared.subcommands.Chosen.TheVariants.{Encode, Decode, Check}
+use Rattle.canbit.specs.declared.subcommands.Chosen.TheVariants.{Encode, Decode, Run, Check}
 use Rattle.canbit.specs.Subcommands.{canbit, name_of}
 use Rattle.canbit.specs.Words.{AsksFor, IsMisuse, faults_in, named_in}
 use Rattle.canbit.proofs.Walks.{subcommand_named}
@@ -37,12 +37,14 @@ alone_taken : (name : Text) (chosen : Chosen) → fault_of canbit (name ∷ name
 unfolding clap_on_literals
 alone_taken name Encode = refl
 alone_taken name Decode = refl
+alone_taken name Run = refl
 alone_taken name Check = refl
 
 alone_named : (name : Text) (chosen : Chosen) → named_in (name ∷ name_of chosen ∷ []) ≡ Some (name_of chosen)
 unfolding clap_on_literals
 alone_named name Encode = refl
 alone_named name Decode = refl
+alone_named name Run = refl
 alone_named name Check = refl
 
 no_memory : (kinds : Kinds) (e : Error) → HasKind kinds e → kinds ≡ [] → kind_of e ≡ OutOfMemory

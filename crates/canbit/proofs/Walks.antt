@@ -11,7 +11,7 @@ use Rattle.clap.specs.Lexer.{long_of, short_of}
 use Rattle.clap.specs.Simple.{Shape, argument_words, built, entered, label_of, names_of, rows_at, subcommand_of}
 use Rattle.clap.specs.Walk.{Held, Names, Outcome, Row, Rule, Step, Text, Waiting, Walk, after_flag, after_step, answers_to, arg_by_index, done, finished, idle, long_or_other, next, nothing_held, option, plain, plain_word, positional, refused, settled, short_or_plain, stop_after, subcommand, subcommand_met, subcommand_or_other, to_positional, trailing, value, waits, walk, walk_from, walked, walked_from, word_met}
 use Rattle.canbit.specs.declared.subcommands.Chosen.{Chosen}
-use Rattle.canbit.specs.declared.subcommands.Chosen.TheVariants.{Encode, Decode, Check}
+use Rattle.canbit.specs.declared.subcommands.Chosen.TheVariants.{Encode, Decode, Run, Check}
 use Rattle.canbit.specs.Subcommands.{canbit, name_of}
 
 -- no kinds come only of two empty lists
@@ -140,7 +140,7 @@ entered_named name words (s ∷ subs) known other some =
 
 -- the subcommands of the command as built
 known_subcommands : AllByRecursion IsKnown (built canbit).subs
-known_subcommands = ((refl, inl (Encode, refl)), ((refl, inl (Decode, refl)), ((refl, inl (Check, refl)), ((refl, inr refl), tt))))
+known_subcommands = ((refl, inl (Encode, refl)), ((refl, inl (Decode, refl)), ((refl, inl (Run, refl)), ((refl, inl (Check, refl)), ((refl, inr refl), tt)))))
 
 -- the last checks find a missing subcommand
 required : (s : Shape) (rows : List Row) (has_subcommand : Bool) → s.subcommand_required ≡ true → check_fault s rows has_subcommand ≡ [] → has_subcommand ≡ true

@@ -3,16 +3,17 @@ use Rattle.std.specs.Prelude.{List, [], ◌∷◌, codes, fold, true}
 use Rattle.clap.specs.Words.{App, Text, new_app, with_subcommand}
 use Rattle.clap.specs.Simple.{on_top, new_shape}
 use Rattle.canbit.specs.declared.subcommands.Chosen.{Chosen}
-use Rattle.canbit.specs.declared.subcommands.Chosen.TheVariants.{Encode, Decode, Check}
+use Rattle.canbit.specs.declared.subcommands.Chosen.TheVariants.{Encode, Decode, Run, Check}
 
 -- every subcommand, in the order of the help text
 abbrev pub subcommands : List Chosen
-subcommands = Encode ∷ Decode ∷ Check ∷ []
+subcommands = Encode ∷ Decode ∷ Run ∷ Check ∷ []
 
 -- the word that names it
 abbrev pub name_of : Chosen → Text
 name_of Encode = codes "encode"
 name_of Decode = codes "decode"
+name_of Run = codes "run"
 name_of Check = codes "check"
 
 -- the command named canbit, which requires a subcommand

@@ -8,6 +8,7 @@ ghost use Rattle.canbit.specs.Subcommands.{name_of};
 ghost use Rattle.canbit.specs.Words.{AsksFor, AsksForHelp, AsksForOne, IsMisuse, texts_of};
 
 use crate::fault::RunFault;
+use crate::run::run;
 use crate::subcommands::Chosen;
 use crate::words::{WordFault, chosen};
 use arrayvec::ArrayString;
@@ -25,11 +26,11 @@ const LINE_ROOM: usize = 80;
 /// | Status | Line | Why |
 /// |---|---|---|
 /// | 0 | none | all was done |
-/// | 1 | `canbit: P1 byte 3`, `canbit: P6 long`, `canbit: P7 line 2 X4 at 9` | the input is refused |
+/// | 1 | `canbit: P1 byte 3`, `canbit: P2 port[0].log`, `canbit: P6 long`, `canbit: P7 line 2 X4 at 9` | the input is refused |
 /// | 1 | `canbit: vectors differ` | all was checked, and not all vectors passed |
 /// | 2 | `canbit: usage` | the words are refused |
 /// | 3 | `canbit: P3 read`, `canbit: P4 write` | `r` or `w` failed |
-/// | 4 | `canbit: P5 memory` | memory ran out in reading the words |
+/// | 4 | `canbit: P5 memory` | memory ran out, in reading the words or in `run` |
 pub fn execute<R: Source, W: Sink, E: Sink>(
     alloc: Global,
     words: &[String],
@@ -74,11 +75,13 @@ pub fn execute<R: Source, W: Sink, E: Sink>(
 
     // Nothing else is read or written.
     ensures only_subcommands_read { AsksForOne (texts_of words.now) ⊎ (r.new ≡ r.old) }
-    ensures untouched { (result ≡ 2) ⊎ (result ≡ 4) → (r.new ≡ r.old) × (w.new ≡ w.old) }
+    ensures untouched { result ≡ 2 → (r.new ≡ r.old) × (w.new ≡ w.old) }
+    ensures unwritten { result ≡ 4 → w.new ≡ w.old }
+    ensures unread { result ≡ 4 → (r.new ≡ r.old) ⊎ AsksFor Chosen.Run (texts_of words.now) }
     ensures no_fault_line { result ≡ 0 → e.new ≡ e.old }
 {
     match chosen(alloc, words) {
-        Ok(chosen) => conclude(answer(chosen, r, w), e),
+        Ok(chosen) => conclude(answer(alloc, chosen, r, w), e),
         Err(WordFault::Help(text)) => conclude(help(text.as_str(), w), e),
         Err(WordFault::Usage) => refuse(RunFault::Usage, e),
         Err(WordFault::Memory) => refuse(RunFault::Memory, e),
@@ -86,7 +89,12 @@ pub fn execute<R: Source, W: Sink, E: Sink>(
 }
 
 /// Does what the subcommand asks.
-fn answer<R: Source, W: Sink>(chosen: Chosen, r: &mut R, w: &mut W) -> Result<(), RunFault>
+fn answer<R: Source, W: Sink>(
+    alloc: Global,
+    chosen: Chosen,
+    r: &mut R,
+    w: &mut W,
+) -> Result<(), RunFault>
     requires reader_unfailed { R.has_failed r.old ≡ false }
     requires reader_unended { R.has_ended r.old ≡ false }
     requires writer_unfailed { W.has_failed w.old ≡ false }
@@ -104,11 +112,14 @@ fn answer<R: Source, W: Sink>(chosen: Chosen, r: &mut R, w: &mut W) -> Result<()
     ensures read_told { IsTrue (R.has_failed r.new) → (exit_status result ≡ 3)
         ⊎ ((exit_status result ≡ 1) × ((place : ℕ)
         × Told R.remaining r.old r.new W.contents w.old w.new (HasBadByte chosen place))) }
-    ensures no_other { (exit_status result ≢ 2) × (exit_status result ≢ 4) }
+    ensures no_misuse { exit_status result ≢ 2 }
+    ensures unwritten { exit_status result ≡ 4 → w.new ≡ w.old }
+    ensures memory { exit_status result ≡ 4 → chosen ≡ Chosen.Run }
 {
     match chosen {
         Chosen::Encode => Ok(encode_lines(r, w)?),
         Chosen::Decode => Ok(decode_stream(r, w)?),
+        Chosen::Run => Ok(run(alloc, r, w)?),
         Chosen::Check => {
             let (passed, count) = check_lines(r, w)?;
             if passed == count {

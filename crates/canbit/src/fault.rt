@@ -14,10 +14,10 @@ pub enum RunFault {
     /// Not all vectors have the levels of their frames.
     #[error("vectors differ")]
     VectorsDiffer,
-    /// Memory ran out.
+    /// Memory ran out in reading the words.
     #[error("P5 memory")]
     Memory,
-    /// The input was not read or is refused, or the answer was not written.
+    /// The input was not read or is refused, the answer was not written, or memory ran out.
     #[error(transparent)]
     Stream(TraceFault),
 }
@@ -40,11 +40,14 @@ impl RunFault {
         match self {
             RunFault::VectorsDiffer
             | RunFault::Stream(
-                TraceFault::BadByte { .. } | TraceFault::Long | TraceFault::FrameLine { .. },
+                TraceFault::BadByte { .. }
+                | TraceFault::ScenarioField(_)
+                | TraceFault::Long
+                | TraceFault::FrameLine { .. },
             ) => 1,
             RunFault::Usage => 2,
             RunFault::Stream(TraceFault::Read | TraceFault::Write) => 3,
-            RunFault::Memory => 4,
+            RunFault::Memory | RunFault::Stream(TraceFault::Memory) => 4,
         }
     }
 }

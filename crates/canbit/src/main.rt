@@ -1,11 +1,12 @@
-//! The command `canbit`: it codes, decodes and checks frames of a classical CAN bus, from standard
-//! input to standard output.
+//! The command `canbit`: it codes, decodes and checks frames of a classical CAN bus, and runs scenarios,
+//! from standard input to standard output.
 //!
 //! - `subcommands.rt`: the table of subcommands.
 //! - `words.rt`: which of them the words of a command line name, as `clap` reads them. The contract of
 //!   `chosen` says it by `clap`'s definition of a simple command, without the parser.
 //! - `execute.rt`: what a run does over any reader and writers, its fault line and its exit status.
 //!   The contract of `execute` says for each status what was read and written.
+//! - `run.rt`: reading a scenario, running it, writing its report.
 //! - `fault.rt`: the faults, their texts and statuses.
 //!
 //! That `main` joins `execute` to the process's words and standard streams is only tested.
@@ -13,6 +14,7 @@
 
 mod execute;
 mod fault;
+mod run;
 mod subcommands;
 #[cfg(test)]
 mod tests;

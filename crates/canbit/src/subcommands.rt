@@ -9,13 +9,15 @@ pub enum Chosen {
     Encode,
     /// Trace text in, a line for each frame and each fault out.
     Decode,
+    /// A scenario in, its report out.
+    Run,
     /// Vector lines in, a verdict for each out, and their total.
     Check,
 }
 
 impl Chosen {
     /// Every subcommand, in the order of the help text.
-    pub const ALL: [Chosen; 3] = [Chosen::Encode, Chosen::Decode, Chosen::Check];
+    pub const ALL: [Chosen; 4] = [Chosen::Encode, Chosen::Decode, Chosen::Run, Chosen::Check];
 
     /// The word that names it.
     pub fn name(self) -> &'static str
@@ -24,6 +26,7 @@ impl Chosen {
         match self {
             Chosen::Encode => "encode",
             Chosen::Decode => "decode",
+            Chosen::Run => "run",
             Chosen::Check => "check",
         }
     }
@@ -33,6 +36,7 @@ impl Chosen {
         match self {
             Chosen::Encode => "Writes the levels of each frame line",
             Chosen::Decode => "Writes the frames and faults of a trace of levels",
+            Chosen::Run => "Runs a scenario and writes its report",
             Chosen::Check => "Tells of each vector line whether its levels are its frame's",
         }
     }

@@ -47,7 +47,7 @@ fn command<'a>(alloc: Global) -> Result<Command<'a>, AllocError>
     ensures { IfOk result (λ command. app_of command ≡ canbit) }
 {
     let mut command = Command::new(alloc, "canbit")
-        .about("Codes, decodes and checks frames of a classical CAN bus")
+        .about("Codes, decodes and checks frames of a classical CAN bus, and runs scenarios")
         .subcommand_required(true);
     for chosen in Chosen::ALL {
         command = command.subcommand(subcommand(alloc, chosen))?;

@@ -49,7 +49,7 @@ fn help_is_the_text_of_the_crate(rt: HostRuntime) -> Result<(), Fail> {
         return Err(Fail::from("no help"));
     };
     assert!(rt; text.as_str().contains("Usage: canbit <COMMAND>"), "{text}");
-    for name in ["encode", "decode", "check"] {
+    for name in ["encode", "decode", "run", "check"] {
         assert!(rt; text.as_str().contains(name), "{text}");
     }
     Ok(())
