@@ -13,6 +13,7 @@ mod decode;
 mod scenario;
 mod hits;
 mod run;
+mod whole;
 
 /// The line of levels of `S 000 D 0`.
 const S000: &[u8] = b"00000100000100000100000100000100000100001111111111\n";

@@ -16,7 +16,7 @@ use can_trace::{Sink, Source, check_lines, decode_stream, encode_lines, write_al
 use std::alloc::Global;
 use std::fmt::Write;
 
-/// The room for a fault's line, in bytes. The longest has two numbers of 20 digits, and 64 bytes.
+/// The room for a fault's line, in bytes. The longest has two numbers of 20 digits, and 66 bytes.
 const LINE_ROOM: usize = 80;
 
 /// Does what the words ask, and answers the exit status. It reads the words first, of which the first

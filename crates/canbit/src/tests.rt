@@ -1,5 +1,7 @@
 //! Tables of runs, over streams that give and take bytes as a test says.
 mod execute;
+mod run;
+mod streams;
 mod words;
 
 use std::alloc::{AllocError, Global};

@@ -1,117 +1,11 @@
-use super::command_line;
-use crate::execute::{execute, refuse};
+//! Runs of `encode`, `decode` and `check`, of help and of misuse.
+use super::streams::{
+    ALL, Script, Tape, executed, expect_failing, expect_run, expect_whatever_the_pieces,
+};
+use crate::execute::refuse;
 use crate::fault::RunFault;
-use can_trace::{FromRead, ToWrite, TraceFault};
-use std::alloc::Global;
-use std::io::{self, ErrorKind, Read, Write};
-use std::process::Abort;
+use can_trace::{Field, PortField, ToWrite, TraceFault};
 use std::test::Fail;
-
-/// More bytes than any test reads or writes.
-const ALL: usize = 100_000;
-
-/// A reader that gives at most `step` bytes at a time, and fails or ends behind the last.
-#[derive(Drop)]
-struct Script<'a> {
-    rest: &'a [u8],
-    step: usize,
-    fails: bool,
-}
-
-impl<'a> Script<'a> {
-    fn new(text: &'a str, step: usize, fails: bool) -> Script<'a> {
-        Script {
-            rest: text.as_bytes(),
-            step,
-            fails,
-        }
-    }
-}
-
-impl Read for Script<'_> {
-    fn read(&mut self, buf: &mut [u8]) -> io::Result<usize> {
-        if self.rest.is_empty() && self.fails {
-            return Err(io::Error::from(ErrorKind::BrokenPipe));
-        }
-        let count = self.step.min(self.rest.len()).min(buf.len());
-        let (front, rest) = self.rest.split_at(count);
-        buf[..count].copy_from_slice(front);
-        self.rest = rest;
-        Ok(count)
-    }
-}
-
-/// A writer that takes at most `step` bytes at a time, and fails once it holds `room`.
-#[derive(Drop)]
-struct Tape {
-    bytes: Vec<u8>,
-    step: usize,
-    room: usize,
-}
-
-impl Write for Tape {
-    fn write(&mut self, buf: &[u8]) -> io::Result<usize> {
-        let left = self.room.saturating_sub(self.bytes.len());
-        if left == 0 {
-            return Err(io::Error::from(ErrorKind::BrokenPipe));
-        }
-        let count = self.step.min(left).min(buf.len());
-        self.bytes.extend_from_slice(&buf[..count])?;
-        Ok(count)
-    }
-
-    fn flush(&mut self) -> io::Result<()> {
-        Ok(())
-    }
-}
-
-impl Tape {
-    fn new(alloc: Global, step: usize, room: usize) -> Tape {
-        Tape {
-            bytes: Vec::new(alloc),
-            step,
-            room,
-        }
-    }
-}
-
-/// What a run left: its exit status, its output, and what it told of its fault.
-#[derive(Drop)]
-struct Run {
-    status: u8,
-    output: String,
-    fault: String,
-}
-
-/// The run of the program on these words and streams.
-fn executed(
-    alloc: Global,
-    words: &[&str],
-    input: Script<'_>,
-    mut output: Tape,
-    mut errors: Tape,
-) -> Result<Run, Fail> {
-    let all = command_line(alloc, words)?;
-    let status = execute(
-        alloc,
-        all.as_slice(),
-        &mut FromRead::new(input),
-        &mut ToWrite::new(&mut output),
-        &mut ToWrite::new(&mut errors),
-    );
-    Ok(Run {
-        status,
-        output: String::from_utf8(output.bytes)?,
-        fault: String::from_utf8(errors.bytes)?,
-    })
-}
-
-/// Stops the test unless the run left this.
-fn expect_run(rt: &impl Abort, run: &Run, status: u8, output: &str, fault: &str) {
-    assert_eq!(rt; run.output.as_str(), output);
-    assert_eq!(rt; run.fault.as_str(), fault);
-    assert_eq!(rt; run.status, status);
-}
 
 const LINE_000: &str = "00000100000100000100000100000100000100001111111111\n";
 
@@ -123,27 +17,6 @@ const VECTORS: &str = "\
 S 001 D 0 = 00000100000101000001000100010000100111111111111
 S 001 D 0 = 00000100000101000001000100010000100111011111111
 ";
-
-/// Input, and then the status, the output and the fault line that a run leaves.
-type Row<'a> = (&'a str, u8, &'a str, &'a str);
-
-/// Stops the test unless each row holds, however the input is cut and however few bytes a write takes.
-fn expect_whatever_the_pieces(
-    rt: &impl Abort,
-    alloc: Global,
-    words: &[&str],
-    rows: &[Row<'_>],
-) -> Result<(), Fail> {
-    for (input, status, output, fault) in rows {
-        for step in [1, 7, ALL] {
-            let script = Script::new(input, step, false);
-            let tape = Tape::new(alloc, step, ALL);
-            let run = executed(alloc, words, script, tape, Tape::new(alloc, step, ALL))?;
-            expect_run(rt, &run, *status, output, fault);
-        }
-    }
-    Ok(())
-}
 
 #[test]
 fn encode_answers_whatever_the_pieces(rt: HostRuntime) -> Result<(), Fail> {
@@ -226,27 +99,6 @@ fn misuse_is_told(rt: HostRuntime) -> Result<(), Fail> {
     Ok(())
 }
 
-/// Input, whether the reader fails behind it, the room of the writer, and then what a run leaves.
-type FailingRow<'a> = (&'a str, bool, usize, u8, &'a str, &'a str);
-
-/// Stops the test unless each row holds, however the input is cut.
-fn expect_failing(
-    rt: &impl Abort,
-    alloc: Global,
-    words: &[&str],
-    rows: &[FailingRow<'_>],
-) -> Result<(), Fail> {
-    for (input, fails, room, status, output, fault) in rows {
-        for step in [1, ALL] {
-            let script = Script::new(input, step, *fails);
-            let tape = Tape::new(alloc, step, *room);
-            let run = executed(alloc, words, script, tape, Tape::new(alloc, step, ALL))?;
-            expect_run(rt, &run, *status, output, fault);
-        }
-    }
-    Ok(())
-}
-
 #[test]
 fn a_failing_stream_ends_encoding(rt: HostRuntime) -> Result<(), Fail> {
     let read = "canbit: P3 read\n";
@@ -323,13 +175,19 @@ fn a_lost_fault_line_changes_nothing(rt: HostRuntime) -> Result<(), Fail> {
 
 #[test]
 fn each_fault_has_a_line_and_a_status(rt: HostRuntime) -> Result<(), Fail> {
+    let log = TraceFault::ScenarioField(Field::Port {
+        number: 0,
+        part: PortField::Log,
+    });
     let rows = [
+        (RunFault::Stream(log), 1, "canbit: P2 port[0].log\n"),
         (RunFault::Stream(TraceFault::Long), 1, "canbit: P6 long\n"),
         (RunFault::VectorsDiffer, 1, "canbit: vectors differ\n"),
         (RunFault::Usage, 2, "canbit: usage\n"),
         (RunFault::Stream(TraceFault::Read), 3, "canbit: P3 read\n"),
         (RunFault::Stream(TraceFault::Write), 3, "canbit: P4 write\n"),
         (RunFault::Memory, 4, "canbit: P5 memory\n"),
+        (RunFault::Stream(TraceFault::Memory), 4, "canbit: P5 memory\n"),
     ];
     for (fault, status, line) in rows {
         let mut errors = ToWrite::new(Tape::new(rt.alloc(), ALL, ALL));

@@ -1,0 +1,106 @@
+//! Runs of `run`.
+use super::streams::{ALL, expect_failing, expect_whatever_the_pieces};
+use std::test::Fail;
+
+/// Two ports, each with a frame, of which the second's goes first.
+const TWO_PORTS: &str = "\
+version = 1
+bits = 103
+[[port]]
+queue = [\"S 001 D 0\"]
+[[port]]
+queue = [\"S 000 D 0\"]
+";
+
+/// Their report: both frames acknowledged, and after each an intermission of three levels.
+const TWO_REPORTS: &str = "\
+bits 103
+0000010000010000010000010000010000010000101111111111100000100000101000001000100010000100111011111111111
+port 0 active tec 0 rec 0 missed 0
+  took S 000 D 0
+  sent S 001 D 0
+port 1 active tec 0 rec 0 missed 0
+  sent S 000 D 0
+  took S 001 D 0
+";
+
+/// The report of a port alone that sends nothing.
+const ONE_REPORT: &str = "\
+bits 103
+1111111111111111111111111111111111111111111111111111111111111111111111111111111111111111111111111111111
+port 0 active tec 0 rec 0 missed 0
+";
+
+#[test]
+fn scenarios_are_reported_whatever_the_pieces(rt: HostRuntime) -> Result<(), Fail> {
+    let rows = [
+        (TWO_PORTS, 0, TWO_REPORTS, ""),
+        // The same, cut after its first port.
+        ("version = 1\nbits = 103\n[[port]]\n", 0, ONE_REPORT, ""),
+        (
+            "version = 1\nbits = 0\n[[port]]\n",
+            0,
+            "bits 0\n\nport 0 active tec 0 rec 0 missed 0\n",
+            "",
+        ),
+    ];
+    expect_whatever_the_pieces(&rt, rt.alloc(), &["run"], &rows)
+}
+
+#[test]
+fn wrong_scenarios_are_refused_whatever_the_pieces(rt: HostRuntime) -> Result<(), Fail> {
+    let rows = [
+        ("", 1, "", "canbit: P2 version\n"),
+        ("version = 1\nbits 5\n", 1, "", "canbit: P2 toml\n"),
+        ("version = 1\nbits = 5\n", 1, "", "canbit: P2 port\n"),
+        (
+            "version = 2\nbits = 5\n[[port]]\n",
+            1,
+            "",
+            "canbit: P2 version\n",
+        ),
+        (
+            "version = 1\nbits = 5\n[[port]]\nqueue = [\"S 800 D 0\"]\n",
+            1,
+            "",
+            "canbit: P2 port[0].queue[0]\n",
+        ),
+        (
+            "version = 1\nbits = 5\nview = [[0, 1]]\n[[port]]\n",
+            1,
+            "",
+            "canbit: P2 view[0]\n",
+        ),
+        // The first scenario, cut after a line or within one.
+        ("version = 1\n", 1, "", "canbit: P2 bits\n"),
+        ("version = 1\nbits = 1", 1, "", "canbit: P2 port\n"),
+        ("version = 1\nbits = 103\n", 1, "", "canbit: P2 port\n"),
+    ];
+    expect_whatever_the_pieces(&rt, rt.alloc(), &["run"], &rows)
+}
+
+#[test]
+fn a_failing_reader_ends_running(rt: HostRuntime) -> Result<(), Fail> {
+    let read = "canbit: P3 read\n";
+    let rows = [
+        ("", true, ALL, 3, "", read),
+        (TWO_PORTS, true, ALL, 3, "", read),
+        // What was read would be refused.
+        ("version = 1\n", true, ALL, 3, "", read),
+        ("version = 1\n", true, 0, 3, "", read),
+    ];
+    expect_failing(&rt, rt.alloc(), &["run"], &rows)
+}
+
+#[test]
+fn a_failing_writer_ends_running(rt: HostRuntime) -> Result<(), Fail> {
+    let write = "canbit: P4 write\n";
+    for room in [0, 1, 8, 9, 112, 113, TWO_REPORTS.len() - 1] {
+        let front = TWO_REPORTS.get(..room).ok_or("a longer report")?;
+        let rows = [(TWO_PORTS, false, room, 3, front, write)];
+        expect_failing(&rt, rt.alloc(), &["run"], &rows)?;
+    }
+    // Where nothing is to be written, the writer isn't asked.
+    let refused = [("version = 1\n", false, 0, 1, "", "canbit: P2 bits\n")];
+    expect_failing(&rt, rt.alloc(), &["run"], &refused)
+}
