@@ -187,7 +187,11 @@ fn each_fault_has_a_line_and_a_status(rt: HostRuntime) -> Result<(), Fail> {
         (RunFault::Stream(TraceFault::Read), 3, "canbit: P3 read\n"),
         (RunFault::Stream(TraceFault::Write), 3, "canbit: P4 write\n"),
         (RunFault::Memory, 4, "canbit: P5 memory\n"),
-        (RunFault::Stream(TraceFault::Memory), 4, "canbit: P5 memory\n"),
+        (
+            RunFault::Stream(TraceFault::Memory),
+            4,
+            "canbit: P5 memory\n",
+        ),
     ];
     for (fault, status, line) in rows {
         let mut errors = ToWrite::new(Tape::new(rt.alloc(), ALL, ALL));
