@@ -1,5 +1,5 @@
 -- What the readers of a document's values answer.
-use Rattle.std.proofs.Common.{◌≡◌, ℕ, Bool, List, [], ◌∷◌, ◌&&◌, ◌||◌, map, Option, Some, None, String, Global, Bor, BTreeMap, string_bytes, bytes_eq, refl, ap, sym, ◌∙◌, length}
+use Rattle.std.proofs.Common.{◌≡◌, ℕ, List, [], ◌∷◌, ◌&&◌, map, Some, String, Global, Bor, string_bytes, bytes_eq, refl, ap, sym, ◌∙◌, length}
 use Rattle.std.proofs.lemmas.Map.Text.{is_eq-slice_cmp}
 use Rattle.std.proofs.lemmas.Option.{same_Some, none-some}
 use Rattle.std.proofs.lemmas.Iterator.{YieldsList}

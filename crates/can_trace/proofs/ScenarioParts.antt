@@ -5,7 +5,7 @@ use Rattle.can_frame.specs.Parts.{Parts}
 use Rattle.can_trace.specs.declared.fault.TraceFault.{TraceFault}
 use Rattle.can_trace.specs.declared.scenario.PortPlan.{PortPlan}
 use Rattle.can_trace.specs.declared.scenario.field.Field.{Field}
-use Rattle.can_trace.specs.Scenarios.{Demands, followed, AllMet, IsFirstUnmet, IsRequired, IsPortArray, ArePaired, are_known, elements_in, port_demands, port_fields, ports_demands, ports_in, named, queue_demands, room_demands, hits_demands, scenario_demands, top_demands, usual_log_room, SaysFrame, SaysNumber, SaysPort, SaysWhether}
+use Rattle.can_trace.specs.Scenarios.{AllMet, IsFirstUnmet, IsRequired, IsPortArray, ArePaired, are_known, elements_in, port_demands, port_fields, ports_demands, ports_in, named, queue_demands, room_demands, hits_demands, scenario_demands, top_demands, usual_log_room, SaysFrame, SaysNumber, SaysPort, SaysWhether}
 use Rattle.can_trace.proofs.DemandLemmas.{met-followed, unmet-first, unmet-later}
 
 -- ---- a port

@@ -1,5 +1,5 @@
 -- Scenarios: what a document has to meet, in the order in which it is tested, and which scenario it says.
-use Rattle.std.specs.Prelude.{◌≡◌, ◌⊎◌, ℕ, suc, ◌+◌, ◌≤◌, pos, Bool, true, false, ◌&&◌, List, [], ◌∷◌, ◌++◌, length, Option, Some, None, codes, IsUtf8}
+use Rattle.std.specs.Prelude.{◌≡◌, ◌⊎◌, ℕ, ◌+◌, ◌≤◌, pos, Bool, true, false, ◌&&◌, List, [], ◌∷◌, ◌++◌, length, Option, Some, None, codes, IsUtf8}
 use Rattle.std.specs.List.{list_any}
 use Rattle.toml.specs.Data.{Data, string, integer, boolean, array, table, Items, no_items, item, Members, no_members, member, get_member, same_key}
 use Rattle.toml.specs.Parse.{parse_document}
@@ -14,7 +14,6 @@ use Rattle.can_trace.specs.declared.scenario.Scenario.{Scenario}
 use Rattle.can_trace.specs.declared.scenario.PortPlan.{PortPlan}
 use Rattle.can_trace.specs.declared.scenario.field.Field.{Field}
 use Rattle.can_trace.specs.declared.scenario.field.Field.TheVariants as field
-use Rattle.can_trace.specs.declared.scenario.field.PortField.{PortField}
 use Rattle.can_trace.specs.declared.scenario.field.PortField.TheVariants as of_port
 use Rattle.can_trace.specs.declared.scenario.field.HitList.{HitList}
 use Rattle.can_trace.specs.declared.scenario.field.HitList.TheVariants.{At, In, View}

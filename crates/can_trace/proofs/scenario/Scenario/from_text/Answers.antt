@@ -1,8 +1,8 @@
-use Rattle.std.proofs.Common.{◌≡◌, ◌≤◌, ℕ, length, map, subst, sym, ap, ◌∙◌, inr, codes, arith, rules}
+use Rattle.std.proofs.Common.{◌≡◌, ◌≤◌, ℕ, length, map, subst, sym, ap, ◌∙◌, inr, codes, rules}
 use Rattle.can_bus.specs.Hits.{AreTaken}
 use Rattle.toml.specs.Data.{Data, table}
 use Rattle.toml.specs.View.{view, table_view}
-use Rattle.can_trace.specs.Scenarios.{elements_in, hits_demands, named, ports_demands, ports_in, top_demands, AllMet, ArePaired, IsFirstUnmet, IsNumber, IsRequired, SaysPort}
+use Rattle.can_trace.specs.Scenarios.{hits_demands, named, ports_demands, ports_in, top_demands, AllMet, IsFirstUnmet, IsNumber, IsRequired, SaysPort}
 use Rattle.can_trace.proofs.ScenarioParts.{ports-unmet, hits-unmet, scenario-met, length-paired, port-count}
 use Rattle.can_trace.proofs.scenario.Scenario.from_text.Goals as goal
 

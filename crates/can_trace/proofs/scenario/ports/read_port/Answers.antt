@@ -1,7 +1,7 @@
 use Rattle.std.proofs.Common.{◌≡◌, true, rules}
 use Rattle.toml.specs.Data.{Members, table}
 use Rattle.toml.specs.View.{view, table_view}
-use Rattle.can_trace.specs.Scenarios.{are_known, port_fields, queue_demands, room_demands, AllMet, IsFirstUnmet}
+use Rattle.can_trace.specs.Scenarios.{are_known, port_fields, queue_demands, IsFirstUnmet}
 use Rattle.can_trace.proofs.ScenarioParts.{queue-unmet, room-unmet, port-met-by, port-said-by}
 use Rattle.can_trace.proofs.scenario.ports.read_port.Goals as goal
 
