@@ -26,3 +26,4 @@ pub mod OneDecoding
 pub mod OneVerdict
 pub mod Rows
 pub mod DemandLemmas
+pub mod QuietReports
