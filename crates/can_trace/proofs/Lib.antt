@@ -34,3 +34,4 @@ pub mod HitLemmas
 pub mod PutParts
 pub mod ReportLines
 pub mod Started
+pub mod QuietReports
