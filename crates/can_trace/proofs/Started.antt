@@ -8,7 +8,7 @@ use Rattle.can_frame.specs.declared.level.Level.TheVariants.{Recessive}
 use Rattle.can_code.specs.declared.plain_bits.PlainBits.{PlainBits}
 use Rattle.can_code.specs.contracts.plain_bits.PlainBitsFrameBits.TheImpl as plain_bits
 use Rattle.can_node.specs.declared.node.Node.{Node}
-use Rattle.can_node.specs.Ports.{PortState}
+use Rattle.can_node.specs.Ports.{PortState, IsPort}
 use Rattle.can_bus.specs.Run.{BusState, bus_level}
 use Rattle.can_trace.specs.Report.{levels_until, recorded_levels, started_bus, started_port}
 use Rattle.can_trace.specs.declared.scenario.PortPlan.{PortPlan}
@@ -17,6 +17,10 @@ use Rattle.can_trace.specs.declared.scenario.Scenario.{Scenario}
 -- what a contract sees of a port with memory of its own
 abbrev pub node_port : Node PlainBits plain_bits.ghosts → PortState
 node_port n = record { mac = n.mac; queue = n.queue.frames.items; queue_room = n.queue.room; log = n.log.entries.items; log_room = n.log.room; missed = n.log.missed }
+
+-- it is a port
+pub node-valid : (n : Node PlainBits plain_bits.ghosts) → IsPort (node_port n)
+node-valid n = record { mac = n.kept; queued = n.queue.are_frames; logged = n.log.are_frames; queue_fits = n.queue.fits; log_fits = n.log.fits; missed_fits = n.log.counted }
 
 -- one port more is made
 pub started-next : {N : Type 0} (port : N → PortState) (nodes : List N) (plans : List PortPlan) (n : ℕ) (node : N) (plan : PortPlan) → n < length plans →

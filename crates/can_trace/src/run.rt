@@ -1,7 +1,9 @@
 //! A scenario that is run.
 ghost use Rattle.std.specs.Prelude.{◌≡◌, ◌+◌, ◌≤◌, ◌⊎◌, ◌↔◌, false, length, map, IsTrue, IsErrOf, IfErr, IfOk, OnOk};
 ghost use Rattle.std.specs.Io.KnownBytes.{Appends};
+ghost use Rattle.can_bus.specs.Quiet.{span};
 ghost use Rattle.can_trace.specs.Outbox.{TakesFront};
+ghost use Rattle.can_trace.specs.QuietReport.{IsQuietScenario, all_frames, queues, quiet_report};
 ghost use Rattle.can_trace.specs.Report.{all_offered, ended_bus, recorded_levels, report, started_port as started_port_of};
 
 use crate::fault::TraceFault;
@@ -24,6 +26,10 @@ use std::alloc::{AllocError, Global};
 ///
 /// All memory is taken before the first byte is written: after `Memory` nothing has been. After `Write` a
 /// beginning of the report has been written, and the writer is not tried again. There is no other fault.
+///
+/// Of a quiet scenario that runs for as long as its frames take, the report is told by its frames, which port
+/// held which, and the number of bit times: the levels are those of the frames in the order of arbitration, and
+/// each port has them all in its log.
 pub fn run_scenario<W: Sink>(
     alloc: Global,
     scenario: &Scenario,
@@ -35,6 +41,8 @@ pub fn run_scenario<W: Sink>(
     ensures memory { IsErrOf result TraceFault.Memory → w.new ≡ w.old }
     ensures other { IfErr result (λ fault. (fault ≡ TraceFault.Write) ⊎ (fault ≡ TraceFault.Memory)) }
     ensures write_failed { IsErrOf result TraceFault.Write ↔ IsTrue (W.has_failed w.new) }
+    ensures quiet { OnOk result (IsQuietScenario scenario.now → span (all_frames (queues scenario.now)) ≤ scenario.now.bits →
+        Appends (W.contents w.old) (W.contents w.new) (quiet_report scenario.now.bits (queues scenario.now))) }
 {
     let Ok(ended) = run(alloc, scenario) else {
         return Err(TraceFault::Memory);
@@ -55,6 +63,8 @@ struct Ended {
 fn run(alloc: Global, scenario: &Scenario) -> Result<Ended, AllocError>
     ensures levels { IfOk result (λ ended. ended.levels.items ≡ recorded_levels scenario.now) }
     ensures ports { IfOk result (λ ended. map ⟦<PlainNode as Port>⟧.port ended.ports.items ≡ (ended_bus scenario.now).ports) }
+    ensures quiet { OnOk result (IsQuietScenario scenario.now → span (all_frames (queues scenario.now)) ≤ scenario.now.bits →
+        report scenario.now ≡ quiet_report scenario.now.bits (queues scenario.now)) }
 {
     let ports = started_ports(alloc, &scenario.ports)?;
     let mut levels = Vec::from_elem(alloc, Level::Recessive, scenario.bits as usize)?;
