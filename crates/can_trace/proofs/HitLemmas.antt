@@ -1,6 +1,6 @@
 -- The disturbances of a document: how its lists are read, and that they are in order one behind another.
 use Rattle.std.specs.List.{slice_get, AllByRecursion}
-use Rattle.std.proofs.Common.{◌≡◌, ℕ, zero, suc, ◌+◌, true, false, List, [], ◌∷◌, ◌++◌, length, get_or, drop, map, Option, Some, None, IfSome, Err, IsErrOf, ◌<◌, refl, sym, ap, ◌∙◌, subst, inl, inr, ◌⊎◌, pos, append_assoc, append-nil, arith}
+use Rattle.std.proofs.Common.{◌≡◌, ℕ, zero, suc, ◌+◌, true, List, [], ◌∷◌, ◌++◌, length, get_or, drop, map, Option, Some, None, IfSome, Err, IsErrOf, ◌<◌, refl, sym, ap, ◌∙◌, subst, inl, inr, ◌⊎◌, pos, append_assoc, append-nil, arith}
 use Rattle.std.proofs.lemmas.List.{drop_more}
 use Rattle.toml.specs.Data.{Data, string, integer, float, boolean, datetime, array, table, Items, no_items, item, as_array}
 use Rattle.toml.specs.View.{view, items_view}
@@ -14,7 +14,7 @@ use Rattle.can_trace.specs.declared.scenario.field.Field.{Field}
 use Rattle.can_trace.specs.declared.scenario.field.Field.TheVariants as field
 use Rattle.can_trace.specs.declared.scenario.field.HitList.{HitList}
 use Rattle.can_trace.specs.declared.scenario.field.HitList.TheVariants.{At, In, View}
-use Rattle.can_trace.specs.Scenarios.{AddsHits, AllMet, ArePaired, IsAboveBefore, IsArray, IsFirstUnmet, IsOptional, IsPair, IsSoundHit, SaysHit, SaysHits, elements_in, hit_demands, hit_in, list_demands, list_name, named}
+use Rattle.can_trace.specs.Scenarios.{AddsHits, AllMet, ArePaired, IsArray, IsFirstUnmet, IsOptional, IsPair, IsSoundHit, SaysHit, SaysHits, elements_in, hit_demands, hit_in, list_demands, list_name, named}
 use Rattle.can_trace.proofs.DemandLemmas.{elements-view}
 
 -- ---- arrays

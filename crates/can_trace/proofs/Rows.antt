@@ -1,8 +1,7 @@
 -- The definitions of what is written, computed on a few values that are known from elsewhere.
-use Rattle.std.proofs.Common.{◌≡◌, ℕ, List, [], ◌∷◌, ◌++◌, length, Bool, true, false, ◌&&◌, refl, sym, ap, ◌∙◌, subst, arith, rules}
+use Rattle.std.proofs.Common.{◌≡◌, ℕ, List, [], ◌∷◌, ◌++◌, Bool, true, false, ◌&&◌, refl, sym, ap, ◌∙◌, subst, arith, rules}
 use Rattle.std.specs.Prelude.{codes}
-use Rattle.can_frame.specs.declared.level.Level.{Level}
-use Rattle.can_frame.specs.declared.level.Level.TheVariants.{Dominant, Recessive}
+use Rattle.can_frame.specs.declared.level.Level.TheVariants.{Dominant}
 use Rattle.can_frame.specs.Levels.{bits_of}
 use Rattle.can_frame.specs.Arbitration.{arbitration_field}
 use Rattle.can_frame.specs.Parts.{Parts, IsFrame}
@@ -17,8 +16,7 @@ use Rattle.can_code.specs.Stuffing.{stuffed}
 use Rattle.can_code.specs.Wire.{head, unstuffed, stuffed_part, driven}
 use Rattle.can_code.specs.Heard.{HeardParts, Spells, heard_head, sent, spelling}
 use Rattle.can_code.specs.Layout.{frame_len}
-use Rattle.can_code.specs.Front.{first_front}
-use Rattle.can_code.specs.Decoder.{DecoderParts, HasHeard}
+use Rattle.can_code.specs.Decoder.{HasHeard}
 use Rattle.can_code.proofs.SpellingLemmas.{Spells-spelling}
 use Rattle.can_code.proofs.DecoderLemmas.{HasHeard-stuff}
 use Rattle.can_trace.specs.TraceText.{IsTraceText, is_trace_byte, levels_in}

@@ -10,9 +10,9 @@ use std::io::{Error, ErrorKind, Read, Write};
 use std::test::Fail;
 
 mod decode;
-mod scenario;
 mod hits;
 mod run;
+mod scenario;
 mod whole;
 
 /// The line of levels of `S 000 D 0`.
