@@ -7,6 +7,7 @@ ghost use Rattle.can_trace.specs.Scenarios.{hit_in as hit_said, hit_demands, hit
 ghost use Rattle.can_trace.specs.declared.scenario.field.Field.{Field as Wrong};
 
 use crate::fault::TraceFault;
+use crate::scenario::values::field;
 use crate::scenario::{Field, HitList};
 use can_bus::Hit;
 use std::alloc::Global;
@@ -61,13 +62,6 @@ fn name_of(list: HitList) -> &'static str
         HitList::In => "in",
         HitList::View => "view",
     }
-}
-
-/// The value of the table's field of this name.
-fn field<'a>(document: &'a Table, name: &str) -> Option<&'a Value>
-    ensures { option_map (λ value. view value.now) result ≡ named name.now (table (table_view document.now)) }
-{
-    document.get(name)
 }
 
 /// Reads the elements of a list behind the hits that were read before.
