@@ -21,7 +21,7 @@ use can_code::{FrameBits, Front, Place};
 use can_fault::Cause;
 use can_frame::{Frame, Level};
 use flags::{after_flag, delimiter, error_flag, overload_flag, passive_flag};
-use frame_end::{LAST_OF_FRAME, ack_delimiter, ack_slot, crc_delimiter, end_of_frame};
+use frame_end::{LAST_OF_FRAME, ack_delimiter, ack_slot, crc_delimiter, end_of_frame, is_refused};
 use std::marker::Model;
 use stuffed_part::{end_of_part, is_in_order, stuffed_part};
 
@@ -260,6 +260,17 @@ pub(crate) fn goes_on<B: FrameBits>(
             if front.next_place() == Place::CrcDelimiter {
                 end_part(phase);
             }
+            true
+        }
+        Phase::CrcDelimiter(reading) if seen.is_recessive() => {
+            *phase = Phase::AckSlot(*reading);
+            true
+        }
+        Phase::AckDelimiter(reading) if seen.is_recessive() && !is_refused(role, reading) => {
+            *phase = Phase::EndOfFrame {
+                reading: *reading,
+                place: 0,
+            };
             true
         }
         Phase::EndOfFrame { place, .. } if seen.is_recessive() && *place < LAST_OF_FRAME - 1 => {
