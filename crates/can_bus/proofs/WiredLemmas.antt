@@ -104,9 +104,22 @@ part_recessive W joined whole ahead front back x split before is high =
     let here : W front ≡ Recessive = sym is ∙ level_recessive x high in
     sym (ap (λ y. over y (W back)) here) ∙ sym (joined.joins front back) ∙ sym (ap W split) ∙ before
 
-pub parts_passed : {X : Type 0} (W : List X → Level) (whole ahead : List X) → W [] ≡ Recessive → length ahead ≡ 0 → W ahead ≡ W whole → Recessive ≡ W whole
-parts_passed W whole [] none e before = sym none ∙ before
-parts_passed W whole (x ∷ ahead) none e before = absurd (omega arith)
+-- one of a plain walk that is dominant, and one that is recessive
+pub one_dominant : {X : Type 0} (W : List X → Level) → IsWired W → (xs : List X) (i : ℕ) (d : X) (x : Level) → i < length xs → W (drop i xs) ≡ W xs →
+    x ≡ W (get_or xs i d ∷ []) → is_recessive x ≡ false → Dominant ≡ W xs
+one_dominant W joined xs i d x h before is low = part_dominant W joined xs (drop i xs) (get_or xs i d ∷ []) (drop (i + 1) xs) x (drop_more xs i d h) before is low
+
+pub one_recessive : {X : Type 0} (W : List X → Level) → IsWired W → (xs : List X) (i : ℕ) (d : X) (x : Level) → i < length xs → W (drop i xs) ≡ W xs →
+    x ≡ W (get_or xs i d ∷ []) → is_recessive x ≡ true → W (drop (i + 1) xs) ≡ W xs
+one_recessive W joined xs i d x h before is high = part_recessive W joined xs (drop i xs) (get_or xs i d ∷ []) (drop (i + 1) xs) x (drop_more xs i d h) before is high
+
+pub all_passed : {X : Type 0} (W : List X → Level) (xs : List X) (i : ℕ) → W [] ≡ Recessive → length xs ≤ i → W (drop i xs) ≡ W xs → Recessive ≡ W xs
+all_passed W xs i none h before = sym (ap W (drop_all i xs h) ∙ none) ∙ before
+
+pub wired_one : (x : Level) → x ≡ wired (x ∷ [])
+unfolding wired
+wired_one Dominant = refl
+wired_one Recessive = refl
 
 split_at : {X : Type 0} (xs : List X) (n k i : ℕ) (chunks : List (List X)) (e : List X) → chunks ≡ first_chunks n k xs → i < k →
     drop (i * n) xs ≡ get_or chunks i e ++ drop ((i + 1) * n) xs

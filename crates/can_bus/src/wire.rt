@@ -1,4 +1,4 @@
-ghost use Rattle.std.specs.Prelude.{◌≡◌, ◌≤◌, length, map};
+ghost use Rattle.std.specs.Prelude.{◌≡◌, length, map};
 ghost use Rattle.can_node.specs.Ports.{port_drives};
 ghost use Rattle.can_bus.specs.Wired.{level_bit, wired as wired_of};
 
@@ -8,9 +8,6 @@ use std::simd::prelude::*;
 
 /// How many levels are wired at once.
 const LANES: usize = 32;
-
-/// How many ports' levels are gathered at once: as many as a bus may have.
-const PIECE: usize = 64;
 
 /// A level as a lane.
 fn bit(level: Level) -> u8
@@ -68,16 +65,28 @@ pub fn wired(levels: &[Level]) -> Level
     wired_plainly(rest)
 }
 
-/// What so few ports drive together.
-fn wired_piece<P: Port>(ports: &[P]) -> Level
-    requires { length ports.now ≤ 64 }
+/// What a full vector of ports drives together.
+fn wired_vector<P: Port>(ports: &[P]) -> Level
+    requires { length ports.now ≡ 32 }
     ensures { result ≡ wired_of (map port_drives (map P.port ports.now)) }
 {
-    let mut levels = [Level::Recessive; PIECE];
+    let mut levels = [Level::Recessive; LANES];
     for (node, port) in ports.iter().enumerate() {
         levels[node] = port.drive();
     }
     wired(&levels)
+}
+
+/// What the ports drive together, one after another. For fewer ports than a full vector this is quicker.
+fn wired_one_by_one<P: Port>(ports: &[P]) -> Level
+    ensures { result ≡ wired_of (map port_drives (map P.port ports.now)) }
+{
+    for port in ports {
+        if !port.drive().is_recessive() {
+            return Level::Dominant;
+        }
+    }
+    Level::Recessive
 }
 
 /// What the ports drive together.
@@ -85,12 +94,12 @@ pub(crate) fn wired_level<P: Port>(ports: &[P]) -> Level
     ensures { result ≡ wired_of (map port_drives (map P.port ports.now)) }
 {
     let mut ahead = ports;
-    while !ahead.is_empty() {
-        let (piece, rest) = ahead.split_at(ahead.len().min(PIECE));
-        if !wired_piece(piece).is_recessive() {
+    while ahead.len() >= LANES {
+        let (vector, rest) = ahead.split_at(LANES);
+        if !wired_vector(vector).is_recessive() {
             return Level::Dominant;
         }
         ahead = rest;
     }
-    Level::Recessive
+    wired_one_by_one(ahead)
 }

@@ -49,7 +49,7 @@ fn number_of(levels: &[Level; 8]) -> u16
 {
     let mut number = 0;
     for level in levels {
-        number = 2 * number + u16::from(level.is_recessive());
+        number = 2 * number + *level as u16;
     }
     number
 }

@@ -12,7 +12,8 @@ ghost use Rattle.can_code.specs.Front.{FrontParts};
 ghost use Rattle.can_mac.specs.State.{IsPhase};
 ghost use Rattle.can_mac.specs.Moves.{begins, enters_intermission, errs, errs_by, errs_in_flag, flag, goes, is_held_back, move, overload, part_phase, phase_after, placed, tells};
 ghost use Rattle.can_mac.specs.declared.moves.Stance.{Stance as Standing};
-ghost use Rattle.can_mac.specs.declared.phase.Phase.TheVariants.{StuffedPart};
+ghost use Rattle.can_mac.specs.declared.phase.Phase.TheVariants.{AckDelimiter, AckSlot, CrcDelimiter, EndOfFrame, StuffedPart};
+ghost use Rattle.can_mac.specs.declared.phase.Reading.{Reading as ReadingParts};
 
 use crate::event::{ErrorKind, Event};
 use crate::phase::{Overloads, Phase, Role};
@@ -21,7 +22,7 @@ use can_code::{FrameBits, Front, Place};
 use can_fault::Cause;
 use can_frame::{Frame, Level};
 use flags::{after_flag, delimiter, error_flag, overload_flag, passive_flag};
-use frame_end::{LAST_OF_FRAME, ack_delimiter, ack_slot, crc_delimiter, end_of_frame};
+use frame_end::{LAST_OF_FRAME, ack_delimiter, ack_slot, crc_delimiter, end_of_frame, is_refused};
 use std::marker::Model;
 use stuffed_part::{end_of_part, is_in_order, stuffed_part};
 
@@ -262,6 +263,14 @@ pub(crate) fn goes_on<B: FrameBits>(
             }
             true
         }
+        Phase::CrcDelimiter(_) if seen.is_recessive() => {
+            pass_delimiter(phase);
+            true
+        }
+        Phase::AckDelimiter(reading) if seen.is_recessive() && !is_refused(role, reading) => {
+            pass_delimiter(phase);
+            true
+        }
         Phase::EndOfFrame { place, .. } if seen.is_recessive() && *place < LAST_OF_FRAME - 1 => {
             *place += 1;
             true
@@ -282,6 +291,24 @@ fn end_part<B: FrameBits>(phase: &mut Phase<Front<B>>)
     if let Phase::StuffedPart(front) = phase {
         let next = end_of_part(front);
         enter(phase, next);
+    }
+}
+
+/// Passes the CRC delimiter or the ACK delimiter. It stands apart for the memory that a new phase takes.
+#[inline(never)]
+fn pass_delimiter<B: FrameBits>(phase: &mut Phase<Front<B>>)
+    ensures check { (r : ReadingParts) → phase.old ≡ CrcDelimiter r → phase.new ≡ AckSlot r }
+    ensures acknowledgement { (r : ReadingParts) → phase.old ≡ AckDelimiter r → phase.new ≡ EndOfFrame r 0 }
+{
+    match phase {
+        Phase::CrcDelimiter(reading) => *phase = Phase::AckSlot(*reading),
+        Phase::AckDelimiter(reading) => {
+            *phase = Phase::EndOfFrame {
+                reading: *reading,
+                place: 0,
+            };
+        }
+        _ => {}
     }
 }
 

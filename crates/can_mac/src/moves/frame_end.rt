@@ -52,7 +52,7 @@ pub(crate) fn ack_slot(stance: &Stance, reading: &Reading, seen: Level) -> Enter
 }
 
 /// Whether it is a receiver whose check sequence differs.
-fn is_refused(role: &Role, reading: &Reading) -> bool
+pub(crate) fn is_refused(role: &Role, reading: &Reading) -> bool
     ensures { result ≡ refuses role.now reading.now }
 {
     match role {

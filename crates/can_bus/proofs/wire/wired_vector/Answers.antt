@@ -5,10 +5,10 @@ use Rattle.can_frame.specs.declared.level.Level.TheVariants.{Recessive}
 use Rattle.can_node.specs.Ports.{port_drives}
 use Rattle.can_bus.specs.Wired.{over, wired}
 use Rattle.can_bus.proofs.WiredLemmas.{wired_none, wired_empty, wired-set, wired_more, resting_all}
-use Rattle.can_bus.proofs.wire.wired_piece.Goals as goal
+use Rattle.can_bus.proofs.wire.wired_vector.Goals as goal
 
 pub loop-node-init : goal.loop-node-init
-loop-node-init g c = record { driven = wired_none 64 ∙ sym wired_empty; resting = λ k h. resting_all 64 k; whole = refl }
+loop-node-init g c = record { driven = wired_none 32 ∙ sym wired_empty; resting = λ k h. resting_all 32 k; whole = refl }
 
 pub loop-node-preserved : goal.loop-node-preserved
 loop-node-preserved g c =
