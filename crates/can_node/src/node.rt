@@ -85,8 +85,8 @@ impl<B: FrameBits> Node<B> {
                 frame: *frame,
                 sent: false,
             }),
-            Event::Lost | Event::Error(_) | Event::Overload | Event::WentOff | Event::Recovered => {
-            }
+            Event::Lost | Event::Error(_) | Event::Overload | Event::WentOff | Event::Recovered =>
+                {}
         }
     }
 }
