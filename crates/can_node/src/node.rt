@@ -1,4 +1,4 @@
-ghost use Rattle.std.specs.Prelude.{◌≡◌, IfOk, IsOk, Some};
+ghost use Rattle.std.specs.Prelude.{◌≡◌, IfOk, IsOk};
 ghost use Rattle.can_mac.specs.State.{IsMac};
 ghost use Rattle.can_node.specs.MacProps.{IsMac-prop};
 
@@ -70,23 +70,25 @@ impl<B: FrameBits> Node<B> {
 
     /// What an event makes of queue and log.
     #[tactic(auto, using(crate::proofs::PortLemmas::logged_is))]
-    fn note(&mut self, event: &Event)
-        ensures { ⟦<Node<B> as Port>⟧.port self.new ≡ noted (Some event.now) (⟦<Node<B> as Port>⟧.port self.old) }
+    fn note(&mut self, event: &Option<Event>)
+        ensures { ⟦<Node<B> as Port>⟧.port self.new ≡ noted event.now (⟦<Node<B> as Port>⟧.port self.old) }
     {
         match event {
-            Event::Sent(frame) => {
+            Some(Event::Sent(frame)) => {
                 self.queue.remove(frame);
                 self.log.push(Entry {
                     frame: *frame,
                     sent: true,
                 });
             }
-            Event::Received(frame) => self.log.push(Entry {
+            Some(Event::Received(frame)) => self.log.push(Entry {
                 frame: *frame,
                 sent: false,
             }),
-            Event::Lost | Event::Error(_) | Event::Overload | Event::WentOff | Event::Recovered =>
-                {}
+            Some(
+                Event::Lost | Event::Error(_) | Event::Overload | Event::WentOff | Event::Recovered,
+            )
+            | None => {}
         }
     }
 }
@@ -103,9 +105,9 @@ impl<B: FrameBits> Port for Node<B> {
 
     #[tactic(auto, unfolding(crate::specs::Ports::port_step))]
     fn sample(&mut self, seen: Level) -> Option<Event> {
-        let event = self.mac.sample(self.queue.waiting(), seen)?;
+        let event = self.mac.sample(self.queue.waiting(), seen);
         self.note(&event);
-        Some(event)
+        event
     }
 
     fn offer(&mut self, frame: Frame) -> Result<(), Frame> {

@@ -8,4 +8,4 @@ pub invariant_of-self : goal.invariant_of-self
 invariant_of-self g c =
     let node = c.args.self.now in
     let frame : IsWaiting (option_copied c.waiting.result) = rw c.waiting.ensures (is_frame_waiting node.queue.frames.items node.queue.next node.queue.are_frames node.queue.goes_first) in
-    record { kept = rw c.sample.ensures.state (step_kept node.mac node.kept (option_copied c.waiting.result) c.args.seen frame) }
+    record { kept = rw c.sample-event.ensures.state (step_kept node.mac node.kept (option_copied c.waiting.result) c.args.seen frame) }
