@@ -8,10 +8,10 @@ use std::process::Abort;
 use std::test::Fail;
 
 /// The levels of `S 000 D 0`, acknowledged.
-const W0: &[u8] = b"00000100000100000100000100000100000100001011111111";
+const WIRE_000: &[u8] = b"00000100000100000100000100000100000100001011111111";
 
 /// The levels of `S 001 D 0`, acknowledged.
-const W1: &[u8] = b"00000100000101000001000100010000100111011111111";
+const WIRE_001: &[u8] = b"00000100000101000001000100010000100111011111111";
 
 /// What each trace comes to, however it is cut, and however its answer is.
 fn decodes(
@@ -41,11 +41,11 @@ fn decodes(
 
 #[test]
 fn frames_and_faults(rt: HostRuntime) -> Result<(), Fail> {
-    let behind_a_fault = [b"00000011111111111".as_slice(), W1].concat(rt.alloc())?;
-    let two_frames = [W0, b"111", W1, b"111"].concat(rt.alloc())?;
-    let in_lines = [W0, b"\r\n", b"11 1", W1, b"\n"].concat(rt.alloc())?;
-    let last_dominant = [&W1[..46], b"0".as_slice()].concat(rt.alloc())?;
-    let unacknowledged = [&W1[..38], b"1".as_slice(), &W1[39..]].concat(rt.alloc())?;
+    let behind_a_fault = [b"00000011111111111".as_slice(), WIRE_001].concat(rt.alloc())?;
+    let two_frames = [WIRE_000, b"111", WIRE_001, b"111"].concat(rt.alloc())?;
+    let in_lines = [WIRE_000, b"\r\n", b"11 1", WIRE_001, b"\n"].concat(rt.alloc())?;
+    let last_dominant = [&WIRE_001[..46], b"0".as_slice()].concat(rt.alloc())?;
+    let unacknowledged = [&WIRE_001[..38], b"1".as_slice(), &WIRE_001[39..]].concat(rt.alloc())?;
     for (trace, lines) in [
         (b"".as_slice(), b"".as_slice()),
         (b"1111 1111\n", b""),
@@ -58,7 +58,7 @@ fn frames_and_faults(rt: HostRuntime) -> Result<(), Fail> {
         ),
         (&last_dominant, b"0 S 001 D 0 ack eof0\n"),
         (&unacknowledged, b"0 S 001 D 0 noack\n"),
-        (&W1[..20], b"0 fault C1 at 20\n"),
+        (&WIRE_001[..20], b"0 fault C1 at 20\n"),
     ] {
         decodes(&rt, rt.alloc(), trace, Ok(()), lines);
     }
@@ -68,7 +68,7 @@ fn frames_and_faults(rt: HostRuntime) -> Result<(), Fail> {
 /// A bad byte ends the run, and a frame that it cuts off is not told.
 #[test]
 fn bad_bytes(rt: HostRuntime) -> Result<(), Fail> {
-    let behind_a_frame = [W0, b" 00x1"].concat(rt.alloc())?;
+    let behind_a_frame = [WIRE_000, b" 00x1"].concat(rt.alloc())?;
     for (trace, place, lines) in [
         (b"0 1x".as_slice(), 3, b"".as_slice()),
         (b"2", 0, b""),
@@ -113,7 +113,7 @@ impl Read for Idle<'_> {
 
 #[test]
 fn a_long_idle_trace(rt: HostRuntime) -> Result<(), Fail> {
-    let text = [W1, b"000000"].concat(rt.alloc())?;
+    let text = [WIRE_001, b"000000"].concat(rt.alloc())?;
     let mut reader = FromRead::new(Idle {
         levels: 1_000_000,
         text: &text,
@@ -130,7 +130,7 @@ fn a_long_idle_trace(rt: HostRuntime) -> Result<(), Fail> {
 /// Wherever a read fails, exactly the closed lines are written, and no more is read.
 #[test]
 fn failing_reads_of_traces(rt: HostRuntime) -> Result<(), Fail> {
-    let trace = [W0, b"000000", b"11111111111", W1, b"1"].concat(rt.alloc())?;
+    let trace = [WIRE_000, b"000000", b"11111111111", WIRE_001, b"1"].concat(rt.alloc())?;
     for length in 0..trace.len() {
         let lines = if length < 50 {
             b"".as_slice()
@@ -167,7 +167,7 @@ fn failing_reads_of_traces(rt: HostRuntime) -> Result<(), Fail> {
 /// Wherever a write fails, what was taken is a beginning of the answer, and no more is written.
 #[test]
 fn failing_writes_of_lines(rt: HostRuntime) -> Result<(), Fail> {
-    let trace = [W0; 2000].concat(rt.alloc())?;
+    let trace = [WIRE_000; 2000].concat(rt.alloc())?;
     let mut whole = ToWrite::new(Vec::new(rt.alloc()));
     let mut reader = reader_of(&trace, 8192, Stop::Nothing);
     assert_eq!(rt; decode_stream(&mut reader, &mut whole), Ok(()));

@@ -11,10 +11,10 @@ use std::process::Abort;
 use std::test::Fail;
 
 /// The levels of `S 000 D 0`, acknowledged.
-const W0: &str = "00000100000100000100000100000100000100001011111111";
+const WIRE_000: &str = "00000100000100000100000100000100000100001011111111";
 
 /// The levels of `S 001 D 0`, acknowledged.
-const W1: &str = "00000100000101000001000100010000100111011111111";
+const WIRE_001: &str = "00000100000101000001000100010000100111011111111";
 
 /// The eight recessive levels of a delimiter behind a flag, and an intermission.
 const DELIMITER_AND_INTERMISSION: &str = "11111111111";
@@ -95,7 +95,7 @@ fn reports(
 fn two_frames(rt: HostRuntime) -> Result<(), Fail> {
     let alloc = rt.alloc();
     let two = of_queues(alloc, 103, &[&["S 001 D 0"], &["S 000 D 0"]], &[])?;
-    let levels = format!(in alloc; "{W0}111{W1}111")?;
+    let levels = format!(in alloc; "{WIRE_000}111{WIRE_001}111")?;
     let ports = "port 0 active tec 0 rec 0 missed 0
   took S 000 D 0
   sent S 001 D 0
@@ -145,7 +145,7 @@ fn full_logs(rt: HostRuntime) -> Result<(), Fail> {
         port.log_room = number;
     }
     let two = scenario(alloc, 103, ports, Vec::new(alloc))?;
-    let levels = format!(in alloc; "{W0}111{W1}111")?;
+    let levels = format!(in alloc; "{WIRE_000}111{WIRE_001}111")?;
     let ports = "port 0 active tec 0 rec 0 missed 2
 port 1 active tec 0 rec 0 missed 1
   sent S 000 D 0
@@ -161,7 +161,7 @@ fn a_port_joins(rt: HostRuntime) -> Result<(), Fail> {
     let last = ports.last_mut().ok_or("no port")?;
     last.joins = true;
     let three = scenario(alloc, 103, ports, Vec::new(alloc))?;
-    let levels = format!(in alloc; "{W0}111{W1}111")?;
+    let levels = format!(in alloc; "{WIRE_000}111{WIRE_001}111")?;
     let ports = "port 0 active tec 0 rec 0 missed 0
   sent S 000 D 0
   sent S 001 D 0
@@ -182,7 +182,7 @@ fn an_overload_frame(rt: HostRuntime) -> Result<(), Fail> {
     let last = ports.last_mut().ok_or("no port")?;
     last.overloads = 1;
     let two = scenario(alloc, 118, ports, Vec::new(alloc))?;
-    let levels = format!(in alloc; "{W0}0000000{DELIMITER_AND_INTERMISSION}{W1}111")?;
+    let levels = format!(in alloc; "{WIRE_000}0000000{DELIMITER_AND_INTERMISSION}{WIRE_001}111")?;
     let ports = "port 0 active tec 0 rec 0 missed 0
   sent S 000 D 0
   sent S 001 D 0
@@ -223,7 +223,7 @@ fn a_hit_in_an_attempt(rt: HostRuntime) -> Result<(), Fail> {
     }];
     let hit = of_queues(alloc, 93, &[&["S 000 D 0"], &[]], &hits)?;
     let levels = format!(in alloc;
-        "00000100000100001000000000000{DELIMITER_AND_INTERMISSION}{W0}111"
+        "00000100000100001000000000000{DELIMITER_AND_INTERMISSION}{WIRE_000}111"
     )?;
     let ports = "port 0 active tec 7 rec 0 missed 0
   sent S 000 D 0
@@ -240,7 +240,7 @@ fn a_hit_on_one_view(rt: HostRuntime) -> Result<(), Fail> {
     let hits = [Hit::View { time: 48, node: 2 }];
     let hit = of_queues(alloc, 120, &[&["S 000 D 0"], &[], &[]], &hits)?;
     let up_to_48 = "0000010000010000010000010000010000010000101111111";
-    let levels = format!(in alloc; "{up_to_48}0000000{DELIMITER_AND_INTERMISSION}{W0}111")?;
+    let levels = format!(in alloc; "{up_to_48}0000000{DELIMITER_AND_INTERMISSION}{WIRE_000}111")?;
     let ports = "port 0 active tec 7 rec 0 missed 0
   sent S 000 D 0
 port 1 active tec 0 rec 0 missed 0
