@@ -3,7 +3,7 @@ use crate::scenario::{PortPlan, Scenario};
 use crate::tests::{ROOM, Stop, Taker, writer_of};
 use crate::{Sink, TraceFault, run_scenario};
 use can_bus::{Bus, Hit};
-use can_frame::Frame;
+use can_frame::{Frame, Id};
 use can_node::PlainNode;
 use std::alloc::Global;
 use std::io::ErrorKind;
@@ -62,7 +62,7 @@ fn of_queues(alloc: Global, bits: u32, queues: &[&[&str]], hits: &[Hit]) -> Resu
 
 /// The report of the scenario.
 fn report_of(alloc: Global, scenario: &Scenario) -> Result<Vec<u8>, Fail> {
-    let mut writer = writer_of(alloc, ROOM, ROOM, Stop::Nothing);
+    let mut writer = writer_of(alloc, ROOM, 2 * ROOM, Stop::Nothing);
     run_scenario(alloc, scenario, &mut writer)?;
     let Taker { taken, .. } = writer.into_inner();
     Ok(taken)
@@ -112,6 +112,60 @@ fn no_bit_time(rt: HostRuntime) -> Result<(), Fail> {
     let none = of_queues(alloc, 0, &[&["S 001 D 0"], &[]], &[])?;
     let ports = "port 0 active tec 0 rec 0 missed 0\nport 1 active tec 0 rec 0 missed 0\n";
     reports(&rt, alloc, &none, "", ports)
+}
+
+/// The bus rests for nearly all of them.
+#[test]
+fn a_million_bit_times(rt: HostRuntime) -> Result<(), Fail> {
+    let alloc = rt.alloc();
+    let long = of_queues(alloc, 1_000_000, &[&["S 000 D 0"], &[]], &[])?;
+    let report = report_of(alloc, &long)?;
+    let front = format!(in alloc; "bits 1000000\n{WIRE_000}1")?;
+    let end = "1\nport 0 active tec 0 rec 0 missed 0\n  sent S 000 D 0\n\
+               port 1 active tec 0 rec 0 missed 0\n  took S 000 D 0\n";
+    assert!(rt; report.starts_with(front.as_bytes()));
+    assert!(rt; report.ends_with(end.as_bytes()));
+    let dominant = report.iter().filter(|byte| **byte == b'0').count();
+    let ports = end.bytes().filter(|byte| *byte == b'0').count();
+    // six in `bits 1000000`, and 35 in the levels of the frame
+    assert_eq!(rt; dominant, 6usize.saturating_add(35).saturating_add(ports));
+    assert_eq!(rt; report.len(), 1_000_012usize.saturating_add(end.len()));
+    Ok(())
+}
+
+fn standard(identifier: u16) -> Result<Frame, Fail> {
+    let id = Id::standard(identifier).ok_or("an identifier within its bits")?;
+    Ok(Frame::data(id, 0, &[])?)
+}
+
+/// The least identifier goes first, from the last port. Each log has room for eight of the 64 frames.
+#[test]
+fn sixty_four_ports(rt: HostRuntime) -> Result<(), Fail> {
+    let alloc = rt.alloc();
+    let mut ports = Vec::new(alloc);
+    let mut lines = String::new(alloc);
+    for number in 0..64u16 {
+        let mut queue = Vec::new(alloc);
+        queue.push(standard(63u16.saturating_sub(number))?)?;
+        ports.push(PortPlan {
+            queue,
+            log_room: 8,
+            joins: false,
+            overloads: 0,
+        })?;
+        writeln!(lines, "port {number} active tec 0 rec 0 missed 56")?;
+        for identifier in 0..8u16 {
+            let is_own = identifier.saturating_add(number) == 63;
+            let word = if is_own { "sent" } else { "took" };
+            writeln!(lines, "  {word} {}", standard(identifier)?.to_text())?;
+        }
+    }
+    let crowd = scenario(alloc, 3198, ports, Vec::new(alloc))?;
+    let report = report_of(alloc, &crowd)?;
+    assert!(rt; report.starts_with(b"bits 3198\n00000100000100000"));
+    assert!(rt; report.ends_with(lines.as_bytes()));
+    assert_eq!(rt; report.len(), 3209usize.saturating_add(lines.len()));
+    Ok(())
 }
 
 /// Nobody acknowledges its frame: an attempt every 59 bit times, each of which counts eight.
