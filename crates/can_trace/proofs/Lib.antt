@@ -35,3 +35,4 @@ pub mod PutParts
 pub mod ReportLines
 pub mod Started
 pub mod QuietReports
+pub mod OneScenario

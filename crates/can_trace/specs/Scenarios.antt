@@ -309,3 +309,18 @@ IsFirstWrong wrong bytes =
 -- a field of the document is wrong, or memory ran out
 abbrev pub IsFieldOrMemory : TraceFault → Type 0
 IsFieldOrMemory fault = ((wrong : Field) × (fault ≡ ScenarioField wrong)) ⊎ (fault ≡ Memory)
+
+-- ---- one reading
+
+-- the ports are the same
+pub record AreSamePorts (p q : PortPlan) : Type 0 where
+  pub queue : p.queue.items ≡ q.queue.items
+  pub log_room : p.log_room ≡ q.log_room
+  pub joins : p.joins ≡ q.joins
+  pub overloads : p.overloads ≡ q.overloads
+
+-- the scenarios are the same
+pub record AreSame (s t : Scenario) : Type 0 where
+  pub bits : s.bits ≡ t.bits
+  pub ports : ArePaired AreSamePorts s.ports.items t.ports.items
+  pub hits : s.hits.items ≡ t.hits.items

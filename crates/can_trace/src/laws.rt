@@ -4,6 +4,9 @@ ghost use Rattle.can_trace.specs.Coded.{Codes};
 ghost use Rattle.can_trace.specs.Checked.{Checks};
 ghost use Rattle.can_trace.specs.Decoded.{Finds, FullAnswer};
 ghost use Rattle.can_trace.specs.declared.finding.Finding.{Finding as Findings};
+ghost use Rattle.can_trace.specs.declared.scenario.Scenario.{Scenario as Planned};
+ghost use Rattle.can_trace.specs.declared.scenario.field.Field.{Field as Wrong};
+ghost use Rattle.can_trace.specs.Scenarios.{AreSame, IsFirstWrong, IsScenarioText};
 
 use can_frame::one_text_a_frame;
 
@@ -28,4 +31,12 @@ pub fn one_decoding()
     ensures only { (place : ℕ) (levels : List Bit) (f g : List Findings) → Finds place levels f → Finds place levels g → f ≡ g }
     ensures answer { (input : List ℕ) → (output : List ℕ) × FullAnswer input output }
     ensures only_answer { (input a b : List ℕ) → FullAnswer input a → FullAnswer input b → a ≡ b }
+{}
+
+/// Bytes say at most one scenario; bytes that say one have no field that is told, and others have at
+/// most one.
+pub fn one_scenario()
+    ensures scenario { (bytes : List ℕ) (s t : Planned) → IsScenarioText bytes s → IsScenarioText bytes t → AreSame s t }
+    ensures no_field { (bytes : List ℕ) (s : Planned) (wrong : Wrong) → IsScenarioText bytes s → IsFirstWrong wrong bytes → ⊥ }
+    ensures one_field { (bytes : List ℕ) (wrong other : Wrong) → IsFirstWrong wrong bytes → IsFirstWrong other bytes → wrong ≡ other }
 {}

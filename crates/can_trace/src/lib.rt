@@ -27,7 +27,7 @@
 //! | `report.rt` | the report of a run, put line by line | `specs/Report.antt` |
 //! | `line.rt` | a line that is put together | |
 //! | `fault.rt` | [`TraceFault`], why an answer is not whole | |
-//! | `laws.rt` | that lines, vectors and traces have one answer | `specs/Coded.antt`, `specs/Checked.antt`, `specs/Decoded.antt` |
+//! | `laws.rt` | that lines, vectors and traces have one answer, and documents one reading | `specs/Coded.antt`, `specs/Checked.antt`, `specs/Decoded.antt`, `specs/Scenarios.antt` |
 //! | `source.rt` | [`Source`], what bytes are read from, and [`FromRead`], which wraps a `Read` | `specs/Told.antt`, `specs/Wrapped.antt` |
 //! | `sink.rt` | [`Sink`], what bytes are written to, and [`ToWrite`], which wraps a `Write` | `specs/Told.antt`, `specs/Wrapped.antt` |
 //! | `lines.rt` | the lines of a source, one after another | `specs/Lines.antt`, `specs/LineReader.antt` |
@@ -77,7 +77,7 @@ pub use check::check_lines;
 pub use decode::decode_stream;
 pub use encode::encode_lines;
 pub use fault::TraceFault;
-pub use laws::{one_answer, one_check, one_decoding};
+pub use laws::{one_answer, one_check, one_decoding, one_scenario};
 pub use outbox::write_all;
 pub use run::run_scenario;
 pub use scenario::{Field, HitList, PortField, PortPlan, Scenario};
