@@ -1,14 +1,19 @@
 //! Laws of the definitions, each a function that does nothing and ensures it.
-ghost use Rattle.std.specs.Prelude.{◌≡◌, ◌≤◌, ◌+◌, ℕ, List, [], map};
+ghost use Rattle.std.specs.Prelude.{◌≡◌, ◌<◌, ◌≤◌, ◌+◌, ◌↔◌, ℕ, List, [], map, length, drop, None};
 ghost use Rattle.std.specs.Ordering.{partial_lt};
 ghost use Rattle.std.specs.List.Sorted.{IsPermutation};
-ghost use Rattle.can_frame.specs.Parts.{Parts};
+ghost use Rattle.can_frame.specs.Parts.{IsFrame, Parts};
+ghost use Rattle.can_code.specs.declared.fault.CodeFault.{CodeFault as Fault};
+ghost use Rattle.can_code.specs.CodeFaults.{IsCodeFault};
+ghost use Rattle.can_code.specs.Front.{first_front, heard_levels};
+ghost use Rattle.can_code.specs.Wire.{stuffed_part};
 ghost use Rattle.can_node.specs.Ports.{IsPort};
 ghost use Rattle.can_bus.specs.declared.hit.Hit.{Hit as Disturbance};
 ghost use Rattle.can_bus.specs.Agreement.{AreAlike, LogsAgree};
 ghost use Rattle.can_bus.specs.Hits.{is_above};
 ghost use Rattle.can_bus.specs.Plans.{FitsQueue, IsQuietPlan, PortPlan, planned, ready_port};
-ghost use Rattle.can_bus.specs.Quiet.{AreDifferent, IsAscending, IsQuiet, ascending, queued, span};
+ghost use Rattle.can_bus.specs.Quiet.{AreDifferent, IsAscending, IsQuiet, ascending, line_at, queued, span};
+ghost use Rattle.can_bus.specs.RepairedLine.{lateness, refused_place, repaired_line_at, struck};
 ghost use Rattle.can_bus.specs.Run.{BusState, bus_level, bus_run};
 
 use crate::hit::Hit;
@@ -48,4 +53,21 @@ pub fn a_quiet_bus_can_be_made()
     ensures quiet { (plans : List PortPlan) → IsQuietPlan plans → IsQuiet (map ready_port plans) }
     ensures queued { (plans : List PortPlan) → queued (map ready_port plans) ≡ planned plans }
     ensures ports { (plan : PortPlan) → FitsQueue plan → IsPort (ready_port plan) }
+{}
+
+/// How many bit times later than the sender the receivers of a frame that is hit have their error. It is
+/// six at most. With so many dominant levels behind the hit, and with no fewer, a level is refused. A
+/// decoder of the levels has its fault there; where that is a wrong check sequence, with which the stuffed
+/// part ends, it is the level before.
+pub fn receivers_err_soon()
+    ensures few { (f : Parts) (offset : ℕ) → lateness f offset ≤ 6 }
+    ensures refused { (f : Parts) (offset dominant : ℕ) → IsFrame f → 0 < offset →
+        (heard_levels first_front (drop 1 (struck f offset dominant)) ≡ None) ↔ (lateness f offset ≤ dominant) }
+    ensures fault { (f : Parts) (offset : ℕ) → IsFrame f → 0 < offset → offset ≤ length (stuffed_part f) →
+        (fault : Fault) × (IsCodeFault (struck f offset 7) fault × (refused_place fault.kind fault.place ≡ offset + lateness f offset)) }
+{}
+
+/// Where nothing is hit the levels of a disturbed bus are those of a quiet one.
+pub fn no_hit_leaves_a_quiet_line()
+    ensures { (frames : List Parts) (t : ℕ) → repaired_line_at frames [] t ≡ line_at frames t }
 {}
