@@ -1,6 +1,6 @@
 -- How many bit times later than the sender the receivers of a frame that is hit have their error.
 use Rattle.std.specs.Prelude.{option_and_then, ◌↔◌}
-use Rattle.std.proofs.Common.{◌≡◌, ◌≢◌, ℕ, zero, suc, ◌+◌, ◌-◌, ◌<◌, ◌≤◌, true, false, Option, Some, None, List, [], ◌∷◌, ◌++◌, length, take, drop, replicate, refl, sym, ◌∙◌, ap, subst, arith, inl, inr, append_assoc, length-append}
+use Rattle.std.proofs.Common.{◌≡◌, ◌≢◌, ℕ, zero, suc, ◌+◌, ◌-◌, ◌<◌, ◌≤◌, ◌⊎◌, true, false, Option, Some, None, List, [], ◌∷◌, ◌++◌, length, take, drop, replicate, refl, sym, ◌∙◌, ap, subst, arith, inl, inr, append_assoc, length-append}
 use Rattle.std.proofs.Math.Dec.{eqb}
 use Rattle.std.proofs.Math.Seq.{take-append-add}
 use Rattle.std.proofs.lemmas.Bool.{cond-true, cond-false, cases_eq, cases_lt, eq-eqb, ne_eqb, and_parts, and_from, and_left}
@@ -12,11 +12,12 @@ use Rattle.can_frame.specs.Parts.{Parts, IsFrame}
 use Rattle.can_code.specs.declared.front.Place.TheVariants.{StuffBit, CrcDelimiter as delimiter_next}
 use Rattle.can_code.specs.Wire.{stuffed_part, wire, tail}
 use Rattle.can_code.specs.Layout.{level_at}
-use Rattle.can_code.specs.Stuffing.{run_after}
+use Rattle.can_code.specs.Stuffing.{is_stuff_place, run_after}
 use Rattle.can_code.specs.Front.{FrontParts, first_front, next_place, is_stuff_error, heard_level, hear_at, heard_levels}
 use Rattle.can_code.proofs.LayoutPlaces.{level_at-append}
 use Rattle.can_code.proofs.HeardLevels.{hear_at-going, ended_or_going}
-use Rattle.can_code.proofs.Runs.{run_after-le, run_after-ge}
+use Rattle.can_code.proofs.StuffPlaces.{is_due-reverse}
+use Rattle.can_code.proofs.Runs.{run_after-le, run_after-ge, is_due-short, is_due-long}
 use Rattle.can_code.proofs.WireFronts.{front_at, front_at-front, front_at-heard, front_at-going, front_at-ended, sent_stuff_bit}
 use Rattle.can_mac.specs.declared.phase.Phase.TheVariants.{StuffedPart, CrcDelimiter}
 use Rattle.can_mac.specs.declared.phase.Reading.{Reading}
@@ -219,6 +220,39 @@ refused-exactly f o k is some = elim (cases_lt o (length (stuffed_part f))) [
           λ none. elim (cases_lt k first.0) [ inl less ↦ absurd (errs-some first.1.1 u refl k less (sym heard ∙ none)) | inr enough ↦ omega (arith, late, enough) ],
           λ few. heard ∙ errs-none first.1.1 u refl k (omega (arith, late, few)),
         )
+
+some-errs : {j : ℕ} {phase : MacPhase} → ErrsIn j phase → 1 ≤ j
+some-errs (stuffed w error) = omega arith
+some-errs (ended r) = omega arith
+some-errs (goes_on w j none next) = omega arith
+
+-- they are late but where a stuff bit is hit, or a level behind the stuffed part
+pub late-at_once : (f : Parts) (o : ℕ) → IsFrame f → 0 < o → (lateness f o ≡ 0) ↔ ((is_stuff_place (stuffed_part f) o ≡ true) ⊎ (length (stuffed_part f) ≤ o))
+late-at_once f o is some = elim (cases_lt o (length (stuffed_part f))) [
+  | inr past ↦ (λ e. inr past, λ h. late-behind f is o some past)
+  | inl more ↦ elim (cases_eq (front_at f o).run 5) [
+    | inl five ↦ (λ e. inl (due more five), λ h. late-stuff_bit f is o some more five)
+    | inr free ↦ (
+      λ e. (let first = soon-bit f is o some more free in absurd (omega (arith, e, late-bit f is o some more free first.1.1 first.1.0, some-errs first.1.1))),
+      λ h. elim h [ inl place ↦ absurd (not_due more free place) | inr past ↦ absurd (omega (arith, more, past)) ],
+    )
+  ]
+]
+  where
+    due : o < length (stuffed_part f) → (front_at f o).run ≡ 5 → is_stuff_place (stuffed_part f) o ≡ true
+    due more five =
+        let v = front_at f o in
+        let b = take o (stuffed_part f) in
+        sym (is_due-reverse b) ∙ is_due-long b v.last v.run (front_at-front f is o some (omega (arith, more))).ends (omega (arith, five))
+
+    not_due : o < length (stuffed_part f) → (front_at f o).run ≢ 5 → is_stuff_place (stuffed_part f) o ≡ true → ⊥
+    not_due more free place =
+        let v = front_at f o in
+        let b = take o (stuffed_part f) in
+        let front = front_at-front f is o some (omega (arith, more)) in
+        let not_five : v.run ≢ 5 = free in
+        let none : is_stuff_place (stuffed_part f) o ≡ false = sym (is_due-reverse b) ∙ is_due-short b v.last v.run front.ends (omega (arith, front.front.short, not_five)) in
+        cc
 
 pub lateness-few : (f : Parts) (o : ℕ) → lateness f o ≤ 6
 unfolding lateness

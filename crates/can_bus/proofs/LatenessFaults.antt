@@ -1,5 +1,5 @@
 -- Where a decoder has its fault at the levels of a frame that is hit, and dominant levels behind them.
-use Rattle.std.proofs.Common.{◌≡◌, ◌≢◌, ℕ, zero, suc, ◌+◌, ◌-◌, ◌<◌, ◌≤◌, Bool, true, false, None, List, [], ◌∷◌, ◌++◌, length, take, replicate, refl, sym, ◌∙◌, ap, subst, arith, inl, inr, append_assoc, length-append}
+use Rattle.std.proofs.Common.{◌≡◌, ◌≢◌, ℕ, zero, suc, ◌+◌, ◌-◌, ◌<◌, ◌≤◌, Bool, true, false, List, [], ◌∷◌, ◌++◌, length, take, replicate, refl, sym, ◌∙◌, ap, subst, arith, inl, inr, append_assoc, length-append}
 use Rattle.std.proofs.Math.Dec.{eqb}
 use Rattle.std.proofs.lemmas.Bool.{cases_eq, cases_lt, and_parts, eqb-true}
 use Rattle.std.proofs.lemmas.List.{append-nil, take_all, take-append-le, length-take-le}
@@ -7,13 +7,12 @@ use Rattle.can_frame.specs.declared.level.Level.{Level}
 use Rattle.can_frame.specs.declared.level.Level.TheVariants.{Dominant, Recessive}
 use Rattle.can_frame.specs.Levels.{same, opposite}
 use Rattle.can_frame.specs.Parts.{Parts, IsFrame}
-use Rattle.can_code.specs.declared.fault.CodeFaultKind.{CodeFaultKind}
 use Rattle.can_code.specs.declared.fault.CodeFaultKind.TheVariants.{Stuff, Crc, Form}
 use Rattle.can_code.specs.declared.fault.CodeFault.{CodeFault}
 use Rattle.can_code.specs.Crc.{IsCrc}
-use Rattle.can_code.specs.Wire.{stuffed_part, wire, tail, unstuffed}
+use Rattle.can_code.specs.Wire.{stuffed_part, tail, unstuffed}
 use Rattle.can_code.specs.Layout.{level_at, check_of, head_of}
-use Rattle.can_code.specs.Front.{FrontParts, next_place, is_stuff_error, heard_level}
+use Rattle.can_code.specs.Front.{FrontParts, is_stuff_error, heard_level}
 use Rattle.can_code.specs.Reading.{IsPart}
 use Rattle.can_code.specs.CodeFaults.{IsCodeFault}
 use Rattle.can_code.proofs.StuffedParts.{IsPart-length}
@@ -25,7 +24,6 @@ use Rattle.can_code.proofs.WireFronts.{front_at, front_at-front, front_at-going}
 use Rattle.can_mac.specs.State.{MacPhase}
 use Rattle.can_mac.specs.Moves.{agrees, part_phase}
 use Rattle.can_mac.proofs.PartEnds.{agrees-Decides}
-use Rattle.can_mac.proofs.FrameSteps.{some_part}
 use Rattle.can_mac.proofs.BrokenFrames.{ErrsIn, stuffed, ended, goes_on}
 use Rattle.can_bus.specs.RepairedLine.{struck, lateness, refused_place}
 use Rattle.can_bus.proofs.Lateness.{phase-going, phase-ended, other, again, taken, late-behind, late-stuff_bit, late-bit, soon-bit}

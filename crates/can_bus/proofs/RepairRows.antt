@@ -11,7 +11,6 @@ use Rattle.can_code.specs.Crc.{crc_of}
 use Rattle.can_code.specs.Stuffing.{stuffed}
 use Rattle.can_code.specs.Wire.{head, unstuffed, stuffed_part}
 use Rattle.can_code.specs.Layout.{frame_len}
-use Rattle.can_bus.specs.declared.hit.Hit.{Hit}
 use Rattle.can_bus.specs.declared.hit.Hit.TheVariants.{In}
 use Rattle.can_bus.specs.RepairedLine.{lateness, first_attempts}
 

@@ -1,11 +1,12 @@
 //! Laws of the definitions, each a function that does nothing and ensures it.
-ghost use Rattle.std.specs.Prelude.{◌≡◌, ◌<◌, ◌≤◌, ◌+◌, ◌↔◌, ℕ, List, [], map, length, drop, None};
+ghost use Rattle.std.specs.Prelude.{◌≡◌, ◌<◌, ◌≤◌, ◌+◌, ◌↔◌, ◌⊎◌, ℕ, true, List, [], map, length, drop, None};
 ghost use Rattle.std.specs.Ordering.{partial_lt};
 ghost use Rattle.std.specs.List.Sorted.{IsPermutation};
 ghost use Rattle.can_frame.specs.Parts.{IsFrame, Parts};
 ghost use Rattle.can_code.specs.declared.fault.CodeFault.{CodeFault as Fault};
 ghost use Rattle.can_code.specs.CodeFaults.{IsCodeFault};
 ghost use Rattle.can_code.specs.Front.{first_front, heard_levels};
+ghost use Rattle.can_code.specs.Stuffing.{is_stuff_place};
 ghost use Rattle.can_code.specs.Wire.{stuffed_part};
 ghost use Rattle.can_node.specs.Ports.{IsPort};
 ghost use Rattle.can_bus.specs.declared.hit.Hit.{Hit as Disturbance};
@@ -56,11 +57,14 @@ pub fn a_quiet_bus_can_be_made()
 {}
 
 /// How many bit times later than the sender the receivers of a frame that is hit have their error. It is
-/// six at most. With so many dominant levels behind the hit, and with no fewer, a level is refused. A
-/// decoder of the levels has its fault there; where that is a wrong check sequence, with which the stuffed
-/// part ends, it is the level before.
+/// six at most, and none exactly where a stuff bit is hit, or a level behind the stuffed part. With so many
+/// dominant levels behind the hit, and with no fewer, a level is refused. A decoder of the levels has its
+/// fault there; where that is a wrong check sequence, with which the stuffed part ends, it is the level
+/// before.
 pub fn receivers_err_soon()
     ensures few { (f : Parts) (offset : ℕ) → lateness f offset ≤ 6 }
+    ensures at_once { (f : Parts) (offset : ℕ) → IsFrame f → 0 < offset →
+        (lateness f offset ≡ 0) ↔ ((is_stuff_place (stuffed_part f) offset ≡ true) ⊎ (length (stuffed_part f) ≤ offset)) }
     ensures refused { (f : Parts) (offset dominant : ℕ) → IsFrame f → 0 < offset →
         (heard_levels first_front (drop 1 (struck f offset dominant)) ≡ None) ↔ (lateness f offset ≤ dominant) }
     ensures fault { (f : Parts) (offset : ℕ) → IsFrame f → 0 < offset → offset ≤ length (stuffed_part f) →
