@@ -29,7 +29,7 @@ use Rattle.can_bus.proofs.BrokenOnBus.{broken-seen, dead_time, seen-append, seen
 use Rattle.can_bus.proofs.Repairs.{broken_levels, Plan, done, whole, broken_off, plan_levels, resting, plan-gives, plan-falls}
 use Rattle.can_bus.proofs.RepairPlans.{Apart, apart-within, sends-below}
 use Rattle.can_bus.proofs.RepairCounts.{none-stays}
-use Rattle.can_bus.proofs.RepairedBus.{none-falls, apart, round, two, are, attempts, levels, size}
+use Rattle.can_bus.proofs.RepairedBus.{none-falls, apart, round, two, are, attempts, bears, levels, size}
 use Rattle.can_bus.proofs.Lateness.{hit-level, lateness-breaks}
 
 -- ---- An attempt that is hit.
@@ -41,8 +41,8 @@ seen-repeated (suc n) l = ap (λ xs. l.1 ∷ xs) (seen-repeated n l)
 dead-seen : (j : ℕ) → seen_of (dead_time j) ≡ replicate (6 + j) Dominant ++ replicate 11 Recessive
 dead-seen j = seen-append (replicate (6 + j) in_flag) (replicate 11 at_rest) ∙ ap (λ xs. xs ++ replicate 11 Recessive) (seen-repeated (6 + j) in_flag)
 
-module _ (h : ℕ) (few : suc h ≤ 15) (f : Parts) (is : IsFrame f) (o : ℕ) (hit : IsHit f o) where
-  broken-attempt : seen_of (broken_levels h few f is o hit) ≡ attempt_levels (Some f) (Some o)
+module _ (f : Parts) (is : IsFrame f) (o : ℕ) (hit : IsHit f o) where
+  broken-attempt : seen_of (broken_levels f is o hit) ≡ attempt_levels (Some f) (Some o)
   broken-attempt =
       let j = (breaks-soon f is o hit).0 in
       let w : List Level = take o (wire f) in
@@ -91,8 +91,8 @@ module _ (frames : List Parts) (hits : List Hit) (rising : Apart hits) where
   plan-attempts (whole h number f left free sends unhit rest) within =
       attempts-more number (undisturbed (line f)) (plan_levels rest) (Some f) None sends unhit (seen-undisturbed (line f))
       ∙ plan-attempts rest (omega (arith, sends-below frames hits rising number f sends))
-  plan-attempts (broken_off h number f left few below is o hit here sends struck rest) within =
-      attempts-more number (broken_levels h few f is o hit) (plan_levels rest) (Some f) (Some o) sends struck (broken-attempt h few f is o hit)
+  plan-attempts (broken_off h number f left below is o hit here sends struck rest) within =
+      attempts-more number (broken_levels f is o hit) (plan_levels rest) (Some f) (Some o) sends struck (broken-attempt f is o hit)
       ∙ plan-attempts rest (omega (arith, sends-below frames hits rising number f sends))
 
 -- ---- Without hits.
@@ -153,6 +153,6 @@ module _ (hits : List Hit) (bus : BusState) (valid : AllPorts IsPort bus.ports) 
       let fall : Fall hits None bus.rest all =
       subst (λ r. Fall hits None r all) (sym call.rest) (plan-falls frames hits plan (are frames hits bus valid call) (suc t) None refl (λ e. none-falls hits (apart-within hits are_apart))) in
       hit-levels hits (apart-within hits are_apart) all (course bus) t Recessive
-      (plan-gives frames hits plan (suc t) bus.ports (two frames hits bus valid call) (round frames hits bus valid call)) fall (omega (arith, size frames hits bus valid call (suc t)))
+      (plan-gives frames hits plan (suc t) bus.ports (two frames hits bus valid call) (round frames hits bus valid call) (bears frames hits bus valid call)) fall (omega (arith, size frames hits bus valid call (suc t)))
       ∙ ap (λ xs. slice_index_or xs t Recessive) all-seen
       ∙ filled (first_attempts frames hits (length frames + length hits)) (suc t) t
