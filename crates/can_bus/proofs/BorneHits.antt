@@ -1,15 +1,15 @@
 -- Hits that leave every port error active: fifteen at most, or one in nine attempts of one sender.
 use Rattle.std.specs.Prelude.{slice_get, nat_lt, if◌then◌else◌}
-use Rattle.std.proofs.Common.{◌≡◌, ℕ, zero, suc, ◌+◌, ◌-◌, ◌*◌, ◌<◌, ◌≤◌, ◌⊎◌, Bool, true, false, Option, Some, None, List, [], ◌∷◌, length, refl, sym, ap, subst, ◌∙◌, arith, inl, inr}
+use Rattle.std.proofs.Common.{◌≡◌, ℕ, zero, suc, ◌+◌, ◌-◌, ◌*◌, ◌<◌, ◌≤◌, Bool, true, false, Option, Some, None, List, [], ◌∷◌, length, refl, sym, ap, subst, ◌∙◌, arith, inl, inr}
 use Rattle.std.proofs.Math.Dec.{eqb, ltb}
-use Rattle.std.proofs.lemmas.Bool.{cond-true, cond-false, cond_both, cases_eq, cases_lt, lt-ltb, le-ltb, eq-eqb, ne_eqb}
+use Rattle.std.proofs.lemmas.Bool.{cond-true, cond-false, cases_eq, cases_lt, lt-ltb, le-ltb, ne_eqb}
 use Rattle.can_frame.specs.Parts.{Parts}
 use Rattle.can_mac.specs.Frames.{slot_place}
 use Rattle.can_node.specs.Ports.{PortState}
 use Rattle.can_bus.specs.declared.hit.Hit.{Hit}
 use Rattle.can_bus.specs.declared.hit.Hit.TheVariants.{At, In, View}
 use Rattle.can_bus.specs.Quiet.{holds}
-use Rattle.can_bus.specs.Repair.{Tally, IsLow, AreBorne, FallInWindows, IsLater, AreApart, HoldsAllOrNone, AreOfOnePort, tallied, tallied_attempt, tally_after, hits_before, hit_of, frame_of_attempt, attempts}
+use Rattle.can_bus.specs.Repair.{Tally, IsLow, AreBorne, FallInWindows, IsLater, AreApart, HoldsAllOrNone, AreOfOnePort, tallied, tallied_attempt, tally_after, hits_before, hit_of, frame_of_attempt}
 use Rattle.can_bus.proofs.RepairPlans.{Apart, apart-from, few-before, hit-cases, frame-cases, struck-there}
 use Rattle.can_bus.proofs.RepairCounts.{none-stays}
 
@@ -24,10 +24,12 @@ before-hit (In a offset ∷ hits) number =
     elim (cases_lt a number) [
       | inl less ↦
           let now = cond-true (ltb a number) (suc (hits_before hits number)) (hits_before hits number) (lt-ltb a number less) in
-          let next = cond-true (ltb a (suc number)) (suc (hits_before hits (suc number))) (hits_before hits (suc number)) (lt-ltb a (suc number) (omega (arith, less))) in
-          (omega (arith, now, next, rest.0), λ o e. (
-            let more = rest.1 o (sym (cond-false (eqb a number) (Some offset) (hit_of hits number) (ne_eqb a number (λ same. omega (arith, same, less)))) ∙ e) in
-            omega (arith, now, next, more)))
+          let next = cond-true (ltb a (suc number)) (suc (hits_before hits (suc number))) (hits_before hits (suc number)) (lt-ltb a (suc number) (omega (arith, less))) in (
+            omega (arith, now, next, rest.0),
+            λ o e. (
+                let more = rest.1 o (sym (cond-false (eqb a number) (Some offset) (hit_of hits number) (ne_eqb a number (λ same. omega (arith, same, less)))) ∙ e) in
+                omega (arith, now, next, more)),
+          )
       | inr more ↦
           let now = cond-false (ltb a number) (suc (hits_before hits number)) (hits_before hits number) (le-ltb a number more) in
           elim (cases_eq a number) [
@@ -36,10 +38,12 @@ before-hit (In a offset ∷ hits) number =
                 (omega (arith, now, next, rest.0), λ o e. omega (arith, now, next, rest.0))
             | inr other ↦
                 let apart : (a ≡ number) → ⊥ = other in
-                let next = cond-false (ltb a (suc number)) (suc (hits_before hits (suc number))) (hits_before hits (suc number)) (le-ltb a (suc number) (omega (arith, more, apart))) in
-                (omega (arith, now, next, rest.0), λ o e. (
-                  let hit = rest.1 o (sym (cond-false (eqb a number) (Some offset) (hit_of hits number) (ne_eqb a number other)) ∙ e) in
-                  omega (arith, now, next, hit)))
+                let next = cond-false (ltb a (suc number)) (suc (hits_before hits (suc number))) (hits_before hits (suc number)) (le-ltb a (suc number) (omega (arith, more, apart))) in (
+                  omega (arith, now, next, rest.0),
+                  λ o e. (
+                      let hit = rest.1 o (sym (cond-false (eqb a number) (Some offset) (hit_of hits number) (ne_eqb a number other)) ∙ e) in
+                      omega (arith, now, next, hit)),
+                )
           ]
     ]
 
@@ -198,9 +202,9 @@ module _ (frames : List Parts) (hits : List Hit) (windows : FallInWindows frames
             still = ap (other b) same ∙ before.still;
             most = subst (λ u. own b u ≤ 8) (sym same) before.most;
             soon = λ f e. (
-              let next = none-stays queue frames hits apart number 1 none in
-              let k : suc number ≡ number + 1 = omega arith in
-              absurd (let none_there : None ≡ Some f = sym next ∙ sym (ap (frame_of_attempt frames hits) k) ∙ e in cc));
+                let next = none-stays queue frames hits apart number 1 none in
+                let k : suc number ≡ number + 1 = omega arith in
+                absurd (let none_there : None ≡ Some f = sym next ∙ sym (ap (frame_of_attempt frames hits) k) ∙ e in cc));
           }
       | inr some ↦
           let before = restored number in

@@ -1,5 +1,5 @@
 -- Calls that are repaired: that they can be made, and that those without hits are quiet ones.
-use Rattle.std.proofs.Common.{◌≡◌, ℕ, zero, suc, ◌+◌, ◌-◌, ◌<◌, ◌≤◌, ◌⊎◌, Bool, true, false, Option, Some, None, List, [], ◌∷◌, ◌++◌, length, map, take, refl, sym, ap, subst, ◌∙◌, arith, inl, inr}
+use Rattle.std.proofs.Common.{◌≡◌, ℕ, zero, suc, ◌+◌, ◌-◌, ◌<◌, ◌≤◌, ◌⊎◌, Bool, true, false, Option, Some, None, List, [], ◌++◌, length, map, take, refl, sym, ap, subst, ◌∙◌, arith, inl}
 use Rattle.std.specs.Prelude.{◌&&◌, ◌||◌}
 use Rattle.std.proofs.Math.Dec.{eqb, ltb}
 use Rattle.std.proofs.lemmas.Bool.{lt-ltb}
@@ -9,7 +9,7 @@ use Rattle.can_frame.specs.Levels.{bits_of}
 use Rattle.can_frame.specs.Parts.{Parts}
 use Rattle.can_frame.specs.Arbitration.{arbitration_field}
 use Rattle.can_code.specs.Crc.{crc_of}
-use Rattle.can_code.specs.Stuffing.{kept, Stuffs}
+use Rattle.can_code.specs.Stuffing.{kept}
 use Rattle.can_code.specs.Wire.{reserved, head, unstuffed, stuffed_part, wire}
 use Rattle.can_code.proofs.StuffingLemmas.{Stuffs-stuffed}
 use Rattle.can_mac.proofs.FrameParts.{length-wire}
