@@ -1,14 +1,21 @@
 //! Laws of the definitions, each a function that does nothing and ensures it.
-ghost use Rattle.std.specs.Prelude.{◌≡◌, ◌≤◌, ◌+◌, ℕ, List, [], map};
+ghost use Rattle.std.specs.Prelude.{◌≡◌, ◌<◌, ◌≤◌, ◌+◌, ◌-◌, ◌↔◌, ◌⊎◌, ℕ, true, List, [], drop, length, map, None};
 ghost use Rattle.std.specs.Ordering.{partial_lt};
 ghost use Rattle.std.specs.List.Sorted.{IsPermutation};
-ghost use Rattle.can_frame.specs.Parts.{Parts};
-ghost use Rattle.can_node.specs.Ports.{IsPort};
+ghost use Rattle.can_frame.specs.Parts.{IsFrame, Parts};
+ghost use Rattle.can_code.specs.declared.fault.CodeFault.{CodeFault as Fault};
+ghost use Rattle.can_code.specs.CodeFaults.{IsCodeFault};
+ghost use Rattle.can_code.specs.Front.{first_front, heard_levels};
+ghost use Rattle.can_code.specs.Stuffing.{is_stuff_place};
+ghost use Rattle.can_code.specs.Wire.{stuffed_part, wire};
+ghost use Rattle.can_node.specs.Ports.{IsPort, PortState};
 ghost use Rattle.can_bus.specs.declared.hit.Hit.{Hit as Disturbance};
 ghost use Rattle.can_bus.specs.Agreement.{AreAlike, LogsAgree};
-ghost use Rattle.can_bus.specs.Hits.{is_above};
+ghost use Rattle.can_bus.specs.Hits.{AreTaken, is_above};
 ghost use Rattle.can_bus.specs.Plans.{FitsQueue, IsQuietPlan, PortPlan, planned, ready_port};
-ghost use Rattle.can_bus.specs.Quiet.{AreDifferent, IsAscending, IsQuiet, ascending, queued, span};
+ghost use Rattle.can_bus.specs.Quiet.{AreDifferent, IsAscending, IsQuiet, IsQuietCall, ascending, line_at, queued, span};
+ghost use Rattle.can_bus.specs.Repair.{AreApart, AreBorne, AreOfOnePort, FallInWindows, IsInWindow, IsRepairedCall, repaired_span, tally};
+ghost use Rattle.can_bus.specs.RepairedLine.{lateness, refused_place, repaired_line_at, struck};
 ghost use Rattle.can_bus.specs.Run.{BusState, bus_level, bus_run};
 
 use crate::hit::Hit;
@@ -48,4 +55,56 @@ pub fn a_quiet_bus_can_be_made()
     ensures quiet { (plans : List PortPlan) → IsQuietPlan plans → IsQuiet (map ready_port plans) }
     ensures queued { (plans : List PortPlan) → queued (map ready_port plans) ≡ planned plans }
     ensures ports { (plan : PortPlan) → FitsQueue plan → IsPort (ready_port plan) }
+{}
+
+/// At most fifteen hits leave every port error active, wherever they fall.
+pub fn fifteen_hits_are_borne()
+    ensures { (frames : List Parts) (hits : List Disturbance) (ports : List PortState) → length hits ≤ 15 → AreBorne frames hits ports }
+{}
+
+/// One hit in every nine attempts leaves every port error active, however many they are, where one port
+/// sends all frames: the eight frames between two hits take back what a hit has counted.
+pub fn one_hit_in_nine_is_borne()
+    ensures { (frames : List Parts) (hits : List Disturbance) (ports : List PortState) → FallInWindows frames hits → AreApart 9 hits →
+        AreOfOnePort frames ports → AreBorne frames hits ports }
+{}
+
+/// Without hits a call that is repaired is a quiet call on a bus at rest, in the time of a quiet call, and
+/// its tally is 0.
+pub fn a_call_without_hits_is_quiet()
+    ensures quiet { (bus : BusState) (frames : List Parts) → IsRepairedCall [] bus frames → IsQuietCall [] bus.ports frames × (bus.rest ≡ 11) }
+    ensures repaired { (bus : BusState) (frames : List Parts) → IsQuietCall [] bus.ports frames → bus.rest ≡ 11 → IsRepairedCall [] bus frames }
+    ensures span { (frames : List Parts) → repaired_span frames [] ≡ span frames }
+    ensures tally { (queue frames : List Parts) → ((tally queue frames []).tec ≡ 0) × ((tally queue frames []).rec ≡ 0) }
+{}
+
+/// A call on a new bus of the ports of `a_quiet_bus_can_be_made`, with hits in the windows of different
+/// attempts, in order, that all ports bear, is one that is repaired; and such hits are taken. No frame's
+/// window is empty: the last but one level of its end of frame is in it.
+pub fn a_repaired_call_can_be_made()
+    ensures call { (plans : List PortPlan) (hits : List Disturbance) → IsQuietPlan plans → FallInWindows (ascending (planned plans)) hits → AreApart 1 hits →
+        (length hits ≤ 15) ⊎ AreBorne (ascending (planned plans)) hits (map ready_port plans) →
+        IsRepairedCall hits (record { ports = map ready_port plans; rest = 11 }) (ascending (planned plans)) }
+    ensures taken { (ports : ℕ) (frames : List Parts) (hits : List Disturbance) → FallInWindows frames hits → AreApart 1 hits → AreTaken ports hits }
+    ensures window { (f : Parts) → IsInWindow f (length (wire f) - 2) }
+{}
+
+/// How many bit times later than the sender the receivers of a frame that is hit have their error. It is
+/// six at most, and none exactly where a stuff bit is hit, or a level behind the stuffed part. With so many
+/// dominant levels behind the hit, and with no fewer, a level is refused. A decoder of the levels has its
+/// fault there; where that is a wrong check sequence, with which the stuffed part ends, it is the level
+/// before.
+pub fn receivers_err_soon()
+    ensures few { (f : Parts) (offset : ℕ) → lateness f offset ≤ 6 }
+    ensures at_once { (f : Parts) (offset : ℕ) → IsFrame f → 0 < offset →
+        (lateness f offset ≡ 0) ↔ ((is_stuff_place (stuffed_part f) offset ≡ true) ⊎ (length (stuffed_part f) ≤ offset)) }
+    ensures refused { (f : Parts) (offset dominant : ℕ) → IsFrame f → 0 < offset →
+        (heard_levels first_front (drop 1 (struck f offset dominant)) ≡ None) ↔ (lateness f offset ≤ dominant) }
+    ensures fault { (f : Parts) (offset : ℕ) → IsFrame f → 0 < offset → offset ≤ length (stuffed_part f) →
+        (fault : Fault) × (IsCodeFault (struck f offset 7) fault × (refused_place fault.kind fault.place ≡ offset + lateness f offset)) }
+{}
+
+/// Where nothing is hit the levels of a disturbed bus are those of a quiet one.
+pub fn no_hit_leaves_a_quiet_line()
+    ensures { (frames : List Parts) (t : ℕ) → repaired_line_at frames [] t ≡ line_at frames t }
 {}

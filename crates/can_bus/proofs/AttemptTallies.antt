@@ -1,0 +1,97 @@
+-- What one attempt makes of the counters of a port: the tally, as long as the port is error active.
+use Rattle.std.specs.Prelude.{nat_lt, min, if◌then◌else◌}
+use Rattle.std.proofs.Common.{◌≡◌, ℕ, suc, ◌+◌, ◌-◌, ◌<◌, Bool, true, false, None, Some, refl, sym, ap, subst, ◌∙◌, arith, inl, inr}
+use Rattle.std.proofs.Math.Dec.{ltb, leb}
+use Rattle.std.proofs.lemmas.Bool.{cond-true, cond-false, cond_both, cases_lt, lt-ltb, le-ltb, leb-true, false_from_ne_true}
+use Rattle.can_frame.specs.Parts.{Parts}
+use Rattle.can_fault.specs.declared.cause.Cause.{Cause}
+use Rattle.can_fault.specs.declared.cause.Cause.TheVariants.{FrameSent, FrameReceived, ReceiverError, SenderError}
+use Rattle.can_fault.specs.Counters.{ConfineParts, changed, counted, is_bus_off, rec_after_reception}
+use Rattle.can_mac.specs.declared.phase.Role.TheVariants.{Receiver}
+use Rattle.can_mac.specs.Frames.{line, behind_part, counters_after, slot_place}
+use Rattle.can_node.specs.Ports.{PortState, waiting, port_run}
+use Rattle.can_node.proofs.FrameLeaves.{Sends, Receives, port_run-sent, port_run-received}
+use Rattle.can_bus.specs.Quiet.{holds}
+use Rattle.can_bus.specs.Repair.{Tally, IsLow, tallied}
+use Rattle.can_bus.proofs.Rounds.{IsWithin, within-received, sends-has}
+use Rattle.can_bus.proofs.QuietLogs.{TakesPart, holds-own, holds-none, others-of}
+
+-- ---- One error more.
+
+module _ (h : ℕ) (c : ConfineParts) (within : IsWithin h c) where
+  pub within-more : IsWithin (suc h) c
+  within-more = record { low_tec = within.low_tec; low_rec = within.low_rec; tec = omega (arith, within.tec); rec = omega (arith, within.rec) }
+
+  pub sender-within : c.tec + 8 < 128 → IsWithin (suc h) (counted SenderError c)
+  sender-within low =
+      cond_both {A = ConfineParts} (is_bus_off c) c (changed SenderError c) (IsWithin (suc h)) (λ e. within-more)
+      (λ e. record { low_tec = low; low_rec = within.low_rec; tec = omega (arith, within.tec); rec = omega (arith, within.rec) })
+
+  pub receiver-within : c.rec + 1 < 128 → IsWithin (suc h) (counted ReceiverError c)
+  receiver-within low =
+      cond_both {A = ConfineParts} (is_bus_off c) c (changed ReceiverError c) (IsWithin (suc h)) (λ e. within-more)
+      (λ e. record { low_tec = within.low_tec; low_rec = omega (arith, low); tec = omega (arith, within.tec); rec = omega (arith, within.rec) })
+
+pub within-slot : (h : ℕ) (c : ConfineParts) (k : ℕ) → IsWithin h c → IsWithin h (counters_after Receiver c k)
+within-slot h c k within = cond_both {A = ConfineParts} (nat_lt k 2) c (counted FrameReceived c) (IsWithin h) (λ e. within) (λ e. within-received h c within)
+
+-- ---- The tally of one attempt.
+
+abbrev pub tally_of : ConfineParts → Tally
+tally_of c = record { tec = c.tec; rec = c.rec }
+
+on-bus : (h : ℕ) (c : ConfineParts) → IsWithin h c → is_bus_off c ≡ false
+on-bus h c within = false_from_ne_true (leb 256 c.tec) (λ e. omega (arith, leb-true 256 c.tec e, within.low_tec))
+
+pub counted-on : (h : ℕ) (cause : Cause) (c : ConfineParts) → IsWithin h c → counted cause c ≡ changed cause c
+counted-on h cause c within = cond-false (is_bus_off c) c (changed cause c) (on-bus h c within)
+
+fewer-by-one : (h : ℕ) (c : ConfineParts) → IsWithin h c → rec_after_reception c.rec ≡ c.rec - 1
+fewer-by-one h c within = cond-false (leb 128 c.rec) _ _ (false_from_ne_true (leb 128 c.rec) (λ e. omega (arith, leb-true 128 c.rec e, within.low_rec)))
+
+abbrev pub part-holds : (f : Parts) (p : PortState) → TakesPart f p → Bool
+part-holds f p (inl sends) = true
+part-holds f p (inr receives) = false
+
+pub holds-part : (f : Parts) (p : PortState) (part : TakesPart f p) → holds p.queue f ≡ part-holds f p part
+holds-part f p (inl sends) = holds-own f p.queue (sends-has f p sends)
+holds-part f p (inr receives) = holds-none f p.queue (others-of f p.queue (waiting p.queue) refl receives.other)
+
+pub whole-tally : (h : ℕ) (f : Parts) (p : PortState) → IsWithin h p.mac.counters → (part : TakesPart f p) →
+    tally_of (port_run p (line f)).mac.counters ≡ tallied (part-holds f p part) f None (tally_of p.mac.counters)
+whole-tally h f p within (inl sends) =
+    ap (λ (q : PortState). tally_of q.mac.counters) (port_run-sent f p sends) ∙ ap tally_of (counted-on h FrameSent p.mac.counters within)
+whole-tally h f p within (inr receives) =
+    ap (λ (q : PortState). tally_of q.mac.counters) (port_run-received f p receives) ∙ ap tally_of (counted-on h FrameReceived p.mac.counters within)
+    ∙ ap (λ r. let t : Tally = record { tec = p.mac.counters.tec; rec = r } in t) (fewer-by-one h p.mac.counters within)
+
+-- behind the ACK slot a receiver has counted a reception
+pub slot-tally : (h : ℕ) (f : Parts) (o : ℕ) (c : ConfineParts) → IsWithin h c →
+    tally_of (counters_after Receiver c (behind_part f o)) ≡ record { tec = c.tec; rec = if nat_lt (slot_place f) o then c.rec - 1 else c.rec }
+slot-tally h f o c within = elim (cases_lt (slot_place f) o) [
+  | inl past ↦
+      ap tally_of (cond-false (ltb (behind_part f o) 2) _ _ (le-ltb (behind_part f o) 2 (omega (arith, past))) ∙ counted-on h FrameReceived c within)
+      ∙ ap (λ r. let t : Tally = record { tec = c.tec; rec = r } in t) (fewer-by-one h c within ∙ sym (cond-true (ltb (slot_place f) o) (c.rec - 1) c.rec (lt-ltb (slot_place f) o past)))
+  | inr early ↦
+      ap tally_of (cond-true (ltb (behind_part f o) 2) _ _ (lt-ltb (behind_part f o) 2 (omega (arith, early))))
+      ∙ ap (λ r. let t : Tally = record { tec = c.tec; rec = r } in t) (sym (cond-false (ltb (slot_place f) o) (c.rec - 1) c.rec (le-ltb (slot_place f) o early)))
+]
+
+pub error-tally : (h : ℕ) (c : ConfineParts) → IsWithin h c → tally_of (counted ReceiverError c) ≡ record { tec = c.tec; rec = c.rec + 1 }
+error-tally h c within =
+    ap tally_of (counted-on h ReceiverError c within)
+    ∙ ap (λ r. let t : Tally = record { tec = c.tec; rec = r } in t) (let e : min (c.rec + 1) 255 ≡ c.rec + 1 = omega (arith, within.low_rec) in e)
+
+-- ---- A port that a hit leaves error active.
+
+abbrev pub Survives : Parts → ℕ → PortState → Type 0
+Survives f o p = IsLow (tallied (holds p.queue f) f (Some o) (tally_of p.mac.counters))
+
+pub survives-sender : (f : Parts) (o : ℕ) (p : PortState) → Survives f o p → Sends f p → p.mac.counters.tec + 8 < 128
+survives-sender f o p low sends = (subst (λ b. IsLow (tallied b f (Some o) (tally_of p.mac.counters))) (holds-part f p (inl sends)) low).tec
+
+pub survives-receiver : (h : ℕ) (f : Parts) (o : ℕ) (p : PortState) → IsWithin h p.mac.counters → Survives f o p → Receives f p →
+    (counters_after Receiver p.mac.counters (behind_part f o)).rec + 1 < 128
+survives-receiver h f o p within low receives =
+    let less = (subst (λ b. IsLow (tallied b f (Some o) (tally_of p.mac.counters))) (holds-part f p (inr receives)) low).rec in
+    subst (λ (t : Tally). t.rec + 1 < 128) (sym (slot-tally h f o p.mac.counters within)) less
