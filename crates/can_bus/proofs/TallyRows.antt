@@ -1,0 +1,82 @@
+-- Windows and tallies computed on disturbed calls whose outcome is known from elsewhere.
+use Rattle.std.proofs.Common.{◌≡◌, ℕ, zero, suc, ◌+◌, false, List, [], ◌∷◌, length, refl}
+use Rattle.can_frame.specs.Levels.{bits_of}
+use Rattle.can_frame.specs.Arbitration.{arbitration_field}
+use Rattle.can_frame.specs.Parts.{Parts}
+use Rattle.can_code.specs.Crc.{crc_of}
+use Rattle.can_code.specs.Stuffing.{stuffed}
+use Rattle.can_code.specs.Wire.{head, unstuffed, stuffed_part, wire}
+use Rattle.can_bus.specs.declared.hit.Hit.{Hit}
+use Rattle.can_bus.specs.declared.hit.Hit.TheVariants.{In}
+use Rattle.can_bus.specs.Quiet.{span}
+use Rattle.can_bus.specs.Repair.{Tally, tally, tally_after, repaired_span, unstuffed_before}
+
+-- S 000 D 0 and S 001 D 0
+abbrev least : Parts
+least = record { id = record { raw = 0; extended = false }; remote = false; dlc = 0; bytes = [] }
+
+abbrev next : Parts
+next = record { id = record { raw = 1; extended = false }; remote = false; dlc = 0; bytes = [] }
+
+abbrev counts : ℕ → ℕ → Tally
+counts tec rec = record { tec = tec; rec = rec }
+
+-- The window of the first goes from 16 to 48: start of frame and field are 14 levels, with two stuff bits among them.
+field_size : length (arbitration_field least) ≡ 13
+unfolding arbitration_field bits_of
+field_size = refl
+
+at_15 : unstuffed_before least 15 ≡ 13
+unfolding arbitration_field bits_of crc_of head unstuffed stuffed stuffed_part
+at_15 = refl
+
+at_16 : unstuffed_before least 16 ≡ 14
+unfolding arbitration_field bits_of crc_of head unstuffed stuffed stuffed_part
+at_16 = refl
+
+wire_size : length (wire least) ≡ 50
+unfolding arbitration_field bits_of crc_of head unstuffed stuffed stuffed_part
+wire_size = refl
+
+-- fifteen hits at 16, one an attempt
+abbrev from : ℕ → ℕ → List Hit
+from number zero = []
+from number (suc n) = In number 16 ∷ from (number + 1) n
+
+sender_after_fifteen : tally_after (least ∷ []) (least ∷ []) (from 0 15) 15 ≡ counts 120 0
+unfolding arbitration_field bits_of crc_of head unstuffed stuffed stuffed_part
+sender_after_fifteen = refl
+
+receiver_after_fifteen : tally_after [] (least ∷ []) (from 0 15) 15 ≡ counts 0 15
+unfolding arbitration_field bits_of crc_of head unstuffed stuffed stuffed_part
+receiver_after_fifteen = refl
+
+sender_of_fifteen : tally (least ∷ []) (least ∷ []) (from 0 15) ≡ counts 119 0
+unfolding arbitration_field bits_of crc_of head unstuffed stuffed stuffed_part
+sender_of_fifteen = refl
+
+receiver_of_fifteen : tally [] (least ∷ []) (from 0 15) ≡ counts 0 14
+unfolding arbitration_field bits_of crc_of head unstuffed stuffed stuffed_part
+receiver_of_fifteen = refl
+
+-- the second of two frames hit, each at a port of its own
+sender_of_second : tally (next ∷ []) (least ∷ next ∷ []) (In 1 19 ∷ []) ≡ counts 7 0
+unfolding arbitration_field bits_of crc_of head unstuffed stuffed stuffed_part
+sender_of_second = refl
+
+receiver_of_second : tally (least ∷ []) (least ∷ next ∷ []) (In 1 19 ∷ []) ≡ counts 0 0
+unfolding arbitration_field bits_of crc_of head unstuffed stuffed stuffed_part
+receiver_of_second = refl
+
+bound_of_second : repaired_span (least ∷ next ∷ []) (In 1 19 ∷ []) ≡ 146
+unfolding arbitration_field bits_of crc_of head unstuffed stuffed stuffed_part span
+bound_of_second = refl
+
+-- a hit behind the ACK slot
+sender_at_48 : tally (least ∷ []) (least ∷ []) (In 0 48 ∷ []) ≡ counts 7 0
+unfolding arbitration_field bits_of crc_of head unstuffed stuffed stuffed_part
+sender_at_48 = refl
+
+receiver_at_48 : tally [] (least ∷ []) (In 0 48 ∷ []) ≡ counts 0 0
+unfolding arbitration_field bits_of crc_of head unstuffed stuffed stuffed_part
+receiver_at_48 = refl
