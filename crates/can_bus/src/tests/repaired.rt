@@ -137,7 +137,8 @@ const FEW_HITS: &[Row<'static>] = &[
         ],
         driven: &[(18, 0, "000000111111111110"), (18, 1, "000000111111111111")],
     },
-    // Level 19 of the second frame is a stuff bit too; the first frame is through by then.
+    // Level 19 of the second frame is a stuff bit too; the first frame is through by then. Undisturbed
+    // the two take 103 bit times, and the hit costs at most 19 and 24 more: 146.
     Row {
         name: "the second of two frames",
         queues: TWO_SENDERS,
@@ -165,6 +166,7 @@ const FEW_HITS: &[Row<'static>] = &[
                 "active 8 0, took S 000 D 0 | active 0 1, sent S 000 D 0",
             ),
             (140, BOTH_IN_ORDER),
+            (146, BOTH_IN_ORDER),
         ],
         driven: &[(90, 0, "0"), (90, 1, "1")],
     },
