@@ -7,6 +7,9 @@ use super::lines::{
 use crate::Hit;
 use std::test::Fail;
 
+/// A sender with the frame of `WIRE_000`, and a receiver.
+const SENDER_AND_RECEIVER: &[&[&str]] = &[&["S 000 D 0"], &[]];
+
 /// A hit by its time and one by attempt and offset fall on level 16, the reserved bit. It is inverted
 /// once, and so all is as with one of them.
 #[test]
@@ -22,7 +25,7 @@ fn two_hits_invert_a_level_once(rt: HostRuntime) -> Result<(), Fail> {
     let want = format!(in alloc;
         "00000100000100001000000000000{DELIMITER_AND_INTERMISSION}{WIRE_000}{INTERMISSION}"
     )?;
-    let mut bus = bus_with(alloc, &[&["S 000 D 0"], &[]])?;
+    let mut bus = bus_with(alloc, SENDER_AND_RECEIVER)?;
     let levels = recorded(alloc, &mut bus, &hits, 93)?;
     assert_eq!(rt; levels.as_str(), want.as_str());
     assert_eq!(rt;
