@@ -3,6 +3,7 @@ mod disturbed;
 mod lines;
 mod ports;
 mod quiet;
+mod repaired;
 mod states;
 
 use crate::{BusFault, Hit, wired};

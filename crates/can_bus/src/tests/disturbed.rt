@@ -10,75 +10,28 @@ use std::test::Fail;
 /// A sender with the frame of `WIRE_000`, and a receiver.
 const SENDER_AND_RECEIVER: &[&[&str]] = &[&["S 000 D 0"], &[]];
 
-const ONCE_EACH: &str = "active 7 0, sent S 000 D 0 | active 0 0, took S 000 D 0";
-
-/// Level 16 is the reserved bit, the fifth dominant level in a row. Recessive, it is a bit error to
-/// the sender. The receiver takes it, and then the sender's flag, whose sixth level stands where a
-/// stuff bit should. A second hit on the same level doesn't invert it back.
+/// A hit by its time and one by attempt and offset fall on level 16, the reserved bit. It is inverted
+/// once, and so all is as with one of them.
 #[test]
-fn a_reserved_bit_is_inverted(rt: HostRuntime) -> Result<(), Fail> {
+fn two_hits_invert_a_level_once(rt: HostRuntime) -> Result<(), Fail> {
     let alloc = rt.alloc();
-    let in_attempt = Hit::In {
-        attempt: 0,
-        offset: 16,
-    };
-    let once = [in_attempt];
-    let twice = [Hit::At(16), in_attempt];
+    let hits = [
+        Hit::At(16),
+        Hit::In {
+            attempt: 0,
+            offset: 16,
+        },
+    ];
     let want = format!(in alloc;
         "00000100000100001000000000000{DELIMITER_AND_INTERMISSION}{WIRE_000}{INTERMISSION}"
     )?;
-    for hits in [once.as_slice(), twice.as_slice()] {
-        let mut bus = bus_with(alloc, SENDER_AND_RECEIVER)?;
-        let levels = recorded(alloc, &mut bus, hits, 93)?;
-        assert_eq!(rt; levels.as_str(), want.as_str());
-        let moments = [
-            (16, "active 0 0 | active 0 0"),
-            (17, "active 8 0 | active 0 0"),
-            (22, "active 8 0 | active 0 0"),
-            (23, "active 8 0 | active 0 1"),
-            (40, "active 8 0 | active 0 1"),
-            (93, ONCE_EACH),
-        ];
-        stand(&rt, alloc, SENDER_AND_RECEIVER, hits, &moments)?;
-        for (node, flag) in [(0, "000000111111"), (1, "111111000000")] {
-            let mut bus = bus_after(alloc, SENDER_AND_RECEIVER, hits, 17)?;
-            assert_eq!(rt;
-                driven(alloc, &mut bus, node, 12)?.as_str(),
-                flag,
-                "port {node}"
-            );
-        }
-    }
-    Ok(())
-}
-
-/// Level 17 is a stuff bit. Dominant, it is an error to both ports at once, and their flags stand one
-/// on the other from 18 to 23. The delimiter ends with 31, the intermission with 34.
-#[test]
-fn a_stuff_bit_is_inverted(rt: HostRuntime) -> Result<(), Fail> {
-    let alloc = rt.alloc();
-    let hits = [Hit::In {
-        attempt: 0,
-        offset: 17,
-    }];
-    let want = format!(in alloc;
-        "000001000001000000000000{DELIMITER_AND_INTERMISSION}{WIRE_000}{INTERMISSION}"
-    )?;
     let mut bus = bus_with(alloc, SENDER_AND_RECEIVER)?;
-    let levels = recorded(alloc, &mut bus, &hits, 88)?;
+    let levels = recorded(alloc, &mut bus, &hits, 93)?;
     assert_eq!(rt; levels.as_str(), want.as_str());
-    let moments = [
-        (17, "active 0 0 | active 0 0"),
-        (18, "active 8 0 | active 0 1"),
-        (35, "active 8 0 | active 0 1"),
-        (88, ONCE_EACH),
-    ];
-    stand(&rt, alloc, SENDER_AND_RECEIVER, &hits, &moments)?;
-    for (node, start) in [(0, "0"), (1, "1")] {
-        let mut bus = bus_after(alloc, SENDER_AND_RECEIVER, &hits, 18)?;
-        let want = format!(in alloc; "000000{DELIMITER_AND_INTERMISSION}{start}")?;
-        assert_eq!(rt; driven(alloc, &mut bus, node, 18)?.as_str(), want.as_str());
-    }
+    assert_eq!(rt;
+        standing(alloc, &bus)?.as_str(),
+        "active 7 0, sent S 000 D 0 | active 0 0, took S 000 D 0"
+    );
     Ok(())
 }
 

@@ -35,8 +35,20 @@ pub fn frame(text: &str) -> Result<Frame, Fail> {
     Ok(Frame::from_text(text.as_bytes())?)
 }
 
+/// A kind of port that a table of rows can be run over.
+pub trait Kind: Port + Drop {
+    /// An idle port with room for so many frames that wait.
+    fn idle(alloc: Global, room: usize) -> Result<Self, AllocError>;
+}
+
+impl Kind for PlainNode {
+    fn idle(alloc: Global, room: usize) -> Result<PlainNode, AllocError> {
+        PlainNode::new(alloc, room, LOG_ROOM)
+    }
+}
+
 /// Queues a frame at the port of this number.
-pub fn offer(bus: &mut Bus<PlainNode>, node: usize, text: &str) -> Result<(), Fail> {
+pub fn offer<P: Port>(bus: &mut Bus<P>, node: usize, text: &str) -> Result<(), Fail> {
     let port = bus.port_mut(node).ok_or("no such port")?;
     match port.offer(frame(text)?) {
         Ok(()) => Ok(()),
@@ -44,7 +56,7 @@ pub fn offer(bus: &mut Bus<PlainNode>, node: usize, text: &str) -> Result<(), Fa
     }
 }
 
-pub fn bus_of(ports: Vec<PlainNode>) -> Result<Bus<PlainNode>, Fail> {
+pub fn bus_of<P: Port + Drop>(ports: Vec<P>) -> Result<Bus<P>, Fail> {
     match Bus::new(ports) {
         Ok(bus) => Ok(bus),
         Err((fault, _)) => Err(fault.into()),
@@ -55,17 +67,17 @@ pub fn bus_of(ports: Vec<PlainNode>) -> Result<Bus<PlainNode>, Fail> {
 pub fn idle_ports(alloc: Global, count: usize, room: usize) -> Result<Vec<PlainNode>, AllocError> {
     let mut ports = Vec::new(alloc);
     for _ in 0..count {
-        ports.push(PlainNode::new(alloc, room, LOG_ROOM)?)?;
+        ports.push(PlainNode::idle(alloc, room)?)?;
     }
     Ok(ports)
 }
 
-/// An idle port for each of these queues, offered its frames in turn. There is room for one more.
-pub fn bus_with(alloc: Global, queues: &[&[&str]]) -> Result<Bus<PlainNode>, Fail> {
+/// An idle port of some kind for each of these queues, offered its frames in turn. There is room for
+/// one more.
+pub fn queued_bus<P: Kind>(alloc: Global, queues: &[&[&str]]) -> Result<Bus<P>, Fail> {
     let mut ports = Vec::new(alloc);
     for queue in queues {
-        let room = queue.len().saturating_add(1);
-        ports.push(PlainNode::new(alloc, room, LOG_ROOM)?)?;
+        ports.push(P::idle(alloc, queue.len().saturating_add(1))?)?;
     }
     let mut bus = bus_of(ports)?;
     for (node, queue) in queues.iter().enumerate() {
@@ -76,10 +88,15 @@ pub fn bus_with(alloc: Global, queues: &[&[&str]]) -> Result<Bus<PlainNode>, Fai
     Ok(bus)
 }
 
+/// The same of plain ports.
+pub fn bus_with(alloc: Global, queues: &[&[&str]]) -> Result<Bus<PlainNode>, Fail> {
+    queued_bus(alloc, queues)
+}
+
 /// Runs the bus for so many bit times, and gives the levels that were recorded.
-pub fn recorded(
+pub fn recorded<P: Port>(
     alloc: Global,
-    bus: &mut Bus<PlainNode>,
+    bus: &mut Bus<P>,
     hits: &[Hit],
     times: usize,
 ) -> Result<String, Fail> {
@@ -120,9 +137,9 @@ pub fn stand(
 }
 
 /// Runs the bus for so many bit times without hits, and gives the levels that one port drove.
-pub fn driven(
+pub fn driven<P: Port>(
     alloc: Global,
-    bus: &mut Bus<PlainNode>,
+    bus: &mut Bus<P>,
     node: usize,
     times: usize,
 ) -> Result<String, Fail> {
@@ -136,7 +153,7 @@ pub fn driven(
 }
 
 /// What each port drives now, as a text of as many levels as there are ports.
-pub fn drives(alloc: Global, ports: &[PlainNode]) -> Result<String, Fail> {
+pub fn drives<P: Port>(alloc: Global, ports: &[P]) -> Result<String, Fail> {
     let mut levels = Vec::new(alloc);
     for port in ports {
         levels.push(port.drive())?;
@@ -145,7 +162,7 @@ pub fn drives(alloc: Global, ports: &[PlainNode]) -> Result<String, Fail> {
 }
 
 /// Of each port its state, its counters (TEC, then REC), and the entries of its log.
-pub fn standing(alloc: Global, bus: &Bus<PlainNode>) -> Result<String, Fail> {
+pub fn standing<P: Port>(alloc: Global, bus: &Bus<P>) -> Result<String, Fail> {
     let mut text = String::new(alloc);
     for port in bus.ports() {
         if !text.is_empty() {
@@ -156,7 +173,7 @@ pub fn standing(alloc: Global, bus: &Bus<PlainNode>) -> Result<String, Fail> {
     Ok(text)
 }
 
-fn push_standing(text: &mut String, port: &PlainNode) -> Result<(), Fail> {
+fn push_standing<P: Port>(text: &mut String, port: &P) -> Result<(), Fail> {
     let state = match port.state() {
         State::Active => "active",
         State::Passive => "passive",

@@ -1,0 +1,201 @@
+"""What the theorem on a disturbed bus claims of a call of `Bus::run`, worked out from the frames that wait and the
+hits: where each attempt begins and what it has on the wire, the one list of every log, and what each port counts.
+
+Standard library only, written from docs/FRAMES.md and the section "A disturbed bus" of docs/BUS.md: no port, no
+phase and no step. Levels are 0 (dominant) and 1 (recessive)."""
+
+from typing import NamedTuple
+
+DOMINANT, RECESSIVE = 0, 1
+# CRC delimiter, ACK slot as acknowledged, ACK delimiter, end of frame
+FIXED_FORM = [RECESSIVE, DOMINANT, RECESSIVE] + [RECESSIVE] * 7
+INTERMISSION = [RECESSIVE] * 3
+DELIMITER_AND_INTERMISSION = [RECESSIVE] * 11
+
+
+class Frame(NamedTuple):
+    extended: bool
+    identifier: int
+    remote: bool
+    dlc: int
+    data: bytes
+
+    def text(self):
+        head = f"E {self.identifier:08x}" if self.extended else f"S {self.identifier:03x}"
+        words = [head, "R" if self.remote else "D", str(self.dlc)]
+        return " ".join(words + ([self.data.hex()] if self.data else []))
+
+
+def bits(number, count):
+    """The lowest bits of a number, the highest of them first."""
+    return [number >> place & 1 for place in reversed(range(count))]
+
+
+def check_sequence(levels):
+    """The remainder of these levels by the generator, by long division: fifteen bits."""
+    rest = levels + [0] * 15
+    for place in range(len(levels)):
+        if rest[place]:
+            for offset, bit in enumerate(bits(0b1100010110011001, 16)):
+                rest[place + offset] ^= bit
+    return rest[len(levels) :]
+
+
+def arbitration_field(frame):
+    if frame.extended:
+        upper, lower = bits(frame.identifier >> 18, 11), bits(frame.identifier, 18)
+        return upper + [RECESSIVE, RECESSIVE] + lower + [int(frame.remote)]
+    return bits(frame.identifier, 11) + [int(frame.remote), DOMINANT]
+
+
+def unstuffed(frame):
+    reserved = [DOMINANT, DOMINANT] if frame.extended else [DOMINANT]
+    head = [DOMINANT] + arbitration_field(frame) + reserved + bits(frame.dlc, 4)
+    for byte in frame.data:
+        head += bits(byte, 8)
+    return head + check_sequence(head)
+
+
+class Spelled(NamedTuple):
+    """The levels of a frame on the wire, and what kinds of places they are."""
+
+    wire: list
+    stuffed_part: int
+    stuff_places: frozenset
+    window: range
+
+
+def is_stuff_place(levels):
+    """Whether the place behind these levels is one: five equal ones stand before it."""
+    return len(levels) >= 5 and len(set(levels[-5:])) == 1
+
+
+def spelled(frame):
+    levels, stuff_places, first = [], set(), 0
+    field = len(arbitration_field(frame))
+    for place, level in enumerate(unstuffed(frame)):
+        if is_stuff_place(levels):
+            stuff_places.add(len(levels))
+            levels.append(1 - levels[-1])
+        levels.append(level)
+        if place == field:
+            first = len(levels)
+    if is_stuff_place(levels):
+        stuff_places.add(len(levels))
+        levels.append(1 - levels[-1])
+    wire = levels + FIXED_FORM
+    # from behind the last level of the field to the last but one of the end of frame
+    return Spelled(wire, len(levels), frozenset(stuff_places), range(first, len(wire) - 1))
+
+
+def unstuffed_length(levels):
+    """How many unstuffed levels a frame has that begins with these, once they tell it."""
+    if len(levels) < 14:
+        return None
+    rtr = 32 if levels[13] == RECESSIVE else 12
+    data = rtr + 7
+    if len(levels) < data:
+        return None
+    dlc = int("".join(map(str, levels[data - 4 : data])), 2)
+    return data + (0 if levels[rtr] == RECESSIVE else 8 * min(dlc, 8)) + 15
+
+
+def lateness(frame, offset):
+    """By how many bit times the receivers' error comes behind the sender's, for a hit at this offset."""
+    if offset >= frame.stuffed_part or offset in frame.stuff_places:
+        return 0
+    heard = frame.wire[:offset] + [1 - frame.wire[offset]]
+    without = [level for place, level in enumerate(heard) if place not in frame.stuff_places]
+    late = 0
+    while True:
+        late += 1
+        # what a receiver refuses now: a sixth dominant level, or a dominant CRC delimiter
+        if is_stuff_place(heard):
+            if heard[-1] == DOMINANT:
+                return late
+        elif len(without) == unstuffed_length(without):
+            return late
+        else:
+            without.append(DOMINANT)
+        heard.append(DOMINANT)
+
+
+class Attempt(NamedTuple):
+    """The frame that it sends, by its place in the list; when it begins; where it is hit, if it is, and how much
+    later the receivers err."""
+
+    frame: int
+    begin: int
+    offset: int | None
+    late: int
+
+
+class Claims:
+    """The claims for a list of frames in the order of arbitration, the port that holds each of them, and the hits:
+    of each attempt that is hit its offset."""
+
+    def __init__(self, ports, frames, holders, hits):
+        self.ports, self.frames, self.holders, self.hits = ports, frames, holders, hits
+        self.spelled = [spelled(frame) for frame in frames]
+        self.attempts, self.line = [], []
+        hits_before = 0
+        for number in range(len(frames) + len(hits)):
+            self._attempt(number - hits_before, hits.get(number))
+            hits_before += number in hits
+        self.tallies = self._tallies()
+
+    def _attempt(self, place, offset):
+        frame, begin, late = self.spelled[place], len(self.line), 0
+        if offset is None:
+            self.line += frame.wire + INTERMISSION
+        else:
+            late = lateness(frame, offset)
+            flags = [DOMINANT] * (6 + late)
+            self.line += frame.wire[:offset] + [1 - frame.wire[offset]] + flags + DELIMITER_AND_INTERMISSION
+        self.attempts.append(Attempt(place, begin, offset, late))
+
+    def _tallies(self):
+        """The counters of each port, (TEC, REC), after each number of attempts."""
+        tallies = [[(0, 0)] * self.ports]
+        for attempt in self.attempts:
+            holder = self.holders[attempt.frame]
+            slot = len(self.spelled[attempt.frame].wire) - 9
+            after = []
+            for port, (tec, rec) in enumerate(tallies[-1]):
+                if attempt.offset is None:
+                    tec, rec = (max(tec - 1, 0), rec) if port == holder else (tec, max(rec - 1, 0))
+                elif port == holder:
+                    tec += 8
+                else:
+                    rec = (max(rec - 1, 0) if attempt.offset > slot else rec) + 1
+                after.append((tec, rec))
+            tallies.append(after)
+        return tallies
+
+    def meets_premises(self):
+        """Each hit in the window of its attempt's frame; at most fifteen, or no tally of 128."""
+        within = all(
+            attempt.offset is None or attempt.offset in self.spelled[attempt.frame].window
+            for attempt in self.attempts
+        )
+        return within and (len(self.hits) <= 15 or self.most() < 128)
+
+    def most(self):
+        """The highest counter after any number of attempts."""
+        return max(max(tec, rec) for tally in self.tallies for tec, rec in tally)
+
+    def span(self):
+        """After how many bit times at most all is delivered."""
+        undisturbed = sum(len(frame.wire) + 3 for frame in self.spelled)
+        return undisturbed + sum(offset + 24 for offset in self.hits.values())
+
+    def delays(self):
+        """Of each hit, after how many bit times the next attempt begins."""
+        return [18 + attempt.late for attempt in self.attempts if attempt.offset is not None]
+
+    def level(self, time):
+        return self.line[time] if time < len(self.line) else RECESSIVE
+
+    def log(self, port):
+        """The whole log of a port: frames, and whether they were sent."""
+        return [(frame, holder == port) for frame, holder in zip(self.frames, self.holders)]
