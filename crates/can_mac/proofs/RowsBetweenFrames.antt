@@ -1,6 +1,6 @@
 -- What a controller does between frames, and off the bus, on levels whose outcome is known. What stands in
 -- brackets is the rule of docs/ACCESS.md that a row pins.
-use Rattle.std.proofs.Common.{◌≡◌, ℕ, List, [], ◌∷◌, ◌++◌, map, replicate, drop, Some, None, refl, true, false}
+use Rattle.std.proofs.Common.{◌≡◌, ℕ, [], ◌∷◌, ◌++◌, map, replicate, drop, Some, None, refl, true, false}
 use Rattle.std.specs.Prelude.{codes}
 use Rattle.can_frame.specs.declared.level.Level.TheVariants.{Dominant, Recessive}
 use Rattle.can_frame.specs.Levels.{bits_of}

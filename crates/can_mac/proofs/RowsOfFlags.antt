@@ -1,6 +1,6 @@
 -- Error flags, overload flags and their delimiters on levels whose outcome is known. What stands in brackets is
 -- the rule of docs/ACCESS.md that a row pins.
-use Rattle.std.proofs.Common.{◌≡◌, List, [], ◌∷◌, map, replicate, Some, None, refl, false, true}
+use Rattle.std.proofs.Common.{◌≡◌, [], ◌∷◌, map, replicate, Some, None, refl, false, true}
 use Rattle.std.specs.Prelude.{codes}
 use Rattle.can_frame.specs.declared.level.Level.TheVariants.{Dominant, Recessive}
 use Rattle.can_mac.specs.declared.event.Event.TheVariants.{Sent, Error, Overload}

@@ -1,6 +1,6 @@
 -- The end of a frame on levels whose outcome is known: from the CRC delimiter to the last level. What stands
 -- in brackets is the rule of docs/ACCESS.md that a row pins.
-use Rattle.std.proofs.Common.{◌≡◌, ℕ, List, [], ◌∷◌, ◌++◌, map, replicate, take, Option, Some, None, refl, true, false}
+use Rattle.std.proofs.Common.{◌≡◌, [], ◌∷◌, ◌++◌, map, replicate, take, Some, None, refl, true, false}
 use Rattle.std.specs.Prelude.{codes}
 use Rattle.can_frame.specs.declared.level.Level.TheVariants.{Dominant, Recessive}
 use Rattle.can_frame.specs.Levels.{bits_of}
