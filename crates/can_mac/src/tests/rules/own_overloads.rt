@@ -32,7 +32,8 @@ fn overload_frames_are_counted_anew_with_each_frame(rt: HostRuntime) -> Result<(
     Ok(())
 }
 
-/// A sender starts none. What it asked for stays, behind its own frame and with its start of frame.
+/// A sender starts none. What it asked for last stays, behind its own frame and with the next start of frame:
+/// one, where two were asked for before, and three refused.
 #[test]
 fn a_sender_starts_no_overload_frame(rt: HostRuntime) -> Result<(), Fail> {
     let frame = empty_frame(1)?;
@@ -42,12 +43,17 @@ fn a_sender_starts_no_overload_frame(rt: HostRuntime) -> Result<(), Fail> {
         (96, Event::Overload),
     ];
     let mut port = Port::idle();
+    assert!(rt; port.mac.hold(2));
     assert!(rt; port.mac.hold(1));
+    assert!(rt; !port.mac.hold(3));
     port.sees(&rt, Some(&frame), PART_001, &told);
     port.sees(&rt, None, TAIL, &told);
     port.sees(&rt, None, "111", &told);
     port.sees(&rt, None, PART_001, &told);
     port.sees(&rt, None, TAIL, &told);
-    assert_eq!(rt; port.time, 97);
+    port.sees(&rt, None, OVERLOAD_FRAME, &told);
+    port.sees(&rt, None, "111", &told);
+    assert_eq!(rt; port.time, 114);
+    assert!(rt; port.may_send(&frame));
     Ok(())
 }
