@@ -5,7 +5,7 @@ use Rattle.can_frame.specs.declared.level.Level.{Level}
 use Rattle.can_frame.specs.declared.level.Level.TheVariants.{Dominant, Recessive}
 use Rattle.can_frame.specs.Levels.{level_of}
 use Rattle.can_fault.specs.declared.cause.Cause.{Cause}
-use Rattle.can_fault.specs.declared.cause.Cause.TheVariants.{ReceiverError, ReceiverFlagBit, SenderError, FrameSent, FrameReceived}
+use Rattle.can_fault.specs.declared.cause.Cause.TheVariants.{ReceiverError, ReceiverFlagBit, ReceiverFirstDominant, ReceiverDominantRun, SenderError, SenderFlagBit, SenderDominantRun, PassiveUnacknowledged, FrameSent, FrameReceived}
 use Rattle.can_fault.specs.declared.state.State.TheVariants.{Active, Passive, BusOff}
 use Rattle.can_fault.specs.Counters.{ConfineParts, fresh, state_of, counted}
 use Rattle.can_fault.specs.Recovery.{recessive_runs, rests, last_run, after_levels, recovered, ends_bus_off}
@@ -17,6 +17,103 @@ levels_of text = map (λ c. level_of (c - 48)) text
 -- what causes make of a node that has counted no error
 abbrev after : List Cause → ConfineParts
 after causes = fold (λ c cause. counted cause c) fresh causes
+
+-- Each cause, at a node with a TEC of 20 and a REC of 50.
+
+abbrev counters : ℕ → ℕ → ConfineParts
+counters tec rec = record fresh { tec = tec; rec = rec }
+
+-- an error of a receiver counts 1
+receiver_error : counted ReceiverError (counters 20 50) ≡ counters 20 51
+receiver_error = refl
+
+-- a bit error in an own flag, a dominant level behind the error flag, and eight of them count 8
+receiver_flag_bit : counted ReceiverFlagBit (counters 20 50) ≡ counters 20 58
+receiver_flag_bit = refl
+
+receiver_first_dominant : counted ReceiverFirstDominant (counters 20 50) ≡ counters 20 58
+receiver_first_dominant = refl
+
+receiver_dominant_run : counted ReceiverDominantRun (counters 20 50) ≡ counters 20 58
+receiver_dominant_run = refl
+
+-- each error of a sender counts 8
+sender_error : counted SenderError (counters 20 50) ≡ counters 28 50
+sender_error = refl
+
+sender_flag_bit : counted SenderFlagBit (counters 20 50) ≡ counters 28 50
+sender_flag_bit = refl
+
+sender_dominant_run : counted SenderDominantRun (counters 20 50) ≡ counters 28 50
+sender_dominant_run = refl
+
+passive_unacknowledged : counted PassiveUnacknowledged (counters 20 50) ≡ counters 28 50
+passive_unacknowledged = refl
+
+-- a frame sent takes 1 from the TEC, and a frame received 1 from the REC; 0 stays
+frame_sent : counted FrameSent (counters 20 50) ≡ counters 19 50
+frame_sent = refl
+
+frame_sent_at_0 : counted FrameSent (counters 0 50) ≡ counters 0 50
+frame_sent_at_0 = refl
+
+frame_sent_while_passive : counted FrameSent (counters 255 50) ≡ counters 254 50
+frame_sent_while_passive = refl
+
+frame_received : counted FrameReceived (counters 20 50) ≡ counters 20 49
+frame_received = refl
+
+frame_received_at_0 : counted FrameReceived (counters 20 0) ≡ counters 20 0
+frame_received_at_0 = refl
+
+-- a REC of at most 127 falls by 1, a greater one to 127
+frame_received_at_127 : counted FrameReceived (counters 20 127) ≡ counters 20 126
+frame_received_at_127 = refl
+
+frame_received_at_128 : counted FrameReceived (counters 20 128) ≡ counters 20 127
+frame_received_at_128 = refl
+
+frame_received_at_255 : counted FrameReceived (counters 20 255) ≡ counters 20 127
+frame_received_at_255 = refl
+
+-- while it is bus off no cause changes anything
+each_cause : List Cause
+each_cause =
+    ReceiverError ∷ ReceiverFlagBit ∷ ReceiverFirstDominant ∷ ReceiverDominantRun ∷ SenderError ∷ SenderFlagBit ∷ SenderDominantRun
+    ∷ PassiveUnacknowledged ∷ FrameSent ∷ FrameReceived ∷ []
+
+off_unchanged : map (λ cause. counted cause (counters 256 50)) each_cause ≡ replicate 10 (counters 256 50)
+unfolding each_cause
+off_unchanged = refl
+
+-- The states at their limits, by TEC and by REC.
+
+active_at_127 : state_of (counters 127 127) ≡ Active
+active_at_127 = refl
+
+passive_at_a_tec_of_128 : state_of (counters 128 0) ≡ Passive
+passive_at_a_tec_of_128 = refl
+
+passive_at_a_rec_of_128 : state_of (counters 0 128) ≡ Passive
+passive_at_a_rec_of_128 = refl
+
+passive_at_a_rec_of_255 : state_of (counters 0 255) ≡ Passive
+passive_at_a_rec_of_255 = refl
+
+passive_at_a_tec_of_255 : state_of (counters 255 0) ≡ Passive
+passive_at_a_tec_of_255 = refl
+
+off_at_a_tec_of_256 : state_of (counters 256 0) ≡ BusOff
+off_at_a_tec_of_256 = refl
+
+-- active again as soon as both are at most 127
+active_again : state_of (counted FrameSent (counters 128 0)) ≡ Active
+active_again = refl
+
+not_active_by_tec_alone : state_of (counted FrameSent (counters 128 128)) ≡ Passive
+not_active_by_tec_alone = refl
+
+-- Many causes, one after another.
 
 fifteen : state_of (after (replicate 15 SenderError)) ≡ Active
 fifteen = refl

@@ -1,9 +1,9 @@
--- The machine computed on levels whose outcome is known from elsewhere.
+-- Whole runs of the machine, computed on levels whose outcome is known from elsewhere.
 use Rattle.std.proofs.Common.{◌≡◌, ℕ, zero, suc, ◌+◌, ◌-◌, List, [], ◌∷◌, ◌++◌, map, replicate, take, Option, Some, None, refl, false}
 use Rattle.std.specs.Prelude.{codes}
 use Rattle.can_frame.specs.declared.level.Level.{Level}
 use Rattle.can_frame.specs.declared.level.Level.TheVariants.{Dominant, Recessive}
-use Rattle.can_frame.specs.Levels.{level_of, bits_of}
+use Rattle.can_frame.specs.Levels.{bits_of}
 use Rattle.can_frame.specs.Arbitration.{arbitration_field}
 use Rattle.can_frame.specs.Parts.{Parts}
 use Rattle.can_code.specs.Crc.{crc_of}
@@ -11,7 +11,6 @@ use Rattle.can_code.specs.Stuffing.{stuffed}
 use Rattle.can_code.specs.Wire.{head, unstuffed, stuffed_part}
 use Rattle.can_code.specs.Layout.{frame_of, frame_len}
 use Rattle.can_fault.specs.Counters.{fresh}
-use Rattle.can_mac.specs.declared.event.Event.{Event}
 use Rattle.can_mac.specs.declared.event.Event.TheVariants.{Sent, Received, Lost, Error, Overload}
 use Rattle.can_mac.specs.declared.event.ErrorKind.TheVariants.{Bit, Stuff, Crc, Form}
 use Rattle.can_mac.specs.declared.phase.Phase.TheVariants.{Idle, Delimiter, Intermission, ErrorFlag, PassiveFlag}
@@ -19,39 +18,11 @@ use Rattle.can_mac.specs.State.{MacState, idle, joining}
 use Rattle.can_mac.specs.Moves.{agrees}
 use Rattle.can_mac.specs.Machine.{mac_drives, mac_step}
 use Rattle.can_mac.specs.Frames.{line, frame_event, frame_state}
-
--- the levels of a text of `0` and `1`
-abbrev levels_of : List ℕ → List Level
-levels_of text = map (λ c. level_of (c - 48)) text
-
--- what was told, and when
-record Told : Type 0 where
-  time : ℕ
-  event : Event
-
-abbrev at : ℕ → Event → Told
-at time event = record { time = time; event = event }
-
-abbrev noted : ℕ → Option Event → List Told → List Told
-noted time None told = told
-noted time (Some event) told = at time event ∷ told
-
--- the events of a run that begins at this time, where this frame waits
-abbrev events : ℕ → Option Parts → MacState → List Level → List Told
-events time waiting m [] = []
-events time waiting m (x ∷ levels) = noted time (mac_step m waiting x).1 (events (time + 1) waiting (mac_step m waiting x).0 levels)
-
--- the state after levels
-abbrev run : Option Parts → MacState → List Level → MacState
-run waiting m [] = m
-run waiting m (x ∷ levels) = run waiting (mac_step m waiting x).0 levels
+use Rattle.can_mac.proofs.RowWords.{Told, at, events, levels_of, run, silence, standard}
 
 abbrev errors : ℕ → ℕ → List Told
 errors time zero = []
 errors time (suc n) = at time (Error Bit) ∷ errors (time + 1) n
-
-abbrev silence : ℕ → List Level
-silence n = replicate n Recessive
 
 -- Six dominant levels and then recessive ones, at an idle controller.
 
@@ -96,9 +67,6 @@ six_idle = refl
 
 -- Frames.
 
-abbrev empty_frame : ℕ → Parts
-empty_frame raw = record { id = record { raw = raw; extended = false }; remote = false; dlc = 0; bytes = [] }
-
 -- the stuffed part of the standard data frame 001 without data
 abbrev part_001 : List Level
 part_001 = levels_of (codes "0000010000010100000100010001000010011")
@@ -113,7 +81,7 @@ abbrev dominant_last : List Level
 dominant_last = part_001 ++ levels_of (codes "1011111110")
 
 -- a dominant last level of the end of frame
-last_told : events 0 None idle (dominant_last ++ (six ++ silence 11)) ≡ at 45 (Received (empty_frame 1)) ∷ at 46 Overload ∷ []
+last_told : events 0 None idle (dominant_last ++ (six ++ silence 11)) ≡ at 45 (Received (standard 1)) ∷ at 46 Overload ∷ []
 unfolding mac_step agrees crc_of frame_of frame_len bits_of
 last_told = refl
 
@@ -126,15 +94,15 @@ unfolding mac_step agrees crc_of frame_of frame_len bits_of
 last_intermission = refl
 
 -- Frame 001 is heard while nothing waits, then it waits: the dominant level in the last bit of intermission is its start of frame.
-taken_as_start : events 47 (Some (empty_frame 1)) (run None idle wire_001) (silence 2 ++ wire_001) ≡ at 95 (Sent (empty_frame 1)) ∷ []
+taken_as_start : events 47 (Some (standard 1)) (run None idle wire_001) (silence 2 ++ wire_001) ≡ at 95 (Sent (standard 1)) ∷ []
 unfolding mac_step agrees crc_of frame_of frame_len bits_of unstuffed head arbitration_field
 taken_as_start = refl
 
-heard_told : events 0 None idle wire_001 ≡ at 45 (Received (empty_frame 1)) ∷ []
+heard_told : events 0 None idle wire_001 ≡ at 45 (Received (standard 1)) ∷ []
 unfolding mac_step agrees crc_of frame_of frame_len bits_of
 heard_told = refl
 
-start_unsent : mac_drives (run None idle (wire_001 ++ silence 2)) (Some (empty_frame 1)) ≡ Recessive
+start_unsent : mac_drives (run None idle (wire_001 ++ silence 2)) (Some (standard 1)) ≡ Recessive
 unfolding mac_step mac_drives agrees crc_of frame_of frame_len bits_of
 start_unsent = refl
 
@@ -142,22 +110,22 @@ start_unsent = refl
 almost : List Level
 almost = silence 10 ++ (Dominant ∷ silence 10)
 
-joining_silent : mac_drives (run (Some (empty_frame 0)) joining almost) (Some (empty_frame 0)) ≡ Recessive
+joining_silent : mac_drives (run (Some (standard 0)) joining almost) (Some (standard 0)) ≡ Recessive
 unfolding mac_step mac_drives almost
 joining_silent = refl
 
-joined_drives : mac_drives (run (Some (empty_frame 0)) joining (almost ++ silence 1)) (Some (empty_frame 0)) ≡ Dominant
+joined_drives : mac_drives (run (Some (standard 0)) joining (almost ++ silence 1)) (Some (standard 0)) ≡ Dominant
 unfolding mac_step mac_drives almost
 joined_drives = refl
 
 -- Frame 001 waits, and loses arbitration against frame 000.
 abbrev waiting_001 : Option Parts
-waiting_001 = Some (empty_frame 1)
+waiting_001 = Some (standard 1)
 
 abbrev lost_at : ℕ → MacState
 lost_at n = run waiting_001 idle (take n (wire_000 ++ silence 3))
 
-lost_told : events 0 waiting_001 idle (wire_000 ++ silence 3) ≡ at 13 Lost ∷ at 48 (Received (empty_frame 0)) ∷ []
+lost_told : events 0 waiting_001 idle (wire_000 ++ silence 3) ≡ at 13 Lost ∷ at 48 (Received (standard 0)) ∷ []
 unfolding mac_step agrees crc_of frame_of frame_len bits_of unstuffed head arbitration_field
 lost_told = refl
 
@@ -220,22 +188,22 @@ unfolding mac_step agrees crc_of frame_of frame_len bits_of
 wrong_slot = (refl, refl)
 
 -- What the definitions of a frame at a controller say of the same frames.
-line_001 : line (empty_frame 1) ≡ wire_001 ++ silence 3
+line_001 : line (standard 1) ≡ wire_001 ++ silence 3
 unfolding stuffed_part unstuffed stuffed head arbitration_field crc_of bits_of
 line_001 = refl
 
-received_001 : frame_event (empty_frame 1) None 45 ≡ Some (Received (empty_frame 1))
+received_001 : frame_event (standard 1) None 45 ≡ Some (Received (standard 1))
 unfolding stuffed_part unstuffed stuffed head arbitration_field crc_of bits_of
 received_001 = refl
 
-sent_001 : frame_event (empty_frame 1) (Some (empty_frame 1)) 46 ≡ Some (Sent (empty_frame 1))
+sent_001 : frame_event (standard 1) (Some (standard 1)) 46 ≡ Some (Sent (standard 1))
 unfolding stuffed_part unstuffed stuffed head arbitration_field crc_of bits_of
 sent_001 = refl
 
-lost_001 : frame_event (empty_frame 0) (Some (empty_frame 1)) 13 ≡ Some Lost
+lost_001 : frame_event (standard 0) (Some (standard 1)) 13 ≡ Some Lost
 unfolding stuffed_part unstuffed stuffed head arbitration_field crc_of bits_of
 lost_001 = refl
 
-idle_001 : frame_state (empty_frame 1) None 0 fresh 50 ≡ idle
+idle_001 : frame_state (standard 1) None 0 fresh 50 ≡ idle
 unfolding stuffed_part unstuffed stuffed head arbitration_field crc_of bits_of
 idle_001 = refl

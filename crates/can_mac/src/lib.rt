@@ -27,7 +27,8 @@
 //! (`FrameEnds`, `FrameParts`, `FrameRoles`, `FrameSteps`, `FrameRuns`, `FrameDrives`, `Contending`);
 //! and what a controller knows of the levels that it has seen (`Turns`, `TurnEnds`, `Hearing`,
 //! `HearingTurns`).
-//! `Rows` computes the definitions on levels whose outcome is known.
+//! `Rows`, `RowsBetweenFrames`, `RowsOfArbitration`, `RowsOfFrameEnds` and `RowsOfFlags` compute the
+//! definitions on levels whose outcome is known: docs/ACCESS.md leads from each rule to its rows.
 #![tactic(auto)]
 
 mod driving;
