@@ -6,7 +6,6 @@ use Rattle.std.proofs.lemmas.Bool.{false≢true}
 use Rattle.std.proofs.lemmas.List.FromFn.{length-range_with_len, get_or-range_with_len}
 use Rattle.std.proofs.lemmas.List.Sums.{AllPass-from_list_all}
 use Rattle.can_frame.specs.declared.level.Level.{Level}
-use Rattle.can_frame.specs.declared.level.Level.TheVariants.{Dominant, Recessive}
 use Rattle.can_frame.specs.Levels.{level_of, bits_of, opposite}
 use Rattle.can_frame.specs.Arbitration.{arbitration_field}
 use Rattle.can_frame.specs.Parts.{Parts}
@@ -16,7 +15,6 @@ use Rattle.can_code.specs.Layout.{frame_of, frame_len}
 use Rattle.can_mac.specs.State.{idle}
 use Rattle.can_mac.specs.Moves.{agrees}
 use Rattle.can_mac.specs.Machine.{mac_drives, mac_step}
-use Rattle.can_node.specs.declared.entry.Entry.{Entry}
 use Rattle.can_node.specs.Ports.{PortState, fresh_port, offered, port_drives, port_run, port_step, waiting, without}
 use Rattle.can_bus.specs.declared.hit.Hit.TheVariants.{At, In}
 use Rattle.can_bus.specs.Disturbed.{level_then, ports_then, rest_before, begins_at, attempts_before, FallsOnWire}
@@ -91,6 +89,29 @@ falls_no_more f =
     let start : f.0 ≡ 0 = omega (arith, f.2) in
     let over : begins_at 11 wired_once recorded_once 40 ≡ false = f.3 40 (omega (arith, start)) (omega arith) in
     false≢true (sym over)
+
+-- the ports of that run, by what they saw
+abbrev frame_zero : Parts
+frame_zero = record { id = record { raw = 0; extended = false }; remote = false; dlc = 0; bytes = [] }
+
+abbrev sender_and_receiver : List PortState
+sender_and_receiver = offered frame_zero (fresh_port idle 1 1) ∷ fresh_port idle 0 1 ∷ []
+
+abbrev both_saw : List (List Level)
+both_saw = recorded_once ∷ recorded_once ∷ []
+
+-- the sender's flag goes on up to 22 and the receiver's up to 28, and with 40 the sender starts again
+driven_then : map (λ t. wired_of (map port_drives (ports_then t sender_and_receiver both_saw))) (16 ∷ 17 ∷ 22 ∷ 23 ∷ 28 ∷ 29 ∷ 39 ∷ 40 ∷ []) ≡ levels_of (codes "00000110")
+unfolding wired_of port_drives mac_drives port_run port_step waiting without mac_step agrees crc_of frame_of frame_len bits_of unstuffed head arbitration_field
+driven_then = refl
+
+counted_at_last : map (λ (p : PortState). p.mac.counters.tec) (ports_then 93 sender_and_receiver both_saw) ≡ 7 ∷ 0 ∷ []
+unfolding port_run port_step waiting without mac_step agrees crc_of frame_of frame_len bits_of unstuffed head arbitration_field
+counted_at_last = refl
+
+logged_at_last : map (λ (p : PortState). p.log) (ports_then 93 sender_and_receiver both_saw) ≡ (record { frame = frame_zero; sent = true } ∷ []) ∷ (record { frame = frame_zero; sent = false } ∷ []) ∷ []
+unfolding port_run port_step waiting without mac_step agrees crc_of frame_of frame_len bits_of unstuffed head arbitration_field
+logged_at_last = refl
 
 -- Two idle ports. A dominant level is recorded at 5, which no port drove; the sixth recessive level behind it is a
 -- stuff error to both. No attempt begins, and a hit in one falls nowhere.

@@ -1,18 +1,17 @@
 -- A run, bit time by bit time, is a disturbed run over whole lists of levels, and there is one.
-use Rattle.std.specs.Prelude.{if◌then◌else◌, nat_le, ◌&&◌, not, min, ◌↔◌, slice_get, slice_index_or, All}
-use Rattle.std.specs.List.{Any, Contains, list_any, range_with_len, zip}
-use Rattle.std.proofs.Common.{◌≡◌, ℕ, zero, suc, ◌+◌, ◌<◌, ◌≤◌, Bool, true, false, cond, List, [], ◌∷◌, ◌++◌, Option, Some, None, length, map, get_or, take, refl, ap, sym, ◌∙◌, subst, arith, add-one}
-use Rattle.std.proofs.lemmas.List.{ext_get_or, take_more, take_all}
+use Rattle.std.specs.Prelude.{nat_le, ◌&&◌, not, min, ◌↔◌, slice_get, All}
+use Rattle.std.specs.List.{Any, list_any, range_with_len}
+use Rattle.std.proofs.Common.{◌≡◌, ℕ, zero, suc, ◌+◌, ◌<◌, ◌≤◌, true, List, [], ◌∷◌, ◌++◌, Some, length, map, get_or, take, refl, ap, sym, ◌∙◌, subst, arith, add-one}
+use Rattle.std.proofs.lemmas.List.{ext_get_or, take_more}
 use Rattle.std.proofs.lemmas.List.FromFn.{length-map-range_with_len, get_or-map-range_with_len}
 use Rattle.std.proofs.lemmas.Option.{slice_get-get_or, get_or_from_slice_get, slice_get_within}
 use Rattle.can_frame.specs.declared.level.Level.{Level}
 use Rattle.can_frame.specs.declared.level.Level.TheVariants.{Recessive}
-use Rattle.can_frame.specs.Levels.{is_recessive, opposite}
+use Rattle.can_frame.specs.Levels.{is_recessive}
 use Rattle.can_node.specs.Ports.{PortState, port_drives, port_run, port_step}
 use Rattle.can_bus.specs.declared.hit.Hit.{Hit}
-use Rattle.can_bus.specs.declared.hit.Hit.TheVariants.{View}
 use Rattle.can_bus.specs.Disturbed.{level_then, ports_then, rest_before, begins_at, FallsOnWire, IsDisturbedRun, WasDisturbed}
-use Rattle.can_bus.specs.Run.{BusState, Course, all_sampled, attempt_now, begins, bus_after, bus_level, bus_run, bus_step, course, following, aged, hits_view, hits_wire, inverted_if, recorded as recorded_by, rest_after, wired_level}
+use Rattle.can_bus.specs.Run.{BusState, Course, all_sampled, attempt_now, begins, bus_after, bus_level, bus_run, bus_step, course, hits_view, hits_wire, inverted_if, recorded as recorded_by, rest_after, wired_level}
 use Rattle.can_bus.specs.Wired.{wired as wired_of}
 use Rattle.can_bus.proofs.DisturbedTimes.{LatestIs, latest-none, latest-more, rest_before-none, rest_before-more, rest_after-capped, begins-capped, inverted-tells, inverted-told, view-decided, wire-decided}
 use Rattle.can_bus.proofs.StepLemmas.{course_more}

@@ -1,7 +1,7 @@
 -- When attempts begin, and when a hit falls on the wire, over whole lists of levels and bit time by bit time.
-use Rattle.std.specs.Prelude.{if◌then◌else◌, nat_le, ◌&&◌, not, min, ◌↔◌, slice_index_or}
+use Rattle.std.specs.Prelude.{if◌then◌else◌, nat_le, ◌&&◌, not, min, ◌↔◌}
 use Rattle.std.specs.List.{Any, Contains, list_any, range_with_len, suffix_len}
-use Rattle.std.proofs.Common.{◌≡◌, ℕ, zero, suc, ◌+◌, ◌-◌, ◌<◌, ◌≤◌, Bool, true, false, cond, List, [], ◌∷◌, ◌++◌, Option, Some, None, length, map, get_or, take, replicate, reverse, refl, ap, sym, ◌∙◌, subst, inl, inr, append_assoc, arith, below_more}
+use Rattle.std.proofs.Common.{◌≡◌, ℕ, ◌+◌, ◌-◌, ◌<◌, Bool, true, false, cond, List, [], ◌∷◌, ◌++◌, Option, Some, None, length, take, replicate, refl, ap, sym, ◌∙◌, subst, inl, inr, append_assoc, arith, below_more}
 use Rattle.std.proofs.lemmas.Bool.{cases_order}
 use Rattle.std.proofs.lemmas.Bool.Decides.{nat_tests}
 use Rattle.std.proofs.lemmas.List.{append-nil, get_or-replicate, length-replicate, map-id, reverse-append, take_more}
@@ -15,7 +15,7 @@ use Rattle.can_frame.specs.Levels.{is_recessive, opposite}
 use Rattle.can_bus.specs.declared.hit.Hit.{Hit}
 use Rattle.can_bus.specs.declared.hit.Hit.TheVariants.{At, In, View}
 use Rattle.can_bus.specs.declared.moment.Attempt.{Attempt}
-use Rattle.can_bus.specs.Disturbed.{level_then, rest_before, begins_at, attempts_before, IsBeginning, NoneBegins, FallsOnWire}
+use Rattle.can_bus.specs.Disturbed.{level_then, rest_before, begins_at, attempts_before, IsBeginning, FallsOnWire}
 use Rattle.can_bus.specs.Run.{aged, begins, following, hits_view, hits_wire, inverted_if, is_attempt, rest_after}
 
 -- How many recessive levels stand last.
