@@ -1,7 +1,7 @@
 -- When attempts begin, and when a hit falls on the wire, over whole lists of levels and bit time by bit time.
 use Rattle.std.specs.Prelude.{if◌then◌else◌, nat_le, ◌&&◌, not, min, ◌↔◌}
 use Rattle.std.specs.List.{Any, Contains, list_any, range_with_len, suffix_len}
-use Rattle.std.proofs.Common.{◌≡◌, ℕ, ◌+◌, ◌-◌, ◌<◌, Bool, true, false, cond, List, [], ◌∷◌, ◌++◌, Option, Some, None, length, take, replicate, refl, ap, sym, ◌∙◌, subst, inl, inr, append_assoc, arith, below_more}
+use Rattle.std.proofs.Common.{◌≡◌, ℕ, ◌+◌, ◌<◌, Bool, true, false, cond, List, [], ◌∷◌, ◌++◌, Option, Some, None, length, take, replicate, refl, ap, sym, ◌∙◌, subst, inl, inr, append_assoc, arith, below_more}
 use Rattle.std.proofs.lemmas.Bool.{cases_order}
 use Rattle.std.proofs.lemmas.Bool.Decides.{nat_tests}
 use Rattle.std.proofs.lemmas.List.{append-nil, get_or-replicate, length-replicate, map-id, reverse-append, take_more}
