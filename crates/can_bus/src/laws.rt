@@ -1,7 +1,8 @@
 //! Laws of the definitions, each a function that does nothing and ensures it.
-ghost use Rattle.std.specs.Prelude.{◌≡◌, ◌<◌, ◌≤◌, ◌+◌, ◌-◌, ◌↔◌, ◌⊎◌, ℕ, true, List, [], drop, length, map, None};
+ghost use Rattle.std.specs.Prelude.{◌≡◌, ◌<◌, ◌≤◌, ◌+◌, ◌-◌, ◌↔◌, ◌⊎◌, ℕ, true, List, [], drop, length, map, slice_get, None, Some};
 ghost use Rattle.std.specs.Ordering.{partial_lt};
 ghost use Rattle.std.specs.List.Sorted.{IsPermutation};
+ghost use Rattle.can_frame.specs.declared.level.Level.{Level};
 ghost use Rattle.can_frame.specs.Parts.{IsFrame, Parts};
 ghost use Rattle.can_code.specs.declared.fault.CodeFault.{CodeFault as Fault};
 ghost use Rattle.can_code.specs.CodeFaults.{IsCodeFault};
@@ -11,6 +12,7 @@ ghost use Rattle.can_code.specs.Wire.{stuffed_part, wire};
 ghost use Rattle.can_node.specs.Ports.{IsPort, PortState};
 ghost use Rattle.can_bus.specs.declared.hit.Hit.{Hit as Disturbance};
 ghost use Rattle.can_bus.specs.Agreement.{AreAlike, LogsAgree};
+ghost use Rattle.can_bus.specs.Disturbed.{IsDisturbedRun, WasDisturbed};
 ghost use Rattle.can_bus.specs.Hits.{AreTaken, is_above};
 ghost use Rattle.can_bus.specs.Plans.{FitsQueue, IsQuietPlan, PortPlan, planned, ready_port};
 ghost use Rattle.can_bus.specs.Quiet.{AreDifferent, IsAscending, IsQuiet, IsQuietCall, ascending, line_at, queued, span};
@@ -23,6 +25,22 @@ use crate::hit::Hit;
 /// One hit is below another, by `<`, exactly where the other is above it.
 pub fn hits_are_ordered()
     ensures { (a b : Disturbance) → partial_lt ⟦<Hit as PartialOrd>⟧.partial_cmp a b ≡ is_above b a }
+{}
+
+/// A run, bit time by bit time, is a disturbed run over whole lists of levels, whatever its hits: with the
+/// levels that it records there are levels on the wire and levels that the ports saw. The recorded levels
+/// and the end of every disturbed run are those of the run, and there is one for each number of bit times.
+pub fn a_run_is_a_disturbed_run()
+    ensures exists { (hits : List Disturbance) (bus : BusState) (recorded : List Level) → bus.rest ≤ 11 →
+        ((t : ℕ) → t < length recorded → slice_get recorded t ≡ Some (bus_level hits t bus)) →
+        WasDisturbed hits bus recorded (bus_run hits (length recorded) bus) }
+    ensures levels { (hits : List Disturbance) (bus after : BusState) (recorded : List Level) → bus.rest ≤ 11 → WasDisturbed hits bus recorded after →
+        (t : ℕ) → t < length recorded → slice_get recorded t ≡ Some (bus_level hits t bus) }
+    ensures bus { (hits : List Disturbance) (bus after : BusState) (recorded : List Level) → bus.rest ≤ 11 → WasDisturbed hits bus recorded after →
+        after ≡ bus_run hits (length recorded) bus }
+    ensures one { (hits : List Disturbance) (bus one other : BusState) (wired wires recorded records : List Level) (seen views : List (List Level)) → bus.rest ≤ 11 →
+        IsDisturbedRun hits bus wired recorded seen one → IsDisturbedRun hits bus wires records views other → length recorded ≡ length records →
+        (recorded ≡ records) × (one ≡ other) × (wired ≡ wires) × (seen ≡ views) }
 {}
 
 /// Without disturbances, two runs are one run of as many bit times.

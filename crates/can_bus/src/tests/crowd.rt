@@ -1,6 +1,6 @@
 //! Many ports and many frames on a quiet bus.
 
-use super::lines::{bus_of, frame, idle_ports, offer, recorded};
+use super::lines::{WIRE_000, bus_of, frame, idle_ports, offer, recorded};
 use crate::Bus;
 use can_node::{Entry, PlainNode, Port};
 use std::process::Abort;
@@ -56,6 +56,22 @@ fn sixty_four_ports_take_turns(rt: HostRuntime) -> Result<(), Fail> {
         rest.as_str()
     );
     logs_name(&rt, &bus, &ascending)
+}
+
+/// The last port alone sends. Ports are wired 32 at a time, and those behind them one by one.
+#[test]
+fn the_last_port_is_wired(rt: HostRuntime) -> Result<(), Fail> {
+    let alloc = rt.alloc();
+    for count in [2usize, 32, 33, 63, 64] {
+        let mut bus = bus_of(idle_ports(alloc, count, 1)?)?;
+        offer(&mut bus, count.saturating_sub(1), "S 000 D 0")?;
+        assert_eq!(rt;
+            recorded(alloc, &mut bus, &[], 50)?.as_str(),
+            WIRE_000,
+            "{count} ports"
+        );
+    }
+    Ok(())
 }
 
 /// Ten standard identifiers, as such and as the upper bits of extended ones. Of one such ten, data goes

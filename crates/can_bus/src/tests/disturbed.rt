@@ -152,3 +152,27 @@ fn one_port_alone_hears_a_dominant_level(rt: HostRuntime) -> Result<(), Fail> {
     assert_eq!(rt; standing(alloc, &bus)?.as_str(), "active 0 9 | active 0 1");
     Ok(())
 }
+
+/// The second level of the intermission, at 51, is dominant to the receiver alone, whose overload flag
+/// begins behind ten recessive levels, at 52: no attempt. The sender takes it for a start of frame, and
+/// its sixth dominant level, at 57, is a stuff error. A hit in a second attempt has no effect.
+#[test]
+fn an_overload_flag_is_no_attempt(rt: HostRuntime) -> Result<(), Fail> {
+    let alloc = rt.alloc();
+    let hits = [
+        Hit::In {
+            attempt: 1,
+            offset: 3,
+        },
+        Hit::View { time: 51, node: 1 },
+    ];
+    let mut bus = bus_with(alloc, SENDER_AND_RECEIVER)?;
+    let want = format!(in alloc; "{WIRE_000}11000000000000{DELIMITER_AND_INTERMISSION}")?;
+    let levels = recorded(alloc, &mut bus, &hits, 75)?;
+    assert_eq!(rt; levels.as_str(), want.as_str());
+    assert_eq!(rt;
+        standing(alloc, &bus)?.as_str(),
+        "active 0 1, sent S 000 D 0 | active 0 0, took S 000 D 0"
+    );
+    Ok(())
+}

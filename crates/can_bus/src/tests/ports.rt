@@ -134,3 +134,17 @@ fn attempts_are_counted_in_each_run(rt: HostRuntime) -> Result<(), Fail> {
     }
     Ok(())
 }
+
+/// A run that begins within a frame is at no attempt until the next frame begins.
+#[test]
+fn a_run_may_begin_within_a_frame(rt: HostRuntime) -> Result<(), Fail> {
+    let alloc = rt.alloc();
+    let mut bus = bus_with(alloc, &[&["S 001 D 0", "S 001 D 0"], &[]])?;
+    let front = recorded(alloc, &mut bus, &[], 10)?;
+    let rest = recorded(alloc, &mut bus, &[DOMINANT_STUFF_BIT], 113)?;
+    let levels = format!(in alloc; "{front}{rest}")?;
+    let broken = format!(in alloc; "000000000000{DELIMITER_AND_INTERMISSION}")?;
+    let want = format!(in alloc; "{WIRE_001}{INTERMISSION}{broken}{WIRE_001}{INTERMISSION}")?;
+    assert_eq!(rt; levels.as_str(), want.as_str());
+    Ok(())
+}
