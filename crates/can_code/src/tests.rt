@@ -57,6 +57,8 @@ fn check_sequences(rt: HostRuntime) {
     assert_eq!(rt; crc15(&levels_of_bytes(b"123456789")), 0x059e);
     assert_eq!(rt; crc15(&[]), 0);
     assert_eq!(rt; crc15(&[Level::Recessive]), 0x4599);
+    // x^16 leaves 0x4eab, and x^15 leaves 0x4599
+    assert_eq!(rt; crc15(&levels_of_bytes(&[3])), 0x4eab ^ 0x4599);
 }
 
 #[test]

@@ -2,7 +2,7 @@ ghost use Rattle.std.specs.Prelude.{◌≡◌, ◌↔◌, ◌-◌, [], IsTrue, t
 ghost use Rattle.can_frame.specs.Levels.{level_of};
 ghost use Rattle.can_frame.specs.Arbitration.{arbitration_field};
 
-use crate::{Frame, FrameFault, Id};
+use crate::{Frame, FrameFault, Id, Level};
 use std::test::Fail;
 
 fn standard(raw: u16) -> Result<Id, Fail> {
@@ -11,6 +11,20 @@ fn standard(raw: u16) -> Result<Id, Fail> {
 
 fn extended(raw: u32) -> Result<Id, Fail> {
     Ok(Id::extended(raw).ok_or("no extended identifier")?)
+}
+
+// Dominant is the bit 0 and recessive the bit 1.
+#[test]
+fn levels(rt: HostRuntime) {
+    for (level, bit, other) in [
+        (Level::Dominant, false, Level::Recessive),
+        (Level::Recessive, true, Level::Dominant),
+    ] {
+        assert_eq!(rt; Level::from_bool(bit), level);
+        assert_eq!(rt; level.is_recessive(), bit);
+        assert_eq!(rt; level.opposite(), other);
+    }
+    assert!(rt; Level::Dominant < Level::Recessive);
 }
 
 #[test]

@@ -1,13 +1,17 @@
-ghost use Rattle.std.specs.Prelude.{ℕ, ◌≡◌, ◌≢◌, ◌+◌, ◌<◌, ◌≤◌, ◌⊎◌, Option, Some, None};
+ghost use Rattle.std.specs.Prelude.{ℕ, ◌≡◌, ◌≢◌, ◌+◌, ◌<◌, ◌≤◌, ◌⊎◌, ◌↔◌, true, List, length, Option, Some, None};
 ghost use Rattle.can_frame.specs.declared.level.Level.{Level as Bit};
 ghost use Rattle.can_frame.specs.declared.level.Level.TheVariants.{Dominant, Recessive};
 ghost use Rattle.can_frame.specs.Arbitration.{arbitration_field, Before};
 ghost use Rattle.can_frame.specs.Parts.{IsFrame, Parts};
-ghost use Rattle.can_code.specs.Layout.{level_at};
+ghost use Rattle.can_code.specs.Crc.{Multiple};
+ghost use Rattle.can_code.specs.Layout.{frame_len, level_at};
+ghost use Rattle.can_code.specs.Reading.{IsPart};
 ghost use Rattle.can_mac.specs.declared.event.Event.TheVariants.{Lost};
+ghost use Rattle.can_mac.specs.declared.phase.Phase.TheVariants.{CrcDelimiter, Idle};
 ghost use Rattle.can_mac.specs.declared.phase.Role.TheVariants.{Receiver, Sender};
 ghost use Rattle.can_mac.specs.Frames.{AreHeard, driven_at, frame_drives, frame_event, frame_state, line, PartsAt, phase_at, role_at, slot_place, StartsWith, state_after, told_at};
 ghost use Rattle.can_mac.specs.State.{idle, IsMac, IsWaiting, joining, MacState};
+ghost use Rattle.can_mac.specs.Moves.{agrees, reading_of};
 ghost use Rattle.can_mac.specs.Machine.{holding, mac_step};
 
 /// What holds of every controller holds of one that is idle or joining, and stays with each bit time
@@ -52,4 +56,13 @@ pub fn a_loser_goes_on_as_a_receiver()
     ensures drives { (f g : Parts) (m : MacState) (waits : ℕ → Option Parts) (place : ℕ) (o : ℕ) → StartsWith f m (waits 0) → waits 0 ≡ Some g → PartsAt f g place → o ≤ place → driven_at m waits (line f) o ≡ level_at (line g) o }
     ensures lost { (f g : Parts) (m : MacState) (waits : ℕ → Option Parts) (place : ℕ) → StartsWith f m (waits 0) → waits 0 ≡ Some g → PartsAt f g place → told_at m waits (line f) place ≡ Some Lost }
     ensures receiver { (f g : Parts) (m : MacState) (waits : ℕ → Option Parts) (place : ℕ) (o : ℕ) → StartsWith f m (waits 0) → waits 0 ≡ Some g → PartsAt f g place → place < o → AreHeard f m o → (state_after m waits (line f) o).role ≡ Receiver }
+{}
+
+/// For all unstuffed levels that have their whole check sequence, it agrees exactly where the generator
+/// divides them. A controller that is idle, and at which no frame waits, knows just that of a complete
+/// stuffed part that it has heard: it is at the CRC delimiter, with what these levels tell.
+pub fn agreement_is_divisibility()
+    ensures exactly { (u : List Bit) → length u ≡ frame_len u → agrees u ≡ true ↔ Multiple u }
+    ensures heard { (u part : List Bit) (m : MacState) (waits : ℕ → Option Parts) → IsPart u part → m.phase ≡ Idle → waits 0 ≡ None → (state_after m waits part (length part)).phase ≡ CrcDelimiter (reading_of u) }
+    ensures reading { (u : List Bit) → (reading_of u).agrees ≡ agrees u }
 {}

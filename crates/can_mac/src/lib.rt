@@ -17,7 +17,7 @@
 //! | `moves/frame_end.rt` | CRC delimiter, ACK slot, ACK delimiter, end of frame | `specs/Moves.antt` |
 //! | `moves/flags.rt` | error flags, overload flags, their delimiters | `specs/Moves.antt` |
 //! | `moves/between_frames.rt` | joining, idle, intermission, suspend transmission | `specs/Moves.antt` |
-//! | `laws.rt` | that what holds of every controller stays; a frame at each of them: where it leads, what is driven, who loses | `specs/State.antt`, `specs/Frames.antt` |
+//! | `laws.rt` | that what holds of every controller stays; a frame at each of them: where it leads, what is driven, who loses; that a check sequence agrees exactly where the generator divides | `specs/State.antt`, `specs/Frames.antt` |
 //!
 //! Each function of `moves` has the cases of one definition, in the same order. Most levels need none of
 //! them: `goes_on` takes these in place, and makes no move.
@@ -43,7 +43,7 @@ mod tests;
 pub use event::{ErrorKind, Event};
 pub use laws::{
     a_frame_leads_all_to_one_phase, a_loser_goes_on_as_a_receiver, a_sender_drives_its_wire,
-    access_is_kept,
+    access_is_kept, agreement_is_divisibility,
 };
 pub use machine::{Mac, MediumAccess};
 pub use phase::{Overloads, Phase, Reading, Role};

@@ -64,3 +64,6 @@ impl Log {
         }
     }
 }
+
+#[cfg(test)]
+mod tests;

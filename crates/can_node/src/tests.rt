@@ -1,6 +1,7 @@
 mod claims;
 
 use crate::{Entry, PlainNode, Port, listen};
+use can_fault::State;
 use can_frame::{Frame, Level};
 use can_mac::Event;
 use std::alloc::{AllocError, Global};
@@ -136,6 +137,35 @@ fn the_frame_on_the_wire_is_sent_whole(rt: HostRuntime) -> Result<(), Fail> {
     share(&mut sender, &mut receiver, 300);
     assert_eq!(rt; sender.log(), [sent(larger), sent(smaller)].as_slice());
     assert_eq!(rt; receiver.log(), [taken(larger), taken(smaller)].as_slice());
+    Ok(())
+}
+
+/// Alone on the bus a frame is never acknowledged. Its ACK slot is its level 41 and raises the transmit
+/// error counter by 8; six levels of flag, eight of delimiter and three of intermission follow, so an
+/// attempt begins each 59 bit times. With the sixteenth the port is error passive, and counts no more.
+#[test]
+fn an_unacknowledged_frame_stays(rt: HostRuntime) -> Result<(), Fail> {
+    let mut port = PlainNode::new(rt.alloc(), 1, 1)?;
+    assert!(rt; port.offer(frame("S 000 D 0")?).is_ok());
+    let mut time = 0u32;
+    for (end, tec, state) in [
+        (41, 0, State::Active),
+        (42, 8, State::Active),
+        (100, 8, State::Active),
+        (101, 16, State::Active),
+        (926, 120, State::Active),
+        (927, 128, State::Passive),
+        (2000, 128, State::Passive),
+    ] {
+        for _ in time..end {
+            let level = port.drive();
+            let _ = port.sample(level);
+        }
+        time = end;
+        assert_eq!(rt; port.counters(), (tec, 0), "after {end} bit times");
+        assert_eq!(rt; port.state(), state, "after {end} bit times");
+    }
+    assert!(rt; port.log().is_empty());
     Ok(())
 }
 
