@@ -36,4 +36,5 @@ pub mod HitLemmas
 pub mod ReportLines
 pub mod Started
 pub mod QuietReports
+pub mod QuietOrder
 pub mod OneScenario
