@@ -1,10 +1,12 @@
 -- What was read and written when a call that checks lines ends.
 use Rattle.std.proofs.Common.{◌≡◌, ℕ, ◌+◌, ◌^◌, ◌≤◌, inl, inr, Bool, true, false, List, [], ◌∷◌, ◌++◌, length, take, Option, Result, Ok, Err, OnOk, refl, sym, ap, subst, ◌∙◌, append_assoc, arith}
 use Rattle.std.proofs.lemmas.List.{append-nil, length_push}
+use Rattle.std.proofs.lemmas.Bool.{false≢true}
 use Rattle.std.proofs.KnownBytes.{Appends-trans, Appends-kept}
 use Rattle.std.specs.List.{flat_map}
 use Rattle.can_trace.specs.Lines.{lines_of, ended_lines, whole_lines, with_end}
-use Rattle.can_trace.specs.Outbox.{PassesOn, TakesFront}
+use Rattle.can_trace.specs.Answering.{is_write}
+use Rattle.can_trace.specs.Outbox.{Flushes, PassesOn, TakesFront}
 use Rattle.can_trace.specs.Checked.{total_line, BeginsChecking, Checks, ChecksAll, ChecksEach, ChecksEnded, ChecksLines, IsFirstBadByte}
 use Rattle.can_trace.specs.Checking.{Comes, FailsToCheck, IsBadAt, IsUnbroken, Judges, StopsChecking}
 use Rattle.can_trace.specs.Told.{Told}
@@ -14,6 +16,7 @@ use Rattle.can_trace.proofs.LineLemmas.{open_lines, whole_lines-before, whole_li
 use Rattle.can_trace.proofs.Answering.{AtLine, lines_of-last, ended_lines-last}
 use Rattle.can_trace.proofs.CheckSteps.{Checks-answered, Passing}
 use Rattle.can_trace.proofs.VectorFronts.{IsBadLevelByte-front, IsBadLevelByte-kept, IsBadLevelByte-within, IsBadVectorLine-front}
+use Rattle.can_trace.proofs.Turns.{AtLine-flushed, PassesOn-flushed, TakesFront-flushed}
 
 -- a front of the answer, and then the rest of it
 ChecksLines-split : (lines : List (List ℕ)) (output waiting taken left : List ℕ) → waiting ≡ taken ++ left → ChecksLines lines (output ++ waiting) → ChecksLines lines ((output ++ taken) ++ left)
@@ -98,25 +101,42 @@ module _ {R W : Type 0} (remaining : R → Option (List ℕ)) (r_before r : R) (
   abbrev Ends : Result (ℕ × ℕ) TraceFault → Bool → W → List ℕ → Type 0
   Ends result ended w_after waiting_after = Told remaining r_before r contents w_before w_after (λ input output. Comes ChecksEach result ended input (output ++ waiting_after))
 
-  -- no more is read
-  pub Told-stopped : (e : TraceFault) (failed ended : Bool) (at : At false) → start ≡ length (flat_map with_end at.lines) → StopsChecking e start (take 193 line) failed taken
+  -- no more is read, and the writer has not failed
+  pub Told-stopped : (e : TraceFault) (failed ended : Bool) (at : At false) → start ≡ length (flat_map with_end at.lines) → StopsChecking e start (take 193 line) failed taken → is_write e ≡ false
       → Ends (Err e) ended w waiting
-  Told-stopped e failed ended at start_is stops = record {
+  Told-stopped e failed ended at start_is stops unfailed = record {
     input = at.input;
     output = at.output;
     consumes = at.consumes;
     appends = at.appends;
-    related = by_fault e stops;
+    related = by_fault e stops unfailed;
   }
     where
-      by_fault : (e : TraceFault) → StopsChecking e start (take 193 line) failed taken → Comes ChecksEach (Err e) ended at.input (at.output ++ waiting)
-      by_fault (BadByte place) stops = IsFirstBadByte-at [] at start place (lines_of-last at ∙ ap (λ ls. at.lines ++ ls) (open_bad line start place stops)) start_is stops
-      by_fault Read stops = ChecksEnded-at at stops.1
-      by_fault Long stops = record { long = omega (arith, at.counted, stops.1); checks = ChecksEnded-at at stops.2 }
-      by_fault Write stops = absurd stops
-      by_fault (FrameLine n fault) stops = absurd stops
-      by_fault (ScenarioField wrong) stops = absurd stops
-      by_fault Memory stops = absurd stops
+      by_fault : (e : TraceFault) → StopsChecking e start (take 193 line) failed taken → is_write e ≡ false → Comes ChecksEach (Err e) ended at.input (at.output ++ waiting)
+      by_fault (BadByte place) stops unfailed = IsFirstBadByte-at [] at start place (lines_of-last at ∙ ap (λ ls. at.lines ++ ls) (open_bad line start place stops)) start_is stops
+      by_fault Read stops unfailed = ChecksEnded-at at stops.1
+      by_fault Long stops unfailed = record { long = omega (arith, at.counted, stops.1); checks = ChecksEnded-at at stops.2 }
+      by_fault Write stops unfailed = absurd (false≢true (sym unfailed))
+      by_fault (FrameLine n fault) stops unfailed = absurd stops
+      by_fault (ScenarioField wrong) stops unfailed = absurd stops
+      by_fault Memory stops unfailed = absurd stops
+
+  -- the writer failed before a read
+  pub Told-unwritten : (ended : Bool) (at : At false) (w_after : W) (waiting_after : List ℕ) → ended ≡ false → TakesFront (contents w) (contents w_after) waiting → waiting_after ≡ []
+      → Ends (Err Write) ended w_after waiting_after
+  Told-unwritten ended at w_after waiting_after unended front none = record {
+    input = at.input;
+    output = at.output ++ front.taken;
+    consumes = at.consumes;
+    appends = Appends-trans _ _ _ at.output front.taken at.appends front.appends;
+    related = inl (record {
+      good = at.lines;
+      others = [];
+      rest = front.left;
+      lines = ap (λ b. whole_lines b at.input) unended ∙ ended_lines-last at ∙ sym (append-nil at.lines);
+      answers = rw (none, append-nil (at.output ++ front.taken)) (ChecksLines-split at.lines at.output waiting front.taken front.left front.split (passed, at.answer));
+    });
+  }
 
   -- the line was not answered
   pub Told-unanswered : (found ended : Bool) (others more : List (List ℕ)) (w_after : W) (waiting_after : List ℕ) (e : TraceFault) (at : At found)
@@ -179,6 +199,36 @@ module _ {R W : Type 0} (remaining : R → Option (List ℕ)) (r_before r : R) (
       appends = Appends-trans _ _ _ at.output judges.put.taken at.appends judges.put.appends;
       related = ChecksEach-answered at (contents w_after) waiting_after more within some judges;
     }
+
+module _ {R W : Type 0} (remaining : R → Option (List ℕ)) (r_before r : R) (contents : W → Option (List ℕ)) (w_before w w_after : W)
+    (line unread waiting waiting_after : List ℕ) (taken number passed start : ℕ)
+    (at : AtLine (Passing passed) (remaining r_before) (remaining r) (contents w_before) (contents w) false line unread waiting taken number) where
+  abbrev Unread : TraceFault → Bool → Type 0
+  Unread e ended = Told remaining r_before r contents w_before w_after (λ input output. Comes ChecksEach (Err e) ended input (output ++ waiting_after))
+
+  -- no more is read, where what waits is written before each read
+  pub Told-unread : (e : TraceFault) (failed ended write_failed : Bool) → ended ≡ false → write_failed ≡ is_write e → start ≡ length (flat_map with_end at.lines)
+      → StopsChecking e start (take 193 line) failed taken → Flushes write_failed (contents w) (contents w_after) waiting waiting_after → Unread e ended
+  Told-unread e failed ended write_failed unended is start_is stops flushes = by_fault e is stops
+    where
+      here : PassesOn (contents w) (contents w_after) waiting waiting_after [] → AtLine (Passing passed) (remaining r_before) (remaining r) (contents w_before) (contents w_after) false line unread waiting_after taken number
+      here passes = AtLine-flushed (Passing passed) _ _ _ _ _ false line unread waiting waiting_after taken number at passes
+
+      stopped : (e : TraceFault) → write_failed ≡ is_write e → is_write e ≡ false → StopsChecking e start (take 193 line) failed taken → Unread e ended
+      stopped e is unfailed stops =
+          let passes = PassesOn-flushed write_failed _ _ waiting waiting_after (is ∙ unfailed) flushes in
+          Told-stopped remaining r_before r contents w_before w_after line unread waiting_after taken number passed start e failed ended (here passes) start_is stops unfailed
+
+      by_fault : (e : TraceFault) → write_failed ≡ is_write e → StopsChecking e start (take 193 line) failed taken → Unread e ended
+      by_fault Write is stops =
+          let fails = TakesFront-flushed write_failed _ _ waiting waiting_after is flushes in
+          Told-unwritten remaining r_before r contents w_before w line unread waiting taken number passed start ended at w_after waiting_after unended fails.0 fails.1
+      by_fault (BadByte place) is stops = stopped (BadByte place) is refl stops
+      by_fault Read is stops = stopped Read is refl stops
+      by_fault Long is stops = stopped Long is refl stops
+      by_fault (FrameLine n fault) is stops = absurd stops
+      by_fault (ScenarioField wrong) is stops = absurd stops
+      by_fault Memory is stops = absurd stops
 
 -- ---- and after it
 

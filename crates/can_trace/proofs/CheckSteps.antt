@@ -1,10 +1,10 @@
 -- The steps of checking lines: a line is read, and its verdict goes through the buffer to the writer.
-use Rattle.std.proofs.Common.{◌≡◌, ℕ, ◌+◌, ◌^◌, ◌<◌, ◌≤◌, inl, inr, Bool, true, cond, List, [], ◌∷◌, ◌++◌, length, take, Option, refl, sym, ap, subst, ◌∙◌, append_assoc, arith}
+use Rattle.std.proofs.Common.{◌≡◌, ℕ, ◌+◌, ◌^◌, ◌<◌, ◌≤◌, inl, inr, Bool, true, false, cond, List, [], ◌∷◌, ◌++◌, length, take, Option, refl, sym, ap, subst, ◌∙◌, append_assoc, arith}
 use Rattle.std.proofs.lemmas.List.{length-append, length-take, flat_map_more}
 use Rattle.std.specs.List.{flat_map}
 use Rattle.can_trace.specs.Lines.{with_end}
 use Rattle.can_trace.specs.LineReader.{ReadsLine}
-use Rattle.can_trace.specs.Inbox.{StopsReading}
+use Rattle.can_trace.specs.Inbox.{StopsTurn}
 use Rattle.can_trace.specs.Checked.{pass, passes, verdict_line, Checks, IsVerdict, Judged}
 use Rattle.can_trace.specs.Checking.{IsOpenFault, Judges, StopsChecking}
 use Rattle.can_trace.specs.declared.fault.TraceFault.{TraceFault}
@@ -79,16 +79,21 @@ unread_within Answer before after held holds line unread waiting taken number at
 
 -- ---- a line in which no more is read
 
-pub StopsChecking-from : (fault result : TraceFault) (start : ℕ) (line : List ℕ) (failed : Bool) (taken : ℕ) → StopsReading fault failed taken → IsOpenFault start line fault result
+-- the writer failed
+pub StopsChecking-unwritten : (fault : TraceFault) (start : ℕ) (line : List ℕ) (failed : Bool) (taken : ℕ) → (fault ≡ Write) × (failed ≡ false) → StopsChecking fault start line failed taken
+StopsChecking-unwritten fault start line failed taken stops = subst (λ e. StopsChecking e start line failed taken) (sym stops.0) stops.1
+
+pub StopsChecking-from : (fault result : TraceFault) (start : ℕ) (line : List ℕ) (failed : Bool) (taken : ℕ) → StopsTurn fault failed taken → IsOpenFault start line fault result
     → StopsChecking result start line failed taken
 StopsChecking-from fault result start line failed taken stops (inl bad) = subst (λ e. StopsChecking e start line failed taken) (sym bad.1) bad.2
 StopsChecking-from fault result start line failed taken stops (inr good) = subst (λ e. StopsChecking e start line failed taken) (sym good.0) (same fault stops)
   where
-    same : (e : TraceFault) → StopsReading e failed taken → StopsChecking e start line failed taken
-    same Read stops = (stops, good.1)
-    same Long stops = (stops.0, stops.1, good.1)
-    same Write stops = absurd stops
-    same (BadByte place) stops = absurd stops
-    same (FrameLine n f) stops = absurd stops
-    same (ScenarioField wrong) stops = absurd stops
-    same Memory stops = absurd stops
+    same : (e : TraceFault) → StopsTurn e failed taken → StopsChecking e start line failed taken
+    same e (inl stops) = StopsChecking-unwritten e start line failed taken stops
+    same Read (inr stops) = (stops, good.1)
+    same Long (inr stops) = (stops.0, stops.1, good.1)
+    same Write (inr stops) = absurd stops
+    same (BadByte place) (inr stops) = absurd stops
+    same (FrameLine n f) (inr stops) = absurd stops
+    same (ScenarioField wrong) (inr stops) = absurd stops
+    same Memory (inr stops) = absurd stops

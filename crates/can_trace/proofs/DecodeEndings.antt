@@ -9,8 +9,9 @@ use Rattle.std.specs.Io.KnownBytes.{Consumes}
 use Rattle.std.specs.List.{flat_map, AllByRecursion}
 use Rattle.can_frame.specs.declared.level.Level.{Level}
 use Rattle.can_trace.specs.Told.{Told}
-use Rattle.can_trace.specs.Inbox.{StopsReading}
-use Rattle.can_trace.specs.Outbox.{PassesOn, TakesFront}
+use Rattle.can_trace.specs.Answering.{is_write}
+use Rattle.can_trace.specs.Inbox.{StopsReading, StopsTurn}
+use Rattle.can_trace.specs.Outbox.{Flushes, PassesOn, TakesFront}
 use Rattle.can_trace.specs.TraceText.{IsTraceText, is_trace_byte, levels_in}
 use Rattle.can_trace.specs.Decoded.{BeginsDecoding, DecodesAll, DecodesClosed, DecodesSoFar, DecodesToBadByte, DecodesTooLong, FullAnswer, Finds, finding_line, is_closed}
 use Rattle.can_trace.specs.Decoding.{Decodes, EndsWith, FailsToTell, Hearing, HearsText, MeetsBadByte, StopsHearing}
@@ -22,6 +23,7 @@ use Rattle.can_trace.proofs.Elements.{AllByRecursion-append}
 use Rattle.can_trace.proofs.TraceSteps.{Hearing-ends}
 use Rattle.can_trace.proofs.FindsTotal.{Hearing-goes_on}
 use Rattle.can_trace.proofs.DecodeSteps.{levels_in-append, length-levels_in}
+use Rattle.can_trace.proofs.Turns.{PassesOn-flushed, TakesFront-flushed, same-flushed, unwritten}
 
 -- ---- the state of a run
 
@@ -341,6 +343,34 @@ module _ {R W : Type 0} (remaining : R → Option (List ℕ)) (r_before : R) (co
       Told-finished (Ok u) finding w_now waiting_now taken counted within ends passes front none is_write = Told-open finding w_now waiting_now ends taken counted within passes
       Told-finished (Err e) finding w_now waiting_now taken counted within ends passes front none is_write =
           subst (λ x. Ends (Err x) r_now w_now waiting_now) (sym is_write) (subst (Ends (Err Write) r_now w_now) (sym none) (Told-untold w_now front))
+
+module _ {R W : Type 0} (remaining : R → Option (List ℕ)) (r_before : R) (contents : W → Option (List ℕ)) (w_before : W) where
+  -- what waited was written
+  abbrev pub Decoding-flushed : (r : R) (w w_now : W) (trace : Trace) (waiting waiting_now : List ℕ) (taken : ℕ) → Decoding remaining r_before contents w_before r w trace waiting taken
+      → PassesOn (contents w) (contents w_now) waiting waiting_now [] → Decoding remaining r_before contents w_before r w_now trace waiting_now taken
+  Decoding-flushed r w w_now trace waiting waiting_now taken d passes = record {
+    heard = record {
+      input = d.heard.input;
+      output = d.heard.output ++ passes.taken;
+      consumes = d.heard.consumes;
+      appends = Appends-trans _ _ _ d.heard.output passes.taken d.heard.appends passes.appends;
+      related = subst (HeardSoFar trace d.heard.input) (same-flushed _ _ d.heard.output waiting waiting_now passes) d.heard.related;
+    };
+    counted = d.counted;
+  }
+
+  -- no more is read, where what waits is written before each read
+  pub Told-unread : (r r_now : R) (w w_now : W) (trace : Trace) (waiting waiting_now : List ℕ) (taken : ℕ) (d : Decoding remaining r_before contents w_before r w trace waiting taken)
+      → (e : TraceFault) (failed write_failed : Bool) (taken_now : ℕ) (bytes : List ℕ) → Consumes (remaining r) (remaining r_now) bytes → bytes ≡ [] → taken_now ≡ length d.heard.input
+      → write_failed ≡ is_write e → StopsTurn e failed taken_now → Flushes write_failed (contents w) (contents w_now) waiting waiting_now → Ends remaining r_before contents w_before (Err e) r_now w_now waiting_now
+  Told-unread r r_now w w_now trace waiting waiting_now taken d e failed write_failed taken_now bytes consumes none counted is (inl stops) flushes =
+      let fails = TakesFront-flushed write_failed _ _ waiting waiting_now (is ∙ ap is_write stops.0) flushes in
+      let untold = Told-untold remaining r_before contents w_before r r_now w trace waiting d.heard bytes consumes none w_now fails.0 in
+      subst (λ x. Ends remaining r_before contents w_before (Err x) r_now w_now waiting_now) (sym stops.0) (subst (Ends remaining r_before contents w_before (Err Write) r_now w_now) (sym fails.1) untold)
+  Told-unread r r_now w w_now trace waiting waiting_now taken d e failed write_failed taken_now bytes consumes none counted is (inr stops) flushes =
+      let passes = PassesOn-flushed write_failed _ _ waiting waiting_now (is ∙ unwritten e failed taken_now stops) flushes in
+      let now = Decoding-flushed r w w_now trace waiting waiting_now taken d passes in
+      Told-stopped remaining r_before contents w_before r r_now w_now trace waiting_now now.heard e failed taken_now bytes consumes none counted stops
 
 -- a part of what waits is written
 moved : (output waiting taken left : List ℕ) → waiting ≡ taken ++ left → output ++ waiting ≡ (output ++ taken) ++ left

@@ -1,19 +1,21 @@
 -- What was read and written when a call ends.
-use Rattle.std.proofs.Common.{◌≡◌, ℕ, ◌+◌, ◌^◌, ◌≤◌, ◌<◌, Bool, true, false, List, [], ◌∷◌, ◌++◌, Option, Result, Ok, Err, OnOk, sym, ap, subst, ◌∙◌, append_assoc, arith}
+use Rattle.std.proofs.Common.{◌≡◌, ℕ, ◌+◌, ◌^◌, ◌≤◌, ◌<◌, inl, inr, Bool, true, false, List, [], ◌∷◌, ◌++◌, Option, Result, Ok, Err, OnOk, sym, ap, subst, ◌∙◌, append_assoc, arith}
 use Rattle.std.proofs.lemmas.List.{append-nil}
 use Rattle.std.proofs.KnownBytes.{Appends-trans, Appends-kept}
 use Rattle.can_frame.specs.Text.{IsTextFault, IsFrameText}
 use Rattle.can_frame.specs.declared.text.TextFault.{TextFault}
 use Rattle.can_trace.specs.Lines.{lines_of, ended_lines, whole_lines}
 use Rattle.can_trace.specs.Coded.{Codes, EncodesAll, EncodesEnded, EncodesTooLong, BeginsEncoding, IsFirstBadLine}
-use Rattle.can_trace.specs.Answering.{Answers, FailsToAnswer, Encodes}
-use Rattle.can_trace.specs.Inbox.{StopsReading}
+use Rattle.can_trace.specs.Answering.{Answers, FailsToAnswer, Encodes, is_write}
+use Rattle.can_trace.specs.Inbox.{StopsReading, StopsTurn}
+use Rattle.can_trace.specs.Outbox.{Flushes, TakesFront}
 use Rattle.can_trace.specs.Told.{Told}
 use Rattle.can_trace.specs.declared.fault.TraceFault.{TraceFault}
 use Rattle.can_trace.specs.declared.fault.TraceFault.TheVariants.{BadByte, Read, Write, Long, FrameLine, ScenarioField, Memory}
 use Rattle.can_trace.proofs.LineLemmas.{open_lines, whole_lines-from_ended}
 use Rattle.can_trace.proofs.Codings.{Codes-split}
 use Rattle.can_trace.proofs.Answering.{AtLine, Codes-answered, lines_of-last, ended_lines-last}
+use Rattle.can_trace.proofs.Turns.{AtLine-flushed, PassesOn-flushed, TakesFront-flushed, unwritten}
 
 -- ---- by the state
 
@@ -143,6 +145,37 @@ module _ {R W : Type 0} (remaining : R → Option (List ℕ)) (r_before r : R) (
       appends = Appends-trans _ _ _ at.output answers.passes.taken at.appends answers.passes.appends;
       related = EncodesAll-answered at (contents w_after) waiting_after within some answers;
     }
+
+module _ {R W : Type 0} (remaining : R → Option (List ℕ)) (r_before r : R) (contents : W → Option (List ℕ)) (w_before w w_after : W)
+    (line unread waiting waiting_after : List ℕ) (taken number : ℕ) (at : AtLine Codes (remaining r_before) (remaining r) (contents w_before) (contents w) false line unread waiting taken number) where
+  abbrev Unread : TraceFault → Bool → Type 0
+  Unread e ended = Told remaining r_before r contents w_before w_after (λ input output. Encodes {A = Unit {0}} (Err e) ended input (output ++ waiting_after))
+
+  -- the writer failed before a read
+  unwritten_at : (ended : Bool) → ended ≡ false → TakesFront (contents w) (contents w_after) waiting → waiting_after ≡ [] → Unread Write ended
+  unwritten_at ended unended front none = record {
+    input = at.input;
+    output = at.output ++ front.taken;
+    consumes = at.consumes;
+    appends = Appends-trans _ _ _ at.output front.taken at.appends front.appends;
+    related = record {
+      good = at.lines;
+      others = [];
+      rest = front.left;
+      lines = ap (λ b. whole_lines b at.input) unended ∙ ended_lines-last at ∙ sym (append-nil at.lines);
+      answers = rw (none, append-nil (at.output ++ front.taken)) (Codes-split at.lines at.output waiting front.taken front.left front.split at.answer);
+    };
+  }
+
+  -- no more is read, where what waits is written before each read
+  pub Told-unread : (e : TraceFault) (failed ended write_failed : Bool) → ended ≡ false → write_failed ≡ is_write e → StopsTurn e failed taken
+      → Flushes write_failed (contents w) (contents w_after) waiting waiting_after → Unread e ended
+  Told-unread e failed ended write_failed unended is (inl stops) flushes =
+      let fails = TakesFront-flushed write_failed _ _ waiting waiting_after (is ∙ ap is_write stops.0) flushes in
+      subst (λ x. Unread x ended) (sym stops.0) (unwritten_at ended unended fails.0 fails.1)
+  Told-unread e failed ended write_failed unended is (inr stops) flushes =
+      let passes = PassesOn-flushed write_failed _ _ waiting waiting_after (is ∙ unwritten e failed taken stops) flushes in
+      Told-stopped remaining r_before r contents w_before w_after line unread waiting_after taken number e failed ended (AtLine-flushed Codes _ _ _ _ _ false line unread waiting waiting_after taken number at passes) stops
 
 -- ---- and after it
 

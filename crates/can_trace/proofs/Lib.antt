@@ -13,6 +13,8 @@ pub mod VerdictLines
 pub mod Codings
 pub mod Answering
 pub mod Flushing
+pub mod PutParts
+pub mod Turns
 pub mod Endings
 pub mod CheckSteps
 pub mod CheckEndings
@@ -31,8 +33,8 @@ pub mod ReadLists
 pub mod ScenarioParts
 pub mod ScenarioRows
 pub mod HitLemmas
-pub mod PutParts
 pub mod ReportLines
 pub mod Started
 pub mod QuietReports
+pub mod QuietOrder
 pub mod OneScenario

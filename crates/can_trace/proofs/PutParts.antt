@@ -13,7 +13,7 @@ pub record PutsPart (held holds : Option (List ℕ)) (old new text left : List �
 
 module _ (held mid holds : Option (List ℕ)) (old between : List ℕ) where
   -- first these bytes and then those
-  PassesOn-joined : (new first second : List ℕ) → PassesOn held mid old between first → PassesOn mid holds between new second → PassesOn held holds old new (first ++ second)
+  pub PassesOn-joined : (new first second : List ℕ) → PassesOn held mid old between first → PassesOn mid holds between new second → PassesOn held holds old new (first ++ second)
   PassesOn-joined new first second p q = record {
     taken = p.taken ++ q.taken;
     appends = Appends-trans held mid holds p.taken q.taken p.appends q.appends;
@@ -21,7 +21,7 @@ module _ (held mid holds : Option (List ℕ)) (old between : List ℕ) where
         ∙ ap (λ t. p.taken ++ t) q.same ∙ sym (append_assoc p.taken q.taken new);
   }
 
-  TakesFront-joined : (first second : List ℕ) → PassesOn held mid old between first → TakesFront mid holds (between ++ second) → TakesFront held holds (old ++ (first ++ second))
+  pub TakesFront-joined : (first second : List ℕ) → PassesOn held mid old between first → TakesFront mid holds (between ++ second) → TakesFront held holds (old ++ (first ++ second))
   TakesFront-joined first second p q = record {
     taken = p.taken ++ q.taken;
     left = q.left;

@@ -26,7 +26,7 @@ use Rattle.can_trace.specs.QuietReport.{IsQuietPlan, IsQuietScenario, all_frames
 -- ---- the ports as they begin
 
 -- what the port is made with, as long as nothing else is asked of it
-abbrev made_with : PortPlan → ReadyPlan
+abbrev pub made_with : PortPlan → ReadyPlan
 made_with plan = record { queue_room = length plan.queue.items; log_room = plan.log_room; frames = plan.queue.items }
 
 all_offered-fold : (frames : List Parts) (p : PortState) → all_offered frames p ≡ fold (λ q f. offered f q) p frames
@@ -36,7 +36,7 @@ all_offered-fold (f ∷ frames) p = all_offered-fold frames (offered f p)
 unasked : (plan : ReadyPlan) → port_holding 0 (ready_port plan) ≡ ready_port plan
 unasked plan = ap (port_holding 0) (ready-filled plan) ∙ sym (ready-filled plan)
 
-started-ready : (entries : ℕ) (plan : PortPlan) → IsQuietPlan entries plan → started_port plan ≡ ready_port (made_with plan)
+pub started-ready : (entries : ℕ) (plan : PortPlan) → IsQuietPlan entries plan → started_port plan ≡ ready_port (made_with plan)
 started-ready entries plan quiet =
     ap (λ joins. port_holding plan.overloads (all_offered plan.queue.items (fresh_port (if joins then joining else idle) (length plan.queue.items) plan.log_room))) quiet.idle
     ∙ ap (port_holding plan.overloads) (all_offered-fold plan.queue.items (fresh_port idle (length plan.queue.items) plan.log_room))
@@ -44,7 +44,7 @@ started-ready entries plan quiet =
     ∙ unasked (made_with plan)
 
 -- each of them is quiet
-abbrev AllQuiet : ℕ → List PortPlan → Type 0
+abbrev pub AllQuiet : ℕ → List PortPlan → Type 0
 AllQuiet entries plans = (n : ℕ) (plan : PortPlan) → slice_get plans n ≡ Some plan → IsQuietPlan entries plan
 
 all-ready : (entries : ℕ) (plans : List PortPlan) → AllQuiet entries plans → map started_port plans ≡ map ready_port (map made_with plans)

@@ -49,12 +49,12 @@ abbrev pub IsOpenFault : ℕ → List ℕ → TraceFault → TraceFault → Type
 IsOpenFault start line fault result = ((place : ℕ) × (result ≡ BadByte place) × IsBadAt start line place) ⊎ ((result ≡ fault) × IsUnbroken line)
 
 -- Why no more is read in a line that begins at this place of the input: it has a bad byte, a read failed,
--- or more than 2^63 bytes were read.
+-- more than 2^63 bytes were read, or the writer failed before a read.
 abbrev pub StopsChecking : TraceFault → ℕ → List ℕ → Bool → ℕ → Type 0
 StopsChecking (BadByte place) start line failed taken = IsBadAt start line place
 StopsChecking Read start line failed taken = (failed ≡ true) × IsUnbroken line
 StopsChecking Long start line failed taken = (failed ≡ false) × (2 ^ 63 < taken) × IsUnbroken line
-StopsChecking Write start line failed taken = ⊥
+StopsChecking Write start line failed taken = failed ≡ false
 StopsChecking (FrameLine n fault) start line failed taken = ⊥
 StopsChecking (ScenarioField wrong) start line failed taken = ⊥
 StopsChecking Memory start line failed taken = ⊥

@@ -1,5 +1,5 @@
 -- What a stream has read, and not used yet.
-use Rattle.std.specs.Prelude.{◌≡◌, ℕ, ◌^◌, ◌<◌, Bool, true, false, List}
+use Rattle.std.specs.Prelude.{◌≡◌, ◌⊎◌, ℕ, ◌^◌, ◌<◌, Bool, true, false, List}
 use Rattle.can_trace.specs.declared.fault.TraceFault.{TraceFault}
 use Rattle.can_trace.specs.declared.fault.TraceFault.TheVariants.{BadByte, Read, Write, Long, FrameLine, ScenarioField, Memory}
 
@@ -17,3 +17,7 @@ StopsReading (BadByte place) failed taken = ⊥
 StopsReading (FrameLine line fault) failed taken = ⊥
 StopsReading (ScenarioField wrong) failed taken = ⊥
 StopsReading Memory failed taken = ⊥
+
+-- the same where what waits is written before each read: the writer failed too, and then nothing was read
+abbrev pub StopsTurn : TraceFault → Bool → ℕ → Type 0
+StopsTurn fault failed taken = ((fault ≡ Write) × (failed ≡ false)) ⊎ StopsReading fault failed taken

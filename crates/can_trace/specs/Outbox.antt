@@ -1,5 +1,5 @@
 -- What becomes of bytes that go through a buffer to a writer.
-use Rattle.std.specs.Prelude.{◌≡◌, ℕ, List, ◌++◌, Option, Result, Ok, Err}
+use Rattle.std.specs.Prelude.{◌≡◌, ℕ, Bool, true, false, List, [], ◌++◌, Option, Result, Ok, Err}
 use Rattle.std.specs.Io.KnownBytes.{Appends}
 use Rattle.can_trace.specs.declared.fault.TraceFault.{TraceFault}
 
@@ -16,6 +16,11 @@ pub record TakesFront (held holds : Option (List ℕ)) (bytes : List ℕ) : Type
   pub left : List ℕ
   pub appends : Appends held holds taken
   pub split : bytes ≡ taken ++ left
+
+-- What waits went to the writer, all of it or a part; or the writer failed and took a front of it, and none waits any more.
+abbrev pub Flushes : (writer_failed : Bool) → (held holds : Option (List ℕ)) → (old new : List ℕ) → Type 0
+Flushes false held holds old new = PassesOn held holds old new []
+Flushes true held holds old new = TakesFront held holds old × (new ≡ [])
 
 -- The bytes were put, or the writer failed: then it took a front of what was in the buffer and of these bytes behind it.
 abbrev pub Puts : {A : Type 0} → Result A TraceFault → (held holds : Option (List ℕ)) → (old new put : List ℕ) → Type 0

@@ -1,7 +1,8 @@
 -- Scenarios of a quiet bus, and their reports.
-use Rattle.std.specs.Prelude.{ℕ, ◌≡◌, ◌≤◌, false, List, [], length, map, Some, slice_get}
-use Rattle.std.specs.List.{flat_map}
-use Rattle.can_frame.specs.Parts.{Parts}
+use Rattle.std.specs.Prelude.{ℕ, ◌≡◌, ◌≤◌, false, List, [], ◌∷◌, All, length, map, Some, slice_get}
+use Rattle.std.specs.List.{flat_map, AllByRecursion}
+use Rattle.std.specs.List.Sorted.{IsPermutation}
+use Rattle.can_frame.specs.Parts.{Parts, IsFrame}
 use Rattle.can_bus.specs.Quiet.{AreDifferent, ascending, line_at, marked}
 use Rattle.can_fault.specs.declared.state.State.TheVariants.{Active}
 use Rattle.can_trace.specs.declared.scenario.Scenario.{Scenario}
@@ -38,3 +39,24 @@ abbrev pub quiet_report : ℕ → List (List Parts) → List ℕ
 quiet_report bits waiting =
     let frames : List Parts = ascending (all_frames waiting) in
     report_text (levels_until (line_at frames) bits) (map (quiet_port frames) waiting)
+
+-- ---- the order within a queue
+
+-- at each port the same frames, in whatever order it was offered them
+abbrev pub AreReordered : (waiting others : List (List Parts)) → Type 0
+AreReordered [] [] = Unit {0}
+AreReordered [] (other ∷ others) = ⊥
+AreReordered (queue ∷ waiting) [] = ⊥
+AreReordered (queue ∷ waiting) (other ∷ others) = IsPermutation queue other × AreReordered waiting others
+
+-- all that waits are frames
+abbrev pub HoldsFrames : Scenario → Type 0
+HoldsFrames s = AllByRecursion (λ queue. All IsFrame queue) (queues s)
+
+-- two quiet scenarios that run for as many bit times, with the same frames at each port, in whatever order
+pub record AreReorderings (s t : Scenario) : Type 0 where
+  pub first : IsQuietScenario s
+  pub second : IsQuietScenario t
+  pub frames : HoldsFrames s × HoldsFrames t
+  pub same : AreReordered (queues s) (queues t)
+  pub bits : s.bits ≡ t.bits

@@ -3,7 +3,7 @@ ghost use Rattle.std.specs.Io.KnownBytes.{IsAtEnd};
 ghost use Rattle.can_frame.specs.declared.text.TextFault.{TextFault};
 ghost use Rattle.can_trace.specs.declared.scenario.field.Field.{Field};
 ghost use Rattle.can_trace.specs.Told.{Told};
-ghost use Rattle.can_trace.specs.Outbox.{PassesOn, TakesFront};
+ghost use Rattle.can_trace.specs.Outbox.{Flushes, PassesOn, TakesFront};
 ghost use Rattle.can_trace.specs.LineReader.{ReadsLine, is_found};
 ghost use Rattle.can_trace.specs.Answering.{is_err_by, is_read, is_write};
 ghost use Rattle.can_trace.specs.Checked.{BeginsChecking, ChecksAll, ChecksEach, ChecksEnded, ChecksTooLong, IsFirstBadByte, IsFirstBadVectorLine};
@@ -124,7 +124,7 @@ fn check_each<R: Source, W: Sink>(
     let mut number = 0;
     let mut passed = 0;
     let mut start = 0;
-    while next_line(&mut lines, r, start)? {
+    while next_line(&mut lines, start, r, w, out)? {
         number += 1;
         passed += check_line(lines.line(), number, start, w, out)?;
         start = lines.place();
@@ -138,14 +138,17 @@ fn check_each<R: Source, W: Sink>(
 }
 
 /// Reads the next line, which begins at this place of the input. Where no more is read before the line's
-/// end, a bad byte in what came of it is answered first.
-fn next_line<R: Source>(
+/// end, a bad byte in what came of it is answered first, unless the writer has failed.
+fn next_line<R: Source, W: Sink>(
     lines: &mut LineReader<KEPT>,
-    source: &mut R,
     start: u64,
+    source: &mut R,
+    w: &mut W,
+    out: &mut Outbox,
 ) -> Result<bool, TraceFault>
     requires unfailed { R.has_failed source.old ≡ false }
     requires unended { R.has_ended source.old ≡ false }
+    requires writer_unfailed { W.has_failed w.old ≡ false }
     requires fits { lines.old.inbox.taken < 2 ^ 64 }
     requires start { start + length lines.old.inbox.unread ≡ lines.old.inbox.taken }
     ensures reads { ReadsLine (is_found result) (R.remaining source.old) (R.remaining source.new) KEPT lines.old lines.new }
@@ -156,10 +159,12 @@ fn next_line<R: Source>(
     ensures unfailed { OnOk result (R.has_failed source.new ≡ false) }
     ensures err { IfErr result (λ e. StopsChecking e start lines.new.line.items (R.has_failed source.new) lines.new.inbox.taken) }
     ensures unended { OnErr result (R.has_ended source.new ≡ false) }
+    ensures flushed { Flushes (W.has_failed w.new) (W.contents w.old) (W.contents w.new) out.old out.new }
+    ensures write_failed { W.has_failed w.new ≡ is_err_by is_write result }
 {
-    match lines.next_line(source) {
-        Ok(found) => Ok(found),
-        Err(fault) => Err(open_fault(lines.line(), start, fault)),
+    match lines.next_line(source, w, out) {
+        Err(fault) if !w.failed() => Err(open_fault(lines.line(), start, fault)),
+        answer => answer,
     }
 }
 

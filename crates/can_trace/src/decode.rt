@@ -98,7 +98,7 @@ fn decode_all<R: Source, W: Sink>(r: &mut R, w: &mut W, out: &mut Outbox) -> Res
 {
     let mut inbox = Inbox::new();
     let mut trace = Trace::begin();
-    while inbox.fill(r)? > 0 {
+    while inbox.flush_and_fill(r, w, out)? > 0 {
         let bytes = inbox.unread();
         hear_bytes(bytes, inbox.place(), &mut trace, w, out)?;
         let count = bytes.len();

@@ -87,7 +87,7 @@ fn answer_lines<R: Source, W: Sink>(
 {
     let mut lines: LineReader<KEPT> = LineReader::new();
     let mut number = 0;
-    while lines.next_line(r)? {
+    while lines.next_line(r, w, out)? {
         number += 1;
         answer_line(lines.line(), number, w, out)?;
     }

@@ -2,11 +2,13 @@ ghost use Rattle.std.specs.Prelude.{◌≡◌, ℕ, ◌+◌, ◌-◌, ◌^◌, �
 ghost use Rattle.std.specs.Io.KnownBytes.{Consumes, IsAtEnd};
 
 use crate::fault::TraceFault;
+use crate::outbox::Outbox;
+use crate::sink::Sink;
 use crate::source::Source;
 use std::marker::Model;
 
 /// How many bytes a read gives at most.
-const CAPACITY: usize = 16384;
+const CAPACITY: usize = 65536;
 
 /// How many bytes an input has at most, 2^63.
 const MAX_BYTES: u64 = 1 << 63;
@@ -34,7 +36,9 @@ impl Model for Inbox {
 }
 
 impl Inbox {
-    ghost use Rattle.can_trace.specs.Inbox.{StopsReading};
+    ghost use Rattle.can_trace.specs.Inbox.{StopsReading, StopsTurn};
+    ghost use Rattle.can_trace.specs.Outbox.{Flushes};
+    ghost use Rattle.can_trace.specs.Answering.{is_err_by, is_write};
 
     /// Nothing was read so far.
     pub(crate) fn new() -> Inbox
@@ -74,7 +78,7 @@ impl Inbox {
     /// Reads once, when all bytes were used, and answers how many bytes came: none only where the source
     /// ended. `Read` says that the source failed, and `Long` that more than 2^63 bytes had come before
     /// this call, which then reads nothing.
-    pub(crate) fn fill<R: Source>(&mut self, source: &mut R) -> Result<usize, TraceFault>
+    fn fill<R: Source>(&mut self, source: &mut R) -> Result<usize, TraceFault>
         requires used { self.old.unread ≡ [] }
         requires unfailed { R.has_failed source.old ≡ false }
         requires unended { R.has_ended source.old ≡ false }
@@ -105,5 +109,39 @@ impl Inbox {
             }
             Err(_) => Err(TraceFault::Read),
         }
+    }
+
+    /// Gives the sink what waits, so that none of it waits while the source is read, and then reads once
+    /// as `fill` does. `Write` says that the sink failed; nothing is read then.
+    pub(crate) fn flush_and_fill<R: Source, W: Sink>(
+        &mut self,
+        source: &mut R,
+        sink: &mut W,
+        out: &mut Outbox,
+    ) -> Result<usize, TraceFault>
+        requires used { self.old.unread ≡ [] }
+        requires unfailed { R.has_failed source.old ≡ false }
+        requires unended { R.has_ended source.old ≡ false }
+        requires sink_unfailed { W.has_failed sink.old ≡ false }
+        requires within { self.old.taken < 2 ^ 64 }
+        ensures bytes { Consumes (R.remaining source.old) (R.remaining source.new) self.new.unread }
+        ensures taken { self.new.taken ≡ self.old.taken + length self.new.unread }
+        ensures fits { self.new.taken < 2 ^ 64 }
+        ensures flushed { Flushes (W.has_failed sink.new) (W.contents sink.old) (W.contents sink.new) out.old out.new }
+        ensures empty { out.new ≡ [] }
+
+        ensures count { IfOk result (λ n. n ≡ length self.new.unread) }
+        ensures ended { IfOk result (λ n. R.has_ended source.new ≡ (n == 0)) }
+        ensures end { IfOk result (λ n. n ≡ 0 → IsAtEnd (R.remaining source.new)) }
+        ensures within { OnOk result (self.old.taken ≤ 2 ^ 63) }
+        ensures unfailed { OnOk result (R.has_failed source.new ≡ false) }
+
+        ensures err { IfErr result (λ e. StopsTurn e (R.has_failed source.new) self.new.taken) }
+        ensures none { OnErr result (self.new.unread ≡ []) }
+        ensures unended { OnErr result (R.has_ended source.new ≡ false) }
+        ensures write_failed { W.has_failed sink.new ≡ is_err_by is_write result }
+    {
+        out.flush(sink)?;
+        self.fill(source)
     }
 }

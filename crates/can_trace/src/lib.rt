@@ -5,8 +5,8 @@
 //! [`decode_stream`] reads levels, and writes which frames and faults are found in them. Each promises
 //! what was written of what was read, for every way in which it can end, wherever the reader and the
 //! writer tell their bytes; and for all of them, which failure its answer stands for. It holds two fixed
-//! buffers and takes no memory. [`run_scenario`] runs a bus and writes what came of it: it takes its memory
-//! before the first byte is written.
+//! buffers and takes no memory, and writes what is known before each read. [`run_scenario`] runs a bus and
+//! writes what came of it: it takes its memory before the first byte is written.
 //!
 //! | File | What it has | Defined in |
 //! |---|---|---|
@@ -27,7 +27,7 @@
 //! | `report.rt` | the report of a run, put line by line | `specs/Report.antt` |
 //! | `line.rt` | a line that is put together | |
 //! | `fault.rt` | [`TraceFault`], why an answer is not whole | |
-//! | `laws.rt` | that lines, vectors and traces have one answer, and documents one reading | `specs/Coded.antt`, `specs/Checked.antt`, `specs/Decoded.antt`, `specs/Scenarios.antt` |
+//! | `laws.rt` | that lines, vectors and traces have one answer, documents one reading, and quiet scenarios one report, however each port was offered its frames | `specs/Coded.antt`, `specs/Checked.antt`, `specs/Decoded.antt`, `specs/Scenarios.antt`, `specs/QuietReport.antt` |
 //! | `source.rt` | [`Source`], what bytes are read from, and [`FromRead`], which wraps a `Read` | `specs/Told.antt`, `specs/Wrapped.antt` |
 //! | `sink.rt` | [`Sink`], what bytes are written to, and [`ToWrite`], which wraps a `Write` | `specs/Told.antt`, `specs/Wrapped.antt` |
 //! | `lines.rt` | the lines of a source, one after another | `specs/Lines.antt`, `specs/LineReader.antt` |
@@ -39,16 +39,17 @@
 //! those of `check.rt`, `specs/Decoding.antt` those of `decode.rt` and `trace.rt`. Of the lemmas,
 //! `proofs/LineLemmas.antt` has how a text falls into lines, `Reading` how a line is read, `TextLemmas`
 //! why 33 bytes of a line tell its fault, `Answering` and `Endings` the steps and the ends of a run;
-//! `Flushing` what is written when what waits is flushed.
+//! `Flushing` what is written when what waits is flushed, and `Turns` that it is flushed before each read.
 //! Of checking, `MarkLemmas`, `DigitLemmas` and `VectorLemmas` have how a line is read, `VectorFronts` why
 //! 193 bytes of it tell all, `CheckSteps` and `CheckEndings` the steps and the ends of a run, `OneVerdict`
 //! that each line has one verdict. Of reports, `PutParts` has a text that is put in parts, `ReportLines` the
-//! lines, `Started` how a run begins and which levels it records. Of decoding, `IdleRows` has the search for eleven recessive levels,
-//! `TraceSteps` what one level makes of a trace, `DecodeSteps` and `DecodeEndings` the steps and the ends of
-//! a run, `FindsTotal` and `FindsOne` that in all levels one list is found, `OneDecoding` that each input has
-//! one full answer. Of scenarios, `DemandLemmas` has demands one behind another, `ReadValues` the values of a
-//! document, `ReadLists` its arrays, `ScenarioParts` what a port and a document come to; `ScenarioRows` has a
-//! few documents.
+//! lines, `Started` how a run begins and which levels it records, `QuietReports` the report of a quiet
+//! scenario, and `QuietOrder` that the order within a queue has no say in it. Of decoding, `IdleRows` has
+//! the search for eleven recessive levels, `TraceSteps` what one level makes of a trace, `DecodeSteps` and
+//! `DecodeEndings` the steps and the ends of a run, `FindsTotal` and `FindsOne` that in all levels one list is
+//! found, `OneDecoding` that each input has one full answer. Of scenarios, `DemandLemmas` has demands one
+//! behind another, `ReadValues` the values of a document, `ReadLists` its arrays, `ScenarioParts` what a port
+//! and a document come to; `ScenarioRows` has a few documents.
 #![tactic(auto)]
 
 mod check;
@@ -77,7 +78,7 @@ pub use check::check_lines;
 pub use decode::decode_stream;
 pub use encode::encode_lines;
 pub use fault::TraceFault;
-pub use laws::{one_answer, one_check, one_decoding, one_scenario};
+pub use laws::{offering_order_is_untold, one_answer, one_check, one_decoding, one_scenario};
 pub use outbox::write_all;
 pub use run::run_scenario;
 pub use scenario::{Field, HitList, PortField, PortPlan, Scenario};

@@ -1,10 +1,14 @@
 ghost use Rattle.std.specs.Prelude.{◌≡◌, ℕ, ◌+◌, ◌-◌, ◌==◌, ◌<◌, ◌≤◌, ◌^◌, true, false, not, List, [], ◌∷◌, ◌++◌, length, take, position, IsTrue, IsFalse, IfOk, IfErr, OnOk, OnErr};
 ghost use Rattle.std.specs.Io.KnownBytes.{Consumes, IsAtEnd};
 ghost use Rattle.can_trace.specs.Lines.{IsLine, SplitsLine};
-ghost use Rattle.can_trace.specs.Inbox.{StopsReading};
+ghost use Rattle.can_trace.specs.Inbox.{StopsTurn};
+ghost use Rattle.can_trace.specs.Outbox.{Flushes};
+ghost use Rattle.can_trace.specs.Answering.{is_err_by, is_write};
 
 use crate::fault::TraceFault;
 use crate::inbox::Inbox;
+use crate::outbox::Outbox;
+use crate::sink::Sink;
 use crate::source::Source;
 use arrayvec::ArrayVec;
 
@@ -46,9 +50,17 @@ impl<const KEPT: usize> LineReader<KEPT> {
 
     /// Reads the next line up to its end. Where the source ends, or an `Err` comes, before the line's
     /// end, it answers `Ok(false)` or the `Err`, and the line is what came of it, maybe nothing.
-    pub(crate) fn next_line<R: Source>(&mut self, source: &mut R) -> Result<bool, TraceFault>
+    ///
+    /// Before each read the sink gets what waits; where it fails, `Write` comes.
+    pub(crate) fn next_line<R: Source, W: Sink>(
+        &mut self,
+        source: &mut R,
+        sink: &mut W,
+        out: &mut Outbox,
+    ) -> Result<bool, TraceFault>
         requires unfailed { R.has_failed source.old ≡ false }
         requires unended { R.has_ended source.old ≡ false }
+        requires sink_unfailed { W.has_failed sink.old ≡ false }
         requires fits { self.old.inbox.taken < 2 ^ 64 }
         ensures reads { ReadsLine (is_found result) (R.remaining source.old) (R.remaining source.new) KEPT self.old self.new }
         ensures fits { self.new.inbox.taken < 2 ^ 64 }
@@ -58,12 +70,15 @@ impl<const KEPT: usize> LineReader<KEPT> {
         ensures within { result ≡ Ok false → self.new.inbox.taken ≤ 2 ^ 63 }
         ensures unfailed { OnOk result (R.has_failed source.new ≡ false) }
 
-        ensures err { IfErr result (λ e. StopsReading e (R.has_failed source.new) self.new.inbox.taken) }
+        ensures err { IfErr result (λ e. StopsTurn e (R.has_failed source.new) self.new.inbox.taken) }
         ensures unended { OnErr result (R.has_ended source.new ≡ false) }
+
+        ensures flushed { Flushes (W.has_failed sink.new) (W.contents sink.old) (W.contents sink.new) out.old out.new }
+        ensures write_failed { W.has_failed sink.new ≡ is_err_by is_write result }
     {
         self.line.clear();
         while !self.take_line() {
-            if self.inbox.fill(source)? == 0 {
+            if self.inbox.flush_and_fill(source, sink, out)? == 0 {
                 return Ok(false);
             }
         }

@@ -11,6 +11,7 @@ use std::test::Fail;
 
 mod decode;
 mod hits;
+mod order;
 mod run;
 mod scenario;
 mod whole;
@@ -334,13 +335,19 @@ fn failing_reads_of_vectors(rt: HostRuntime) {
     }
 }
 
-/// What was taken is a beginning of the answer.
+/// What was taken is a beginning of the answer, also where a byte of the open line is bad.
 #[test]
 fn failing_writes_of_verdicts(rt: HostRuntime) {
-    let answer = b"ok\ndiffers at 38\npassed 1 of 2\n".as_slice();
+    let whole = b"ok\ndiffers at 38\npassed 1 of 2\n".as_slice();
     for size in [1, 2, 512] {
-        for room in [0, 3, 17, 30] {
-            let mut reader = reader_of(VECTORS, 8192, Stop::Nothing);
+        for (text, answer, room) in [
+            (VECTORS, whole, 0),
+            (VECTORS, whole, 3),
+            (VECTORS, whole, 17),
+            (VECTORS, whole, 30),
+            (b"S 001 D 0 = \nS 001 D 0 = x", b"differs at 0\n", 12),
+        ] {
+            let mut reader = reader_of(text, 8192, Stop::Nothing);
             let mut writer = writer_of(rt.alloc(), size, room, Stop::Nothing);
             assert_eq!(rt;
                 check_lines(&mut reader, &mut writer),

@@ -1,8 +1,10 @@
 //! Why a run did not do all that it was asked.
-ghost use Rattle.std.specs.Prelude.{◌≡◌};
+ghost use Rattle.std.specs.Prelude.{◌≡◌, ◌⊎◌, ◌↔◌};
 ghost use Rattle.canbit.specs.Status.{status_of};
 
 use can_trace::TraceFault;
+use std::io;
+use std::io::ErrorKind;
 use thiserror::Error;
 
 /// Why a run did not do all that it was asked, as its line on standard error says it.
@@ -33,6 +35,20 @@ impl From<TraceFault> for RunFault {
 }
 
 impl RunFault {
+    ghost use Rattle.std.specs.IoError.{error_kind};
+
+    /// Why there is no command line: memory ran out in reading it, or it has a word that is not UTF-8 and so
+    /// is no use of the program.
+    pub fn of_words(error: &io::Error) -> RunFault
+        ensures memory { (result ≡ RunFault.Memory) ↔ (error_kind error.now ≡ ErrorKind.OutOfMemory) }
+        ensures other { (result ≡ RunFault.Memory) ⊎ (result ≡ RunFault.Usage) }
+    {
+        match error.kind() {
+            ErrorKind::OutOfMemory => RunFault::Memory,
+            _ => RunFault::Usage,
+        }
+    }
+
     /// The exit status, 1 to 4.
     pub fn status(self) -> u8
         ensures { result ≡ status_of self }

@@ -42,7 +42,7 @@ fn main(rt: HostRuntime) -> ExitCode {
             &mut writer,
             &mut errors,
         ),
-        Err(_) => execute::refuse(RunFault::Memory, &mut errors),
+        Err(error) => execute::refuse(RunFault::of_words(&error), &mut errors),
     };
     ExitCode::from(status)
 }

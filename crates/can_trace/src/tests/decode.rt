@@ -42,6 +42,14 @@ fn decodes(
 #[test]
 fn frames_and_faults(rt: HostRuntime) -> Result<(), Fail> {
     let behind_a_fault = [b"00000011111111111".as_slice(), WIRE_001].concat(rt.alloc())?;
+    let dominant_in_the_search = [
+        b"00000011111".as_slice(),
+        b"01111111111",
+        b"011111111111",
+        WIRE_001,
+    ]
+    .concat(rt.alloc())?;
+    let many_dominant = [&[b'0'; 40], b"11111111111".as_slice(), WIRE_001].concat(rt.alloc())?;
     let two_frames = [WIRE_000, b"111", WIRE_001, b"111"].concat(rt.alloc())?;
     let in_lines = [WIRE_000, b"\r\n", b"11 1", WIRE_001, b"\n"].concat(rt.alloc())?;
     let last_dominant = [&WIRE_001[..46], b"0".as_slice()].concat(rt.alloc())?;
@@ -50,6 +58,11 @@ fn frames_and_faults(rt: HostRuntime) -> Result<(), Fail> {
         (b"".as_slice(), b"".as_slice()),
         (b"1111 1111\n", b""),
         (&behind_a_fault, b"0 fault C3 at 5\n17 S 001 D 0 ack\n"),
+        (
+            &dominant_in_the_search,
+            b"0 fault C3 at 5\n34 S 001 D 0 ack\n",
+        ),
+        (&many_dominant, b"0 fault C3 at 5\n51 S 001 D 0 ack\n"),
         (&two_frames, b"0 S 000 D 0 ack\n53 S 001 D 0 ack\n"),
         (&in_lines, b"0 S 000 D 0 ack\n53 S 001 D 0 ack\n"),
         (

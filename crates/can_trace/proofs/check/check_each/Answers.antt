@@ -2,38 +2,43 @@ use Rattle.std.proofs.Common.{◌≡◌, ℕ, List, ◌+◌, ◌++◌, ◌∷◌
 use Rattle.std.proofs.lemmas.Result.{err_from_is_err_and}
 use Rattle.can_trace.proofs.Answering.{AtLine, Answering-none, Answering-more, AtLine-read, empty_from_front, open_from_front, whole_lines-ended, lines_of-last, number_below-ended, number_below-last}
 use Rattle.can_trace.proofs.CheckSteps.{Passing, Checks-none, Checks-answered, behind_start, line_fits, start_is, unread_within}
-use Rattle.can_trace.proofs.CheckEndings.{Told-stopped, Told-unanswered, Told-done, Told-answered}
+use Rattle.can_trace.proofs.CheckEndings.{Told-unread, Told-unanswered, Told-done, Told-answered}
+use Rattle.can_trace.proofs.Turns.{AtLine-flushed, PassesOn-flushed}
 use Rattle.can_trace.proofs.check.check_each.Given.{Over}
 use Rattle.can_trace.proofs.check.check_each.Goals.{Then-branch, Else-branch}
 use Rattle.can_trace.proofs.check.check_each.Goals as goal
 
 -- the line whose end was found, and that it begins at the start
 ended_line : (g : Over) (c : Then-branch g) → (line : List ℕ) × (c.next_line.new.lines.line.items ≡ take 193 line)
-    × AtLine (Passing c.loop-number.passed) (g.R.Source.remaining c.args.r.now) (g.R.Source.remaining c.next_line.new.source) (g.W.Sink.contents c.args.w.now) (g.W.Sink.contents c.loop-number.w)
-    true line c.next_line.new.lines.inbox.unread c.loop-number.out c.next_line.new.lines.inbox.taken c.loop-number.number
+    × AtLine (Passing c.loop-number.passed) (g.R.Source.remaining c.args.r.now) (g.R.Source.remaining c.next_line.new.source) (g.W.Sink.contents c.args.w.now) (g.W.Sink.contents c.next_line.new.w)
+    true line c.next_line.new.lines.inbox.unread c.next_line.new.out c.next_line.new.lines.inbox.taken c.loop-number.number
     × (c.loop-number.start + length (line ++ 10 ∷ c.next_line.new.lines.inbox.unread) ≡ c.next_line.new.lines.inbox.taken)
 ended_line g c =
     let reads = rw c.if-branch.true at c.in_ok-next_line.ensures.reads in
     let old = c.loop-number.lines in
-    let new = c.next_line.new.lines in (
+    let new = c.next_line.new.lines in
+    let passes = PassesOn-flushed _ _ _ _ _ c.in_ok-next_line.ensures.write_failed c.in_ok-next_line.ensures.flushed in
+    let at = AtLine-read (Passing c.loop-number.passed) _ _ _ _ _ true 193 old new c.loop-number.out c.loop-number.number c.loop-number.invariant.answering reads in (
       reads.line,
       reads.keeps,
-      AtLine-read (Passing c.loop-number.passed) _ _ _ _ _ true 193 old new c.loop-number.out c.loop-number.number c.loop-number.invariant.answering reads,
+      AtLine-flushed (Passing c.loop-number.passed) _ _ _ _ _ true reads.line _ _ _ _ _ at passes,
       behind_start true _ _ old new c.loop-number.start reads c.loop-number.invariant.start_is,
     )
 
 -- what came of the last line when the reader ended
 last_line : (g : Over) (c : Else-branch g) → (line : List ℕ) × (c.next_line.new.lines.line.items ≡ take 193 line)
-    × AtLine (Passing c.loop-number.passed) (g.R.Source.remaining c.args.r.now) (g.R.Source.remaining c.next_line.new.source) (g.W.Sink.contents c.args.w.now) (g.W.Sink.contents c.loop-number.w)
-    false line c.next_line.new.lines.inbox.unread c.loop-number.out c.next_line.new.lines.inbox.taken c.loop-number.number
+    × AtLine (Passing c.loop-number.passed) (g.R.Source.remaining c.args.r.now) (g.R.Source.remaining c.next_line.new.source) (g.W.Sink.contents c.args.w.now) (g.W.Sink.contents c.next_line.new.w)
+    false line c.next_line.new.lines.inbox.unread c.next_line.new.out c.next_line.new.lines.inbox.taken c.loop-number.number
     × (c.loop-number.start + length (line ++ []) ≡ c.next_line.new.lines.inbox.taken)
 last_line g c =
     let reads = rw c.if-branch.false at c.in_ok-next_line.ensures.reads in
     let old = c.loop-number.lines in
-    let new = c.next_line.new.lines in (
+    let new = c.next_line.new.lines in
+    let passes = PassesOn-flushed _ _ _ _ _ c.in_ok-next_line.ensures.write_failed c.in_ok-next_line.ensures.flushed in
+    let at = AtLine-read (Passing c.loop-number.passed) _ _ _ _ _ false 193 old new c.loop-number.out c.loop-number.number c.loop-number.invariant.answering reads in (
       reads.line,
       reads.keeps,
-      AtLine-read (Passing c.loop-number.passed) _ _ _ _ _ false 193 old new c.loop-number.out c.loop-number.number c.loop-number.invariant.answering reads,
+      AtLine-flushed (Passing c.loop-number.passed) _ _ _ _ _ false reads.line _ _ _ _ _ at passes,
       behind_start false _ _ old new c.loop-number.start reads c.loop-number.invariant.start_is,
     )
 
@@ -56,8 +61,9 @@ returns-in_err-next_line-clause-told g c =
     let new = c.next_line.new.lines in
     let at = AtLine-read (Passing c.loop-number.passed) _ _ _ _ _ false 193 old new c.loop-number.out c.loop-number.number c.loop-number.invariant.answering reads in
     let behind = behind_start false _ _ old new c.loop-number.start reads c.loop-number.invariant.start_is in
-    let stops = rw reads.keeps at c.in_err-next_line.ensures.err in
-    rw (p.1, p.2) (Told-stopped _ _ _ _ _ _ _ _ _ _ _ _ _ _ _ (g.R.Source.has_ended c.next_line.new.source) at (start_is false _ _ _ _ _ _ _ _ _ _ _ at behind) stops)
+    let stops = c.in_err-next_line.ensures in
+    rw (p.1, p.2) (Told-unread _ _ _ _ _ _ _ _ _ _ _ _ _ _ _ at _ _ (g.R.Source.has_ended c.next_line.new.source) _ stops.unended stops.write_failed
+    (start_is false _ _ _ _ _ _ _ _ _ _ _ at behind) (rw reads.keeps at stops.err) stops.flushed)
 
 pub overflow_add-number : goal.overflow_add-number
 overflow_add-number g c = let at = (ended_line g c).2 in omega (arith, number_below-ended _ _ _ _ _ _ _ _ _ _ at, c.in_ok-next_line.ensures.fits)

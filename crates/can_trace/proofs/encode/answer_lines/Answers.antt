@@ -3,26 +3,31 @@ use Rattle.std.proofs.lemmas.Result.{err_from_is_err_and}
 use Rattle.can_trace.specs.Coded.{Codes}
 use Rattle.can_trace.proofs.Codings.{Codes-none}
 use Rattle.can_trace.proofs.Answering.{AtLine, Answering-none, AtLine-read, Answering-answered, Answers-front, FailsToAnswer-front, empty_from_front, open_from_front, whole_lines-ended, lines_of-last, number_below-ended, number_below-last}
-use Rattle.can_trace.proofs.Endings.{Told-stopped, Told-unanswered, Told-done, Told-answered}
+use Rattle.can_trace.proofs.Endings.{Told-unread, Told-unanswered, Told-done, Told-answered}
+use Rattle.can_trace.proofs.Turns.{AtLine-flushed, PassesOn-flushed}
 use Rattle.can_trace.proofs.encode.answer_lines.Given.{Over}
 use Rattle.can_trace.proofs.encode.answer_lines.Goals.{Then-branch, Else-branch}
 use Rattle.can_trace.proofs.encode.answer_lines.Goals as goal
 
 -- the line whose end was found
 ended_line : (g : Over) (c : Then-branch g) → (line : List ℕ) × (c.next_line.new.self.line.items ≡ take 33 line)
-    × AtLine Codes (g.R.Source.remaining c.args.r.now) (g.R.Source.remaining c.next_line.new.source) (g.W.Sink.contents c.args.w.now) (g.W.Sink.contents c.loop-number.w)
-    true line c.next_line.new.self.inbox.unread c.loop-number.out c.next_line.new.self.inbox.taken c.loop-number.number
+    × AtLine Codes (g.R.Source.remaining c.args.r.now) (g.R.Source.remaining c.next_line.new.source) (g.W.Sink.contents c.args.w.now) (g.W.Sink.contents c.next_line.new.sink)
+    true line c.next_line.new.self.inbox.unread c.next_line.new.out c.next_line.new.self.inbox.taken c.loop-number.number
 ended_line g c =
     let reads = rw c.if-branch.true at c.in_ok-next_line.ensures.reads in
-    (reads.line, reads.keeps, AtLine-read Codes _ _ _ _ _ true 33 c.loop-number.lines c.next_line.new.self c.loop-number.out c.loop-number.number c.loop-number.invariant.answering reads)
+    let passes = PassesOn-flushed _ _ _ _ _ c.in_ok-next_line.ensures.write_failed c.in_ok-next_line.ensures.flushed in
+    let at = AtLine-read Codes _ _ _ _ _ true 33 c.loop-number.lines c.next_line.new.self c.loop-number.out c.loop-number.number c.loop-number.invariant.answering reads in
+    (reads.line, reads.keeps, AtLine-flushed Codes _ _ _ _ _ true reads.line _ _ _ _ _ at passes)
 
 -- what came of the last line when the reader ended
 last_line : (g : Over) (c : Else-branch g) → (line : List ℕ) × (c.next_line.new.self.line.items ≡ take 33 line)
-    × AtLine Codes (g.R.Source.remaining c.args.r.now) (g.R.Source.remaining c.next_line.new.source) (g.W.Sink.contents c.args.w.now) (g.W.Sink.contents c.loop-number.w)
-    false line c.next_line.new.self.inbox.unread c.loop-number.out c.next_line.new.self.inbox.taken c.loop-number.number
+    × AtLine Codes (g.R.Source.remaining c.args.r.now) (g.R.Source.remaining c.next_line.new.source) (g.W.Sink.contents c.args.w.now) (g.W.Sink.contents c.next_line.new.sink)
+    false line c.next_line.new.self.inbox.unread c.next_line.new.out c.next_line.new.self.inbox.taken c.loop-number.number
 last_line g c =
     let reads = rw c.if-branch.false at c.in_ok-next_line.ensures.reads in
-    (reads.line, reads.keeps, AtLine-read Codes _ _ _ _ _ false 33 c.loop-number.lines c.next_line.new.self c.loop-number.out c.loop-number.number c.loop-number.invariant.answering reads)
+    let passes = PassesOn-flushed _ _ _ _ _ c.in_ok-next_line.ensures.write_failed c.in_ok-next_line.ensures.flushed in
+    let at = AtLine-read Codes _ _ _ _ _ false 33 c.loop-number.lines c.next_line.new.self c.loop-number.out c.loop-number.number c.loop-number.invariant.answering reads in
+    (reads.line, reads.keeps, AtLine-flushed Codes _ _ _ _ _ false reads.line _ _ _ _ _ at passes)
 
 pub loop-number-init : goal.loop-number-init
 loop-number-init g c = record {
@@ -37,7 +42,8 @@ pub returns-in_err-next_line-clause-told : goal.returns-in_err-next_line-clause-
 returns-in_err-next_line-clause-told g c =
     let p = err_from_is_err_and c.from_residual.result c.from_residual.ensures.1 in
     let at = AtLine-read Codes _ _ _ _ _ false 33 c.loop-number.lines c.next_line.new.self c.loop-number.out c.loop-number.number c.loop-number.invariant.answering c.in_err-next_line.ensures.reads in
-    rw (p.1, p.2) (Told-stopped _ _ _ _ _ _ _ _ _ _ _ _ _ (g.R.Source.has_ended c.next_line.new.source) at c.in_err-next_line.ensures.err)
+    let stops = c.in_err-next_line.ensures in
+    rw (p.1, p.2) (Told-unread _ _ _ _ _ _ _ _ _ _ _ _ _ at _ _ (g.R.Source.has_ended c.next_line.new.source) _ stops.unended stops.write_failed stops.err stops.flushed)
 
 pub overflow_add-number : goal.overflow_add-number
 overflow_add-number g c = let at = (ended_line g c).2 in omega (arith, number_below-ended Codes _ _ _ _ _ _ _ _ _ at, c.in_ok-next_line.ensures.fits)
