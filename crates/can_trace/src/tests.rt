@@ -127,6 +127,7 @@ fn bad_line(line: u64, kind: TextFaultKind, place: usize) -> TraceFault {
 fn answers(rt: HostRuntime) {
     let x1 = Err(bad_line(1, TextFaultKind::KindLetter, 0));
     let x4 = Err(bad_line(2, TextFaultKind::Dlc, 9));
+    let x6 = Err(bad_line(1, TextFaultKind::Trailing, 32));
     for (text, outcome, levels) in [
         (b"".as_slice(), Ok(()), b"".as_slice()),
         (b"S 000 D 0\n", Ok(()), S000),
@@ -134,6 +135,8 @@ fn answers(rt: HostRuntime) {
         (b"S 000 D 0\nS 123 D 16\n", x4, S000),
         (b"S 000 D 0\nS 123 D 16", x4, S000),
         (b"\nS 000 D 0\n", x1, b""),
+        // a byte behind the longest text
+        (b"E 18db33f1 D 15 00112233445566770\n", x6, b""),
     ] {
         for piece in [1, 2, 3, 7, 8192] {
             for taken in [1, 2, 512] {
@@ -307,6 +310,13 @@ fn many_levels(rt: HostRuntime) {
             assert_eq!(rt; check_lines(&mut reader, &mut writer), outcome);
         }
     }
+    // the same behind the longest text
+    let mut longest = [b'0'; 193];
+    longest[..35].copy_from_slice(b"E 18db33f1 D 15 0011223344556677 = ");
+    let mut reader = reader_of(&longest, 193, Stop::Nothing);
+    let mut writer = writer_of(rt.alloc(), 512, ROOM, Stop::Nothing);
+    let byte = Err(TraceFault::BadByte { place: 192 });
+    assert_eq!(rt; check_lines(&mut reader, &mut writer), byte);
 }
 
 /// A bad byte comes before a failed read, and a bad frame text only where its line has ended.
@@ -385,6 +395,10 @@ fn wrappers(rt: HostRuntime) -> Result<(), Fail> {
     assert_eq!(rt; reader.read(&mut [])?, 0);
     assert!(rt; !reader.ended() && !reader.failed());
     assert_eq!(rt; reader.into_inner().len(), 1);
+    let mut nothing = b"".as_slice();
+    let mut reader = FromRead::new(&mut nothing);
+    assert_eq!(rt; reader.read(&mut byte)?, 0);
+    assert!(rt; reader.ended() && !reader.failed());
     let mut writer = ToWrite::new(Vec::new(rt.alloc()));
     assert_eq!(rt; writer.write(b"ab")?, 2);
     assert_eq!(rt; writer.write(b"")?, 0);

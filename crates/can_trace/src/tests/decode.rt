@@ -49,6 +49,7 @@ fn frames_and_faults(rt: HostRuntime) -> Result<(), Fail> {
         WIRE_001,
     ]
     .concat(rt.alloc())?;
+    let recessive_fault = [b"01111111111111111".as_slice(), WIRE_001].concat(rt.alloc())?;
     let many_dominant = [&[b'0'; 40], b"11111111111".as_slice(), WIRE_001].concat(rt.alloc())?;
     let two_frames = [WIRE_000, b"111", WIRE_001, b"111"].concat(rt.alloc())?;
     let in_lines = [WIRE_000, b"\r\n", b"11 1", WIRE_001, b"\n"].concat(rt.alloc())?;
@@ -62,6 +63,8 @@ fn frames_and_faults(rt: HostRuntime) -> Result<(), Fail> {
             &dominant_in_the_search,
             b"0 fault C3 at 5\n34 S 001 D 0 ack\n",
         ),
+        // the level of the fault is the first of the eleven
+        (&recessive_fault, b"0 fault C3 at 6\n17 S 001 D 0 ack\n"),
         (&many_dominant, b"0 fault C3 at 5\n51 S 001 D 0 ack\n"),
         (&two_frames, b"0 S 000 D 0 ack\n53 S 001 D 0 ack\n"),
         (&in_lines, b"0 S 000 D 0 ack\n53 S 001 D 0 ack\n"),
