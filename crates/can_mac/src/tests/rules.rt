@@ -3,7 +3,9 @@
 //! of the definitions.
 
 mod arbitration;
+mod behind_flags;
 mod between_frames;
+mod delimiters;
 mod flags;
 mod frame_ends;
 mod own_overloads;
@@ -50,6 +52,16 @@ pub const TO_248: &str = "1111111111111111000000\
 /// bus: a REC of 129. The last active flag, its delimiter and an intermission lead to idle, error passive.
 pub const TO_REC_129: &str = "0000001111111111111111000000\
     11111111111";
+
+/// A stuff error of a receiver: its flag starts with the next bit time, and its REC is 1.
+pub const ERROR: &str = "000000";
+
+/// From idle a bit error of the sender: its flag starts, and its TEC is 8.
+pub const OVERRIDDEN: &str = "1";
+
+/// Behind the stuffed part of a frame, an overload condition in the second place of intermission: the flag
+/// starts.
+pub const OVERLOAD: &str = "101111111110";
 
 /// Each row comes to what it says.
 pub fn hold<B: FrameBits>(rt: &impl Abort, alloc: Global, rows: &[Row]) -> Result<(), Fail> {

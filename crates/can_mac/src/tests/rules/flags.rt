@@ -1,18 +1,10 @@
-//! Error flags, overload flags, and their delimiters.
+//! Error flags and overload flags.
 
-use super::{FRAME, NOTHING, PART, Row, TO_128, TO_248, TO_REC_129, hold};
+use super::{
+    ERROR, FRAME, NOTHING, OVERLOAD, OVERRIDDEN, PART, Row, TO_128, TO_248, TO_REC_129, hold,
+};
 use can_code::PlainBits;
 use std::test::Fail;
-
-/// A stuff error of a receiver: its flag starts with the next bit time, and its REC is 1.
-const ERROR: &str = "000000";
-
-/// From idle a bit error of the sender: its flag starts, and its TEC is 8.
-const OVERRIDDEN: &str = "1";
-
-/// Behind the stuffed part of a frame, an overload condition in the second place of intermission: the flag
-/// starts.
-const OVERLOAD: &str = "101111111110";
 
 const ROWS: &[Row] = &[
     // an active flag is six dominant levels; whether it is active is decided before the error is counted
@@ -119,176 +111,6 @@ const ROWS: &[Row] = &[
         ],
         "2 bit, tec 0 rec 16, drives 1",
     ),
-    // the first dominant level behind an error flag, active, passive, or passive and overridden
-    (
-        &[(NOTHING, ERROR), (NOTHING, "0000000")],
-        "tec 0 rec 9, drives 1",
-    ),
-    (
-        &[
-            (NOTHING, TO_REC_129),
-            (NOTHING, ERROR),
-            (NOTHING, "1111110"),
-        ],
-        "tec 0 rec 138, drives 1",
-    ),
-    (
-        &[
-            (NOTHING, TO_REC_129),
-            (NOTHING, ERROR),
-            (NOTHING, "0000000"),
-        ],
-        "tec 0 rec 138, drives 1",
-    ),
-    // and behind an overload flag, or at a sender
-    (
-        &[(NOTHING, PART), (NOTHING, OVERLOAD), (NOTHING, "0000000")],
-        "tec 0 rec 0, drives 1",
-    ),
-    (
-        &[(FRAME, OVERRIDDEN), (FRAME, "0000000")],
-        "tec 8 rec 0, drives 1",
-    ),
-    (
-        &[(FRAME, TO_128), (FRAME, "1"), (FRAME, "1111110")],
-        "tec 136 rec 0, drives 1",
-    ),
-    (
-        &[(FRAME, PART), (FRAME, OVERLOAD), (FRAME, "0000000")],
-        "tec 0 rec 0, drives 1",
-    ),
-    // each eighth one: seven, eight, fifteen and sixteen behind the six of the flag
-    (
-        &[(NOTHING, ERROR), (NOTHING, "0000000000000")],
-        "tec 0 rec 9, drives 1",
-    ),
-    (
-        &[(NOTHING, ERROR), (NOTHING, "00000000000000")],
-        "tec 0 rec 17, drives 1",
-    ),
-    (
-        &[(NOTHING, ERROR), (NOTHING, "000000000000000000000")],
-        "tec 0 rec 17, drives 1",
-    ),
-    (
-        &[(NOTHING, ERROR), (NOTHING, "0000000000000000000000")],
-        "tec 0 rec 25, drives 1",
-    ),
-    (
-        &[
-            (NOTHING, TO_REC_129),
-            (NOTHING, ERROR),
-            (NOTHING, "11111100000000"),
-        ],
-        "tec 0 rec 146, drives 1",
-    ),
-    (
-        &[
-            (NOTHING, PART),
-            (NOTHING, OVERLOAD),
-            (NOTHING, "0000000000000"),
-        ],
-        "tec 0 rec 0, drives 1",
-    ),
-    (
-        &[
-            (NOTHING, PART),
-            (NOTHING, OVERLOAD),
-            (NOTHING, "00000000000000"),
-        ],
-        "tec 0 rec 8, drives 1",
-    ),
-    (
-        &[(FRAME, OVERRIDDEN), (FRAME, "0000000000000")],
-        "tec 8 rec 0, drives 1",
-    ),
-    (
-        &[(FRAME, OVERRIDDEN), (FRAME, "00000000000000")],
-        "tec 16 rec 0, drives 1",
-    ),
-    (
-        &[(FRAME, OVERRIDDEN), (FRAME, "0000000000000000000000")],
-        "tec 24 rec 0, drives 1",
-    ),
-    (
-        &[(FRAME, TO_128), (FRAME, "1"), (FRAME, "11111100000000")],
-        "tec 144 rec 0, drives 1",
-    ),
-    (
-        &[(FRAME, PART), (FRAME, OVERLOAD), (FRAME, "00000000000000")],
-        "tec 8 rec 0, drives 1",
-    ),
-    // a delimiter is eight levels: a dominant one is a form error at its places 2 to 7
-    (
-        &[(NOTHING, ERROR), (NOTHING, "00000010")],
-        "7 form, tec 0 rec 2, drives 0",
-    ),
-    (
-        &[(NOTHING, ERROR), (NOTHING, "000000110")],
-        "8 form, tec 0 rec 2, drives 0",
-    ),
-    (
-        &[(NOTHING, ERROR), (NOTHING, "0000001110")],
-        "9 form, tec 0 rec 2, drives 0",
-    ),
-    (
-        &[(NOTHING, ERROR), (NOTHING, "00000011110")],
-        "10 form, tec 0 rec 2, drives 0",
-    ),
-    (
-        &[(NOTHING, ERROR), (NOTHING, "000000111110")],
-        "11 form, tec 0 rec 2, drives 0",
-    ),
-    (
-        &[(NOTHING, ERROR), (NOTHING, "0000001111110")],
-        "12 form, tec 0 rec 2, drives 0",
-    ),
-    (
-        &[(FRAME, OVERRIDDEN), (FRAME, "00000010")],
-        "7 form, tec 16 rec 0, drives 0",
-    ),
-    (
-        &[(FRAME, OVERRIDDEN), (FRAME, "0000001111110")],
-        "12 form, tec 16 rec 0, drives 0",
-    ),
-    (
-        &[
-            (NOTHING, PART),
-            (NOTHING, OVERLOAD),
-            (NOTHING, "0000001111110"),
-        ],
-        "12 form, tec 0 rec 1, drives 0",
-    ),
-    // and an overload condition at the eighth
-    (
-        &[(NOTHING, ERROR), (NOTHING, "00000011111110")],
-        "13 overload, tec 0 rec 1, drives 0",
-    ),
-    (
-        &[(FRAME, OVERRIDDEN), (FRAME, "00000011111110")],
-        "13 overload, tec 8 rec 0, drives 0",
-    ),
-    (
-        &[
-            (NOTHING, PART),
-            (NOTHING, OVERLOAD),
-            (NOTHING, "00000011111110"),
-        ],
-        "13 overload, tec 0 rec 0, drives 0",
-    ),
-    (
-        &[
-            (NOTHING, TO_REC_129),
-            (NOTHING, ERROR),
-            (NOTHING, "11111111111110"),
-        ],
-        "13 overload, tec 0 rec 130, drives 0",
-    ),
-    // behind it is intermission, whose first place is an overload condition too
-    (
-        &[(NOTHING, ERROR), (NOTHING, "000000111111110")],
-        "14 overload, tec 0 rec 1, drives 0",
-    ),
     // an overload flag is six dominant levels
     (
         &[(NOTHING, PART), (NOTHING, OVERLOAD), (NOTHING, "00000")],
@@ -330,6 +152,6 @@ const ROWS: &[Row] = &[
 ];
 
 #[test]
-fn flags_and_delimiters(rt: HostRuntime) -> Result<(), Fail> {
+fn error_and_overload_flags(rt: HostRuntime) -> Result<(), Fail> {
     hold::<PlainBits>(&rt, rt.alloc(), ROWS)
 }
