@@ -2,7 +2,7 @@
 
 use super::lines::{
     DELIMITER_AND_INTERMISSION, INTERMISSION, WIRE_001, bus_of, bus_with, drives, frame,
-    idle_ports, recorded,
+    idle_ports, offer, recorded,
 };
 use crate::{Bus, BusFault, Hit};
 use can_frame::Level;
@@ -76,10 +76,15 @@ fn refused_hits_run_nothing(rt: HostRuntime) -> Result<(), Fail> {
             offset: 0,
         },
     ];
+    let turned_and_third_port = [
+        Hit::View { time: 1, node: 0 },
+        Hit::View { time: 0, node: 2 },
+    ];
     for (hits, fault) in [
         (twice.as_slice(), BusFault::NotRising),
         (third_port.as_slice(), BusFault::NoSuchPort),
         (turned.as_slice(), BusFault::NotRising),
+        (turned_and_third_port.as_slice(), BusFault::NotRising),
     ] {
         for level in [Level::Dominant, Level::Recessive] {
             let mut rec = [level; 3];
@@ -92,10 +97,11 @@ fn refused_hits_run_nothing(rt: HostRuntime) -> Result<(), Fail> {
 }
 
 #[test]
-fn a_port_is_lent_by_its_number(rt: HostRuntime) -> Result<(), Fail> {
+fn ports_are_lent_by_number_and_given_back_in_order(rt: HostRuntime) -> Result<(), Fail> {
     let mut bus = bus_with(rt.alloc(), SENDER_AND_RECEIVER)?;
     assert!(rt; bus.port_mut(1).is_some());
     assert!(rt; bus.port_mut(2).is_none());
+    assert_eq!(rt; drives(rt.alloc(), &bus.into_ports())?.as_str(), "01");
     Ok(())
 }
 
@@ -132,6 +138,19 @@ fn attempts_are_counted_in_each_run(rt: HostRuntime) -> Result<(), Fail> {
         let levels = recorded(alloc, &mut bus, &[DOMINANT_STUFF_BIT], 23)?;
         assert_eq!(rt; levels.as_str(), want.as_str());
     }
+    Ok(())
+}
+
+/// Five more recessive levels behind the eleven of a new bus.
+#[test]
+fn an_attempt_begins_however_long_the_bus_has_rested(rt: HostRuntime) -> Result<(), Fail> {
+    let alloc = rt.alloc();
+    let mut bus = bus_with(alloc, &[&[], &[]])?;
+    assert_eq!(rt; recorded(alloc, &mut bus, &[], 5)?.as_str(), "11111");
+    offer(&mut bus, 0, "S 001 D 0")?;
+    let want = format!(in alloc; "000000000000{DELIMITER_AND_INTERMISSION}")?;
+    let levels = recorded(alloc, &mut bus, &[DOMINANT_STUFF_BIT], 23)?;
+    assert_eq!(rt; levels.as_str(), want.as_str());
     Ok(())
 }
 
