@@ -19,18 +19,20 @@ pub struct Reading {
 /// part goes on. Places count the levels before the next one from 0.
 ///
 /// ```text
-///   Joining --eleven recessive--> Idle <------------------------+--------------------+
-///                                  | SOF                        |                    |
-///                                  v                            |                    |
-///   StuffedPart -> CrcDelimiter -> AckSlot -> AckDelimiter -> EndOfFrame -> Intermission -> Suspend
-///       |               |            |            |               |   ^          |   ^  (error passive sender)
-///       +--- error -----+------------+------------+---------------+   |          |   |
-///       v                                                             |          |   |
-///   ErrorFlag, PassiveFlag --> AfterFlag --recessive--> Delimiter ----+----------+   |
-///                                  ^                       |  last level dominant    |
-///                              OverloadFlag <--------------+--------- dominant ------+
+/// Joining --eleven recessive--> Idle --SOF--> StuffedPart
 ///
-///   BusOff <-- TEC of 256 -- any of these;   BusOff --128 times eleven recessive--> Idle
+/// StuffedPart --> CrcDelimiter --> AckSlot --> AckDelimiter --> EndOfFrame --> Intermission --> Idle
+///
+/// Intermission --SOF in its third bit--> StuffedPart
+/// Intermission --error passive, and was the sender--> Suspend --eight recessive--> Idle
+/// Suspend --SOF--> StuffedPart
+///
+/// Idle, StuffedPart to EndOfFrame, ErrorFlag, OverloadFlag, Delimiter --error--> ErrorFlag or PassiveFlag
+/// EndOfFrame, Delimiter --last level dominant, or an overload frame of its own--> OverloadFlag
+/// Intermission --dominant in its first or second bit--> OverloadFlag
+/// ErrorFlag, PassiveFlag, OverloadFlag --six levels--> AfterFlag --recessive--> Delimiter --> Intermission
+///
+/// where a count makes TEC 256 --> BusOff --128 times eleven recessive--> Idle
 /// ```
 #[derive(Debug, Drop)]
 pub enum Phase<F> {

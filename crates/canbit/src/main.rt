@@ -2,6 +2,7 @@
 //! from standard input to standard output.
 //!
 //! - `subcommands.rt`: the table of subcommands.
+//! - `help.rt`: what the help texts say of input, answer, faults and statuses.
 //! - `words.rt`: which of them the words of a command line name, as `clap` reads them. The contract of
 //!   `chosen` says it by `clap`'s definition of a simple command, without the parser.
 //! - `execute.rt`: what a run does over any reader and writers, its fault line and its exit status.
@@ -14,6 +15,7 @@
 
 mod execute;
 mod fault;
+mod help;
 mod run;
 mod subcommands;
 #[cfg(test)]

@@ -2,6 +2,8 @@
 ghost use Rattle.std.specs.Prelude.{◌≡◌, IfSome, Some};
 ghost use Rattle.canbit.specs.Subcommands.{name_of};
 
+use crate::help;
+
 /// A subcommand.
 #[derive(Clone, Copy, Debug, PartialEq, Eq)]
 pub enum Chosen {
@@ -38,6 +40,16 @@ impl Chosen {
             Chosen::Decode => "Writes the frames and faults of a trace of levels",
             Chosen::Run => "Runs a scenario and writes its report",
             Chosen::Check => "Tells of each vector line whether its levels are its frame's",
+        }
+    }
+
+    /// What its help text says of input, answer, faults and statuses.
+    pub fn details(self) -> &'static str {
+        match self {
+            Chosen::Encode => help::ENCODE,
+            Chosen::Decode => help::DECODE,
+            Chosen::Run => help::RUN,
+            Chosen::Check => help::CHECK,
         }
     }
 

@@ -6,6 +6,7 @@ ghost use Rattle.clap.specs.declared.builder.command.Command.TheViews.{out-Comma
 ghost use Rattle.canbit.specs.Subcommands.{canbit, name_of};
 ghost use Rattle.canbit.specs.Words.{AsksFor, AsksForHelp, IsMisuse, faults_in, named_in, texts_of};
 
+use crate::help::PROGRAM;
 use crate::subcommands::Chosen;
 use clap::error::{Error, ErrorKind};
 use clap::{ArgMatches, Command};
@@ -39,7 +40,8 @@ fn subcommand<'a>(alloc: Global, chosen: Chosen) -> Command<'a>
 {
     let name: &'a str = chosen.name();
     let about: &'a str = chosen.about();
-    Command::new(alloc, name).about(about)
+    let details: &'a str = chosen.details();
+    Command::new(alloc, name).about(about).after_help(details)
 }
 
 /// The command, as `clap` reads it.
@@ -48,6 +50,7 @@ fn command<'a>(alloc: Global) -> Result<Command<'a>, AllocError>
 {
     let mut command = Command::new(alloc, "canbit")
         .about("Codes, decodes and checks frames of a classical CAN bus, and runs scenarios")
+        .after_help(PROGRAM)
         .subcommand_required(true);
     for chosen in Chosen::ALL {
         command = command.subcommand(subcommand(alloc, chosen))?;

@@ -1,0 +1,31 @@
+ghost use Rattle.std.specs.Prelude.{◌≡◌, ◌≤◌, ◌+◌, length};
+ghost use Rattle.can_code.specs.Wire.{wire};
+
+use can_code::encode;
+use can_frame::Frame;
+
+/// How many levels of intermission stand behind a frame. (Bosch CAN 2.0 part B, section 3.2.5)
+const INTERMISSION: usize = 3;
+
+/// How many bit times a frame keeps the bus: the levels of its wire, and the intermission behind it.
+pub fn bit_times(frame: &Frame) -> usize
+    ensures exact { result ≡ length (wire frame.now) + 3 }
+    ensures most { result ≤ 160 }
+{
+    encode(frame).len() + INTERMISSION
+}
+
+#[cfg(test)]
+mod tests {
+    use super::*;
+    use std::test::Fail;
+
+    #[test]
+    fn a_short_frame(rt: HostRuntime) -> Result<(), Fail> {
+        let Ok(frame) = Frame::from_text("S 000 D 0".as_bytes()) else {
+            return Err(Fail::from("no frame"));
+        };
+        assert_eq!(rt; bit_times(&frame), 53);
+        Ok(())
+    }
+}
