@@ -34,6 +34,7 @@ fn fields_at_the_top(rt: HostRuntime) -> Result<(), Fail> {
         ("version = 1\nversion = 1\n", "P2 toml"),
         ("version = 1\nbits = 5\nspeed = 1\n[[port]]\n", "P2 key"),
         ("version = 1\nbits = 5\n[[port]]\n[Port]\n", "P2 key"),
+        ("version = 1\nbits = 5\nname = \"a\"\n[[port]]\n", "P2 key"),
         ("", "P2 version"),
         ("bits = 5\n[[port]]\n", "P2 version"),
         ("version = 2\nbits = 5\n[[port]]\n", "P2 version"),
