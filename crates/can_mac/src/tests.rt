@@ -3,6 +3,7 @@ mod rules;
 use crate::{ErrorKind, Event, Mac, PackedMac};
 use can_fault::Confine;
 use can_frame::{Frame, Id, Level};
+use std::mem::size_of;
 use std::process::Abort;
 use std::test::Fail;
 
@@ -313,4 +314,12 @@ fn bus_off_and_back(rt: HostRuntime) -> Result<(), Fail> {
     assert_eq!(rt; port.tec(&rt), 0);
     assert!(rt; port.may_send(&rt, &frame));
     Ok(())
+}
+
+/// How many bytes a controller takes that holds the unstuffed levels one by one, and one that holds them in a
+/// register.
+#[test]
+fn sizes(rt: HostRuntime) {
+    assert_eq!(rt; size_of::<Mac>(), 200);
+    assert_eq!(rt; size_of::<PackedMac>(), 96);
 }
