@@ -6,7 +6,7 @@ use Rattle.std.proofs.lemmas.List.FromFn.{get_or-map-range_with_len}
 use Rattle.can_frame.specs.declared.level.Level.{Level}
 use Rattle.can_frame.specs.Levels.{bits_of, number_from}
 use Rattle.can_code.specs.Crc.{xor, crc_of}
-use Rattle.can_code.specs.declared.crc.TheConstants.{CRC_OF_BYTES}
+use Rattle.can_code.specs.declared.crc_run.TheConstants.{CRC_OF_BYTES}
 use Rattle.can_code.proofs.LevelLemmas.{bits_of-xor, bits_of-number_from, number_from-lt}
 use Rattle.can_code.proofs.DivisionLemmas.{length-crc_of}
 use Rattle.can_code.proofs.Register.{register}

@@ -7,6 +7,7 @@ pub mod LevelLemmas
 pub mod RegisterWord
 pub mod CrcTable
 pub mod OctetLemmas
+pub mod CheckRuns
 -- stuffing
 pub mod StuffPlaces
 pub mod Runs
@@ -31,6 +32,7 @@ pub mod WireOnce
 pub mod ReadingLemmas
 pub mod FrontLemmas
 pub mod PlainLemmas
+pub mod PackedLemmas
 pub mod StuffedParts
 pub mod FrontsOf
 pub mod HeardLevels

@@ -1,5 +1,5 @@
 -- The register as a number of fifteen bits, and its steps as code takes them.
-use Rattle.std.proofs.Common.{◌≡◌, ℕ, ◌+◌, ◌*◌, ◌/◌, ◌%◌, ◌^◌, ◌<◌, ◌≤◌, Bool, true, false, List, [], ◌∷◌, ◌++◌, length, refl, sym, ◌∙◌, ap, arith, drop, inl, inr}
+use Rattle.std.proofs.Common.{◌≡◌, ℕ, ◌+◌, ◌*◌, ◌/◌, ◌%◌, ◌^◌, ◌<◌, ◌≤◌, Bool, true, false, List, [], ◌∷◌, ◌++◌, length, refl, sym, ◌∙◌, ap, arith, inl, inr}
 use Rattle.std.specs.Prelude.{bit_and, bit_xor, not}
 use mathlib.Core.Bool.{beq}
 use Rattle.std.proofs.Math.Dec.{leb}
@@ -7,7 +7,6 @@ use borrow.Author.Tests.{leb-true, leb-false}
 use Rattle.std.proofs.lemmas.Bool.{cases_Bool}
 use Rattle.std.proofs.lemmas.Nat.{and_mask}
 use Rattle.std.proofs.lemmas.Nat.Bits.{bit_at_lowest}
-use Rattle.std.proofs.lemmas.List.{drop_all}
 use Rattle.can_frame.specs.declared.level.Level.{Level}
 use Rattle.can_frame.specs.declared.level.Level.TheVariants.{Dominant, Recessive}
 use Rattle.can_frame.specs.Levels.{is_recessive, level_from, level_of, bits_of}
@@ -15,7 +14,7 @@ use Rattle.can_code.specs.Crc.{xor, crc_of}
 use Rattle.can_code.proofs.XorLemmas.{xor_zeros}
 use Rattle.can_code.proofs.LevelLemmas.{length-bits_of, bits_of-zero, bits_of-suc, bits_of-append, bits_of-mod, bits_of-shl, bits_of-xor}
 use Rattle.can_code.proofs.DivisionLemmas.{none}
-use Rattle.can_code.proofs.Register.{register, register-nil, register-append, register-top}
+use Rattle.can_code.proofs.Register.{register, register-top}
 
 -- the register moved up by k places
 abbrev pub moved : ℕ → ℕ → ℕ
@@ -83,13 +82,3 @@ register-agreed r x h e =
 
 pub register-differed : (r : ℕ) (x : Level) → r < 2 ^ 15 → beq (leb 16384 r) (is_recessive x) ≡ false → bits_of 15 (bit_xor (moved 1 r) 0x4599) ≡ register (bits_of 15 r) (x ∷ [])
 register-differed r x h e = register-entry 14 1 r 0x4599 (x ∷ []) refl refl (sym (ap crc_of (highest_sum r x false h e) ∙ crc_of-recessive))
-
--- Loops over levels.
-
--- where the register is next behind the levels b, it goes on over what follows them
-pub register_on : (r next : ℕ) (b c : List Level) → bits_of 15 next ≡ register (bits_of 15 r) b → register (bits_of 15 next) c ≡ register (bits_of 15 r) (b ++ c)
-register_on r next b c h = ap (λ t. register t c) h ∙ sym (register-append (bits_of 15 r) b c)
-
--- where nothing is left to go over, it is what it ends as
-pub register_ended : (r i : ℕ) (levels end : List Level) → length levels ≤ i → register (bits_of 15 r) (drop i levels) ≡ end → bits_of 15 r ≡ end
-register_ended r i levels end h e = sym (register-nil (bits_of 15 r) (length-bits_of 15 r)) ∙ ap (register (bits_of 15 r)) (sym (drop_all i levels h)) ∙ e

@@ -6,7 +6,7 @@ ghost use Rattle.can_code.specs.CodeFaults.{IsCodeFault};
 use crate::decoder::Decoder;
 use crate::fault::{CodeFault, CodeFaultKind};
 use crate::heard::Heard;
-use crate::plain_bits::PlainBits;
+use crate::packed_bits::PackedBits;
 use can_frame::Level;
 
 /// The frame at the front of the levels as it is heard, and how many levels it has. (Bosch CAN 2.0
@@ -27,7 +27,7 @@ pub fn decode(levels: &[Level]) -> Result<(Heard, usize), CodeFault>
     if first.is_recessive() {
         return Err(fault(CodeFaultKind::NoStartOfFrame, 0));
     }
-    let mut decoder = Decoder::<PlainBits>::begin();
+    let mut decoder = Decoder::<PackedBits>::begin();
     for (before, level) in rest.iter().enumerate() {
         let place = before + 1;
         match decoder.hear(*level) {

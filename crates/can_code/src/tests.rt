@@ -1,11 +1,12 @@
 use crate::layout::head;
-use crate::{Heard, crc15, encode, respell, stuff};
+use crate::{CrcRun, Heard, crc15, encode, respell, stuff};
 use arrayvec::ArrayVec;
 use can_frame::{Frame, Id, Level};
 use std::test::Fail;
 
 mod decoder;
 mod decoding;
+mod frame_bits;
 mod heard;
 mod sending;
 
@@ -52,13 +53,27 @@ fn standard(raw: u16) -> Result<Id, Fail> {
     Ok(Id::standard(raw).ok_or("an identifier of 11 bits")?)
 }
 
+/// The check sequence of the levels, which come one by one.
+fn running_check(levels: &[Level]) -> u16 {
+    let mut run = CrcRun::new();
+    for level in levels {
+        run.push(*level);
+    }
+    run.value()
+}
+
 #[test]
 fn check_sequences(rt: HostRuntime) {
-    assert_eq!(rt; crc15(&levels_of_bytes(b"123456789")), 0x059e);
-    assert_eq!(rt; crc15(&[]), 0);
-    assert_eq!(rt; crc15(&[Level::Recessive]), 0x4599);
-    // x^16 leaves 0x4eab, and x^15 leaves 0x4599
-    assert_eq!(rt; crc15(&levels_of_bytes(&[3])), 0x4eab ^ 0x4599);
+    for (levels, check) in [
+        (levels_of_bytes(b"123456789"), 0x059e),
+        (levels_of(""), 0),
+        (levels_of("1"), 0x4599),
+        // x^16 leaves 0x4eab, and x^15 leaves 0x4599
+        (levels_of_bytes(&[3]), 0x4eab ^ 0x4599),
+    ] {
+        assert_eq!(rt; crc15(&levels), check);
+        assert_eq!(rt; running_check(&levels), check);
+    }
 }
 
 #[test]
@@ -103,12 +118,23 @@ fn known_frames() -> Result<[Frame; 7], Fail> {
     ])
 }
 
+/// Two of the longest frames: each has 118 unstuffed levels.
+fn longest_frames() -> Result<[Frame; 2], Fail> {
+    let lowest = Id::extended(0).ok_or("an identifier of 29 bits")?;
+    let highest = Id::extended(0x1fff_ffff).ok_or("an identifier of 29 bits")?;
+    Ok([
+        Frame::data(lowest, 8, &[0; 8])?,
+        Frame::data(highest, 15, &[0xff; 8])?,
+    ])
+}
+
 #[test]
 fn frames(rt: HostRuntime) -> Result<(), Fail> {
     for (frame, (check, stuffed, len)) in known_frames()?.iter().zip(&KNOWN_WIRES) {
         let levels = encode(frame);
         let sent = Heard::sent(*frame);
         assert_eq!(rt; crc15(&head(&sent)), *check);
+        assert_eq!(rt; running_check(&head(&sent)), *check);
         assert_eq!(rt; levels.len(), *len);
         assert!(rt; levels.as_slice() == spelled(*stuffed, "1111111111").as_slice());
         assert!(rt; respell(&sent).as_slice() == spelled(*stuffed, "1011111111").as_slice());

@@ -45,5 +45,5 @@ pub use laws::{
     a_frame_leads_all_to_one_phase, a_loser_goes_on_as_a_receiver, a_sender_drives_its_wire,
     access_is_kept, agreement_is_divisibility,
 };
-pub use machine::{Mac, MediumAccess};
+pub use machine::{Mac, MediumAccess, PackedMac};
 pub use phase::{Overloads, Phase, Reading, Role};

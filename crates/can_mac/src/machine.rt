@@ -10,7 +10,7 @@ use crate::driving::{level_of_part, level_of_slot};
 use crate::event::Event;
 use crate::moves::{MOST_OVERLOADS, Move, Stance, enter, goes_on, next_move};
 use crate::phase::{Overloads, Phase, Role};
-use can_code::{FrameBits, Front, PlainBits};
+use can_code::{FrameBits, Front, PackedBits, PlainBits};
 use can_fault::{Cause, Confine, State};
 use can_frame::{Frame, Level};
 use std::marker::Model;
@@ -30,6 +30,9 @@ pub struct MediumAccess<B: FrameBits> {
 
 /// The medium access of a controller that holds the unstuffed levels one by one.
 pub type Mac = MediumAccess<PlainBits>;
+
+/// The medium access of a controller that holds the unstuffed levels in a register.
+pub type PackedMac = MediumAccess<PackedBits>;
 
 impl<B: FrameBits> Model for MediumAccess<B> {
     ghost use Rattle.can_mac.specs.State.{IsMac, MacState};

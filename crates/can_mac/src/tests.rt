@@ -1,7 +1,9 @@
 mod rules;
 
-use crate::{ErrorKind, Event, Mac};
+use crate::{ErrorKind, Event, Mac, PackedMac};
+use can_fault::Confine;
 use can_frame::{Frame, Id, Level};
+use std::mem::size_of;
 use std::process::Abort;
 use std::test::Fail;
 
@@ -19,17 +21,27 @@ fn empty_frame(raw: u16) -> Result<Frame, Fail> {
     Ok(Frame::data(id, 0, &[])?)
 }
 
-/// A controller, and how many bit times it has had.
+/// A controller of each kind, which see the same levels, and how many bit times they have had.
 #[derive(Drop)]
 struct Port {
-    mac: Mac,
+    plain: Mac,
+    packed: PackedMac,
     time: u32,
 }
 
 impl Port {
     fn idle() -> Port {
         Port {
-            mac: Mac::idle(),
+            plain: Mac::idle(),
+            packed: PackedMac::idle(),
+            time: 0,
+        }
+    }
+
+    fn joining() -> Port {
+        Port {
+            plain: Mac::joining(),
+            packed: PackedMac::joining(),
             time: 0,
         }
     }
@@ -49,27 +61,51 @@ impl Port {
                     expected = Some(*event);
                 }
             }
-            let event = self.mac.sample(waiting, Level::from_bool(byte == b'1'));
+            let event = self.tells(rt, waiting, Level::from_bool(byte == b'1'));
             assert!(rt; event == expected, "at {}: {event:?}", self.time);
             self.time = self.time.saturating_add(1);
         }
     }
 
-    fn drives(&self, waiting: Option<&Frame>) -> Level {
-        self.mac.drive(waiting)
+    /// What both tell of a level.
+    fn tells(&mut self, rt: &impl Abort, waiting: Option<&Frame>, seen: Level) -> Option<Event> {
+        let event = self.plain.sample(waiting, seen);
+        assert_eq!(rt; self.packed.sample(waiting, seen), event);
+        event
     }
 
-    fn rec(&self) -> u16 {
-        self.mac.confine().rec()
+    /// What both drive.
+    fn drives(&self, rt: &impl Abort, waiting: Option<&Frame>) -> Level {
+        let level = self.plain.drive(waiting);
+        assert_eq!(rt; self.packed.drive(waiting), level);
+        level
     }
 
-    fn tec(&self) -> u16 {
-        self.mac.confine().tec()
+    /// Whether both take a wish for so many overload frames.
+    fn hold(&mut self, rt: &impl Abort, count: u8) -> bool {
+        let taken = self.plain.hold(count);
+        assert_eq!(rt; self.packed.hold(count), taken);
+        taken
     }
 
-    /// Whether it would start a frame in the next bit time.
-    fn may_send(&self, frame: &Frame) -> bool {
-        self.drives(None) == Level::Recessive && self.drives(Some(frame)) == Level::Dominant
+    /// The counters of both.
+    fn counters(&self, rt: &impl Abort) -> Confine {
+        let confine = *self.plain.confine();
+        assert_eq!(rt; *self.packed.confine(), confine);
+        confine
+    }
+
+    fn rec(&self, rt: &impl Abort) -> u16 {
+        self.counters(rt).rec()
+    }
+
+    fn tec(&self, rt: &impl Abort) -> u16 {
+        self.counters(rt).tec()
+    }
+
+    /// Whether both would start a frame in the next bit time.
+    fn may_send(&self, rt: &impl Abort, frame: &Frame) -> bool {
+        self.drives(rt, None) == Level::Recessive && self.drives(rt, Some(frame)) == Level::Dominant
     }
 }
 
@@ -78,25 +114,25 @@ fn errors_in_its_own_flags(rt: HostRuntime) -> Result<(), Fail> {
     let frame = empty_frame(1)?;
     let mut port = Port::idle();
     port.sees(&rt, None, "000000", &[(5, Event::Error(ErrorKind::Stuff))]);
-    assert_eq!(rt; port.rec(), 1);
+    assert_eq!(rt; port.rec(&rt), 1);
     for time in 6..23u32 {
         // each flag that starts up to bit time 22 is active
-        assert_eq!(rt; port.drives(None), Level::Dominant);
+        assert_eq!(rt; port.drives(&rt, None), Level::Dominant);
         port.sees(&rt, None, "1", &[(time, Event::Error(ErrorKind::Bit))]);
         match time {
-            6 => assert_eq!(rt; port.rec(), 9),
-            21 => assert_eq!(rt; port.rec(), 129),
-            22 => assert_eq!(rt; port.rec(), 137),
+            6 => assert_eq!(rt; port.rec(&rt), 9),
+            21 => assert_eq!(rt; port.rec(&rt), 129),
+            22 => assert_eq!(rt; port.rec(&rt), 137),
             _ => {}
         }
     }
     // passive flag, delimiter, intermission
     for _ in 23..40u32 {
-        assert_eq!(rt; port.drives(None), Level::Recessive);
-        assert!(rt; !port.may_send(&frame));
+        assert_eq!(rt; port.drives(&rt, None), Level::Recessive);
+        assert!(rt; !port.may_send(&rt, &frame));
         port.sees(&rt, None, "1", &[]);
     }
-    assert!(rt; port.may_send(&frame));
+    assert!(rt; port.may_send(&rt, &frame));
     Ok(())
 }
 
@@ -112,15 +148,15 @@ fn the_last_level_of_the_end_of_frame_is_dominant(rt: HostRuntime) -> Result<(),
         &[(45, Event::Received(frame)), (46, Event::Overload)],
     );
     for _ in 47..53u32 {
-        assert_eq!(rt; port.drives(None), Level::Dominant);
+        assert_eq!(rt; port.drives(&rt, None), Level::Dominant);
         port.sees(&rt, None, "0", &[]);
     }
     for _ in 53..64u32 {
-        assert!(rt; !port.may_send(&frame));
+        assert!(rt; !port.may_send(&rt, &frame));
         port.sees(&rt, None, "1", &[]);
     }
-    assert!(rt; port.may_send(&frame));
-    assert_eq!(rt; port.rec(), 0);
+    assert!(rt; port.may_send(&rt, &frame));
+    assert_eq!(rt; port.rec(&rt), 0);
     Ok(())
 }
 
@@ -131,7 +167,7 @@ fn a_frame_begins_in_the_last_bit_of_intermission(rt: HostRuntime) -> Result<(),
     port.sees(&rt, None, PART_001, &[]);
     port.sees(&rt, None, TAIL, &[(45, Event::Received(frame))]);
     port.sees(&rt, Some(&frame), "11", &[]);
-    assert_eq!(rt; port.drives(Some(&frame)), Level::Recessive);
+    assert_eq!(rt; port.drives(&rt, Some(&frame)), Level::Recessive);
     port.sees(&rt, Some(&frame), PART_001, &[]);
     port.sees(&rt, Some(&frame), TAIL, &[(95, Event::Sent(frame))]);
     Ok(())
@@ -140,14 +176,11 @@ fn a_frame_begins_in_the_last_bit_of_intermission(rt: HostRuntime) -> Result<(),
 #[test]
 fn joining(rt: HostRuntime) -> Result<(), Fail> {
     let frame = empty_frame(0)?;
-    let mut port = Port {
-        mac: Mac::joining(),
-        time: 0,
-    };
+    let mut port = Port::joining();
     port.sees(&rt, Some(&frame), "111111111101111111111", &[]);
-    assert_eq!(rt; port.drives(Some(&frame)), Level::Recessive);
+    assert_eq!(rt; port.drives(&rt, Some(&frame)), Level::Recessive);
     port.sees(&rt, Some(&frame), "1", &[]);
-    assert_eq!(rt; port.drives(Some(&frame)), Level::Dominant);
+    assert_eq!(rt; port.drives(&rt, Some(&frame)), Level::Dominant);
     Ok(())
 }
 
@@ -159,14 +192,14 @@ fn arbitration_is_lost(rt: HostRuntime) -> Result<(), Fail> {
     let mut port = Port::idle();
     for byte in WIRE_000.bytes() {
         if port.time == 41 {
-            assert_eq!(rt; port.drives(Some(&own)), Level::Dominant);
+            assert_eq!(rt; port.drives(&rt, Some(&own)), Level::Dominant);
         }
         let text = if byte == b'1' { "1" } else { "0" };
         port.sees(&rt, Some(&own), text, &told);
     }
     port.sees(&rt, Some(&own), "111", &[]);
     assert_eq!(rt; port.time, 53);
-    assert_eq!(rt; port.drives(Some(&own)), Level::Dominant);
+    assert_eq!(rt; port.drives(&rt, Some(&own)), Level::Dominant);
     Ok(())
 }
 
@@ -176,20 +209,20 @@ fn dominant_levels_behind_flags(rt: HostRuntime) -> Result<(), Fail> {
     let mut port = Port::idle();
     port.sees(&rt, None, PART_001, &[]);
     port.sees(&rt, None, "0", &[(37, Event::Error(ErrorKind::Form))]);
-    assert_eq!(rt; port.rec(), 1);
+    assert_eq!(rt; port.rec(&rt), 1);
     port.sees(&rt, None, "0000000", &[]);
-    assert_eq!(rt; port.rec(), 9);
+    assert_eq!(rt; port.rec(&rt), 9);
     port.sees(&rt, None, "0000000", &[]);
-    assert_eq!(rt; port.rec(), 17);
+    assert_eq!(rt; port.rec(&rt), 17);
     port.sees(&rt, None, "11111110000000", &[(59, Event::Overload)]);
     port.sees(&rt, None, "111111110000000", &[(74, Event::Overload)]);
     port.sees(&rt, None, "10", &[(82, Event::Error(ErrorKind::Form))]);
-    assert_eq!(rt; port.rec(), 18);
+    assert_eq!(rt; port.rec(&rt), 18);
     port.sees(&rt, None, "0000001111111111", &[]);
-    assert!(rt; !port.may_send(&frame));
+    assert!(rt; !port.may_send(&rt, &frame));
     port.sees(&rt, None, "1", &[]);
     assert_eq!(rt; port.time, 100);
-    assert!(rt; port.may_send(&frame));
+    assert!(rt; port.may_send(&rt, &frame));
     Ok(())
 }
 
@@ -206,7 +239,7 @@ fn one_error_for_one_wrong_level(rt: HostRuntime) {
         let mut port = Port::idle();
         port.sees(&rt, None, front, &[]);
         port.sees(&rt, None, rest, &[(time, Event::Error(kind))]);
-        assert_eq!(rt; port.rec(), 1);
+        assert_eq!(rt; port.rec(&rt), 1);
     }
 }
 
@@ -215,15 +248,15 @@ fn a_wrong_check_sequence_is_not_acknowledged(rt: HostRuntime) {
     let mut port = Port::idle();
     port.sees(&rt, None, "00000100000101000001000100010000100101", &[]);
     assert_eq!(rt; port.time, 38);
-    assert_eq!(rt; port.drives(None), Level::Recessive);
+    assert_eq!(rt; port.drives(&rt, None), Level::Recessive);
 }
 
 #[test]
 fn overload_frames_of_its_own(rt: HostRuntime) -> Result<(), Fail> {
     let frame = empty_frame(1)?;
     let mut port = Port::idle();
-    assert!(rt; !port.mac.hold(3));
-    assert!(rt; port.mac.hold(2));
+    assert!(rt; !port.hold(&rt, 3));
+    assert!(rt; port.hold(&rt, 2));
     port.sees(&rt, None, PART_001, &[]);
     port.sees(
         &rt,
@@ -234,9 +267,9 @@ fn overload_frames_of_its_own(rt: HostRuntime) -> Result<(), Fail> {
     // flag, delimiter, and the second one at the next intermission
     port.sees(&rt, None, "00000011111111", &[(60, Event::Overload)]);
     port.sees(&rt, None, "00000011111111", &[]);
-    assert!(rt; !port.may_send(&frame));
+    assert!(rt; !port.may_send(&rt, &frame));
     port.sees(&rt, None, "111", &[]);
-    assert!(rt; port.may_send(&frame));
+    assert!(rt; port.may_send(&rt, &frame));
     Ok(())
 }
 
@@ -245,7 +278,7 @@ fn a_sender_alone(rt: HostRuntime) -> Result<(), Fail> {
     let frame = empty_frame(0)?;
     let mut port = Port::idle();
     for _ in 0..42u32 {
-        let text = match port.drives(Some(&frame)) {
+        let text = match port.drives(&rt, Some(&frame)) {
             Level::Dominant => "0",
             Level::Recessive => "1",
         };
@@ -256,7 +289,7 @@ fn a_sender_alone(rt: HostRuntime) -> Result<(), Fail> {
             &[(41, Event::Error(ErrorKind::Ack))],
         );
     }
-    assert_eq!(rt; port.tec(), 8);
+    assert_eq!(rt; port.tec(&rt), 8);
     Ok(())
 }
 
@@ -267,18 +300,26 @@ fn bus_off_and_back(rt: HostRuntime) -> Result<(), Fail> {
     let mut last = None;
     for _ in 0..1000u32 {
         if last != Some(Event::WentOff) {
-            last = port.mac.sample(Some(&frame), Level::Recessive);
+            last = port.tells(&rt, Some(&frame), Level::Recessive);
         }
     }
     assert_eq!(rt; last, Some(Event::WentOff));
-    assert_eq!(rt; port.tec(), 256);
+    assert_eq!(rt; port.tec(&rt), 256);
     for _ in 1..128 * 11u32 {
-        assert_eq!(rt; port.drives(Some(&frame)), Level::Recessive);
-        assert_eq!(rt; port.mac.sample(Some(&frame), Level::Recessive), None);
+        assert_eq!(rt; port.drives(&rt, Some(&frame)), Level::Recessive);
+        assert_eq!(rt; port.tells(&rt, Some(&frame), Level::Recessive), None);
     }
-    let event = port.mac.sample(Some(&frame), Level::Recessive);
+    let event = port.tells(&rt, Some(&frame), Level::Recessive);
     assert_eq!(rt; event, Some(Event::Recovered));
-    assert_eq!(rt; port.tec(), 0);
-    assert!(rt; port.may_send(&frame));
+    assert_eq!(rt; port.tec(&rt), 0);
+    assert!(rt; port.may_send(&rt, &frame));
     Ok(())
+}
+
+/// How many bytes a controller takes that holds the unstuffed levels one by one, and one that holds them in a
+/// register.
+#[test]
+fn sizes(rt: HostRuntime) {
+    assert_eq!(rt; size_of::<Mac>(), 200);
+    assert_eq!(rt; size_of::<PackedMac>(), 96);
 }

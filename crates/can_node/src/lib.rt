@@ -10,7 +10,9 @@
 //! |---|---|---|
 //! | `port.rt` | [`Port`], what a port does | `specs/Ports.antt` |
 //! | `entry.rt` | [`Entry`], a frame in a log | |
-//! | `node.rt` | [`Node`], a controller with a queue and a log | `specs/Ports.antt` |
+//! | `node.rt` | [`Node`], a controller with a queue and a log: [`PlainNode`], [`PackedNode`] | `specs/Ports.antt` |
+//! | `either.rt` | [`EitherNode`], a port of either kind | |
+//! | `alike.rt` | [`sample_both`]: ports of whatever kinds that are in one state stay alike | `specs/Ports.antt` |
 //! | `queue.rt` | the frames that wait, and which goes first | `specs/Ports.antt`, `specs/Waiting.antt` |
 //! | `log.rt` | the frames that were sent and taken | `specs/Ports.antt` |
 //! | `listening.rt` | [`listen`], and what a port claims | `specs/Listening.antt` |
@@ -21,6 +23,8 @@
 //! `WaitingLaws`). `Rows` computes the definitions on levels whose outcome is known.
 #![tactic(auto)]
 
+mod alike;
+mod either;
 mod entry;
 mod laws;
 mod listening;
@@ -31,8 +35,10 @@ mod queue;
 #[cfg(test)]
 mod tests;
 
+pub use alike::sample_both;
+pub use either::EitherNode;
 pub use entry::Entry;
 pub use laws::first_frame_waits;
 pub use listening::listen;
-pub use node::{Node, PlainNode};
+pub use node::{Node, PackedNode, PlainNode};
 pub use port::Port;

@@ -6,7 +6,7 @@ use crate::entry::Entry;
 use crate::log::Log;
 use crate::port::Port;
 use crate::queue::Queue;
-use can_code::{FrameBits, PlainBits};
+use can_code::{FrameBits, PackedBits, PlainBits};
 use can_fault::State;
 use can_frame::{Frame, Level};
 use can_mac::{Event, MediumAccess};
@@ -24,6 +24,9 @@ pub struct Node<B: FrameBits> {
 
 /// A port that holds the unstuffed levels one by one.
 pub type PlainNode = Node<PlainBits>;
+
+/// A port that holds the unstuffed levels in a register.
+pub type PackedNode = Node<PackedBits>;
 
 impl<B: FrameBits> Node<B> {
     ghost use Rattle.can_mac.specs.State.{idle, joining};

@@ -1,6 +1,7 @@
-use super::{Levels, levels_of, standard};
-use crate::{CodeFaultKind, Decoder, Heard, PlainBits};
+use super::{Levels, levels_of, longest_frames, standard};
+use crate::{CodeFaultKind, Decoder, FrameBits, Heard, PackedBits, PlainBits, encode};
 use can_frame::{Frame, Level};
+use std::process::Abort;
 use std::test::Fail;
 
 /// The standard data frame with identifier 000 and no data, acknowledged.
@@ -11,8 +12,8 @@ const WIRE_001: &str = "00000100000101000001000100010000100111011111111";
 
 /// The place behind the start of frame at which a decoder first says more than that the frame goes
 /// on, and what it says there.
-fn first_word(levels: &[Level]) -> Option<(usize, Result<Heard, CodeFaultKind>)> {
-    let mut decoder = Decoder::<PlainBits>::begin();
+fn first_word<B: FrameBits>(levels: &[Level]) -> Option<(usize, Result<Heard, CodeFaultKind>)> {
+    let mut decoder = Decoder::<B>::begin();
     for (place, level) in levels.iter().enumerate().skip(1) {
         match decoder.hear(*level) {
             Ok(None) => {}
@@ -38,35 +39,59 @@ fn with_other_level(text: &str, other: usize) -> Levels {
     levels
 }
 
-#[test]
-fn whole_frames(rt: HostRuntime) -> Result<(), Fail> {
+fn hears_whole_frames<B: FrameBits>(rt: &impl Abort) -> Result<(), Fail> {
     for (raw, wire, last_place) in [(0x000, WIRE_000, 49), (0x001, WIRE_001, 46)] {
         let frame = Frame::data(standard(raw)?, 0, &[])?;
-        assert!(rt; first_word(&levels_of(wire)) == Some((last_place, Ok(Heard::sent(frame)))));
+        let expected = Some((last_place, Ok(Heard::sent(frame))));
+        assert!(rt; first_word::<B>(&levels_of(wire)) == expected);
+    }
+    for frame in longest_frames()? {
+        let levels = encode(&frame);
+        let (place, word) = first_word::<B>(&levels).ok_or("a frame that ends")?;
+        assert!(rt; place.checked_add(1) == Some(levels.len()));
+        assert!(rt; word == Ok(Heard::unacknowledged(frame)));
     }
     Ok(())
 }
 
 #[test]
-fn faults(rt: HostRuntime) {
-    assert!(rt; first_word(&levels_of("000000")) == Some((5, Err(CodeFaultKind::Stuff))));
+fn whole_frames(rt: HostRuntime) -> Result<(), Fail> {
+    hears_whole_frames::<PlainBits>(&rt)?;
+    hears_whole_frames::<PackedBits>(&rt)
+}
+
+fn hears_faults<B: FrameBits>(rt: &impl Abort) {
+    assert!(rt; first_word::<B>(&levels_of("000000")) == Some((5, Err(CodeFaultKind::Stuff))));
     for (place, kind) in [
         (36, CodeFaultKind::Crc),
         (37, CodeFaultKind::Form),
         (39, CodeFaultKind::Form),
         (45, CodeFaultKind::Form),
     ] {
-        assert!(rt; first_word(&with_other_level(WIRE_001, place)) == Some((place, Err(kind))));
+        let levels = with_other_level(WIRE_001, place);
+        assert!(rt; first_word::<B>(&levels) == Some((place, Err(kind))));
     }
 }
 
 #[test]
-fn levels_at_either_value(rt: HostRuntime) -> Result<(), Fail> {
+fn faults(rt: HostRuntime) {
+    hears_faults::<PlainBits>(&rt);
+    hears_faults::<PackedBits>(&rt);
+}
+
+fn hears_either_value<B: FrameBits>(rt: &impl Abort) -> Result<(), Fail> {
     let (low, high) = (Level::Dominant, Level::Recessive);
     let frame = Frame::data(standard(0x001)?, 0, &[])?;
     for (place, acked, last) in [(38, false, high), (46, true, low)] {
         let heard = Heard::new(frame, high, low, low, acked, last).ok_or("parts of a frame")?;
-        assert!(rt; first_word(&with_other_level(WIRE_001, place)) == Some((46, Ok(heard))));
+        let levels = with_other_level(WIRE_001, place);
+        assert!(rt; first_word::<B>(&levels) == Some((46, Ok(heard))));
     }
     Ok(())
+}
+
+#[test]
+fn levels_at_either_value(rt: HostRuntime) -> Result<(), Fail> {
+    hears_either_value::<PlainBits>(&rt)?;
+    hears_either_value::<PackedBits>(&rt)
 }

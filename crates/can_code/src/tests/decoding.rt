@@ -1,6 +1,7 @@
 use super::{KNOWN_WIRES, Levels, known_frames, levels_of, spelled, standard};
-use crate::{Front, Heard, Place, PlainBits, decode, encode, respell};
+use crate::{FrameBits, Front, Heard, PackedBits, Place, PlainBits, decode, encode, respell};
 use can_frame::{Frame, Level};
+use std::process::Abort;
 use std::test::Fail;
 
 /// The stuffed part of the standard data frame with identifier 001 and no data.
@@ -70,9 +71,8 @@ fn found(rt: HostRuntime) -> Result<(), Fail> {
     Ok(())
 }
 
-#[test]
-fn front_at_its_end(rt: HostRuntime) -> Result<(), Fail> {
-    let mut front = Front::<PlainBits>::begin();
+fn ends<B: FrameBits>(rt: &impl Abort) -> Result<(), Fail> {
+    let mut front = Front::<B>::begin();
     for level in levels_of(FRAME_001).iter().skip(1) {
         if front.next_place() != Place::CrcDelimiter {
             assert!(rt; front.hear(*level).is_ok());
@@ -85,6 +85,12 @@ fn front_at_its_end(rt: HostRuntime) -> Result<(), Fail> {
     assert!(rt; front.check_agrees());
     assert!(rt; front.frame() == Frame::data(standard(0x001)?, 0, &[])?);
     Ok(())
+}
+
+#[test]
+fn front_at_its_end(rt: HostRuntime) -> Result<(), Fail> {
+    ends::<PlainBits>(&rt)?;
+    ends::<PackedBits>(&rt)
 }
 
 #[test]

@@ -11,7 +11,7 @@ mod frame_ends;
 mod own_overloads;
 
 use crate::{ErrorKind, Event, MediumAccess};
-use can_code::FrameBits;
+use can_code::{FrameBits, PackedBits, PlainBits};
 use can_frame::{Frame, Level};
 use std::alloc::Global;
 use std::process::Abort;
@@ -63,11 +63,13 @@ pub const OVERRIDDEN: &str = "1";
 /// starts.
 pub const OVERLOAD: &str = "101111111110";
 
-/// Each row comes to what it says.
-pub fn hold<B: FrameBits>(rt: &impl Abort, alloc: Global, rows: &[Row]) -> Result<(), Fail> {
+/// Each row comes to what it says, at a controller of each kind.
+pub fn hold(rt: &impl Abort, alloc: Global, rows: &[Row]) -> Result<(), Fail> {
     for (number, (pieces, want)) in rows.iter().enumerate() {
-        let text = outcome::<B>(alloc, pieces)?;
-        assert_eq!(rt; text.as_str(), *want, "row {number}");
+        let plain = outcome::<PlainBits>(alloc, pieces)?;
+        assert_eq!(rt; plain.as_str(), *want, "row {number}");
+        let packed = outcome::<PackedBits>(alloc, pieces)?;
+        assert_eq!(rt; packed.as_str(), *want, "row {number}, packed");
     }
     Ok(())
 }

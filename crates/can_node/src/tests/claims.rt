@@ -1,7 +1,8 @@
 //! What ports claim of levels that look random, compared with the levels.
 ghost use Rattle.std.specs.Prelude.{◌<◌};
 
-use crate::{PlainNode, Port, listen};
+use super::Kind;
+use crate::{EitherNode, Port, listen};
 use can_code::{Heard, decode, respell};
 use can_frame::{Frame, Id, Level};
 use can_mac::Event;
@@ -50,7 +51,7 @@ impl Numbers {
 /// A port, and what it told.
 #[derive(Drop)]
 struct Witness {
-    port: PlainNode,
+    port: EitherNode,
     told: Vec<Option<Event>>,
 }
 
@@ -178,13 +179,17 @@ fn is_rested(levels: &[Level], told: &[Option<Event>]) -> bool {
 }
 
 /// Two ports with frames to send, one of which may have to join first.
-fn ports(alloc: Global, seed: u64) -> Result<(PlainNode, PlainNode), Fail> {
+fn ports(
+    alloc: Global,
+    seed: u64,
+    (one, other): (Kind, Kind),
+) -> Result<(EitherNode, EitherNode), Fail> {
     let mut numbers = Numbers(seed);
-    let mut first = PlainNode::new(alloc, 3, 64)?;
+    let mut first = one.idle(alloc, 3, 64)?;
     let mut second = if numbers.below(2) == 0 {
-        PlainNode::new(alloc, 3, 64)?
+        other.idle(alloc, 3, 64)?
     } else {
-        PlainNode::joining(alloc, 3, 64)?
+        other.joining(alloc, 3, 64)?
     };
     for _ in 0..numbers.below(4) {
         let _ = first.offer(numbers.frame()?);
@@ -196,7 +201,7 @@ fn ports(alloc: Global, seed: u64) -> Result<(PlainNode, PlainNode), Fail> {
 /// Runs two ports over levels of many kinds.
 fn run_trial(alloc: Global, seed: u64) -> Result<Trial, Fail> {
     let mut numbers = Numbers(seed);
-    let (first, second) = ports(alloc, seed)?;
+    let (first, second) = ports(alloc, seed, (Kind::Plain, Kind::Packed))?;
     let mut trial = Trial {
         first: Witness {
             port: first,
@@ -223,14 +228,14 @@ fn run_trial(alloc: Global, seed: u64) -> Result<Trial, Fail> {
     Ok(trial)
 }
 
-/// What a port told is true, and one that listens to the levels comes to the same: how many frames it
-/// told.
+/// What a port told is true, and one of the other kind that listens to the levels comes to the same: how
+/// many frames it told.
 fn agrees(
     rt: &impl Abort,
     alloc: Global,
     levels: &[Level],
     witness: &Witness,
-    listener: &mut PlainNode,
+    listener: &mut EitherNode,
 ) -> Result<usize, AllocError> {
     assert!(rt; is_true(alloc, levels, &witness.told)?);
     assert!(rt; is_rested(levels, &witness.told));
@@ -245,7 +250,7 @@ fn claims_are_true_of_a_thousand_lists(rt: HostRuntime) -> Result<(), Fail> {
     let mut frames = 0usize;
     for seed in 0..1000u64 {
         let trial = run_trial(rt.alloc(), seed)?;
-        let (mut first, mut second) = ports(rt.alloc(), seed)?;
+        let (mut first, mut second) = ports(rt.alloc(), seed, (Kind::Packed, Kind::Plain))?;
         let levels = &trial.levels;
         let of_first = agrees(&rt, rt.alloc(), levels, &trial.first, &mut first)?;
         let of_second = agrees(&rt, rt.alloc(), levels, &trial.second, &mut second)?;

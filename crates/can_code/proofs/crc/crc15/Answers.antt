@@ -1,62 +1,57 @@
-use Rattle.std.proofs.Common.{◌≡◌, ◌+◌, ◌*◌, ◌/◌, ◌<◌, [], ◌∷◌, length, drop, get_or, ap, subst, sym, ◌∙◌, arith}
-use Rattle.std.proofs.lemmas.List.{at_drop_more}
+use Rattle.std.proofs.Common.{◌≡◌, ◌+◌, ◌*◌, ◌/◌, ◌<◌, [], ◌∷◌, ◌++◌, length, take, get_or, ap, subst, sym, ◌∙◌, arith, append_assoc}
+use Rattle.std.proofs.lemmas.List.{append-nil, take_all, take_more, take-append-drop}
 use Rattle.can_frame.specs.declared.level.Level.TheVariants.{Dominant}
 use Rattle.can_frame.specs.Levels.{bits_of}
-use Rattle.can_code.specs.Crc.{IsCrc, crc_of}
-use Rattle.can_code.proofs.DivisionLemmas.{IsCrc-crc_of, IsCrc-only}
-use Rattle.can_code.proofs.LevelLemmas.{bits_of-none}
-use Rattle.can_code.proofs.Register.{register, register-crc_of}
-use Rattle.can_code.proofs.RegisterWord.{register_on, register_ended}
-use Rattle.can_code.proofs.OctetLemmas.{register_on_octet}
+use Rattle.can_code.specs.Crc.{IsCrc}
+use Rattle.can_code.proofs.CheckRuns.{IsCrc-same}
+use Rattle.can_code.proofs.DivisionLemmas.{IsCrc-only}
+use Rattle.can_code.proofs.OctetLemmas.{take-octet}
 use Rattle.can_code.proofs.crc.crc15.Goals as goal
-use Rattle.can_code.proofs.crc.crc15.Goals.{After-loop-level}
+use Rattle.can_code.proofs.crc.crc15.Goals.{After-value}
 
 pub loop-octet-init : goal.loop-octet-init
-loop-octet-init c = record {
-  range = omega arith;
-  rest = ap (λ r. register r c.args.levels.now) (bits_of-none 15) ∙ register-crc_of c.args.levels.now;
-}
+loop-octet-init c = record { so_far = c.new-run.ensures }
 
 pub loop-octet-preserved : goal.loop-octet-preserved
 loop-octet-preserved c =
     let levels = c.args.levels.now in
     let i = c.loop-octet.octet-index in
     let within : i < length levels / 8 = omega (arith, c.as_chunks.ensures.front_len) in
-    record {
-      range = c.shift_in_octet-register.ensures.range;
-      rest = register_on_octet c.loop-octet.register c.shift_in_octet-register.result i _ levels c.as_chunks.result.0.now _ c.as_chunks.ensures.front within c.shift_in_octet-register.ensures.step
-          ∙ c.loop-octet.invariant.rest;
-    }
+    let more = take-octet i _ levels c.as_chunks.result.0.now _ c.as_chunks.ensures.front within in
+    record { so_far = IsCrc-same more (c.push_octet.ensures (take (8 * i) levels) c.loop-octet.invariant.so_far) }
 
 pub loop-level-init : goal.loop-level-init
 loop-level-init c =
     let levels = c.args.levels.now in
-    let e : length levels / 8 * 8 ≡ 8 * c.loop-octet.octet-index = omega (arith, c.as_chunks.ensures.front_len) in
-    record {
-      range = c.loop-octet.invariant.range;
-      rest = ap (register (bits_of 15 c.loop-octet.register)) (c.as_chunks.ensures.back ∙ ap (λ n. drop n levels) e) ∙ c.loop-octet.invariant.rest;
-    }
+    let n = length levels / 8 * 8 in
+    let e : 8 * c.loop-octet.octet-index ≡ n = omega (arith, c.as_chunks.ensures.front_len) in
+    record { so_far = IsCrc-same (ap (λ m. take m levels) e ∙ sym (append-nil (take n levels))) c.loop-octet.invariant.so_far }
 
 pub loop-level-preserved : goal.loop-level-preserved
 loop-level-preserved c =
+    let levels = c.args.levels.now in
     let rest = c.as_chunks.result.1.now in
-    let r = c.loop-level.register in
+    let front = take (length levels / 8 * 8) levels in
     let i = c.loop-level.level-index in
     let level = get_or rest i Dominant in
-    record {
-      range = c.shift_in-register.ensures.range;
-      rest = register_on r c.shift_in-register.result (level ∷ []) (drop (i + 1) rest) c.shift_in-register.ensures.step
-          ∙ sym (at_drop_more (register (bits_of 15 r)) rest i Dominant c.loop-level-test.true) ∙ c.loop-level.invariant.rest;
-    }
+    let more : (front ++ take i rest) ++ level ∷ [] ≡ front ++ take (i + 1) rest =
+    append_assoc front (take i rest) (level ∷ []) ∙ ap (λ l. front ++ l) (sym (take_more rest i Dominant c.loop-level-test.true)) in
+    record { so_far = IsCrc-same more (c.push.ensures (front ++ take i rest) c.loop-level.invariant.so_far) }
 
-computed : (c : After-loop-level) → bits_of 15 c.loop-level.register ≡ crc_of c.args.levels.now
-computed c = register_ended c.loop-level.register c.loop-level.level-index c.as_chunks.result.1.now _ c.loop-level-test.false c.loop-level.invariant.rest
+is : (c : After-value) → IsCrc c.args.levels.now (bits_of 15 c.value.result)
+is c =
+    let levels = c.args.levels.now in
+    let rest = c.as_chunks.result.1.now in
+    let n = length levels / 8 * 8 in
+    let all : take n levels ++ take c.loop-level.level-index rest ≡ levels =
+    ap (λ l. take n levels ++ l) (take_all c.loop-level.level-index rest c.loop-level-test.false ∙ c.as_chunks.ensures.back) ∙ take-append-drop n levels in
+    subst (λ v. IsCrc levels (bits_of 15 v)) (sym c.value.ensures.value) (IsCrc-same all c.loop-level.invariant.so_far)
 
 pub returns-clause-divides : goal.returns-clause-divides
-returns-clause-divides c = subst (IsCrc c.args.levels.now) (sym (computed c)) (IsCrc-crc_of c.args.levels.now)
+returns-clause-divides c = is c
 
 pub returns-clause-only : goal.returns-clause-only
-returns-clause-only c = λ check h. IsCrc-only c.args.levels.now check h ∙ sym (computed c)
+returns-clause-only c = λ check h. IsCrc-only c.args.levels.now check h ∙ sym (IsCrc-only c.args.levels.now _ (is c))
 
 pub returns-clause-computed : goal.returns-clause-computed
-returns-clause-computed c = computed c
+returns-clause-computed c = IsCrc-only c.args.levels.now _ (is c)

@@ -1,7 +1,6 @@
 //! Arbitration, stuff bits, and the end of the stuffed part.
 
 use super::{FRAME, NOTHING, PART, Row, TAIL, hold};
-use can_code::PlainBits;
 use std::test::Fail;
 
 const WIRE_000: &str = "00000100000100000100000100000100000100001011111111";
@@ -114,5 +113,5 @@ const ROWS: &[Row] = &[
 
 #[test]
 fn arbitration_and_stuff_bits(rt: HostRuntime) -> Result<(), Fail> {
-    hold::<PlainBits>(&rt, rt.alloc(), ROWS)
+    hold(&rt, rt.alloc(), ROWS)
 }

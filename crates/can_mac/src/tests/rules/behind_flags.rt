@@ -1,7 +1,6 @@
 //! Dominant levels behind a flag.
 
 use super::{ERROR, FRAME, NOTHING, OVERLOAD, OVERRIDDEN, PART, Row, TO_128, TO_REC_129, hold};
-use can_code::PlainBits;
 use std::test::Fail;
 
 const ROWS: &[Row] = &[
@@ -108,5 +107,5 @@ const ROWS: &[Row] = &[
 
 #[test]
 fn levels_behind_flags(rt: HostRuntime) -> Result<(), Fail> {
-    hold::<PlainBits>(&rt, rt.alloc(), ROWS)
+    hold(&rt, rt.alloc(), ROWS)
 }

@@ -1,7 +1,6 @@
 //! Idle, intermission, suspend transmission, and off the bus.
 
 use super::{FRAME, NOTHING, PART, Row, TAIL, TO_128, TO_248, TO_REC_129, hold};
-use can_code::PlainBits;
 use std::test::Fail;
 
 /// A frame whose sender drives dominant behind its start of frame, where a receiver drives recessive.
@@ -181,5 +180,5 @@ const ROWS: &[Row] = &[
 
 #[test]
 fn between_frames(rt: HostRuntime) -> Result<(), Fail> {
-    hold::<PlainBits>(&rt, rt.alloc(), ROWS)
+    hold(&rt, rt.alloc(), ROWS)
 }

@@ -1,7 +1,6 @@
 //! Delimiters of error frames and overload frames.
 
 use super::{ERROR, FRAME, NOTHING, OVERLOAD, OVERRIDDEN, PART, Row, TO_REC_129, hold};
-use can_code::PlainBits;
 use std::test::Fail;
 
 const ROWS: &[Row] = &[
@@ -80,5 +79,5 @@ const ROWS: &[Row] = &[
 
 #[test]
 fn delimiters(rt: HostRuntime) -> Result<(), Fail> {
-    hold::<PlainBits>(&rt, rt.alloc(), ROWS)
+    hold(&rt, rt.alloc(), ROWS)
 }

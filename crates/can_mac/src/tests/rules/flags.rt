@@ -3,7 +3,6 @@
 use super::{
     ERROR, FRAME, NOTHING, OVERLOAD, OVERRIDDEN, PART, Row, TO_128, TO_248, TO_REC_129, hold,
 };
-use can_code::PlainBits;
 use std::test::Fail;
 
 const ROWS: &[Row] = &[
@@ -153,5 +152,5 @@ const ROWS: &[Row] = &[
 
 #[test]
 fn error_and_overload_flags(rt: HostRuntime) -> Result<(), Fail> {
-    hold::<PlainBits>(&rt, rt.alloc(), ROWS)
+    hold(&rt, rt.alloc(), ROWS)
 }

@@ -1,7 +1,6 @@
 //! The end of a frame, from the CRC delimiter on.
 
 use super::{FRAME, NOTHING, PART, Row, TAIL, TO_128, TO_REC_129, hold};
-use can_code::PlainBits;
 use std::test::Fail;
 
 /// The stuffed part of the frame with the last level of its check sequence wrong.
@@ -207,5 +206,5 @@ const ROWS: &[Row] = &[
 
 #[test]
 fn ends_of_frames(rt: HostRuntime) -> Result<(), Fail> {
-    hold::<PlainBits>(&rt, rt.alloc(), ROWS)
+    hold(&rt, rt.alloc(), ROWS)
 }

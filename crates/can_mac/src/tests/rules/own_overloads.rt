@@ -17,15 +17,15 @@ fn overload_frames_are_counted_anew_with_each_frame(rt: HostRuntime) -> Result<(
         (124, Event::Overload),
     ];
     let mut port = Port::idle();
-    assert!(rt; port.mac.hold(2));
+    assert!(rt; port.hold(&rt, 2));
     port.sees(&rt, None, PART_001, &told);
     port.sees(&rt, None, TAIL, &told);
     port.sees(&rt, None, OVERLOAD_FRAME, &told);
     // two have been started since the frame began
-    assert!(rt; port.mac.hold(2));
+    assert!(rt; port.hold(&rt, 2));
     port.sees(&rt, None, OVERLOAD_FRAME, &told);
     port.sees(&rt, None, "111", &told);
-    assert!(rt; port.may_send(&frame));
+    assert!(rt; port.may_send(&rt, &frame));
     port.sees(&rt, None, PART_001, &told);
     port.sees(&rt, None, TAIL, &told);
     assert_eq!(rt; port.time, 125);
@@ -43,9 +43,9 @@ fn a_sender_starts_no_overload_frame(rt: HostRuntime) -> Result<(), Fail> {
         (96, Event::Overload),
     ];
     let mut port = Port::idle();
-    assert!(rt; port.mac.hold(2));
-    assert!(rt; port.mac.hold(1));
-    assert!(rt; !port.mac.hold(3));
+    assert!(rt; port.hold(&rt, 2));
+    assert!(rt; port.hold(&rt, 1));
+    assert!(rt; !port.hold(&rt, 3));
     port.sees(&rt, Some(&frame), PART_001, &told);
     port.sees(&rt, None, TAIL, &told);
     port.sees(&rt, None, "111", &told);
@@ -54,6 +54,6 @@ fn a_sender_starts_no_overload_frame(rt: HostRuntime) -> Result<(), Fail> {
     port.sees(&rt, None, OVERLOAD_FRAME, &told);
     port.sees(&rt, None, "111", &told);
     assert_eq!(rt; port.time, 114);
-    assert!(rt; port.may_send(&frame));
+    assert!(rt; port.may_send(&rt, &frame));
     Ok(())
 }

@@ -5,7 +5,7 @@ use mathlib.Core.Bool.{beq}
 use Rattle.std.proofs.Math.Dec.{leb}
 use Rattle.can_frame.specs.Levels.{is_recessive}
 use Rattle.can_code.proofs.RegisterWord.{register-agreed, register-differed}
-use Rattle.can_code.proofs.crc.shift_in.Goals as goal
+use Rattle.can_code.proofs.crc_run.shift_in.Goals as goal
 
 pub returns-then-highest-is_recessive-clause-range : goal.returns-then-highest-is_recessive-clause-range
 returns-then-highest-is_recessive-clause-range c = mask_lt (c.args.register * 2 ^ 1 % 2 ^ 16) 15

@@ -3,9 +3,9 @@ use Rattle.std.specs.Prelude.{bit_and, bit_xor}
 use Rattle.std.specs.Int.Bits.{mask_lt}
 use Rattle.std.proofs.lemmas.Nat.{xor_lt}
 use Rattle.can_frame.specs.Levels.{bits_of}
-use Rattle.can_code.specs.declared.crc.TheConstants.{CRC_OF_BYTES}
+use Rattle.can_code.specs.declared.crc_run.TheConstants.{CRC_OF_BYTES}
 use Rattle.can_code.proofs.CrcTable.{crc_of_byte, crc_of_byte-lt, entry_is, register-octet}
-use Rattle.can_code.proofs.crc.shift_in_octet.Goals as goal
+use Rattle.can_code.proofs.crc_run.shift_in_octet.Goals as goal
 
 -- what is read from the table
 read : (r byte at : ℕ) → r < 2 ^ 15 → byte < 2 ^ 8 → at ≡ bit_xor (r / 2 ^ 7) byte → get_or CRC_OF_BYTES at 0 ≡ crc_of_byte (bit_xor (r / 2 ^ 7) byte)

@@ -1,6 +1,6 @@
 use Rattle.std.proofs.Common.{◌≡◌, ◌<◌, ◌^◌, drop}
 use Rattle.can_frame.specs.Levels.{number_from}
-use Rattle.can_code.proofs.crc.number_of.Given as goal
+use Rattle.can_code.proofs.crc_run.number_of.Given as goal
 
 -- the levels that are left complete the number
 abbrev pub invariant-loop-level : goal.invariant-loop-level

@@ -1,0 +1,16 @@
+use Rattle.std.proofs.Common.{◌≡◌, [], ◌∷◌, ap, sym, ◌∙◌, arith}
+use Rattle.can_frame.specs.declared.level.Level.TheVariants.{Dominant}
+use Rattle.can_frame.specs.Levels.{bits_of}
+use Rattle.can_code.proofs.CheckRuns.{IsCrc-same}
+use Rattle.can_code.proofs.LevelLemmas.{bits_of-none}
+use Rattle.can_code.proofs.packed_bits.PackedBitsFrameBits.start.Goals as goal
+use Rattle.can_code.proofs.packed_bits.PackedBitsFrameBits.start.Goals.{After-new}
+
+started : (c : After-new) → bits_of 1 c.new.result ≡ Dominant ∷ []
+started c = ap (bits_of 1) c.new.ensures ∙ bits_of-none 1
+
+pub invariant_of-result : goal.invariant_of-result
+invariant_of-result c = (omega arith, IsCrc-same (sym (started c)) (c.push.ensures [] c.new-check.ensures))
+
+pub returns : goal.returns
+returns c = started c

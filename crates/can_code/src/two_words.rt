@@ -1,0 +1,38 @@
+ghost use Rattle.std.specs.Prelude.{◌≡◌};
+
+use std::marker::Model;
+
+/// A number of 128 bits as two words. It is aligned to eight bytes, where a `u128` is to sixteen, so
+/// what holds it stays small.
+#[derive(Debug, Drop)]
+pub(crate) struct TwoWords {
+    high: u64,
+    low: u64,
+}
+
+impl Model for TwoWords {
+    ghost use Rattle.std.specs.Prelude.{ℕ, ◌+◌, ◌*◌, ◌^◌};
+
+    ghost Value = { ℕ };
+
+    ghost view = { λ a. a.high * 2 ^ 64 + a.low };
+}
+
+impl TwoWords {
+    #[inline]
+    pub(crate) fn new(number: u128) -> TwoWords
+        ensures { result ≡ number }
+    {
+        TwoWords {
+            high: (number >> 64) as u64,
+            low: (number % (1 << 64)) as u64,
+        }
+    }
+
+    #[inline]
+    pub(crate) fn number(&self) -> u128
+        ensures { result ≡ self.now }
+    {
+        (u128::from(self.high) << 64) + u128::from(self.low)
+    }
+}

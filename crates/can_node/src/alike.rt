@@ -1,0 +1,23 @@
+ghost use Rattle.std.specs.Prelude.{◌≡◌};
+
+use crate::port::Port;
+use can_frame::Level;
+use can_mac::Event;
+
+/// What a port made of one bit time: the level that it drove, and the event that it told.
+type Answer = (Level, Option<Event>);
+
+/// Has two ports sample one level, whatever kinds of ports they are. If they are in one state, they have
+/// driven one level and told one event, and are in one state again. So ports in one state that sample
+/// the same levels, and are offered and asked the same, have the same levels, events, logs and
+/// counters.
+pub fn sample_both<P: Port, Q: Port>(one: &mut P, other: &mut Q, seen: Level) -> (Answer, Answer)
+    ensures answers { P.port one.old ≡ Q.port other.old → result.0 ≡ result.1 }
+    ensures states { P.port one.old ≡ Q.port other.old → P.port one.new ≡ Q.port other.new }
+{
+    let one_drives = one.drive();
+    let other_drives = other.drive();
+    let one_tells = one.sample(seen);
+    let other_tells = other.sample(seen);
+    ((one_drives, one_tells), (other_drives, other_tells))
+}

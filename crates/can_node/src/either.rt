@@ -1,0 +1,82 @@
+ghost use Rattle.can_node.specs.declared.either.EitherNode.TheVariants.{Plain, Packed};
+
+use crate::entry::Entry;
+use crate::node::{PackedNode, PlainNode};
+use crate::port::Port;
+use can_fault::State;
+use can_frame::{Frame, Level};
+use can_mac::Event;
+
+/// A port of one kind or the other, which answers as the node in it.
+#[derive(Drop)]
+pub enum EitherNode {
+    /// The unstuffed levels one by one.
+    Plain(PlainNode),
+    /// The unstuffed levels in a register.
+    Packed(PackedNode),
+}
+
+impl Port for EitherNode {
+    ghost port = { elim [ Plain n ↦ ⟦<PlainNode as Port>⟧.port n | Packed n ↦ ⟦<PackedNode as Port>⟧.port n ] };
+
+    ghost valid = { elim [
+      | Plain n ↦ record { mac = n.kept; queued = n.queue.are_frames; logged = n.log.are_frames; queue_fits = n.queue.fits; log_fits = n.log.fits; missed_fits = n.log.counted }
+      | Packed n ↦ record { mac = n.kept; queued = n.queue.are_frames; logged = n.log.are_frames; queue_fits = n.queue.fits; log_fits = n.log.fits; missed_fits = n.log.counted }
+    ] };
+
+    fn drive(&self) -> Level {
+        match self {
+            EitherNode::Plain(node) => node.drive(),
+            EitherNode::Packed(node) => node.drive(),
+        }
+    }
+
+    fn sample(&mut self, seen: Level) -> Option<Event> {
+        match self {
+            EitherNode::Plain(node) => node.sample(seen),
+            EitherNode::Packed(node) => node.sample(seen),
+        }
+    }
+
+    fn offer(&mut self, frame: Frame) -> Result<(), Frame> {
+        match self {
+            EitherNode::Plain(node) => node.offer(frame),
+            EitherNode::Packed(node) => node.offer(frame),
+        }
+    }
+
+    fn hold(&mut self, count: u8) -> bool {
+        match self {
+            EitherNode::Plain(node) => node.hold(count),
+            EitherNode::Packed(node) => node.hold(count),
+        }
+    }
+
+    fn log(&self) -> &[Entry] {
+        match self {
+            EitherNode::Plain(node) => node.log(),
+            EitherNode::Packed(node) => node.log(),
+        }
+    }
+
+    fn missed(&self) -> u32 {
+        match self {
+            EitherNode::Plain(node) => node.missed(),
+            EitherNode::Packed(node) => node.missed(),
+        }
+    }
+
+    fn counters(&self) -> (u16, u16) {
+        match self {
+            EitherNode::Plain(node) => node.counters(),
+            EitherNode::Packed(node) => node.counters(),
+        }
+    }
+
+    fn state(&self) -> State {
+        match self {
+            EitherNode::Plain(node) => node.state(),
+            EitherNode::Packed(node) => node.state(),
+        }
+    }
+}
