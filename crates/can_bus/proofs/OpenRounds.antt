@@ -134,27 +134,27 @@ all-behind now n f (o ∷ os) are apart parts = (
   all-behind now n f os are.1 (apart-back o.own (held os) apart) parts.1,
 )
 
-module _ (now : ℕ) (left rest : List Timed) (os : List OpenPort) (round : OpenRound now left os) (start : Timed) (here : start.time ≡ now) (next : IsNextStart now left start) where
+module _ (now : ℕ) (left rest : List Timed) (os : List OpenPort) (round : OpenRound now left os) (start : Timed) (here : start.time ≡ now) (is : IsNextStart now left start) where
   abbrev f : Parts
   f = start.frame
 
   abbrev offer : Timed
-  offer = record { time = next.offered; frame = f }
+  offer = record { time = is.offered; frame = f }
 
   offer-held : Lists (held os) offer
-  offer-held = round.from offer next.left_over
+  offer-held = round.from offer is.left_over
 
   -- it waits at a port
   frame-waits : Has f (queued (ports_now os))
   frame-waits =
-      let there = stands-offered now (held os) offer offer-held (omega (arith, next.in_time, here)) in
+      let there = stands-offered now (held os) offer offer-held (omega (arith, is.in_time, here)) in
       subst (Has f) (sym (held-queued now (length left) os round.ports)) (has-at f (offered_by now (held os)) there.0 there.1)
 
   -- and goes before all others that wait
   goes-first : (g : Parts) → Has g (queued (ports_now os)) → (g ≡ f) ⊎ Goes f g
   goes-first g has =
       let there = held-has g now (length left) os round.ports has in
-      elim (next.first there.0 (round.to there.0 there.1) (omega (arith, there.2, here))) [
+      elim (is.first there.0 (round.to there.0 there.1) (omega (arith, there.2, here))) [
         | inl same ↦ inl (sym there.3 ∙ same)
         | inr behind ↦ inr (subst (Goes f) there.3 behind)
       ]
@@ -164,8 +164,8 @@ module _ (now : ℕ) (left rest : List Timed) (os : List OpenPort) (round : Open
     ready : AllPorts (IsReady f) (ports_now os)
     ready =
         let calm = all-calm now (length left) os round.ports in
-        let is : IsFrame f = frame-queued 0 f (length left) (ports_now os) calm frame-waits in
-        all-ready 0 f (length rest) (ports_now os) is (subst (λ n. AllPorts (IsCalm 0 n) (ports_now os)) (rest-length f left rest others) calm)
+        let framed : IsFrame f = frame-queued 0 f (length left) (ports_now os) calm frame-waits in
+        all-ready 0 f (length rest) (ports_now os) framed (subst (λ n. AllPorts (IsCalm 0 n) (ports_now os)) (rest-length f left rest others) calm)
 
     pub round-sends : OneSends f (ports_now os)
     round-sends =
