@@ -1,18 +1,20 @@
 -- Schedules of offers whose starts are known from the lengths of the frames' wires: 50 levels of `S 000 D 0`, 47 of `S 001 D 0` and 49
 -- of `S 009 D 0`, each with three of intermission.
-use Rattle.std.proofs.Common.{◌≡◌, ℕ, true, false, List, [], ◌∷◌, ◌++◌, map, refl}
+use Rattle.std.proofs.Common.{◌≡◌, ℕ, ◌<◌, true, false, List, [], ◌∷◌, ◌++◌, map, refl, sym, ◌∙◌, ap, inl, inr, arith}
 use Rattle.std.specs.Prelude.{codes}
 use Rattle.std.specs.List.{range_with_len}
 use Rattle.can_frame.specs.declared.level.Level.{Level}
 use Rattle.can_frame.specs.Levels.{bits_of}
-use Rattle.can_frame.specs.Arbitration.{arbitration_field}
+use Rattle.can_frame.specs.Arbitration.{arbitration_field, Before}
+use Rattle.can_frame.proofs.BeforeLemmas.{Before-differs}
 use Rattle.can_frame.specs.Parts.{Parts}
 use Rattle.can_code.specs.Crc.{crc_of}
 use Rattle.can_code.specs.Stuffing.{stuffed}
 use Rattle.can_code.specs.Wire.{head, unstuffed, stuffed_part}
 use Rattle.can_node.specs.Ports.{waiting}
-use Rattle.can_bus.specs.Schedule.{Timed, schedule, track_at}
-use Rattle.can_bus.specs.Waiting.{left_at, starts_between, ahead_of, busy_times}
+use Rattle.can_bus.specs.Schedule.{Timed, StartsAt, schedule, track_at}
+use Rattle.can_bus.specs.Waiting.{left_at, starts_between, ahead_of, busy_times, FindsFree}
+use Rattle.can_bus.proofs.Members.{stands-none, stands-cases}
 use Rattle.can_bus.proofs.RepairRows.{levels_of, frame_000, frame_001, frame_123, wire_000, wire_001, ones}
 
 -- `S 009 D 0`, and it on the wire
@@ -92,6 +94,26 @@ resting = refl
 resting-levels : levels spaced 150 ≡ ones 3 ++ (wire_000 ++ (ones 47 ++ (wire_001 ++ ones 3)))
 unfolding track_at stuffed_part unstuffed stuffed crc_of head arbitration_field bits_of
 resting-levels = refl
+
+-- the second finds the bus free, so it starts at once
+found-free : left_at 100 spaced ≡ 0
+unfolding stuffed_part unstuffed stuffed crc_of head arbitration_field bits_of
+found-free = refl
+
+found-started : (x start : Timed) → StartsAt spaced spaced x start → Before (arbitration_field x.frame) (arbitration_field frame_001) → start.time < 100
+found-started x start starts before =
+    elim (stands-cases (at 3 frame_000) (at 100 frame_001 ∷ []) start starts.is_start) [
+      | inl first ↦ let begun : 3 ≡ start.time = ap (λ (s : Timed). s.time) first in omega arith
+      | inr later ↦ elim (stands-cases (at 100 frame_001) [] start later) [
+        | inl second ↦
+            let same : x.frame ≡ frame_001 = sym starts.same ∙ sym (ap (λ (s : Timed). s.frame) second) in
+            absurd (Before-differs (arbitration_field x.frame) (arbitration_field frame_001) before (ap arbitration_field same))
+        | inr none ↦ absurd (stands-none start none)
+      ]
+    ]
+
+found : FindsFree spaced spaced (at 100 frame_001)
+found = record { free = found-free; started = λ x start starts early before. found-started x start starts before }
 
 -- ---- offered at once
 
