@@ -18,17 +18,17 @@ module _ (t : ℕ) (start : Timed) (starts : List Timed) where
   abbrev lasting : Bool
   lasting = nat_lt start.time t && nat_lt t (start.time + busy_time start.frame)
 
-  abbrev over_in : ℕ
+  abbrev pub over_in : ℕ
   over_in = start.time + busy_time start.frame - t
 
-  left-during : start.time < t → t < start.time + busy_time start.frame → left_at t (start ∷ starts) ≡ over_in
+  pub left-during : start.time < t → t < start.time + busy_time start.frame → left_at t (start ∷ starts) ≡ over_in
   left-during begun lasts =
       cond-true lasting over_in (left_at t starts) (ap (λ b. b && nat_lt t (start.time + busy_time start.frame)) (lt-ltb start.time t begun) ∙ lt-ltb t (start.time + busy_time start.frame) lasts)
 
-  left-before : t ≤ start.time → left_at t (start ∷ starts) ≡ left_at t starts
+  pub left-before : t ≤ start.time → left_at t (start ∷ starts) ≡ left_at t starts
   left-before early = cond-false lasting over_in (left_at t starts) (ap (λ b. b && nat_lt t (start.time + busy_time start.frame)) (le-ltb start.time t early))
 
-  left-behind : start.time < t → start.time + busy_time start.frame ≤ t → left_at t (start ∷ starts) ≡ left_at t starts
+  pub left-behind : start.time < t → start.time + busy_time start.frame ≤ t → left_at t (start ∷ starts) ≡ left_at t starts
   left-behind begun past =
       cond-false lasting over_in (left_at t starts)
       (ap (λ b. b && nat_lt t (start.time + busy_time start.frame)) (lt-ltb start.time t begun) ∙ le-ltb t (start.time + busy_time start.frame) past)
@@ -72,13 +72,13 @@ between-none from until (start ∷ starts) late =
 module _ (free : ℕ) (left rest : List Timed) (start : Timed) (starts : List Timed) (is : IsNextStart free left start) (others : AreOthers start.frame left rest)
     (more : IsSchedule (start.time + busy_time start.frame) rest starts) (apart : AreApart left) (x s : Timed) (listed : Lists left x) (same : s.frame ≡ x.frame) where
   -- an offer whose frame starts later is not the next to start
-  still-left : Lists starts s → Lists rest x
+  pub still-left : Lists starts s → Lists rest x
   still-left there =
       let back = starts-offered more s there in
       let one : back.offer ≡ x = apart-one left apart back.offer x (rest-left start.frame left rest others back.offer back.is_offer) listed (ap arbitration_field (back.same ∙ same)) in
       subst (Lists rest) one back.is_offer
 
-  goes-behind : Lists starts s → x.time ≤ start.time → Before (arbitration_field start.frame) (arbitration_field x.frame)
+  pub goes-behind : Lists starts s → x.time ≤ start.time → Before (arbitration_field start.frame) (arbitration_field x.frame)
   goes-behind there early =
       elim (is.first x listed early) [
         | inl e ↦ absurd (rest-other start.frame left rest others apart x (still-left there) (ap arbitration_field (sym e)))
@@ -86,7 +86,7 @@ module _ (free : ℕ) (left rest : List Timed) (start : Timed) (starts : List Ti
       ]
 
   -- the frame that starts next was offered by then
-  next-late : start ≡ s → x.time ≤ start.time
+  pub next-late : start ≡ s → x.time ≤ start.time
   next-late e =
       let offer : Timed = record { time = is.offered; frame = start.frame } in
       let one : offer ≡ x = apart-one left apart offer x is.left_over listed (ap arbitration_field (ap (λ (z : Timed). z.frame) e ∙ same)) in
