@@ -1,6 +1,5 @@
 -- The order of hits.
-use Rattle.std.specs.List.{slice_get}
-use Rattle.std.proofs.Common.{◌≡◌, ℕ, true, false, List, Some, refl, arith}
+use Rattle.std.proofs.Common.{◌≡◌, ℕ, true, false, List, refl, arith}
 use Rattle.std.proofs.lemmas.Bool.Decides.{nat_tests}
 use Rattle.can_bus.specs.declared.hit.Hit.{Hit}
 use Rattle.can_bus.specs.declared.hit.Hit.TheVariants.{At, In, View}

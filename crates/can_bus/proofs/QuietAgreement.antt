@@ -1,16 +1,14 @@
 -- Two quiet buses with the same frames have the same levels, and in the end the same frames in all logs.
 use Rattle.std.specs.Prelude.{slice_get, All}
 use Rattle.std.specs.List.Sorted.{IsPermutation}
-use Rattle.std.proofs.Common.{◌≡◌, ℕ, zero, suc, ◌+◌, ◌≤◌, ◌<◌, Some, List, [], ◌∷◌, length, map, get_or, refl, sym, ◌∙◌, ap, arith}
+use Rattle.std.proofs.Common.{◌≡◌, ℕ, ◌+◌, ◌≤◌, ◌<◌, Some, List, [], ◌∷◌, length, map, get_or, refl, sym, ◌∙◌, ap, arith}
 use Rattle.std.proofs.lemmas.List.Elements.{All-tail}
 use Rattle.std.proofs.lemmas.List.Sorted.{sum_by-IsPermutation}
 use Rattle.std.proofs.lemmas.Option.{slice_get_within, slice_get-get_or}
-use Rattle.can_frame.specs.declared.level.Level.{Level}
 use Rattle.can_frame.specs.Parts.{Parts}
 use Rattle.can_code.specs.Wire.{wire}
 use Rattle.can_node.specs.Ports.{PortState, IsPort}
-use Rattle.can_bus.specs.declared.hit.Hit.{Hit}
-use Rattle.can_bus.specs.Run.{BusState, Course, course, all_sampled, recorded, bus_step, bus_after, bus_level, bus_run}
+use Rattle.can_bus.specs.Run.{BusState, bus_level, bus_run}
 use Rattle.can_bus.specs.Quiet.{IsQuietCall, ascending, queued, span, line_at, marked}
 use Rattle.can_bus.specs.Agreement.{IsQuietBus, AreAlike, LogsAgree, frames_logged}
 use Rattle.can_bus.proofs.Ascending.{ascending_there, ascending_permuted}

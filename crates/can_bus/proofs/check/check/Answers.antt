@@ -1,7 +1,6 @@
 use Rattle.std.proofs.Common.{◌≡◌, ◌<◌, true, false, Some, length, slice_get, rules, arith, refl, sym, ◌∙◌}
 use Rattle.std.proofs.lemmas.Option.{slice_get_read, slice_get_within}
 use Rattle.can_bus.specs.declared.fault.BusFault.TheVariants.{NotRising, NoSuchPort}
-use Rattle.can_bus.specs.Inputs.{IsFirstWrong}
 use Rattle.can_bus.proofs.CheckLemmas.{first_wrong, wrong_unsound, sound_more}
 use Rattle.can_bus.proofs.check.check.Goals as goal
 

@@ -1,12 +1,11 @@
 use Rattle.std.specs.Prelude.{if◌then◌else◌, nat_lt}
-use Rattle.std.proofs.Common.{◌≡◌, ◌≢◌, ◌<◌, ◌≤◌, ◌+◌, ℕ, true, false, Some, length, map, drop, slice_get, refl, sym, subst, ap, arith, rules, ◌∙◌}
+use Rattle.std.proofs.Common.{◌≡◌, ◌<◌, ◌≤◌, ◌+◌, true, false, Some, length, map, drop, slice_get, refl, sym, subst, ap, arith, rules, ◌∙◌}
 use Rattle.std.proofs.lemmas.Bool.Decides.{nat_tests}
 use Rattle.std.proofs.lemmas.List.{length-map}
 use Rattle.std.proofs.lemmas.Option.{slice_get_read, slice_get_within, get_or_from_slice_get}
 use Rattle.can_bus.specs.declared.bus.play.Progress.{Progress}
 use Rattle.can_bus.specs.declared.offer.Offer.{Offer}
 use Rattle.can_bus.specs.Offers.{all_made, is_full, made, refused_at}
-use Rattle.can_bus.specs.Walks.{IsReached}
 use Rattle.can_bus.proofs.OfferLemmas.{IsWithin, within-first, within-more, within-last, front_none, next_made, rest_none, length-made, one_refused, none_refused, one_at_most}
 use Rattle.can_bus.proofs.bus.Bus.make_all.Goals as goal
 use Rattle.can_bus.proofs.bus.Bus.make_all.Goals.{then-not-make, else-not-make}
