@@ -35,7 +35,7 @@ pub queue-now : (now entries : ℕ) (o : OpenPort) → IsOpenPort now entries o 
 queue-now now entries o is =
     sym (append-nil o.machine.port.queue) ∙ is.queue 0 ∙ ap (λ t. offered_by t o.own) (let e : now + 0 ≡ now = omega arith in e)
 
-frames-offered : (t : ℕ) (own : List Timed) → AreFrames (frames_of own) → AreFrames (offered_by t own)
+pub frames-offered : (t : ℕ) (own : List Timed) → AreFrames (frames_of own) → AreFrames (offered_by t own)
 frames-offered t [] are = tt
 frames-offered t (x ∷ own) are = elim (cases_lt t x.time) [
   | inl late ↦ subst AreFrames (sym (by-late x own t late)) (frames-offered t own are.1)
@@ -57,7 +57,7 @@ queue-later now n arrives queue own is m =
     append_assoc queue (arrived arrives n) (arrived (later_by n arrives) m) ∙ ap (λ fs. queue ++ fs) (sym (arrived-more n m arrives)) ∙ is (n + m)
     ∙ ap (λ t. offered_by t own) (let e : now + (n + m) ≡ (now + n) + m = omega arith in e)
 
-calm-gains : (entries : ℕ) (p : PortState) (more : List Parts) → IsCalm 0 entries p → AreFrames (p.queue ++ more) → IsCalm 0 entries (gains more p)
+pub calm-gains : (entries : ℕ) (p : PortState) (more : List Parts) → IsCalm 0 entries p → AreFrames (p.queue ++ more) → IsCalm 0 entries (gains more p)
 calm-gains entries p more calm frames = record { idle = calm.idle; within = calm.within; unasked = calm.unasked; frames = frames; room = calm.room }
 
 -- ---- one bit time at rest

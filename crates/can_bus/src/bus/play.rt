@@ -1,6 +1,11 @@
 //! A run of a bus to whose ports frames are offered meanwhile.
-ghost use Rattle.std.specs.Prelude.{ℕ, ◌≡◌, ◌+◌, ◌<◌, ◌≤◌, ◌↔◌, not, length, map, slice_get, Some, IsOk, OnOk, OnErr, IfErr, IfOk};
+ghost use Rattle.std.specs.Prelude.{ℕ, List, ◌≡◌, ◌+◌, ◌<◌, ◌≤◌, ◌↔◌, not, length, map, slice_get, Ok, Some, IsOk, OnOk, OnErr, IfErr, IfOk};
+ghost use Rattle.can_frame.specs.Parts.{IsFrame};
+ghost use Rattle.can_bus.specs.declared.offer.Offer.{Offer as Offered};
 ghost use Rattle.can_bus.specs.Offers.{AreOffered, IsFirstFault, all_made, is_full, made, played, played_level, refused, refused_at};
+ghost use Rattle.can_bus.specs.OpenBus.{AreOver, AtEachNode, IsOpenCall, OpenLogBegins, OpenLogWhole};
+ghost use Rattle.can_bus.specs.Quiet.{AtEachPort, CountsNothing, MissesNothing};
+ghost use Rattle.can_bus.specs.Schedule.{Timed, track_at};
 ghost use Rattle.can_bus.specs.State.{state_of};
 ghost use Rattle.can_bus.specs.Walks.{IsReached};
 
@@ -57,6 +62,13 @@ impl<P: Port> Bus<P> {
     /// No offer may be earlier than the one before it, and each must name a port that there is: else the
     /// first that doesn't is told, its order before its port, nothing has run, and `rec` and all ports
     /// are as they were. It takes no memory, and goes through the offers once.
+    ///
+    /// On a bus of two ports or more that are idle, have counted no error and ask for no overload frame,
+    /// with room in each queue for all that its port is offered and in each empty log for all frames, no
+    /// two of which have one arbitration field: each frame starts when the schedule says, and the recorded
+    /// levels are those of its track. Each log names the frames in the order of their starts, as sent at the
+    /// port that had the frame, and as received at each other port; behind the last level of the last
+    /// frame it names them all. No offer is given back, no counter moves, and no entry is missed.
     pub fn play(&mut self, offers: &[Offer], rec: &mut [Level]) -> Result<usize, BusFault>
         ensures taken { IsOk result ↔ AreOffered (length self.old.ports.items) offers.now }
         ensures fault { IfErr result (λ fault. IsFirstFault (length self.old.ports.items) offers.now fault) }
@@ -64,10 +76,22 @@ impl<P: Port> Bus<P> {
         ensures levels { OnOk result ((t : ℕ) → t < length rec.new →
             slice_get rec.new t ≡ Some (played_level offers.now t (state_of P.port self.old))) }
         ensures count { IfOk result (λ count. count ≡ refused offers.now (length rec.new) (state_of P.port self.old)) }
+        ensures answer { (starts : List Timed) → IsOpenCall offers.now (map P.port self.old.ports.items) starts → result ≡ Ok 0 }
+        ensures track { (starts : List Timed) → IsOpenCall offers.now (map P.port self.old.ports.items) starts → (t : ℕ) → t < length rec.new →
+            slice_get rec.new t ≡ Some (track_at starts t) }
+        ensures open_logs { (starts : List Timed) → IsOpenCall offers.now (map P.port self.old.ports.items) starts →
+            AtEachNode (OpenLogBegins offers.now starts) (map P.port self.old.ports.items) (map P.port self.new.ports.items) }
+        ensures open_whole { (starts : List Timed) → IsOpenCall offers.now (map P.port self.old.ports.items) starts → AreOver starts (length rec.new) →
+            AtEachNode (OpenLogWhole offers.now starts) (map P.port self.old.ports.items) (map P.port self.new.ports.items) }
+        ensures open_counters { (starts : List Timed) → IsOpenCall offers.now (map P.port self.old.ports.items) starts →
+            AtEachPort CountsNothing (map P.port self.old.ports.items) (map P.port self.new.ports.items) }
+        ensures open_missed { (starts : List Timed) → IsOpenCall offers.now (map P.port self.old.ports.items) starts →
+            AtEachPort MissesNothing (map P.port self.old.ports.items) (map P.port self.new.ports.items) }
         ensures unchanged { OnErr result (self.new ≡ self.old) }
         ensures unrecorded { OnErr result (rec.new ≡ rec.old) }
     {
         check(offers, self.ports.len())?;
+        read_frames(offers);
         let mut call = Call::new();
         let mut progress = Progress {
             place: 0,
@@ -78,5 +102,14 @@ impl<P: Port> Bus<P> {
             *slot = self.step(&[], &mut call);
         }
         Ok(progress.refused)
+    }
+}
+
+/// Reads the frame of each offer: who reads a frame's bytes knows that it is a frame.
+fn read_frames(offers: &[Offer])
+    ensures { (n : ℕ) (offer : Offered) → slice_get offers.now n ≡ Some offer → IsFrame offer.frame }
+{
+    for offer in offers {
+        let _ = offer.frame.bytes();
     }
 }

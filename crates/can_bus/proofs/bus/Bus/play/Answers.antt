@@ -1,13 +1,20 @@
-use Rattle.std.proofs.Common.{◌≡◌, ◌+◌, true, false, [], Some, length, map, arith, rules, refl, sym, ap, subst, ◌∙◌}
+use Rattle.std.specs.Prelude.{◌↔◌, Ok}
+use Rattle.std.proofs.Common.{ℕ, List, ◌≡◌, ◌+◌, true, false, [], Some, length, map, arith, rules, refl, sym, ap, subst, ◌∙◌}
 use Rattle.std.proofs.lemmas.List.{length-map}
 use Rattle.std.proofs.lemmas.Option.{slice_get-get_or}
 use Rattle.can_frame.specs.declared.level.Level.TheVariants.{Recessive}
+use Rattle.can_node.specs.Ports.{PortState}
 use Rattle.can_bus.specs.declared.call.Call.{Call}
-use Rattle.can_bus.specs.Offers.{AreOffered, all_made, refused_at}
+use Rattle.can_bus.specs.declared.offer.Offer.{Offer}
+use Rattle.can_bus.specs.Offers.{AreOffered, all_made, played, refused_at}
+use Rattle.can_bus.specs.OpenBus.{IsOpenCall}
+use Rattle.can_bus.specs.Schedule.{Timed}
 use Rattle.can_bus.specs.Run.{BusState, Course}
 use Rattle.can_bus.specs.State.{state_of}
 use Rattle.can_bus.specs.Walks.{IsCall, IsReached}
 use Rattle.can_bus.proofs.OfferLemmas.{ready, reached-first, played-none, refused-none, played-more, played_level-more, refused-more, length-all_made}
+use Rattle.can_bus.proofs.OpenCalls.{not-open, open-counters, open-logs, open-missed, open-refused, open-track, open-whole}
+use Rattle.can_bus.proofs.QuietStart.{valid-ports}
 use Rattle.can_bus.proofs.RunLemmas.{length-step}
 use Rattle.can_bus.proofs.StepLemmas.{first_ready}
 use Rattle.can_bus.proofs.bus.Bus.play.Goals as goal
@@ -67,3 +74,76 @@ loop-slot-preserved g c =
 pub returns-clause-levels : goal.returns-clause-levels
 returns-clause-levels g c = λ t h.
     slice_get-get_or c.loop-slot.rec t Recessive h ∙ ap Some (c.loop-slot.invariant.levels t Recessive (omega arith))
+
+-- ---- a bus that follows the schedule
+
+-- offers that are refused meet no premises
+shut : {X : Type 0} (state : X → PortState) (xs : List X) (size : ℕ) (offers : List Offer) → size ≡ length xs → ((false ≡ true) ↔ AreOffered size offers) →
+    (starts : List Timed) → IsOpenCall offers (map state xs) starts → ⊥
+shut state xs size offers same taken starts call = not-open state xs size offers starts same (λ offered. let e : false ≡ true = taken.1 offered in cc) call
+
+pub returns-in_err-check-clause-answer : goal.returns-in_err-check-clause-answer
+returns-in_err-check-clause-answer g c = λ starts call.
+    let size : c.len.result ≡ length c.args.self.now.ports.items = search rules in
+    absurd (shut g.P.Port.port c.args.self.now.ports.items c.len.result c.args.offers.now size c.in_err-check.ensures.taken starts call)
+
+pub returns-in_err-check-clause-track : goal.returns-in_err-check-clause-track
+returns-in_err-check-clause-track g c = λ starts call t within.
+    let size : c.len.result ≡ length c.args.self.now.ports.items = search rules in
+    absurd (shut g.P.Port.port c.args.self.now.ports.items c.len.result c.args.offers.now size c.in_err-check.ensures.taken starts call)
+
+pub returns-in_err-check-clause-open_logs : goal.returns-in_err-check-clause-open_logs
+returns-in_err-check-clause-open_logs g c = λ starts call.
+    let size : c.len.result ≡ length c.args.self.now.ports.items = search rules in
+    absurd (shut g.P.Port.port c.args.self.now.ports.items c.len.result c.args.offers.now size c.in_err-check.ensures.taken starts call)
+
+pub returns-in_err-check-clause-open_whole : goal.returns-in_err-check-clause-open_whole
+returns-in_err-check-clause-open_whole g c = λ starts call past.
+    let size : c.len.result ≡ length c.args.self.now.ports.items = search rules in
+    absurd (shut g.P.Port.port c.args.self.now.ports.items c.len.result c.args.offers.now size c.in_err-check.ensures.taken starts call)
+
+pub returns-in_err-check-clause-open_counters : goal.returns-in_err-check-clause-open_counters
+returns-in_err-check-clause-open_counters g c = λ starts call.
+    let size : c.len.result ≡ length c.args.self.now.ports.items = search rules in
+    absurd (shut g.P.Port.port c.args.self.now.ports.items c.len.result c.args.offers.now size c.in_err-check.ensures.taken starts call)
+
+pub returns-in_err-check-clause-open_missed : goal.returns-in_err-check-clause-open_missed
+returns-in_err-check-clause-open_missed g c = λ starts call.
+    let size : c.len.result ≡ length c.args.self.now.ports.items = search rules in
+    absurd (shut g.P.Port.port c.args.self.now.ports.items c.len.result c.args.offers.now size c.in_err-check.ensures.taken starts call)
+
+pub returns-clause-bus : goal.returns-clause-bus
+returns-clause-bus g c =
+    let size : c.loop-slot.slot-index ≡ length c.loop-slot.rec = omega arith in
+    c.loop-slot.invariant.bus ∙ ap (λ n. played c.args.offers.now n (state_of g.P.Port.port c.args.self.now)) size
+
+pub returns-clause-answer : goal.returns-clause-answer
+returns-clause-answer g c = λ starts call.
+    ap Ok (c.loop-slot.invariant.count ∙ open-refused c.args.offers.now starts (state_of g.P.Port.port c.args.self.now) (valid-ports g.P.Port.port (λ x. g.met.P.Port.valid x) c.args.self.now.ports.items)
+    c.read_frames.ensures call c.loop-slot.slot-index)
+
+pub returns-clause-track : goal.returns-clause-track
+returns-clause-track g c = λ starts call t within.
+    returns-clause-levels g c t within
+    ∙ ap Some (open-track c.args.offers.now starts (state_of g.P.Port.port c.args.self.now) (valid-ports g.P.Port.port (λ x. g.met.P.Port.valid x) c.args.self.now.ports.items)
+    c.read_frames.ensures call t)
+
+pub returns-clause-open_logs : goal.returns-clause-open_logs
+returns-clause-open_logs g c = λ starts call.
+    open-logs c.args.offers.now starts (state_of g.P.Port.port c.args.self.now) (valid-ports g.P.Port.port (λ x. g.met.P.Port.valid x) c.args.self.now.ports.items)
+    c.read_frames.ensures call _ _ (returns-clause-bus g c)
+
+pub returns-clause-open_whole : goal.returns-clause-open_whole
+returns-clause-open_whole g c = λ starts call past.
+    open-whole c.args.offers.now starts (state_of g.P.Port.port c.args.self.now) (valid-ports g.P.Port.port (λ x. g.met.P.Port.valid x) c.args.self.now.ports.items)
+    c.read_frames.ensures call _ _ (returns-clause-bus g c) past
+
+pub returns-clause-open_counters : goal.returns-clause-open_counters
+returns-clause-open_counters g c = λ starts call.
+    open-counters c.args.offers.now starts (state_of g.P.Port.port c.args.self.now) (valid-ports g.P.Port.port (λ x. g.met.P.Port.valid x) c.args.self.now.ports.items)
+    c.read_frames.ensures call _ _ (returns-clause-bus g c)
+
+pub returns-clause-open_missed : goal.returns-clause-open_missed
+returns-clause-open_missed g c = λ starts call.
+    open-missed c.args.offers.now starts (state_of g.P.Port.port c.args.self.now) (valid-ports g.P.Port.port (λ x. g.met.P.Port.valid x) c.args.self.now.ports.items)
+    c.read_frames.ensures call _ _ (returns-clause-bus g c)
