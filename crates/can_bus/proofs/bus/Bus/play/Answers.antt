@@ -7,7 +7,8 @@ use Rattle.can_bus.specs.Offers.{AreOffered, all_made, refused_at}
 use Rattle.can_bus.specs.Run.{BusState, Course}
 use Rattle.can_bus.specs.State.{state_of}
 use Rattle.can_bus.specs.Walks.{IsCall, IsReached}
-use Rattle.can_bus.proofs.OfferLemmas.{ready, reached-first, played-none, refused-none, played-more, played_level-more, refused-more, length-all_made}
+use Rattle.can_bus.proofs.OfferLemmas.{reached-first, length-all_made}
+use Rattle.can_bus.proofs.PlayLemmas.{ready, played-none, refused-none, played-more, played_level-more, refused-more}
 use Rattle.can_bus.proofs.RunLemmas.{length-step}
 use Rattle.can_bus.proofs.StepLemmas.{first_ready}
 use Rattle.can_bus.proofs.bus.Bus.play.Goals as goal
