@@ -12,8 +12,9 @@ use Rattle.can_bus.specs.Schedule.{Timed}
 use Rattle.can_bus.specs.Run.{BusState, Course}
 use Rattle.can_bus.specs.State.{state_of}
 use Rattle.can_bus.specs.Walks.{IsCall, IsReached}
-use Rattle.can_bus.proofs.OfferLemmas.{ready, reached-first, played-none, refused-none, played-more, played_level-more, refused-more, length-all_made}
+use Rattle.can_bus.proofs.OfferLemmas.{reached-first, length-all_made}
 use Rattle.can_bus.proofs.OpenCalls.{not-open, open-counters, open-logs, open-missed, open-refused, open-track, open-whole}
+use Rattle.can_bus.proofs.PlayLemmas.{ready, played-none, refused-none, played-more, played_level-more, refused-more}
 use Rattle.can_bus.proofs.QuietStart.{valid-ports}
 use Rattle.can_bus.proofs.RunLemmas.{length-step}
 use Rattle.can_bus.proofs.StepLemmas.{first_ready}
