@@ -18,6 +18,25 @@ get-take n k xs x e =
     let here : get_or xs k x ≡ x = sym (get_or-take n xs k x less) ∙ get_or_from_slice_get (take n xs) k x x e in
     (less, slice_get-get_or xs k x (omega arith) ∙ ap Some here)
 
+module _ {A : Type 0} (items : List A) (Holds : ℕ → A → Type 0) where
+  -- what holds of each item before this place, and where it stands
+  abbrev pub HoldsBefore : ℕ → Type 0
+  HoldsBefore place = (n : ℕ) (item : A) → n < place → slice_get items n ≡ Some item → Holds n item
+
+  -- one item more
+  pub holds_more : (place : ℕ) (item : A) → slice_get items place ≡ Some item → HoldsBefore place → Holds place item → HoldsBefore (place + 1)
+  holds_more place item here each this n other less there =
+      elim (cases_order n place) [
+        | inl same ↦
+            let at : slice_get items place ≡ Some other = ap (slice_get items) (sym same) ∙ there in
+            let e : item ≡ other = sym (get_or_from_slice_get items place item item here) ∙ get_or_from_slice_get items place other item at in
+            subst (λ k. Holds k other) (sym same) (subst (λ x. Holds place x) e this)
+        | inr apart ↦ elim apart [
+          | inl below ↦ each n other below there
+          | inr more ↦ absurd (omega arith)
+        ]
+      ]
+
 module _ {A : Type 0} (follows : A → A → Bool) where
   -- where what may stand behind an item may stand behind all before it, each may stand behind all before it
   pub follows-each : ((a b c : A) → follows a b ≡ true → follows b c ≡ true → follows a c ≡ true) → (items : List A) →
@@ -39,7 +58,7 @@ module _ {A : Type 0} (follows : A → A → Bool) where
 module _ {A : Type 0} (follows : A → A → Bool) (names : ℕ → A → Bool) (ports : ℕ) (items : List A) where
   -- the items before this place are sound
   abbrev pub AreSoundBefore : ℕ → Type 0
-  AreSoundBefore place = (n : ℕ) (item : A) → n < place → slice_get items n ≡ Some item → FollowsLast follows items n item × (names ports item ≡ true)
+  AreSoundBefore place = HoldsBefore items (λ n item. FollowsLast follows items n item × (names ports item ≡ true)) place
 
   sound_front : (place : ℕ) → AreSoundBefore place → AreSound follows names ports (take place items)
   sound_front place each n item e =
@@ -61,19 +80,3 @@ module _ {A : Type 0} (follows : A → A → Bool) (names : ℕ → A → Bool) 
       let no : true ≡ false = sym named ∙ none in cc
   wrong_unsound NoPort first sound = first.wrong
   wrong_unsound TooManyPorts first sound = first.wrong
-
-  -- one item more
-  pub sound_more : (place : ℕ) (item : A) → slice_get items place ≡ Some item → AreSoundBefore place → FollowsLast follows items place item → names ports item ≡ true →
-      AreSoundBefore (place + 1)
-  sound_more place item here each behind named n other less there =
-      elim (cases_order n place) [
-        | inl same ↦
-            let e : item ≡ other = sym (get_or_from_slice_get items place item item here) ∙ get_or_from_slice_get items place other item (ap (slice_get items) (sym same) ∙ there) in (
-              λ m last next at. subst (λ h. follows h last ≡ true) e (behind m last (next ∙ same) at),
-              subst (λ h. names ports h ≡ true) e named,
-            )
-        | inr apart ↦ elim apart [
-          | inl below ↦ each n other below there
-          | inr more ↦ absurd (omega arith)
-        ]
-      ]

@@ -1,4 +1,5 @@
-ghost use Rattle.std.specs.Prelude.{ℕ, Bool, ◌≡◌, ◌↔◌, ◌<◌, IsOk, IsTrue, IfErr, Some, length, slice_get};
+ghost use Rattle.std.specs.Prelude.{ℕ, Bool, ⊤, ◌≡◌, ◌↔◌, ◌<◌, IsOk, IsTrue, IfErr, Some, length, slice_get};
+ghost use Rattle.can_frame.specs.Parts.{IsFrame};
 ghost use Rattle.can_bus.specs.Hits.{is_above, names_port as names_hit_port};
 ghost use Rattle.can_bus.specs.Inputs.{AreSound, FollowsLast, IsFirstWrong};
 ghost use Rattle.can_bus.specs.Offers.{is_no_earlier, names_port as names_offer_port};
@@ -12,6 +13,9 @@ pub(crate) trait Input: Copy {
     /// Which may stand behind which.
     ghost follows: { Self → Self → Bool };
 
+    /// What is known of each.
+    ghost IsKnown: { Self → Type 0 };
+
     /// Of so many ports it names one, if it names any.
     ghost names: { ℕ → Self → Bool };
 
@@ -21,11 +25,14 @@ pub(crate) trait Input: Copy {
 
     /// Of so many ports it names one, if it names any.
     fn names_port(self, ports: usize) -> bool
-        ensures { result ≡ names ports self };
+        ensures answer { result ≡ names ports self }
+        ensures known { IsKnown self };
 }
 
 impl Input for Hit {
     ghost follows = { is_above };
+
+    ghost IsKnown = { λ hit. ⊤ };
 
     ghost names = { names_hit_port };
 
@@ -44,6 +51,8 @@ impl Input for Hit {
 impl Input for Offer {
     ghost follows = { is_no_earlier };
 
+    ghost IsKnown = { λ offer. IsFrame offer.frame };
+
     ghost names = { names_offer_port };
 
     fn may_follow(self, last: Offer) -> bool {
@@ -51,6 +60,8 @@ impl Input for Offer {
     }
 
     fn names_port(self, ports: usize) -> bool {
+        // who reads a frame's bytes knows that it is a frame
+        let _bytes = self.frame.bytes();
         self.node < ports
     }
 }
@@ -67,6 +78,7 @@ fn follows_last<I: Input>(inputs: &[I], place: usize) -> bool
 pub(crate) fn check<I: Input>(inputs: &[I], ports: usize) -> Result<(), BusFault>
     ensures taken { IsOk result ↔ AreSound I.follows I.names ports inputs.now }
     ensures fault { IfErr result (λ fault. IsFirstWrong I.follows I.names ports inputs.now fault) }
+    ensures known { IsOk result → (n : ℕ) (input : I) → slice_get inputs.now n ≡ Some input → I.IsKnown input }
 {
     for (place, input) in inputs.iter().enumerate() {
         if !follows_last(inputs, place) {

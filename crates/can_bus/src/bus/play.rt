@@ -91,7 +91,6 @@ impl<P: Port> Bus<P> {
         ensures unrecorded { OnErr result (rec.new ≡ rec.old) }
     {
         check(offers, self.ports.len())?;
-        read_frames(offers);
         let mut call = Call::new();
         let mut progress = Progress {
             place: 0,
@@ -102,14 +101,5 @@ impl<P: Port> Bus<P> {
             *slot = self.step(&[], &mut call);
         }
         Ok(progress.refused)
-    }
-}
-
-/// Reads the frame of each offer: who reads a frame's bytes knows that it is a frame.
-fn read_frames(offers: &[Offer])
-    ensures { (n : ℕ) (offer : Offered) → slice_get offers.now n ≡ Some offer → IsFrame offer.frame }
-{
-    for offer in offers {
-        let _ = offer.frame.bytes();
     }
 }

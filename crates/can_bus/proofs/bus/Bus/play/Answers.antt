@@ -121,30 +121,30 @@ returns-clause-bus g c =
 pub returns-clause-answer : goal.returns-clause-answer
 returns-clause-answer g c = λ starts call.
     ap Ok (c.loop-slot.invariant.count ∙ open-refused c.args.offers.now starts (state_of g.P.Port.port c.args.self.now) (valid-ports g.P.Port.port (λ x. g.met.P.Port.valid x) c.args.self.now.ports.items)
-    c.read_frames.ensures call c.loop-slot.slot-index)
+    (c.in_ok-check.ensures.known (refl {a = true})) call c.loop-slot.slot-index)
 
 pub returns-clause-track : goal.returns-clause-track
 returns-clause-track g c = λ starts call t within.
     returns-clause-levels g c t within
     ∙ ap Some (open-track c.args.offers.now starts (state_of g.P.Port.port c.args.self.now) (valid-ports g.P.Port.port (λ x. g.met.P.Port.valid x) c.args.self.now.ports.items)
-    c.read_frames.ensures call t)
+    (c.in_ok-check.ensures.known (refl {a = true})) call t)
 
 pub returns-clause-open_logs : goal.returns-clause-open_logs
 returns-clause-open_logs g c = λ starts call.
     open-logs c.args.offers.now starts (state_of g.P.Port.port c.args.self.now) (valid-ports g.P.Port.port (λ x. g.met.P.Port.valid x) c.args.self.now.ports.items)
-    c.read_frames.ensures call _ _ (returns-clause-bus g c)
+    (c.in_ok-check.ensures.known (refl {a = true})) call _ _ (returns-clause-bus g c)
 
 pub returns-clause-open_whole : goal.returns-clause-open_whole
 returns-clause-open_whole g c = λ starts call past.
     open-whole c.args.offers.now starts (state_of g.P.Port.port c.args.self.now) (valid-ports g.P.Port.port (λ x. g.met.P.Port.valid x) c.args.self.now.ports.items)
-    c.read_frames.ensures call _ _ (returns-clause-bus g c) past
+    (c.in_ok-check.ensures.known (refl {a = true})) call _ _ (returns-clause-bus g c) past
 
 pub returns-clause-open_counters : goal.returns-clause-open_counters
 returns-clause-open_counters g c = λ starts call.
     open-counters c.args.offers.now starts (state_of g.P.Port.port c.args.self.now) (valid-ports g.P.Port.port (λ x. g.met.P.Port.valid x) c.args.self.now.ports.items)
-    c.read_frames.ensures call _ _ (returns-clause-bus g c)
+    (c.in_ok-check.ensures.known (refl {a = true})) call _ _ (returns-clause-bus g c)
 
 pub returns-clause-open_missed : goal.returns-clause-open_missed
 returns-clause-open_missed g c = λ starts call.
     open-missed c.args.offers.now starts (state_of g.P.Port.port c.args.self.now) (valid-ports g.P.Port.port (λ x. g.met.P.Port.valid x) c.args.self.now.ports.items)
-    c.read_frames.ensures call _ _ (returns-clause-bus g c)
+    (c.in_ok-check.ensures.known (refl {a = true})) call _ _ (returns-clause-bus g c)
