@@ -121,7 +121,7 @@ module _ (offer : Offer) (offers : List Offer) (t : ℕ) (ports : List PortState
 abbrev AreOther : List Offer → ℕ → Type 0
 AreOther offers t = (n : ℕ) (offer : Offer) → slice_get offers n ≡ Some offer → offer.time ≢ t
 
-none_made : (offers : List Offer) (t : ℕ) (ports : List PortState) → AreOther offers t → (all_made offers t ports ≡ ports) × (refused_at offers t ports ≡ 0)
+pub none_made : (offers : List Offer) (t : ℕ) (ports : List PortState) → AreOther offers t → (all_made offers t ports ≡ ports) × (refused_at offers t ports ≡ 0)
 none_made [] t ports none = (refl, refl)
 none_made (offer ∷ offers) t ports none =
     let rest = none_made offers t ports (λ n later at. none (suc n) later at) in

@@ -9,7 +9,7 @@ use Rattle.can_node.specs.Ports.{PortState, IsPort}
 use Rattle.can_node.proofs.Arrivals.{GainingPort, gaining, gains, arrived}
 use Rattle.can_node.proofs.FramesWaiting.{AreFrames, AreFrames-from}
 use Rattle.can_bus.specs.declared.offer.Offer.{Offer}
-use Rattle.can_bus.specs.OpenBus.{IsOpenCall, all_offers, offered_first, offered_to, own_offers}
+use Rattle.can_bus.specs.OpenBus.{HaveRooms, IsOpenCall, all_offers, offered_first, offered_to, own_offers, timed}
 use Rattle.can_bus.specs.Offers.{all_made, played}
 use Rattle.can_bus.specs.Quiet.{IsQuietPort}
 use Rattle.can_bus.specs.Run.{BusState}
@@ -22,7 +22,7 @@ use Rattle.can_bus.proofs.OfferTimes.{AreInOrder, at-first, length-offered_by, o
 use Rattle.can_bus.proofs.OpenBus.{wire_with}
 use Rattle.can_bus.proofs.OpenPorts.{OpenPort, IsOpenPort, calm-gains, frames-offered}
 use Rattle.can_bus.proofs.OpenRounds.{OpenRound, held, machines_of}
-use Rattle.can_bus.proofs.PlayedRuns.{AreRoomy, HaveRoom, IsOpen, all-taken, all_offered, arriving, open_bus, open_ports, timed, to-here, to-other}
+use Rattle.can_bus.proofs.PlayedRuns.{AreRoomy, HaveRoom, IsOpen, all-taken, all_offered, arriving, open_bus, open_ports, to-here, to-other}
 use Rattle.can_bus.proofs.QuietStart.{calm-port}
 use Rattle.can_bus.proofs.WireRuns.{Wire}
 
@@ -74,6 +74,10 @@ room-start offers node (p ∷ ports) each =
       (omega (arith, each.0, both, waits, now, length-offered_by 0 own), rest.0),
       (omega (arith, each.0, both, waits, now, length-append p.queue (arriving offers node 0)), rest.1),
     )
+
+pub rooms : (offers : List Offer) (ports : List PortState) → HaveRooms offers ports → HaveRoom offers 0 0 ports × AreRoomy offers 0 0 (all_offered offers 0 0 ports)
+rooms offers ports room =
+    room-start offers 0 ports (each-from (HasRoom offers) 0 ports (λ n p at. subst (λ k. HasRoom offers k p) (let e : n ≡ 0 + n = omega arith in e) (room n p at)))
 
 -- ---- the offers to a port
 
@@ -166,8 +170,7 @@ module _ (offers : List Offer) (starts : List Timed) (bus : BusState) (valid : A
   pub call-wire : IsOpen offers 0 bus (wire_with os bus.rest)
   unfolding played
   call-wire =
-      let room = room-start offers 0 bus.ports
-          (each-from (HasRoom offers) 0 bus.ports (λ n p at. subst (λ k. HasRoom offers k p) (let e : n ≡ 0 + n = omega arith in e) (call.room n p at))) in
+      let room = rooms offers bus.ports call.room in
       let made : all_made offers 0 bus.ports ≡ all_offered offers 0 0 bus.ports = all-taken offers 0 bus.ports room.0 in
       record {
         wire =
