@@ -182,6 +182,13 @@ differ_swap frames i j a b differ m n d c e apart same =
 differ_permuted : (a b : List Parts) → IsPermutation a b → Differ a → Differ b
 differ_permuted a b moved differ = IsPermutation-keeps a Differ differ differ_swap b moved
 
+pub different_permuted : (a b : List Parts) → IsPermutation a b → AreDifferent a → AreDifferent b
+different_permuted a b moved different m n f g less at to same =
+    let first : get_or b m f ≡ f = get_or_from_slice_get b m f f at in
+    let second : get_or b n f ≡ g = get_or_from_slice_get b n g f to in
+    differ_permuted a b moved (AreDifferent-Differ a different) m n f (slice_get_within b m f at) (slice_get_within b n g to) (λ e. omega (arith, e, less))
+    (ap arbitration_field first ∙ same ∙ sym (ap arbitration_field second))
+
 -- ---- the ascending list
 
 ascending_all : (frames : List Parts) → IsPermutation frames (ascending frames)

@@ -24,9 +24,9 @@ Distinct [] = Unit {0}
 Distinct (f ∷ frames) = ((x : Parts) → Has x frames → Other f x) × Distinct frames
 
 -- it holds of each port
-abbrev pub AllPorts : (PortState → Type 0) → List PortState → Type 0
-AllPorts P [] = Unit {0}
-AllPorts P (p ∷ ports) = P p × AllPorts P ports
+abbrev pub AllPorts : {P : Type 0} → (P → Type 0) → List P → Type 0
+AllPorts holds [] = Unit {0}
+AllPorts holds (p ∷ ports) = holds p × AllPorts holds ports
 
 -- ---- members
 

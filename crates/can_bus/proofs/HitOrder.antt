@@ -1,10 +1,11 @@
 -- The order of hits.
-use Rattle.std.proofs.Common.{◌≡◌, ℕ, true, false, refl, arith}
+use Rattle.std.proofs.Common.{◌≡◌, ℕ, true, false, List, refl, arith}
 use Rattle.std.proofs.lemmas.Bool.Decides.{nat_tests}
 use Rattle.can_bus.specs.declared.hit.Hit.{Hit}
 use Rattle.can_bus.specs.declared.hit.Hit.TheVariants.{At, In, View}
-use Rattle.can_bus.specs.Hits.{is_pair_above, is_above}
-use Rattle.can_bus.specs.Walks.{is_hit}
+use Rattle.can_bus.specs.Hits.{is_pair_above, is_above, AreTaken}
+use Rattle.can_bus.specs.Walks.{is_hit, AreRising}
+use Rattle.can_bus.proofs.CheckLemmas.{follows-each}
 
 pair_transitive : (a b c d e f : ℕ) → is_pair_above a b c d ≡ true → is_pair_above c d e f ≡ true → is_pair_above a b e f ≡ true
 pair_transitive a b c d e f h k = grind (arith, nat_tests)
@@ -39,3 +40,7 @@ above-other (In n o) (View u p) h = refl
 above-other (View t p) (At u) h = refl
 above-other (View t p) (In m r) h = refl
 above-other (View t p) (View u q) h = grind (arith, nat_tests)
+
+-- hits that are taken rise
+pub taken-rising : (ports : ℕ) (hits : List Hit) → AreTaken ports hits → AreRising hits
+taken-rising ports hits taken = follows-each is_above above-transitive hits (λ place hit there. (taken place hit there).0)

@@ -1,41 +1,24 @@
 -- Two quiet buses with the same frames have the same levels, and in the end the same frames in all logs.
 use Rattle.std.specs.Prelude.{slice_get, All}
 use Rattle.std.specs.List.Sorted.{IsPermutation}
-use Rattle.std.proofs.Common.{◌≡◌, ℕ, zero, suc, ◌+◌, ◌≤◌, ◌<◌, Some, List, [], ◌∷◌, length, map, get_or, refl, sym, ◌∙◌, ap, arith}
+use Rattle.std.proofs.Common.{◌≡◌, ℕ, ◌+◌, ◌≤◌, ◌<◌, Some, List, [], ◌∷◌, length, map, get_or, refl, sym, ◌∙◌, ap, arith}
 use Rattle.std.proofs.lemmas.List.Elements.{All-tail}
 use Rattle.std.proofs.lemmas.List.Sorted.{sum_by-IsPermutation}
 use Rattle.std.proofs.lemmas.Option.{slice_get_within, slice_get-get_or}
-use Rattle.can_frame.specs.declared.level.Level.{Level}
 use Rattle.can_frame.specs.Parts.{Parts}
 use Rattle.can_code.specs.Wire.{wire}
 use Rattle.can_node.specs.Ports.{PortState, IsPort}
-use Rattle.can_bus.specs.declared.hit.Hit.{Hit}
-use Rattle.can_bus.specs.Run.{BusState, Course, course, all_sampled, recorded, bus_step, bus_after, bus_level, bus_run}
+use Rattle.can_bus.specs.Run.{BusState, bus_level, bus_run}
 use Rattle.can_bus.specs.Quiet.{IsQuietCall, ascending, queued, span, line_at, marked}
 use Rattle.can_bus.specs.Agreement.{IsQuietBus, AreAlike, LogsAgree, frames_logged}
 use Rattle.can_bus.proofs.Ascending.{ascending_there, ascending_permuted}
 use Rattle.can_bus.proofs.Contests.{AllPorts}
 use Rattle.can_bus.proofs.QuietBus.{call-line, quiet-whole}
+use Rattle.can_bus.proofs.RunLemmas.{length-run}
 
 all-ports : (P : PortState → Type 0) (ports : List PortState) → All P ports → AllPorts P ports
 all-ports P [] all = tt
 all-ports P (p ∷ ports) all = (all 0 p (omega arith), all-ports P ports (All-tail P p ports all))
-
--- ---- a run keeps the number of ports
-
-length-sampled : (hits : List Hit) (time k : ℕ) (x : Level) (ports : List PortState) → length (all_sampled hits time x k ports) ≡ length ports
-length-sampled hits time k x [] = refl
-length-sampled hits time k x (p ∷ ports) = ap suc (length-sampled hits time (k + 1) x ports)
-
-length-after : (hits : List Hit) (n : ℕ) (c : Course) → length (bus_after hits n c).bus.ports ≡ length c.bus.ports
-unfolding bus_after bus_step
-length-after hits zero c = refl
-length-after hits (suc n) c =
-    let d = bus_after hits n c in length-sampled hits d.time 0 (recorded hits d) d.bus.ports ∙ length-after hits n c
-
-pub length-run : (hits : List Hit) (n : ℕ) (bus : BusState) → length (bus_run hits n bus).ports ≡ length bus.ports
-unfolding bus_run
-length-run hits n bus = length-after hits n (course bus)
 
 -- ---- what the frames alone decide
 

@@ -45,7 +45,7 @@ quiet-filled : (entries : ℕ) (plan : PortPlan) → entries ≤ plan.log_room �
 quiet-filled entries plan room =
     subst (IsQuietPort entries) (sym (ready-filled plan)) (record { idle = refl; tec = refl; rec = refl; unasked = refl; empty = refl; room = room })
 
-quiet-each : (entries : ℕ) (plans : List PortPlan) → All (λ plan. entries ≤ plan.log_room) plans → (n : ℕ) (p : PortState) → slice_get (map ready_port plans) n ≡ Some p → IsQuietPort entries p
+pub quiet-each : (entries : ℕ) (plans : List PortPlan) → All (λ plan. entries ≤ plan.log_room) plans → (n : ℕ) (p : PortState) → slice_get (map ready_port plans) n ≡ Some p → IsQuietPort entries p
 quiet-each entries [] room n p there = absurd (let h : None ≡ Some p = there in cc)
 quiet-each entries (plan ∷ plans) room zero p there =
     let is : ready_port plan ≡ p = (let h : Some (ready_port plan) ≡ Some p = there in cc) in

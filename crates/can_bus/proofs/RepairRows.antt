@@ -15,31 +15,31 @@ use Rattle.can_bus.specs.declared.hit.Hit.TheVariants.{In}
 use Rattle.can_bus.specs.RepairedLine.{lateness, first_attempts}
 
 -- the levels of a text of `0` and `1`
-abbrev levels_of : List ℕ → List Level
+abbrev pub levels_of : List ℕ → List Level
 levels_of text = map (λ c. level_of (c - 48)) text
 
 -- `S 000 D 0` and `S 001 D 0`
-abbrev frame_000 : Parts
+abbrev pub frame_000 : Parts
 frame_000 = record { id = record { raw = 0; extended = false }; remote = false; dlc = 0; bytes = [] }
 
-abbrev frame_001 : Parts
+abbrev pub frame_001 : Parts
 frame_001 = record { id = record { raw = 1; extended = false }; remote = false; dlc = 0; bytes = [] }
 
 -- `S 123 D 0`
-abbrev frame_123 : Parts
+abbrev pub frame_123 : Parts
 frame_123 = record { id = record { raw = 0x123; extended = false }; remote = false; dlc = 0; bytes = [] }
 
 abbrev zeros : ℕ → List Level
 zeros n = replicate n Dominant
 
-abbrev ones : ℕ → List Level
+abbrev pub ones : ℕ → List Level
 ones n = replicate n Recessive
 
 -- frames on the wire
-abbrev wire_000 : List Level
+abbrev pub wire_000 : List Level
 wire_000 = levels_of (codes "00000100000100000100000100000100000100001011111111")
 
-abbrev wire_001 : List Level
+abbrev pub wire_001 : List Level
 wire_001 = levels_of (codes "00000100000101000001000100010000100111" ++ codes "011111111")
 
 -- How late the receivers are.

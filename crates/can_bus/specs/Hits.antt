@@ -1,9 +1,9 @@
 -- Which disturbances a bus takes: their order, and the ports that they name.
-use Rattle.std.specs.Prelude.{ℕ, ◌≡◌, ◌+◌, nat_lt, ◌==◌, Bool, true, false, ◌&&◌, ◌||◌, List, take, Some, slice_get}
+use Rattle.std.specs.Prelude.{ℕ, nat_lt, ◌==◌, Bool, true, false, ◌&&◌, ◌||◌, List}
 use Rattle.can_bus.specs.declared.hit.Hit.{Hit}
 use Rattle.can_bus.specs.declared.hit.Hit.TheVariants.{At, In, View}
 use Rattle.can_bus.specs.declared.fault.BusFault.{BusFault}
-use Rattle.can_bus.specs.declared.fault.BusFault.TheVariants.{NoPort, TooManyPorts, NotRising, NoSuchPort}
+use Rattle.can_bus.specs.Inputs.{FollowsLast, AreSound, IsFirstWrong}
 
 -- one pair of numbers is above another: the first decides, then the second
 abbrev pub is_pair_above : ℕ → ℕ → ℕ → ℕ → Bool
@@ -30,23 +30,12 @@ names_port ports (View time node) = nat_lt node ports
 
 -- the hit at this place is above the one before it
 abbrev pub IsAboveLast : List Hit → ℕ → Hit → Type 0
-IsAboveLast hits place hit = (n : ℕ) (last : Hit) → n + 1 ≡ place → slice_get hits n ≡ Some last → is_above hit last ≡ true
+IsAboveLast hits place hit = FollowsLast is_above hits place hit
 
 -- the hits stand in strict order, and each names a port that there is, if it names any
 abbrev pub AreTaken : ℕ → List Hit → Type 0
-AreTaken ports hits = (place : ℕ) (hit : Hit) → slice_get hits place ≡ Some hit → IsAboveLast hits place hit × (names_port ports hit ≡ true)
-
--- what is wrong with the hit at this place: its order counts before its port
-abbrev pub HasFault : ℕ → List Hit → ℕ → Hit → BusFault → Type 0
-HasFault ports hits place hit NotRising = IsAboveLast hits place hit → ⊥
-HasFault ports hits place hit NoSuchPort = IsAboveLast hits place hit × (names_port ports hit ≡ false)
-HasFault ports hits place hit NoPort = ⊥
-HasFault ports hits place hit TooManyPorts = ⊥
+AreTaken ports hits = AreSound is_above names_port ports hits
 
 -- the first hit that is refused has this fault
-pub record IsFirstFault (ports : ℕ) (hits : List Hit) (fault : BusFault) : Type 0 where
-  pub place : ℕ
-  pub hit : Hit
-  pub there : slice_get hits place ≡ Some hit
-  pub before : AreTaken ports (take place hits)
-  pub wrong : HasFault ports hits place hit fault
+abbrev pub IsFirstFault : ℕ → List Hit → BusFault → Type 0
+IsFirstFault ports hits fault = IsFirstWrong is_above names_port ports hits fault

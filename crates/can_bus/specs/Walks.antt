@@ -1,8 +1,9 @@
--- Walking along hits in their order.
-use Rattle.std.specs.Prelude.{ℕ, ◌≡◌, ◌+◌, ◌<◌, ◌==◌, Bool, true, false, ◌&&◌, List, Option, Some, None, slice_get}
+-- Walking along hits, and along offers, in their order.
+use Rattle.std.specs.Prelude.{ℕ, ◌≡◌, ◌+◌, ◌<◌, ◌≤◌, ◌==◌, Bool, true, false, ◌&&◌, List, Option, Some, None, slice_get}
 use Rattle.can_bus.specs.declared.hit.Hit.{Hit}
 use Rattle.can_bus.specs.declared.hit.Hit.TheVariants.{At, In, View}
 use Rattle.can_bus.specs.declared.moment.Attempt.{Attempt}
+use Rattle.can_bus.specs.declared.offer.Offer.{Offer}
 use Rattle.can_bus.specs.declared.call.Call.{Call}
 use Rattle.can_bus.specs.declared.cursor.Cursor.{Cursor}
 use Rattle.can_bus.specs.Hits.{is_above}
@@ -54,3 +55,8 @@ first_place = record { place = 0 }
 
 abbrev pub first_call : Call
 first_call = record { time = 0; latest = None; at = first_place; within = first_place; view = first_place }
+
+-- the walk along the offers stands at this time: each before this place is earlier, and no other is
+pub record IsReached (offers : List Offer) (place time : ℕ) : Type 0 where
+  pub passed : (n : ℕ) (offer : Offer) → n < place → slice_get offers n ≡ Some offer → offer.time < time
+  pub ahead : (n : ℕ) (offer : Offer) → place ≤ n → slice_get offers n ≡ Some offer → time ≤ offer.time

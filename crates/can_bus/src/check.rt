@@ -1,39 +1,90 @@
-ghost use Rattle.std.specs.Prelude.{◌≡◌, ◌↔◌, ◌<◌, IsOk, IsTrue, IfErr, IfOk, length};
-ghost use Rattle.can_bus.specs.Hits.{AreTaken, IsAboveLast, IsFirstFault, names_port as names_port_of};
-ghost use Rattle.can_bus.specs.Walks.{AreRising};
+ghost use Rattle.std.specs.Prelude.{ℕ, Bool, ⊤, ◌≡◌, ◌↔◌, ◌<◌, IsOk, IsTrue, IfErr, Some, length, slice_get};
+ghost use Rattle.can_frame.specs.Parts.{IsFrame};
+ghost use Rattle.can_bus.specs.Hits.{is_above, names_port as names_hit_port};
+ghost use Rattle.can_bus.specs.Inputs.{AreSound, FollowsLast, IsFirstWrong};
+ghost use Rattle.can_bus.specs.Offers.{is_no_earlier, names_port as names_offer_port};
 
 use crate::fault::BusFault;
 use crate::hit::Hit;
+use crate::offer::Offer;
 
-/// Of so many ports the hit names one, if it names any.
-fn names_port(ports: usize, hit: Hit) -> bool
-    ensures { result ≡ names_port_of ports hit }
-{
-    match hit {
-        Hit::At(_) | Hit::In { .. } => true,
-        Hit::View { node, .. } => node < ports,
+/// What a call of a bus takes in a list.
+pub(crate) trait Input: Copy {
+    /// Which may stand behind which.
+    ghost follows: { Self → Self → Bool };
+
+    /// What is known of each.
+    ghost IsKnown: { Self → Type 0 };
+
+    /// Of so many ports it names one, if it names any.
+    ghost names: { ℕ → Self → Bool };
+
+    /// Whether it may stand behind this one.
+    fn may_follow(self, last: Self) -> bool
+        ensures { result ≡ follows self last };
+
+    /// Of so many ports it names one, if it names any.
+    fn names_port(self, ports: usize) -> bool
+        ensures answer { result ≡ names ports self }
+        ensures known { IsKnown self };
+}
+
+impl Input for Hit {
+    ghost follows = { is_above };
+
+    ghost IsKnown = { λ hit. ⊤ };
+
+    ghost names = { names_hit_port };
+
+    fn may_follow(self, last: Hit) -> bool {
+        last < self
+    }
+
+    fn names_port(self, ports: usize) -> bool {
+        match self {
+            Hit::At(_) | Hit::In { .. } => true,
+            Hit::View { node, .. } => node < ports,
+        }
     }
 }
 
-/// Whether the hit at this place, which is `hit`, is above the one before it.
-fn is_above_last(hits: &[Hit], place: usize, hit: Hit) -> bool
-    requires { place < length hits.now }
-    ensures { IsTrue result ↔ IsAboveLast hits.now place hit }
-{
-    place == 0 || hits[place - 1] < hit
+impl Input for Offer {
+    ghost follows = { is_no_earlier };
+
+    ghost IsKnown = { λ offer. IsFrame offer.frame };
+
+    ghost names = { names_offer_port };
+
+    fn may_follow(self, last: Offer) -> bool {
+        last.time <= self.time
+    }
+
+    fn names_port(self, ports: usize) -> bool {
+        // who reads a frame's bytes knows that it is a frame
+        let _bytes = self.frame.bytes();
+        self.node < ports
+    }
 }
 
-/// Checks the order of the hits, and that each names one of so many ports, if it names any.
-pub(crate) fn check(hits: &[Hit], ports: usize) -> Result<(), BusFault>
-    ensures taken { IsOk result ↔ AreTaken ports hits.now }
-    ensures rising { IfOk result (λ done. AreRising hits.now) }
-    ensures fault { IfErr result (λ fault. IsFirstFault ports hits.now fault) }
+/// Whether the input at this place may stand behind the one before it.
+fn follows_last<I: Input>(inputs: &[I], place: usize) -> bool
+    requires { place < length inputs.now }
+    ensures { (input : I) → slice_get inputs.now place ≡ Some input → IsTrue result ↔ FollowsLast I.follows inputs.now place input }
 {
-    for (place, hit) in hits.iter().enumerate() {
-        if !is_above_last(hits, place, *hit) {
+    place == 0 || inputs[place].may_follow(inputs[place - 1])
+}
+
+/// Checks the order of the inputs, and that each names one of so many ports, if it names any.
+pub(crate) fn check<I: Input>(inputs: &[I], ports: usize) -> Result<(), BusFault>
+    ensures taken { IsOk result ↔ AreSound I.follows I.names ports inputs.now }
+    ensures fault { IfErr result (λ fault. IsFirstWrong I.follows I.names ports inputs.now fault) }
+    ensures known { IsOk result → (n : ℕ) (input : I) → slice_get inputs.now n ≡ Some input → I.IsKnown input }
+{
+    for (place, input) in inputs.iter().enumerate() {
+        if !follows_last(inputs, place) {
             return Err(BusFault::NotRising);
         }
-        if !names_port(ports, *hit) {
+        if !input.names_port(ports) {
             return Err(BusFault::NoSuchPort);
         }
     }

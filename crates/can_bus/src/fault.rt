@@ -9,10 +9,10 @@ pub enum BusFault {
     /// There are more than 64 ports.
     #[error("there are more than 64 ports")]
     TooManyPorts,
-    /// A hit is not above the one before it.
-    #[error("a hit is not above the one before it")]
+    /// A hit is not above the one before it, or an offer is earlier than the one before it.
+    #[error("a hit or an offer is out of order")]
     NotRising,
-    /// A hit names no port.
-    #[error("a hit names no port")]
+    /// A hit or an offer names no port of the bus.
+    #[error("a hit or an offer names no port of the bus")]
     NoSuchPort,
 }

@@ -14,6 +14,7 @@ ghost use Rattle.can_bus.specs.declared.hit.Hit.{Hit as Disturbance};
 ghost use Rattle.can_bus.specs.Agreement.{AreAlike, LogsAgree};
 ghost use Rattle.can_bus.specs.Disturbed.{IsDisturbedRun, WasDisturbed};
 ghost use Rattle.can_bus.specs.Hits.{AreTaken, is_above};
+ghost use Rattle.can_bus.specs.Offers.{played, played_level};
 ghost use Rattle.can_bus.specs.Plans.{FitsQueue, IsQuietPlan, PortPlan, planned, ready_port};
 ghost use Rattle.can_bus.specs.Quiet.{AreDifferent, IsAscending, IsQuiet, IsQuietCall, ascending, line_at, queued, span};
 ghost use Rattle.can_bus.specs.Repair.{AreApart, AreBorne, AreOfOnePort, FallInWindows, IsInWindow, IsRepairedCall, repaired_span, tally};
@@ -47,6 +48,12 @@ pub fn a_run_is_a_disturbed_run()
 pub fn runs_join()
     ensures bus { (m n : ℕ) (bus : BusState) → bus_run [] (m + n) bus ≡ bus_run [] n (bus_run [] m bus) }
     ensures levels { (m t : ℕ) (bus : BusState) → bus_level [] (m + t) bus ≡ bus_level [] t (bus_run [] m bus) }
+{}
+
+/// Where nothing is offered, a bus that is played is a run without disturbances.
+pub fn a_run_without_offers_is_a_run()
+    ensures bus { (n : ℕ) (bus : BusState) → played [] n bus ≡ bus_run [] n bus }
+    ensures levels { (t : ℕ) (bus : BusState) → played_level [] t bus ≡ bus_level [] t bus }
 {}
 
 /// Frames of which no two have one arbitration field have exactly one ascending list, in whatever

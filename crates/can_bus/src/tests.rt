@@ -1,6 +1,7 @@
 mod crowd;
 mod disturbed;
 mod lines;
+mod played;
 mod ports;
 mod quiet;
 mod repaired;
@@ -74,8 +75,11 @@ fn sentences_of_faults(rt: HostRuntime) -> Result<(), Fail> {
     let sentences = [
         (BusFault::NoPort, "there is no port"),
         (BusFault::TooManyPorts, "there are more than 64 ports"),
-        (BusFault::NotRising, "a hit is not above the one before it"),
-        (BusFault::NoSuchPort, "a hit names no port"),
+        (BusFault::NotRising, "a hit or an offer is out of order"),
+        (
+            BusFault::NoSuchPort,
+            "a hit or an offer names no port of the bus",
+        ),
     ];
     for (fault, sentence) in sentences {
         let text = format!(in rt.alloc(); "{fault}")?;

@@ -15,7 +15,8 @@ use Rattle.can_bus.specs.Quiet.{AreDifferent, IsAscending, IsQuiet, IsQuietCall,
 use Rattle.can_bus.specs.Plans.{PortPlan as ReadyPlan, IsQuietPlan as AreQuietPlans, planned, ready_port}
 use Rattle.can_bus.proofs.Ascending.{ascending_there}
 use Rattle.can_bus.proofs.Contests.{AllPorts}
-use Rattle.can_bus.proofs.QuietAgreement.{length-run, span-permuted}
+use Rattle.can_bus.proofs.QuietAgreement.{span-permuted}
+use Rattle.can_bus.proofs.RunLemmas.{length-run}
 use Rattle.can_bus.proofs.QuietBus.{call-line, call-whole, call-counters, call-missed}
 use Rattle.can_bus.proofs.QuietPlans.{filled_port, ready-filled, ready-queued, ready-quiet}
 use Rattle.can_trace.specs.declared.scenario.Scenario.{Scenario}

@@ -8,10 +8,12 @@ use std::alloc::{AllocError, Global};
 use std::process::Abort;
 use std::test::Fail;
 
-/// The levels of the standard data frames 000 and 001 without data, acknowledged.
+/// The levels of the standard data frames 000, 001 and 009 without data, acknowledged.
 pub const WIRE_000: &str = "00000100000100000100000100000100000100001011111111";
 
 pub const WIRE_001: &str = "00000100000101000001000100010000100111011111111";
+
+pub const WIRE_009: &str = "0000010001001000001001111100000110000011011111111";
 
 /// Three recessive levels between a frame and what comes next.
 pub const INTERMISSION: &str = "111";
@@ -23,7 +25,7 @@ pub const DELIMITER_AND_INTERMISSION: &str = "11111111111";
 const LOG_ROOM: usize = 70;
 
 /// These levels as a text of `0`, dominant, and `1`, recessive.
-fn text_of(alloc: Global, levels: &[Level]) -> Result<String, AllocError> {
+pub fn text_of(alloc: Global, levels: &[Level]) -> Result<String, AllocError> {
     let mut text = String::new(alloc);
     for level in levels {
         text.push(if level.is_recessive() { '1' } else { '0' })?;

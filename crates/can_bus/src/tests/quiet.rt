@@ -1,8 +1,8 @@
 //! Buses without disturbances: which frame goes first, what the wire has, and what each log names.
 
 use super::lines::{
-    INTERMISSION, WIRE_000, WIRE_001, bus_after, bus_of, bus_with, driven, drives, idle_ports,
-    offer, recorded, standing,
+    INTERMISSION, WIRE_000, WIRE_001, WIRE_009, bus_after, bus_of, bus_with, driven, drives,
+    idle_ports, offer, recorded, standing,
 };
 use std::alloc::Global;
 use std::test::Fail;
@@ -13,8 +13,6 @@ const WIRE_123: &str = "000100100011000001001101000010110001011111111";
 const WIRE_REMOTE_123: &str = "000100100011100000100011011100111011011111111";
 
 const WIRE_EXTENDED: &str = "000100100011110000010000010000010000010000011011110001101111011111111";
-
-const WIRE_009: &str = "0000010001001000001001111100000110000011011111111";
 
 const WIRE_REMOTE_000: &str = "0000010000010010010000010011111000001101011111111";
 

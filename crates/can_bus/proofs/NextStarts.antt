@@ -1,0 +1,270 @@
+-- The next start of a schedule: it is there, it is one, and it is what `schedule_from` begins with.
+use Rattle.std.proofs.Common.{◌≡◌, ℕ, suc, ◌+◌, ◌≤◌, ◌⊎◌, Bool, Some, List, [], ◌∷◌, ◌++◌, length, refl, sym, ◌∙◌, ap, subst, inl, inr, arith, length-append}
+use Rattle.std.specs.Prelude.{max, min, fold, nat_le, filter}
+use Rattle.std.proofs.lemmas.Bool.{cond-true, cond-false, cases_Bool, le-leb, leb-true, leb-false}
+use Rattle.can_frame.specs.Parts.{Parts}
+use Rattle.can_frame.specs.Arbitration.{arbitration_field, Before}
+use Rattle.can_frame.proofs.FieldLemmas.{fields_ranked}
+use Rattle.can_node.specs.Ports.{same_field, waiting}
+use Rattle.can_node.specs.Waiting.{IsWaiting}
+use Rattle.can_node.proofs.WaitingLemmas.{same_field-Shares, Shares-same_field}
+use Rattle.can_node.proofs.WaitingLaws.{waiting-some, waiting-IsWaiting}
+use Rattle.can_bus.specs.Quiet.{AreDifferent}
+use Rattle.can_bus.specs.Schedule.{Timed, busy_time, frames_of, Lists, IsNextStart, AreOthers, earliest, offered_by, without_offer, start_of, schedule_from}
+use Rattle.can_bus.proofs.Ascending.{Goes, Other}
+use Rattle.can_bus.proofs.Members.{Stands, stands-none, stands-here, stands-later, stands-cases, stands-middle, stands-among, stands-apart, filter-stands, stands-filter, stands-map, map-stands}
+
+-- ---- offers of which no two have one arbitration field
+
+abbrev pub AreApart : List Timed → Type 0
+AreApart [] = Unit {0}
+AreApart (x ∷ offers) = ((y : Timed) → Lists offers y → Other x.frame y.frame) × AreApart offers
+
+pub apart-from : (offers : List Timed) → AreDifferent (frames_of offers) → AreApart offers
+apart-from [] different = tt
+apart-from (x ∷ offers) different = (
+  λ y s. let there = stands-map (λ (z : Timed). z.frame) offers y s in different 0 (suc there.0) x.frame y.frame (omega arith) refl there.1,
+  apart-from offers (λ m n f g less a b. different (suc m) (suc n) f g (omega arith) a b),
+)
+
+-- of one arbitration field there is one offer
+pub apart-one : (offers : List Timed) → AreApart offers → (x y : Timed) → Lists offers x → Lists offers y → arbitration_field x.frame ≡ arbitration_field y.frame → x ≡ y
+apart-one [] apart x y s t same = absurd (stands-none x s)
+apart-one (z ∷ offers) apart x y s t same =
+    elim (stands-cases z offers x s) [
+      | inl e ↦ elim (stands-cases z offers y t) [
+        | inl h ↦ sym e ∙ h
+        | inr later ↦ absurd (apart.0 y later (ap (λ (w : Timed). arbitration_field w.frame) e ∙ same))
+      ]
+      | inr first ↦ elim (stands-cases z offers y t) [
+        | inl h ↦ absurd (apart.0 x first (ap (λ (w : Timed). arbitration_field w.frame) h ∙ sym same))
+        | inr later ↦ apart-one offers apart.1 x y first later same
+      ]
+    ]
+
+-- one of them is taken out
+module _ (x : Timed) (after : List Timed) where
+  apart-among : (before : List Timed) → AreApart (before ++ x ∷ after) → AreApart (before ++ after)
+  apart-among [] apart = apart.1
+  apart-among (z ∷ before) apart = (λ y s. apart.0 y (stands-among before x after y s), apart-among before apart.1)
+
+  apart-middle : (before : List Timed) → AreApart (before ++ x ∷ after) → (y : Timed) → Lists (before ++ after) y → Other x.frame y.frame
+  apart-middle [] apart y s = apart.0 y s
+  apart-middle (z ∷ before) apart y s =
+      elim (stands-cases z (before ++ after) y s) [
+        | inl e ↦ λ same. apart.0 x (stands-middle before x after) (ap (λ (w : Timed). arbitration_field w.frame) e ∙ sym same)
+        | inr later ↦ apart-middle before apart.1 y later
+      ]
+
+  without-middle : (before : List Timed) → AreApart (before ++ x ∷ after) → without_offer x.frame (before ++ x ∷ after) ≡ before ++ after
+  without-middle [] apart = cond-true (same_field x.frame x.frame) after (x ∷ without_offer x.frame after) (Shares-same_field x.frame x.frame refl)
+  without-middle (z ∷ before) apart =
+      elim (cases_Bool (same_field x.frame z.frame)) [
+        | inl same ↦ absurd (apart.0 x (stands-middle before x after) (sym (same_field-Shares x.frame z.frame same)))
+        | inr other ↦ cond-false (same_field x.frame z.frame) (before ++ x ∷ after) (z ∷ without_offer x.frame (before ++ x ∷ after)) other
+            ∙ ap (λ l. z ∷ l) (without-middle before apart.1)
+      ]
+
+-- the offers that are left behind a start
+module _ (f : Parts) (left rest : List Timed) (others : AreOthers f left rest) where
+  abbrev pub taken : Timed
+  taken = record { time = others.offered; frame = f }
+
+  pub taken-left : Lists left taken
+  taken-left = subst (λ l. Lists l taken) (sym others.whole) (stands-middle others.before taken others.after)
+
+  pub rest-left : (x : Timed) → Lists rest x → Lists left x
+  rest-left x s =
+      subst (λ l. Lists l x) (sym others.whole)
+      (stands-among others.before taken others.after x (subst (λ l. Lists l x) others.others s))
+
+  pub left-cases : (x : Timed) → Lists left x → (taken ≡ x) ⊎ Lists rest x
+  left-cases x s =
+      elim (stands-apart others.before taken others.after x (subst (λ l. Lists l x) others.whole s)) [
+        | inl e ↦ inl e
+        | inr t ↦ inr (subst (λ l. Lists l x) (sym others.others) t)
+      ]
+
+  pub rest-length : length left ≡ suc (length rest)
+  rest-length =
+      omega (arith, ap length others.whole, ap length others.others, length-append others.before (taken ∷ others.after), length-append others.before others.after)
+
+  module _ (apart : AreApart left) where
+    whole-apart : AreApart (others.before ++ taken ∷ others.after)
+    whole-apart = subst AreApart others.whole apart
+
+    pub rest-apart : AreApart rest
+    rest-apart = subst AreApart (sym others.others) (apart-among taken others.after others.before whole-apart)
+
+    pub rest-other : (x : Timed) → Lists rest x → Other f x.frame
+    rest-other x s = apart-middle taken others.after others.before whole-apart x (subst (λ l. Lists l x) others.others s)
+
+    pub rest-without : without_offer f left ≡ rest
+    rest-without =
+        ap (without_offer f) others.whole ∙ without-middle taken others.after others.before whole-apart ∙ sym others.others
+
+-- what `without_offer` leaves
+others-more : (f : Parts) (x : Timed) (left rest : List Timed) → AreOthers f left rest → AreOthers f (x ∷ left) (x ∷ rest)
+others-more f x left rest others =
+    record {
+      offered = others.offered;
+      before = x ∷ others.before;
+      after = others.after;
+      whole = ap (λ l. x ∷ l) others.whole;
+      others = ap (λ l. x ∷ l) others.others;
+    }
+
+pub others-without : (left : List Timed) → AreApart left → (x : Timed) → Lists left x → AreOthers x.frame left (without_offer x.frame left)
+others-without [] apart x s = absurd (stands-none x s)
+others-without (y ∷ left) apart x s =
+    elim (stands-cases y left x s) [
+      | inl e ↦ record {
+        offered = x.time;
+        before = [];
+        after = left;
+        whole = ap (λ z. z ∷ left) e;
+        others = cond-true (same_field x.frame y.frame) left (y ∷ without_offer x.frame left) (Shares-same_field x.frame y.frame (sym (ap (λ (w : Timed). arbitration_field w.frame) e)));
+      }
+      | inr later ↦ elim (cases_Bool (same_field x.frame y.frame)) [
+        | inl same ↦ absurd (apart.0 x later (sym (same_field-Shares x.frame y.frame same)))
+        | inr other ↦ subst (AreOthers x.frame (y ∷ left)) (sym (cond-false (same_field x.frame y.frame) left (y ∷ without_offer x.frame left) other))
+            (others-more x.frame y left (without_offer x.frame left) (others-without left apart.1 x later))
+      ]
+    ]
+
+-- ---- the earliest offer
+
+least-start : (a : ℕ) (offers : List Timed) → fold (λ t (y : Timed). min t y.time) a offers ≤ a
+least-start a [] = omega arith
+least-start a (x ∷ offers) = let more = least-start (min a x.time) offers in omega arith
+
+least-each : (a : ℕ) (offers : List Timed) (y : Timed) → Lists offers y → fold (λ t (x : Timed). min t x.time) a offers ≤ y.time
+least-each a [] y s = absurd (stands-none y s)
+least-each a (x ∷ offers) y s =
+    elim (stands-cases x offers y s) [
+      | inl e ↦ let more = least-start (min a x.time) offers in let same : x.time ≡ y.time = ap (λ (w : Timed). w.time) e in omega arith
+      | inr later ↦ least-each (min a x.time) offers y later
+    ]
+
+least-is : (a : ℕ) (offers : List Timed) → (fold (λ t (y : Timed). min t y.time) a offers ≡ a) ⊎ ((y : Timed) × Lists offers y × (y.time ≡ fold (λ t (x : Timed). min t x.time) a offers))
+least-is a [] = inl refl
+least-is a (x ∷ offers) =
+    elim (least-is (min a x.time) offers) [
+      | inl e ↦ elim (cases_Bool (nat_le a x.time)) [
+        | inl less ↦ let h : a ≤ x.time = leb-true a x.time less in inl (omega arith)
+        | inr more ↦ inr (x, stands-here x offers, omega (arith, leb-false a x.time more))
+      ]
+      | inr there ↦ inr (there.0, stands-later x offers there.0 there.1, there.2)
+    ]
+
+module _ (x : Timed) (others : List Timed) where
+  pub earliest-each : (y : Timed) → Lists (x ∷ others) y → earliest x others ≤ y.time
+  earliest-each y s =
+      elim (stands-cases x others y s) [
+        | inl e ↦ let least = least-start x.time others in let same : x.time ≡ y.time = ap (λ (w : Timed). w.time) e in omega arith
+        | inr later ↦ least-each x.time others y later
+      ]
+
+  pub earliest-is : (y : Timed) × Lists (x ∷ others) y × (y.time ≡ earliest x others)
+  earliest-is =
+      elim (least-is x.time others) [
+        | inl e ↦ (x, stands-here x others, sym e)
+        | inr there ↦ (there.0, stands-later x others there.0 there.1, there.2)
+      ]
+
+-- ---- the frames that are offered by a time
+
+module _ (t : ℕ) (left : List Timed) where
+  abbrev in_time : Timed → Bool
+  in_time x = nat_le x.time t
+
+  pub stands-offered : (x : Timed) → Lists left x → x.time ≤ t → Stands (offered_by t left) x.frame
+  stands-offered x s early = stands-map (λ (z : Timed). z.frame) (filter in_time left) x (stands-filter in_time left x s (le-leb x.time t early))
+
+  pub offered-stands : (f : Parts) → Stands (offered_by t left) f → (x : Timed) × Lists left x × (x.time ≤ t) × (x.frame ≡ f)
+  offered-stands f s =
+      let there = map-stands (λ (z : Timed). z.frame) (filter in_time left) f s in
+      let passed = filter-stands in_time left there.0 there.1 in
+      (there.0, passed.0, leb-true there.0.time t passed.1, there.2)
+
+-- a frame waits where each other goes behind it
+waiting-first : (queue : List Parts) (f : Parts) → Stands queue f → ((g : Parts) → Stands queue g → (g ≡ f) ⊎ Goes f g) → waiting queue ≡ Some f
+waiting-first queue f s each =
+    let there = waiting-some queue s.0 f s.1 in
+    let is : IsWaiting queue there.0 = waiting-IsWaiting queue there.0 there.1 in
+    elim (each there.0 (is.place, is.stands)) [ inl e ↦ there.1 ∙ ap Some e | inr goes ↦ absurd (is.least s.0 f s.1 goes) ]
+
+-- ---- the next start
+
+module _ (free : ℕ) (left : List Timed) (start : Timed) (next : IsNextStart free left start) where
+  abbrev pub offer_of : Timed
+  offer_of = record { time = next.offered; frame = start.frame }
+
+  pub next-waits : waiting (offered_by start.time left) ≡ Some start.frame
+  next-waits = waiting-first (offered_by start.time left) start.frame (stands-offered start.time left offer_of next.left_over next.in_time) each
+    where
+      each : (g : Parts) → Stands (offered_by start.time left) g → (g ≡ start.frame) ⊎ Goes start.frame g
+      each g s =
+          let there = offered-stands start.time left g s in
+          elim (next.first there.0 there.1 there.2) [ inl e ↦ inl (sym there.3 ∙ e) | inr goes ↦ inr (subst (Goes start.frame) there.3 goes) ]
+
+next-time : (free : ℕ) (x : Timed) (others : List Timed) (start : Timed) → IsNextStart free (x ∷ others) start → max free (earliest x others) ≡ start.time
+next-time free x others start next =
+    let first = earliest-is x others in
+    let soon = next.soon first.0 first.1 in
+    let each = earliest-each x others (offer_of free (x ∷ others) start next) next.left_over in
+    let free_by = next.is_free in
+    let in_time = next.in_time in
+    let at = first.2 in
+    omega arith
+
+-- what is computed begins with the next start
+pub schedule-next : (count free : ℕ) (left : List Timed) (start : Timed) → IsNextStart free left start →
+    schedule_from (suc count) free left ≡ start ∷ schedule_from count (start.time + busy_time start.frame) (without_offer start.frame left)
+schedule-next count free [] start next = absurd (stands-none (offer_of free [] start next) next.left_over)
+schedule-next count free (x ∷ others) start next =
+    let behind : ℕ → Parts → List Timed = λ time f. schedule_from count (time + busy_time f) (without_offer f (x ∷ others)) in
+    ap (λ time. start_of (behind time) time (waiting (offered_by time (x ∷ others)))) (next-time free x others start next)
+    ∙ ap (start_of (behind start.time) start.time) (next-waits free (x ∷ others) start next)
+
+-- where offers are left there is a next start
+module _ (free : ℕ) (x : Timed) (others : List Timed) (apart : AreApart (x ∷ others)) where
+  abbrev left : List Timed
+  left = x ∷ others
+
+  abbrev time : ℕ
+  time = max free (earliest x others)
+
+  pub frame-waits : (f : Parts) × (waiting (offered_by time left) ≡ Some f)
+  frame-waits =
+      let first = earliest-is x others in
+      let s = stands-offered time left first.0 first.1 (let at = first.2 in omega arith) in
+      waiting-some (offered_by time left) s.0 first.0.frame s.1
+
+  abbrev pub next_start : Timed
+  next_start = record { time = time; frame = frame-waits.0 }
+
+  pub one-next : IsNextStart free left next_start
+  one-next =
+      record {
+        offered = there.0.time;
+        left_over = subst (λ f. Lists left (record { time = there.0.time; frame = f })) there.3 there.1;
+        in_time = there.2;
+        is_free = omega arith;
+        soon = λ y s. let each = earliest-each x others y s in omega arith;
+        first = first;
+      }
+    where
+      is : IsWaiting (offered_by time left) frame-waits.0
+      is = waiting-IsWaiting (offered_by time left) frame-waits.0 frame-waits.1
+
+      there : (y : Timed) × Lists left y × (y.time ≤ time) × (y.frame ≡ frame-waits.0)
+      there = offered-stands time left frame-waits.0 (is.place, is.stands)
+
+      first : (y : Timed) → Lists left y → y.time ≤ time → (y.frame ≡ frame-waits.0) ⊎ Before (arbitration_field frame-waits.0) (arbitration_field y.frame)
+      first y s early =
+          elim (fields_ranked frame-waits.0 y.frame) [
+            | inl goes ↦ inr goes
+            | inr (inl same) ↦ inl (sym (ap (λ (w : Timed). w.frame) (apart-one left apart there.0 y there.1 s (ap arbitration_field there.3 ∙ same))) ∙ there.3)
+            | inr (inr before) ↦ let in_queue = stands-offered time left y s early in absurd (is.least in_queue.0 y.frame in_queue.1 before)
+          ]

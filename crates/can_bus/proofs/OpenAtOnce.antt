@@ -1,0 +1,192 @@
+-- Where all frames are offered at time 0 a bus to which frames are offered is a quiet bus at which they wait.
+use Rattle.std.specs.Prelude.{filter, slice_get}
+use Rattle.std.proofs.Common.{◌≡◌, ◌≢◌, ℕ, zero, suc, ◌+◌, ◌<◌, ◌≤◌, Some, None, List, [], ◌∷◌, ◌++◌, length, map, refl, sym, ap, subst, ◌∙◌, arith, inl, inr}
+use Rattle.std.proofs.Math.Dec.{eqb}
+use Rattle.std.proofs.lemmas.List.{length-map, map-append}
+use Rattle.can_frame.specs.Parts.{Parts}
+use Rattle.can_node.specs.Ports.{PortState}
+use Rattle.can_node.proofs.Arrivals.{gains}
+use Rattle.can_bus.specs.declared.offer.Offer.{Offer}
+use Rattle.can_bus.specs.OpenBus.{AreMadeFirst, AtEachNode, HaveRooms, IsOpenCall, WaitsAt, all_offers, offered_first, offered_to, own_offers, timed, with_first}
+use Rattle.can_bus.specs.Offers.{AreOffered, all_made, played, played_level}
+use Rattle.can_bus.specs.Quiet.{AreDifferent, IsAscending, IsQuiet, IsQuietCall, IsQuietPort, ascending, line_at, queued}
+use Rattle.can_bus.specs.Run.{BusState, bus_level, bus_run}
+use Rattle.can_bus.specs.Schedule.{AreAtOnce, Lists, Timed, frames_of, schedule, track_at}
+use Rattle.can_bus.proofs.Ascending.{ascending_there}
+use Rattle.can_bus.proofs.AtOnce.{at_once-frames, at_once-line}
+use Rattle.can_bus.proofs.Members.{filter-stands, map-stands, stands-here, stands-later, stands-none}
+use Rattle.can_bus.proofs.OfferLemmas.{none_made}
+use Rattle.can_bus.proofs.OfferTimes.{at-now, offered_at}
+use Rattle.can_bus.proofs.OpenStart.{rooms}
+use Rattle.can_bus.proofs.OwnOffers.{stands-either}
+use Rattle.can_bus.proofs.PlayedRuns.{all-taken, all_offered, arriving}
+use Rattle.can_bus.proofs.RunLemmas.{levels_joined, runs_joined}
+use Rattle.can_bus.proofs.Schedules.{no-other-schedule, one-schedule}
+
+-- ---- what is offered
+
+pub first-frames : (queue : List Parts) (own : List Timed) → frames_of (offered_first queue ++ own) ≡ queue ++ frames_of own
+first-frames [] own = refl
+first-frames (f ∷ queue) own = ap (λ fs. f ∷ fs) (first-frames queue own)
+
+at_once-now : (own : List Timed) → AreAtOnce own → offered_at own 0 ≡ frames_of own
+at_once-now [] all = refl
+at_once-now (x ∷ own) all =
+    at-now x own 0 (all x (stands-here x own)) ∙ ap (λ fs. x.frame ∷ fs) (at_once-now own (λ y there. all y (stands-later x own y there)))
+
+-- the number of ports stays, and each has what is offered to it
+length-offered : (offers : List Offer) (node : ℕ) (ports : List PortState) → length (all_offered offers 0 node ports) ≡ length ports
+length-offered offers node [] = refl
+length-offered offers node (p ∷ ports) = ap suc (length-offered offers (node + 1) ports)
+
+record IsOfferedPort (offers : List Offer) (node : ℕ) (ports : List PortState) (n : ℕ) (q : PortState) : Type 0 where
+  before : PortState
+  stands : slice_get ports n ≡ Some before
+  gained : q ≡ gains (arriving offers (node + n) 0) before
+
+offered-port : (offers : List Offer) (node : ℕ) (ports : List PortState) (n : ℕ) (q : PortState) → slice_get (all_offered offers 0 node ports) n ≡ Some q → IsOfferedPort offers node ports n q
+offered-port offers node [] n q there = absurd (let h : None ≡ Some q = there in cc)
+offered-port offers node (p ∷ ports) zero q there =
+    let is : gains (arriving offers node 0) p ≡ q = (let h : Some (gains (arriving offers node 0) p) ≡ Some q = there in cc) in
+    let here : node ≡ node + 0 = omega arith in
+    record { before = p; stands = refl; gained = sym is ∙ ap (λ k. gains (arriving offers k 0) p) here }
+offered-port offers node (p ∷ ports) (suc n) q there =
+    let rest = offered-port offers (node + 1) ports n q there in
+    let more : (node + 1) + n ≡ node + suc n = omega arith in
+    record { before = rest.before; stands = rest.stands; gained = rest.gained ∙ ap (λ k. gains (arriving offers k 0) rest.before) more }
+
+port-offered : (offers : List Offer) (node : ℕ) (ports : List PortState) (n : ℕ) (p : PortState) → slice_get ports n ≡ Some p →
+    slice_get (all_offered offers 0 node ports) n ≡ Some (gains (arriving offers (node + n) 0) p)
+port-offered offers node [] n p there = absurd (let h : None ≡ Some p = there in cc)
+port-offered offers node (x ∷ ports) zero p there =
+    let is : x ≡ p = (let h : Some x ≡ Some p = there in cc) in
+    ap (λ y. Some (gains (arriving offers node 0) y)) is ∙ ap (λ k. Some (gains (arriving offers k 0) p)) (let e : node ≡ node + 0 = omega arith in e)
+port-offered offers node (x ∷ ports) (suc n) p there =
+    port-offered offers (node + 1) ports n p there ∙ ap (λ k. Some (gains (arriving offers k 0) p)) (let e : (node + 1) + n ≡ node + suc n = omega arith in e)
+
+-- what is offered has no part in whether a port is quiet
+quiet-gains : (n : ℕ) (p : PortState) (more : List Parts) → IsQuietPort n p → IsQuietPort n (gains more p)
+quiet-gains n p more quiet = record { idle = quiet.idle; tec = quiet.tec; rec = quiet.rec; unasked = quiet.unasked; empty = quiet.empty; room = quiet.room }
+
+gains-quiet : (n : ℕ) (p : PortState) (more : List Parts) → IsQuietPort n (gains more p) → IsQuietPort n p
+gains-quiet n p more quiet = record { idle = quiet.idle; tec = quiet.tec; rec = quiet.rec; unasked = quiet.unasked; empty = quiet.empty; room = quiet.room }
+
+module _ (offers : List Offer) (first : AreMadeFirst offers) where
+  to-at_once : (node : ℕ) → AreAtOnce (offered_to node offers)
+  to-at_once node x there =
+      let made = map-stands timed (filter (λ (o : Offer). eqb o.node node) offers) x there in
+      let at = (filter-stands (λ (o : Offer). eqb o.node node) offers made.0 made.1).0 in
+      sym (ap (λ (y : Timed). y.time) made.2) ∙ first at.0 made.0 at.1
+
+  all-at_once : (node : ℕ) (ports : List PortState) → AreAtOnce (all_offers offers node ports)
+  all-at_once node [] x there = absurd (stands-none x there)
+  all-at_once node (p ∷ ports) x there = elim (stands-either (own_offers offers node p) (all_offers offers (node + 1) ports) x there) [
+    | inl own ↦ elim (stands-either (offered_first p.queue) (offered_to node offers) x own) [
+      | inl waits ↦
+          let queued_one = map-stands (λ (f : Parts). let y : Timed = record { time = 0; frame = f } in y) p.queue x waits in
+          sym (ap (λ (y : Timed). y.time) queued_one.2)
+      | inr made ↦ to-at_once node x made
+    ]
+    | inr other ↦ all-at_once (node + 1) ports x other
+  ]
+
+  own-frames : (node : ℕ) (p : PortState) → (gains (arriving offers node 0) p).queue ≡ frames_of (own_offers offers node p)
+  own-frames node p = ap (λ fs. p.queue ++ fs) (at_once-now (offered_to node offers) (to-at_once node)) ∙ sym (first-frames p.queue (offered_to node offers))
+
+  all-frames : (node : ℕ) (ports : List PortState) → queued (all_offered offers 0 node ports) ≡ frames_of (all_offers offers node ports)
+  all-frames node [] = refl
+  all-frames node (p ∷ ports) =
+      ap (λ fs. fs ++ queued (all_offered offers 0 (node + 1) ports)) (own-frames node p)
+      ∙ ap (λ fs. frames_of (own_offers offers node p) ++ fs) (all-frames (node + 1) ports)
+      ∙ sym (map-append (λ (x : Timed). x.frame) (own_offers offers node p) (all_offers offers (node + 1) ports))
+
+  module _ (ports : List PortState) (room : HaveRooms offers ports) where
+    abbrev all : List Timed
+    all = all_offers offers 0 ports
+
+    abbrev waiting_ports : List PortState
+    waiting_ports = all_offered offers 0 0 ports
+
+    taken : all_made offers 0 ports ≡ waiting_ports
+    taken = all-taken offers 0 ports (rooms offers ports room).0
+
+    pub at_once-queues : AtEachNode (WaitsAt offers) ports (all_made offers 0 ports)
+    at_once-queues n p q before after =
+        let there : slice_get waiting_ports n ≡ Some q = ap (λ ps. slice_get ps n) (sym taken) ∙ after in
+        let is : Some (gains (arriving offers (0 + n) 0) p) ≡ Some q = sym (port-offered offers 0 ports n p before) ∙ there in
+        let same : 0 + n ≡ n = omega arith in
+        let becomes : gains (arriving offers (0 + n) 0) p ≡ q = cc in
+        ap (λ (r : PortState). r.queue) (sym becomes) ∙ ap (λ k. (gains (arriving offers k 0) p).queue) same ∙ own-frames n p
+
+    -- the premises of an open call are those of a quiet one
+    module _ (starts : List Timed) (call : IsOpenCall offers ports starts) where
+      ascending-starts : frames_of starts ≡ ascending (frames_of all)
+      ascending-starts = ap frames_of (no-other-schedule all starts call.scheduled) ∙ at_once-frames all call.scheduled.different (all-at_once 0 ports)
+
+      pub at_once-line_at : (t : ℕ) → track_at starts t ≡ line_at (frames_of starts) t
+      at_once-line_at t =
+          ap (λ s. track_at s t) (no-other-schedule all starts call.scheduled) ∙ at_once-line all call.scheduled.different (all-at_once 0 ports) t
+          ∙ ap (λ frames. line_at frames t) (sym ascending-starts)
+
+      pub at_once-quiet : IsQuietCall [] (all_made offers 0 ports) (frames_of starts)
+      at_once-quiet =
+          let frames : queued waiting_ports ≡ frames_of all = all-frames 0 ports in
+          let same_size : length (queued waiting_ports) ≡ length all = ap length frames ∙ length-map all (λ (x : Timed). x.frame) in
+          subst (λ ps. IsQuietCall [] ps (frames_of starts)) (sym taken) (record {
+            undisturbed = refl;
+            quiet = record {
+              two = omega (arith, call.two, length-offered offers 0 ports);
+              most = omega (arith, call.most, length-offered offers 0 ports);
+              quiet = λ n q there.
+                  let is = offered-port offers 0 ports n q there in
+                  subst (IsQuietPort (length (queued waiting_ports))) (sym is.gained)
+                  (quiet-gains (length (queued waiting_ports)) is.before (arriving offers (0 + n) 0) (subst (λ k. IsQuietPort k is.before) (sym same_size) (call.quiet n is.before is.stands)));
+              different = subst AreDifferent (sym frames) call.scheduled.different;
+            };
+            ascending = subst (λ fs. IsAscending fs (frames_of starts)) (sym frames)
+                (subst (IsAscending (frames_of all)) (sym ascending-starts) (ascending_there (frames_of all) call.scheduled.different));
+          })
+
+    -- and the other way round
+    pub at_once-open : (frames : List Parts) → AreOffered (length ports) offers → IsQuietCall [] (all_made offers 0 ports) frames →
+        IsOpenCall offers ports (schedule (all_offers offers 0 ports))
+    at_once-open frames offered call =
+        let quiet : IsQuiet waiting_ports = subst IsQuiet taken call.quiet in
+        let same : queued waiting_ports ≡ frames_of all = all-frames 0 ports in
+        let same_size : length (queued waiting_ports) ≡ length all = ap length same ∙ length-map all (λ (x : Timed). x.frame) in
+        record {
+          two = omega (arith, quiet.two, length-offered offers 0 ports);
+          most = omega (arith, quiet.most, length-offered offers 0 ports);
+          offered = offered;
+          quiet = λ n p there.
+              subst (λ k. IsQuietPort k p) same_size
+              (gains-quiet (length (queued waiting_ports)) p (arriving offers (0 + n) 0) (quiet.quiet n (gains (arriving offers (0 + n) 0) p) (port-offered offers 0 ports n p there)));
+          room = room;
+          scheduled = one-schedule all (subst AreDifferent same quiet.different);
+        }
+
+  -- ---- the run
+
+  none-later : (t : ℕ) (ports : List PortState) → all_made offers (suc t) ports ≡ ports
+  none-later t ports = (none_made offers (suc t) ports (λ n offer there now. omega (arith, now, first n offer there))).0
+
+  pub at_once-run : (n : ℕ) (bus : BusState) → 0 < n → played offers n bus ≡ bus_run [] n (with_first offers bus)
+  unfolding played
+  at_once-run zero bus some = absurd (omega (arith, some))
+  at_once-run (suc zero) bus some = refl
+  at_once-run (suc (suc n)) bus some =
+      let before = played offers (suc n) bus in
+      ap (λ ps. bus_run [] 1 (record before { ports = ps })) (none-later n before.ports)
+      ∙ ap (bus_run [] 1) (at_once-run (suc n) bus (omega arith))
+      ∙ sym (runs_joined (suc n) 1 (with_first offers bus))
+      ∙ ap (λ k. bus_run [] k (with_first offers bus)) (let e : suc n + 1 ≡ suc (suc n) = omega arith in e)
+
+  pub at_once-level : (t : ℕ) (bus : BusState) → played_level offers t bus ≡ bus_level [] t (with_first offers bus)
+  unfolding played_level played
+  at_once-level zero bus = refl
+  at_once-level (suc t) bus =
+      let before = played offers (suc t) bus in
+      ap (λ ps. bus_level [] 0 (record before { ports = ps })) (none-later t before.ports)
+      ∙ ap (bus_level [] 0) (at_once-run (suc t) bus (omega arith))
+      ∙ sym (levels_joined (suc t) 0 (with_first offers bus))
+      ∙ ap (λ k. bus_level [] k (with_first offers bus)) (let e : suc t + 0 ≡ suc t = omega arith in e)

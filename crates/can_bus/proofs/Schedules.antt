@@ -1,0 +1,120 @@
+-- The schedule of offers: it is there, it is one, and it is what `schedule` computes. Which frames it has, and when they start.
+use Rattle.std.proofs.Common.{◌≡◌, ℕ, zero, suc, ◌+◌, ◌<◌, ◌≤◌, Some, List, [], ◌∷◌, ◌++◌, length, refl, sym, ◌∙◌, ap, subst, inl, inr, arith}
+use Rattle.std.specs.Prelude.{slice_get}
+use Rattle.std.specs.List.Sorted.{IsPermutation}
+use Rattle.std.proofs.lemmas.List.{map-append}
+use Rattle.std.proofs.lemmas.List.Sorted.{IsPermutation-refl, IsPermutation-trans, IsPermutation-cons, IsPermutation-middle}
+use Rattle.can_frame.specs.Parts.{Parts}
+use Rattle.can_frame.specs.Arbitration.{arbitration_field}
+use Rattle.can_bus.specs.Quiet.{AreDifferent}
+use Rattle.can_bus.specs.Schedule.{Timed, busy_time, frames_of, Lists, IsNextStart, AreOthers, IsSchedule, over, next, IsScheduleOf, StartsAt, without_offer, schedule_from, schedule}
+use Rattle.can_bus.proofs.Members.{stands-none, stands-cases}
+use Rattle.can_bus.proofs.NextStarts.{AreApart, apart-from, apart-one, rest-left, rest-length, rest-apart, rest-without, others-without, schedule-next, one-next, next_start}
+
+-- ---- the schedule is what is computed
+
+pub schedule-only : {free : ℕ} {left starts : List Timed} → IsSchedule free left starts → AreApart left → starts ≡ schedule_from (length left) free left
+schedule-only (over free) apart = refl
+schedule-only (next free left rest start starts is others more) apart =
+    let behind : ℕ → List Timed = λ count. schedule_from count free left in
+    ap (λ l. start ∷ l) (schedule-only more (rest-apart start.frame left rest others apart)
+    ∙ ap (schedule_from (length rest) (start.time + busy_time start.frame)) (sym (rest-without start.frame left rest others apart)))
+    ∙ sym (schedule-next (length rest) free left start is) ∙ ap behind (sym (rest-length start.frame left rest others))
+
+-- ---- there is one
+
+pub schedule-there : (count free : ℕ) (left : List Timed) → length left ≡ count → AreApart left → IsSchedule free left (schedule_from count free left)
+schedule-there zero free [] long apart = over free
+schedule-there zero free (x ∷ others) long apart = absurd (omega arith)
+schedule-there (suc count) free [] long apart = absurd (omega arith)
+schedule-there (suc count) free (x ∷ others) long apart =
+    subst (IsSchedule free left) (sym (schedule-next count free left start is))
+    (next free left rest start (schedule_from count (start.time + busy_time start.frame) rest) is out
+    (schedule-there count (start.time + busy_time start.frame) rest (omega (arith, rest-length start.frame left rest out)) (rest-apart start.frame left rest out apart)))
+  where
+    left : List Timed
+    left = x ∷ others
+
+    start : Timed
+    start = next_start free x others apart
+
+    is : IsNextStart free (x ∷ others) (next_start free x others apart)
+    is = one-next free x others apart
+
+    rest : List Timed
+    rest = without_offer (next_start free x others apart).frame (x ∷ others)
+
+    out : AreOthers (next_start free x others apart).frame (x ∷ others) (without_offer (next_start free x others apart).frame (x ∷ others))
+    out = others-without (x ∷ others) apart (record { time = is.offered; frame = (next_start free x others apart).frame }) is.left_over
+
+module _ (offers : List Timed) where
+  pub one-schedule : AreDifferent (frames_of offers) → IsScheduleOf offers (schedule offers)
+  unfolding schedule
+  one-schedule different = record { different = different; scheduled = schedule-there (length offers) 0 offers refl (apart-from offers different) }
+
+  pub no-other-schedule : (starts : List Timed) → IsScheduleOf offers starts → starts ≡ schedule offers
+  unfolding schedule
+  no-other-schedule starts is = schedule-only is.scheduled (apart-from offers is.different)
+
+-- ---- its frames
+
+frames-taken : (f : Parts) (left rest : List Timed) → AreOthers f left rest → IsPermutation (frames_of left) (f ∷ frames_of rest)
+frames-taken f left rest others =
+    subst (λ l. IsPermutation l (f ∷ frames_of rest)) (sym (ap frames_of others.whole ∙ map-append (λ (x : Timed). x.frame) others.before (taken ∷ others.after)))
+    (subst (λ l. IsPermutation (frames_of others.before ++ f ∷ frames_of others.after) (f ∷ l)) (sym (ap frames_of others.others ∙ map-append (λ (x : Timed). x.frame) others.before others.after))
+    (IsPermutation-middle (frames_of others.before) f (frames_of others.after)))
+  where
+    taken : Timed
+    taken = record { time = others.offered; frame = f }
+
+pub schedule-frames : {free : ℕ} {left starts : List Timed} → IsSchedule free left starts → IsPermutation (frames_of left) (frames_of starts)
+schedule-frames (over free) = IsPermutation-refl []
+schedule-frames (next free left rest start starts is others more) =
+    IsPermutation-trans (frames_of left) (start.frame ∷ frames_of rest) (start.frame ∷ frames_of starts)
+    (frames-taken start.frame left rest others) (IsPermutation-cons start.frame (frames_of rest) (frames_of starts) (schedule-frames more))
+
+-- ---- when they start
+
+-- none before the bus is free
+pub starts-free : {free : ℕ} {left starts : List Timed} → IsSchedule free left starts → (s : Timed) → Lists starts s → free ≤ s.time
+starts-free (over free) s there = absurd (stands-none s there)
+starts-free (next free left rest start starts is others more) s there =
+    elim (stands-cases start starts s there) [
+      | inl e ↦ let free_by = is.is_free in let same : start.time ≡ s.time = ap (λ (x : Timed). x.time) e in omega arith
+      | inr later ↦ let free_by = is.is_free in let behind = starts-free more s later in omega arith
+    ]
+
+-- a start, and the offer that is made for it
+pub record IsOffered (left : List Timed) (s : Timed) : Type 0 where
+  pub offer : Timed
+  pub is_offer : Lists left offer
+  pub in_time : offer.time ≤ s.time
+  pub same : offer.frame ≡ s.frame
+
+pub starts-offered : {free : ℕ} {left starts : List Timed} → IsSchedule free left starts → (s : Timed) → Lists starts s → IsOffered left s
+starts-offered (over free) s there = absurd (stands-none s there)
+starts-offered (next free left rest start starts is others more) s there =
+    elim (stands-cases start starts s there) [
+      | inl e ↦ subst (IsOffered left) e (record { offer = record { time = is.offered; frame = start.frame }; is_offer = is.left_over; in_time = is.in_time; same = refl })
+      | inr later ↦ let back = starts-offered more s later in
+          record { offer = back.offer; is_offer = rest-left start.frame left rest others back.offer back.is_offer; in_time = back.in_time; same = back.same }
+    ]
+
+-- none before it is offered
+pub starts-late : {free : ℕ} {left starts : List Timed} → IsSchedule free left starts → AreApart left → (offer start : Timed) → StartsAt left starts offer start → offer.time ≤ start.time
+starts-late {left = left} is apart offer start at =
+    let back = starts-offered is start at.is_start in
+    let one : offer ≡ back.offer = apart-one left apart offer back.offer at.is_offer back.is_offer (ap arbitration_field (sym at.same ∙ sym back.same)) in
+    let same : offer.time ≡ back.offer.time = ap (λ (x : Timed). x.time) one in
+    let early = back.in_time in
+    omega arith
+
+-- each behind the one before, its wire and its intermission
+pub starts-rise : {free : ℕ} {left starts : List Timed} → IsSchedule free left starts → (m n : ℕ) (s t : Timed) → m < n →
+    slice_get starts m ≡ Some s → slice_get starts n ≡ Some t → s.time + busy_time s.frame ≤ t.time
+starts-rise (over free) m n s t less a b = absurd (stands-none s (m, a))
+starts-rise (next free left rest start starts is others more) m zero s t less a b = absurd (omega arith)
+starts-rise (next free left rest start starts is others more) zero (suc n) s t less a b =
+    let first : start ≡ s = (let e : Some start ≡ Some s = a in cc) in
+    subst (λ (x : Timed). x.time + busy_time x.frame ≤ t.time) first (starts-free more t (n, b))
+starts-rise (next free left rest start starts is others more) (suc m) (suc n) s t less a b = starts-rise more m n s t (omega arith) a b

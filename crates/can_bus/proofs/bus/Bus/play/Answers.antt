@@ -1,0 +1,150 @@
+use Rattle.std.specs.Prelude.{◌↔◌, Ok}
+use Rattle.std.proofs.Common.{ℕ, List, ◌≡◌, ◌+◌, true, false, [], Some, length, map, arith, rules, refl, sym, ap, subst, ◌∙◌}
+use Rattle.std.proofs.lemmas.List.{length-map}
+use Rattle.std.proofs.lemmas.Option.{slice_get-get_or}
+use Rattle.can_frame.specs.declared.level.Level.TheVariants.{Recessive}
+use Rattle.can_node.specs.Ports.{PortState}
+use Rattle.can_bus.specs.declared.call.Call.{Call}
+use Rattle.can_bus.specs.declared.offer.Offer.{Offer}
+use Rattle.can_bus.specs.Offers.{AreOffered, all_made, played, refused_at}
+use Rattle.can_bus.specs.OpenBus.{IsOpenCall}
+use Rattle.can_bus.specs.Schedule.{Timed}
+use Rattle.can_bus.specs.Run.{BusState, Course}
+use Rattle.can_bus.specs.State.{state_of}
+use Rattle.can_bus.specs.Walks.{IsCall, IsReached}
+use Rattle.can_bus.proofs.OfferLemmas.{reached-first, length-all_made}
+use Rattle.can_bus.proofs.OpenCalls.{not-open, open-counters, open-logs, open-missed, open-refused, open-track, open-whole}
+use Rattle.can_bus.proofs.PlayLemmas.{ready, played-none, refused-none, played-more, played_level-more, refused-more}
+use Rattle.can_bus.proofs.QuietStart.{valid-ports}
+use Rattle.can_bus.proofs.RunLemmas.{length-step}
+use Rattle.can_bus.proofs.StepLemmas.{first_ready}
+use Rattle.can_bus.proofs.bus.Bus.play.Goals as goal
+
+pub returns-in_err-check-clause-taken : goal.returns-in_err-check-clause-taken
+returns-in_err-check-clause-taken g c =
+    let size : c.len.result ≡ length c.args.self.now.ports.items = search rules in
+    let untaken : AreOffered (length c.args.self.now.ports.items) c.args.offers.now → ⊥ =
+    λ offered. let e : false ≡ true = c.in_err-check.ensures.taken.1 (subst (λ n. AreOffered n c.args.offers.now) (sym size) offered) in cc in
+    (search rules, λ offered. absurd (untaken offered))
+
+pub returns-clause-taken : goal.returns-clause-taken
+returns-clause-taken g c =
+    let size : c.len.result ≡ length c.args.self.now.ports.items = search rules in
+    (λ e. subst (λ n. AreOffered n c.args.offers.now) size (c.in_ok-check.ensures.taken.0 (refl {a = true})), λ offered. refl {a = true})
+
+pub loop-slot-init : goal.loop-slot-init
+loop-slot-init g c = record {
+  bus = played-none c.args.offers.now (state_of g.P.Port.port c.args.self.now);
+  levels = λ t d h. absurd (omega arith);
+  count = refused-none c.args.offers.now (state_of g.P.Port.port c.args.self.now);
+  reached = reached-first c.args.offers.now;
+  refused = omega arith;
+  size = refl;
+  call = subst (IsCall []) (sym c.new-call.ensures) (first_ready []);
+  time = ap (λ (k : Call). k.time) c.new-call.ensures;
+}
+
+pub make_all-requires-clause-offered : goal.make_all-requires-clause-offered
+make_all-requires-clause-offered g c =
+    let size : c.len.result ≡ length c.args.self.now.ports.items = search rules in
+    subst (λ n. AreOffered n c.args.offers.now) (size ∙ sym c.loop-slot.invariant.size) (c.in_ok-check.ensures.taken.0 (refl {a = true}))
+
+pub loop-slot-preserved : goal.loop-slot-preserved
+loop-slot-preserved g c =
+    let S = g.P.Port.port in
+    let offers = c.args.offers.now in
+    let now = state_of g.P.Port.port c.loop-slot.self in
+    let time = c.loop-slot.invariant.time in
+    let is-ready : state_of g.P.Port.port c.make_all.new.self ≡ ready c.args.offers.now c.loop-slot.slot-index (state_of g.P.Port.port c.loop-slot.self) =
+    ap (λ ps. let b : BusState = record { ports = ps; rest = c.make_all.new.self.rest } in b) (c.make_all.ensures.ports ∙ ap (λ t. all_made offers t (map S c.loop-slot.self.ports.items)) time)
+    ∙ ap (λ r. let b : BusState = record { ports = all_made offers c.loop-slot.slot-index (map S c.loop-slot.self.ports.items); rest = r } in b) c.make_all.ensures.rest in
+    record {
+      bus = played-more offers c.loop-slot.slot-index (state_of g.P.Port.port c.args.self.now) now _ _ c.loop-slot.invariant.bus is-ready c.step.ensures.after;
+      levels = played_level-more offers c.loop-slot.slot-index (state_of g.P.Port.port c.args.self.now) now _ c.loop-slot.rec c.step.result (omega arith)
+          c.loop-slot.invariant.bus is-ready c.step.ensures.level c.loop-slot.invariant.levels;
+      count = refused-more offers c.loop-slot.slot-index c.loop-slot.progress.refused _ (state_of g.P.Port.port c.args.self.now) now c.loop-slot.invariant.bus c.loop-slot.invariant.count
+          (c.make_all.ensures.count ∙ ap (λ t. c.loop-slot.progress.refused + refused_at offers t now.ports) time);
+      reached = subst (λ t. IsReached offers c.make_all.new.progress.place (t + 1)) time c.make_all.ensures.reached;
+      refused = c.make_all.ensures.refused;
+      size = sym (length-map c.step.new.self.ports.items S) ∙ ap (λ (k : Course). length k.bus.ports) c.step.ensures.after ∙ length-step [] _
+          ∙ ap length c.make_all.ensures.ports ∙ length-all_made offers _ (map S c.loop-slot.self.ports.items) ∙ length-map c.loop-slot.self.ports.items S ∙ c.loop-slot.invariant.size;
+      call = c.step.ensures.call;
+      time = c.step.ensures.time ∙ ap (λ n. n + 1) time;
+    }
+
+pub returns-clause-levels : goal.returns-clause-levels
+returns-clause-levels g c = λ t h.
+    slice_get-get_or c.loop-slot.rec t Recessive h ∙ ap Some (c.loop-slot.invariant.levels t Recessive (omega arith))
+
+-- ---- a bus that follows the schedule
+
+-- offers that are refused meet no premises
+shut : {X : Type 0} (state : X → PortState) (xs : List X) (size : ℕ) (offers : List Offer) → size ≡ length xs → ((false ≡ true) ↔ AreOffered size offers) →
+    (starts : List Timed) → IsOpenCall offers (map state xs) starts → ⊥
+shut state xs size offers same taken starts call = not-open state xs size offers starts same (λ offered. let e : false ≡ true = taken.1 offered in cc) call
+
+pub returns-in_err-check-clause-answer : goal.returns-in_err-check-clause-answer
+returns-in_err-check-clause-answer g c = λ starts call.
+    let size : c.len.result ≡ length c.args.self.now.ports.items = search rules in
+    absurd (shut g.P.Port.port c.args.self.now.ports.items c.len.result c.args.offers.now size c.in_err-check.ensures.taken starts call)
+
+pub returns-in_err-check-clause-track : goal.returns-in_err-check-clause-track
+returns-in_err-check-clause-track g c = λ starts call t within.
+    let size : c.len.result ≡ length c.args.self.now.ports.items = search rules in
+    absurd (shut g.P.Port.port c.args.self.now.ports.items c.len.result c.args.offers.now size c.in_err-check.ensures.taken starts call)
+
+pub returns-in_err-check-clause-open_logs : goal.returns-in_err-check-clause-open_logs
+returns-in_err-check-clause-open_logs g c = λ starts call.
+    let size : c.len.result ≡ length c.args.self.now.ports.items = search rules in
+    absurd (shut g.P.Port.port c.args.self.now.ports.items c.len.result c.args.offers.now size c.in_err-check.ensures.taken starts call)
+
+pub returns-in_err-check-clause-open_whole : goal.returns-in_err-check-clause-open_whole
+returns-in_err-check-clause-open_whole g c = λ starts call past.
+    let size : c.len.result ≡ length c.args.self.now.ports.items = search rules in
+    absurd (shut g.P.Port.port c.args.self.now.ports.items c.len.result c.args.offers.now size c.in_err-check.ensures.taken starts call)
+
+pub returns-in_err-check-clause-open_counters : goal.returns-in_err-check-clause-open_counters
+returns-in_err-check-clause-open_counters g c = λ starts call.
+    let size : c.len.result ≡ length c.args.self.now.ports.items = search rules in
+    absurd (shut g.P.Port.port c.args.self.now.ports.items c.len.result c.args.offers.now size c.in_err-check.ensures.taken starts call)
+
+pub returns-in_err-check-clause-open_missed : goal.returns-in_err-check-clause-open_missed
+returns-in_err-check-clause-open_missed g c = λ starts call.
+    let size : c.len.result ≡ length c.args.self.now.ports.items = search rules in
+    absurd (shut g.P.Port.port c.args.self.now.ports.items c.len.result c.args.offers.now size c.in_err-check.ensures.taken starts call)
+
+pub returns-clause-bus : goal.returns-clause-bus
+returns-clause-bus g c =
+    let size : c.loop-slot.slot-index ≡ length c.loop-slot.rec = omega arith in
+    c.loop-slot.invariant.bus ∙ ap (λ n. played c.args.offers.now n (state_of g.P.Port.port c.args.self.now)) size
+
+pub returns-clause-answer : goal.returns-clause-answer
+returns-clause-answer g c = λ starts call.
+    ap Ok (c.loop-slot.invariant.count ∙ open-refused c.args.offers.now starts (state_of g.P.Port.port c.args.self.now) (valid-ports g.P.Port.port (λ x. g.met.P.Port.valid x) c.args.self.now.ports.items)
+    (c.in_ok-check.ensures.known (refl {a = true})) call c.loop-slot.slot-index)
+
+pub returns-clause-track : goal.returns-clause-track
+returns-clause-track g c = λ starts call t within.
+    returns-clause-levels g c t within
+    ∙ ap Some (open-track c.args.offers.now starts (state_of g.P.Port.port c.args.self.now) (valid-ports g.P.Port.port (λ x. g.met.P.Port.valid x) c.args.self.now.ports.items)
+    (c.in_ok-check.ensures.known (refl {a = true})) call t)
+
+pub returns-clause-open_logs : goal.returns-clause-open_logs
+returns-clause-open_logs g c = λ starts call.
+    open-logs c.args.offers.now starts (state_of g.P.Port.port c.args.self.now) (valid-ports g.P.Port.port (λ x. g.met.P.Port.valid x) c.args.self.now.ports.items)
+    (c.in_ok-check.ensures.known (refl {a = true})) call _ _ (returns-clause-bus g c)
+
+pub returns-clause-open_whole : goal.returns-clause-open_whole
+returns-clause-open_whole g c = λ starts call past.
+    open-whole c.args.offers.now starts (state_of g.P.Port.port c.args.self.now) (valid-ports g.P.Port.port (λ x. g.met.P.Port.valid x) c.args.self.now.ports.items)
+    (c.in_ok-check.ensures.known (refl {a = true})) call _ _ (returns-clause-bus g c) past
+
+pub returns-clause-open_counters : goal.returns-clause-open_counters
+returns-clause-open_counters g c = λ starts call.
+    open-counters c.args.offers.now starts (state_of g.P.Port.port c.args.self.now) (valid-ports g.P.Port.port (λ x. g.met.P.Port.valid x) c.args.self.now.ports.items)
+    (c.in_ok-check.ensures.known (refl {a = true})) call _ _ (returns-clause-bus g c)
+
+pub returns-clause-open_missed : goal.returns-clause-open_missed
+returns-clause-open_missed g c = λ starts call.
+    open-missed c.args.offers.now starts (state_of g.P.Port.port c.args.self.now) (valid-ports g.P.Port.port (λ x. g.met.P.Port.valid x) c.args.self.now.ports.items)
+    (c.in_ok-check.ensures.known (refl {a = true})) call _ _ (returns-clause-bus g c)

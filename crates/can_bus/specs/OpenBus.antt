@@ -1,0 +1,86 @@
+-- A quiet bus to whose ports frames are offered while it goes on: its frames go out by their schedule.
+use Rattle.std.specs.Prelude.{ℕ, zero, suc, ◌≡◌, ◌+◌, ◌≤◌, ◌==◌, List, [], ◌∷◌, ◌++◌, All, length, map, filter, slice_get, Some}
+use Rattle.can_frame.specs.Parts.{Parts}
+use Rattle.can_code.specs.Wire.{wire}
+use Rattle.can_node.specs.Ports.{PortState}
+use Rattle.can_bus.specs.declared.offer.Offer.{Offer}
+use Rattle.can_bus.specs.Offers.{AreOffered, all_made}
+use Rattle.can_bus.specs.Plans.{PortPlan, planned}
+use Rattle.can_bus.specs.Quiet.{AreDifferent, Begins, IsQuietPort, marked}
+use Rattle.can_bus.specs.Run.{BusState}
+use Rattle.can_bus.specs.Schedule.{IsScheduleOf, Lists, Timed, frames_of}
+
+-- frames that wait as the call begins: each counts as an offer at time 0
+abbrev pub offered_first : List Parts → List Timed
+offered_first queue = map (λ f. record { time = 0; frame = f }) queue
+
+-- an offer, whatever its port
+abbrev pub timed : Offer → Timed
+timed offer = record { time = offer.time; frame = offer.frame }
+
+-- what is offered to the port of this number
+abbrev pub offered_to : ℕ → List Offer → List Timed
+offered_to node offers = map timed (filter (λ offer. offer.node == node) offers)
+
+-- what the port of this number has to send, in this order
+abbrev pub own_offers : List Offer → ℕ → PortState → List Timed
+own_offers offers node p = offered_first p.queue ++ offered_to node offers
+
+-- what all these ports have to send, where the first has this number
+abbrev pub all_offers : List Offer → ℕ → List PortState → List Timed
+all_offers offers node [] = []
+all_offers offers node (p ∷ ports) = own_offers offers node p ++ all_offers offers (node + 1) ports
+
+-- each queue has room for what it holds and what is offered to its port
+abbrev pub HaveRooms : List Offer → List PortState → Type 0
+HaveRooms offers ports = (n : ℕ) (p : PortState) → slice_get ports n ≡ Some p → length (own_offers offers n p) ≤ p.queue_room
+
+-- What the theorem asks of a bus, of the frames that are offered to it, and of their schedule.
+pub record IsOpenCall (offers : List Offer) (ports : List PortState) (starts : List Timed) : Type 0 where
+  pub two : 2 ≤ length ports
+  pub most : length ports ≤ 64
+  -- the offers come in the order of their times, each to a port that is there
+  pub offered : AreOffered (length ports) offers
+  -- each port is idle, has counted no error, and its log has room for all frames
+  pub quiet : (n : ℕ) (p : PortState) → slice_get ports n ≡ Some p → IsQuietPort (length (all_offers offers 0 ports)) p
+  pub room : HaveRooms offers ports
+  -- the schedule of all frames, of which no two have one arbitration field
+  pub scheduled : IsScheduleOf (all_offers offers 0 ports) starts
+
+-- the wires of all starts have ended by this time
+abbrev pub AreOver : List Timed → ℕ → Type 0
+AreOver starts t = (s : Timed) → Lists starts s → s.time + length (wire s.frame) ≤ t
+
+-- at each port, which has a number, before and after
+abbrev pub AtEachNode : (ℕ → PortState → PortState → Type 0) → List PortState → List PortState → Type 0
+AtEachNode R before after = (n : ℕ) (p q : PortState) → slice_get before n ≡ Some p → slice_get after n ≡ Some q → R n p q
+
+-- the log names the first of the frames that start, each as sent where the port had it to send
+abbrev pub OpenLogBegins : List Offer → List Timed → ℕ → PortState → PortState → Type 0
+OpenLogBegins offers starts node p q = Begins q.log (marked (frames_of (own_offers offers node p)) (frames_of starts))
+
+-- the log names all of them
+abbrev pub OpenLogWhole : List Offer → List Timed → ℕ → PortState → PortState → Type 0
+OpenLogWhole offers starts node p q = q.log ≡ marked (frames_of (own_offers offers node p)) (frames_of starts)
+
+-- all offers are made at time 0
+abbrev pub AreMadeFirst : List Offer → Type 0
+AreMadeFirst offers = (n : ℕ) (offer : Offer) → slice_get offers n ≡ Some offer → offer.time ≡ 0
+
+-- the bus, with the offers of time 0 made
+abbrev pub with_first : List Offer → BusState → BusState
+with_first offers bus = record bus { ports = all_made offers 0 bus.ports }
+
+-- what waits at the port of this number is all that it has to send
+abbrev pub WaitsAt : List Offer → ℕ → PortState → PortState → Type 0
+WaitsAt offers node p q = q.queue ≡ frames_of (own_offers offers node p)
+
+-- How an open bus is made: two to 64 ports, offers in order, of which each names a port, and no two frames with one
+-- arbitration field; each queue and each log has room for all frames.
+pub record IsOpenPlan (offers : List Offer) (plans : List PortPlan) : Type 0 where
+  pub two : 2 ≤ length plans
+  pub most : length plans ≤ 64
+  pub offered : AreOffered (length plans) offers
+  pub different : AreDifferent (planned plans ++ map (λ offer. offer.frame) offers)
+  pub queues : All (λ plan. length (planned plans) + length offers ≤ plan.queue_room) plans
+  pub logs : All (λ plan. length (planned plans) + length offers ≤ plan.log_room) plans
