@@ -1,6 +1,6 @@
 -- Where a bus begins to which frames are offered meanwhile: its ports, as the offers of time 0 are made, and the room that they have.
 use Rattle.std.specs.Prelude.{filter, slice_get}
-use Rattle.std.proofs.Common.{◌≡◌, ℕ, zero, suc, ◌+◌, ◌<◌, ◌≤◌, Some, List, [], ◌∷◌, ◌++◌, length, map, refl, sym, ap, subst, ◌∙◌, arith, inl, inr, append_assoc}
+use Rattle.std.proofs.Common.{◌≡◌, ℕ, suc, ◌+◌, ◌≤◌, Some, List, [], ◌∷◌, ◌++◌, length, refl, sym, ap, subst, ◌∙◌, arith, inl, inr, append_assoc}
 use Rattle.std.proofs.Math.Dec.{eqb}
 use Rattle.std.proofs.lemmas.Bool.{cases_eq}
 use Rattle.std.proofs.lemmas.List.{append-nil, length-append, length-map}
@@ -22,7 +22,7 @@ use Rattle.can_bus.proofs.OfferTimes.{AreInOrder, at-first, length-offered_by, o
 use Rattle.can_bus.proofs.OpenBus.{wire_with}
 use Rattle.can_bus.proofs.OpenPorts.{OpenPort, IsOpenPort, calm-gains, frames-offered}
 use Rattle.can_bus.proofs.OpenRounds.{OpenRound, held, machines_of}
-use Rattle.can_bus.proofs.PlayedRuns.{AreRoomy, HaveRoom, IsOpen, all-taken, all_offered, arriving, open_bus, open_ports, to-here, to-other}
+use Rattle.can_bus.proofs.PlayedRuns.{AreRoomy, HaveRoom, IsOpen, all-taken, all_offered, arriving, open_ports, to-here, to-other}
 use Rattle.can_bus.proofs.QuietStart.{calm-port}
 use Rattle.can_bus.proofs.WireRuns.{Wire}
 
@@ -69,8 +69,7 @@ room-start offers node (p ∷ ports) each =
     let rest = room-start offers (node + 1) ports each.1 in
     let both : length (own_offers offers node p) ≡ length (offered_first p.queue) + length own = length-append (offered_first p.queue) own in
     let waits : length (offered_first p.queue) ≡ length p.queue = length-map p.queue (λ f. let x : Timed = record { time = 0; frame = f } in x) in
-    let now : length (arriving offers node 0) ≡ length (offered_by 0 own) = ap length (at-first own) in
-    (
+    let now : length (arriving offers node 0) ≡ length (offered_by 0 own) = ap length (at-first own) in (
       (omega (arith, each.0, both, waits, now, length-offered_by 0 own), rest.0),
       (omega (arith, each.0, both, waits, now, length-append p.queue (arriving offers node 0)), rest.1),
     )

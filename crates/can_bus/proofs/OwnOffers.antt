@@ -1,14 +1,12 @@
 -- Offers of which no two have one arbitration field: what is offered by a time, and what is left without one of them.
-use Rattle.std.proofs.Common.{◌≡◌, ℕ, zero, suc, ◌<◌, ◌≤◌, ◌⊎◌, true, false, List, [], ◌∷◌, ◌++◌, Some, length, refl, sym, ap, subst, ◌∙◌, arith, inl, inr}
-use Rattle.std.specs.Prelude.{slice_get}
+use Rattle.std.proofs.Common.{◌≡◌, ℕ, ◌⊎◌, true, false, List, [], ◌∷◌, ◌++◌, refl, sym, ap, subst, ◌∙◌, inl, inr}
 use Rattle.std.proofs.lemmas.Bool.{cond-true, cond-false, cases_Bool, cases_lt}
 use Rattle.can_frame.specs.Parts.{Parts}
-use Rattle.can_frame.specs.Arbitration.{arbitration_field}
 use Rattle.can_node.specs.Ports.{same_field, without}
 use Rattle.can_node.proofs.WaitingLemmas.{same_field-Shares}
 use Rattle.can_bus.specs.Schedule.{Timed, Lists, frames_of, offered_by, without_offer}
 use Rattle.can_bus.proofs.Ascending.{Other}
-use Rattle.can_bus.proofs.Contests.{Has, Distinct, at-has, has-at}
+use Rattle.can_bus.proofs.Contests.{Has, Distinct, at-has}
 use Rattle.can_bus.proofs.Members.{Stands, stands-here, stands-later, stands-cases}
 use Rattle.can_bus.proofs.NextStarts.{AreApart, offered-stands}
 use Rattle.can_bus.proofs.OfferTimes.{by-early, by-late}

@@ -1,5 +1,5 @@
 -- A quiet bus to whose ports frames are offered while it goes on: its frames go out by their schedule.
-use Rattle.std.specs.Prelude.{ℕ, zero, suc, ◌≡◌, ◌+◌, ◌≤◌, ◌==◌, List, [], ◌∷◌, ◌++◌, All, length, map, filter, slice_get, Some}
+use Rattle.std.specs.Prelude.{ℕ, ◌≡◌, ◌+◌, ◌≤◌, ◌==◌, List, [], ◌∷◌, ◌++◌, All, length, map, filter, slice_get, Some}
 use Rattle.can_frame.specs.Parts.{Parts}
 use Rattle.can_code.specs.Wire.{wire}
 use Rattle.can_node.specs.Ports.{PortState}

@@ -1,4 +1,4 @@
-use Rattle.std.proofs.Common.{ℕ, ◌<◌, ◌+◌, ◌≡◌, Some, length, get_or, slice_get, refl, sym, arith, subst, below_more}
+use Rattle.std.proofs.Common.{◌<◌, ◌≡◌, Some, length, get_or, slice_get, refl, sym, arith, subst, below_more}
 use Rattle.std.proofs.lemmas.Option.{slice_get_read, slice_get_within, get_or_from_slice_get}
 use Rattle.can_frame.specs.Parts.{IsFrame}
 use Rattle.can_bus.specs.declared.offer.Offer.{Offer}
