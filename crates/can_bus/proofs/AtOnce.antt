@@ -1,6 +1,6 @@
 -- Where all frames are offered at time 0 the schedule is that of a quiet bus: its frames ascend, and its track is their line.
-use Rattle.std.proofs.Common.{◌≡◌, ℕ, zero, suc, ◌+◌, ◌-◌, ◌<◌, ◌≤◌, Some, List, [], ◌∷◌, ◌++◌, length, map, replicate, refl, sym, ◌∙◌, ap, subst, inl, inr, arith, length-append}
-use Rattle.std.specs.Prelude.{slice_get, slice_index_or, nat_lt}
+use Rattle.std.proofs.Common.{◌≡◌, ℕ, zero, suc, ◌+◌, ◌-◌, ◌<◌, ◌≤◌, Some, List, ◌∷◌, length, replicate, refl, sym, ◌∙◌, ap, subst, inl, inr, arith, length-append}
+use Rattle.std.specs.Prelude.{slice_index_or, nat_lt}
 use Rattle.std.specs.List.{flat_map}
 use Rattle.std.proofs.lemmas.Bool.{cases_Bool, ltb-true, ltb-false}
 use Rattle.std.proofs.lemmas.List.{get_or_append_left, get_or-append_right, length-replicate}
@@ -9,13 +9,13 @@ use Rattle.can_frame.specs.declared.level.Level.TheVariants.{Recessive}
 use Rattle.can_frame.specs.Parts.{Parts}
 use Rattle.can_frame.specs.Arbitration.{arbitration_field, Before}
 use Rattle.can_code.specs.Wire.{wire}
-use Rattle.can_bus.specs.Quiet.{AreDifferent, IsRising, IsAscending, ascending, with_intermission, line_at}
-use Rattle.can_bus.specs.Schedule.{Timed, busy_time, frames_of, Lists, AreAtOnce, IsNextStart, AreOthers, IsSchedule, over, next, IsScheduleOf, schedule, track_at}
+use Rattle.can_bus.specs.Quiet.{AreDifferent, IsRising, ascending, with_intermission, line_at}
+use Rattle.can_bus.specs.Schedule.{Timed, busy_time, frames_of, Lists, AreAtOnce, IsNextStart, AreOthers, IsSchedule, over, next, schedule, track_at}
 use Rattle.can_bus.proofs.Ascending.{ascending_only}
-use Rattle.can_bus.proofs.Members.{stands-none, stands-here, map-stands}
+use Rattle.can_bus.proofs.Members.{stands-none, map-stands}
 use Rattle.can_bus.proofs.NextStarts.{AreApart, apart-from, rest-left, rest-apart, rest-other}
 use Rattle.can_bus.proofs.Schedules.{one-schedule, schedule-frames, starts-free, starts-offered}
-use Rattle.can_bus.proofs.Tracks.{track-on, track-before, track-behind, track-rests}
+use Rattle.can_bus.proofs.Tracks.{track-on, track-behind, track-rests}
 
 rest-at_once : (f : Parts) (left rest : List Timed) → AreOthers f left rest → AreAtOnce left → AreAtOnce rest
 rest-at_once f left rest others all x s = all x (rest-left f left rest others x s)

@@ -1,13 +1,13 @@
 -- The next start of a schedule: it is there, it is one, and it is what `schedule_from` begins with.
-use Rattle.std.proofs.Common.{◌≡◌, ◌≢◌, ℕ, zero, suc, ◌+◌, ◌≤◌, ◌⊎◌, Bool, true, false, Some, List, [], ◌∷◌, ◌++◌, length, refl, sym, ◌∙◌, ap, subst, inl, inr, arith, length-append}
-use Rattle.std.specs.Prelude.{Option, None, max, min, fold, nat_le, filter, slice_get}
+use Rattle.std.proofs.Common.{◌≡◌, ℕ, suc, ◌+◌, ◌≤◌, ◌⊎◌, Bool, Some, List, [], ◌∷◌, ◌++◌, length, refl, sym, ◌∙◌, ap, subst, inl, inr, arith, length-append}
+use Rattle.std.specs.Prelude.{max, min, fold, nat_le, filter}
 use Rattle.std.proofs.lemmas.Bool.{cond-true, cond-false, cases_Bool, le-leb, leb-true, leb-false}
 use Rattle.can_frame.specs.Parts.{Parts}
 use Rattle.can_frame.specs.Arbitration.{arbitration_field, Before}
 use Rattle.can_frame.proofs.FieldLemmas.{fields_ranked}
 use Rattle.can_node.specs.Ports.{same_field, waiting}
 use Rattle.can_node.specs.Waiting.{IsWaiting}
-use Rattle.can_node.proofs.WaitingLemmas.{same_field-Shares, Shares-same_field, not_same}
+use Rattle.can_node.proofs.WaitingLemmas.{same_field-Shares, Shares-same_field}
 use Rattle.can_node.proofs.WaitingLaws.{waiting-some, waiting-IsWaiting}
 use Rattle.can_bus.specs.Quiet.{AreDifferent}
 use Rattle.can_bus.specs.Schedule.{Timed, busy_time, frames_of, Lists, IsNextStart, AreOthers, earliest, offered_by, without_offer, start_of, schedule_from}

@@ -6,9 +6,8 @@ use Rattle.std.proofs.lemmas.List.{map-append}
 use Rattle.std.proofs.lemmas.List.Sorted.{IsPermutation-refl, IsPermutation-trans, IsPermutation-cons, IsPermutation-middle}
 use Rattle.can_frame.specs.Parts.{Parts}
 use Rattle.can_frame.specs.Arbitration.{arbitration_field}
-use Rattle.can_node.specs.Ports.{waiting}
 use Rattle.can_bus.specs.Quiet.{AreDifferent}
-use Rattle.can_bus.specs.Schedule.{Timed, busy_time, frames_of, Lists, IsNextStart, AreOthers, IsSchedule, over, next, IsScheduleOf, StartsAt, offered_by, without_offer, start_of, schedule_from, schedule}
+use Rattle.can_bus.specs.Schedule.{Timed, busy_time, frames_of, Lists, IsNextStart, AreOthers, IsSchedule, over, next, IsScheduleOf, StartsAt, without_offer, schedule_from, schedule}
 use Rattle.can_bus.proofs.Members.{stands-none, stands-cases}
 use Rattle.can_bus.proofs.NextStarts.{AreApart, apart-from, apart-one, rest-left, rest-length, rest-apart, rest-without, others-without, schedule-next, one-next, next_start}
 

@@ -1,12 +1,11 @@
 -- The track of a schedule: each wire from its start on, and recessive levels elsewhere.
-use Rattle.std.proofs.Common.{◌≡◌, ℕ, ◌+◌, ◌-◌, ◌<◌, ◌≤◌, Bool, true, false, List, [], ◌∷◌, length, refl, sym, ◌∙◌, ap, subst, inl, inr, arith}
+use Rattle.std.proofs.Common.{◌≡◌, ℕ, ◌+◌, ◌-◌, ◌<◌, ◌≤◌, Bool, List, [], ◌∷◌, length, refl, ◌∙◌, ap, subst, inl, inr, arith}
 use Rattle.std.specs.Prelude.{slice_index_or, nat_lt, nat_le, ◌&&◌}
 use Rattle.std.proofs.lemmas.Bool.{cond-true, cond-false, cases_Bool, le-leb, leb-true, leb-false, lt-leb, lt-ltb, le-ltb}
 use Rattle.can_frame.specs.declared.level.Level.{Level}
 use Rattle.can_frame.specs.declared.level.Level.TheVariants.{Recessive}
-use Rattle.can_frame.specs.Parts.{Parts}
 use Rattle.can_code.specs.Wire.{wire}
-use Rattle.can_bus.specs.Schedule.{Timed, busy_time, Lists, IsSchedule, over, next, track_at}
+use Rattle.can_bus.specs.Schedule.{Timed, Lists, IsSchedule, over, next, track_at}
 use Rattle.can_bus.proofs.Members.{stands-none, stands-here, stands-later, stands-cases}
 use Rattle.can_bus.proofs.Schedules.{starts-free}
 

@@ -1,6 +1,6 @@
 -- Bounds on how long an offered frame waits for its start.
-use Rattle.std.proofs.Common.{◌≡◌, ℕ, zero, suc, ◌+◌, ◌-◌, ◌*◌, ◌<◌, ◌≤◌, Bool, true, false, cond, List, [], ◌∷◌, ◌++◌, length, All, get_or, refl, sym, ◌∙◌, ap, subst, inl, inr, arith}
-use Rattle.std.specs.Prelude.{max, filter, nat_le, nat_lt, ◌&&◌}
+use Rattle.std.proofs.Common.{◌≡◌, ℕ, suc, ◌+◌, ◌*◌, ◌<◌, ◌≤◌, Bool, true, false, cond, List, [], ◌∷◌, ◌++◌, length, get_or, refl, sym, ◌∙◌, ap, subst, inl, inr, arith}
+use Rattle.std.specs.Prelude.{filter, nat_le, nat_lt, ◌&&◌}
 use Rattle.std.specs.List.{sum_by}
 use Rattle.std.proofs.lemmas.Bool.{cond-false, cases_Bool, leb-true, leb-false, lt-ltb, ltb-true, ltb-false}
 use Rattle.std.proofs.lemmas.List.Elements.{filter-append}
@@ -8,15 +8,14 @@ use Rattle.std.proofs.lemmas.List.Sums.{sum_by-cons, sum_by-append, sum_by-le}
 use Rattle.std.proofs.lemmas.Option.{slice_get-get_or}
 use Rattle.can_frame.specs.Parts.{Parts, IsFrame}
 use Rattle.can_frame.specs.Arbitration.{arbitration_field, Before}
-use Rattle.can_code.specs.Wire.{wire}
 use Rattle.can_code.proofs.WireLemmas.{length-wire-le}
 use Rattle.can_node.specs.Ports.{goes_before}
 use Rattle.can_node.proofs.WaitingLemmas.{Wins-goes_before}
-use Rattle.can_bus.specs.Schedule.{Timed, busy_time, Lists, IsNextStart, AreOthers, IsSchedule, over, next, IsScheduleOf, StartsAt}
+use Rattle.can_bus.specs.Schedule.{Timed, busy_time, Lists, AreOthers, IsSchedule, over, next, IsScheduleOf, StartsAt}
 use Rattle.can_bus.specs.Waiting.{left_at, starts_between, ahead_of, busy_times, FindsFree}
 use Rattle.can_bus.proofs.Members.{stands-none, stands-here, stands-later, stands-cases, filter-stands}
 use Rattle.can_bus.proofs.NextStarts.{AreApart, apart-from, apart-one, rest-left, rest-apart, taken, taken-left}
-use Rattle.can_bus.proofs.Schedules.{starts-free, starts-late, starts-offered}
+use Rattle.can_bus.proofs.Schedules.{starts-offered}
 use Rattle.can_bus.proofs.Waits.{left-during, left-before, left-behind, still-left, goes-behind, next-late, wait-exact, wait-behind}
 
 both : (a b : Bool) → a && b ≡ true → (a ≡ true) × (b ≡ true)

@@ -1,12 +1,10 @@
 -- How long an offered frame waits for its start.
-use Rattle.std.proofs.Common.{◌≡◌, ◌≢◌, ℕ, zero, suc, ◌+◌, ◌-◌, ◌*◌, ◌<◌, ◌≤◌, Bool, true, false, List, [], ◌∷◌, ◌++◌, length, All, get_or, refl, sym, ◌∙◌, ap, subst, inl, inr, arith}
-use Rattle.std.specs.Prelude.{max, slice_get, filter, nat_le, nat_lt, ◌&&◌, if◌then◌else◌}
-use Rattle.std.specs.List.{sum_by}
+use Rattle.std.proofs.Common.{◌≡◌, ℕ, ◌+◌, ◌-◌, ◌<◌, ◌≤◌, Bool, List, [], ◌∷◌, refl, sym, ◌∙◌, ap, subst, inl, inr, arith}
+use Rattle.std.specs.Prelude.{max, nat_le, nat_lt, ◌&&◌}
 use Rattle.std.proofs.lemmas.Bool.{cond-true, cond-false, cases_Bool, le-leb, lt-leb, leb-true, leb-false, lt-ltb, le-ltb, ltb-true, ltb-false}
-use Rattle.std.proofs.lemmas.List.Sums.{sum_by-cons, sum_by-append, sum_by-le}
-use Rattle.can_frame.specs.Parts.{Parts}
+use Rattle.std.proofs.lemmas.List.Sums.{sum_by-cons}
 use Rattle.can_frame.specs.Arbitration.{arbitration_field, Before}
-use Rattle.can_bus.specs.Schedule.{Timed, busy_time, Lists, IsNextStart, AreOthers, IsSchedule, over, next, StartsAt}
+use Rattle.can_bus.specs.Schedule.{Timed, busy_time, Lists, IsNextStart, AreOthers, IsSchedule, over, next}
 use Rattle.can_bus.specs.Waiting.{left_at, starts_between, busy_times}
 use Rattle.can_bus.proofs.Members.{stands-none, stands-here, stands-later, stands-cases}
 use Rattle.can_bus.proofs.NextStarts.{AreApart, apart-one, rest-left, rest-apart, rest-other}
