@@ -14,7 +14,8 @@ use Rattle.can_bus.proofs.Contests.{Has, Distinct, AllPorts, at-has, has-at, win
 use Rattle.can_bus.proofs.FrameOnBus.{AllReceive, OneSends, ports_of}
 use Rattle.can_bus.proofs.NextStarts.{AreApart, offered-stands, stands-offered, rest-left, left-cases, rest-length, rest-apart, rest-other, others-without}
 use Rattle.can_bus.proofs.OfferTimes.{offered_by-append}
-use Rattle.can_bus.proofs.OwnOffers.{stands-front, stands-back, apart-front, apart-back, apart-across, apart-distinct, without-append}
+use Rattle.can_bus.proofs.Members.{stands-front, stands-back}
+use Rattle.can_bus.proofs.OwnOffers.{apart-front, apart-back, apart-across, apart-distinct, without-append}
 use Rattle.can_bus.proofs.OpenPorts.{OpenPort, IsOpenPort, queue-now, rested, open-rested, HasPart, behind_frame, open-behind}
 use Rattle.can_bus.proofs.Rounds.{IsCalm, all-ready, frame-queued, one-has, sends-has}
 use Rattle.can_bus.proofs.QuietLine.{IsAtRest, calm-rests}
