@@ -1,5 +1,5 @@
 -- Which elements a list has, place by place.
-use Rattle.std.proofs.Common.{◌≡◌, ℕ, zero, suc, ◌⊎◌, Bool, true, false, cond, Some, List, [], ◌∷◌, ◌++◌, map, refl, sym, ◌∙◌, ap, inl, inr}
+use Rattle.std.proofs.Common.{◌≡◌, ℕ, zero, suc, ◌⊎◌, Bool, true, false, cond, Some, List, [], ◌∷◌, ◌++◌, map, refl, sym, ◌∙◌, ap, subst, inl, inr}
 use Rattle.std.specs.Prelude.{slice_get, filter, option_map}
 use Rattle.std.proofs.lemmas.Bool.{cond-true}
 use Rattle.std.proofs.lemmas.Option.{slice_get-map}
@@ -41,6 +41,26 @@ stands-apart (z ∷ xs) y ys x s =
       | inl e ↦ inr (0, ap Some e)
       | inr later ↦ elim (stands-apart xs y ys x later) [ inl e ↦ inl e | inr other ↦ inr (stands-later z (xs ++ ys) x other) ]
     ]
+
+-- ---- two lists, one behind the other
+
+pub stands-front : {A : Type 0} (a b : List A) (x : A) → Stands a x → Stands (a ++ b) x
+stands-front [] b x s = let e = s.1 in cc
+stands-front (y ∷ a) b x s = elim (stands-cases y a x s) [
+  | inl same ↦ subst (λ z. Stands (y ∷ (a ++ b)) z) same (stands-here y (a ++ b))
+  | inr later ↦ stands-later y (a ++ b) x (stands-front a b x later)
+]
+
+pub stands-back : {A : Type 0} (a b : List A) (x : A) → Stands b x → Stands (a ++ b) x
+stands-back [] b x s = s
+stands-back (y ∷ a) b x s = stands-later y (a ++ b) x (stands-back a b x s)
+
+pub stands-either : {A : Type 0} (a b : List A) (x : A) → Stands (a ++ b) x → Stands a x ⊎ Stands b x
+stands-either [] b x s = inr s
+stands-either (y ∷ a) b x s = elim (stands-cases y (a ++ b) x s) [
+  | inl same ↦ inl (subst (λ z. Stands (y ∷ a) z) same (stands-here y a))
+  | inr later ↦ elim (stands-either a b x later) [ inl first ↦ inl (stands-later y a x first) | inr second ↦ inr second ]
+]
 
 -- ---- elements that pass a test
 

@@ -1,24 +1,23 @@
 -- Where all frames are offered at time 0 a bus to which frames are offered is a quiet bus at which they wait.
 use Rattle.std.specs.Prelude.{filter, slice_get}
-use Rattle.std.proofs.Common.{◌≡◌, ◌≢◌, ℕ, zero, suc, ◌+◌, ◌<◌, ◌≤◌, Some, None, List, [], ◌∷◌, ◌++◌, length, map, refl, sym, ap, subst, ◌∙◌, arith, inl, inr}
+use Rattle.std.proofs.Common.{◌≡◌, ℕ, zero, suc, ◌+◌, ◌<◌, Some, None, List, [], ◌∷◌, ◌++◌, length, map, refl, sym, ap, subst, ◌∙◌, arith, inl, inr}
 use Rattle.std.proofs.Math.Dec.{eqb}
 use Rattle.std.proofs.lemmas.List.{length-map, map-append}
 use Rattle.can_frame.specs.Parts.{Parts}
 use Rattle.can_node.specs.Ports.{PortState}
 use Rattle.can_node.proofs.Arrivals.{gains}
 use Rattle.can_bus.specs.declared.offer.Offer.{Offer}
-use Rattle.can_bus.specs.OpenBus.{AreMadeFirst, AtEachNode, HaveRooms, IsOpenCall, WaitsAt, all_offers, offered_first, offered_to, own_offers, timed, with_first}
+use Rattle.can_bus.specs.OpenBus.{AtEachNode, QueuesHaveRoom, IsOpenCall, WaitsAt, all_offers, offered_first, offered_to, own_offers, timed, with_first}
 use Rattle.can_bus.specs.Offers.{AreOffered, all_made, played, played_level}
 use Rattle.can_bus.specs.Quiet.{AreDifferent, IsAscending, IsQuiet, IsQuietCall, IsQuietPort, ascending, line_at, queued}
 use Rattle.can_bus.specs.Run.{BusState, bus_level, bus_run}
-use Rattle.can_bus.specs.Schedule.{AreAtOnce, Lists, Timed, frames_of, schedule, track_at}
+use Rattle.can_bus.specs.Schedule.{AreAtOnce, Timed, frames_of, schedule, track_at}
 use Rattle.can_bus.proofs.Ascending.{ascending_there}
 use Rattle.can_bus.proofs.AtOnce.{at_once-frames, at_once-line}
-use Rattle.can_bus.proofs.Members.{filter-stands, map-stands, stands-here, stands-later, stands-none}
+use Rattle.can_bus.proofs.Members.{filter-stands, map-stands, stands-map, stands-here, stands-later, stands-none, stands-either}
 use Rattle.can_bus.proofs.OfferLemmas.{none_made}
 use Rattle.can_bus.proofs.OfferTimes.{at-now, offered_at}
 use Rattle.can_bus.proofs.OpenStart.{rooms}
-use Rattle.can_bus.proofs.OwnOffers.{stands-either}
 use Rattle.can_bus.proofs.PlayedRuns.{all-taken, all_offered, arriving}
 use Rattle.can_bus.proofs.RunLemmas.{levels_joined, runs_joined}
 use Rattle.can_bus.proofs.Schedules.{no-other-schedule, one-schedule}
@@ -71,12 +70,12 @@ quiet-gains n p more quiet = record { idle = quiet.idle; tec = quiet.tec; rec = 
 gains-quiet : (n : ℕ) (p : PortState) (more : List Parts) → IsQuietPort n (gains more p) → IsQuietPort n p
 gains-quiet n p more quiet = record { idle = quiet.idle; tec = quiet.tec; rec = quiet.rec; unasked = quiet.unasked; empty = quiet.empty; room = quiet.room }
 
-module _ (offers : List Offer) (first : AreMadeFirst offers) where
+module _ (offers : List Offer) (first : AreAtOnce (map timed offers)) where
   to-at_once : (node : ℕ) → AreAtOnce (offered_to node offers)
   to-at_once node x there =
       let made = map-stands timed (filter (λ (o : Offer). eqb o.node node) offers) x there in
       let at = (filter-stands (λ (o : Offer). eqb o.node node) offers made.0 made.1).0 in
-      sym (ap (λ (y : Timed). y.time) made.2) ∙ first at.0 made.0 at.1
+      sym (ap (λ (y : Timed). y.time) made.2) ∙ first (timed made.0) (stands-map timed offers made.0 at)
 
   all-at_once : (node : ℕ) (ports : List PortState) → AreAtOnce (all_offers offers node ports)
   all-at_once node [] x there = absurd (stands-none x there)
@@ -100,7 +99,7 @@ module _ (offers : List Offer) (first : AreMadeFirst offers) where
       ∙ ap (λ fs. frames_of (own_offers offers node p) ++ fs) (all-frames (node + 1) ports)
       ∙ sym (map-append (λ (x : Timed). x.frame) (own_offers offers node p) (all_offers offers (node + 1) ports))
 
-  module _ (ports : List PortState) (room : HaveRooms offers ports) where
+  module _ (ports : List PortState) (room : QueuesHaveRoom offers ports) where
     abbrev all : List Timed
     all = all_offers offers 0 ports
 
@@ -168,7 +167,7 @@ module _ (offers : List Offer) (first : AreMadeFirst offers) where
   -- ---- the run
 
   none-later : (t : ℕ) (ports : List PortState) → all_made offers (suc t) ports ≡ ports
-  none-later t ports = (none_made offers (suc t) ports (λ n offer there now. omega (arith, now, first n offer there))).0
+  none-later t ports = (none_made offers (suc t) ports (λ n offer there now. omega (arith, now, first (timed offer) (stands-map timed offers offer (n, there))))).0
 
   pub at_once-run : (n : ℕ) (bus : BusState) → 0 < n → played offers n bus ≡ bus_run [] n (with_first offers bus)
   unfolding played

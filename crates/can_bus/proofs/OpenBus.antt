@@ -1,17 +1,16 @@
 -- A bus to whose ports frames are offered meanwhile, after any number of bit times: its level is that of the schedule's track, and each port has what the
 -- schedule's starts have left there by then.
-use Rattle.std.specs.Prelude.{max, slice_index_or}
-use Rattle.std.proofs.Common.{◌≡◌, ℕ, zero, suc, ◌+◌, ◌-◌, ◌<◌, ◌≤◌, ◌⊎◌, List, [], ◌∷◌, ◌++◌, length, map, take, refl, sym, ap, subst, ◌∙◌, arith, inl, inr}
+use Rattle.std.specs.Prelude.{slice_index_or}
+use Rattle.std.proofs.Common.{◌≡◌, ℕ, zero, suc, ◌+◌, ◌-◌, ◌<◌, ◌≤◌, List, [], ◌∷◌, length, map, take, refl, sym, ap, subst, ◌∙◌, arith, inl, inr}
 use Rattle.std.proofs.lemmas.Bool.{cases_lt}
 use Rattle.std.proofs.lemmas.List.{get_or_past, length-append, length-map}
-use Rattle.can_frame.specs.declared.level.Level.{Level}
 use Rattle.can_frame.specs.declared.level.Level.TheVariants.{Recessive}
 use Rattle.can_frame.specs.Parts.{Parts}
 use Rattle.can_code.specs.Wire.{wire}
 use Rattle.can_mac.specs.Frames.{line}
 use Rattle.can_node.specs.Ports.{PortState, port_drives}
 use Rattle.can_node.proofs.Arrivals.{GainingPort, gaining_drives, gaining_run}
-use Rattle.can_node.proofs.OneFrame.{port_at, gaining_run-at}
+use Rattle.can_node.proofs.OneFrame.{gaining_run-at}
 use Rattle.can_bus.specs.Run.{rest_after}
 use Rattle.can_bus.specs.Schedule.{Timed, Lists, IsNextStart, AreOthers, IsSchedule, over, next, busy_time, frames_of, track_at}
 use Rattle.can_bus.specs.Wired.{wired}

@@ -1,10 +1,9 @@
 -- What a bus of any ports does to which frames are offered meanwhile, told by their schedule: the clauses of the theorem.
 use Rattle.std.specs.Prelude.{slice_get}
-use Rattle.std.proofs.Common.{◌≡◌, ℕ, zero, suc, ◌+◌, ◌<◌, ◌≤◌, Some, None, List, [], ◌∷◌, ◌++◌, length, map, refl, sym, ap, subst, ◌∙◌, arith}
+use Rattle.std.proofs.Common.{◌≡◌, ℕ, zero, suc, ◌+◌, ◌<◌, Some, None, List, [], ◌∷◌, ◌++◌, length, map, refl, sym, ap, subst, ◌∙◌, arith}
 use Rattle.std.proofs.lemmas.List.{length-map}
-use Rattle.can_node.specs.declared.entry.Entry.{Entry}
 use Rattle.can_node.specs.Ports.{PortState, IsPort}
-use Rattle.can_node.proofs.Arrivals.{GainingPort, gains, gaining_drives}
+use Rattle.can_node.proofs.Arrivals.{GainingPort}
 use Rattle.can_bus.specs.declared.offer.Offer.{Offer}
 use Rattle.can_bus.specs.OpenBus.{IsOpenCall, AreOver, AtEachNode, OpenLogBegins, OpenLogWhole, own_offers}
 use Rattle.can_bus.specs.Offers.{AreOffered, played, played_level, refused}
@@ -12,13 +11,13 @@ use Rattle.can_bus.specs.Quiet.{AtEachPort, Begins, CountsNothing, MissesNothing
 use Rattle.can_bus.specs.Run.{BusState}
 use Rattle.can_bus.specs.Schedule.{Timed, frames_of, track_at}
 use Rattle.can_bus.proofs.Contests.{AllPorts}
-use Rattle.can_bus.proofs.FrameOnBus.{gaining_sees, ports_of}
+use Rattle.can_bus.proofs.FrameOnBus.{ports_of}
 use Rattle.can_bus.proofs.OpenBus.{Each, Follows, follows, wire_later, wire_with}
 use Rattle.can_bus.proofs.OpenLogs.{Becomes}
 use Rattle.can_bus.proofs.OpenPorts.{OpenPort}
 use Rattle.can_bus.proofs.OpenStart.{OfFrames, all_open, open_port, call-order, call-round, call-wire}
-use Rattle.can_bus.proofs.PlayedRuns.{all_offered, all-taken, arriving, open_bus, open_ports, open-now, played-level, played-refused, played-wire}
-use Rattle.can_bus.proofs.WireRuns.{Wire, wire_level, wire_run}
+use Rattle.can_bus.proofs.PlayedRuns.{all_offered, all-taken, open_bus, open-now, played-level, played-refused, played-wire}
+use Rattle.can_bus.proofs.WireRuns.{Wire}
 
 length-open : (offers : List Offer) (node : ℕ) (ports : List PortState) → length (all_open offers node ports) ≡ length ports
 length-open offers node [] = refl

@@ -1,22 +1,19 @@
 -- What the starts of a schedule leave at a port to which frames are offered meanwhile: in its log, its counters and its missed entries.
-use Rattle.std.proofs.Common.{◌≡◌, ℕ, zero, suc, ◌+◌, ◌<◌, ◌≤◌, ◌⊎◌, true, false, Some, List, [], ◌∷◌, ◌++◌, length, refl, sym, ap, subst, ◌∙◌, arith, inl, inr, append_assoc}
+use Rattle.std.proofs.Common.{◌≡◌, ℕ, ◌+◌, ◌<◌, ◌≤◌, ◌⊎◌, true, false, List, [], ◌∷◌, ◌++◌, length, refl, sym, ap, subst, ◌∙◌, arith, inl, inr, append_assoc}
 use Rattle.std.proofs.lemmas.Bool.{cases_lt}
 use Rattle.std.proofs.lemmas.List.{append-nil}
-use Rattle.can_frame.specs.declared.level.Level.TheVariants.{Recessive}
 use Rattle.can_frame.specs.Parts.{Parts}
 use Rattle.can_code.specs.Wire.{wire, stuffed_part}
-use Rattle.can_fault.specs.declared.cause.Cause.TheVariants.{FrameSent, FrameReceived}
-use Rattle.can_fault.specs.Counters.{ConfineParts, counted}
 use Rattle.can_mac.specs.Frames.{line}
-use Rattle.can_mac.proofs.FrameParts.{length-wire, length-line}
+use Rattle.can_mac.proofs.FrameParts.{length-wire}
 use Rattle.can_node.specs.declared.entry.Entry.{Entry}
 use Rattle.can_node.specs.Ports.{PortState}
 use Rattle.can_node.proofs.Arrivals.{gaining, gains, later}
 use Rattle.can_node.proofs.OneFrame.{port_at}
-use Rattle.can_node.proofs.FrameLeaves.{Sends, Receives, gaining_run-sent, gaining_run-received, log-unsent, log-sent, log-unreceived, log-received}
+use Rattle.can_node.proofs.FrameLeaves.{Sends, gaining_run-sent, gaining_run-received, log-unsent, log-sent, log-unreceived, log-received}
 use Rattle.can_bus.specs.OpenBus.{AreOver}
 use Rattle.can_bus.specs.Quiet.{Begins, holds, marked}
-use Rattle.can_bus.specs.Schedule.{Timed, Lists, busy_time, frames_of, offered_by, without_offer}
+use Rattle.can_bus.specs.Schedule.{Timed, Lists, frames_of, offered_by, without_offer}
 use Rattle.can_bus.proofs.Ascending.{Other}
 use Rattle.can_bus.proofs.Contests.{Has, at-has, has-at}
 use Rattle.can_bus.proofs.Members.{stands-here, stands-later, stands-map, map-stands}
@@ -26,7 +23,7 @@ use Rattle.can_bus.proofs.OwnOffers.{without-frames}
 use Rattle.can_bus.proofs.QuietBus.{counts-at, misses-part}
 use Rattle.can_bus.proofs.QuietLine.{IsAtRest, rest-step}
 use Rattle.can_bus.proofs.QuietLogs.{TakesPart, entry_of, holds-own, holds-none, holds-without, marked-same}
-use Rattle.can_bus.proofs.Rounds.{IsCalm, IsClean, sent-clean, received-clean, sends-has}
+use Rattle.can_bus.proofs.Rounds.{IsClean, sent-clean, received-clean, sends-has}
 
 -- the entries of these starts at this port, behind those that it has
 abbrev pub log_of : List Timed → OpenPort → List Entry

@@ -1,18 +1,17 @@
 -- Ports that are made idle, and offers to them in order, of frames that all differ, are an open call.
 use Rattle.std.specs.Prelude.{slice_get}
 use Rattle.std.specs.List.Sorted.{IsPermutation}
-use Rattle.std.proofs.Common.{◌≡◌, ◌≢◌, ℕ, zero, suc, ◌+◌, ◌<◌, ◌≤◌, Bool, true, Some, None, List, [], ◌∷◌, ◌++◌, All, length, map, refl, sym, ap, subst, ◌∙◌, arith, inl, inr, append_assoc}
+use Rattle.std.proofs.Common.{◌≡◌, ℕ, zero, suc, ◌+◌, ◌<◌, ◌≤◌, Some, None, List, [], ◌∷◌, ◌++◌, All, length, map, refl, sym, ap, subst, ◌∙◌, arith, inl, inr, append_assoc}
 use Rattle.std.proofs.lemmas.Bool.{cases_eq, ltb-true}
 use Rattle.std.proofs.lemmas.List.{append-nil, length-append, length-map, map-append}
 use Rattle.std.proofs.lemmas.List.Elements.{All-tail}
 use Rattle.std.proofs.lemmas.List.Sorted.{IsPermutation-append_right, IsPermutation-cons, IsPermutation-map, IsPermutation-middle, IsPermutation-refl, IsPermutation-sym, IsPermutation-trans, length_permutation}
-use Rattle.can_frame.specs.Parts.{Parts}
 use Rattle.can_node.specs.Ports.{PortState}
 use Rattle.can_bus.specs.declared.offer.Offer.{Offer}
-use Rattle.can_bus.specs.OpenBus.{HaveRooms, IsOpenCall, IsOpenPlan, all_offers, offered_first, offered_to, own_offers, timed}
+use Rattle.can_bus.specs.OpenBus.{IsOpenCall, IsOpenPlan, all_offers, offered_first, offered_to, own_offers, timed}
 use Rattle.can_bus.specs.Offers.{AreOffered}
 use Rattle.can_bus.specs.Plans.{PortPlan, planned, ready_port}
-use Rattle.can_bus.specs.Quiet.{AreDifferent, IsQuietPort, queued}
+use Rattle.can_bus.specs.Quiet.{queued}
 use Rattle.can_bus.specs.Schedule.{Timed, frames_of, schedule}
 use Rattle.can_bus.proofs.Ascending.{different_permuted}
 use Rattle.can_bus.proofs.OpenAtOnce.{first-frames}

@@ -1,14 +1,11 @@
 -- A port to which frames are offered meanwhile, with those of its offers that haven't started: at each time its queue is what is offered by then.
-use Rattle.std.specs.Prelude.{slice_get}
-use Rattle.std.proofs.Common.{◌≡◌, ℕ, zero, suc, ◌+◌, ◌<◌, ◌≤◌, ◌⊎◌, Option, Some, List, [], ◌∷◌, ◌++◌, length, map, refl, sym, ap, subst, ◌∙◌, arith, inl, inr, append_assoc}
-use Rattle.std.proofs.lemmas.List.{append-nil, length-append}
+use Rattle.std.proofs.Common.{◌≡◌, ℕ, zero, suc, ◌+◌, ◌⊎◌, List, [], ◌∷◌, ◌++◌, length, sym, ap, subst, ◌∙◌, arith, inl, inr, append_assoc}
+use Rattle.std.proofs.lemmas.List.{append-nil}
 use Rattle.std.proofs.lemmas.Bool.{cases_lt}
-use Rattle.can_frame.specs.declared.level.Level.{Level}
 use Rattle.can_frame.specs.declared.level.Level.TheVariants.{Recessive}
-use Rattle.can_frame.specs.Parts.{Parts, IsFrame}
-use Rattle.can_fault.specs.declared.cause.Cause.TheVariants.{FrameSent, FrameReceived}
+use Rattle.can_frame.specs.Parts.{Parts}
 use Rattle.can_mac.specs.Frames.{line}
-use Rattle.can_node.specs.Ports.{PortState, without, port_step, port_run}
+use Rattle.can_node.specs.Ports.{PortState, without}
 use Rattle.can_node.proofs.Arrivals.{GainingPort, gaining, gains, arrived, later, later_by, later_by-at, gaining_step, gaining_run, without-gains}
 use Rattle.can_node.proofs.FramesWaiting.{AreFrames, AreFrames-without}
 use Rattle.can_node.proofs.FrameLeaves.{Sends, Receives, sent_port, received_port, gaining_run-sent, gaining_run-received, port_run-sent, port_run-received}

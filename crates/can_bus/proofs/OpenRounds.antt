@@ -1,22 +1,21 @@
 -- Ports to which frames are offered meanwhile, and the schedule of the offers that are left: the frame that starts next is sent, and till then they rest.
-use Rattle.std.specs.Prelude.{max}
-use Rattle.std.proofs.Common.{◌≡◌, ℕ, zero, suc, ◌+◌, ◌<◌, ◌≤◌, ◌⊎◌, List, [], ◌∷◌, ◌++◌, length, map, refl, sym, ap, subst, ◌∙◌, arith, inl, inr}
+use Rattle.std.proofs.Common.{◌≡◌, ℕ, suc, ◌+◌, ◌<◌, ◌≤◌, ◌⊎◌, List, [], ◌∷◌, ◌++◌, length, map, refl, sym, ap, subst, ◌∙◌, arith, inl, inr}
 use Rattle.std.specs.List.{flat_map}
 use Rattle.can_frame.specs.Parts.{Parts, IsFrame}
-use Rattle.can_frame.specs.Arbitration.{arbitration_field, Before}
+use Rattle.can_frame.specs.Arbitration.{arbitration_field}
 use Rattle.can_mac.specs.Frames.{line}
 use Rattle.can_node.specs.Ports.{PortState}
 use Rattle.can_node.proofs.Arrivals.{GainingPort}
-use Rattle.can_node.proofs.FrameLeaves.{Sends, Receives, IsReady}
+use Rattle.can_node.proofs.FrameLeaves.{Sends, IsReady}
 use Rattle.can_bus.specs.Quiet.{queued}
 use Rattle.can_bus.specs.Schedule.{Timed, Lists, IsNextStart, AreOthers, offered_by, without_offer}
 use Rattle.can_bus.proofs.Ascending.{Goes, Other}
 use Rattle.can_bus.proofs.Contests.{Has, Distinct, AllPorts, at-has, has-at, winner}
 use Rattle.can_bus.proofs.FrameOnBus.{AllReceive, OneSends, ports_of}
-use Rattle.can_bus.proofs.Members.{Stands}
 use Rattle.can_bus.proofs.NextStarts.{AreApart, offered-stands, stands-offered, rest-left, left-cases, rest-length, rest-apart, rest-other, others-without}
 use Rattle.can_bus.proofs.OfferTimes.{offered_by-append}
-use Rattle.can_bus.proofs.OwnOffers.{stands-front, stands-back, apart-front, apart-back, apart-across, apart-distinct, without-append}
+use Rattle.can_bus.proofs.Members.{stands-front, stands-back}
+use Rattle.can_bus.proofs.OwnOffers.{apart-front, apart-back, apart-across, apart-distinct, without-append}
 use Rattle.can_bus.proofs.OpenPorts.{OpenPort, IsOpenPort, queue-now, rested, open-rested, HasPart, behind_frame, open-behind}
 use Rattle.can_bus.proofs.Rounds.{IsCalm, all-ready, frame-queued, one-has, sends-has}
 use Rattle.can_bus.proofs.QuietLine.{IsAtRest, calm-rests}

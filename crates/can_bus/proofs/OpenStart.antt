@@ -1,6 +1,6 @@
 -- Where a bus begins to which frames are offered meanwhile: its ports, as the offers of time 0 are made, and the room that they have.
 use Rattle.std.specs.Prelude.{filter, slice_get}
-use Rattle.std.proofs.Common.{◌≡◌, ℕ, zero, suc, ◌+◌, ◌<◌, ◌≤◌, Some, List, [], ◌∷◌, ◌++◌, length, map, refl, sym, ap, subst, ◌∙◌, arith, inl, inr, append_assoc}
+use Rattle.std.proofs.Common.{◌≡◌, ℕ, suc, ◌+◌, ◌≤◌, Some, List, [], ◌∷◌, ◌++◌, length, refl, sym, ap, subst, ◌∙◌, arith, inl, inr, append_assoc}
 use Rattle.std.proofs.Math.Dec.{eqb}
 use Rattle.std.proofs.lemmas.Bool.{cases_eq}
 use Rattle.std.proofs.lemmas.List.{append-nil, length-append, length-map}
@@ -9,7 +9,7 @@ use Rattle.can_node.specs.Ports.{PortState, IsPort}
 use Rattle.can_node.proofs.Arrivals.{GainingPort, gaining, gains, arrived}
 use Rattle.can_node.proofs.FramesWaiting.{AreFrames, AreFrames-from}
 use Rattle.can_bus.specs.declared.offer.Offer.{Offer}
-use Rattle.can_bus.specs.OpenBus.{HaveRooms, IsOpenCall, all_offers, offered_first, offered_to, own_offers, timed}
+use Rattle.can_bus.specs.OpenBus.{QueuesHaveRoom, IsOpenCall, all_offers, offered_first, offered_to, own_offers, timed}
 use Rattle.can_bus.specs.Offers.{all_made, played}
 use Rattle.can_bus.specs.Quiet.{IsQuietPort}
 use Rattle.can_bus.specs.Run.{BusState}
@@ -22,7 +22,7 @@ use Rattle.can_bus.proofs.OfferTimes.{AreInOrder, at-first, length-offered_by, o
 use Rattle.can_bus.proofs.OpenBus.{wire_with}
 use Rattle.can_bus.proofs.OpenPorts.{OpenPort, IsOpenPort, calm-gains, frames-offered}
 use Rattle.can_bus.proofs.OpenRounds.{OpenRound, held, machines_of}
-use Rattle.can_bus.proofs.PlayedRuns.{AreRoomy, HaveRoom, IsOpen, all-taken, all_offered, arriving, open_bus, open_ports, to-here, to-other}
+use Rattle.can_bus.proofs.PlayedRuns.{AreRoomy, HaveRoomNow, IsOpen, all-taken, all_offered, arriving, open_ports, to-here, to-other}
 use Rattle.can_bus.proofs.QuietStart.{calm-port}
 use Rattle.can_bus.proofs.WireRuns.{Wire}
 
@@ -62,7 +62,7 @@ abbrev HasRoom : List Offer → ℕ → PortState → Type 0
 HasRoom offers node p = length (own_offers offers node p) ≤ p.queue_room
 
 room-start : (offers : List Offer) (node : ℕ) (ports : List PortState) → EachFrom (HasRoom offers) node ports →
-    HaveRoom offers 0 node ports × AreRoomy offers 0 node (all_offered offers 0 node ports)
+    HaveRoomNow offers 0 node ports × AreRoomy offers 0 node (all_offered offers 0 node ports)
 room-start offers node [] each = (tt, tt)
 room-start offers node (p ∷ ports) each =
     let own = offered_to node offers in
@@ -74,7 +74,7 @@ room-start offers node (p ∷ ports) each =
       (omega (arith, each.0, both, waits, now, length-append p.queue (arriving offers node 0)), rest.1),
     )
 
-pub rooms : (offers : List Offer) (ports : List PortState) → HaveRooms offers ports → HaveRoom offers 0 0 ports × AreRoomy offers 0 0 (all_offered offers 0 0 ports)
+pub rooms : (offers : List Offer) (ports : List PortState) → QueuesHaveRoom offers ports → HaveRoomNow offers 0 0 ports × AreRoomy offers 0 0 (all_offered offers 0 0 ports)
 rooms offers ports room =
     room-start offers 0 ports (each-from (HasRoom offers) 0 ports (λ n p at. subst (λ k. HasRoom offers k p) (let e : n ≡ 0 + n = omega arith in e) (room n p at)))
 

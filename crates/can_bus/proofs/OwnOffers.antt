@@ -1,38 +1,18 @@
 -- Offers of which no two have one arbitration field: what is offered by a time, and what is left without one of them.
-use Rattle.std.proofs.Common.{◌≡◌, ℕ, zero, suc, ◌<◌, ◌≤◌, ◌⊎◌, true, false, List, [], ◌∷◌, ◌++◌, Some, length, refl, sym, ap, subst, ◌∙◌, arith, inl, inr}
-use Rattle.std.specs.Prelude.{slice_get}
+use Rattle.std.proofs.Common.{◌≡◌, ℕ, true, false, List, [], ◌∷◌, ◌++◌, refl, sym, ap, subst, ◌∙◌, inl, inr}
 use Rattle.std.proofs.lemmas.Bool.{cond-true, cond-false, cases_Bool, cases_lt}
 use Rattle.can_frame.specs.Parts.{Parts}
-use Rattle.can_frame.specs.Arbitration.{arbitration_field}
 use Rattle.can_node.specs.Ports.{same_field, without}
 use Rattle.can_node.proofs.WaitingLemmas.{same_field-Shares}
 use Rattle.can_bus.specs.Schedule.{Timed, Lists, frames_of, offered_by, without_offer}
 use Rattle.can_bus.proofs.Ascending.{Other}
-use Rattle.can_bus.proofs.Contests.{Has, Distinct, at-has, has-at}
-use Rattle.can_bus.proofs.Members.{Stands, stands-here, stands-later, stands-cases}
+use Rattle.can_bus.proofs.Contests.{Has, Distinct, at-has}
+use Rattle.can_bus.proofs.Members.{stands-back, stands-cases, stands-front, stands-here, stands-later}
 use Rattle.can_bus.proofs.NextStarts.{AreApart, offered-stands}
 use Rattle.can_bus.proofs.OfferTimes.{by-early, by-late}
 use Rattle.can_bus.proofs.QuietLogs.{other-test}
 
 -- ---- two lists, one behind the other
-
-pub stands-front : {A : Type 0} (a b : List A) (x : A) → Stands a x → Stands (a ++ b) x
-stands-front [] b x s = let e = s.1 in cc
-stands-front (y ∷ a) b x s = elim (stands-cases y a x s) [
-  | inl same ↦ subst (λ z. Stands (y ∷ (a ++ b)) z) same (stands-here y (a ++ b))
-  | inr later ↦ stands-later y (a ++ b) x (stands-front a b x later)
-]
-
-pub stands-back : {A : Type 0} (a b : List A) (x : A) → Stands b x → Stands (a ++ b) x
-stands-back [] b x s = s
-stands-back (y ∷ a) b x s = stands-later y (a ++ b) x (stands-back a b x s)
-
-pub stands-either : {A : Type 0} (a b : List A) (x : A) → Stands (a ++ b) x → Stands a x ⊎ Stands b x
-stands-either [] b x s = inr s
-stands-either (y ∷ a) b x s = elim (stands-cases y (a ++ b) x s) [
-  | inl same ↦ inl (subst (λ z. Stands (y ∷ a) z) same (stands-here y a))
-  | inr later ↦ elim (stands-either a b x later) [ inl first ↦ inl (stands-later y a x first) | inr second ↦ inr second ]
-]
 
 pub apart-front : (a b : List Timed) → AreApart (a ++ b) → AreApart a
 apart-front [] b apart = tt

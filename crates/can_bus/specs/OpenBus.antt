@@ -1,5 +1,6 @@
--- A quiet bus to whose ports frames are offered while it goes on: its frames go out by their schedule.
-use Rattle.std.specs.Prelude.{ℕ, zero, suc, ◌≡◌, ◌+◌, ◌≤◌, ◌==◌, List, [], ◌∷◌, ◌++◌, All, length, map, filter, slice_get, Some}
+-- An open bus: a quiet bus to whose ports frames are offered while it goes on. Its frames go out by their schedule.
+-- (Bosch CAN 2.0 part B, sections 2 and 3.2.5)
+use Rattle.std.specs.Prelude.{ℕ, ◌≡◌, ◌+◌, ◌≤◌, ◌==◌, List, [], ◌∷◌, ◌++◌, All, length, map, filter, slice_get, Some}
 use Rattle.can_frame.specs.Parts.{Parts}
 use Rattle.can_code.specs.Wire.{wire}
 use Rattle.can_node.specs.Ports.{PortState}
@@ -32,8 +33,8 @@ all_offers offers node [] = []
 all_offers offers node (p ∷ ports) = own_offers offers node p ++ all_offers offers (node + 1) ports
 
 -- each queue has room for what it holds and what is offered to its port
-abbrev pub HaveRooms : List Offer → List PortState → Type 0
-HaveRooms offers ports = (n : ℕ) (p : PortState) → slice_get ports n ≡ Some p → length (own_offers offers n p) ≤ p.queue_room
+abbrev pub QueuesHaveRoom : List Offer → List PortState → Type 0
+QueuesHaveRoom offers ports = (n : ℕ) (p : PortState) → slice_get ports n ≡ Some p → length (own_offers offers n p) ≤ p.queue_room
 
 -- What the theorem asks of a bus, of the frames that are offered to it, and of their schedule.
 pub record IsOpenCall (offers : List Offer) (ports : List PortState) (starts : List Timed) : Type 0 where
@@ -43,7 +44,7 @@ pub record IsOpenCall (offers : List Offer) (ports : List PortState) (starts : L
   pub offered : AreOffered (length ports) offers
   -- each port is idle, has counted no error, and its log has room for all frames
   pub quiet : (n : ℕ) (p : PortState) → slice_get ports n ≡ Some p → IsQuietPort (length (all_offers offers 0 ports)) p
-  pub room : HaveRooms offers ports
+  pub room : QueuesHaveRoom offers ports
   -- the schedule of all frames, of which no two have one arbitration field
   pub scheduled : IsScheduleOf (all_offers offers 0 ports) starts
 
@@ -62,10 +63,6 @@ OpenLogBegins offers starts node p q = Begins q.log (marked (frames_of (own_offe
 -- the log names all of them
 abbrev pub OpenLogWhole : List Offer → List Timed → ℕ → PortState → PortState → Type 0
 OpenLogWhole offers starts node p q = q.log ≡ marked (frames_of (own_offers offers node p)) (frames_of starts)
-
--- all offers are made at time 0
-abbrev pub AreMadeFirst : List Offer → Type 0
-AreMadeFirst offers = (n : ℕ) (offer : Offer) → slice_get offers n ≡ Some offer → offer.time ≡ 0
 
 -- the bus, with the offers of time 0 made
 abbrev pub with_first : List Offer → BusState → BusState

@@ -5,11 +5,11 @@ ghost use Rattle.can_frame.specs.Parts.{Parts};
 ghost use Rattle.can_node.specs.Ports.{PortState};
 ghost use Rattle.can_bus.specs.declared.offer.Offer.{Offer};
 ghost use Rattle.can_bus.specs.Offers.{AreOffered, all_made, played, played_level};
-ghost use Rattle.can_bus.specs.OpenBus.{AreMadeFirst, AtEachNode, HaveRooms, IsOpenCall, IsOpenPlan, WaitsAt, all_offers, offered_first, timed, with_first};
+ghost use Rattle.can_bus.specs.OpenBus.{AtEachNode, QueuesHaveRoom, IsOpenCall, IsOpenPlan, WaitsAt, all_offers, offered_first, timed, with_first};
 ghost use Rattle.can_bus.specs.Plans.{PortPlan, ready_port};
 ghost use Rattle.can_bus.specs.Quiet.{IsQuietCall, line_at, queued};
 ghost use Rattle.can_bus.specs.Run.{BusState, bus_level, bus_run};
-ghost use Rattle.can_bus.specs.Schedule.{Timed, frames_of, schedule, track_at};
+ghost use Rattle.can_bus.specs.Schedule.{AreAtOnce, Timed, frames_of, schedule, track_at};
 
 /// Where all frames are offered at time 0, a bus to which frames are offered is a quiet bus at which they
 /// all wait: the premises of `play` are those of `run`, and what `play` does is what `run` does. The frames
@@ -17,16 +17,16 @@ ghost use Rattle.can_bus.specs.Schedule.{Timed, frames_of, schedule, track_at};
 /// the clauses of `play` are those of `run`, the marks in the logs included, as what a port has to send is
 /// what waits there.
 pub fn offers_at_once_are_quiet()
-    ensures to_quiet { (offers : List Offer) (ports : List PortState) (starts : List Timed) → AreMadeFirst offers → IsOpenCall offers ports starts →
+    ensures to_quiet { (offers : List Offer) (ports : List PortState) (starts : List Timed) → AreAtOnce (map timed offers) → IsOpenCall offers ports starts →
         IsQuietCall [] (all_made offers 0 ports) (frames_of starts) }
-    ensures from_quiet { (offers : List Offer) (ports : List PortState) (frames : List Parts) → AreMadeFirst offers → AreOffered (length ports) offers → HaveRooms offers ports →
+    ensures from_quiet { (offers : List Offer) (ports : List PortState) (frames : List Parts) → AreAtOnce (map timed offers) → AreOffered (length ports) offers → QueuesHaveRoom offers ports →
         IsQuietCall [] (all_made offers 0 ports) frames → IsOpenCall offers ports (schedule (all_offers offers 0 ports)) }
-    ensures line { (offers : List Offer) (ports : List PortState) (starts : List Timed) → AreMadeFirst offers → IsOpenCall offers ports starts →
+    ensures line { (offers : List Offer) (ports : List PortState) (starts : List Timed) → AreAtOnce (map timed offers) → IsOpenCall offers ports starts →
         (t : ℕ) → track_at starts t ≡ line_at (frames_of starts) t }
-    ensures queues { (offers : List Offer) (ports : List PortState) → AreMadeFirst offers → HaveRooms offers ports →
+    ensures queues { (offers : List Offer) (ports : List PortState) → AreAtOnce (map timed offers) → QueuesHaveRoom offers ports →
         AtEachNode (WaitsAt offers) ports (all_made offers 0 ports) }
-    ensures bus { (offers : List Offer) (n : ℕ) (bus : BusState) → AreMadeFirst offers → 0 < n → played offers n bus ≡ bus_run [] n (with_first offers bus) }
-    ensures levels { (offers : List Offer) (t : ℕ) (bus : BusState) → AreMadeFirst offers → played_level offers t bus ≡ bus_level [] t (with_first offers bus) }
+    ensures bus { (offers : List Offer) (n : ℕ) (bus : BusState) → AreAtOnce (map timed offers) → 0 < n → played offers n bus ≡ bus_run [] n (with_first offers bus) }
+    ensures levels { (offers : List Offer) (t : ℕ) (bus : BusState) → AreAtOnce (map timed offers) → played_level offers t bus ≡ bus_level [] t (with_first offers bus) }
 {}
 
 /// What all ports have to send, told port by port, are the frames that wait there, and the offers.
