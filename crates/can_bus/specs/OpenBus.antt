@@ -41,10 +41,10 @@ pub record IsOpenCall (offers : List Offer) (ports : List PortState) (starts : L
   pub most : length ports ≤ 64
   -- the offers come in the order of their times, each to a port that is there
   pub offered : AreOffered (length ports) offers
-  -- each port is idle, has counted no error, and its log has room for all frames
+  -- each port is idle, has counted no error and asks for no overload frame; its log is empty, with room for all frames
   pub quiet : (n : ℕ) (p : PortState) → slice_get ports n ≡ Some p → IsQuietPort (length (all_offers offers ports)) p
   pub room : QueuesHaveRoom offers ports
-  -- the schedule of all frames, of which no two have one arbitration field
+  -- the schedule of all frames, no two of which have one arbitration field
   pub scheduled : IsScheduleOf (all_offers offers ports) starts
 
 -- the wires of all starts have ended by this time
