@@ -2,7 +2,9 @@
 use Rattle.std.proofs.Common.{◌≡◌, ℕ, zero, suc, ◌⊎◌, Bool, true, false, cond, Some, List, [], ◌∷◌, ◌++◌, map, refl, sym, ◌∙◌, ap, subst, inl, inr}
 use Rattle.std.specs.Prelude.{slice_get, filter, option_map}
 use Rattle.std.proofs.lemmas.Bool.{cond-true}
-use Rattle.std.proofs.lemmas.Option.{slice_get-map}
+use Rattle.std.specs.List.Sorted.{IsPermutation}
+use Rattle.std.proofs.lemmas.List.Sorted.{Contains-permutation}
+use Rattle.std.proofs.lemmas.Option.{get_or_from_slice_get, slice_get-get_or, slice_get-map, slice_get_within}
 
 -- x stands in the list
 abbrev pub Stands : {A : Type 0} → List A → A → Type 0
@@ -103,3 +105,10 @@ module _ {A B : Type 0} (f : A → B) where
         | inl same ↦ (x, stands-here x xs, same)
         | inr later ↦ let there = map-stands xs y later in (there.0, stands-later x xs there.0 there.1, there.2)
       ]
+
+-- ---- the same elements in another order
+
+pub stands-permuted : {A : Type 0} (xs ys : List A) (x : A) → IsPermutation xs ys → Stands xs x → Stands ys x
+stands-permuted xs ys x moved s =
+    let there = Contains-permutation xs ys x moved (s.0, slice_get_within xs s.0 x s.1, get_or_from_slice_get xs s.0 x x s.1) in
+    (there.0, slice_get-get_or ys there.0 x there.1 ∙ ap Some there.2)

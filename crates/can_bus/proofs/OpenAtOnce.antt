@@ -1,7 +1,9 @@
 -- Where all frames are offered at time 0 a bus to which frames are offered is a quiet bus at which they wait.
 use Rattle.std.specs.Prelude.{filter, slice_get}
 use Rattle.std.proofs.Common.{◌≡◌, ℕ, zero, suc, ◌+◌, ◌<◌, Some, None, List, [], ◌∷◌, ◌++◌, length, map, refl, sym, ap, subst, ◌∙◌, arith, inl, inr}
+use Rattle.std.specs.List.Sorted.{IsPermutation}
 use Rattle.std.proofs.Math.Dec.{eqb}
+use Rattle.std.proofs.lemmas.List.Sorted.{IsPermutation-map, IsPermutation-sym, length_permutation}
 use Rattle.std.proofs.lemmas.List.{length-map, map-append}
 use Rattle.can_frame.specs.Parts.{Parts}
 use Rattle.can_node.specs.Ports.{PortState}
@@ -12,13 +14,14 @@ use Rattle.can_bus.specs.Offers.{AreOffered, all_made, played, played_level}
 use Rattle.can_bus.specs.Quiet.{AreDifferent, IsAscending, IsQuiet, IsQuietCall, IsQuietPort, ascending, line_at, queued}
 use Rattle.can_bus.specs.Run.{BusState, bus_level, bus_run}
 use Rattle.can_bus.specs.Schedule.{AreAtOnce, Timed, frames_of, schedule, track_at}
-use Rattle.can_bus.proofs.Ascending.{ascending_there}
+use Rattle.can_bus.proofs.Ascending.{ascending_permuted, ascending_there, different_permuted}
 use Rattle.can_bus.proofs.AtOnce.{at_once-frames, at_once-line}
-use Rattle.can_bus.proofs.Members.{filter-stands, map-stands, stands-map, stands-here, stands-later, stands-none, stands-either}
+use Rattle.can_bus.proofs.Members.{filter-stands, map-stands, stands-map, stands-here, stands-later, stands-either}
 use Rattle.can_bus.proofs.OfferLemmas.{none_made}
 use Rattle.can_bus.proofs.OfferTimes.{at-now, offered_at}
 use Rattle.can_bus.proofs.OpenStart.{rooms}
 use Rattle.can_bus.proofs.PlayedRuns.{all-taken, all_offered, arriving}
+use Rattle.can_bus.proofs.PortOffers.{offers-by-port, port_offers}
 use Rattle.can_bus.proofs.RunLemmas.{levels_joined, runs_joined}
 use Rattle.can_bus.proofs.Schedules.{no-other-schedule, one-schedule}
 
@@ -77,31 +80,38 @@ module _ (offers : List Offer) (first : AreAtOnce (map timed offers)) where
       let at = (filter-stands (λ (o : Offer). eqb o.node node) offers made.0 made.1).0 in
       sym (ap (λ (y : Timed). y.time) made.2) ∙ first (timed made.0) (stands-map timed offers made.0 at)
 
-  all-at_once : (node : ℕ) (ports : List PortState) → AreAtOnce (all_offers offers node ports)
-  all-at_once node [] x there = absurd (stands-none x there)
-  all-at_once node (p ∷ ports) x there = elim (stands-either (own_offers offers node p) (all_offers offers (node + 1) ports) x there) [
-    | inl own ↦ elim (stands-either (offered_first p.queue) (offered_to node offers) x own) [
-      | inl waits ↦
-          let queued_one = map-stands (λ (f : Parts). let y : Timed = record { time = 0; frame = f } in y) p.queue x waits in
-          sym (ap (λ (y : Timed). y.time) queued_one.2)
-      | inr made ↦ to-at_once node x made
-    ]
-    | inr other ↦ all-at_once (node + 1) ports x other
+  all-at_once : (ports : List PortState) → AreAtOnce (all_offers offers ports)
+  all-at_once ports x there = elim (stands-either (offered_first (queued ports)) (map timed offers) x there) [
+    | inl waits ↦
+        let one = map-stands (λ (f : Parts). let y : Timed = record { time = 0; frame = f } in y) (queued ports) x waits in
+        sym (ap (λ (y : Timed). y.time) one.2)
+    | inr made ↦ first x made
   ]
 
   own-frames : (node : ℕ) (p : PortState) → (gains (arriving offers node 0) p).queue ≡ frames_of (own_offers offers node p)
   own-frames node p = ap (λ fs. p.queue ++ fs) (at_once-now (offered_to node offers) (to-at_once node)) ∙ sym (first-frames p.queue (offered_to node offers))
 
-  all-frames : (node : ℕ) (ports : List PortState) → queued (all_offered offers 0 node ports) ≡ frames_of (all_offers offers node ports)
-  all-frames node [] = refl
-  all-frames node (p ∷ ports) =
+  port-frames : (node : ℕ) (ports : List PortState) → queued (all_offered offers 0 node ports) ≡ frames_of (port_offers offers node ports)
+  port-frames node [] = refl
+  port-frames node (p ∷ ports) =
       ap (λ fs. fs ++ queued (all_offered offers 0 (node + 1) ports)) (own-frames node p)
-      ∙ ap (λ fs. frames_of (own_offers offers node p) ++ fs) (all-frames (node + 1) ports)
-      ∙ sym (map-append (λ (x : Timed). x.frame) (own_offers offers node p) (all_offers offers (node + 1) ports))
+      ∙ ap (λ fs. frames_of (own_offers offers node p) ++ fs) (port-frames (node + 1) ports)
+      ∙ sym (map-append (λ (x : Timed). x.frame) (own_offers offers node p) (port_offers offers (node + 1) ports))
+
+  -- all frames wait
+  all-wait : (ports : List PortState) → AreOffered (length ports) offers → IsPermutation (queued (all_offered offers 0 0 ports)) (frames_of (all_offers offers ports))
+  all-wait ports offered =
+      subst (λ fs. IsPermutation fs (frames_of (all_offers offers ports))) (sym (port-frames 0 ports))
+      (IsPermutation-map (λ (x : Timed). x.frame) (port_offers offers 0 ports) (all_offers offers ports) (offers-by-port offers ports offered))
+
+  all-size : (ports : List PortState) → AreOffered (length ports) offers → length (queued (all_offered offers 0 0 ports)) ≡ length (all_offers offers ports)
+  all-size ports offered =
+      sym (length_permutation (queued (all_offered offers 0 0 ports)) (frames_of (all_offers offers ports)) (all-wait ports offered))
+      ∙ length-map (all_offers offers ports) (λ (x : Timed). x.frame)
 
   module _ (ports : List PortState) (room : QueuesHaveRoom offers ports) where
     abbrev all : List Timed
-    all = all_offers offers 0 ports
+    all = all_offers offers ports
 
     abbrev waiting_ports : List PortState
     waiting_ports = all_offered offers 0 0 ports
@@ -120,17 +130,20 @@ module _ (offers : List Offer) (first : AreAtOnce (map timed offers)) where
     -- the premises of an open call are those of a quiet one
     module _ (starts : List Timed) (call : IsOpenCall offers ports starts) where
       ascending-starts : frames_of starts ≡ ascending (frames_of all)
-      ascending-starts = ap frames_of (no-other-schedule all starts call.scheduled) ∙ at_once-frames all call.scheduled.different (all-at_once 0 ports)
+      ascending-starts = ap frames_of (no-other-schedule all starts call.scheduled) ∙ at_once-frames all call.scheduled.different (all-at_once ports)
 
       pub at_once-line_at : (t : ℕ) → track_at starts t ≡ line_at (frames_of starts) t
       at_once-line_at t =
-          ap (λ s. track_at s t) (no-other-schedule all starts call.scheduled) ∙ at_once-line all call.scheduled.different (all-at_once 0 ports) t
+          ap (λ s. track_at s t) (no-other-schedule all starts call.scheduled) ∙ at_once-line all call.scheduled.different (all-at_once ports) t
           ∙ ap (λ frames. line_at frames t) (sym ascending-starts)
 
       pub at_once-quiet : IsQuietCall [] (all_made offers 0 ports) (frames_of starts)
       at_once-quiet =
-          let frames : queued waiting_ports ≡ frames_of all = all-frames 0 ports in
-          let same_size : length (queued waiting_ports) ≡ length all = ap length frames ∙ length-map all (λ (x : Timed). x.frame) in
+          let moved = all-wait ports call.offered in
+          let other_way = IsPermutation-sym (queued waiting_ports) (frames_of all) moved in
+          let different : AreDifferent (queued waiting_ports) = different_permuted (frames_of all) (queued waiting_ports) other_way call.scheduled.different in
+          let same_size = all-size ports call.offered in
+          let ascends : frames_of starts ≡ ascending (queued waiting_ports) = ascending-starts ∙ ascending_permuted (frames_of all) (queued waiting_ports) other_way call.scheduled.different in
           subst (λ ps. IsQuietCall [] ps (frames_of starts)) (sym taken) (record {
             undisturbed = refl;
             quiet = record {
@@ -140,19 +153,17 @@ module _ (offers : List Offer) (first : AreAtOnce (map timed offers)) where
                   let is = offered-port offers 0 ports n q there in
                   subst (IsQuietPort (length (queued waiting_ports))) (sym is.gained)
                   (quiet-gains (length (queued waiting_ports)) is.before (arriving offers (0 + n) 0) (subst (λ k. IsQuietPort k is.before) (sym same_size) (call.quiet n is.before is.stands)));
-              different = subst AreDifferent (sym frames) call.scheduled.different;
+              different = different;
             };
-            ascending = subst (λ fs. IsAscending fs (frames_of starts)) (sym frames)
-                (subst (IsAscending (frames_of all)) (sym ascending-starts) (ascending_there (frames_of all) call.scheduled.different));
+            ascending = subst (IsAscending (queued waiting_ports)) (sym ascends) (ascending_there (queued waiting_ports) different);
           })
 
     -- and the other way round
     pub at_once-open : (frames : List Parts) → AreOffered (length ports) offers → IsQuietCall [] (all_made offers 0 ports) frames →
-        IsOpenCall offers ports (schedule (all_offers offers 0 ports))
+        IsOpenCall offers ports (schedule (all_offers offers ports))
     at_once-open frames offered call =
         let quiet : IsQuiet waiting_ports = subst IsQuiet taken call.quiet in
-        let same : queued waiting_ports ≡ frames_of all = all-frames 0 ports in
-        let same_size : length (queued waiting_ports) ≡ length all = ap length same ∙ length-map all (λ (x : Timed). x.frame) in
+        let same_size = all-size ports offered in
         record {
           two = omega (arith, quiet.two, length-offered offers 0 ports);
           most = omega (arith, quiet.most, length-offered offers 0 ports);
@@ -161,7 +172,7 @@ module _ (offers : List Offer) (first : AreAtOnce (map timed offers)) where
               subst (λ k. IsQuietPort k p) same_size
               (gains-quiet (length (queued waiting_ports)) p (arriving offers (0 + n) 0) (quiet.quiet n (gains (arriving offers (0 + n) 0) p) (port-offered offers 0 ports n p there)));
           room = room;
-          scheduled = one-schedule all (subst AreDifferent same quiet.different);
+          scheduled = one-schedule all (different_permuted (queued waiting_ports) (frames_of all) (all-wait ports offered) quiet.different);
         }
 
   -- ---- the run

@@ -1,7 +1,9 @@
 -- Where a bus begins to which frames are offered meanwhile: its ports, as the offers of time 0 are made, and the room that they have.
 use Rattle.std.specs.Prelude.{filter, slice_get}
 use Rattle.std.proofs.Common.{◌≡◌, ℕ, suc, ◌+◌, ◌≤◌, Some, List, [], ◌∷◌, ◌++◌, length, refl, sym, ap, subst, ◌∙◌, arith, inl, inr, append_assoc}
+use Rattle.std.specs.List.Sorted.{IsPermutation}
 use Rattle.std.proofs.Math.Dec.{eqb}
+use Rattle.std.proofs.lemmas.List.Sorted.{IsPermutation-map, IsPermutation-sym}
 use Rattle.std.proofs.lemmas.Bool.{cases_eq}
 use Rattle.std.proofs.lemmas.List.{append-nil, length-append, length-map}
 use Rattle.can_frame.specs.Parts.{Parts, IsFrame}
@@ -14,14 +16,16 @@ use Rattle.can_bus.specs.Offers.{all_made, played}
 use Rattle.can_bus.specs.Quiet.{IsQuietPort}
 use Rattle.can_bus.specs.Run.{BusState}
 use Rattle.can_bus.specs.Schedule.{Timed, Lists, frames_of, offered_by}
+use Rattle.can_bus.proofs.Ascending.{different_permuted}
 use Rattle.can_bus.proofs.Contests.{AllPorts}
-use Rattle.can_bus.proofs.Members.{map-stands, filter-stands}
+use Rattle.can_bus.proofs.Members.{filter-stands, map-stands, stands-permuted}
 use Rattle.can_bus.proofs.NextStarts.{AreApart, apart-from}
 use Rattle.can_bus.proofs.OfferLemmas.{offers-rise}
 use Rattle.can_bus.proofs.OfferTimes.{AreInOrder, at-first, length-offered_by, offered-arrived, offered_by-append, offered_by-first}
 use Rattle.can_bus.proofs.OpenBus.{wire_with}
 use Rattle.can_bus.proofs.OpenPorts.{OpenPort, IsOpenPort, calm-gains, frames-offered}
 use Rattle.can_bus.proofs.OpenRounds.{OpenRound, held, machines_of}
+use Rattle.can_bus.proofs.PortOffers.{offers-by-port, port_offers}
 use Rattle.can_bus.proofs.PlayedRuns.{AreRoomy, HaveRoomNow, IsOpen, all-taken, all_offered, arriving, open_ports, to-here, to-other}
 use Rattle.can_bus.proofs.QuietStart.{calm-port}
 use Rattle.can_bus.proofs.WireRuns.{Wire}
@@ -49,7 +53,7 @@ each-from P node (p ∷ ports) each = (
 
 -- ---- the wire
 
-held-open : (offers : List Offer) (node : ℕ) (ports : List PortState) → held (all_open offers node ports) ≡ all_offers offers node ports
+held-open : (offers : List Offer) (node : ℕ) (ports : List PortState) → held (all_open offers node ports) ≡ port_offers offers node ports
 held-open offers node [] = refl
 held-open offers node (p ∷ ports) = ap (λ l. own_offers offers node p ++ l) (held-open offers (node + 1) ports)
 
@@ -148,22 +152,27 @@ module _ (offers : List Offer) (starts : List Timed) (bus : BusState) (valid : A
   os = all_open offers 0 bus.ports
 
   abbrev all : List Timed
-  all = all_offers offers 0 bus.ports
+  all = all_offers offers bus.ports
+
+  by_port : IsPermutation (port_offers offers 0 bus.ports) all
+  by_port = offers-by-port offers bus.ports call.offered
 
   pub call-order : (node : ℕ) → AreInOrder (offered_to node offers)
   call-order = order-of offers (offers-rise (length bus.ports) offers call.offered)
 
-  pub call-round : OpenRound 0 (all_offers offers 0 bus.ports) os
+  pub call-round : OpenRound 0 (all_offers offers bus.ports) os
   call-round =
       let same = held-open offers 0 bus.ports in
-      let apart : AreApart all = apart-from all call.scheduled.different in
+      let ports = port_offers offers 0 bus.ports in
+      let other_way : IsPermutation all ports = IsPermutation-sym ports all by_port in
       record {
         ports = start-ports offers call-order (frames-to offers framed) (length all) 0 bus.ports valid
             (each-from (λ n p. IsQuietPort (length all) p) 0 bus.ports call.quiet);
-        apart = subst AreApart (sym same) apart;
-        left_apart = apart;
-        to = λ x there. subst (λ l. Lists l x) same there;
-        from = λ x there. subst (λ l. Lists l x) (sym same) there;
+        apart = subst AreApart (sym same)
+            (apart-from ports (different_permuted (frames_of all) (frames_of ports) (IsPermutation-map (λ (x : Timed). x.frame) all ports other_way) call.scheduled.different));
+        left_apart = apart-from all call.scheduled.different;
+        to = λ x there. stands-permuted ports all x by_port (subst (λ l. Lists l x) same there);
+        from = λ x there. subst (λ l. Lists l x) (sym same) (stands-permuted all ports x other_way there);
       }
 
   pub call-wire : IsOpen offers 0 bus (wire_with os bus.rest)

@@ -1,13 +1,13 @@
 -- An open bus: a quiet bus to whose ports frames are offered while it goes on. Its frames go out by their schedule.
 -- (Bosch CAN 2.0 part B, sections 2 and 3.2.5)
-use Rattle.std.specs.Prelude.{ℕ, ◌≡◌, ◌+◌, ◌≤◌, ◌==◌, List, [], ◌∷◌, ◌++◌, All, length, map, filter, slice_get, Some}
+use Rattle.std.specs.Prelude.{ℕ, ◌≡◌, ◌+◌, ◌≤◌, ◌==◌, List, ◌++◌, All, length, map, filter, slice_get, Some}
 use Rattle.can_frame.specs.Parts.{Parts}
 use Rattle.can_code.specs.Wire.{wire}
 use Rattle.can_node.specs.Ports.{PortState}
 use Rattle.can_bus.specs.declared.offer.Offer.{Offer}
 use Rattle.can_bus.specs.Offers.{AreOffered, all_made}
 use Rattle.can_bus.specs.Plans.{PortPlan, planned}
-use Rattle.can_bus.specs.Quiet.{AreDifferent, Begins, IsQuietPort, marked}
+use Rattle.can_bus.specs.Quiet.{AreDifferent, Begins, IsQuietPort, marked, queued}
 use Rattle.can_bus.specs.Run.{BusState}
 use Rattle.can_bus.specs.Schedule.{IsScheduleOf, Lists, Timed, frames_of}
 
@@ -27,10 +27,9 @@ offered_to node offers = map timed (filter (λ offer. offer.node == node) offers
 abbrev pub own_offers : List Offer → ℕ → PortState → List Timed
 own_offers offers node p = offered_first p.queue ++ offered_to node offers
 
--- what all these ports have to send, where the first has this number
-abbrev pub all_offers : List Offer → ℕ → List PortState → List Timed
-all_offers offers node [] = []
-all_offers offers node (p ∷ ports) = own_offers offers node p ++ all_offers offers (node + 1) ports
+-- all frames: those that wait at the ports as the call begins, and those that are offered
+abbrev pub all_offers : List Offer → List PortState → List Timed
+all_offers offers ports = offered_first (queued ports) ++ map timed offers
 
 -- each queue has room for what it holds and what is offered to its port
 abbrev pub QueuesHaveRoom : List Offer → List PortState → Type 0
@@ -42,11 +41,11 @@ pub record IsOpenCall (offers : List Offer) (ports : List PortState) (starts : L
   pub most : length ports ≤ 64
   -- the offers come in the order of their times, each to a port that is there
   pub offered : AreOffered (length ports) offers
-  -- each port is idle, has counted no error, and its log has room for all frames
-  pub quiet : (n : ℕ) (p : PortState) → slice_get ports n ≡ Some p → IsQuietPort (length (all_offers offers 0 ports)) p
+  -- each port is idle, has counted no error and asks for no overload frame; its log is empty, with room for all frames
+  pub quiet : (n : ℕ) (p : PortState) → slice_get ports n ≡ Some p → IsQuietPort (length (all_offers offers ports)) p
   pub room : QueuesHaveRoom offers ports
-  -- the schedule of all frames, of which no two have one arbitration field
-  pub scheduled : IsScheduleOf (all_offers offers 0 ports) starts
+  -- the schedule of all frames, no two of which have one arbitration field
+  pub scheduled : IsScheduleOf (all_offers offers ports) starts
 
 -- the wires of all starts have ended by this time
 abbrev pub AreOver : List Timed → ℕ → Type 0

@@ -1,13 +1,12 @@
 //! Laws of a bus to which frames are offered while it goes on, each a function that does nothing and ensures it.
-ghost use Rattle.std.specs.Prelude.{◌≡◌, ◌<◌, ◌++◌, ℕ, List, [], length, map};
-ghost use Rattle.std.specs.List.Sorted.{IsPermutation};
+ghost use Rattle.std.specs.Prelude.{◌≡◌, ◌<◌, ℕ, List, [], length, map};
 ghost use Rattle.can_frame.specs.Parts.{Parts};
 ghost use Rattle.can_node.specs.Ports.{PortState};
 ghost use Rattle.can_bus.specs.declared.offer.Offer.{Offer};
 ghost use Rattle.can_bus.specs.Offers.{AreOffered, all_made, played, played_level};
-ghost use Rattle.can_bus.specs.OpenBus.{AtEachNode, QueuesHaveRoom, IsOpenCall, IsOpenPlan, WaitsAt, all_offers, offered_first, timed, with_first};
+ghost use Rattle.can_bus.specs.OpenBus.{AtEachNode, QueuesHaveRoom, IsOpenCall, IsOpenPlan, WaitsAt, all_offers, timed, with_first};
 ghost use Rattle.can_bus.specs.Plans.{PortPlan, ready_port};
-ghost use Rattle.can_bus.specs.Quiet.{IsQuietCall, line_at, queued};
+ghost use Rattle.can_bus.specs.Quiet.{IsQuietCall, line_at};
 ghost use Rattle.can_bus.specs.Run.{BusState, bus_level, bus_run};
 ghost use Rattle.can_bus.specs.Schedule.{AreAtOnce, Timed, frames_of, schedule, track_at};
 
@@ -20,7 +19,7 @@ pub fn offers_at_once_are_quiet()
     ensures to_quiet { (offers : List Offer) (ports : List PortState) (starts : List Timed) → AreAtOnce (map timed offers) → IsOpenCall offers ports starts →
         IsQuietCall [] (all_made offers 0 ports) (frames_of starts) }
     ensures from_quiet { (offers : List Offer) (ports : List PortState) (frames : List Parts) → AreAtOnce (map timed offers) → AreOffered (length ports) offers → QueuesHaveRoom offers ports →
-        IsQuietCall [] (all_made offers 0 ports) frames → IsOpenCall offers ports (schedule (all_offers offers 0 ports)) }
+        IsQuietCall [] (all_made offers 0 ports) frames → IsOpenCall offers ports (schedule (all_offers offers ports)) }
     ensures line { (offers : List Offer) (ports : List PortState) (starts : List Timed) → AreAtOnce (map timed offers) → IsOpenCall offers ports starts →
         (t : ℕ) → track_at starts t ≡ line_at (frames_of starts) t }
     ensures queues { (offers : List Offer) (ports : List PortState) → AreAtOnce (map timed offers) → QueuesHaveRoom offers ports →
@@ -29,16 +28,10 @@ pub fn offers_at_once_are_quiet()
     ensures levels { (offers : List Offer) (t : ℕ) (bus : BusState) → AreAtOnce (map timed offers) → played_level offers t bus ≡ bus_level [] t (with_first offers bus) }
 {}
 
-/// What all ports have to send, told port by port, are the frames that wait there, and the offers.
-pub fn each_offer_is_of_one_port()
-    ensures { (offers : List Offer) (ports : List PortState) → AreOffered (length ports) offers →
-        IsPermutation (all_offers offers 0 ports) (offered_first (queued ports) ++ map timed offers) }
-{}
-
 /// Ports that are made idle and offered frames, as in `a_quiet_bus_can_be_made`, and any number of offers to them
 /// in order, meet the premises of `play`'s theorem, where no two frames have one arbitration field and there is room
 /// for all in each queue and each log.
 pub fn an_open_bus_can_be_made()
     ensures { (offers : List Offer) (plans : List PortPlan) → IsOpenPlan offers plans →
-        IsOpenCall offers (map ready_port plans) (schedule (all_offers offers 0 (map ready_port plans))) }
+        IsOpenCall offers (map ready_port plans) (schedule (all_offers offers (map ready_port plans))) }
 {}

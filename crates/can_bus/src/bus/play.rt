@@ -61,7 +61,8 @@ impl<P: Port> Bus<P> {
     ///
     /// No offer may be earlier than the one before it, and each must name a port that there is: else the
     /// first that doesn't is told, its order before its port, nothing has run, and `rec` and all ports
-    /// are as they were. It takes no memory, and goes through the offers once.
+    /// are as they were. It takes no memory. Its work is in proportion to the offers, and to ports and bit
+    /// times.
     ///
     /// On a bus of two ports or more that are idle, have counted no error and ask for no overload frame,
     /// with room in each queue for all that its port is offered and in each empty log for all frames, no

@@ -79,39 +79,39 @@ returns-clause-levels g c = λ t h.
 -- ---- a bus that follows the schedule
 
 -- offers that are refused meet no premises
-shut : {X : Type 0} (state : X → PortState) (xs : List X) (size : ℕ) (offers : List Offer) → size ≡ length xs → ((false ≡ true) ↔ AreOffered size offers) →
+refused-call : {X : Type 0} (state : X → PortState) (xs : List X) (size : ℕ) (offers : List Offer) → size ≡ length xs → ((false ≡ true) ↔ AreOffered size offers) →
     (starts : List Timed) → IsOpenCall offers (map state xs) starts → ⊥
-shut state xs size offers same taken starts call = not-open state xs size offers starts same (λ offered. let e : false ≡ true = taken.1 offered in cc) call
+refused-call state xs size offers same taken starts call = not-open state xs size offers starts same (λ offered. let e : false ≡ true = taken.1 offered in cc) call
 
 pub returns-in_err-check-clause-answer : goal.returns-in_err-check-clause-answer
 returns-in_err-check-clause-answer g c = λ starts call.
     let size : c.len.result ≡ length c.args.self.now.ports.items = search rules in
-    absurd (shut g.P.Port.port c.args.self.now.ports.items c.len.result c.args.offers.now size c.in_err-check.ensures.taken starts call)
+    absurd (refused-call g.P.Port.port c.args.self.now.ports.items c.len.result c.args.offers.now size c.in_err-check.ensures.taken starts call)
 
 pub returns-in_err-check-clause-track : goal.returns-in_err-check-clause-track
 returns-in_err-check-clause-track g c = λ starts call t within.
     let size : c.len.result ≡ length c.args.self.now.ports.items = search rules in
-    absurd (shut g.P.Port.port c.args.self.now.ports.items c.len.result c.args.offers.now size c.in_err-check.ensures.taken starts call)
+    absurd (refused-call g.P.Port.port c.args.self.now.ports.items c.len.result c.args.offers.now size c.in_err-check.ensures.taken starts call)
 
 pub returns-in_err-check-clause-open_logs : goal.returns-in_err-check-clause-open_logs
 returns-in_err-check-clause-open_logs g c = λ starts call.
     let size : c.len.result ≡ length c.args.self.now.ports.items = search rules in
-    absurd (shut g.P.Port.port c.args.self.now.ports.items c.len.result c.args.offers.now size c.in_err-check.ensures.taken starts call)
+    absurd (refused-call g.P.Port.port c.args.self.now.ports.items c.len.result c.args.offers.now size c.in_err-check.ensures.taken starts call)
 
 pub returns-in_err-check-clause-open_whole : goal.returns-in_err-check-clause-open_whole
 returns-in_err-check-clause-open_whole g c = λ starts call past.
     let size : c.len.result ≡ length c.args.self.now.ports.items = search rules in
-    absurd (shut g.P.Port.port c.args.self.now.ports.items c.len.result c.args.offers.now size c.in_err-check.ensures.taken starts call)
+    absurd (refused-call g.P.Port.port c.args.self.now.ports.items c.len.result c.args.offers.now size c.in_err-check.ensures.taken starts call)
 
 pub returns-in_err-check-clause-open_counters : goal.returns-in_err-check-clause-open_counters
 returns-in_err-check-clause-open_counters g c = λ starts call.
     let size : c.len.result ≡ length c.args.self.now.ports.items = search rules in
-    absurd (shut g.P.Port.port c.args.self.now.ports.items c.len.result c.args.offers.now size c.in_err-check.ensures.taken starts call)
+    absurd (refused-call g.P.Port.port c.args.self.now.ports.items c.len.result c.args.offers.now size c.in_err-check.ensures.taken starts call)
 
 pub returns-in_err-check-clause-open_missed : goal.returns-in_err-check-clause-open_missed
 returns-in_err-check-clause-open_missed g c = λ starts call.
     let size : c.len.result ≡ length c.args.self.now.ports.items = search rules in
-    absurd (shut g.P.Port.port c.args.self.now.ports.items c.len.result c.args.offers.now size c.in_err-check.ensures.taken starts call)
+    absurd (refused-call g.P.Port.port c.args.self.now.ports.items c.len.result c.args.offers.now size c.in_err-check.ensures.taken starts call)
 
 pub returns-clause-bus : goal.returns-clause-bus
 returns-clause-bus g c =
