@@ -643,16 +643,29 @@ enum Hit {
     View { time: u64, node: usize },
 }
 
+struct Offer {
+    time: u64,
+    port: usize,
+    frame: Frame,
+}
+
 struct Bus {
     ports: Vec<Port>,
     rest: u32,
+    /// How many offers a full queue has refused.
+    refused: usize,
 }
 
 impl Bus {
-    fn run(&mut self, hits: &[Hit], levels: &mut [Level]) {
+    fn run(&mut self, hits: &[Hit], offers: &[Offer], levels: &mut [Level]) {
         let mut attempts = 0u64;
         let mut began = 0u64;
         for (time, recorded) in (0u64..).zip(levels.iter_mut()) {
+            for offer in offers.iter().filter(|offer| offer.time == time) {
+                if !self.ports[offer.port].offer(offer.frame) {
+                    self.refused += 1;
+                }
+            }
             let is_driven = self.ports.iter().any(|port| port.drive() == Dominant);
             let wired = Level::of_bit(!is_driven);
             if wired == Dominant && self.rest == 11 {
@@ -691,6 +704,13 @@ struct Scenario {
     holds: u32,
     hits: Vec<Hit>,
     frames: Vec<(usize, Frame)>,
+    offers: Vec<Offer>,
+}
+
+/// The frame behind its port's number.
+fn parse_frame(text: &str) -> Result<(usize, Frame), Box<dyn Error>> {
+    let (port, text) = text.split_once(' ').ok_or("a frame of no port")?;
+    Ok((port.parse()?, Frame::parse(text)?))
 }
 
 impl Scenario {
@@ -717,9 +737,11 @@ impl Scenario {
                     let (time, node) = (first().parse()?, first().parse()?);
                     scenario.hits.push(Hit::View { time, node });
                 }
-                "frame" => {
-                    let (port, text) = rest.split_once(' ').ok_or("a frame of no port")?;
-                    scenario.frames.push((port.parse()?, Frame::parse(text)?));
+                "frame" => scenario.frames.push(parse_frame(rest)?),
+                "offer" => {
+                    let (time, rest) = rest.split_once(' ').ok_or("a time alone")?;
+                    let (port, frame) = parse_frame(rest)?;
+                    scenario.offers.push(Offer { time: time.parse()?, port, frame });
                 }
                 _ => return Err("an unknown word".into()),
             }
@@ -772,7 +794,7 @@ fn main() -> Result<(), Box<dyn Error>> {
     io::stdin().read_to_string(&mut text)?;
     let scenario = Scenario::parse(&text)?;
     let ports = (0..scenario.ports).map(|place| scenario.port(place)).collect();
-    let mut bus = Bus { ports, rest: 11 };
+    let mut bus = Bus { ports, rest: 11, refused: 0 };
     let mut levels = vec![Recessive; scenario.call];
     let mut sum = Checksum(0xcbf2_9ce4_8422_2325);
     for _ in 0..scenario.bits / scenario.call {
@@ -783,12 +805,13 @@ fn main() -> Result<(), Box<dyn Error>> {
         for port in &mut bus.ports {
             port.controller.overloads_wanted = scenario.holds;
         }
-        bus.run(&scenario.hits, &mut levels);
+        bus.run(&scenario.hits, &scenario.offers, &mut levels);
         for &level in &levels {
             sum.add(u64::from(level == Recessive));
         }
     }
     println!("levels {:016x}", sum.0);
+    println!("refused {}", bus.refused);
     for (place, port) in bus.ports.iter().enumerate() {
         let mut entries = Checksum(0xcbf2_9ce4_8422_2325);
         for (frame, sent) in &port.log {
