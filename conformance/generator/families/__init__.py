@@ -2,5 +2,5 @@
 
 import importlib
 
-for _name in ("received", "sent", "arbitration", "flags", "overload"):
+for _name in ("received", "sent", "arbitration", "flags", "overload", "passive", "off", "counts"):
     importlib.import_module(f"generator.families.{_name}")

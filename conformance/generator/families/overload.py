@@ -8,6 +8,7 @@ from generator.book import Book, family
 from generator.families.flags import FRAME, sender_error
 from generator.probes import probe_rec, probe_tec
 from generator.scene import Scene
+from kit.frames import Frame
 
 RECEIVED = "S 123 D 1 c3"
 
@@ -84,19 +85,12 @@ def overload_last_eof(book: Book) -> None:
             scene.recover()
             scene.stuff_error()
             scene.recover()
-            wire = scene.receive(frame, offers, upto=_last_level(frame))
+            scene.receive(frame, offers, upto=Frame.parse(frame).wire().place("eof 7"))
             scene.play("0", "the last level of the end of frame dominant")
             scene.recover()
             if offers:
                 scene.sent(FRAME)
             probe_rec(scene)
-            del wire
-
-
-def _last_level(frame: str) -> int:
-    from kit.frames import Frame
-
-    return Frame.parse(frame).wire().place("eof 7")
 
 
 @family("overload-flag-superposed", "1 to 16 dominant levels behind an overload flag; probes")
@@ -170,17 +164,13 @@ def overload_own(book: Book) -> None:
         scene.receive(RECEIVED)
         scene.rest(OVERLOAD + 10, "the wish that is left")
     with book.case("replaced", "a wish for one replaces one for two", choices) as scene:
-        begin(2).hold(1)
-        scene.rest(OVERLOAD + 20, "one own overload frame, and none follows")
+        scene.hold(2)
+        begin(1).rest(OVERLOAD + 20, "one own overload frame, and none follows")
     with book.case("replaced-by-two", "a wish for two replaces one for one", choices) as scene:
         scene.rest(2, "idle")
         scene.hold(1)
         begin(2).rest(2 * OVERLOAD + 20, "two own overload frames, and none follows")
     with book.case("taken-back", "a wish that is taken back", choices) as scene:
-        begin(1)
-        scene.case.tester[-1] = (scene.case.tester[-1][0], scene.case.tester[-1][1])
-        scene.rest(1, "an own overload frame would have begun with it")
-        scene.rest(OVERLOAD + 4)
         scene.hold(1)
         scene.rest(2)
         scene.hold(0)
@@ -191,7 +181,7 @@ def overload_own(book: Book) -> None:
         scene.rest(3, "intermission")
         scene.sending(FRAME, 8)
         scene.hold(1)
-        slot = len(_wire(FRAME)) - 9
+        slot = Frame.parse(FRAME).wire().place("ack")
         scene.play("1" * (slot - 8) + "0" + "1" * 8 + "1" * 8, "the rest of its frame, and intermission")
         scene.receive(RECEIVED)
         scene.rest(OVERLOAD + 20, "an own overload frame")
@@ -213,8 +203,3 @@ def overload_own(book: Book) -> None:
         scene.sent(FRAME)
         scene.rest(10)
 
-
-def _wire(frame: str) -> str:
-    from kit.frames import Frame
-
-    return Frame.parse(frame).wire().levels
