@@ -106,6 +106,7 @@ def stuff(book: Book) -> None:
             scene.anchor(frame)
             scene.sending(frame, recessive[number])
             scene.play("0", "the stuff bit dominant")
-            scene.recover()
+            # a run behind the flag tells whether the controller is still the sender
+            scene.behind_flag(8 if suffix.endswith("second") else 0)
             scene.sent(frame)
             probe_tec(scene)

@@ -5,7 +5,7 @@ from __future__ import annotations
 from typing import Tuple
 
 from generator.book import Book, family
-from generator.probes import PROBE_FRAME, probe_rec, probe_tec, raise_rec, raise_tec
+from generator.probes import PROBE_FRAME, break_delimiter, probe_rec, probe_tec, raise_rec, raise_tec
 from generator.scene import Scene
 from kit.frames import Frame
 
@@ -54,6 +54,9 @@ def passive_limit(book: Book) -> None:
             scene.rest(1, "idle")
             raise_rec(scene, goal)
             show_flag(scene)
+            if goal == 140:
+                scene.stuff_error()
+                scene.behind_flag(8 * 16)
     with book.case("rec-back", "a frame received brings REC back below the limit") as scene:
         scene.rest(1, "idle")
         raise_rec(scene, 128)
@@ -69,6 +72,9 @@ def passive_limit(book: Book) -> None:
         show_own_flag(scene)
     for goal in (120, 128, 136):
         with book.case(f"tec-{goal}", f"the flag of a sender with a TEC of {goal}") as scene:
+            scene.rest(1, "idle")
+            # both counters below the limit, their sum above it
+            raise_rec(scene, 100 if goal == 120 else 0)
             scene.anchor(OWN)
             raise_tec(scene, goal, OWN)
             show_own_flag(scene)
@@ -185,7 +191,7 @@ def passive_receiver_family(book: Book) -> None:
         with book.case(suffix, f"an error at {suffix}: the flag is passive") as scene:
             passive_receiver(scene)
             scene.play(levels, f"an error: {suffix}")
-            scene.recover()
+            scene.behind_flag(1 if suffix == "crc-delimiter" else 0)
             scene.receive(RECEIVED)
             scene.rest(5)
     with book.case("delimiter", "a dominant level in a delimiter: another passive flag") as scene:
@@ -318,7 +324,7 @@ def passive_unacknowledged(book: Book) -> None:
         scene.sent(PROBE_FRAME)
         scene.rest(12)
     patterns: Tuple[Tuple[str, str, str], ...] = (
-        ("nothing-dominant", "111111", "nothing counts"),
+        ("nothing-dominant", "111111", "nothing counts, where the error before does"),
         ("level-1", "0111111", "a dominant first level counts"),
         ("level-3", "110111111", "a dominant third level counts"),
         ("level-6", "111110111111", "a dominant sixth level counts"),
@@ -329,6 +335,9 @@ def passive_unacknowledged(book: Book) -> None:
     for suffix, pattern, purpose in patterns:
         with book.case(suffix, f"a missing acknowledgement while passive: {purpose}") as scene:
             passive_sender(scene, OWN)
+            if suffix == "nothing-dominant":
+                break_delimiter(scene, OWN, 0)
+                scene.wait()
             _unacknowledged(scene, pattern)
             probe_tec(scene)
 
