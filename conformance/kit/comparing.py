@@ -12,6 +12,8 @@ Difference = Tuple[int, int, str]
 
 
 def _level_difference(drove: str, expected: str) -> Optional[Difference]:
+    if drove == expected:
+        return None
     for time, (one, other) in enumerate(zip(drove, expected)):
         if one != other:
             return time, LEVEL, f"drove {one} not {other}"
