@@ -1,0 +1,681 @@
+//! A plain controller with a queue and a log, for simulators of classical CAN at whole bit times: written from
+//! docs/ACCESS.md, independent of the crates beside it, standard library only. `simulator.rs` beside it has a bus
+//! of them, and `conformance/adapters/simulator.rs` plays the conformance kit with one. Each of the two programs
+//! uses a part of what is here.
+#![allow(dead_code)]
+
+use std::collections::VecDeque;
+use std::error::Error;
+
+#[derive(Clone, Copy, PartialEq, Eq, Debug)]
+pub enum Level {
+    Dominant,
+    Recessive,
+}
+
+pub use self::Level::{Dominant, Recessive};
+
+impl Level {
+    pub fn of_bit(bit: bool) -> Level {
+        if bit { Recessive } else { Dominant }
+    }
+
+    pub fn opposite(self) -> Level {
+        Level::of_bit(self == Dominant)
+    }
+}
+
+// Frames
+
+#[derive(Clone, Copy, PartialEq, Eq)]
+pub struct Frame {
+    pub id: u32,
+    pub extended: bool,
+    pub remote: bool,
+    pub dlc: u8,
+    pub data: [u8; 8],
+    pub len: usize,
+}
+
+fn push_bits(levels: &mut Vec<Level>, value: u32, count: u32) {
+    for place in (0..count).rev() {
+        levels.push(Level::of_bit(value >> place & 1 == 1));
+    }
+}
+
+fn number(levels: &[Level]) -> u32 {
+    levels
+        .iter()
+        .fold(0, |value, &level| value << 1 | u32::from(level == Recessive))
+}
+
+fn crc(levels: &[Level]) -> u32 {
+    let mut register = 0u32;
+    for &level in levels {
+        let feedback = u32::from(level == Recessive) ^ (register >> 14 & 1);
+        register = register << 1 & 0x7fff;
+        if feedback == 1 {
+            register ^= 0x4599;
+        }
+    }
+    register
+}
+
+impl Frame {
+    pub fn parse(line: &str) -> Result<Frame, Box<dyn Error>> {
+        let mut words = line.split(' ');
+        let mut word = || words.next().unwrap_or_default();
+        let extended = word() == "E";
+        let id = u32::from_str_radix(word(), 16)?;
+        let remote = word() == "R";
+        let dlc = word().parse()?;
+        let digits = word();
+        let mut data = [0; 8];
+        for (place, byte) in data[..digits.len() / 2].iter_mut().enumerate() {
+            *byte = u8::from_str_radix(&digits[2 * place..2 * place + 2], 16)?;
+        }
+        let len = digits.len() / 2;
+        Ok(Frame { id, extended, remote, dlc, data, len })
+    }
+
+    /// The arbitration field as a number: the lesser one goes first.
+    fn key(&self) -> u32 {
+        if self.extended {
+            (self.id >> 18) << 21 | 0b11 << 19 | (self.id & 0x3ffff) << 1 | u32::from(self.remote)
+        } else {
+            self.id << 21 | u32::from(self.remote) << 20
+        }
+    }
+
+    /// The place of the RTR bit.
+    fn rtr_place(&self) -> usize {
+        if self.extended { 32 } else { 12 }
+    }
+
+    /// The levels from the start of frame to the end of the CRC sequence, before stuffing.
+    fn unstuffed(&self) -> Vec<Level> {
+        let mut levels = Vec::with_capacity(118);
+        push_bits(&mut levels, 0, 1);
+        if self.extended {
+            push_bits(&mut levels, self.id >> 18, 11);
+            push_bits(&mut levels, 0b11, 2);
+            push_bits(&mut levels, self.id & 0x3ffff, 18);
+        } else {
+            push_bits(&mut levels, self.id, 11);
+        }
+        push_bits(&mut levels, u32::from(self.remote), 1);
+        push_bits(&mut levels, 0, 2);
+        push_bits(&mut levels, u32::from(self.dlc), 4);
+        for &byte in &self.data[..self.len] {
+            push_bits(&mut levels, u32::from(byte), 8);
+        }
+        let check = crc(&levels);
+        push_bits(&mut levels, check, 15);
+        levels
+    }
+}
+
+/// What is heard of the stuffed part of a frame.
+struct Hearing {
+    levels: Vec<Level>,
+    last: Level,
+    run: u32,
+    /// How many unstuffed levels the frame has, once they tell it.
+    whole: Option<usize>,
+}
+
+impl Hearing {
+    fn new() -> Hearing {
+        Hearing { levels: Vec::with_capacity(118), last: Recessive, run: 0, whole: None }
+    }
+
+    fn begin(&mut self) {
+        self.levels.clear();
+        self.levels.push(Dominant);
+        self.last = Dominant;
+        self.run = 1;
+        self.whole = None;
+    }
+
+    fn is_stuff_place(&self) -> bool {
+        self.run == 5
+    }
+
+    fn has_ended(&self) -> bool {
+        self.whole == Some(self.levels.len()) && !self.is_stuff_place()
+    }
+
+    fn is_extended(&self) -> bool {
+        self.levels[13] == Recessive
+    }
+
+    fn rtr_place(&self) -> usize {
+        if self.is_extended() { 32 } else { 12 }
+    }
+
+    fn length(&self) -> Option<usize> {
+        if self.levels.len() < 14 {
+            return None;
+        }
+        let data_place = self.rtr_place() + 7;
+        if self.levels.len() < data_place {
+            return None;
+        }
+        let remote = self.levels[self.rtr_place()] == Recessive;
+        let dlc = number(&self.levels[data_place - 4..data_place]) as usize;
+        Some(data_place + if remote { 0 } else { 8 * dlc.min(8) } + 15)
+    }
+
+    /// Takes a level; false where it repeats five equal ones.
+    fn hear(&mut self, level: Level) -> bool {
+        if self.is_stuff_place() {
+            if level == self.last {
+                return false;
+            }
+            self.run = 1;
+        } else {
+            self.levels.push(level);
+            self.run = if level == self.last { self.run + 1 } else { 1 };
+            if self.whole.is_none() {
+                self.whole = self.length();
+            }
+        }
+        self.last = level;
+        true
+    }
+
+    fn agrees(&self) -> bool {
+        let (head, check) = self.levels.split_at(self.levels.len() - 15);
+        crc(head) == number(check)
+    }
+
+    fn frame(&self) -> Frame {
+        let levels = &self.levels;
+        let extended = self.is_extended();
+        let mut id = number(&levels[1..12]);
+        if extended {
+            id = id << 18 | number(&levels[14..32]);
+        }
+        let data_place = self.rtr_place() + 7;
+        let mut data = [0; 8];
+        let bits = &levels[data_place..levels.len() - 15];
+        for (byte, bits) in data.iter_mut().zip(bits.chunks(8)) {
+            *byte = number(bits) as u8;
+        }
+        Frame {
+            id,
+            extended,
+            remote: levels[self.rtr_place()] == Recessive,
+            dlc: number(&levels[data_place - 4..data_place]) as u8,
+            data,
+            len: bits.len() / 8,
+        }
+    }
+}
+
+// Fault confinement
+
+pub enum Cause {
+    ReceiverError,
+    ReceiverEight,
+    SenderEight,
+    FrameSent,
+    FrameReceived,
+}
+
+#[derive(Clone, Copy, PartialEq, Eq)]
+pub enum State {
+    Active,
+    Passive,
+    BusOff,
+}
+
+#[derive(Default)]
+pub struct Counters {
+    pub transmit: u32,
+    pub receive: u32,
+}
+
+impl Counters {
+    pub fn state(&self) -> State {
+        if self.transmit >= 256 {
+            State::BusOff
+        } else if self.transmit >= 128 || self.receive >= 128 {
+            State::Passive
+        } else {
+            State::Active
+        }
+    }
+
+    fn count(&mut self, cause: Cause) {
+        match cause {
+            Cause::ReceiverError => self.receive = (self.receive + 1).min(255),
+            Cause::ReceiverEight => self.receive = (self.receive + 8).min(255),
+            Cause::SenderEight => self.transmit += 8,
+            Cause::FrameSent => self.transmit = self.transmit.saturating_sub(1),
+            Cause::FrameReceived if self.receive > 127 => self.receive = 127,
+            Cause::FrameReceived => self.receive = self.receive.saturating_sub(1),
+        }
+    }
+}
+
+// Medium access
+
+#[derive(Clone, Copy)]
+pub enum Phase {
+    Joining { row: u32 },
+    Idle,
+    StuffedPart,
+    CrcDelimiter,
+    AckSlot,
+    AckDelimiter,
+    EndOfFrame { place: u32 },
+    ErrorFlag { place: u32 },
+    PassiveFlag { last: Level, run: u32, unacknowledged: bool },
+    OverloadFlag { place: u32 },
+    AfterFlag { first: bool, dominant: u32 },
+    Delimiter { place: u32 },
+    Intermission { place: u32 },
+    Suspend { place: u32 },
+    BusOff { occurrences: u32, row: u32 },
+}
+
+#[derive(Clone, Copy, PartialEq, Eq)]
+pub enum ErrorKind {
+    Stuff,
+    Bit,
+    Form,
+    Crc,
+    Acknowledgement,
+}
+
+/// What a bit time tells.
+#[derive(Clone, Copy)]
+pub enum Event {
+    Sent(Frame),
+    Received(Frame),
+    Lost,
+    Error(ErrorKind),
+    Overload,
+    WentOff,
+    Recovered,
+}
+
+pub struct Controller {
+    phase: Phase,
+    hearing: Hearing,
+    /// The frame that the controller sends, with its unstuffed levels.
+    sending: Option<(Frame, Vec<Level>)>,
+    /// Whether the CRC sequence that was heard is right, and the frame.
+    agrees: bool,
+    frame: Option<Frame>,
+    pub counters: Counters,
+    pub overloads_wanted: u32,
+    overloads_used: u32,
+}
+
+impl Controller {
+    pub fn new(phase: Phase) -> Controller {
+        Controller {
+            phase,
+            hearing: Hearing::new(),
+            sending: None,
+            agrees: false,
+            frame: None,
+            counters: Counters::default(),
+            overloads_wanted: 0,
+            overloads_used: 0,
+        }
+    }
+
+    fn is_passive(&self) -> bool {
+        self.counters.state() != State::Active
+    }
+
+    fn drive(&self, waiting: Option<&Frame>) -> Level {
+        match self.phase {
+            Phase::Idle if waiting.is_some() => Dominant,
+            Phase::StuffedPart => match &self.sending {
+                None => Recessive,
+                Some(_) if self.hearing.is_stuff_place() => self.hearing.last.opposite(),
+                Some((_, levels)) => levels[self.hearing.levels.len()],
+            },
+            Phase::AckSlot if self.sending.is_none() && self.agrees => Dominant,
+            Phase::ErrorFlag { .. } | Phase::OverloadFlag { .. } => Dominant,
+            _ => Recessive,
+        }
+    }
+
+    /// Counts a cause. With a TEC of 256 the controller is bus off.
+    fn count(&mut self, cause: Cause) {
+        self.counters.count(cause);
+    }
+
+    fn start_flag(&mut self, unacknowledged: bool) {
+        self.phase = if self.is_passive() {
+            Phase::PassiveFlag { last: Recessive, run: 0, unacknowledged }
+        } else {
+            Phase::ErrorFlag { place: 0 }
+        };
+    }
+
+    fn error(&mut self, kind: ErrorKind) -> Option<Event> {
+        self.start_flag(false);
+        self.count(if self.sending.is_some() {
+            Cause::SenderEight
+        } else {
+            Cause::ReceiverError
+        });
+        Some(Event::Error(kind))
+    }
+
+    /// An error where the levels have a fixed form: a sender's is that it sees another level than its own.
+    fn error_of_form(&mut self) -> Option<Event> {
+        self.error(if self.sending.is_some() { ErrorKind::Bit } else { ErrorKind::Form })
+    }
+
+    fn error_in_flag(&mut self) -> Option<Event> {
+        self.start_flag(false);
+        self.count(self.eight());
+        Some(Event::Error(ErrorKind::Bit))
+    }
+
+    fn eight(&self) -> Cause {
+        if self.sending.is_some() {
+            Cause::SenderEight
+        } else {
+            Cause::ReceiverEight
+        }
+    }
+
+    fn overload(&mut self) -> Option<Event> {
+        self.phase = Phase::OverloadFlag { place: 0 };
+        Some(Event::Overload)
+    }
+
+    fn begin(&mut self, waiting: Option<&Frame>) {
+        self.sending = waiting.map(|frame| (*frame, frame.unstuffed()));
+        self.overloads_used = 0;
+        self.hearing.begin();
+        self.phase = Phase::StuffedPart;
+    }
+
+    fn rest(&mut self) {
+        self.sending = None;
+        self.phase = Phase::Idle;
+    }
+
+    fn enter_intermission(&mut self) -> Option<Event> {
+        if self.sending.is_none() && self.overloads_wanted > 0 && self.overloads_used < 2 {
+            self.overloads_wanted -= 1;
+            self.overloads_used += 1;
+            self.overload()
+        } else {
+            self.phase = Phase::Intermission { place: 0 };
+            None
+        }
+    }
+
+    fn hear_level(&mut self, level: Level) -> Option<Event> {
+        let place = self.hearing.levels.len();
+        if !self.hearing.hear(level) {
+            let counts_nothing = level == Dominant
+                && matches!(&self.sending, Some((frame, _)) if place <= frame.rtr_place());
+            if counts_nothing {
+                self.start_flag(false);
+                return Some(Event::Error(ErrorKind::Stuff));
+            }
+            return self.error(ErrorKind::Stuff);
+        }
+        if self.hearing.has_ended() {
+            self.agrees = self.hearing.agrees();
+            self.frame = Some(self.hearing.frame());
+            self.phase = Phase::CrcDelimiter;
+        }
+        None
+    }
+
+    fn stuffed_part(&mut self, seen: Level) -> Option<Event> {
+        if let Some((frame, levels)) = &self.sending {
+            let place = self.hearing.levels.len();
+            if !self.hearing.is_stuff_place() && levels[place] != seen {
+                if seen == Recessive || place > frame.rtr_place() {
+                    return self.error(ErrorKind::Bit);
+                }
+                // arbitration is lost
+                self.sending = None;
+                return self.hear_level(seen).or(Some(Event::Lost));
+            }
+        }
+        self.hear_level(seen)
+    }
+
+    fn ack_slot(&mut self, seen: Level) -> Option<Event> {
+        self.phase = Phase::AckDelimiter;
+        match (&self.sending, seen) {
+            (Some(_), Recessive) if self.is_passive() => {
+                self.start_flag(true);
+                return Some(Event::Error(ErrorKind::Acknowledgement));
+            }
+            (Some(_), Recessive) => return self.error(ErrorKind::Acknowledgement),
+            (None, Recessive) if self.agrees => return self.error(ErrorKind::Bit),
+            (None, Dominant) if self.agrees => self.count(Cause::FrameReceived),
+            (Some(_), Dominant) | (None, _) => {}
+        }
+        None
+    }
+
+    fn end_of_frame(&mut self, place: u32, seen: Level) -> Option<Event> {
+        match (&self.sending, place, seen) {
+            (Some((frame, _)), 6, Recessive) => {
+                let frame = *frame;
+                self.count(Cause::FrameSent);
+                self.enter_intermission();
+                Some(Event::Sent(frame))
+            }
+            (None, 6, Dominant) => self.overload(),
+            (None, 6, Recessive) => self.enter_intermission(),
+            (_, _, Dominant) => self.error_of_form(),
+            (sending, _, Recessive) => {
+                let is_valid = sending.is_none() && place == 5;
+                self.phase = Phase::EndOfFrame { place: place + 1 };
+                self.frame.filter(|_| is_valid).map(Event::Received)
+            }
+        }
+    }
+
+    fn passive_flag(&mut self, last: Level, run: u32, unacknowledged: bool, seen: Level) {
+        let run = if seen == last { run + 1 } else { 1 };
+        self.phase = if run == 6 {
+            Phase::AfterFlag { first: true, dominant: 0 }
+        } else {
+            let unacknowledged = unacknowledged && seen == Recessive;
+            Phase::PassiveFlag { last: seen, run, unacknowledged }
+        };
+        if unacknowledged && seen == Dominant {
+            self.count(Cause::SenderEight);
+        }
+    }
+
+    fn after_flag(&mut self, first: bool, dominant: u32, seen: Level) {
+        if seen == Recessive {
+            self.phase = Phase::Delimiter { place: 1 };
+            return;
+        }
+        let dominant = dominant + 1;
+        self.phase = Phase::AfterFlag { first: false, dominant: dominant % 8 };
+        if dominant == 8 || first && self.sending.is_none() {
+            self.count(self.eight());
+        }
+    }
+
+    fn intermission(&mut self, place: u32, waiting: Option<&Frame>, seen: Level) -> Option<Event> {
+        let is_held_back = self.sending.is_some() && self.is_passive();
+        match seen {
+            Dominant if place < 2 => return self.overload(),
+            Dominant => self.begin(waiting.filter(|_| !is_held_back)),
+            Recessive if place < 2 => self.phase = Phase::Intermission { place: place + 1 },
+            Recessive if is_held_back => self.phase = Phase::Suspend { place: 0 },
+            Recessive => self.rest(),
+        }
+        None
+    }
+
+    fn recover(&mut self, occurrences: u32, row: u32, seen: Level) -> Option<Event> {
+        let row = if seen == Recessive { row + 1 } else { 0 };
+        let (occurrences, row) = if row == 11 { (occurrences + 1, 0) } else { (occurrences, row) };
+        if occurrences == 128 {
+            self.counters = Counters::default();
+            self.rest();
+            Some(Event::Recovered)
+        } else {
+            self.phase = Phase::BusOff { occurrences, row };
+            None
+        }
+    }
+
+    /// A level at a controller that is on the bus, or joining.
+    fn take_part(&mut self, waiting: Option<&Frame>, seen: Level) -> Option<Event> {
+        match (self.phase, seen) {
+            (Phase::Joining { .. }, Dominant) => self.phase = Phase::Joining { row: 0 },
+            (Phase::Joining { row: 10 }, Recessive) => self.phase = Phase::Idle,
+            (Phase::Joining { row }, Recessive) => self.phase = Phase::Joining { row: row + 1 },
+            (Phase::Idle, Dominant) => self.begin(waiting),
+            (Phase::Idle, Recessive) => {
+                // its own start of frame is not on the bus
+                if let Some(frame) = waiting {
+                    self.sending = Some((*frame, frame.unstuffed()));
+                    return self.error(ErrorKind::Bit);
+                }
+            }
+            (Phase::StuffedPart, _) => return self.stuffed_part(seen),
+            (Phase::CrcDelimiter, Dominant) => return self.error_of_form(),
+            (Phase::CrcDelimiter, Recessive) => self.phase = Phase::AckSlot,
+            (Phase::AckSlot, _) => return self.ack_slot(seen),
+            (Phase::AckDelimiter, Recessive) if self.sending.is_some() || self.agrees => {
+                self.phase = Phase::EndOfFrame { place: 0 };
+            }
+            (Phase::AckDelimiter, Dominant) => return self.error_of_form(),
+            (Phase::AckDelimiter, Recessive) => return self.error(ErrorKind::Crc),
+            (Phase::EndOfFrame { place }, _) => return self.end_of_frame(place, seen),
+            (Phase::ErrorFlag { place: 5 }, Dominant) => {
+                self.phase = Phase::AfterFlag { first: true, dominant: 0 };
+            }
+            (Phase::OverloadFlag { place: 5 }, Dominant) => {
+                self.phase = Phase::AfterFlag { first: false, dominant: 0 };
+            }
+            (Phase::ErrorFlag { place }, Dominant) => {
+                self.phase = Phase::ErrorFlag { place: place + 1 };
+            }
+            (Phase::OverloadFlag { place }, Dominant) => {
+                self.phase = Phase::OverloadFlag { place: place + 1 };
+            }
+            (Phase::ErrorFlag { .. } | Phase::OverloadFlag { .. }, Recessive) => {
+                return self.error_in_flag();
+            }
+            (Phase::PassiveFlag { last, run, unacknowledged }, _) => {
+                self.passive_flag(last, run, unacknowledged, seen);
+            }
+            (Phase::AfterFlag { first, dominant }, _) => self.after_flag(first, dominant, seen),
+            (Phase::Delimiter { place: 7 }, Dominant) => return self.overload(),
+            (Phase::Delimiter { .. }, Dominant) => return self.error(ErrorKind::Form),
+            (Phase::Delimiter { place: 7 }, Recessive) => return self.enter_intermission(),
+            (Phase::Delimiter { place }, Recessive) => {
+                self.phase = Phase::Delimiter { place: place + 1 };
+            }
+            (Phase::Intermission { place }, _) => return self.intermission(place, waiting, seen),
+            (Phase::Suspend { .. }, Dominant) => self.begin(None),
+            (Phase::Suspend { place: 7 }, Recessive) => self.rest(),
+            (Phase::Suspend { place }, Recessive) => self.phase = Phase::Suspend { place: place + 1 },
+            (Phase::BusOff { occurrences, row }, _) => return self.recover(occurrences, row, seen),
+        }
+        None
+    }
+
+    fn sample(&mut self, waiting: Option<&Frame>, seen: Level) -> Option<Event> {
+        let was_off = matches!(self.phase, Phase::BusOff { .. });
+        let event = self.take_part(waiting, seen);
+        if !was_off && self.counters.state() == State::BusOff {
+            self.phase = Phase::BusOff { occurrences: 0, row: 0 };
+            self.sending = None;
+            return Some(Event::WentOff);
+        }
+        event
+    }
+}
+
+// Ports
+
+pub struct Port {
+    pub controller: Controller,
+    pub queue: VecDeque<Frame>,
+    pub queue_room: usize,
+    /// The place of the frame that goes first.
+    pub next: usize,
+    pub log: Vec<(Frame, bool)>,
+    pub log_room: usize,
+    pub missed: u32,
+}
+
+impl Port {
+    pub fn new(phase: Phase, queue_room: usize, log_room: usize) -> Port {
+        Port {
+            controller: Controller::new(phase),
+            queue: VecDeque::with_capacity(queue_room),
+            queue_room,
+            next: 0,
+            log: Vec::with_capacity(log_room),
+            log_room,
+            missed: 0,
+        }
+    }
+
+    fn waiting(&self) -> Option<&Frame> {
+        self.queue.get(self.next)
+    }
+
+    /// Looks for the first of the frames with the least key.
+    fn find_next(&mut self) {
+        let keys = self.queue.iter().map(Frame::key).enumerate();
+        self.next = keys.min_by_key(|&(_, key)| key).map_or(0, |(place, _)| place);
+    }
+
+    pub fn offer(&mut self, frame: Frame) -> bool {
+        if self.queue.len() == self.queue_room {
+            return false;
+        }
+        self.queue.push_back(frame);
+        self.find_next();
+        true
+    }
+
+    fn note(&mut self, frame: Frame, sent: bool) {
+        if self.log.len() < self.log_room {
+            self.log.push((frame, sent));
+        } else {
+            self.missed = self.missed.saturating_add(1);
+        }
+    }
+
+    pub fn drive(&self) -> Level {
+        self.controller.drive(self.waiting())
+    }
+
+    pub fn sample(&mut self, seen: Level) -> Option<Event> {
+        let waiting = self.queue.get(self.next);
+        let event = self.controller.sample(waiting, seen);
+        match event {
+            Some(Event::Sent(frame)) => {
+                let sent = self.queue.iter().position(|it| it.key() == frame.key());
+                if let Some(place) = sent {
+                    self.queue.remove(place);
+                    self.find_next();
+                }
+                self.note(frame, true);
+            }
+            Some(Event::Received(frame)) => self.note(frame, false),
+            _ => {}
+        }
+        event
+    }
+}

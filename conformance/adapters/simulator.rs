@@ -1,0 +1,120 @@
+//! An adapter of the conformance kit with the plain controller of `bench/machine.rs` inside: it speaks the line
+//! protocol over standard input and output. Built by rustc alone.
+
+#[path = "../../bench/machine.rs"]
+mod machine;
+
+use machine::{Dominant, ErrorKind, Event, Frame, Phase, Port, Recessive, State};
+use std::error::Error;
+use std::fmt::Write as _;
+use std::io::{self, BufRead, Write};
+
+/// More frames than any case offers.
+const QUEUE_ROOM: usize = 256;
+
+fn frame_text(frame: &Frame) -> String {
+    let direction = if frame.remote { 'R' } else { 'D' };
+    let mut text = if frame.extended {
+        format!("E {:08x} {direction} {}", frame.id, frame.dlc)
+    } else {
+        format!("S {:03x} {direction} {}", frame.id, frame.dlc)
+    };
+    if frame.len > 0 {
+        text.push(' ');
+    }
+    for byte in &frame.data[..frame.len] {
+        write!(text, "{byte:02x}").expect("a string takes all");
+    }
+    text
+}
+
+fn event_text(event: &Event) -> String {
+    let word = match event {
+        Event::Sent(frame) => return format!("sent {}", frame_text(frame)),
+        Event::Received(frame) => return format!("received {}", frame_text(frame)),
+        Event::Lost => "lost",
+        Event::Error(ErrorKind::Stuff) => "error stuff",
+        Event::Error(ErrorKind::Bit) => "error bit",
+        Event::Error(ErrorKind::Form) => "error form",
+        Event::Error(ErrorKind::Crc) => "error crc",
+        Event::Error(ErrorKind::Acknowledgement) => "error ack",
+        Event::Overload => "overload",
+        Event::WentOff => "off",
+        Event::Recovered => "recovered",
+    };
+    word.to_string()
+}
+
+/// Plays bit times: `0` and `1` are the tester's levels, with `f` the controller sees recessive.
+fn play(port: &mut Port, levels: &str) -> Result<String, Box<dyn Error>> {
+    let mut told = String::new();
+    let mut drove = String::from("drove ");
+    for (place, tester) in levels.chars().enumerate() {
+        let driven = port.drive();
+        let seen = match tester {
+            '0' => Dominant,
+            '1' => driven,
+            'f' => Recessive,
+            _ => return Err("a level that is none".into()),
+        };
+        if let Some(event) = port.sample(seen) {
+            writeln!(told, "event {place} {}", event_text(&event))?;
+        }
+        drove.push(if driven == Dominant { '0' } else { '1' });
+    }
+    Ok(told + &drove + "\n")
+}
+
+fn state_line(port: &Port) -> String {
+    let counters = &port.controller.counters;
+    let state = match counters.state() {
+        State::Active => "active",
+        State::Passive => "passive",
+        State::BusOff => "off",
+    };
+    format!("state {state} {} {}\n", counters.transmit, counters.receive)
+}
+
+fn new_port(words: &str) -> Result<Port, Box<dyn Error>> {
+    let phase = match words.rsplit(' ').next() {
+        Some("idle") => Phase::Idle,
+        Some("joining") => Phase::Joining { row: 0 },
+        _ => return Err("a start that is none".into()),
+    };
+    Ok(Port::new(phase, QUEUE_ROOM, 0))
+}
+
+fn answer(port: &mut Option<Port>, line: &str) -> Result<String, Box<dyn Error>> {
+    let (word, rest) = line.split_once(' ').unwrap_or((line, ""));
+    if word == "case" {
+        *port = Some(new_port(rest)?);
+        return Ok("ready\n".to_string());
+    }
+    let port = port.as_mut().ok_or("no case was begun")?;
+    match word {
+        "offer" if !port.offer(Frame::parse(rest)?) => return Err("the queue is full".into()),
+        "offer" => {}
+        "hold" => port.controller.overloads_wanted = rest.parse()?,
+        "play" => return play(port, rest),
+        "end" => return Ok(state_line(port)),
+        _ => return Err("an unknown word".into()),
+    }
+    Ok(String::new())
+}
+
+fn main() -> Result<(), Box<dyn Error>> {
+    let mut output = io::stdout().lock();
+    writeln!(output, "can-kit 1 plain simulator")?;
+    output.flush()?;
+    let mut port = None;
+    for line in io::stdin().lock().lines() {
+        let line = line?;
+        if line == "quit" {
+            break;
+        }
+        let text = answer(&mut port, &line).unwrap_or_else(|fault| format!("error {fault}\n"));
+        output.write_all(text.as_bytes())?;
+        output.flush()?;
+    }
+    Ok(())
+}

@@ -1,0 +1,46 @@
+"""The book of families: what each makes its cases with, and the cases made."""
+
+from __future__ import annotations
+
+import contextlib
+from typing import Callable, Dict, Iterator, List, Sequence
+
+from generator.scene import Scene
+from kit.adapter import Adapter
+from kit.documents import Case, Transcript
+
+Maker = Callable[["Book"], None]
+FAMILIES: Dict[str, Maker] = {}
+ABOUT: Dict[str, str] = {}
+
+
+def family(name: str, about: str) -> Callable[[Maker], Maker]:
+    """Enters the maker of a family, with one line on how its levels are made."""
+
+    def enter(maker: Maker) -> Maker:
+        FAMILIES[name] = maker
+        ABOUT[name] = about
+        return maker
+
+    return enter
+
+
+class Book:
+    """The cases of one family, in the order in which they are made."""
+
+    def __init__(self, name: str, reference: Adapter) -> None:
+        self.name = name
+        self.cases: List[Case] = []
+        self.transcripts: List[Transcript] = []
+        self._reference = reference
+
+    @contextlib.contextmanager
+    def case(
+        self, suffix: str, purpose: str, choices: Sequence[str] = (), start: str = "idle"
+    ) -> Iterator[Scene]:
+        """A case to be filled by the tester's steps."""
+        scene = Scene(self._reference, self.name, suffix, purpose, start)
+        yield scene
+        case, transcript = scene.finished(choices)
+        self.cases.append(case)
+        self.transcripts.append(transcript)

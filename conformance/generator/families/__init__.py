@@ -1,0 +1,6 @@
+"""The families, each entered in the book as its module is imported, in the order of the README."""
+
+import importlib
+
+for _name in ("received", "sent", "arbitration", "flags", "overload", "passive", "off", "counts"):
+    importlib.import_module(f"generator.families.{_name}")

@@ -1,0 +1,236 @@
+"""Each cause of a count once, at each place; a probe shows what it counted."""
+
+from __future__ import annotations
+
+from typing import Callable, List, Sequence, Tuple
+
+from generator.book import Book, family
+from generator.families.flags import FRAME, sender_error
+from generator.families.received import break_stuff_bit
+from generator.families.sent import override
+from generator.probes import probe_rec, probe_tec, raise_rec
+from generator.scene import Scene
+from generator.search import stuff_place, stuffed_in
+from kit.frames import Frame
+
+RECEIVED = "S 123 D 2 c3a5"
+LOSER = "S 7ff R 0"
+Step = Callable[[Scene], None]
+ONCE = ["flag-error-once"]
+
+
+def _stuff(frame: str, part: str, level: str) -> Step:
+    return lambda scene: break_stuff_bit(scene, frame, part, level)
+
+
+def _upto(part: str, level: str, turned: str = "") -> Step:
+    """The tester's frame, with another level at a place."""
+
+    def step(scene: Scene) -> None:
+        wire = Frame.parse(RECEIVED).wire(turned)
+        scene.receive(RECEIVED, upto=wire.place(part), wire=wire)
+        scene.play(level, f"{part} {'forced' if level == 'f' else 'dominant'}")
+
+    return step
+
+
+def _crc_error(scene: Scene) -> None:
+    wire = Frame.parse(RECEIVED).wire("crc-6")
+    scene.play(wire.acknowledged()[: wire.place("eof 1")], f"sends {RECEIVED}, crc-6 turned, acknowledged by another")
+
+
+def _delimiter(scene: Scene) -> None:
+    scene.stuff_error()
+    scene.rest(6 + 4, "the flag, four levels of the delimiter")
+    scene.play("0", "delimiter level 5 dominant")
+
+
+def _flag_bit(scene: Scene) -> None:
+    scene.stuff_error()
+    scene.play("1f", "flag level 2 forced")
+
+
+def _overload_flag_bit(scene: Scene) -> None:
+    scene.receive(RECEIVED)
+    scene.play("0", "the first level of intermission dominant")
+    scene.play("1f", "level 2 of the overload flag forced")
+
+
+def _received(scene: Scene) -> None:
+    scene.receive(RECEIVED)
+    scene.rest(5)
+
+
+def _sent(scene: Scene) -> None:
+    scene.receive(RECEIVED, [FRAME])
+    scene.rest(3)
+    scene.sent(FRAME)
+
+
+def _lost(scene: Scene) -> None:
+    scene.receive(RECEIVED, [LOSER])
+    scene.rest(3)
+    scene.receive("S 001 D 1 77", upto=Frame.parse("S 001 D 1 77").wire().stuffed)
+    scene.play("0", "the CRC delimiter dominant")
+    scene.recover()
+    scene.sent(LOSER)
+
+
+def _behind(dominant: int) -> Step:
+    def step(scene: Scene) -> None:
+        scene.stuff_error()
+        scene.rest(6, "the flag")
+        scene.play("0" * dominant, f"{dominant} dominant levels behind the flag")
+
+    return step
+
+
+@family("count-rx", "each cause of REC once at each place, receptions at REC 0, 1, 128, 200; a probe of REC")
+def count_rx(book: Book) -> None:
+    errors: List[Tuple[str, int, Step, Sequence[str]]] = [
+        ("stuff-identifier", 0, _stuff("S 000 D 0", "base", "1"), []),
+        ("stuff-data", 0, _stuff("S 555 D 2 0000", "data", "1"), []),
+        ("stuff-crc", 0, _stuff(stuffed_in("S", 2, "crc", "0"), "crc", "0"), []),
+        ("crc", 9, _crc_error, []),
+        ("crc-delimiter", 0, _upto("crc-delimiter", "0"), []),
+        ("ack-delimiter", 9, _upto("ack-delimiter", "0"), []),
+        ("end-of-frame", 9, _upto("eof 3", "0"), []),
+        ("wrong-crc-ack-delimiter", 9, _upto("ack-delimiter", "0", "crc-6"), []),
+        ("acknowledgement-unseen", 9, _upto("ack", "f"), []),
+        ("delimiter", 0, _delimiter, []),
+        ("first-dominant", 0, _behind(1), []),
+        ("run", 0, _behind(8), []),
+        ("flag-bit", 0, _flag_bit, ONCE),
+        ("overload-flag-bit", 9, _overload_flag_bit, ONCE),
+    ]
+    others: List[Tuple[str, int, Step, Sequence[str]]] = [
+        ("received-at-0", 0, _received, []),
+        ("received-at-1", 1, _received, []),
+        ("received-at-128", 128, _received, ["rec-127"]),
+        ("received-at-200", 200, _received, ["rec-127"]),
+        ("sent", 9, _sent, []),
+        ("lost", 9, _lost, []),
+    ]
+    for suffix, rec, step, choices in errors + others:
+        with book.case(suffix, f"{suffix.replace('-', ' ')}: what it counts at a REC of {rec}", choices) as scene:
+            scene.rest(1, "idle")
+            raise_rec(scene, rec)
+            step(scene)
+            if (suffix, rec, step, choices) in errors:
+                scene.recover()
+            probe_rec(scene)
+
+
+def _overridden(part: str, index: int = 0, level: str = "0") -> Step:
+    """The controller sends FRAME: the level of the part with that number, of those that can be changed so."""
+
+    def step(scene: Scene) -> None:
+        wire = Frame.parse(FRAME).wire()
+        kept = "0" if level == "f" else "1"
+        places = [place for place in wire.places[part] if wire.levels[place] == kept]
+        scene.anchor(FRAME)
+        override(scene, FRAME, places[index], level, f"a level of {part} {'forced' if level == 'f' else 'dominant'}")
+        scene.sent(FRAME)
+
+    return step
+
+
+def _own_stuff(scene: Scene) -> None:
+    frame = "S 555 D 2 0000"
+    scene.anchor(frame)
+    override(scene, frame, stuff_place(Frame.parse(frame).wire(), "data", "1"), "0", "a stuff bit dominant")
+    scene.sent(frame)
+
+
+def _unacknowledged(scene: Scene) -> None:
+    scene.anchor(FRAME)
+    override(scene, FRAME, Frame.parse(FRAME).wire().place("ack"), "1", "no acknowledgement")
+    scene.sent(FRAME)
+
+
+def _own_delimiter(scene: Scene) -> None:
+    sender_error(scene)
+    scene.rest(6 + 4, "the flag, four levels of the delimiter")
+    scene.play("0", "delimiter level 5 dominant")
+    scene.recover()
+    scene.sent(FRAME)
+
+
+def _own_behind(dominant: int) -> Step:
+    def step(scene: Scene) -> None:
+        sender_error(scene)
+        scene.behind_flag(dominant)
+        scene.sent(FRAME)
+
+    return step
+
+
+def _own_flag_bit(scene: Scene) -> None:
+    sender_error(scene)
+    scene.play("1f", "flag level 2 forced")
+    scene.recover()
+    scene.sent(FRAME)
+
+
+def _own_overload_flag_bit(scene: Scene) -> None:
+    scene.anchor(FRAME)
+    scene.sending(FRAME)
+    scene.play("0", "the first level of intermission dominant")
+    scene.play("1f", "level 2 of the overload flag forced")
+    scene.recover()
+
+
+def _sent_often(errors: int, frames: int) -> Step:
+    """So many errors in a frame, and that frame sent so often."""
+
+    def step(scene: Scene) -> None:
+        scene.anchor(*[FRAME] * frames)
+        for _ in range(errors):
+            scene.sending(FRAME, Frame.parse(FRAME).wire().stuffed)
+            scene.play("0", "the CRC delimiter dominant")
+            scene.recover()
+        for _ in range(frames):
+            scene.sent(FRAME)
+
+    return step
+
+
+def _received_with_tec(scene: Scene) -> None:
+    _sent_often(1, 1)(scene)
+    _received(scene)
+
+
+def _own_lost(scene: Scene) -> None:
+    scene.anchor(LOSER)
+    scene.receive("S 001 D 1 77")
+    scene.rest(3)
+    scene.sent(LOSER)
+
+
+@family("count-tx", "each cause of TEC once at each place; a probe of TEC")
+def count_tx(book: Book) -> None:
+    causes: List[Tuple[str, Step, Sequence[str]]] = [
+        ("start-of-frame", _overridden("sof", 0, "f"), ["own-start"]),
+        ("identifier-unseen", _overridden("base", 2, "f"), []),
+        ("dlc", _overridden("dlc"), []),
+        ("data", _overridden("data", 1), []),
+        ("data-unseen", _overridden("data", 1, "f"), []),
+        ("crc", _overridden("crc", 1), []),
+        ("crc-delimiter", _overridden("crc-delimiter"), []),
+        ("ack-delimiter", _overridden("ack-delimiter"), []),
+        ("end-of-frame", _overridden("eof", 3), []),
+        ("stuff", _own_stuff, []),
+        ("acknowledgement", _unacknowledged, []),
+        ("delimiter", _own_delimiter, []),
+        ("first-dominant", _own_behind(1), []),
+        ("run", _own_behind(8), []),
+        ("flag-bit", _own_flag_bit, ONCE),
+        ("overload-flag-bit", _own_overload_flag_bit, ONCE),
+        ("sent-at-0", _sent_often(0, 2), []),
+        ("received", _received_with_tec, []),
+        ("lost", _own_lost, []),
+    ]
+    for suffix, step, choices in causes:
+        with book.case(suffix, f"{suffix.replace('-', ' ')}: what it counts", choices) as scene:
+            step(scene)
+            probe_tec(scene)

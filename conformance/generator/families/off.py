@@ -1,0 +1,268 @@
+"""Bus off and recovery; joining; the start of a frame."""
+
+from __future__ import annotations
+
+from typing import Callable
+
+from generator.book import Book, family
+from generator.probes import PROBE_FRAME, break_delimiter, probe_rec, probe_tec, raise_tec
+from generator.scene import Scene
+from kit.frames import Frame
+
+RECEIVED = "S 123 D 1 c3"
+OWN = "S 155 D 2 5aa5"
+
+
+def tec_to(scene: Scene, goal: int, offers: int = 1) -> None:
+    """OWN is about to be sent, with a TEC of the goal; the goal is no multiple of 8 where frames are sent."""
+    scene.anchor(*[OWN] * offers)
+    raise_tec(scene, goal, OWN)
+    scene.wait()
+
+
+def _tester_sends(scene: Scene) -> None:
+    """What waits is sent, where the controller isn't off; then a frame, which it acknowledges if it isn't off."""
+    waits = len(scene.case.offers) > sum(event.startswith("sent ") for _, event in scene.events)
+    if waits and scene.state()[0] != "off":
+        scene.wait()
+        scene.sent(OWN)
+    scene.rest(30, "as long as an error frame and suspend")
+    scene.receive(RECEIVED)
+    scene.rest(12)
+
+
+@family("bus-off-limit", "TEC 255, 256, above, by error, run, missing acknowledgement; then the tester sends")
+def bus_off_limit(book: Book) -> None:
+    def error(scene: Scene) -> None:
+        break_delimiter(scene, OWN, 0)
+
+    def run(scene: Scene) -> None:
+        break_delimiter(scene, OWN, 8)
+
+    def unacknowledged(scene: Scene) -> None:
+        scene.sending(OWN, Frame.parse(OWN).wire().place("ack"))
+        scene.play("1", "no acknowledgement")
+        scene.play("0", "a dominant level within the passive flag")
+
+    def at_248(step: Callable[[Scene], None]) -> Callable[[Scene], None]:
+        def make(scene: Scene) -> None:
+            tec_to(scene, 248)
+            step(scene)
+
+        return make
+
+    def at_247(step: Callable[[Scene], None]) -> Callable[[Scene], None]:
+        """One frame sent behind a TEC of 248."""
+
+        def make(scene: Scene) -> None:
+            tec_to(scene, 248, offers=2)
+            scene.sent(OWN)
+            scene.wait()
+            step(scene)
+
+        return make
+
+    def twice(scene: Scene) -> None:
+        error(scene)
+        scene.wait()
+        error(scene)
+
+    def bit_error(scene: Scene) -> None:
+        scene.sending(OWN, 20)
+        wire = Frame.parse(OWN).wire()
+        place = next(place for place in wire.places["data"] if wire.levels[place] == "1")
+        scene.rest(place - 20)
+        scene.play("0", "a level of the data dominant")
+
+    def overload_flag(scene: Scene) -> None:
+        scene.sending(OWN)
+        scene.play("0", "the first level of intermission dominant")
+        scene.play("11f", "a level of the overload flag forced")
+
+    def overload_run(scene: Scene) -> None:
+        scene.sending(OWN)
+        scene.play("0", "the first level of intermission dominant")
+        scene.rest(6, "the overload flag")
+        scene.play("0" * 16, "16 dominant levels behind it")
+
+    cases = [
+        ("248", "a TEC of 248 is not off", lambda scene: tec_to(scene, 248)),
+        ("255", "a TEC of 255 is not off", at_247(error)),
+        ("256-by-error", "a TEC of 256 by an error is off", at_248(error)),
+        ("256-by-bit-error", "a TEC of 256 by an overridden bit is off", at_248(bit_error)),
+        ("263-by-error", "a TEC of 263 is off", at_247(twice)),
+        ("256-by-run", "a TEC above 255 by a run of dominant levels is off", at_247(run)),
+        ("256-by-acknowledgement", "a TEC of 256 by a missing acknowledgement is off", at_248(unacknowledged)),
+        ("255-by-acknowledgement", "a TEC of 255 by a missing acknowledgement is not off", at_247(unacknowledged)),
+        ("255-by-overload-flag", "a TEC of 255 by an overload flag is not off", at_248(overload_flag)),
+        ("263-by-overload-run", "a TEC of 263 behind an overload flag is off", at_248(overload_run)),
+    ]
+    for suffix, purpose, make in cases:
+        with book.case(suffix, purpose) as scene:
+            make(scene)
+            _tester_sends(scene)
+
+
+RECOVERY = ["recovery-by-itself", "recovery-rows"]
+ROWS = 128
+ROW = 11
+
+
+def go_off(scene: Scene, offers: int = 1) -> None:
+    """The controller goes off with an error in OWN, which waits. The tester is recessive from then on."""
+    tec_to(scene, 248, offers)
+    scene.sending(OWN, Frame.parse(OWN).wire().stuffed)
+    scene.play("0", "the CRC delimiter dominant: bus off")
+
+
+@family("bus-off-recovery", "runs of 10, 11, 21, 22; frames; twice; probes; the frame that waits tells the end")
+def bus_off_recovery(book: Book) -> None:
+    def sent_behind(scene: Scene, idle: int = 12) -> None:
+        scene.wait("recessive")
+        scene.sent(OWN)
+        scene.rest(idle)
+
+    with book.case("recessive", "1408 recessive levels end bus off", RECOVERY) as scene:
+        go_off(scene)
+        scene.rest(ROWS * ROW, "recessive")
+        sent_behind(scene)
+    for run in (10, 11, 21, 22):
+        with book.case(f"runs-of-{run}", f"ten runs of {run} recessive levels, then recessive", RECOVERY) as scene:
+            go_off(scene)
+            scene.play(("1" * run + "0") * 10, f"ten runs of {run}")
+            sent_behind(scene)
+    with book.case("rows-apart", "dominant levels between all rows", RECOVERY) as scene:
+        go_off(scene)
+        scene.play(("1" * ROW + "0") * (ROWS - 1), "127 rows, each ended by a dominant level")
+        sent_behind(scene)
+    with book.case("last-row-broken", "the last row is broken by a dominant level", RECOVERY) as scene:
+        go_off(scene)
+        scene.rest(ROWS * ROW - 1, "recessive, one level short of the end")
+        scene.play("0", "dominant")
+        sent_behind(scene)
+    with book.case("frames", "frames of others meanwhile are not acknowledged", RECOVERY) as scene:
+        go_off(scene)
+        for _ in range(6):
+            scene.receive(RECEIVED)
+            scene.rest(3)
+        sent_behind(scene)
+    with book.case("twice", "bus off for a second time takes as long", RECOVERY) as scene:
+        go_off(scene)
+        scene.play(("1" * ROW + "0") * 3, "three rows, each ended by a dominant level")
+        scene.wait("recessive")
+        break_delimiter(scene, OWN, 8 * 31)
+        sent_behind(scene)
+    with book.case("tec", "TEC is 0 behind bus off", RECOVERY) as scene:
+        go_off(scene)
+        sent_behind(scene)
+        probe_tec(scene)
+    with book.case("rec", "REC is 0 behind bus off", RECOVERY) as scene:
+        scene.rest(1, "idle")
+        for _ in range(3):
+            scene.stuff_error()
+            scene.behind_flag(8)
+        go_off(scene)
+        sent_behind(scene)
+        probe_rec(scene)
+
+
+@family("joining", "10, 11 recessive levels, interrupted; a frame meanwhile; a probe of REC")
+def joining(book: Book) -> None:
+    def case(suffix: str, purpose: str):  # type: ignore[no-untyped-def]
+        return book.case(suffix, purpose, start="joining")
+
+    with case("eleven", "its frame begins behind eleven recessive levels") as scene:
+        scene.offer(OWN)
+        scene.rest(ROW, "eleven recessive levels")
+        scene.sent(OWN)
+        scene.rest(5)
+    for before in (4, 10):
+        with case(f"interrupted-{before}", f"a dominant level behind {before} begins the row anew") as scene:
+            scene.offer(OWN)
+            scene.rest(before, "recessive")
+            scene.play("0", "dominant")
+            scene.wait("recessive")
+            scene.sent(OWN)
+            scene.rest(5)
+    with case("interrupted-often", "each dominant level begins the row anew") as scene:
+        scene.offer(OWN)
+        scene.play("1110" * 8 + "1" * 10 + "0", "rows that are too short")
+        scene.wait("recessive")
+        scene.sent(OWN)
+        scene.rest(5)
+    with case("frame-behind-ten", "a frame behind ten levels is not acknowledged") as scene:
+        scene.rest(10, "recessive")
+        scene.receive(RECEIVED)
+        scene.rest(5)
+    with case("frame-behind-eleven", "a frame behind eleven levels is acknowledged") as scene:
+        scene.rest(11, "recessive")
+        scene.receive(RECEIVED)
+        scene.rest(5)
+    with case("frame-behind-seven", "a frame behind seven levels is no frame to it; it joins at its end") as scene:
+        scene.offer(OWN)
+        scene.rest(7, "recessive")
+        wire = Frame.parse(RECEIVED).wire()
+        scene.play(wire.acknowledged(), f"sends {RECEIVED}, acknowledged by another")
+        scene.wait("intermission")
+        scene.sent(OWN)
+        scene.rest(5)
+    with case("frame-at-once", "a frame in the first level is not acknowledged, the next one is") as scene:
+        wire = Frame.parse(RECEIVED).wire()
+        scene.play(wire.acknowledged(), f"sends {RECEIVED}, acknowledged by another")
+        scene.rest(3, "intermission")
+        scene.receive("S 124 D 1 3c")
+        scene.rest(5)
+    with case("counters", "what it sees while it joins counts nothing") as scene:
+        scene.play("0" * 20 + "1" * 8 + "0" * 7, "no frame")
+        scene.rest(ROW, "eleven recessive levels")
+        probe_rec(scene)
+
+
+@family("start", "offered at idle, together with a frame of the tester, one bit time later")
+def start(book: Book) -> None:
+    first, last = "S 001 D 1 77", "S 700 D 1 77"
+    choices = ["prompt"]
+    with book.case("first", "offered in the first bit time", choices) as scene:
+        scene.offer(OWN)
+        scene.sent(OWN)
+        scene.rest(3)
+    with book.case("idle", "offered while idle", choices) as scene:
+        scene.rest(5, "idle")
+        scene.offer(OWN)
+        scene.sent(OWN)
+        scene.rest(3)
+    with book.case("together-loses", "offered in the bit time in which a frame begins that wins", choices) as scene:
+        scene.rest(5, "idle")
+        scene.offer(OWN)
+        scene.receive(first)
+        scene.rest(3)
+        scene.sent(OWN)
+        scene.rest(3)
+    with book.case("together-wins", "offered in the bit time in which a frame begins that loses", choices) as scene:
+        scene.rest(5, "idle")
+        scene.offer(OWN)
+        levels, own = Frame.parse(last).wire().levels, Frame.parse(OWN).wire()
+        differ = next(place for place, (a, b) in enumerate(zip(levels, own.levels)) if a != b)
+        scene.play(levels[: differ + 1], f"sends {last}, and loses")
+        scene.play("1" * (own.place("ack") - differ - 1) + "0" + "1" * 11, "listens")
+        scene.rest(3)
+    with book.case("one-later", "offered one bit time behind the start of a frame: it waits", choices) as scene:
+        scene.rest(5, "idle")
+        levels = Frame.parse(last).wire().levels
+        scene.play(levels[:1], f"sends {last}")
+        scene.offer(OWN)
+        scene.play(levels[1:] + "111")
+        scene.sent(OWN)
+        scene.rest(3)
+    with book.case("last-intermission", "offered for the first bit time behind intermission", choices) as scene:
+        scene.receive(last)
+        scene.rest(3, "intermission")
+        scene.offer(OWN)
+        scene.sent(OWN)
+        scene.rest(3)
+    with book.case("second-frame", "offered behind its own frame's intermission", choices) as scene:
+        scene.anchor(OWN)
+        scene.sent(OWN)
+        scene.offer(PROBE_FRAME)
+        scene.sent(PROBE_FRAME)
+        scene.rest(3)

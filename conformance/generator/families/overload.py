@@ -1,0 +1,205 @@
+"""Overload frames: in answer to a condition, and of the controller's own."""
+
+from __future__ import annotations
+
+from typing import List
+
+from generator.book import Book, family
+from generator.families.flags import FRAME, sender_error
+from generator.probes import probe_rec, probe_tec
+from generator.scene import Scene
+from kit.frames import Frame
+
+RECEIVED = "S 123 D 1 c3"
+
+
+def after_received(scene: Scene, offers: tuple = ()) -> None:
+    scene.receive(RECEIVED, offers)
+
+
+def after_sent(scene: Scene) -> None:
+    scene.anchor(FRAME)
+    scene.sending(FRAME)
+
+
+def dominant_in_intermission(scene: Scene, level: int) -> None:
+    scene.rest(level - 1)
+    scene.play("0", f"level {level} of intermission dominant")
+
+
+@family("overload-intermission", "level 1 or 2 dominant behind received, sent, error, overload; probes")
+def overload_intermission(book: Book) -> None:
+    for level in (1, 2):
+        with book.case(f"received-{level}", f"level {level} of intermission dominant behind a received frame") as scene:
+            after_received(scene)
+            dominant_in_intermission(scene, level)
+            scene.recover()
+            probe_rec(scene)
+        with book.case(f"sent-{level}", f"level {level} of intermission dominant behind a sent frame") as scene:
+            after_sent(scene)
+            dominant_in_intermission(scene, level)
+            scene.recover()
+            probe_tec(scene)
+        with book.case(f"error-{level}", f"level {level} of intermission dominant behind an error frame") as scene:
+            scene.rest(1, "idle")
+            scene.stuff_error()
+            scene.rest(6 + 8, "flag, delimiter")
+            dominant_in_intermission(scene, level)
+            scene.recover()
+            probe_rec(scene)
+    with book.case("overload-1", "level 1 of intermission dominant behind an overload frame") as scene:
+        after_received(scene)
+        dominant_in_intermission(scene, 2)
+        scene.rest(6 + 8, "flag, delimiter")
+        dominant_in_intermission(scene, 1)
+        scene.recover()
+        probe_rec(scene)
+    with book.case("waiting-1", "level 1 of intermission dominant while a frame waits: it begins behind") as scene:
+        after_received(scene, (FRAME,))
+        dominant_in_intermission(scene, 1)
+        scene.recover()
+        scene.sent(FRAME)
+        probe_rec(scene)
+    with book.case("waiting-2", "level 2 of intermission dominant while a frame waits: it begins behind") as scene:
+        after_received(scene, (FRAME,))
+        dominant_in_intermission(scene, 2)
+        scene.recover()
+        scene.sent(FRAME)
+        probe_rec(scene)
+    with book.case("five-in-a-row", "five overload conditions one behind another") as scene:
+        after_received(scene)
+        for level in (1, 2, 1, 2, 1):
+            dominant_in_intermission(scene, level)
+            scene.rest(6 + 8, "flag, delimiter")
+        scene.rest(3, "intermission")
+        probe_rec(scene)
+
+
+@family("overload-last-eof", "end of frame 7 dominant to a receiver; a probe of REC")
+def overload_last_eof(book: Book) -> None:
+    frames = [("standard", RECEIVED, ()), ("extended", "E 01234567 D 1 c3", ()), ("waiting", RECEIVED, (FRAME,))]
+    for suffix, frame, offers in frames:
+        with book.case(suffix, "the last level of the end of frame dominant: an overload frame") as scene:
+            scene.rest(1, "idle")
+            scene.stuff_error()
+            scene.recover()
+            scene.stuff_error()
+            scene.recover()
+            scene.receive(frame, offers, upto=Frame.parse(frame).wire().place("eof 7"))
+            scene.play("0", "the last level of the end of frame dominant")
+            scene.recover()
+            if offers:
+                scene.sent(FRAME)
+            probe_rec(scene)
+
+
+@family("overload-flag-superposed", "1 to 16 dominant levels behind an overload flag; probes")
+def overload_superposed(book: Book) -> None:
+    for dominant in (1, 7, 8, 16):
+        with book.case(f"rx-{dominant}", f"{dominant} dominant levels behind a receiver's overload flag") as scene:
+            after_received(scene)
+            dominant_in_intermission(scene, 1)
+            scene.behind_flag(dominant)
+            probe_rec(scene)
+    for dominant in (1, 8):
+        with book.case(f"tx-{dominant}", f"{dominant} dominant levels behind a sender's overload flag") as scene:
+            after_sent(scene)
+            dominant_in_intermission(scene, 1)
+            scene.behind_flag(dominant)
+            probe_tec(scene)
+
+
+@family("overload-flag-bit-error", "an overload flag's level forced; probes")
+def overload_flag_bit_error(book: Book) -> None:
+    for role, level in (("rx", 1), ("rx", 3), ("rx", 6), ("tx", 1), ("tx", 6)):
+        purpose = f"level {level} of an overload flag is not seen: an error flag"
+        with book.case(f"{role}-{level}", purpose, ["flag-error-once"]) as scene:
+            after_received(scene) if role == "rx" else after_sent(scene)
+            dominant_in_intermission(scene, 2)
+            scene.play("1" * (level - 1) + "f", f"flag level {level} forced")
+            scene.rest(6, "an error flag")
+            # behind an error flag a first dominant level counts at a receiver, behind an overload flag not
+            scene.play("0", "a dominant level behind the flag")
+            scene.rest(8 + 3, "delimiter, intermission")
+            probe_rec(scene) if role == "rx" else probe_tec(scene)
+
+
+@family("overload-delimiter-form-error", "an overload delimiter's level 2 to 7 dominant; probes")
+def overload_delimiter_form_error(book: Book) -> None:
+    for role, level in (("rx", 2), ("rx", 4), ("rx", 7), ("tx", 5)):
+        with book.case(f"{role}-{level}", f"level {level} of an overload delimiter dominant: an error flag") as scene:
+            after_received(scene) if role == "rx" else after_sent(scene)
+            dominant_in_intermission(scene, 2)
+            scene.rest(6 + level - 1, "the flag, and delimiter levels before")
+            scene.play("0", f"delimiter level {level} dominant")
+            scene.recover()
+            probe_rec(scene) if role == "rx" else probe_tec(scene)
+
+
+OVERLOAD = 6 + 8
+
+
+@family("overload-own", "wishes for overload frames: one or two, renewed, replaced, taken back; as sender")
+def overload_own(book: Book) -> None:
+    def begin(wish: int, offers: tuple = ()) -> Scene:
+        scene.receive(RECEIVED, offers, hold=wish)
+        return scene
+
+    choices: List[str] = ["own-overload"]
+    with book.case("one", "one wish: one overload frame in place of intermission", choices) as scene:
+        begin(1).rest(OVERLOAD, "an own overload frame")
+        scene.rest(5, "intermission")
+        scene.receive(RECEIVED)
+        scene.rest(20, "none follows")
+    with book.case("two", "two wishes: two overload frames", choices) as scene:
+        begin(2).rest(2 * OVERLOAD, "two own overload frames")
+        scene.rest(20, "intermission, and none follows")
+    with book.case("two-each", "two wishes with each of two frames", choices) as scene:
+        begin(2).rest(2 * OVERLOAD + 5, "two own overload frames, intermission")
+        begin(2).rest(2 * OVERLOAD + 20, "two own overload frames, and none follows")
+    with book.case("renewed", "wishes renewed between two frames: not more than two", choices) as scene:
+        begin(2).rest(OVERLOAD - 5, "the first own overload frame")
+        scene.hold(2)
+        scene.rest(2 * OVERLOAD + 10, "the rest of it, a second one, and none follows")
+        scene.receive(RECEIVED)
+        scene.rest(OVERLOAD + 10, "the wish that is left")
+    with book.case("replaced", "a wish for one replaces one for two", choices) as scene:
+        scene.hold(2)
+        begin(1).rest(OVERLOAD + 20, "one own overload frame, and none follows")
+    with book.case("replaced-by-two", "a wish for two replaces one for one", choices) as scene:
+        scene.rest(2, "idle")
+        scene.hold(1)
+        begin(2).rest(2 * OVERLOAD + 20, "two own overload frames, and none follows")
+    with book.case("taken-back", "a wish that is taken back", choices) as scene:
+        scene.hold(1)
+        scene.rest(2)
+        scene.hold(0)
+        scene.receive(RECEIVED)
+        scene.rest(20, "none follows")
+    with book.case("as-sender", "a sender makes none behind its own frame, and as a receiver later", choices) as scene:
+        scene.receive(RECEIVED, (FRAME,))
+        scene.rest(3, "intermission")
+        scene.sending(FRAME, 8)
+        scene.hold(1)
+        slot = Frame.parse(FRAME).wire().place("ack")
+        scene.play("1" * (slot - 8) + "0" + "1" * 8 + "1" * 8, "the rest of its frame, and intermission")
+        scene.receive(RECEIVED)
+        scene.rest(OVERLOAD + 20, "an own overload frame")
+    with book.case("behind-an-error", "a receiver's wish is met behind an error frame too", choices) as scene:
+        scene.rest(1, "idle")
+        scene.hold(1)
+        scene.stuff_error()
+        scene.rest(6 + 8, "flag, delimiter")
+        scene.rest(OVERLOAD + 20, "an own overload frame, and none follows")
+    with book.case("in-intermission", "a wish within intermission waits for the next frame", choices) as scene:
+        scene.receive(RECEIVED)
+        scene.rest(1, "intermission")
+        scene.hold(1)
+        scene.rest(20, "none begins")
+        scene.receive(RECEIVED)
+        scene.rest(OVERLOAD + 20, "an own overload frame")
+    with book.case("waiting", "its own frame waits behind its own overload frames", choices) as scene:
+        begin(2, (FRAME,)).rest(2 * OVERLOAD + 3, "two own overload frames, intermission")
+        scene.sent(FRAME)
+        scene.rest(10)
+

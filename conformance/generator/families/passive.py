@@ -1,0 +1,356 @@
+"""Error passive controllers: their limits, their flags, suspend transmission."""
+
+from __future__ import annotations
+
+from typing import Tuple
+
+from generator.book import Book, family
+from generator.probes import PROBE_FRAME, break_delimiter, probe_rec, probe_tec, raise_rec, raise_tec
+from generator.scene import Scene
+from kit.frames import Frame
+
+RECEIVED = "S 123 D 1 c3"
+OWN = "S 155 D 2 5aa5"
+LATER = "S 355 D 1 a5"
+WINNER = "S 001 D 1 77"
+
+
+def passive_sender(scene: Scene, *offers: str, goal: int = 128) -> None:
+    """An error passive controller that is about to send the first of the frames."""
+    scene.anchor(*offers)
+    raise_tec(scene, goal, offers[0])
+    scene.wait()
+
+
+def passive_receiver(scene: Scene) -> None:
+    """An idle controller that is error passive by TEC, at which nothing waits. REC is 0."""
+    passive_sender(scene, PROBE_FRAME, goal=136)
+    scene.sent(PROBE_FRAME)
+    scene.rest(10, "suspend, idle")
+
+
+def show_flag(scene: Scene) -> None:
+    """A receiver's error: the flag shows whether the controller is error passive."""
+    scene.stuff_error()
+    scene.recover()
+    scene.rest(2)
+
+
+def show_own_flag(scene: Scene, frame: str = OWN) -> None:
+    """A sender's error: the frame waits, and is sent behind it."""
+    scene.wait()
+    scene.sending(frame, Frame.parse(frame).wire().stuffed)
+    scene.play("0", "the CRC delimiter dominant")
+    scene.recover()
+    scene.wait()
+    scene.sent(frame)
+    scene.rest(12)
+
+
+@family("passive-limit", "REC and TEC to 120, 127, 128, above, and back; the kind of a flag shows each")
+def passive_limit(book: Book) -> None:
+    for goal in (120, 127, 128, 140):
+        with book.case(f"rec-{goal}", f"the flag of a receiver with a REC of {goal}") as scene:
+            scene.rest(1, "idle")
+            raise_rec(scene, goal)
+            show_flag(scene)
+            if goal == 140:
+                scene.stuff_error()
+                scene.behind_flag(8 * 16)
+    with book.case("rec-back", "a frame received brings REC back below the limit") as scene:
+        scene.rest(1, "idle")
+        raise_rec(scene, 128)
+        scene.receive(RECEIVED)
+        scene.rest(5)
+        show_flag(scene)
+    with book.case("rec-as-sender", "a REC of 128 makes a sender error passive too") as scene:
+        scene.rest(1, "idle")
+        raise_rec(scene, 128)
+        scene.receive(WINNER, (OWN,), upto=Frame.parse(WINNER).wire().stuffed)
+        scene.play("0", "the CRC delimiter dominant, so that REC stays above its limit")
+        scene.recover()
+        show_own_flag(scene)
+    for goal in (120, 128, 136):
+        with book.case(f"tec-{goal}", f"the flag of a sender with a TEC of {goal}") as scene:
+            scene.rest(1, "idle")
+            # both counters below the limit, their sum above it
+            raise_rec(scene, 100 if goal == 120 else 0)
+            scene.anchor(OWN)
+            raise_tec(scene, goal, OWN)
+            show_own_flag(scene)
+    with book.case("tec-back", "a frame sent brings TEC back below the limit") as scene:
+        passive_sender(scene, OWN, OWN)
+        scene.sent(OWN)
+        show_own_flag(scene)
+    with book.case("tec-as-receiver", "a TEC of 135 makes a receiver error passive too") as scene:
+        passive_receiver(scene)
+        show_flag(scene)
+
+
+@family("rec-wraps", "REC to 255 and on by runs and errors, then a frame")
+def rec_wraps(book: Book) -> None:
+    with book.case("by-runs", "runs of dominant levels behind a flag take REC to its end") as scene:
+        scene.rest(1, "idle")
+        scene.stuff_error()
+        scene.behind_flag(8 * 32)
+        show_flag(scene)
+        scene.receive(RECEIVED)
+        scene.rest(5)
+        probe_rec(scene)
+    with book.case("by-errors", "single errors take REC to its end") as scene:
+        scene.rest(1, "idle")
+        scene.stuff_error()
+        scene.behind_flag(8 * 30)
+        for _ in range(10):
+            show_flag(scene)
+        scene.receive(RECEIVED)
+        scene.rest(5)
+        probe_rec(scene)
+
+
+PATTERNS = [
+    ("recessive", "111111"),
+    ("dominant", "000000"),
+    ("one-dominant", "0111111"),
+    ("five-and-six", "00000111111"),
+    ("alternating", "0101010111111"),
+    ("five-recessive", "11111000000"),
+    ("two-fives", "1111100000111111"),
+    ("late-dominant", "1110000001"),
+    ("last-dominant", "111110111111"),
+]
+
+
+@family("passive-flag-rx", "patterns within a receiver's passive flag; the start of a frame tells its end")
+def passive_flag_rx(book: Book) -> None:
+    for suffix, pattern in PATTERNS:
+        with book.case(suffix, f"{pattern} within a passive flag") as scene:
+            scene.rest(1, "idle")
+            raise_rec(scene, 128)
+            scene.receive(WINNER, (OWN,), upto=Frame.parse(WINNER).wire().stuffed)
+            scene.play("0", "the CRC delimiter dominant")
+            scene.play(pattern, "within the passive flag")
+            scene.wait("delimiter, intermission")
+            scene.sent(OWN)
+            scene.rest(12)
+
+
+@family("passive-flag-tx", "patterns within a sender's passive flag; the start of the frame tells its end")
+def passive_flag_tx(book: Book) -> None:
+    for suffix, pattern in PATTERNS[:1] + PATTERNS[3:]:
+        with book.case(suffix, f"{pattern} within a passive flag") as scene:
+            passive_sender(scene, OWN)
+            scene.sending(OWN, Frame.parse(OWN).wire().stuffed)
+            scene.play("0", "the CRC delimiter dominant")
+            scene.play(pattern, "within the passive flag")
+            scene.wait("delimiter, intermission, suspend")
+            scene.sent(OWN)
+            scene.rest(12)
+
+
+@family("passive-flag-overload", "a dominant level in delimiter and intermission behind a passive flag")
+def passive_flag_overload(book: Book) -> None:
+    places = [("intermission-1", 8), ("intermission-2", 9), ("delimiter-8", 7), ("delimiter-5", 4)]
+    for suffix, before in places:
+        with book.case(f"rx-{suffix}", f"{suffix} dominant behind a receiver's passive flag") as scene:
+            passive_receiver(scene)
+            scene.stuff_error()
+            scene.rest(6 + before, "the passive flag, and levels behind it")
+            scene.play("0", f"{suffix} dominant")
+            scene.recover()
+            scene.rest(3)
+    for suffix, before in (places[0], places[2]):
+        with book.case(f"tx-{suffix}", f"{suffix} dominant behind a sender's passive flag") as scene:
+            passive_sender(scene, OWN)
+            scene.sending(OWN, Frame.parse(OWN).wire().stuffed)
+            scene.play("0", "the CRC delimiter dominant")
+            scene.rest(6 + before, "the passive flag, and levels behind it")
+            scene.play("0", f"{suffix} dominant")
+            scene.recover("overload flag, delimiter, intermission")
+            scene.wait("suspend")
+            scene.sent(OWN)
+            scene.rest(12)
+
+
+@family("passive-receiver", "an error passive receiver: a frame, each kind of error, no suspend")
+def passive_receiver_family(book: Book) -> None:
+    wire = Frame.parse(RECEIVED).wire()
+    wrong = Frame.parse(RECEIVED).wire("crc-5")
+    errors: list = [
+        ("stuff", "000000"),
+        ("crc", wrong.acknowledged()[: wrong.place("eof 1")]),
+        ("crc-delimiter", wire.levels[: wire.stuffed] + "0"),
+        ("end-of-frame", wire.levels[: wire.place("eof 4")] + "0"),
+        ("acknowledgement-unseen", wire.levels[: wire.place("ack")] + "f"),
+    ]
+    with book.case("frame", "a frame is acknowledged") as scene:
+        passive_receiver(scene)
+        scene.receive(RECEIVED)
+        scene.rest(5)
+    for suffix, levels in errors:
+        with book.case(suffix, f"an error at {suffix}: the flag is passive") as scene:
+            passive_receiver(scene)
+            scene.play(levels, f"an error: {suffix}")
+            scene.behind_flag(1 if suffix == "crc-delimiter" else 0)
+            scene.receive(RECEIVED)
+            scene.rest(5)
+    with book.case("delimiter", "a dominant level in a delimiter: another passive flag") as scene:
+        passive_receiver(scene)
+        scene.stuff_error()
+        scene.rest(6 + 3, "passive flag, three levels of the delimiter")
+        scene.play("0", "delimiter level 4 dominant")
+        scene.recover()
+        scene.receive(RECEIVED)
+        scene.rest(5)
+    with book.case("no-suspend", "a receiver does not suspend: its frame begins behind intermission") as scene:
+        passive_receiver(scene)
+        scene.receive(RECEIVED, (OWN,))
+        scene.wait()
+        scene.sent(OWN)
+        scene.rest(12)
+
+
+@family("suspend", "suspend behind error, success, overload; TEC back to 127; nothing waits")
+def suspend(book: Book) -> None:
+    with book.case("behind-error", "eight recessive levels behind an error of a passive sender") as scene:
+        passive_sender(scene, OWN, goal=136)
+        show_own_flag(scene)
+    with book.case("behind-success", "eight recessive levels behind a frame sent while passive") as scene:
+        passive_sender(scene, OWN, OWN, goal=136)
+        scene.sent(OWN)
+        scene.wait("suspend")
+        scene.sent(OWN)
+        scene.rest(12)
+    with book.case("behind-overload", "eight recessive levels behind an overload frame of a passive sender") as scene:
+        passive_sender(scene, OWN, OWN, goal=136)
+        scene.sending(OWN)
+        scene.play("0", "the first level of intermission dominant")
+        scene.recover()
+        scene.wait("suspend")
+        scene.sent(OWN)
+        scene.rest(12)
+    with book.case("back-to-127", "no suspend where the frame sent brings TEC to 127") as scene:
+        passive_sender(scene, OWN, OWN)
+        scene.sent(OWN)
+        scene.sent(OWN)
+        scene.rest(12)
+    with book.case("nothing-waits", "suspend where nothing waits: a frame offered in it waits") as scene:
+        passive_sender(scene, OWN, goal=136)
+        scene.sent(OWN)
+        scene.rest(2, "two levels of suspend")
+        scene.offer(OWN)
+        scene.wait("the rest of suspend")
+        scene.sent(OWN)
+        scene.rest(12)
+
+
+def _suspended(scene: Scene) -> None:
+    """A passive sender at the end of its frame, before intermission; LATER waits."""
+    passive_sender(scene, OWN, LATER, goal=144)
+    scene.sending(OWN)
+
+
+def _meets(scene: Scene, level: int) -> None:
+    scene.rest(3 + level - 1, f"intermission, {level - 1} levels of suspend")
+
+
+@family("suspend-reception", "the tester begins at suspend 1 to 9, at intermission 3; an error in it; lost")
+def suspend_reception(book: Book) -> None:
+    for level in (1, 4, 8):
+        with book.case(f"at-{level}", f"a frame begins at level {level} of suspend: it is received") as scene:
+            _suspended(scene)
+            _meets(scene, level)
+            scene.receive("S 700 D 1 77")
+            scene.rest(3, "intermission, no suspend")
+            scene.sent(LATER)
+            scene.rest(12)
+    with book.case("at-9", "a frame begins behind suspend, together with its own: it loses") as scene:
+        _suspended(scene)
+        _meets(scene, 9)
+        levels = Frame.parse("S 700 D 1 77").wire().levels
+        own = Frame.parse(LATER).wire()
+        differ = next(place for place, (a, b) in enumerate(zip(levels, own.levels)) if a != b)
+        scene.play(levels[: differ + 1], "sends S 700 D 1 77, and loses")
+        scene.play("1" * (own.place("ack") - differ - 1) + "0" + "1" * 8, "listens")
+        scene.rest(12)
+    with book.case("intermission-3", "a frame begins at the third level of intermission: it is received") as scene:
+        _suspended(scene)
+        scene.rest(2, "two levels of intermission")
+        scene.receive("S 700 D 1 77")
+        scene.rest(3, "intermission, no suspend")
+        scene.sent(LATER)
+        scene.rest(12)
+    with book.case("error", "an error in a frame that began in suspend is a receiver's") as scene:
+        _suspended(scene)
+        _meets(scene, 3)
+        scene.stuff_error()
+        scene.recover("a passive flag, delimiter, intermission, no suspend")
+        scene.sent(LATER)
+        scene.rest(12)
+    with book.case("lost", "behind a lost arbitration there is no suspend") as scene:
+        passive_sender(scene, OWN, goal=136)
+        scene.receive(WINNER)
+        scene.rest(3, "intermission, no suspend")
+        scene.sent(OWN)
+        scene.rest(12)
+    with book.case("lost-behind-suspend", "behind suspend arbitration is lost: no suspend again") as scene:
+        _suspended(scene)
+        _meets(scene, 9)
+        scene.receive(WINNER)
+        scene.rest(3, "intermission, no suspend")
+        scene.sent(LATER)
+        scene.rest(12)
+
+
+def _unacknowledged(scene: Scene, pattern: str, frame: str = OWN) -> None:
+    """A passive sender without acknowledgement, these levels behind the slot, and the frame again."""
+    scene.sending(frame, Frame.parse(frame).wire().place("ack"))
+    scene.play("1", "no acknowledgement")
+    scene.play(pattern, "within the passive flag")
+    scene.wait("delimiter, intermission, suspend")
+    scene.sent(frame)
+
+
+@family("passive-unacknowledged", "alone 40 times; dominant levels within the flag, behind it; probes of TEC")
+def passive_unacknowledged(book: Book) -> None:
+    with book.case("alone", "alone on the bus its TEC stays at 128") as scene:
+        scene.anchor(PROBE_FRAME)
+        for _ in range(40):
+            scene.wait("flag, delimiter, intermission, and suspend where it is passive")
+            slot = Frame.parse(PROBE_FRAME).wire().place("ack")
+            scene.sending(PROBE_FRAME, slot)
+            scene.rest(1, "no acknowledgement")
+        scene.wait("flag, delimiter, intermission, suspend")
+        scene.sent(PROBE_FRAME)
+        scene.rest(12)
+    patterns: Tuple[Tuple[str, str, str], ...] = (
+        ("nothing-dominant", "111111", "nothing counts, where the error before does"),
+        ("level-1", "0111111", "a dominant first level counts"),
+        ("level-3", "110111111", "a dominant third level counts"),
+        ("level-6", "111110111111", "a dominant sixth level counts"),
+        ("several", "01101111111", "several dominant levels count once"),
+        ("completed", "000000", "dominant levels that complete the flag count once"),
+        ("behind", "1111110", "a dominant level behind the flag does not count"),
+    )
+    for suffix, pattern, purpose in patterns:
+        with book.case(suffix, f"a missing acknowledgement while passive: {purpose}") as scene:
+            passive_sender(scene, OWN)
+            if suffix == "nothing-dominant":
+                break_delimiter(scene, OWN, 0)
+                scene.wait()
+            _unacknowledged(scene, pattern)
+            probe_tec(scene)
+
+
+@family("passive-behind-flag", "dominant levels complete the flag, and more follow; a probe of TEC")
+def passive_behind_flag(book: Book) -> None:
+    for dominant in (1, 2, 8, 16):
+        with book.case(str(dominant), f"{dominant} dominant levels behind a passive flag that six completed") as scene:
+            passive_sender(scene, OWN)
+            scene.sending(OWN, Frame.parse(OWN).wire().stuffed)
+            scene.play("0", "the CRC delimiter dominant")
+            scene.play("000000", "completes the passive flag")
+            scene.play("0" * dominant, f"{dominant} dominant levels behind it")
+            scene.wait("delimiter, intermission, suspend")
+            scene.sent(OWN)
+            probe_tec(scene)

@@ -1,0 +1,213 @@
+"""Frames that the controller receives, whole and broken."""
+
+from __future__ import annotations
+
+from generator.book import Book, family
+from generator.probes import probe_rec
+from generator.scene import Scene
+from generator.search import ends_stuffed, stuff_place, stuffed_in
+from kit.frames import Frame, opposite
+
+IDENTIFIERS = [
+    ("all-dominant", "S 000 D 1 5a"),
+    ("all-recessive", "S 7ff D 1 5a"),
+    ("mixed", "S 555 D 1 5a"),
+    ("other-mixed", "S 2aa D 1 a5"),
+    ("seven-recessive", "S 7f0 D 1 5a"),
+    ("extended-all-dominant", "E 00000000 D 1 5a"),
+    ("extended-all-recessive", "E 1fffffff D 1 5a"),
+    ("extended-mixed", "E 15555555 D 1 5a"),
+    ("extended-seven-recessive", "E 1fc12345 D 1 5a"),
+]
+DLCS = [
+    ("data-0", "S 123 D 0"),
+    ("data-1", "S 123 D 1 c3"),
+    ("data-7", "S 123 D 7 01234567890abc"),
+    ("data-8", "S 123 D 8 0123456789abcdef"),
+    ("data-9", "S 123 D 9 0123456789abcdef"),
+    ("data-15", "S 123 D 15 0123456789abcdef"),
+    ("remote-1", "S 123 R 1"),
+    ("remote-8", "S 123 R 8"),
+    ("remote-15", "S 123 R 15"),
+    ("extended-data-11", "E 01234567 D 11 fedcba9876543210"),
+    ("extended-remote-4", "E 01234567 R 4"),
+]
+STUFFED = [
+    ("dominant-runs", "S 000 D 8 0000000000000000"),
+    ("recessive-runs", "S 7ff D 8 ffffffffffffffff"),
+    ("runs-of-stuff-bits", "S 078 D 8 787878783c3c3c3c"),
+    ("extended-runs", "E 00003fff D 8 000000ffffff07c1"),
+]
+BEHIND_CRC = [
+    ("recessive", ends_stuffed("S", 2, "1")),
+    ("dominant", ends_stuffed("S", 2, "0")),
+    ("extended-recessive", ends_stuffed("E", 2, "1")),
+    ("extended-dominant", ends_stuffed("E", 2, "0")),
+]
+
+
+def _receive_whole(book: Book, frames: list, what: str) -> None:
+    for suffix, frame in frames:
+        with book.case(suffix, f"{what}: {frame} is received and acknowledged") as scene:
+            scene.rest(1, "idle")
+            scene.receive(frame)
+            scene.rest(5, "intermission, idle")
+
+
+@family("rx-identifiers", "the tester sends identifiers of all kinds")
+def rx_identifiers(book: Book) -> None:
+    _receive_whole(book, IDENTIFIERS, "identifier")
+
+
+@family("rx-dlc", "the tester sends data and remote frames with DLC 0 to 15")
+def rx_dlc(book: Book) -> None:
+    _receive_whole(book, DLCS, "DLC")
+
+
+@family("rx-reserved", "SRR, r1, r0 at other levels; the check sequence is that of the levels sent")
+def rx_reserved(book: Book) -> None:
+    standard, extended = "S 123 D 1 c3", "E 01234567 D 1 c3"
+    cases = [
+        ("r0", standard, {"r0": "1"}),
+        ("extended-srr", extended, {"srr": "0"}),
+        ("extended-r1", extended, {"r1": "1"}),
+        ("extended-r0", extended, {"r0": "1"}),
+        ("extended-r1-r0", extended, {"r1": "1", "r0": "1"}),
+        ("extended-all", extended, {"srr": "0", "r1": "1", "r0": "1"}),
+    ]
+    for suffix, frame, given in cases:
+        purpose = f"{', '.join(given)} at the other level: the frame is acknowledged"
+        with book.case(suffix, purpose, ["reserved-levels"]) as scene:
+            scene.rest(1, "idle")
+            scene.receive(frame, wire=Frame.parse(frame).wire(**given))
+            scene.rest(5)
+
+
+@family("rx-stuff", "frames of long runs, and of runs that begin with stuff bits")
+def rx_stuff(book: Book) -> None:
+    _receive_whole(book, STUFFED, "stuff bits")
+
+
+@family("rx-stuff-behind-crc", "check sequences that end with five equal levels")
+def rx_stuff_behind_crc(book: Book) -> None:
+    _receive_whole(book, BEHIND_CRC, "a stuff bit behind the check sequence")
+
+
+@family("rx-spacing", "frames 3 and 2 recessive levels apart, and 200")
+def rx_spacing(book: Book) -> None:
+    for gap in (3, 2, 200):
+        with book.case(f"gap-{gap}", f"a frame begins {gap} levels behind another: both are acknowledged") as scene:
+            scene.receive("S 123 D 1 c3")
+            scene.rest(gap, "between the frames")
+            scene.receive("S 124 D 1 3c")
+            scene.rest(5)
+
+
+@family("rx-ack", "others acknowledge too, or nobody; the controller's own frame")
+def rx_ack(book: Book) -> None:
+    with book.case("others-too", "others acknowledge the received frame too") as scene:
+        wire = Frame.parse("S 123 D 1 c3").wire()
+        scene.play(wire.acknowledged(), "sends S 123 D 1 c3 and acknowledges it")
+        scene.rest(5)
+    with book.case("own", "its own frame is not acknowledged by itself") as scene:
+        scene.anchor("S 123 D 1 c3")
+        scene.sent("S 123 D 1 c3")
+        scene.rest(5)
+    with book.case("nobody", "nobody acknowledges its own frame: it is sent again") as scene:
+        scene.anchor("S 123 D 1 c3")
+        slot = Frame.parse("S 123 D 1 c3").wire().place("ack")
+        scene.sending("S 123 D 1 c3", slot)
+        scene.rest(1, "no acknowledgement")
+        scene.recover()
+        scene.sent("S 123 D 1 c3")
+        scene.rest(3)
+
+
+STUFF_ERRORS = [
+    ("identifier-dominant", "S 000 D 0", "base", "1"),
+    ("identifier-recessive", "S 7ff D 0", "base", "0"),
+    ("extended-base-dominant", "E 00000000 D 0", "base", "1"),
+    ("extension-dominant", "E 15540000 D 0", "extension", "1"),
+    ("extension-recessive", "E 1553ffff D 0", "extension", "0"),
+    ("control-dominant", "S 550 D 0", "dlc", "1"),
+    ("data-dominant", "S 555 D 2 0000", "data", "1"),
+    ("data-recessive", "S 555 D 2 ffff", "data", "0"),
+    ("crc-dominant", stuffed_in("S", 2, "crc", "1"), "crc", "1"),
+    ("crc-recessive", stuffed_in("S", 2, "crc", "0"), "crc", "0"),
+    ("extended-crc", stuffed_in("E", 3, "crc", "1"), "crc", "1"),
+    ("behind-crc-dominant", BEHIND_CRC[0][1], "crc", "1"),
+    ("behind-crc-recessive", BEHIND_CRC[1][1], "crc", "0"),
+    ("extended-behind-crc", BEHIND_CRC[3][1], "crc", "0"),
+]
+
+
+def break_stuff_bit(scene: Scene, frame: str, part: str, level: str, behind: bool = False) -> None:
+    """The tester's frame up to a stuff bit, there the wrong level."""
+    wire = Frame.parse(frame).wire()
+    place = wire.stuff[-1] if behind else stuff_place(wire, part, level)
+    if place < 0:
+        raise ValueError(f"{scene.case.name}: no such stuff bit")
+    scene.receive(frame, upto=place)
+    scene.play(opposite(level), "the stuff bit at the wrong level")
+
+
+@family("rx-stuff-error", "the tester's frame up to a stuff bit, there the wrong level")
+def rx_stuff_error(book: Book) -> None:
+    for suffix, frame, part, level in STUFF_ERRORS:
+        with book.case(suffix, f"a wrong stuff bit in {frame} starts an error flag") as scene:
+            break_stuff_bit(scene, frame, part, level, behind="behind" in suffix)
+            scene.recover()
+            scene.rest(3)
+
+
+CRC_ERRORS = [
+    ("first-bit", "S 123 D 2 c3a5", "crc-0", False),
+    ("middle-bit", "S 123 D 2 c3a5", "crc-7", False),
+    ("last-bit", "S 123 D 2 c3a5", "crc-14", False),
+    ("identifier", "S 123 D 2 c3a5", "base-9", False),
+    ("data", "S 123 D 2 c3a5", "data-11", False),
+    ("others-acknowledge", "S 123 D 2 c3a5", "crc-9", True),
+    ("extended-last-bit", "E 01234567 D 2 c3a5", "crc-14", False),
+    ("extended-data", "E 01234567 D 2 c3a5", "data-2", False),
+    ("extended-others-acknowledge", "E 01234567 D 2 c3a5", "extension-4", True),
+]
+
+
+@family("rx-crc-error", "one bit turned, stuffed anew; acknowledged by others")
+def rx_crc_error(book: Book) -> None:
+    for suffix, frame, turned, others in CRC_ERRORS:
+        purpose = f"{turned} turned in {frame}: not acknowledged, an error flag behind the ACK delimiter"
+        with book.case(suffix, purpose) as scene:
+            wire = Frame.parse(frame).wire(turned)
+            levels = wire.acknowledged() if others else wire.levels
+            scene.play(levels[: wire.place("eof 1")], f"sends {frame}, {turned} turned")
+            scene.recover()
+            scene.rest(3)
+
+
+@family("rx-form-error", "delimiters and end of frame 1 to 6 dominant; the delimiters with a wrong check sequence")
+def rx_form_error(book: Book) -> None:
+    frame = "S 123 D 2 c3a5"
+    places = [("crc-delimiter", ""), ("ack-delimiter", ""), ("eof 1", ""), ("eof 3", ""), ("eof 5", ""), ("eof 6", "")]
+    places += [("crc-delimiter", "crc-3"), ("ack-delimiter", "crc-3")]
+    for part, turned in places:
+        suffix = part.replace(" ", "-") + ("-wrong-crc" if turned else "")
+        wrong = ", the check sequence wrong" if turned else ""
+        with book.case(suffix, f"{part} dominant{wrong}: an error flag and a count of 1") as scene:
+            wire = Frame.parse(frame).wire(turned)
+            scene.receive(frame, upto=wire.place(part), wire=wire)
+            scene.play("0", f"{part} dominant")
+            scene.recover()
+            if part.startswith("eof"):
+                probe_rec(scene)
+            scene.rest(3)
+
+
+@family("rx-ack-unseen", "the ACK slot forced")
+def rx_ack_unseen(book: Book) -> None:
+    for suffix, frame in (("standard", "S 123 D 2 c3a5"), ("extended", "E 01234567 D 2 c3a5")):
+        with book.case(suffix, "its acknowledgement is not on the bus: an error flag") as scene:
+            scene.receive(frame, upto=Frame.parse(frame).wire().place("ack"))
+            scene.play("f", "the ACK slot forced")
+            scene.recover()
+            scene.rest(3)

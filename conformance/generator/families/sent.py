@@ -1,0 +1,279 @@
+"""Frames that the controller sends, alone and with errors of each kind."""
+
+from __future__ import annotations
+
+from generator.book import Book, family
+from generator.families.received import BEHIND_CRC, DLCS, IDENTIFIERS, STUFFED
+from generator.scene import Scene
+from generator.search import stuff_place, stuffed_in
+from kit.frames import Frame
+
+FRAME = "S 155 D 2 5aa5"
+EXTENDED = "E 0a5a5a5a D 2 5aa5"
+
+
+def _send_whole(book: Book, frames: list, what: str) -> None:
+    for suffix, frame in frames:
+        with book.case(suffix, f"{what}: {frame} as it is sent") as scene:
+            scene.anchor(frame)
+            scene.sent(frame)
+            scene.rest(3)
+
+
+@family("tx-identifiers", "the controller sends the frames of rx-identifiers")
+def tx_identifiers(book: Book) -> None:
+    _send_whole(book, IDENTIFIERS, "identifier")
+
+
+@family("tx-dlc", "the controller sends the frames of rx-dlc")
+def tx_dlc(book: Book) -> None:
+    _send_whole(book, DLCS, "DLC")
+
+
+@family("tx-stuff", "the controller sends the frames of rx-stuff")
+def tx_stuff(book: Book) -> None:
+    _send_whole(book, STUFFED, "stuff bits")
+
+
+@family("tx-stuff-behind-crc", "the controller sends the frames of rx-stuff-behind-crc")
+def tx_stuff_behind_crc(book: Book) -> None:
+    _send_whole(book, BEHIND_CRC, "a stuff bit behind the check sequence")
+
+
+def _both_begin(scene: Scene, tester: str, own: str) -> None:
+    """The tester's frame begins with the third level of an intermission; who loses listens, who wins goes on."""
+    ours, theirs = Frame.parse(tester).wire(), Frame.parse(own).wire()
+    differ = next(place for place, (a, b) in enumerate(zip(ours.levels, theirs.levels)) if a != b)
+    scene.rest(2, "two levels of intermission")
+    if ours.levels[differ] == "0":
+        scene.play(ours.levels, f"sends {tester} from the third level on")
+        scene.rest(3)
+        scene.sent(own)
+    else:
+        slot = theirs.place("ack")
+        scene.play(ours.levels[: differ + 1], f"sends {tester} from the third level on, and loses")
+        scene.play("1" * (slot - differ - 1) + "0" + "1" * 8)
+        scene.rest(3)
+
+
+@family("tx-spacing", "three frames wait; the tester begins at the third level of intermission and loses, or wins")
+def tx_spacing(book: Book) -> None:
+    frames = ["S 100 D 1 11", "S 200 D 1 22", "S 300 D 1 33"]
+    with book.case("three", "three frames that wait follow one another behind three levels") as scene:
+        scene.anchor(*frames)
+        for frame in frames:
+            scene.sent(frame)
+        scene.rest(3)
+    with book.case("third-level-tester-loses", "the tester begins at the third level: it joins, and wins") as scene:
+        scene.receive("S 2aa R 0", [frames[0]])
+        _both_begin(scene, "S 700 D 1 77", frames[0])
+        scene.rest(3)
+    with book.case("third-level-tester-wins", "the tester begins at the third level: it joins, and loses") as scene:
+        scene.receive("S 2aa R 0", [frames[1]])
+        _both_begin(scene, "S 001 D 1 77", frames[1])
+        scene.rest(3)
+    with book.case("third-level-behind-own", "the tester begins at the third level behind its own frame") as scene:
+        scene.anchor(frames[0], frames[1])
+        scene.sending(frames[0])
+        _both_begin(scene, "S 700 D 1 77", frames[1])
+        scene.rest(3)
+    with book.case("third-level-start-alone", "a start of frame alone at the third level: its frame follows") as scene:
+        scene.receive("S 2aa R 0", [frames[0]])
+        scene.rest(2, "two levels of intermission")
+        slot = Frame.parse(frames[0]).wire().place("ack")
+        scene.play("0" + "1" * (slot - 1) + "0" + "1" * 8, "a start of frame")
+        scene.rest(3)
+
+
+@family("tx-order", "frames offered out of order; equal ones")
+def tx_order(book: Book) -> None:
+    orders = [
+        ("three", "three frames go as in arbitration", ["S 300 D 1 33", "S 100 D 1 11", "S 200 D 1 22"], [1, 2, 0]),
+        ("equal", "of equal fields the one offered first goes first", ["S 123 D 1 01", "S 123 D 1 02", "S 123 D 1 03"], [0, 1, 2]),
+        ("remote", "a data frame goes before the remote frame", ["S 123 R 1", "S 123 D 1 0f"], [1, 0]),
+        ("extended", "an extended frame goes before a higher standard one", ["S 400 D 0", "E 0fff0000 D 0", "S 3ff R 0"], [2, 1, 0]),
+    ]
+    for suffix, purpose, offers, order in orders:
+        with book.case(suffix, purpose) as scene:
+            scene.anchor(*offers)
+            for place in order:
+                scene.sent(offers[place])
+            scene.rest(3)
+
+
+@family("tx-kept-frame", "a frame that goes first is offered while the controller sends")
+def tx_kept_frame(book: Book) -> None:
+    kept, first = "S 400 D 2 1234", "S 001 D 1 56"
+
+    def begin(scene: Scene, frame: str = kept) -> None:
+        scene.anchor(frame)
+        scene.rest(7, f"listens to {frame}")
+        scene.offer(first)
+
+    with book.case("sent", "the frame under way is sent, then the other") as scene:
+        begin(scene)
+        slot = Frame.parse(kept).wire().place("ack")
+        scene.play("1" * (slot - 7) + "0" + "1" * 8 + "111")
+        scene.sent(first)
+        scene.rest(3)
+    with book.case("before-an-error", "behind an error the frame that goes first is sent first") as scene:
+        begin(scene)
+        scene.rest(Frame.parse(kept).wire().stuffed - 7)
+        scene.play("0", "the CRC delimiter dominant")
+        scene.recover()
+        scene.sent(first)
+        scene.sent(kept)
+        scene.rest(3)
+    with book.case("before-a-loss", "behind a lost arbitration the frame that goes first is sent first") as scene:
+        long = "E 10000fff D 0"
+        winner = Frame.parse("E 100000ff D 0").wire()
+        scene.anchor(long)
+        scene.play(winner.levels[:7], "sends E 100000ff D 0")
+        scene.offer(first)
+        scene.play(winner.levels[7:])
+        scene.rest(3)
+        scene.sent(first)
+        scene.sent(long)
+        scene.rest(3)
+    with book.case("extended", "an extended frame under way is not exchanged") as scene:
+        long = "E 1aaaaaaa D 1 0f"
+        begin(scene, long)
+        slot = Frame.parse(long).wire().place("ack")
+        scene.play("1" * (slot - 7) + "0" + "1" * 8 + "111")
+        scene.sent(first)
+        scene.rest(3)
+
+
+def override(scene: Scene, frame: str, place: int, level: str, comment: str) -> None:
+    """The controller sends the frame, about to begin; at the place the tester's level, then the flag and rest."""
+    scene.sending(frame, place)
+    scene.play(level, comment)
+    scene.recover()
+
+
+def _place_of(frame: str, part: str, level: str, index: int = 0) -> int:
+    """The place of the part's level of this kind with that number."""
+    wire = Frame.parse(frame).wire()
+    return [place for place in wire.places[part] if wire.levels[place] == level][index]
+
+
+@family("tx-bit-error-dominant", "a recessive level behind arbitration overridden; then sent again")
+def tx_bit_error_dominant(book: Book) -> None:
+    cases = [
+        ("dlc", FRAME, "dlc", 0),
+        ("data-first", FRAME, "data", 0),
+        ("data-last", FRAME, "data", -1),
+        ("crc-first", FRAME, "crc", 0),
+        ("crc-last", EXTENDED, "crc", -1),
+        ("crc-delimiter", FRAME, "crc-delimiter", 0),
+        ("ack-delimiter", FRAME, "ack-delimiter", 0),
+        ("eof-1", FRAME, "eof", 0),
+        ("eof-3", FRAME, "eof", 2),
+        ("eof-5", EXTENDED, "eof", 4),
+        ("eof-6", FRAME, "eof", 5),
+        ("eof-7", FRAME, "eof", 6),
+    ]
+    for suffix, frame, part, index in cases:
+        with book.case(suffix, f"a recessive level of {part} overridden: an error flag, then sent again") as scene:
+            scene.anchor(frame)
+            override(scene, frame, _place_of(frame, part, "1", index), "0", f"{suffix} dominant")
+            scene.sent(frame)
+            scene.rest(3)
+
+
+@family("tx-bit-error-recessive", "a dominant level forced recessive; then sent again")
+def tx_bit_error_recessive(book: Book) -> None:
+    stuffed = "S 7c0 D 2 ff55"
+    cases = [
+        ("sof", FRAME, "sof"),
+        ("identifier", FRAME, "base"),
+        ("extension", EXTENDED, "extension"),
+        ("rtr", FRAME, "rtr"),
+        ("ide", FRAME, "ide"),
+        ("r0", FRAME, "r0"),
+        ("r1", EXTENDED, "r1"),
+        ("dlc", FRAME, "dlc"),
+        ("data", FRAME, "data"),
+        ("crc", FRAME, "crc"),
+    ]
+    places = [(suffix, frame, _place_of(frame, part, "0")) for suffix, frame, part in cases]
+    wire = Frame.parse(stuffed).wire()
+    places += [("stuff-bit-identifier", stuffed, stuff_place(wire, "base", "0"))]
+    places += [("stuff-bit-data", stuffed, stuff_place(wire, "data", "0"))]
+    for suffix, frame, place in places:
+        choices = ["own-start"] if suffix == "sof" else []
+        with book.case(suffix, f"its dominant {suffix} is not on the bus: an error flag", choices) as scene:
+            scene.anchor(frame)
+            override(scene, frame, place, "f", f"{suffix} forced")
+            scene.sent(frame)
+            scene.rest(3)
+
+
+@family("tx-stuff-error", "a recessive stuff bit behind RTR overridden")
+def tx_stuff_error(book: Book) -> None:
+    cases = [
+        ("control", "S 550 D 0", "dlc"),
+        ("data", "S 555 D 2 0000", "data"),
+        ("crc", stuffed_in("S", 2, "crc", "1"), "crc"),
+        ("behind-crc", BEHIND_CRC[0][1], "end"),
+    ]
+    for suffix, frame, part in cases:
+        wire = Frame.parse(frame).wire()
+        place = wire.stuff[-1] if part == "end" else stuff_place(wire, part, "1")
+        with book.case(suffix, f"the stuff bit in {frame} overridden: an error flag, then sent again") as scene:
+            scene.anchor(frame)
+            override(scene, frame, place, "0", "the stuff bit dominant")
+            scene.sent(frame)
+            scene.rest(3)
+
+
+@family("tx-ack-error", "ACK slot recessive once, thrice; dominant a bit early, late")
+def tx_ack_error(book: Book) -> None:
+    slot = Frame.parse(FRAME).wire().place("ack")
+    for suffix, times in (("once", 1), ("thrice", 3)):
+        with book.case(suffix, f"no acknowledgement {suffix}: error flags, then sent again") as scene:
+            scene.anchor(FRAME)
+            for _ in range(times):
+                override(scene, FRAME, slot, "1", "no acknowledgement")
+            scene.sent(FRAME)
+            scene.rest(3)
+    with book.case("early", "a dominant level one bit time early is a dominant CRC delimiter") as scene:
+        scene.anchor(FRAME)
+        override(scene, FRAME, slot - 1, "0", "dominant one bit time early")
+        scene.sent(FRAME)
+        scene.rest(3)
+    with book.case("late", "a dominant level one bit time late is no acknowledgement") as scene:
+        scene.anchor(FRAME)
+        scene.sending(FRAME, slot)
+        scene.play("10", "no acknowledgement, then one a bit time late")
+        scene.rest(5 + 8 + 3, "the rest of the flag, delimiter, intermission")
+        scene.sent(FRAME)
+        scene.rest(3)
+
+
+@family("tx-again", "errors and losses one after another; the frame is sent again")
+def tx_again(book: Book) -> None:
+    def error(scene: Scene) -> None:
+        override(scene, FRAME, _place_of(FRAME, "data", "1"), "0", "a level of the data dominant")
+
+    def loss(scene: Scene) -> None:
+        scene.receive("S 101 D 1 77")
+        scene.rest(3)
+
+    def error_in_end(scene: Scene) -> None:
+        override(scene, FRAME, _place_of(FRAME, "eof", "1", 5), "0", "end of frame 6 dominant")
+
+    cases = [
+        ("four-errors", [error] * 4),
+        ("three-losses", [loss] * 3),
+        ("loss-then-error", [loss, error]),
+        ("error-then-loss", [error, loss]),
+        ("error-in-end-of-frame", [error_in_end]),
+    ]
+    for suffix, steps in cases:
+        with book.case(suffix, f"{suffix.replace('-', ' ')}: the frame is sent again, once") as scene:
+            scene.anchor(FRAME)
+            for step in steps:
+                step(scene)
+            scene.sent(FRAME)
+            scene.rest(20, "nothing follows")

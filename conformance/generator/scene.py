@@ -1,0 +1,214 @@
+"""A scene: one case while it is made. The tester's levels are played to the reference as they are added, so that
+later ones can follow what the controller did."""
+
+from __future__ import annotations
+
+from typing import List, Optional, Sequence, Tuple
+
+from kit.adapter import MOST_LEVELS, Adapter
+from kit.documents import NEEDS, Case, Event, State, Transcript
+from kit.frames import Frame, Wire
+
+# the frame behind whose start others are offered, so that a slow controller keeps up
+ANCHOR = Frame.parse("S 2aa R 0")
+OFFER_PLACE = 7
+LONGEST_WAIT = 2000
+
+
+class Scene:
+    """The case so far, and the controller of the reference that plays it."""
+
+    def __init__(self, reference: Adapter, family: str, suffix: str, purpose: str, start: str = "idle") -> None:
+        self.case = Case(f"{family}-{suffix}", family, [], purpose, start)
+        self.drove = ""
+        self.events: List[Event] = []
+        self._reference = reference
+        self._is_playing = False
+
+    @property
+    def time(self) -> int:
+        return len(self.drove)
+
+    # what is handed to the controller
+
+    def offer(self, frame: str) -> None:
+        self._resume()
+        self.case.offers.append((self.time, frame))
+        self._reference.offer(frame)
+
+    def hold(self, wish: int) -> None:
+        self._resume()
+        self.case.holds.append((self.time, wish))
+        self._reference.hold(wish)
+
+    # what the tester drives
+
+    def play(self, levels: str, comment: str = "") -> str:
+        """Adds levels of the tester, `f` for a forced bit time. With a comment they begin a string of their own.
+        Returns what the controller drove."""
+        if not levels:
+            return ""
+        self._resume()
+        self.case.forced += [self.time + place for place, level in enumerate(levels) if level == "f"]
+        self._add(levels.replace("f", "1"), comment)
+        return self._send(levels)
+
+    def rest(self, levels: int, comment: str = "") -> str:
+        """Recessive levels."""
+        return self.play("1" * levels, comment)
+
+    def _add(self, levels: str, comment: str) -> None:
+        tester = self.case.tester
+        if comment or not tester:
+            tester.append((levels, comment))
+        else:
+            before, note = tester[-1]
+            tester[-1] = (before + levels, note)
+
+    def _send(self, levels: str) -> str:
+        before = self.time
+        for front in range(0, len(levels), MOST_LEVELS):
+            driven, events = self._reference.play(levels[front : front + MOST_LEVELS])
+            self.events += [(before + front + place, event) for place, event in events]
+            self.drove += driven
+        return self.drove[before:]
+
+    # what is asked of the reference
+
+    def state(self) -> State:
+        """Where the controller is now. The reference plays the scene again before it goes on."""
+        self._resume()
+        state = self._reference.end()
+        if state is None:
+            raise ValueError("the reference does not tell its counters")
+        self._is_playing = False
+        return state
+
+    def _resume(self) -> None:
+        if self._is_playing:
+            return
+        self._is_playing = True
+        self._reference.begin(self.case.name, self.case.start)
+        handed: List[Tuple[int, str, object]] = [(time, "offer", frame) for time, frame in self.case.offers]
+        handed += [(time, "hold", wish) for time, wish in self.case.holds]
+        levels = list(self.case.levels)
+        for time in self.case.forced:
+            levels[time] = "f"
+        marks = sorted({time for time, _, _ in handed} | {self.time})
+        time = 0
+        for mark in marks:
+            for front in range(time, mark, MOST_LEVELS):
+                self._reference.play("".join(levels[front : min(mark, front + MOST_LEVELS)]))
+            for at, word, value in handed:
+                if at == mark and word == "offer":
+                    self._reference.offer(str(value))
+                elif at == mark:
+                    self._reference.hold(int(str(value)))
+            time = mark
+
+    @property
+    def tec(self) -> int:
+        return self.state()[1]
+
+    @property
+    def rec(self) -> int:
+        return self.state()[2]
+
+    # frames of the tester
+
+    def receive(
+        self,
+        frame: str,
+        offers: Sequence[str] = (),
+        upto: Optional[int] = None,
+        wire: Optional[Wire] = None,
+        hold: Optional[int] = None,
+    ) -> Wire:
+        """The tester sends a frame, the ACK slot recessive, or its levels before the place `upto`. Frames are
+        offered, or overload frames asked for, in its eighth level."""
+        wire = wire or Frame.parse(frame).wire()
+        levels = wire.levels[:upto]
+        self.play(levels[:OFFER_PLACE], f"sends {frame}")
+        for other in offers:
+            self.offer(other)
+        if hold is not None:
+            self.hold(hold)
+        self.play(levels[OFFER_PLACE:])
+        return wire
+
+    def anchor(self, *offers: str) -> None:
+        """A frame of the tester and its intermission; the frames that are offered in it begin behind."""
+        self.receive(ANCHOR.text(), offers)
+        self.rest(3, "intermission")
+
+    # frames of the controller
+
+    def wait(self, comment: str = "waits for the start of a frame") -> None:
+        """Recessive levels until the controller would begin a frame, without the level in which it does."""
+        self._resume()
+        for waited in range(LONGEST_WAIT):
+            driven, events = self._reference.play("1")
+            if driven == "0":
+                # that bit time belongs to the frame: it is played anew
+                self._reference.end()
+                self._is_playing = False
+                return
+            self._add("1", comment if waited == 0 else "")
+            self.events += [(self.time, event) for _, event in events]
+            self.drove += driven
+        raise ValueError(f"{self.case.name}: no frame begins")
+
+    def sending(self, frame: str, upto: Optional[int] = None, comment: str = "") -> Wire:
+        """The controller sends this frame from now on: the tester listens, and acknowledges, up to a place."""
+        wire = Frame.parse(frame).wire()
+        slot = wire.place("ack")
+        levels = ("1" * slot + "0" + "1" * 8)[:upto]
+        driven = self.play(levels, comment or f"listens to {frame}")
+        if driven.startswith("1"):
+            raise ValueError(f"{self.case.name}: {frame} does not begin")
+        return wire
+
+    def sent(self, frame: str) -> None:
+        """The controller sends this frame whole, with its intermission."""
+        self.sending(frame)
+        if (self.time - 1, f"sent {frame}") not in self.events:
+            raise ValueError(f"{self.case.name}: {frame} is not sent")
+        self.rest(3)
+
+    # errors
+
+    def stuff_error(self) -> None:
+        """Six dominant levels to an idle controller."""
+        self.play("000000", "a stuff error")
+
+    def recover(self, comment: str = "flag, delimiter, intermission") -> None:
+        """Recessive levels for a flag of six levels, a delimiter and an intermission."""
+        self.rest(6 + 8 + 3, comment)
+
+    def behind_flag(self, dominant: int) -> None:
+        """A flag of six levels, so many dominant levels behind it, a delimiter and an intermission."""
+        self.rest(6, "the flag")
+        self.play("0" * dominant, f"{dominant} dominant levels behind the flag" if dominant else "")
+        self.rest(8 + 3, "delimiter, intermission")
+
+    # the whole case
+
+    def needed(self) -> List[str]:
+        """What a bench must be able to do."""
+        needs = set()
+        if self.case.forced:
+            needs.add("forced")
+        if self.case.holds:
+            needs.add("hold")
+        if any(event == "recovered" for _, event in self.events):
+            needs.add("recovery")
+        for count, (time, _) in enumerate(self.case.offers, start=1):
+            sent = sum(1 for at, event in self.events if at < time and event.startswith("sent "))
+            if count - sent > 1:
+                needs.add("queue")
+        return [need for need in NEEDS if need in needs]
+
+    def finished(self, choices: Sequence[str] = ()) -> Tuple[Case, Transcript]:
+        self.case.needs = self.needed()
+        self.case.choices = list(choices)
+        return self.case, Transcript(self.case.name, self.drove, self.events or None, None, self.state())

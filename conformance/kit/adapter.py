@@ -1,0 +1,137 @@
+"""Talks with an adapter, a program that has the controller under test inside or behind it, in lines."""
+
+from __future__ import annotations
+
+import os
+import selectors
+import subprocess
+import time
+from typing import List, Optional, Sequence, Tuple
+
+from kit.documents import Event, State, is_event
+
+LONGEST_LINE = 8192
+MOST_LEVELS = 4096
+GREETING_SECONDS = 60.0
+ANSWER_SECONDS = 10.0
+SECONDS_A_LEVEL = 0.001
+
+
+class Void(Exception):
+    """The case can't be judged. The reason is the exception's text."""
+
+
+class Skip(Exception):
+    """The adapter does not play the case. The reason is the exception's text."""
+
+
+class Adapter:
+    """A running adapter. After a Void it has to be closed, and another one started."""
+
+    def __init__(self, command: Sequence[str]) -> None:
+        self._process = subprocess.Popen(list(command), stdin=subprocess.PIPE, stdout=subprocess.PIPE)
+        self._selector = selectors.DefaultSelector()
+        assert self._process.stdout is not None
+        self._output = self._process.stdout.fileno()
+        self._selector.register(self._output, selectors.EVENT_READ)
+        self._pending = b""
+        try:
+            self.name = self._greeting()
+        except Void:
+            self.close()
+            raise
+
+    def _greeting(self) -> str:
+        words = self._read_line(time.monotonic() + GREETING_SECONDS).split(" ", 2)
+        if words[:2] != ["can-kit", "1"] or len(words) != 3:
+            raise Void("protocol")
+        return words[2]
+
+    def _read_line(self, deadline: float) -> str:
+        while b"\n" not in self._pending:
+            if len(self._pending) > LONGEST_LINE:
+                raise Void("protocol")
+            if not self._selector.select(max(0.0, deadline - time.monotonic())):
+                raise Void("time-out")
+            read = os.read(self._output, 65536)
+            if not read:
+                raise Void("ended")
+            self._pending += read
+        line, _, self._pending = self._pending.partition(b"\n")
+        if len(line) >= LONGEST_LINE or not line.isascii():
+            raise Void("protocol")
+        text = line.decode("ascii")
+        if text.startswith("error ") or text == "error":
+            raise Void(text)
+        return text
+
+    def _write_line(self, line: str) -> None:
+        assert self._process.stdin is not None
+        try:
+            self._process.stdin.write(line.encode("ascii") + b"\n")
+            self._process.stdin.flush()
+        except (BrokenPipeError, OSError):
+            raise Void("ended") from None
+
+    def begin(self, name: str, start: str) -> None:
+        """A new controller for this case. Raises Skip where the adapter does not play it."""
+        self._write_line(f"case {name} {start}")
+        answer = self._read_line(time.monotonic() + ANSWER_SECONDS)
+        if answer.startswith("skip "):
+            raise Skip(answer[len("skip ") :])
+        if answer != "ready":
+            raise Void("protocol")
+
+    def offer(self, frame: str) -> None:
+        self._write_line(f"offer {frame}")
+
+    def hold(self, wish: int) -> None:
+        self._write_line(f"hold {wish}")
+
+    def play(self, levels: str) -> Tuple[str, List[Event]]:
+        """Plays 1 to 4096 levels of `0`, `1` and `f`: what was driven, and the events by their place."""
+        self._write_line(f"play {levels}")
+        deadline = time.monotonic() + ANSWER_SECONDS + SECONDS_A_LEVEL * len(levels)
+        events: List[Event] = []
+        while True:
+            word, _, rest = self._read_line(deadline).partition(" ")
+            if word != "event":
+                break
+            place, _, event = rest.partition(" ")
+            last = events[-1][0] if events else -1
+            if not place.isdigit() or not last < int(place) < len(levels) or not is_event(event):
+                raise Void("protocol")
+            events.append((int(place), event))
+        if word != "drove" or len(rest) != len(levels) or rest.strip("01"):
+            raise Void("protocol")
+        return rest, events
+
+    def end(self) -> Optional[State]:
+        """The state behind the last bit time; None where the adapter does not know it."""
+        self._write_line("end")
+        words = self._read_line(time.monotonic() + ANSWER_SECONDS).split(" ")
+        if words == ["state", "unknown"]:
+            return None
+        good = len(words) == 4 and words[0] == "state" and words[1] in ("active", "passive", "off")
+        if not good or not (words[2].isdigit() and words[3].isdigit()):
+            raise Void("protocol")
+        return words[1], int(words[2]), int(words[3])
+
+    def close(self) -> None:
+        """Asks the adapter to end, and ends it where it does not."""
+        try:
+            self._write_line("quit")
+        except Void:
+            pass
+        assert self._process.stdin is not None and self._process.stdout is not None
+        try:
+            self._process.stdin.close()
+        except OSError:
+            pass
+        try:
+            self._process.wait(timeout=2.0)
+        except subprocess.TimeoutExpired:
+            self._process.kill()
+            self._process.wait()
+        self._selector.close()
+        self._process.stdout.close()

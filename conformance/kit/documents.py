@@ -1,0 +1,282 @@
+"""Kit documents: cases and transcripts, how they are read and written."""
+
+from __future__ import annotations
+
+import re
+from dataclasses import dataclass, field
+from typing import Any, Callable, Dict, Iterable, List, Optional, Tuple
+
+from kit.frames import Frame
+from kit.levels import read_levels, write_levels
+
+try:
+    from tomllib import loads
+except ImportError:  # Python before 3.11
+    from kit.toml_subset import loads
+
+NEEDS = ("forced", "hold", "queue", "recovery")
+CHOICES = (
+    "reserved-levels",
+    "stuff-exception",
+    "own-start",
+    "flag-error-once",
+    "own-overload",
+    "rec-127",
+    "recovery-by-itself",
+    "recovery-rows",
+    "prompt",
+)
+MOST_CASES = 4096
+MOST_BITS = 100_000
+
+_CASE_KEYS = ("version", "name", "family", "purpose", "start", "needs", "choices", "bits", "tester", "offers", "holds", "forced")
+_TRANSCRIPT_KEYS = ("version", "case", "drove", "events", "counters", "end")
+_NAME = re.compile(r"[a-z0-9-]{1,80}")
+_FAMILY = re.compile(r"[a-z0-9-]{1,40}")
+_PLAIN_EVENTS = ("lost", "overload", "off", "recovered")
+_ERROR_KINDS = ("stuff", "bit", "form", "crc", "ack")
+
+Event = Tuple[int, str]
+State = Tuple[str, int, int]
+
+
+class DocumentFault(Exception):
+    """The first field of a document that is wrong, as `P2 case[3].bits`."""
+
+    def __init__(self, place: str) -> None:
+        super().__init__(f"P2 {place}")
+
+
+@dataclass
+class Case:
+    """One test: what the tester drives, and what the controller is handed."""
+
+    name: str
+    family: str
+    tester: List[Tuple[str, str]]
+    purpose: str = ""
+    start: str = "idle"
+    needs: List[str] = field(default_factory=list)
+    choices: List[str] = field(default_factory=list)
+    offers: List[Tuple[int, str]] = field(default_factory=list)
+    holds: List[Tuple[int, int]] = field(default_factory=list)
+    forced: List[int] = field(default_factory=list)
+
+    @property
+    def levels(self) -> str:
+        return "".join(levels for levels, _ in self.tester)
+
+
+@dataclass
+class Transcript:
+    """What a controller did in a case. What is None was not told."""
+
+    case: str
+    drove: str
+    events: Optional[List[Event]] = None
+    counters: Optional[List[Tuple[int, int, int]]] = None
+    end: Optional[State] = None
+
+
+def is_frame(text: Any) -> bool:
+    try:
+        return isinstance(text, str) and Frame.parse(text) is not None
+    except ValueError:
+        return False
+
+
+def is_event(text: Any) -> bool:
+    if not isinstance(text, str):
+        return False
+    word, _, rest = text.partition(" ")
+    if word in ("sent", "received"):
+        return is_frame(rest)
+    return text in _PLAIN_EVENTS or word == "error" and rest in _ERROR_KINDS
+
+
+# Reading
+
+
+def _require(holds: bool, place: str) -> None:
+    if not holds:
+        raise DocumentFault(place)
+
+
+def _is_number(value: Any, least: int, most: int) -> bool:
+    return isinstance(value, int) and not isinstance(value, bool) and least <= value <= most
+
+
+def _strings(values: Any, known: Iterable[str]) -> bool:
+    order = list(known)
+    if not isinstance(values, list) or not all(value in order for value in values):
+        return False
+    places = [order.index(value) for value in values]
+    return all(one < other for one, other in zip(places, places[1:]))
+
+
+def _levels_of(strings: Any, place: str, most: int) -> List[Tuple[str, str]]:
+    _require(isinstance(strings, list) and 1 <= len(strings) <= most, place)
+    read = []
+    for index, text in enumerate(strings):
+        try:
+            read.append((read_levels(text), ""))
+        except (ValueError, AttributeError):
+            raise DocumentFault(f"{place}[{index}]") from None
+    return read
+
+
+def _rows(
+    table: Dict[str, Any], key: str, place: str, most: int, fits: Callable[[List[Any]], bool], strictly: bool
+) -> List[Any]:
+    """Rows of a list whose first element is a time below the case's bits; the times don't fall."""
+    rows = table.get(key, [])
+    _require(isinstance(rows, list) and len(rows) <= most, f"{place}.{key}")
+    last = -1 if strictly else 0
+    for index, row in enumerate(rows):
+        good = isinstance(row, list) and bool(row) and _is_number(row[0], 0, MOST_BITS) and fits(row)
+        _require(good and (row[0] > last if strictly else row[0] >= last), f"{place}.{key}[{index}]")
+        last = row[0]
+    return [tuple(row) for row in rows]
+
+
+def _read_case(table: Any, place: str, names: Dict[str, Case]) -> Case:
+    _require(isinstance(table, dict), place)
+    _require(all(key in _CASE_KEYS for key in table), f"{place}.key")
+    _require(_is_number(table.get("version"), 1, 1), f"{place}.version")
+    family, name = table.get("family"), table.get("name")
+    _require(isinstance(family, str) and _FAMILY.fullmatch(family) is not None, f"{place}.family")
+    good = isinstance(name, str) and _NAME.fullmatch(name) is not None and name not in names
+    _require(good and str(name).startswith(f"{family}-"), f"{place}.name")
+    purpose = table.get("purpose", "")
+    good = isinstance(purpose, str) and len(purpose.encode()) <= 200 and "\n" not in purpose
+    _require(good, f"{place}.purpose")
+    _require(table.get("start") in ("idle", "joining"), f"{place}.start")
+    needs, choices = table.get("needs", []), table.get("choices", [])
+    _require(_strings(needs, NEEDS), f"{place}.needs")
+    good = isinstance(choices, list) and all(choice in CHOICES for choice in choices)
+    _require(good, f"{place}.choices")
+    bits = table.get("bits")
+    _require(_is_number(bits, 1, MOST_BITS), f"{place}.bits")
+    tester = _levels_of(table.get("tester"), f"{place}.tester", 4096)
+    case = Case(str(name), str(family), tester, purpose, table["start"], needs, choices)
+    _require(len(case.levels) == bits, f"{place}.tester")
+    within = lambda row: row[0] < len(case.levels)  # noqa: E731
+    case.offers = _rows(
+        table, "offers", place, 256, lambda row: within(row) and len(row) == 2 and is_frame(row[1]), False
+    )
+    case.holds = _rows(
+        table, "holds", place, 256, lambda row: within(row) and len(row) == 2 and _is_number(row[1], 0, 2), False
+    )
+    forced = table.get("forced", [])
+    _require(isinstance(forced, list) and len(forced) <= 4096, f"{place}.forced")
+    for index, time in enumerate(forced):
+        good = _is_number(time, 0, len(case.levels) - 1) and case.levels[time] == "1"
+        _require(good and (index == 0 or time > forced[index - 1]), f"{place}.forced[{index}]")
+    case.forced = forced
+    asked = ("forced" in needs or not forced) and ("hold" in needs or not case.holds)
+    _require(asked, f"{place}.needs")
+    return case
+
+
+def _read_transcript(table: Any, place: str, names: Dict[str, Case], seen: Dict[str, Any]) -> Transcript:
+    _require(isinstance(table, dict), place)
+    _require(all(key in _TRANSCRIPT_KEYS for key in table), f"{place}.key")
+    _require(_is_number(table.get("version"), 1, 1), f"{place}.version")
+    name = table.get("case")
+    _require(isinstance(name, str) and name in names and name not in seen, f"{place}.case")
+    drove = "".join(levels for levels, _ in _levels_of(table.get("drove"), f"{place}.drove", 4096))
+    _require(len(drove) <= MOST_BITS, f"{place}.drove")
+    transcript = Transcript(str(name), drove)
+    if "events" in table:
+        rows = _rows(table, "events", place, MOST_BITS, lambda row: len(row) == 2 and is_event(row[1]), True)
+        transcript.events = rows
+    if "counters" in table:
+        fits = lambda row: len(row) == 3 and all(_is_number(it, 0, 300) for it in row[1:])  # noqa: E731
+        transcript.counters = _rows(table, "counters", place, MOST_BITS, fits, True)
+    if "end" in table:
+        end = table["end"]
+        good = isinstance(end, list) and len(end) == 3 and end[0] in ("active", "passive", "off")
+        _require(good and all(_is_number(it, 0, 300) for it in end[1:]), f"{place}.end")
+        transcript.end = (end[0], end[1], end[2])
+    return transcript
+
+
+def read_document(text: str, known: Iterable[Case] = ()) -> Tuple[List[Case], List[Transcript]]:
+    """The cases and transcripts of a document; transcripts may also name the cases that are known.
+
+    Raises DocumentFault for the first field that is wrong.
+    """
+    try:
+        document = loads(text)
+    except ValueError:
+        raise DocumentFault("toml") from None
+    _require(all(key in ("case", "transcript") for key in document), "key")
+    for key in ("case", "transcript"):
+        rows = document.get(key, [])
+        _require(isinstance(rows, list) and len(rows) <= MOST_CASES, key)
+    names: Dict[str, Case] = {}
+    for index, table in enumerate(document.get("case", [])):
+        case = _read_case(table, f"case[{index}]", names)
+        names[case.name] = case
+    reachable = {**{case.name: case for case in known}, **names}
+    transcripts: Dict[str, Transcript] = {}
+    for index, table in enumerate(document.get("transcript", [])):
+        transcript = _read_transcript(table, f"transcript[{index}]", reachable, transcripts)
+        transcripts[transcript.case] = transcript
+    return list(names.values()), list(transcripts.values())
+
+
+# Writing
+
+
+def _array(values: Iterable[str]) -> str:
+    return "[" + ", ".join(values) + "]"
+
+
+def _long_array(key: str, values: List[str]) -> List[str]:
+    if not values:
+        return [f"{key} = []"]
+    return [f"{key} = ["] + [f"    {value}," for value in values] + ["]"]
+
+
+def _quoted(text: str) -> str:
+    return '"' + text.replace("\\", "\\\\").replace('"', '\\"') + '"'
+
+
+def write_case(case: Case) -> str:
+    """The case as a table of a document, each string of levels with its place and comment."""
+    lines = ["[[case]]", "version = 1", f"name = {_quoted(case.name)}", f"family = {_quoted(case.family)}"]
+    if case.purpose:
+        lines.append(f"purpose = {_quoted(case.purpose)}")
+    lines.append(f"start = {_quoted(case.start)}")
+    for key, words in (("needs", case.needs), ("choices", case.choices)):
+        if words:
+            lines.append(f"{key} = {_array(map(_quoted, words))}")
+    lines += [f"bits = {len(case.levels)}", "tester = ["]
+    time = 0
+    for levels, comment in case.tester:
+        note = f"  # {time}: {comment}" if comment else ""
+        lines.append(f"    {_quoted(write_levels(levels))},{note}")
+        time += len(levels)
+    lines.append("]")
+    if case.offers:
+        lines += _long_array("offers", [f"[{time}, {_quoted(frame)}]" for time, frame in case.offers])
+    if case.holds:
+        lines.append(f"holds = {_array(f'[{time}, {wish}]' for time, wish in case.holds)}")
+    if case.forced:
+        lines.append(f"forced = {_array(map(str, case.forced))}")
+    return "\n".join(lines) + "\n"
+
+
+def write_transcript(transcript: Transcript) -> str:
+    """The transcript as a table of a document; what was not told is left out."""
+    lines = ["[[transcript]]", "version = 1", f"case = {_quoted(transcript.case)}"]
+    lines.append(f"drove = [{_quoted(write_levels(transcript.drove))}]")
+    if transcript.events is not None:
+        lines += _long_array("events", [f"[{time}, {_quoted(event)}]" for time, event in transcript.events])
+    if transcript.counters is not None:
+        lines.append(f"counters = {_array(f'[{time}, {tec}, {rec}]' for time, tec, rec in transcript.counters)}")
+    if transcript.end is not None:
+        state, tec, rec = transcript.end
+        lines.append(f"end = [{_quoted(state)}, {tec}, {rec}]")
+    return "\n".join(lines) + "\n"

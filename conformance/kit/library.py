@@ -1,0 +1,40 @@
+"""The cases and transcripts of files and folders."""
+
+from __future__ import annotations
+
+import glob
+import os
+from typing import Dict, Iterable, List, Tuple
+
+from kit.documents import Case, DocumentFault, Transcript, read_document
+
+FOLDER = os.path.join(os.path.dirname(os.path.dirname(os.path.realpath(__file__))), "cases")
+
+
+def _files(path: str) -> List[str]:
+    if os.path.isdir(path):
+        return sorted(glob.glob(os.path.join(glob.escape(path), "*.toml")))
+    return [path]
+
+
+def read_library(paths: Iterable[str]) -> Tuple[List[Case], Dict[str, Transcript]]:
+    """All cases of these files and folders, and the transcripts by the names of their cases.
+
+    Raises DocumentFault with the file in front, or OSError.
+    """
+    cases: Dict[str, Case] = {}
+    transcripts: Dict[str, Transcript] = {}
+    for file in [file for path in paths for file in _files(path)]:
+        with open(file, encoding="utf-8") as opened:
+            text = opened.read()
+        try:
+            more, told = read_document(text, cases.values())
+        except DocumentFault as fault:
+            fault.args = (f"{file}: {fault}",)
+            raise
+        for case in more:
+            if case.name in cases:
+                raise ValueError(f"{file}: there is another case {case.name}")
+            cases[case.name] = case
+        transcripts.update({transcript.case: transcript for transcript in told})
+    return list(cases.values()), transcripts

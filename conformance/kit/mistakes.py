@@ -1,0 +1,81 @@
+"""Mistakes of a controller: named changes of an adapter's source, and how each is built.
+
+A file of mistakes has blocks parted by blank lines:
+
+    mistake suspend-7
+    what suspend of seven levels
+    family suspend
+    shows levels
+    - can->place == 8
+    + can->place == 7
+
+The lines behind `-` stand once in the source, one behind another, their indentation left out; those behind `+` come
+in their place. There may be several such changes. `shows` is `levels`, `events`, `counters` or `nothing`.
+"""
+
+from __future__ import annotations
+
+from dataclasses import dataclass, field
+from typing import List, Tuple
+
+SHOWS = ("levels", "events", "counters", "nothing")
+
+
+@dataclass
+class Mistake:
+    """One change of a correct controller."""
+
+    name: str
+    source: str
+    what: str = ""
+    family: str = ""
+    shows: str = ""
+    changes: List[Tuple[List[str], List[str]]] = field(default_factory=list)
+
+    def applied(self, text: str) -> str:
+        """The source with the mistake. Raises ValueError where an old text doesn't stand there once."""
+        lines = text.split("\n")
+        for old, new in self.changes:
+            stripped = [line.strip() for line in lines]
+            found = [at for at in range(len(lines)) if stripped[at : at + len(old)] == old]
+            if len(found) != 1:
+                raise ValueError(f"{self.name}: {old[0]!r} stands {len(found)} times")
+            at = found[0]
+            lines[at : at + len(old)] = new
+        return "\n".join(lines)
+
+
+def _take(mistake: Mistake, line: str, was_new: bool) -> bool:
+    """Takes a line of a block; whether it is one behind `+`."""
+    word, _, rest = line.partition(" ")
+    if word == "-":
+        if was_new or not mistake.changes:
+            mistake.changes.append(([], []))
+        mistake.changes[-1][0].append(rest.strip())
+    elif word == "+":
+        mistake.changes[-1][1].append(rest)
+    elif word in ("what", "family", "shows"):
+        setattr(mistake, word, rest)
+    else:
+        raise ValueError(f"{mistake.name}: {line!r}")
+    return word == "+"
+
+
+def read_mistakes(text: str, source: str) -> List[Mistake]:
+    """The mistakes of a file, all of one source."""
+    mistakes: List[Mistake] = []
+    was_new = False
+    for line in text.split("\n"):
+        if not line.strip() or line.startswith("#"):
+            continue
+        if line.startswith("mistake "):
+            mistakes.append(Mistake(line.split(" ", 1)[1], source))
+            was_new = False
+        else:
+            was_new = _take(mistakes[-1], line, was_new)
+    for mistake in mistakes:
+        if not (mistake.what and mistake.family and mistake.changes) or mistake.shows not in SHOWS:
+            raise ValueError(f"{mistake.name}: a line is missing")
+    if len({mistake.name for mistake in mistakes}) < len(mistakes):
+        raise ValueError("two mistakes have one name")
+    return mistakes

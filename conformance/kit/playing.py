@@ -1,0 +1,44 @@
+"""Plays a case against an adapter: what was driven and told is its transcript."""
+
+from __future__ import annotations
+
+from typing import Iterator, List, Tuple
+
+from kit.adapter import MOST_LEVELS, Adapter
+from kit.documents import Case, Event, Transcript
+
+
+def seen_levels(case: Case) -> str:
+    """The tester's levels as the protocol has them, `f` where a bit time is forced."""
+    levels = list(case.levels)
+    for time in case.forced:
+        levels[time] = "f"
+    return "".join(levels)
+
+
+def cuts(case: Case, batch: int = MOST_LEVELS) -> Iterator[Tuple[int, int]]:
+    """Fronts and ends of the `play` lines: cut at each offer and wish, none longer than the batch."""
+    marks = {time for time, _ in case.offers} | {time for time, _ in case.holds}
+    time, bits = 0, len(case.levels)
+    while time < bits:
+        later = [mark for mark in marks if mark > time]
+        end = min([time + batch, bits] + later)
+        yield time, end
+        time = end
+
+
+def play(case: Case, adapter: Adapter, batch: int = MOST_LEVELS) -> Transcript:
+    """Plays the case on a new controller. Raises Skip or Void."""
+    adapter.begin(case.name, case.start)
+    levels = seen_levels(case)
+    drove: List[str] = []
+    events: List[Event] = []
+    for time, end in cuts(case, batch):
+        for _, frame in (offer for offer in case.offers if offer[0] == time):
+            adapter.offer(frame)
+        for _, wish in (hold for hold in case.holds if hold[0] == time):
+            adapter.hold(wish)
+        driven, told = adapter.play(levels[time:end])
+        drove.append(driven)
+        events += [(time + place, event) for place, event in told]
+    return Transcript(case.name, "".join(drove), events or None, None, adapter.end())

@@ -1,0 +1,82 @@
+"""What a run says: verdicts, a summary by family, and a report in JUnit's XML."""
+
+from __future__ import annotations
+
+import xml.etree.ElementTree as xml
+from dataclasses import dataclass
+from typing import Dict, Iterable, List
+
+from kit.documents import Case
+
+KINDS = ("pass", "fail", "void", "skip")
+_WORDS = {"pass": "passed", "fail": "failed", "void": "void", "skip": "skipped"}
+
+
+@dataclass(frozen=True)
+class Verdict:
+    """What is said of one case. `played` is the kind where nothing was there to compare with."""
+
+    case: Case
+    kind: str
+    detail: str = ""
+    seconds: float = 0.0
+
+    def line(self) -> str:
+        if self.kind == "fail":
+            note = f" ; choice {', '.join(self.case.choices)}" if self.case.choices else ""
+            return f"fail {self.case.name} at {self.detail}{note}"
+        return f"{self.kind} {self.case.name}" + (f": {self.detail}" if self.detail else "")
+
+
+def count_line(verdicts: Iterable[Verdict]) -> str:
+    """The last line of a run: how many of each kind there are."""
+    kinds = [verdict.kind for verdict in verdicts]
+    counts = [f"{_WORDS[kind]} {kinds.count(kind)}" for kind in KINDS]
+    if "played" in kinds:
+        counts.append(f"played {kinds.count('played')}")
+    return f"{' '.join(counts)} of {len(kinds)}"
+
+
+def summary_lines(verdicts: Iterable[Verdict]) -> List[str]:
+    """A line for each family, in the order of its first case."""
+    families: Dict[str, List[Verdict]] = {}
+    for verdict in verdicts:
+        families.setdefault(verdict.case.family, []).append(verdict)
+    width = max(map(len, families), default=0)
+    return [f"  {name:{width}}  {count_line(of)}" for name, of in families.items()]
+
+
+def exit_status(verdicts: Iterable[Verdict]) -> int:
+    """0 where all passed or were skipped, 1 where one failed, 3 where one is void."""
+    kinds = {verdict.kind for verdict in verdicts}
+    if "void" in kinds:
+        return 3
+    return 1 if "fail" in kinds else 0
+
+
+def write_junit(path: str, name: str, verdicts: List[Verdict]) -> None:
+    """Each family is a class, each case a test."""
+    kinds = [verdict.kind for verdict in verdicts]
+    suite = xml.Element(
+        "testsuite",
+        name=name,
+        tests=str(len(kinds)),
+        failures=str(kinds.count("fail")),
+        errors=str(kinds.count("void")),
+        skipped=str(kinds.count("skip")),
+        time=f"{sum(verdict.seconds for verdict in verdicts):.3f}",
+    )
+    for verdict in verdicts:
+        test = xml.SubElement(
+            suite,
+            "testcase",
+            classname=verdict.case.family,
+            name=verdict.case.name,
+            time=f"{verdict.seconds:.3f}",
+        )
+        element = {"fail": "failure", "void": "error", "skip": "skipped"}.get(verdict.kind)
+        if element is not None:
+            xml.SubElement(test, element, message=verdict.line()).text = verdict.case.purpose
+    root = xml.Element("testsuites")
+    root.append(suite)
+    xml.ElementTree(root).write(path, encoding="utf-8", xml_declaration=True)

@@ -1,0 +1,68 @@
+"""Plays many cases: an adapter that made a case void is ended, and started anew for the next one."""
+
+from __future__ import annotations
+
+import time
+from typing import Iterable, Iterator, Optional, Sequence, Tuple
+
+from kit.adapter import MOST_LEVELS, Adapter, Skip, Void
+from kit.documents import Case, Transcript
+from kit.playing import play
+
+MOST_VOIDS = 3
+
+
+class Stopped(Exception):
+    """Three cases in a row were void."""
+
+
+class Played:
+    """A case that was played, or why it wasn't."""
+
+    def __init__(self, case: Case, transcript: Optional[Transcript], kind: str, detail: str, seconds: float) -> None:
+        self.case, self.transcript, self.kind, self.detail, self.seconds = case, transcript, kind, detail, seconds
+
+
+class Session:
+    """An adapter's command, and the adapter while one runs."""
+
+    def __init__(self, command: Sequence[str], without: Sequence[str] = (), batch: int = MOST_LEVELS) -> None:
+        self._command, self._without, self._batch = command, without, batch
+        self._adapter: Optional[Adapter] = None
+        self._voids = 0
+
+    def __enter__(self) -> Session:
+        return self
+
+    def __exit__(self, *_: object) -> None:
+        self._close()
+
+    def _close(self) -> None:
+        if self._adapter is not None:
+            self._adapter.close()
+            self._adapter = None
+
+    def _play(self, case: Case) -> Tuple[Optional[Transcript], str, str]:
+        lacking = [need for need in case.needs if need in self._without]
+        if lacking:
+            return None, "skip", ", ".join(lacking)
+        try:
+            if self._adapter is None:
+                self._adapter = Adapter(self._command)
+            transcript = play(case, self._adapter, self._batch)
+        except Skip as reason:
+            return None, "skip", str(reason)
+        except (Void, OSError) as reason:
+            self._close()
+            return None, "void", str(reason)
+        return transcript, "played", ""
+
+    def play_all(self, cases: Iterable[Case]) -> Iterator[Played]:
+        """Each case in turn. Raises Stopped behind the third void in a row."""
+        for case in cases:
+            begun = time.monotonic()
+            transcript, kind, detail = self._play(case)
+            yield Played(case, transcript, kind, detail, time.monotonic() - begun)
+            self._voids = self._voids + 1 if kind == "void" else 0
+            if self._voids == MOST_VOIDS:
+                raise Stopped

@@ -1,0 +1,83 @@
+"""Reads the part of TOML that kit documents use, for Python before 3.11: arrays of tables, and keys with
+strings, whole numbers and arrays of them."""
+
+from __future__ import annotations
+
+import re
+from typing import Any, Dict, List, Tuple
+
+_BLANK = re.compile(r"(?:[ \t\r\n]|#[^\n]*)*")
+_HEADER = re.compile(r"\[\[[ \t]*([A-Za-z0-9_-]+)[ \t]*\]\]")
+_KEY = re.compile(r"([A-Za-z0-9_-]+)[ \t]*=[ \t]*")
+_LINE_END = re.compile(r"[ \t]*(?:#[^\n]*)?\r?(?:\n|$)")
+_BASIC = re.compile(r'"((?:[^"\\\n]|\\["\\bfnrt])*)"')
+_LITERAL = re.compile(r"'([^'\n]*)'")
+_NUMBER = re.compile(r"[+-]?(?:0|[1-9][0-9]*)")
+_ESCAPE = re.compile(r"\\(.)")
+_ESCAPES = {'"': '"', "\\": "\\", "b": "\b", "f": "\f", "n": "\n", "r": "\r", "t": "\t"}
+
+
+def loads(text: str) -> Dict[str, Any]:
+    """The document as a dictionary. Raises ValueError where the text is none."""
+    document: Dict[str, Any] = {}
+    table = document
+    at = _skip(text, 0)
+    while at < len(text):
+        header = _HEADER.match(text, at)
+        if header is not None:
+            table = {}
+            document.setdefault(header.group(1), []).append(table)
+            at = _end_line(text, header.end())
+        else:
+            at = _read_pair(text, at, table)
+        at = _skip(text, at)
+    return document
+
+
+def _skip(text: str, at: int) -> int:
+    blank = _BLANK.match(text, at)
+    return blank.end() if blank else at
+
+
+def _end_line(text: str, at: int) -> int:
+    end = _LINE_END.match(text, at)
+    if end is None:
+        raise ValueError(f"something stands behind a value, at {at}")
+    return end.end()
+
+
+def _read_pair(text: str, at: int, table: Dict[str, Any]) -> int:
+    key = _KEY.match(text, at)
+    if key is None or key.group(1) in table:
+        raise ValueError(f"no key of its own at {at}")
+    table[key.group(1)], at = _read_value(text, key.end())
+    return _end_line(text, at)
+
+
+def _read_value(text: str, at: int) -> Tuple[Any, int]:
+    if text.startswith("[", at):
+        return _read_array(text, at + 1)
+    basic = _BASIC.match(text, at)
+    if basic is not None:
+        return _ESCAPE.sub(lambda it: _ESCAPES[it.group(1)], basic.group(1)), basic.end()
+    literal = _LITERAL.match(text, at)
+    if literal is not None:
+        return literal.group(1), literal.end()
+    number = _NUMBER.match(text, at)
+    if number is not None:
+        return int(number.group()), number.end()
+    raise ValueError(f"no value at {at}")
+
+
+def _read_array(text: str, at: int) -> Tuple[List[Any], int]:
+    values: List[Any] = []
+    at = _skip(text, at)
+    while not text.startswith("]", at):
+        value, at = _read_value(text, at)
+        values.append(value)
+        at = _skip(text, at)
+        if text.startswith(",", at):
+            at = _skip(text, at + 1)
+        elif not text.startswith("]", at):
+            raise ValueError(f"no end of an array at {at}")
+    return values, at + 1
