@@ -289,11 +289,11 @@ pub enum ErrorKind {
     Acknowledgement,
 }
 
-/// What a bit time tells.
+/// What a bit time tells. The frame of the first two is the controller's `frame`.
 #[derive(Clone, Copy)]
 pub enum Event {
-    Sent(Frame),
-    Received(Frame),
+    Sent,
+    Received,
     Lost,
     Error(ErrorKind),
     Overload,
@@ -308,7 +308,7 @@ pub struct Controller {
     sending: Option<(Frame, Vec<Level>)>,
     /// Whether the CRC sequence that was heard is right, and the frame.
     agrees: bool,
-    frame: Option<Frame>,
+    pub frame: Option<Frame>,
     pub counters: Counters,
     pub overloads_wanted: u32,
     overloads_used: u32,
@@ -332,6 +332,7 @@ impl Controller {
         self.counters.state() != State::Active
     }
 
+    #[inline]
     fn drive(&self, waiting: Option<&Frame>) -> Level {
         match self.phase {
             Phase::Idle if waiting.is_some() => Dominant,
@@ -468,10 +469,10 @@ impl Controller {
     fn end_of_frame(&mut self, place: u32, seen: Level) -> Option<Event> {
         match (&self.sending, place, seen) {
             (Some((frame, _)), 6, Recessive) => {
-                let frame = *frame;
+                self.frame = Some(*frame);
                 self.count(Cause::FrameSent);
                 self.enter_intermission();
-                Some(Event::Sent(frame))
+                Some(Event::Sent)
             }
             (None, 6, Dominant) => self.overload(),
             (None, 6, Recessive) => self.enter_intermission(),
@@ -479,7 +480,7 @@ impl Controller {
             (sending, _, Recessive) => {
                 let is_valid = sending.is_none() && place == 5;
                 self.phase = Phase::EndOfFrame { place: place + 1 };
-                self.frame.filter(|_| is_valid).map(Event::Received)
+                is_valid.then_some(Event::Received)
             }
         }
     }
@@ -535,6 +536,7 @@ impl Controller {
     }
 
     /// A level at a controller that is on the bus, or joining.
+    #[inline]
     fn take_part(&mut self, waiting: Option<&Frame>, seen: Level) -> Option<Event> {
         match (self.phase, seen) {
             (Phase::Joining { .. }, Dominant) => self.phase = Phase::Joining { row: 0 },
@@ -592,6 +594,7 @@ impl Controller {
         None
     }
 
+    #[inline]
     fn sample(&mut self, waiting: Option<&Frame>, seen: Level) -> Option<Event> {
         let was_off = matches!(self.phase, Phase::BusOff { .. });
         let event = self.take_part(waiting, seen);
@@ -657,15 +660,17 @@ impl Port {
         }
     }
 
+    #[inline]
     pub fn drive(&self) -> Level {
         self.controller.drive(self.waiting())
     }
 
+    #[inline]
     pub fn sample(&mut self, seen: Level) -> Option<Event> {
         let waiting = self.queue.get(self.next);
         let event = self.controller.sample(waiting, seen);
-        match event {
-            Some(Event::Sent(frame)) => {
+        match (event, self.controller.frame) {
+            (Some(Event::Sent), Some(frame)) => {
                 let sent = self.queue.iter().position(|it| it.key() == frame.key());
                 if let Some(place) = sent {
                     self.queue.remove(place);
@@ -673,7 +678,7 @@ impl Port {
                 }
                 self.note(frame, true);
             }
-            Some(Event::Received(frame)) => self.note(frame, false),
+            (Some(Event::Received), Some(frame)) => self.note(frame, false),
             _ => {}
         }
         event

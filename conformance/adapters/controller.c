@@ -381,7 +381,7 @@ static enum event begin_overload_flag(struct controller *can)
     return OVERLOAD;
 }
 
-/* The level drives nothing of an own flag away: an own active flag or overload flag is a level longer. */
+/* A level of an own active flag or overload flag: dominant, or an error in the flag. */
 static enum event take_flag(struct controller *can, enum level seen)
 {
     if (seen == RECESSIVE) {

@@ -28,10 +28,11 @@ fn frame_text(frame: &Frame) -> String {
     text
 }
 
-fn event_text(event: &Event) -> String {
+fn event_text(event: Event, frame: Option<&Frame>) -> String {
+    let text = frame.map(frame_text).unwrap_or_default();
     let word = match event {
-        Event::Sent(frame) => return format!("sent {}", frame_text(frame)),
-        Event::Received(frame) => return format!("received {}", frame_text(frame)),
+        Event::Sent => return format!("sent {text}"),
+        Event::Received => return format!("received {text}"),
         Event::Lost => "lost",
         Event::Error(ErrorKind::Stuff) => "error stuff",
         Event::Error(ErrorKind::Bit) => "error bit",
@@ -58,7 +59,7 @@ fn play(port: &mut Port, levels: &str) -> Result<String, Box<dyn Error>> {
             _ => return Err("a level that is none".into()),
         };
         if let Some(event) = port.sample(seen) {
-            writeln!(told, "event {place} {}", event_text(&event))?;
+            writeln!(told, "event {place} {}", event_text(event, port.controller.frame.as_ref()))?;
         }
         drove.push(if driven == Dominant { '0' } else { '1' });
     }

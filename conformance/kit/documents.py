@@ -29,7 +29,10 @@ CHOICES = (
 MOST_CASES = 4096
 MOST_BITS = 100_000
 
-_CASE_KEYS = ("version", "name", "family", "purpose", "start", "needs", "choices", "bits", "tester", "offers", "holds", "forced")
+_CASE_KEYS = (
+    *("version", "name", "family", "purpose", "start", "needs", "choices", "bits", "tester"),
+    *("offers", "holds", "forced"),
+)
 _TRANSCRIPT_KEYS = ("version", "case", "drove", "events", "counters", "end")
 _NAME = re.compile(r"[a-z0-9-]{1,80}")
 _FAMILY = re.compile(r"[a-z0-9-]{1,40}")

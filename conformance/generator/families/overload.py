@@ -5,7 +5,7 @@ from __future__ import annotations
 from typing import List
 
 from generator.book import Book, family
-from generator.families.flags import FRAME, sender_error
+from generator.families.flags import FRAME
 from generator.probes import probe_rec, probe_tec
 from generator.scene import Scene
 from kit.frames import Frame
