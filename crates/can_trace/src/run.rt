@@ -12,7 +12,7 @@ use crate::scenario::{PortPlan, Scenario};
 use crate::sink::Sink;
 use can_bus::Bus;
 use can_frame::{Frame, Level};
-use can_node::{PlainNode, Port};
+use can_node::{PackedNode, Port};
 use std::alloc::{AllocError, Global};
 
 /// Runs the scenario and writes its report.
@@ -56,13 +56,13 @@ struct Ended {
     /// The levels that were recorded.
     levels: Vec<Level>,
     /// The ports as they ended.
-    ports: Vec<PlainNode>,
+    ports: Vec<PackedNode>,
 }
 
 /// Runs the scenario. It fails only where an allocation does.
 fn run(alloc: Global, scenario: &Scenario) -> Result<Ended, AllocError>
     ensures levels { IfOk result (λ ended. ended.levels.items ≡ recorded_levels scenario.now) }
-    ensures ports { IfOk result (λ ended. map ⟦<PlainNode as Port>⟧.port ended.ports.items ≡ (ended_bus scenario.now).ports) }
+    ensures ports { IfOk result (λ ended. map ⟦<PackedNode as Port>⟧.port ended.ports.items ≡ (ended_bus scenario.now).ports) }
     ensures quiet { OnOk result (IsQuietScenario scenario.now → span (all_frames (queues scenario.now)) ≤ scenario.now.bits →
         report scenario.now ≡ quiet_report scenario.now.bits (queues scenario.now)) }
 {
@@ -82,8 +82,8 @@ fn run(alloc: Global, scenario: &Scenario) -> Result<Ended, AllocError>
 }
 
 /// The ports as they begin.
-fn started_ports(alloc: Global, plans: &[PortPlan]) -> Result<Vec<PlainNode>, AllocError>
-    ensures { IfOk result (λ ports. map ⟦<PlainNode as Port>⟧.port ports.items ≡ map started_port_of plans.now) }
+fn started_ports(alloc: Global, plans: &[PortPlan]) -> Result<Vec<PackedNode>, AllocError>
+    ensures { IfOk result (λ ports. map ⟦<PackedNode as Port>⟧.port ports.items ≡ map started_port_of plans.now) }
 {
     let mut ports = Vec::with_capacity(alloc, plans.len())?;
     for plan in plans {
@@ -93,14 +93,14 @@ fn started_ports(alloc: Global, plans: &[PortPlan]) -> Result<Vec<PlainNode>, Al
 }
 
 /// A port as it begins.
-fn started_port(alloc: Global, plan: &PortPlan) -> Result<PlainNode, AllocError>
-    ensures { IfOk result (λ node. ⟦<PlainNode as Port>⟧.port node ≡ started_port_of plan.now) }
+fn started_port(alloc: Global, plan: &PortPlan) -> Result<PackedNode, AllocError>
+    ensures { IfOk result (λ node. ⟦<PackedNode as Port>⟧.port node ≡ started_port_of plan.now) }
 {
     let queue_room = plan.queue.len();
     let mut node = if plan.joins {
-        PlainNode::joining(alloc, queue_room, plan.log_room)?
+        PackedNode::joining(alloc, queue_room, plan.log_room)?
     } else {
-        PlainNode::new(alloc, queue_room, plan.log_room)?
+        PackedNode::new(alloc, queue_room, plan.log_room)?
     };
     offer_all(&mut node, &plan.queue);
     node.hold(plan.overloads);
