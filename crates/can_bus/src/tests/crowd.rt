@@ -1,8 +1,8 @@
 //! Many ports and many frames on a quiet bus.
 
-use super::lines::{WIRE_000, bus_of, frame, idle_ports, offer, recorded};
+use super::lines::{KINDS, WIRE_000, bus_of, frame, idle_ports, offer, recorded};
 use crate::Bus;
-use can_node::{Entry, PlainNode, Port};
+use can_node::{EitherNode, Entry, Port};
 use std::process::Abort;
 use std::test::Fail;
 
@@ -14,7 +14,7 @@ struct Waiting {
 }
 
 /// Each log names these frames, as sent where they waited, and no port has counted an error.
-fn logs_name(rt: &impl Abort, bus: &Bus<PlainNode>, ascending: &[Waiting]) -> Result<(), Fail> {
+fn logs_name(rt: &impl Abort, bus: &Bus<EitherNode>, ascending: &[Waiting]) -> Result<(), Fail> {
     for (node, port) in bus.ports().iter().enumerate() {
         assert_eq!(rt; port.counters(), (0, 0), "port {node}");
         assert_eq!(rt; port.log().len(), ascending.len(), "port {node}");
@@ -34,42 +34,47 @@ fn logs_name(rt: &impl Abort, bus: &Bus<PlainNode>, ascending: &[Waiting]) -> Re
 #[test]
 fn sixty_four_ports_take_turns(rt: HostRuntime) -> Result<(), Fail> {
     let alloc = rt.alloc();
-    let mut ascending = Vec::new(alloc);
-    for identifier in 0..64usize {
-        ascending.push(Waiting {
-            text: format!(in alloc; "S {identifier:03x} D 0")?,
-            node: 63usize.saturating_sub(identifier),
-        })?;
+    for kinds in KINDS {
+        let mut ascending = Vec::new(alloc);
+        for identifier in 0..64usize {
+            ascending.push(Waiting {
+                text: format!(in alloc; "S {identifier:03x} D 0")?,
+                node: 63usize.saturating_sub(identifier),
+            })?;
+        }
+        let mut bus = bus_of(idle_ports(alloc, kinds, 64, 1)?)?;
+        for waiting in &ascending {
+            offer(&mut bus, waiting.node, waiting.text.as_str())?;
+        }
+        let _levels = recorded(alloc, &mut bus, &[], 3194)?;
+        let last = bus.ports().first().ok_or("no port")?;
+        assert_eq!(rt; last.log().len(), 63);
+        assert_eq!(rt; recorded(alloc, &mut bus, &[], 4)?.as_str(), "1111");
+        logs_name(&rt, &bus, &ascending)?;
+        let rest = "1".repeat(alloc, 100)?;
+        assert_eq!(rt;
+            recorded(alloc, &mut bus, &[], 100)?.as_str(),
+            rest.as_str()
+        );
+        logs_name(&rt, &bus, &ascending)?;
     }
-    let mut bus = bus_of(idle_ports(alloc, 64, 1)?)?;
-    for waiting in &ascending {
-        offer(&mut bus, waiting.node, waiting.text.as_str())?;
-    }
-    let _levels = recorded(alloc, &mut bus, &[], 3194)?;
-    let last = bus.ports().first().ok_or("no port")?;
-    assert_eq!(rt; last.log().len(), 63);
-    assert_eq!(rt; recorded(alloc, &mut bus, &[], 4)?.as_str(), "1111");
-    logs_name(&rt, &bus, &ascending)?;
-    let rest = "1".repeat(alloc, 100)?;
-    assert_eq!(rt;
-        recorded(alloc, &mut bus, &[], 100)?.as_str(),
-        rest.as_str()
-    );
-    logs_name(&rt, &bus, &ascending)
+    Ok(())
 }
 
 /// The last port alone sends. Ports are wired 32 at a time, and those behind them one by one.
 #[test]
 fn the_last_port_is_wired(rt: HostRuntime) -> Result<(), Fail> {
     let alloc = rt.alloc();
-    for count in [2usize, 32, 33, 63, 64] {
-        let mut bus = bus_of(idle_ports(alloc, count, 1)?)?;
-        offer(&mut bus, count.saturating_sub(1), "S 000 D 0")?;
-        assert_eq!(rt;
-            recorded(alloc, &mut bus, &[], 50)?.as_str(),
-            WIRE_000,
-            "{count} ports"
-        );
+    for kinds in KINDS {
+        for count in [2usize, 32, 33, 63, 64] {
+            let mut bus = bus_of(idle_ports(alloc, kinds, count, 1)?)?;
+            offer(&mut bus, count.saturating_sub(1), "S 000 D 0")?;
+            assert_eq!(rt;
+                recorded(alloc, &mut bus, &[], 50)?.as_str(),
+                WIRE_000,
+                "{count} ports"
+            );
+        }
     }
     Ok(())
 }
@@ -80,31 +85,34 @@ fn the_last_port_is_wired(rt: HostRuntime) -> Result<(), Fail> {
 #[test]
 fn many_identifiers_go_in_order(rt: HostRuntime) -> Result<(), Fail> {
     let alloc = rt.alloc();
-    let mut ascending = Vec::new(alloc);
-    let uppers = [
-        0x000u32, 0x001, 0x00f, 0x0aa, 0x123, 0x3ff, 0x400, 0x555, 0x7f0, 0x7ff,
-    ];
-    for upper in uppers {
-        let lowest = upper << 18;
-        let second = lowest | 1;
-        let highest = lowest | 0x3ffff;
-        for text in [
-            format!(in alloc; "S {upper:03x} D 0")?,
-            format!(in alloc; "S {upper:03x} R 15")?,
-            format!(in alloc; "E {lowest:08x} D 1 ff")?,
-            format!(in alloc; "E {lowest:08x} R 0")?,
-            format!(in alloc; "E {second:08x} D 8 0000000000000000")?,
-            format!(in alloc; "E {highest:08x} D 2 00ff")?,
-        ] {
-            let node = ascending.len() % 3;
-            ascending.push(Waiting { text, node })?;
+    for kinds in KINDS {
+        let mut ascending = Vec::new(alloc);
+        let uppers = [
+            0x000u32, 0x001, 0x00f, 0x0aa, 0x123, 0x3ff, 0x400, 0x555, 0x7f0, 0x7ff,
+        ];
+        for upper in uppers {
+            let lowest = upper << 18;
+            let second = lowest | 1;
+            let highest = lowest | 0x3ffff;
+            for text in [
+                format!(in alloc; "S {upper:03x} D 0")?,
+                format!(in alloc; "S {upper:03x} R 15")?,
+                format!(in alloc; "E {lowest:08x} D 1 ff")?,
+                format!(in alloc; "E {lowest:08x} R 0")?,
+                format!(in alloc; "E {second:08x} D 8 0000000000000000")?,
+                format!(in alloc; "E {highest:08x} D 2 00ff")?,
+            ] {
+                let node = ascending.len() % 3;
+                ascending.push(Waiting { text, node })?;
+            }
         }
+        let mut bus = bus_of(idle_ports(alloc, kinds, 3, 20)?)?;
+        for waiting in ascending.iter().rev() {
+            offer(&mut bus, waiting.node, waiting.text.as_str())?;
+        }
+        // no frame has more than 157 levels, and an intermission three
+        let _levels = recorded(alloc, &mut bus, &[], 60 * 160)?;
+        logs_name(&rt, &bus, &ascending)?;
     }
-    let mut bus = bus_of(idle_ports(alloc, 3, 20)?)?;
-    for waiting in ascending.iter().rev() {
-        offer(&mut bus, waiting.node, waiting.text.as_str())?;
-    }
-    // no frame has more than 157 levels, and an intermission three
-    let _levels = recorded(alloc, &mut bus, &[], 60 * 160)?;
-    logs_name(&rt, &bus, &ascending)
+    Ok(())
 }

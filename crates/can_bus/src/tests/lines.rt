@@ -3,7 +3,7 @@
 use crate::{Bus, Hit};
 use can_fault::State;
 use can_frame::{Frame, Level};
-use can_node::{Entry, PlainNode, Port};
+use can_node::{EitherNode, Entry, PackedNode, PlainNode, Port};
 use std::alloc::{AllocError, Global};
 use std::process::Abort;
 use std::test::Fail;
@@ -37,15 +37,49 @@ pub fn frame(text: &str) -> Result<Frame, Fail> {
     Ok(Frame::from_text(text.as_bytes())?)
 }
 
-/// A kind of port that a table of rows can be run over.
-pub trait Kind: Port + Drop {
-    /// An idle port with room for so many frames that wait.
-    fn idle(alloc: Global, room: usize) -> Result<Self, AllocError>;
+/// Of what kinds the ports of a bus are.
+#[derive(Clone, Copy, Debug, PartialEq, Eq)]
+pub enum Kinds {
+    Plain,
+    Packed,
+    /// Plain and packed ones in turn.
+    InTurn,
 }
 
-impl Kind for PlainNode {
-    fn idle(alloc: Global, room: usize) -> Result<PlainNode, AllocError> {
-        PlainNode::new(alloc, room, LOG_ROOM)
+/// Each row holds of each of them.
+pub const KINDS: [Kinds; 3] = [Kinds::Plain, Kinds::Packed, Kinds::InTurn];
+
+impl Kinds {
+    /// Whether the port of this number holds the unstuffed levels in a register.
+    fn is_packed(self, node: usize) -> bool {
+        match self {
+            Kinds::Plain => false,
+            Kinds::Packed => true,
+            Kinds::InTurn => node % 2 == 1,
+        }
+    }
+
+    /// The port of this number, idle, with room for so many frames that wait.
+    fn idle(self, alloc: Global, node: usize, room: usize) -> Result<EitherNode, AllocError> {
+        Ok(if self.is_packed(node) {
+            EitherNode::Packed(PackedNode::new(alloc, room, LOG_ROOM)?)
+        } else {
+            EitherNode::Plain(PlainNode::new(alloc, room, LOG_ROOM)?)
+        })
+    }
+
+    /// The same of a port that joins.
+    pub fn joining(
+        self,
+        alloc: Global,
+        node: usize,
+        room: usize,
+    ) -> Result<EitherNode, AllocError> {
+        Ok(if self.is_packed(node) {
+            EitherNode::Packed(PackedNode::joining(alloc, room, LOG_ROOM)?)
+        } else {
+            EitherNode::Plain(PlainNode::joining(alloc, room, LOG_ROOM)?)
+        })
     }
 }
 
@@ -66,20 +100,24 @@ pub fn bus_of<P: Port + Drop>(ports: Vec<P>) -> Result<Bus<P>, Fail> {
 }
 
 /// So many idle ports, each with room for so many frames that wait.
-pub fn idle_ports(alloc: Global, count: usize, room: usize) -> Result<Vec<PlainNode>, AllocError> {
+pub fn idle_ports(
+    alloc: Global,
+    kinds: Kinds,
+    count: usize,
+    room: usize,
+) -> Result<Vec<EitherNode>, AllocError> {
     let mut ports = Vec::new(alloc);
-    for _ in 0..count {
-        ports.push(PlainNode::idle(alloc, room)?)?;
+    for node in 0..count {
+        ports.push(kinds.idle(alloc, node, room)?)?;
     }
     Ok(ports)
 }
 
-/// An idle port of some kind for each of these queues, offered its frames in turn. There is room for
-/// one more.
-pub fn queued_bus<P: Kind>(alloc: Global, queues: &[&[&str]]) -> Result<Bus<P>, Fail> {
+/// An idle port for each of these queues, offered its frames in turn. There is room for one more.
+pub fn bus_with(alloc: Global, kinds: Kinds, queues: &[&[&str]]) -> Result<Bus<EitherNode>, Fail> {
     let mut ports = Vec::new(alloc);
-    for queue in queues {
-        ports.push(P::idle(alloc, queue.len().saturating_add(1))?)?;
+    for (node, queue) in queues.iter().enumerate() {
+        ports.push(kinds.idle(alloc, node, queue.len().saturating_add(1))?)?;
     }
     let mut bus = bus_of(ports)?;
     for (node, queue) in queues.iter().enumerate() {
@@ -88,11 +126,6 @@ pub fn queued_bus<P: Kind>(alloc: Global, queues: &[&[&str]]) -> Result<Bus<P>, 
         }
     }
     Ok(bus)
-}
-
-/// The same of plain ports.
-pub fn bus_with(alloc: Global, queues: &[&[&str]]) -> Result<Bus<PlainNode>, Fail> {
-    queued_bus(alloc, queues)
 }
 
 /// Runs the bus for so many bit times, and gives the levels that were recorded.
@@ -110,11 +143,12 @@ pub fn recorded<P: Port>(
 /// The bus that these queues make, behind so many bit times with these hits.
 pub fn bus_after(
     alloc: Global,
+    kinds: Kinds,
     queues: &[&[&str]],
     hits: &[Hit],
     times: usize,
-) -> Result<Bus<PlainNode>, Fail> {
-    let mut bus = bus_with(alloc, queues)?;
+) -> Result<Bus<EitherNode>, Fail> {
+    let mut bus = bus_with(alloc, kinds, queues)?;
     let _levels = recorded(alloc, &mut bus, hits, times)?;
     Ok(bus)
 }
@@ -123,16 +157,17 @@ pub fn bus_after(
 pub fn stand(
     rt: &impl Abort,
     alloc: Global,
+    kinds: Kinds,
     queues: &[&[&str]],
     hits: &[Hit],
     moments: &[(usize, &str)],
 ) -> Result<(), Fail> {
     for (times, want) in moments {
-        let bus = bus_after(alloc, queues, hits, *times)?;
+        let bus = bus_after(alloc, kinds, queues, hits, *times)?;
         assert_eq!(rt;
             standing(alloc, &bus)?.as_str(),
             *want,
-            "after {times} bit times"
+            "{kinds:?} after {times} bit times"
         );
     }
     Ok(())

@@ -1,12 +1,12 @@
 //! Frames that are offered while the bus runs: when they go out, and which offers are refused.
 
 use super::lines::{
-    INTERMISSION, Kind, WIRE_000, WIRE_001, WIRE_009, bus_of, drives, frame, offer, standing,
-    text_of,
+    INTERMISSION, KINDS, Kinds, WIRE_000, WIRE_001, WIRE_009, bus_of, drives, frame, idle_ports,
+    offer, standing, text_of,
 };
 use crate::{Bus, BusFault, Offer};
 use can_frame::Level;
-use can_node::PlainNode;
+use can_node::EitherNode;
 use std::alloc::Global;
 use std::process::Abort;
 use std::test::Fail;
@@ -143,12 +143,8 @@ const ROWS: [Row; 6] = [
     },
 ];
 
-fn two_ports<P: Kind>(alloc: Global, room: usize) -> Result<Bus<P>, Fail> {
-    let mut ports = Vec::new(alloc);
-    for _ in 0..2u32 {
-        ports.push(P::idle(alloc, room)?)?;
-    }
-    bus_of(ports)
+fn two_ports(alloc: Global, kinds: Kinds, room: usize) -> Result<Bus<EitherNode>, Fail> {
+    bus_of(idle_ports(alloc, kinds, 2, room)?)
 }
 
 fn offers_of(alloc: Global, texts: &[OfferText]) -> Result<Vec<Offer>, Fail> {
@@ -173,21 +169,21 @@ fn line(alloc: Global, levels: &[(&str, usize)]) -> Result<String, Fail> {
     Ok(text)
 }
 
-fn play_row<P: Kind>(rt: &impl Abort, alloc: Global, row: &Row) -> Result<(), Fail> {
+fn play_row(rt: &impl Abort, alloc: Global, kinds: Kinds, row: &Row) -> Result<(), Fail> {
     let offers = offers_of(alloc, row.offers)?;
     let want = line(alloc, row.levels)?;
-    let mut bus = two_ports::<P>(alloc, row.room)?;
+    let mut bus = two_ports(alloc, kinds, row.room)?;
     let mut rec = [Level::Dominant].repeat(alloc, want.len())?;
-    assert_eq!(rt; bus.play(&offers, &mut rec), Ok(row.refused));
-    assert_eq!(rt; text_of(alloc, &rec)?.as_str(), want.as_str());
+    assert_eq!(rt; bus.play(&offers, &mut rec), Ok(row.refused), "{kinds:?}");
+    assert_eq!(rt; text_of(alloc, &rec)?.as_str(), want.as_str(), "{kinds:?}");
     for (times, want) in row.stands {
-        let mut bus = two_ports::<P>(alloc, row.room)?;
+        let mut bus = two_ports(alloc, kinds, row.room)?;
         let mut rec = [Level::Dominant].repeat(alloc, *times)?;
         let _refused = bus.play(&offers, &mut rec)?;
         assert_eq!(rt;
             standing(alloc, &bus)?.as_str(),
             *want,
-            "after {times} bit times"
+            "{kinds:?} after {times} bit times"
         );
     }
     Ok(())
@@ -196,7 +192,9 @@ fn play_row<P: Kind>(rt: &impl Abort, alloc: Global, row: &Row) -> Result<(), Fa
 #[test]
 fn offers_go_out_when_the_bus_is_free(rt: HostRuntime) -> Result<(), Fail> {
     for row in &ROWS {
-        play_row::<PlainNode>(&rt, rt.alloc(), row)?;
+        for kinds in KINDS {
+            play_row(&rt, rt.alloc(), kinds, row)?;
+        }
     }
     Ok(())
 }
@@ -205,7 +203,7 @@ fn offers_go_out_when_the_bus_is_free(rt: HostRuntime) -> Result<(), Fail> {
 #[test]
 fn offers_behind_the_end_are_not_made(rt: HostRuntime) -> Result<(), Fail> {
     let alloc = rt.alloc();
-    let mut bus = two_ports::<PlainNode>(alloc, 2)?;
+    let mut bus = two_ports(alloc, Kinds::InTurn, 2)?;
     let offers = offers_of(alloc, &[(150, 0, "S 001 D 0"), (151, 1, "S 000 D 0")])?;
     assert_eq!(rt; bus.play(&offers, &mut [Level::Dominant; 150]), Ok(0));
     assert_eq!(rt; drives(alloc, bus.ports())?.as_str(), "11");
@@ -240,7 +238,7 @@ fn refused_offers_run_nothing(rt: HostRuntime) -> Result<(), Fail> {
     for (texts, fault) in rows {
         let offers = offers_of(alloc, texts)?;
         for level in [Level::Dominant, Level::Recessive] {
-            let mut bus = two_ports::<PlainNode>(alloc, 2)?;
+            let mut bus = two_ports(alloc, Kinds::InTurn, 2)?;
             let mut rec = [level; 3];
             assert_eq!(rt; bus.play(&offers, &mut rec), Err(fault), "{texts:?}");
             assert_eq!(rt; rec, [level; 3], "{texts:?}");

@@ -1,11 +1,11 @@
 //! Frames that are disturbed on the wire, at one place of an attempt, and sent again.
 
 use super::lines::{
-    DELIMITER_AND_INTERMISSION, INTERMISSION, Kind, WIRE_000, WIRE_001, driven, queued_bus,
+    DELIMITER_AND_INTERMISSION, INTERMISSION, KINDS, Kinds, WIRE_000, WIRE_001, bus_with, driven,
     recorded, standing,
 };
 use crate::{Bus, Hit};
-use can_node::PlainNode;
+use can_node::EitherNode;
 use std::alloc::Global;
 use std::process::Abort;
 use std::test::Fail;
@@ -48,20 +48,25 @@ impl Row<'_> {
     }
 
     /// The bus behind so many bit times, and the levels that were recorded.
-    fn run<P: Kind>(&self, alloc: Global, times: usize) -> Result<(Bus<P>, String), Fail> {
-        let mut bus = queued_bus(alloc, self.queues)?;
+    fn run(
+        &self,
+        alloc: Global,
+        kinds: Kinds,
+        times: usize,
+    ) -> Result<(Bus<EitherNode>, String), Fail> {
+        let mut bus = bus_with(alloc, kinds, self.queues)?;
         let levels = recorded(alloc, &mut bus, &self.hits(alloc)?, times)?;
         Ok((bus, levels))
     }
 }
 
-/// The row holds of ports of this kind.
-fn holds<P: Kind>(rt: &impl Abort, alloc: Global, row: &Row<'_>) -> Result<(), Fail> {
+/// The row holds of ports of these kinds.
+fn holds(rt: &impl Abort, alloc: Global, kinds: Kinds, row: &Row<'_>) -> Result<(), Fail> {
     let want = row.levels(alloc)?;
-    let (_bus, levels) = row.run::<P>(alloc, want.len())?;
+    let (_bus, levels) = row.run(alloc, kinds, want.len())?;
     assert_eq!(rt; levels.as_str(), want.as_str(), "{}", row.name);
     for (times, standings) in row.moments {
-        let (bus, _levels) = row.run::<P>(alloc, *times)?;
+        let (bus, _levels) = row.run(alloc, kinds, *times)?;
         let text = standing(alloc, &bus)?;
         assert_eq!(rt;
             text.as_str(),
@@ -71,7 +76,7 @@ fn holds<P: Kind>(rt: &impl Abort, alloc: Global, row: &Row<'_>) -> Result<(), F
         );
     }
     for (times, node, want) in row.driven {
-        let (mut bus, _levels) = row.run::<P>(alloc, *times)?;
+        let (mut bus, _levels) = row.run(alloc, kinds, *times)?;
         let text = driven(alloc, &mut bus, *node, want.len())?;
         assert_eq!(rt;
             text.as_str(),
@@ -346,7 +351,9 @@ const HITS_IN_ARBITRATION: &[Row<'static>] = &[
 fn a_disturbed_frame_is_sent_again(rt: HostRuntime) -> Result<(), Fail> {
     for rows in [FEW_HITS, MANY_HITS, HITS_IN_ARBITRATION] {
         for row in rows {
-            holds::<PlainNode>(&rt, rt.alloc(), row)?;
+            for kinds in KINDS {
+                holds(&rt, rt.alloc(), kinds, row)?;
+            }
         }
     }
     Ok(())
