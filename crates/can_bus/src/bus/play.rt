@@ -1,7 +1,5 @@
 //! A run of a bus to whose ports frames are offered meanwhile.
 ghost use Rattle.std.specs.Prelude.{ℕ, List, ◌≡◌, ◌+◌, ◌<◌, ◌≤◌, ◌↔◌, not, length, map, slice_get, Ok, Some, IsOk, OnOk, OnErr, IfErr, IfOk};
-ghost use Rattle.can_frame.specs.Parts.{IsFrame};
-ghost use Rattle.can_bus.specs.declared.offer.Offer.{Offer as Offered};
 ghost use Rattle.can_bus.specs.Offers.{AreOffered, IsFirstFault, all_made, is_full, made, played, played_level, refused, refused_at};
 ghost use Rattle.can_bus.specs.OpenBus.{AreOver, AtEachNode, IsOpenCall, OpenLogBegins, OpenLogWhole};
 ghost use Rattle.can_bus.specs.Quiet.{AtEachPort, CountsNothing, MissesNothing};
