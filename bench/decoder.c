@@ -1,0 +1,220 @@
+/* A plain decoder of classical CAN traces, independent of the crates beside it: trace text on standard input, one
+ * line a frame or fault on standard output. The C library only; it is what bench/decode measures canbit against,
+ * and its output is compared with canbit's. */
+
+#include <inttypes.h>
+#include <stdbool.h>
+#include <stdint.h>
+#include <stdio.h>
+#include <stdlib.h>
+
+enum {
+    LONGEST = 118,   /* unstuffed levels of the longest frame, up to the end of its check sequence */
+    ROW_OF_REST = 11 /* recessive levels in a row, behind which a new frame may begin */
+};
+
+enum phase {
+    IDLE,  /* between frames */
+    FRONT, /* in the stuffed part of a frame */
+    TAIL,  /* behind it: delimiters, ACK slot, end of frame */
+    LOST   /* behind a fault */
+};
+
+struct decoder {
+    enum phase phase;
+    uint64_t place; /* of the level that is heard, from 0 */
+    uint64_t start; /* of the frame */
+    uint8_t levels[LONGEST];
+    unsigned count; /* of the unstuffed levels */
+    uint8_t last;
+    unsigned run; /* of equal levels, the last one among them */
+    unsigned heard; /* of the tail */
+    bool acknowledged;
+    unsigned row; /* of recessive levels, behind a fault */
+};
+
+static unsigned number(const uint8_t *levels, unsigned count)
+{
+    unsigned value = 0;
+    for (unsigned place = 0; place < count; place++)
+        value = value << 1 | levels[place];
+    return value;
+}
+
+static bool is_extended(const struct decoder *decoder)
+{
+    return decoder->levels[13] == 1;
+}
+
+/* How many unstuffed levels the frame has, or 0 where that is not known yet. */
+static unsigned length(const struct decoder *decoder)
+{
+    if (decoder->count < 14)
+        return 0;
+    bool extended = is_extended(decoder);
+    unsigned rtr = extended ? 32 : 12, code = extended ? 35 : 15, base = extended ? 54 : 34;
+    if (decoder->count < code + 4)
+        return 0;
+    if (decoder->levels[rtr] == 1)
+        return base;
+    unsigned dlc = number(decoder->levels + code, 4);
+    return base + 8 * (dlc < 8 ? dlc : 8);
+}
+
+static unsigned check_sequence(const uint8_t *levels, unsigned count)
+{
+    unsigned check = 0;
+    for (unsigned place = 0; place < count; place++) {
+        unsigned feedback = levels[place] ^ (check >> 14 & 1);
+        check = check << 1 & 0x7fff;
+        if (feedback)
+            check ^= 0x4599;
+    }
+    return check;
+}
+
+static void search(struct decoder *decoder, uint8_t level)
+{
+    decoder->row = level == 1 ? decoder->row + 1 : 0;
+    if (decoder->row == ROW_OF_REST)
+        decoder->phase = IDLE;
+}
+
+static void tell_fault(const struct decoder *decoder, const char *kind)
+{
+    printf("%" PRIu64 " fault %s at %" PRIu64 "\n", decoder->start, kind, decoder->place);
+}
+
+/* The level at this place is at fault; the search for rest begins with it. */
+static void lose(struct decoder *decoder, const char *kind, uint8_t level)
+{
+    tell_fault(decoder, kind);
+    decoder->phase = LOST;
+    decoder->row = 0;
+    search(decoder, level);
+}
+
+static void begin(struct decoder *decoder)
+{
+    decoder->phase = FRONT;
+    decoder->start = decoder->place;
+    decoder->levels[0] = 0;
+    decoder->count = 1;
+    decoder->last = 0;
+    decoder->run = 1;
+}
+
+static void end_front(struct decoder *decoder, uint8_t level)
+{
+    unsigned head = decoder->count - 15;
+    if (check_sequence(decoder->levels, head) != number(decoder->levels + head, 15)) {
+        lose(decoder, "C4", level);
+        return;
+    }
+    decoder->phase = TAIL;
+    decoder->heard = 0;
+    decoder->acknowledged = false;
+}
+
+static void hear_front(struct decoder *decoder, uint8_t level)
+{
+    if (decoder->run == 5) {
+        if (level == decoder->last) {
+            lose(decoder, "C3", level);
+            return;
+        }
+        decoder->run = 1;
+    } else {
+        decoder->levels[decoder->count++] = level;
+        decoder->run = level == decoder->last ? decoder->run + 1 : 1;
+    }
+    decoder->last = level;
+    if (decoder->run < 5 && length(decoder) == decoder->count)
+        end_front(decoder, level);
+}
+
+static void tell_frame(const struct decoder *decoder, uint8_t last)
+{
+    const uint8_t *levels = decoder->levels;
+    bool extended = is_extended(decoder);
+    unsigned code = extended ? 35 : 15, data = code + 4, end = decoder->count - 15;
+    printf("%" PRIu64, decoder->start);
+    if (extended)
+        printf(" E %08x", number(levels + 1, 11) << 18 | number(levels + 14, 18));
+    else
+        printf(" S %03x", number(levels + 1, 11));
+    printf(" %c %u", levels[extended ? 32 : 12] ? 'R' : 'D', number(levels + code, 4));
+    if (data < end)
+        putchar(' ');
+    for (; data < end; data += 8)
+        printf("%02x", number(levels + data, 8));
+    fputs(decoder->acknowledged ? " ack" : " noack", stdout);
+    if (extended && levels[12] == 0)
+        fputs(" srr0", stdout);
+    if (extended && levels[33] == 1)
+        fputs(" r1", stdout);
+    if (levels[extended ? 34 : 14] == 1)
+        fputs(" r0", stdout);
+    if (last == 0)
+        fputs(" eof0", stdout);
+    putchar('\n');
+}
+
+static void hear_tail(struct decoder *decoder, uint8_t level)
+{
+    if (decoder->heard == 1) {
+        decoder->acknowledged = level == 0;
+    } else if (decoder->heard == 9) {
+        tell_frame(decoder, level);
+        decoder->phase = IDLE;
+    } else if (level == 0) {
+        lose(decoder, "C5", level);
+    }
+    decoder->heard++;
+}
+
+static void hear(struct decoder *decoder, uint8_t level)
+{
+    switch (decoder->phase) {
+    case IDLE:
+        if (level == 0)
+            begin(decoder);
+        break;
+    case FRONT:
+        hear_front(decoder, level);
+        break;
+    case TAIL:
+        hear_tail(decoder, level);
+        break;
+    case LOST:
+        search(decoder, level);
+        break;
+    }
+    decoder->place++;
+}
+
+int main(void)
+{
+    static unsigned char buffer[1 << 16];
+    struct decoder decoder = {.phase = IDLE};
+    uint64_t read = 0;
+    size_t count;
+    while ((count = fread(buffer, 1, sizeof buffer, stdin)) > 0) {
+        for (size_t at = 0; at < count; at++) {
+            unsigned char byte = buffer[at];
+            if (byte == '0' || byte == '1') {
+                hear(&decoder, (uint8_t)(byte - '0'));
+            } else if (byte != ' ' && byte != '\n' && byte != '\r') {
+                fflush(stdout);
+                fprintf(stderr, "bad byte %" PRIu64 "\n", read + at);
+                return EXIT_FAILURE;
+            }
+        }
+        read += count;
+    }
+    if (ferror(stdin))
+        return EXIT_FAILURE;
+    if (decoder.phase == FRONT || decoder.phase == TAIL)
+        tell_fault(&decoder, "C1");
+    return fflush(stdout) == 0 ? EXIT_SUCCESS : EXIT_FAILURE;
+}
