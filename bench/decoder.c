@@ -25,7 +25,8 @@ struct decoder {
     uint64_t place; /* of the level that is heard, from 0 */
     uint64_t start; /* of the frame */
     uint8_t levels[LONGEST];
-    unsigned count; /* of the unstuffed levels */
+    unsigned count;  /* of the unstuffed levels */
+    unsigned length; /* how many the frame has, or 0 where that is not known yet */
     uint8_t last;
     unsigned run; /* of equal levels, the last one among them */
     unsigned heard; /* of the tail */
@@ -46,19 +47,15 @@ static bool is_extended(const struct decoder *decoder)
     return decoder->levels[13] == 1;
 }
 
-/* How many unstuffed levels the frame has, or 0 where that is not known yet. */
-static unsigned length(const struct decoder *decoder)
+/* Learns how many unstuffed levels the frame has, where the last of them ends its data length code. */
+static void learn_length(struct decoder *decoder)
 {
-    if (decoder->count < 14)
-        return 0;
     bool extended = is_extended(decoder);
     unsigned rtr = extended ? 32 : 12, code = extended ? 35 : 15, base = extended ? 54 : 34;
-    if (decoder->count < code + 4)
-        return 0;
-    if (decoder->levels[rtr] == 1)
-        return base;
+    if (decoder->count != code + 4)
+        return;
     unsigned dlc = number(decoder->levels + code, 4);
-    return base + 8 * (dlc < 8 ? dlc : 8);
+    decoder->length = base + (decoder->levels[rtr] == 1 ? 0 : 8 * (dlc < 8 ? dlc : 8));
 }
 
 static unsigned check_sequence(const uint8_t *levels, unsigned count)
@@ -85,6 +82,21 @@ static void tell_fault(const struct decoder *decoder, const char *kind)
     printf("%" PRIu64 " fault %s at %" PRIu64 "\n", decoder->start, kind, decoder->place);
 }
 
+/* Writes so many hexadecimal digits of a number, and returns where they end. */
+static char *put_digits(char *text, unsigned value, unsigned count)
+{
+    for (unsigned place = count; place-- > 0;)
+        *text++ = "0123456789abcdef"[value >> 4 * place & 15];
+    return text;
+}
+
+static char *put_word(char *text, const char *word)
+{
+    while (*word)
+        *text++ = *word++;
+    return text;
+}
+
 /* The level at this place is at fault; the search for rest begins with it. */
 static void lose(struct decoder *decoder, const char *kind, uint8_t level)
 {
@@ -100,6 +112,7 @@ static void begin(struct decoder *decoder)
     decoder->start = decoder->place;
     decoder->levels[0] = 0;
     decoder->count = 1;
+    decoder->length = 0;
     decoder->last = 0;
     decoder->run = 1;
 }
@@ -127,9 +140,11 @@ static void hear_front(struct decoder *decoder, uint8_t level)
     } else {
         decoder->levels[decoder->count++] = level;
         decoder->run = level == decoder->last ? decoder->run + 1 : 1;
+        if (decoder->length == 0 && decoder->count >= 19)
+            learn_length(decoder);
     }
     decoder->last = level;
-    if (decoder->run < 5 && length(decoder) == decoder->count)
+    if (decoder->run < 5 && decoder->length == decoder->count)
         end_front(decoder, level);
 }
 
@@ -137,27 +152,31 @@ static void tell_frame(const struct decoder *decoder, uint8_t last)
 {
     const uint8_t *levels = decoder->levels;
     bool extended = is_extended(decoder);
-    unsigned code = extended ? 35 : 15, data = code + 4, end = decoder->count - 15;
-    printf("%" PRIu64, decoder->start);
+    unsigned code = extended ? 35 : 15, data = code + 4, end = decoder->count - 15, dlc = number(levels + code, 4);
+    char line[96], *text = line + sprintf(line, "%" PRIu64, decoder->start);
     if (extended)
-        printf(" E %08x", number(levels + 1, 11) << 18 | number(levels + 14, 18));
+        text = put_digits(put_word(text, " E "), number(levels + 1, 11) << 18 | number(levels + 14, 18), 8);
     else
-        printf(" S %03x", number(levels + 1, 11));
-    printf(" %c %u", levels[extended ? 32 : 12] ? 'R' : 'D', number(levels + code, 4));
+        text = put_digits(put_word(text, " S "), number(levels + 1, 11), 3);
+    text = put_word(text, levels[extended ? 32 : 12] ? " R " : " D ");
+    if (dlc > 9)
+        *text++ = '1';
+    *text++ = (char)('0' + dlc % 10);
     if (data < end)
-        putchar(' ');
+        *text++ = ' ';
     for (; data < end; data += 8)
-        printf("%02x", number(levels + data, 8));
-    fputs(decoder->acknowledged ? " ack" : " noack", stdout);
+        text = put_digits(text, number(levels + data, 8), 2);
+    text = put_word(text, decoder->acknowledged ? " ack" : " noack");
     if (extended && levels[12] == 0)
-        fputs(" srr0", stdout);
+        text = put_word(text, " srr0");
     if (extended && levels[33] == 1)
-        fputs(" r1", stdout);
+        text = put_word(text, " r1");
     if (levels[extended ? 34 : 14] == 1)
-        fputs(" r0", stdout);
+        text = put_word(text, " r0");
     if (last == 0)
-        fputs(" eof0", stdout);
-    putchar('\n');
+        text = put_word(text, " eof0");
+    *text++ = '\n';
+    fwrite(line, 1, (size_t)(text - line), stdout);
 }
 
 static void hear_tail(struct decoder *decoder, uint8_t level)
