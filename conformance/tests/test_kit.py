@@ -2,6 +2,7 @@
 
 from __future__ import annotations
 
+import glob
 import os
 import subprocess
 import tempfile
@@ -113,13 +114,15 @@ class Playing(unittest.TestCase):
 
 class Mistakes(unittest.TestCase):
     def test_every_mistake_fits_its_source(self) -> None:
-        sources = {"controller": "adapters/controller.c", "simulator": "../bench/machine.rs"}
-        for name, path in sources.items():
-            with open(os.path.join(TOP, path), encoding="utf-8") as file:
-                source = file.read()
+        sources = {"controller": "adapters/controller/*.[ch]", "simulator": "../bench/machine.rs"}
+        for name, pattern in sources.items():
+            texts = {}
+            for path in glob.glob(os.path.join(TOP, pattern)):
+                with open(path, encoding="utf-8") as file:
+                    texts[path] = file.read()
             with open(os.path.join(TOP, "mistakes", f"{name}.txt"), encoding="utf-8") as file:
                 for mistake in read_mistakes(file.read(), name):
-                    self.assertNotEqual(mistake.applied(source), source)
+                    self.assertNotEqual(mistake.applied(texts), texts)
 
 
 class Adapters(unittest.TestCase):
@@ -127,7 +130,8 @@ class Adapters(unittest.TestCase):
         """Six dominant levels to an idle controller: a flag of six levels behind them, and a REC of 1."""
         with tempfile.TemporaryDirectory() as folder:
             program = os.path.join(folder, "controller")
-            subprocess.run(["cc", "-std=c99", "-o", program, os.path.join(TOP, "adapters/controller.c")], check=True)
+            sources = glob.glob(os.path.join(TOP, "adapters/controller/*.c"))
+            subprocess.run(["cc", "-std=c99", "-o", program, *sources], check=True)
             text = CASE.replace("0101 1*16", "000000 1*14").replace("[4, 6]", "[]")
             with Session([program]) as session:
                 played = list(session.play_all(read_document(text)[0]))[0].transcript
