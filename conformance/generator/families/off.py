@@ -97,7 +97,8 @@ def bus_off_limit(book: Book) -> None:
         ("255-by-overload-flag", "a TEC of 255 by an overload flag is not off", at_248(overload_flag)),
         ("263-by-overload-run", "a TEC of 263 behind an overload flag is off", at_248(overload_run)),
     ]
-    for suffix, purpose, make in cases:
+    more = [("255-by-bit-error", "a TEC of 255 by an overridden bit is not off", at_247(bit_error))]
+    for suffix, purpose, make in book.rows(cases, more):
         with book.case(suffix, purpose) as scene:
             make(scene)
             _tester_sends(scene)
@@ -126,7 +127,7 @@ def bus_off_recovery(book: Book) -> None:
         go_off(scene)
         scene.rest(ROWS * ROW, "recessive")
         sent_behind(scene)
-    for run in (10, 11, 21, 22):
+    for run in book.rows((10, 11, 21, 22), (33,)):
         with book.case(f"runs-of-{run}", f"ten runs of {run} recessive levels, then recessive", RECOVERY) as scene:
             go_off(scene)
             scene.play(("1" * run + "0") * 10, f"ten runs of {run}")
