@@ -2,7 +2,7 @@
 
 from __future__ import annotations
 
-from typing import Callable
+from typing import Callable, ContextManager, List, Tuple
 
 from generator.book import Book, family
 from generator.probes import PROBE_FRAME, break_delimiter, probe_rec, probe_tec, raise_tec
@@ -85,7 +85,7 @@ def bus_off_limit(book: Book) -> None:
         scene.rest(6, "the overload flag")
         scene.play("0" * 16, "16 dominant levels behind it")
 
-    cases = [
+    cases: List[Tuple[str, str, Callable[[Scene], None]]] = [
         ("248", "a TEC of 248 is not off", lambda scene: tec_to(scene, 248)),
         ("255", "a TEC of 255 is not off", at_247(error)),
         ("256-by-error", "a TEC of 256 by an error is off", at_248(error)),
@@ -169,7 +169,7 @@ def bus_off_recovery(book: Book) -> None:
 
 @family("joining", "10, 11 recessive levels, interrupted; a frame meanwhile; a probe of REC")
 def joining(book: Book) -> None:
-    def case(suffix: str, purpose: str):  # type: ignore[no-untyped-def]
+    def case(suffix: str, purpose: str) -> ContextManager[Scene]:
         return book.case(suffix, purpose, start="joining")
 
     with case("eleven", "its frame begins behind eleven recessive levels") as scene:

@@ -2,7 +2,7 @@
 
 from __future__ import annotations
 
-from typing import List
+from typing import List, Sequence
 
 from generator.book import Book, family
 from generator.families.flags import FRAME
@@ -13,7 +13,7 @@ from kit.frames import Frame
 RECEIVED = "S 123 D 1 c3"
 
 
-def after_received(scene: Scene, offers: tuple = ()) -> None:
+def after_received(scene: Scene, offers: Sequence[str] = ()) -> None:
     scene.receive(RECEIVED, offers)
 
 
@@ -160,7 +160,7 @@ OVERLOAD = 6 + 8
 
 @family("overload-own", "wishes for overload frames: one or two, renewed, replaced, taken back; as sender")
 def overload_own(book: Book) -> None:
-    def begin(wish: int, offers: tuple = ()) -> Scene:
+    def begin(wish: int, offers: Sequence[str] = ()) -> Scene:
         scene.receive(RECEIVED, offers, hold=wish)
         return scene
 

@@ -181,7 +181,7 @@ def passive_flag_overload(book: Book) -> None:
 def passive_receiver_family(book: Book) -> None:
     wire = Frame.parse(RECEIVED).wire()
     wrong = Frame.parse(RECEIVED).wire("crc-5")
-    errors: list = [
+    errors = [
         ("stuff", "000000"),
         ("crc", wrong.acknowledged()[: wrong.place("eof 1")]),
         ("crc-delimiter", wire.levels[: wire.stuffed] + "0"),

@@ -2,6 +2,8 @@
 
 from __future__ import annotations
 
+from typing import List, Tuple
+
 from generator.book import Book, family
 from generator.probes import probe_rec
 from generator.scene import Scene
@@ -74,7 +76,7 @@ BEHIND_CRC = [
 ]
 
 
-def _receive_whole(book: Book, frames: list, what: str) -> None:
+def _receive_whole(book: Book, frames: List[Tuple[str, str]], what: str) -> None:
     for suffix, frame in frames:
         with book.case(suffix, f"{what}: {frame} is received and acknowledged") as scene:
             scene.rest(1, "idle")

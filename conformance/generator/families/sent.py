@@ -2,6 +2,8 @@
 
 from __future__ import annotations
 
+from typing import List, Tuple
+
 from generator.book import Book, family
 from generator.families.received import (
     BEHIND_CRC,
@@ -20,7 +22,7 @@ FRAME = "S 155 D 2 5aa5"
 EXTENDED = "E 0a5a5a5a D 2 5aa5"
 
 
-def _send_whole(book: Book, frames: list, what: str) -> None:
+def _send_whole(book: Book, frames: List[Tuple[str, str]], what: str) -> None:
     for suffix, frame in frames:
         with book.case(suffix, f"{what}: {frame} as it is sent") as scene:
             scene.anchor(frame)
