@@ -5,7 +5,7 @@ a case of the conformance kit, which says for each bit time what the tester driv
 from __future__ import annotations
 
 import random
-from typing import List, Optional, Tuple
+from typing import Optional, Tuple
 
 from generator.scene import Scene
 from kit.adapter import Adapter
@@ -49,7 +49,7 @@ class Traffic:
             if self._chance(0.9):
                 self._scene.rest(self._flag_left())
             self._step()
-            if not self._waiting() or self._chance(0.1):
+            if not self._scene.waiting() or self._chance(0.1):
                 self._scene.rest(self._random.choice(GAPS))
         return self._scene.finished()
 
@@ -68,7 +68,7 @@ class Traffic:
             self._dominant_run()
         elif kind < 0.2:
             self._scene.rest(self._random.randint(1, 40))
-        elif self._waiting() and kind < 0.9:
+        elif self._scene.waiting() and kind < 0.9:
             self._own_frame()
         else:
             self._tester_frame()
@@ -78,15 +78,8 @@ class Traffic:
 
     # what is handed to the controller
 
-    def _waiting(self) -> List[str]:
-        waiting = [frame for _, frame in self._scene.case.offers]
-        for _, event in self._scene.events:
-            if event.startswith("sent "):
-                waiting.remove(event[len("sent ") :])
-        return waiting
-
     def _hand_over(self) -> None:
-        if self._chance(0.5) and len(self._waiting()) < MOST_WAITING:
+        if self._chance(0.5) and len(self._scene.waiting()) < MOST_WAITING:
             self._scene.offer(self._frame())
         if self._chance(0.05):
             self._scene.hold(self._random.randint(0, 2))
@@ -104,8 +97,9 @@ class Traffic:
     # frames of the controller
 
     def _own_frame(self) -> None:
-        self._scene.wait()
-        frame = min(self._waiting(), key=arbitration_field)
+        if not self._scene.begins():
+            return
+        frame = min(self._scene.waiting(), key=arbitration_field)
         wire = Frame.parse(frame).wire()
         place = self._random.randrange(len(wire.levels))
         kind = self._random.uniform(0.75 if self._is_rough else 0.0, 1.0)
