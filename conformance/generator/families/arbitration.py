@@ -5,7 +5,7 @@ from __future__ import annotations
 from typing import List, Tuple
 
 from generator.book import Book, family
-from generator.probes import probe_tec
+from generator.probes import probe_tec, raise_tec
 from generator.scene import Scene
 from kit.frames import Frame
 
@@ -130,3 +130,21 @@ def stuff(book: Book) -> None:
             scene.behind_flag(8 if suffix.endswith("second") else 0)
             scene.sent(frame)
             probe_tec(scene)
+    if book.is_long:
+        _stuff_bit_while_passive(book)
+
+
+def _stuff_bit_while_passive(book: Book) -> None:
+    frame = "S 020 D 0"
+    wire = Frame.parse(frame).wire()
+    purpose = "a stuff bit overridden while passive: dominant levels in the flag count nothing either"
+    with book.case("standard-passive", purpose, ["stuff-exception"]) as scene:
+        scene.anchor(frame)
+        raise_tec(scene, 128, frame)
+        scene.wait()
+        scene.sending(frame, next(place for place in wire.stuff if wire.levels[place] == "1"))
+        scene.play("0", "the stuff bit dominant")
+        scene.play("0111111", "within the passive flag, the first level dominant")
+        scene.wait("delimiter, intermission, suspend")
+        scene.sent(frame)
+        probe_tec(scene)

@@ -231,7 +231,8 @@ def count_tx(book: Book) -> None:
         ("run", _own_behind(8), []),
         ("flag-bit", _own_flag_bit, ONCE),
         ("overload-flag-bit", _own_overload_flag_bit, ONCE),
-        ("sent-at-0", _sent_often(0, 2), []),
+        # from 8 down to 0, and one more: neither stops above 0 nor goes below
+        ("sent-at-0", _sent_often(1, 9), []),
         ("received", _received_with_tec, []),
         ("lost", _own_lost, []),
     ]

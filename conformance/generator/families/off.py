@@ -155,6 +155,9 @@ def bus_off_recovery(book: Book) -> None:
         sent_behind(scene)
     with book.case("tec", "TEC is 0 behind bus off", RECOVERY) as scene:
         go_off(scene)
+        # an error comes first: a frame that is sent would take a TEC of 1 to 0
+        scene.wait("recessive")
+        break_delimiter(scene, OWN, 0)
         sent_behind(scene)
         probe_tec(scene)
     with book.case("rec", "REC is 0 behind bus off", RECOVERY) as scene:

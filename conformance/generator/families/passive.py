@@ -175,6 +175,21 @@ def passive_flag_overload(book: Book) -> None:
             scene.wait("suspend")
             scene.sent(OWN)
             scene.rest(12)
+    if book.is_long:
+        _unseen_overload_flag(book)
+
+
+def _unseen_overload_flag(book: Book) -> None:
+    purpose = "an overload flag's level is not seen: dominant levels in the passive flag behind it count nothing"
+    with book.case("tx-flag-bit", purpose, ["flag-error-once"]) as scene:
+        passive_sender(scene, OWN, OWN)
+        scene.sending(OWN)
+        scene.play("0", "the first level of intermission dominant")
+        scene.play("11f", "level 3 of the overload flag forced")
+        scene.play("0111111", "within the passive flag, the first level dominant")
+        scene.wait("delimiter, intermission, suspend")
+        scene.sent(OWN)
+        probe_tec(scene)
 
 
 @family("passive-receiver", "an error passive receiver: a frame, each kind of error, no suspend")

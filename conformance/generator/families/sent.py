@@ -98,12 +98,13 @@ def tx_spacing(book: Book) -> None:
 @family("tx-order", "frames offered out of order; equal ones")
 def tx_order(book: Book) -> None:
     equal = ["S 123 D 1 01", "S 123 D 1 02", "S 123 D 1 03"]
-    mixed = ["S 400 D 0", "E 0fff0000 D 0", "S 3ff R 0"]
+    # one base identifier but for the first: by IDE, the extension's highest and lowest bit, and RTR
+    mixed = ["S 3ff D 0", "E 0ffa0000 D 0", "E 0ff80001 D 0", "E 0ff80000 R 0", "E 0ff80000 D 0", "S 3fe R 0"]
     orders = [
         ("three", "three frames go as in arbitration", ["S 300 D 1 33", "S 100 D 1 11", "S 200 D 1 22"], [1, 2, 0]),
         ("equal", "of equal fields the one offered first goes first", equal, [0, 1, 2]),
         ("remote", "a data frame goes before the remote frame", ["S 123 R 1", "S 123 D 1 0f"], [1, 0]),
-        ("extended", "an extended frame goes before a higher standard one", mixed, [2, 1, 0]),
+        ("extended", "extended frames go behind a standard one, and before a higher one", mixed, [5, 4, 3, 2, 1, 0]),
     ]
     for suffix, purpose, offers, order in orders:
         with book.case(suffix, purpose) as scene:
