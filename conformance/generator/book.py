@@ -3,13 +3,14 @@
 from __future__ import annotations
 
 import contextlib
-from typing import Callable, Dict, Iterator, List, Sequence
+from typing import Callable, Dict, Iterator, List, Sequence, TypeVar
 
 from generator.scene import Scene
 from kit.adapter import Adapter
 from kit.documents import Case, Transcript
 
 Maker = Callable[["Book"], None]
+Row = TypeVar("Row")
 FAMILIES: Dict[str, Maker] = {}
 ABOUT: Dict[str, str] = {}
 
@@ -26,13 +27,18 @@ def family(name: str, about: str) -> Callable[[Maker], Maker]:
 
 
 class Book:
-    """The cases of one family, in the order in which they are made."""
+    """The cases of one family, in the order in which they are made. The long set has more of a kind."""
 
-    def __init__(self, name: str, reference: Adapter) -> None:
+    def __init__(self, name: str, reference: Adapter, is_long: bool = False) -> None:
         self.name = name
+        self.is_long = is_long
         self.cases: List[Case] = []
         self.transcripts: List[Transcript] = []
         self._reference = reference
+
+    def rows(self, standard: Sequence[Row], more: Sequence[Row]) -> List[Row]:
+        """The rows of which cases are made: those of the standard set, and in the long set more."""
+        return [*standard, *(more if self.is_long else ())]
 
     @contextlib.contextmanager
     def case(

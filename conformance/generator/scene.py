@@ -143,8 +143,22 @@ class Scene:
 
     # frames of the controller
 
+    def waiting(self) -> List[str]:
+        """The frames that were offered and not sent yet."""
+        waiting = [frame for _, frame in self.case.offers]
+        for _, event in self.events:
+            if event.startswith("sent "):
+                waiting.remove(event[len("sent ") :])
+        return waiting
+
     def wait(self, comment: str = "waits for the start of a frame") -> None:
         """Recessive levels until the controller would begin a frame, without the level in which it does."""
+        if not self.begins(comment):
+            raise ValueError(f"{self.case.name}: no frame begins")
+
+    def begins(self, comment: str = "waits for the start of a frame") -> bool:
+        """Recessive levels until the controller would drive a dominant one. False where it drives none as long as
+        bus off lasts, or no frame waits any more."""
         self._resume()
         for waited in range(LONGEST_WAIT):
             driven, events = self._reference.play("1")
@@ -152,11 +166,13 @@ class Scene:
                 # that bit time belongs to the frame: it is played anew
                 self._reference.end()
                 self._is_playing = False
-                return
+                return True
             self._add("1", comment if waited == 0 else "")
             self.events += [(self.time, event) for _, event in events]
             self.drove += driven
-        raise ValueError(f"{self.case.name}: no frame begins")
+            if events and not self.waiting():
+                return False
+        return False
 
     def sending(self, frame: str, upto: Optional[int] = None, comment: str = "") -> Wire:
         """The controller sends this frame from now on: the tester listens, and acknowledges, up to a place."""

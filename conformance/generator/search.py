@@ -27,12 +27,11 @@ def frame_with(kind: str, dlc: int, fits: Callable[[Wire], bool]) -> str:
     raise ValueError("no such frame")
 
 
-def stuff_place(wire: Wire, part: str, level: str) -> int:
-    """The first stuff bit of that level behind a level of the part; -1 where there is none."""
-    for place in wire.stuff:
-        if wire.levels[place] == level and place - 1 in wire.places[part]:
-            return place
-    return -1
+def stuff_place(wire: Wire, part: str, level: str, number: int = 0) -> int:
+    """The stuff bit of that level and number behind a level of the part; -1 where there is none."""
+    after = {place + 1 for place in wire.places[part]}
+    places = [place for place in wire.stuff if wire.levels[place] == level and place in after]
+    return places[number] if -len(places) <= number < len(places) else -1
 
 
 def ends_stuffed(kind: str, dlc: int, level: str) -> str:

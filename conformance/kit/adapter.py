@@ -6,7 +6,7 @@ import os
 import selectors
 import subprocess
 import time
-from typing import List, Optional, Sequence, Tuple
+from typing import IO, List, Optional, Sequence, Tuple
 
 from kit.documents import Event, State, is_event
 
@@ -28,8 +28,11 @@ class Skip(Exception):
 class Adapter:
     """A running adapter. After a Void it has to be closed, and another one started."""
 
-    def __init__(self, command: Sequence[str]) -> None:
-        self._process = subprocess.Popen(list(command), stdin=subprocess.PIPE, stdout=subprocess.PIPE)
+    def __init__(self, command: Sequence[str], errors: Optional[IO[str]] = None) -> None:
+        """Starts it. Its standard error is the runner's, or goes to a file."""
+        self._process = subprocess.Popen(
+            list(command), stdin=subprocess.PIPE, stdout=subprocess.PIPE, stderr=errors
+        )
         self._selector = selectors.DefaultSelector()
         assert self._process.stdout is not None
         self._output = self._process.stdout.fileno()

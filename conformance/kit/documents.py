@@ -9,10 +9,15 @@ from typing import Any, Callable, Dict, Iterable, List, Optional, Tuple
 from kit.frames import Frame
 from kit.levels import read_levels, write_levels
 
+loads: Callable[[str], Dict[str, Any]]
 try:
-    from tomllib import loads
+    import tomllib
+
+    loads = tomllib.loads
 except ImportError:  # Python before 3.11
-    from kit.toml_subset import loads
+    from kit import toml_subset
+
+    loads = toml_subset.loads
 
 NEEDS = ("forced", "hold", "queue", "recovery")
 CHOICES = (
@@ -163,13 +168,15 @@ def _read_case(table: Any, place: str, names: Dict[str, Case]) -> Case:
     tester = _levels_of(table.get("tester"), f"{place}.tester", 4096)
     case = Case(str(name), str(family), tester, purpose, table["start"], needs, choices)
     _require(len(case.levels) == bits, f"{place}.tester")
-    within = lambda row: row[0] < len(case.levels)  # noqa: E731
-    case.offers = _rows(
-        table, "offers", place, 256, lambda row: within(row) and len(row) == 2 and is_frame(row[1]), False
-    )
-    case.holds = _rows(
-        table, "holds", place, 256, lambda row: within(row) and len(row) == 2 and _is_number(row[1], 0, 2), False
-    )
+
+    def is_offer(row: List[Any]) -> bool:
+        return row[0] < len(case.levels) and len(row) == 2 and is_frame(row[1])
+
+    def is_hold(row: List[Any]) -> bool:
+        return row[0] < len(case.levels) and len(row) == 2 and _is_number(row[1], 0, 2)
+
+    case.offers = _rows(table, "offers", place, 256, is_offer, False)
+    case.holds = _rows(table, "holds", place, 256, is_hold, False)
     forced = table.get("forced", [])
     _require(isinstance(forced, list) and len(forced) <= 4096, f"{place}.forced")
     for index, time in enumerate(forced):
@@ -179,6 +186,10 @@ def _read_case(table: Any, place: str, names: Dict[str, Case]) -> Case:
     asked = ("forced" in needs or not forced) and ("hold" in needs or not case.holds)
     _require(asked, f"{place}.needs")
     return case
+
+
+def _is_count(row: List[Any]) -> bool:
+    return len(row) == 3 and all(_is_number(number, 0, 300) for number in row[1:])
 
 
 def _read_transcript(table: Any, place: str, names: Dict[str, Case], seen: Dict[str, Any]) -> Transcript:
@@ -194,8 +205,7 @@ def _read_transcript(table: Any, place: str, names: Dict[str, Case], seen: Dict[
         rows = _rows(table, "events", place, MOST_BITS, lambda row: len(row) == 2 and is_event(row[1]), True)
         transcript.events = rows
     if "counters" in table:
-        fits = lambda row: len(row) == 3 and all(_is_number(it, 0, 300) for it in row[1:])  # noqa: E731
-        transcript.counters = _rows(table, "counters", place, MOST_BITS, fits, True)
+        transcript.counters = _rows(table, "counters", place, MOST_BITS, _is_count, True)
     if "end" in table:
         end = table["end"]
         good = isinstance(end, list) and len(end) == 3 and end[0] in ("active", "passive", "off")

@@ -1,4 +1,4 @@
-"""Mistakes of a controller: named changes of an adapter's source, and how each is built.
+"""Mistakes of a controller: named changes of an adapter's sources.
 
 A file of mistakes has blocks parted by blank lines:
 
@@ -9,14 +9,14 @@ A file of mistakes has blocks parted by blank lines:
     - can->place == 8
     + can->place == 7
 
-The lines behind `-` stand once in the source, one behind another, their indentation left out; those behind `+` come
-in their place. There may be several such changes. `shows` is `levels`, `events`, `counters` or `nothing`.
+The lines behind `-` stand once in all of the sources, one behind another, their indentation left out; those behind
+`+` come in their place. There may be several such changes. `shows` is `levels`, `events`, `counters` or `nothing`.
 """
 
 from __future__ import annotations
 
 from dataclasses import dataclass, field
-from typing import List, Tuple
+from typing import Dict, List, Tuple
 
 SHOWS = ("levels", "events", "counters", "nothing")
 
@@ -32,17 +32,22 @@ class Mistake:
     shows: str = ""
     changes: List[Tuple[List[str], List[str]]] = field(default_factory=list)
 
-    def applied(self, text: str) -> str:
-        """The source with the mistake. Raises ValueError where an old text doesn't stand there once."""
-        lines = text.split("\n")
+    def applied(self, texts: Dict[str, str]) -> Dict[str, str]:
+        """The sources, by their paths, with the mistake. Raises ValueError where an old text doesn't stand once."""
+        sources = {path: text.split("\n") for path, text in texts.items()}
         for old, new in self.changes:
-            stripped = [line.strip() for line in lines]
-            found = [at for at in range(len(lines)) if stripped[at : at + len(old)] == old]
+            found = [(path, at) for path, lines in sources.items() for at in _places(lines, old)]
             if len(found) != 1:
                 raise ValueError(f"{self.name}: {old[0]!r} stands {len(found)} times")
-            at = found[0]
-            lines[at : at + len(old)] = new
-        return "\n".join(lines)
+            path, at = found[0]
+            sources[path][at : at + len(old)] = new
+        return {path: "\n".join(lines) for path, lines in sources.items()}
+
+
+def _places(lines: List[str], wanted: List[str]) -> List[int]:
+    """Where these lines stand one behind another, their indentation left out."""
+    stripped = [line.strip() for line in lines]
+    return [at for at in range(len(lines)) if stripped[at : at + len(wanted)] == wanted]
 
 
 def _take(mistake: Mistake, line: str, was_new: bool) -> bool:

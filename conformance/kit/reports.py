@@ -6,7 +6,8 @@ import xml.etree.ElementTree as xml
 from dataclasses import dataclass
 from typing import Dict, Iterable, List
 
-from kit.documents import Case
+from kit.documents import Case, Transcript
+from kit.playing import seen_levels
 
 KINDS = ("pass", "fail", "void", "skip")
 _WORDS = {"pass": "passed", "fail": "failed", "void": "void", "skip": "skipped"}
@@ -26,6 +27,18 @@ class Verdict:
             note = f" ; choice {', '.join(self.case.choices)}" if self.case.choices else ""
             return f"fail {self.case.name} at {self.detail}{note}"
         return f"{self.kind} {self.case.name}" + (f": {self.detail}" if self.detail else "")
+
+
+SHOWN_BEFORE, SHOWN_BEHIND = 40, 10
+
+
+def window_lines(case: Case, time: int, given: Transcript, expected: Transcript) -> List[str]:
+    """The levels around a bit time: what the tester drove, what the controller drove, and what was due."""
+    front = max(0, time - SHOWN_BEFORE)
+    end = time + SHOWN_BEHIND
+    rows = (("tester", seen_levels(case)), ("drove", given.drove), ("due", expected.drove))
+    lines = [f"  {name:6} {levels[front:end]}" for name, levels in rows]
+    return [*lines, f"  {' ' * (7 + time - front)}^ {time}"]
 
 
 def count_line(verdicts: Iterable[Verdict]) -> str:

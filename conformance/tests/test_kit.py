@@ -1,10 +1,9 @@
-"""Tests of the kit: levels as text, frames, documents, comparisons, mistakes; and the adapters on some cases."""
+"""Tests of the kit: levels as text, frames, documents, comparisons, reports, mistakes and their matrix."""
 
 from __future__ import annotations
 
+import glob
 import os
-import subprocess
-import tempfile
 import unittest
 
 from kit.comparing import differences
@@ -12,8 +11,10 @@ from kit.documents import DocumentFault, Transcript, read_document, write_case, 
 from kit.frames import Frame
 from kit.levels import read_levels, write_levels
 from kit.library import FOLDER, read_library
-from kit.mistakes import read_mistakes
+from kit.matrix import caught_by, cover, idle_cases, matrix, reason_faults
+from kit.mistakes import Mistake, read_mistakes
 from kit.playing import cuts
+from kit.reports import window_lines
 from kit.session import Session
 from kit import toml_subset
 
@@ -111,29 +112,53 @@ class Playing(unittest.TestCase):
             self.assertEqual([one.detail for one in session.play_all([case])], ["forced"])
 
 
+class Reports(unittest.TestCase):
+    def test_the_levels_around_a_failure(self) -> None:
+        case = read_document(CASE)[0][0]
+        given, due = Transcript("some-case", "1" * 20), Transcript("some-case", "11111000" + "1" * 12)
+        self.assertEqual(
+            window_lines(case, 5, given, due),
+            ["  tester 0101f1f11111111", f"  drove  {'1' * 15}", "  due    111110001111111", f"{' ' * 14}^ 5"],
+        )
+
+
+class Matrix(unittest.TestCase):
+    """Three cases: the first mistake is caught by two of them, the second by one."""
+
+    def setUp(self) -> None:
+        text = "".join(CASE.replace("some-case", f"some-{name}") for name in ("one", "two", "three"))
+        self.cases = read_document(text)[0]
+        right = [Transcript(case.name, "1" * 20, [(1, "lost")]) for case in self.cases]
+        wrong = Transcript("", "0" + "1" * 19, [(1, "lost")])
+        both, last = [wrong, wrong, right[2]], [right[0], wrong, right[2]]
+        mistakes = [Mistake(name, "controller", "", "some", "levels") for name in ("seen-twice", "seen-once")]
+        self.caught = [caught_by(mistakes[0], self.cases, both, right), caught_by(mistakes[1], self.cases, last, right)]
+
+    def test_what_catches_what(self) -> None:
+        self.assertEqual([one.names() for one in self.caught], [["some-one", "some-two"], ["some-two"]])
+        self.assertEqual(cover(self.caught), ["some-two"])
+        self.assertEqual(idle_cases(self.caught, self.cases), ["some-three"])
+        self.assertEqual([one.fault() for one in self.caught], ["", ""])
+        self.assertIn("\nsome-two: 2, alone 1\n", matrix(self.caught, self.cases))
+
+    def test_families_need_reasons(self) -> None:
+        self.assertEqual(reason_faults({"some": "why"}, self.caught, self.cases), [])
+        faults = reason_faults({"other": "why"}, self.caught, self.cases)
+        told = ["there is no reason for the cases of some", "there is a reason for other, which needs none"]
+        self.assertEqual(faults, told)
+
+
 class Mistakes(unittest.TestCase):
     def test_every_mistake_fits_its_source(self) -> None:
-        sources = {"controller": "adapters/controller.c", "simulator": "../bench/machine.rs"}
-        for name, path in sources.items():
-            with open(os.path.join(TOP, path), encoding="utf-8") as file:
-                source = file.read()
+        sources = {"controller": "adapters/controller/*.[ch]", "simulator": "../bench/machine.rs"}
+        for name, pattern in sources.items():
+            texts = {}
+            for path in glob.glob(os.path.join(TOP, pattern)):
+                with open(path, encoding="utf-8") as file:
+                    texts[path] = file.read()
             with open(os.path.join(TOP, "mistakes", f"{name}.txt"), encoding="utf-8") as file:
                 for mistake in read_mistakes(file.read(), name):
-                    self.assertNotEqual(mistake.applied(source), source)
-
-
-class Adapters(unittest.TestCase):
-    def test_the_controller_in_c_plays_as_worked_out_by_hand(self) -> None:
-        """Six dominant levels to an idle controller: a flag of six levels behind them, and a REC of 1."""
-        with tempfile.TemporaryDirectory() as folder:
-            program = os.path.join(folder, "controller")
-            subprocess.run(["cc", "-std=c99", "-o", program, os.path.join(TOP, "adapters/controller.c")], check=True)
-            text = CASE.replace("0101 1*16", "000000 1*14").replace("[4, 6]", "[]")
-            with Session([program]) as session:
-                played = list(session.play_all(read_document(text)[0]))[0].transcript
-        self.assertEqual(
-            played, Transcript("some-case", "111111" + "000000" + "1" * 8, [(5, "error stuff")], None, ("active", 0, 1))
-        )
+                    self.assertNotEqual(mistake.applied(texts), texts)
 
 
 if __name__ == "__main__":

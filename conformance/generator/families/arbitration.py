@@ -5,7 +5,7 @@ from __future__ import annotations
 from typing import List, Tuple
 
 from generator.book import Book, family
-from generator.probes import probe_tec
+from generator.probes import probe_tec, raise_tec
 from generator.scene import Scene
 from kit.frames import Frame
 
@@ -23,7 +23,8 @@ def _lose(scene: Scene, own: str, tester: str) -> None:
 
 @family("arbitration-lost-standard", "the controller sends all recessive, the tester the same with one bit dominant")
 def lost_standard(book: Book) -> None:
-    winners = [(f"identifier-{bit}", f"S {0x7FF ^ 1 << bit:03x} R 0") for bit in (10, 6, 3, 0)]
+    bits = book.rows((10, 6, 3, 0), (9, 8, 7, 5, 4, 2, 1))
+    winners = [(f"identifier-{bit}", f"S {0x7FF ^ 1 << bit:03x} R 0") for bit in bits]
     winners.append(("rtr", "S 7ff D 0"))
     for suffix, winner in winners:
         with book.case(suffix, f"lost at {suffix}: {winner} is acknowledged, its own frame follows") as scene:
@@ -32,7 +33,8 @@ def lost_standard(book: Book) -> None:
 
 @family("arbitration-lost-extended", "as for standard frames; at SRR and IDE too")
 def lost_extended(book: Book) -> None:
-    bits = (28, 23, 18, 17, 9, 0)
+    standard = (28, 23, 18, 17, 9, 0)
+    bits = book.rows(standard, [bit for bit in range(28, -1, -1) if bit not in standard])
     winners = [(f"identifier-{bit}", f"E {0x1FFFFFFF ^ 1 << bit:08x} R 0") for bit in bits]
     winners += [("srr", "S 7ff D 0"), ("ide", "S 7ff R 0"), ("rtr", "E 1fffffff D 0")]
     for suffix, winner in winners:
@@ -97,9 +99,27 @@ def stuffed_places() -> List[Tuple[str, str, int]]:
     ]
 
 
+def _with_run(bits: int, first: int) -> str:
+    """As many bits, with five dominant ones from a place on, a recessive one before them, and no other such run."""
+    before = ("01" * first)[2 * first - first :]
+    return (before + "00000" + "10" * bits)[:bits]
+
+
+def more_stuffed_places() -> List[Tuple[str, str, int]]:
+    """Frames with one recessive stuff bit up to RTR, for each place of the identifier at which it may stand."""
+    more = [(f"standard-at-{at + 5}", f"S {int(_with_run(11, at), 2):03x} D 0", 0) for at in range(1, 6)]
+    for at in range(1, 7):
+        identifier = int(_with_run(11, at) + "01" * 9, 2)
+        more.append((f"extended-at-{at + 5}", f"E {identifier:08x} D 0", 0))
+    for at in range(14):
+        identifier = int("10" * 5 + "1" + _with_run(18, at), 2)
+        more.append((f"extension-at-{at + 5}", f"E {identifier:08x} D 0", 0))
+    return more
+
+
 @family("arbitration-stuff", "each recessive stuff bit up to RTR overridden, and the next behind; a probe of TEC")
 def stuff(book: Book) -> None:
-    for suffix, frame, number in stuffed_places():
+    for suffix, frame, number in book.rows(stuffed_places(), more_stuffed_places()):
         wire = Frame.parse(frame).wire()
         recessive = [place for place in wire.stuff if wire.levels[place] == "1"]
         with book.case(suffix, f"stuff bit {number + 1} of {frame} overridden", ["stuff-exception"]) as scene:
@@ -110,3 +130,21 @@ def stuff(book: Book) -> None:
             scene.behind_flag(8 if suffix.endswith("second") else 0)
             scene.sent(frame)
             probe_tec(scene)
+    if book.is_long:
+        _stuff_bit_while_passive(book)
+
+
+def _stuff_bit_while_passive(book: Book) -> None:
+    frame = "S 020 D 0"
+    wire = Frame.parse(frame).wire()
+    purpose = "a stuff bit overridden while passive: dominant levels in the flag count nothing either"
+    with book.case("standard-passive", purpose, ["stuff-exception"]) as scene:
+        scene.anchor(frame)
+        raise_tec(scene, 128, frame)
+        scene.wait()
+        scene.sending(frame, next(place for place in wire.stuff if wire.levels[place] == "1"))
+        scene.play("0", "the stuff bit dominant")
+        scene.play("0111111", "within the passive flag, the first level dominant")
+        scene.wait("delimiter, intermission, suspend")
+        scene.sent(frame)
+        probe_tec(scene)

@@ -111,6 +111,11 @@ def count_rx(book: Book) -> None:
         ("sent", 9, _sent, []),
         ("lost", 9, _lost, []),
     ]
+    more: List[Tuple[str, int, Step, Sequence[str]]] = [
+        ("stuff-recessive", 0, _stuff("S 7ff D 0", "base", "0"), []),
+        ("end-of-frame-6", 9, _upto("eof 6", "0"), []),
+    ]
+    errors = book.rows(errors, more)
     for suffix, rec, step, choices in errors + others:
         with book.case(suffix, f"{suffix.replace('-', ' ')}: what it counts at a REC of {rec}", choices) as scene:
             scene.rest(1, "idle")
@@ -226,11 +231,17 @@ def count_tx(book: Book) -> None:
         ("run", _own_behind(8), []),
         ("flag-bit", _own_flag_bit, ONCE),
         ("overload-flag-bit", _own_overload_flag_bit, ONCE),
-        ("sent-at-0", _sent_often(0, 2), []),
+        # from 8 down to 0, and one more: neither stops above 0 nor goes below
+        ("sent-at-0", _sent_often(1, 9), []),
         ("received", _received_with_tec, []),
         ("lost", _own_lost, []),
     ]
-    for suffix, step, choices in causes:
+    more: List[Tuple[str, Step, Sequence[str]]] = [
+        ("dlc-unseen", _overridden("dlc", 0, "f"), []),
+        ("crc-unseen", _overridden("crc", 1, "f"), []),
+        ("end-of-frame-7", _overridden("eof", 6), []),
+    ]
+    for suffix, step, choices in book.rows(causes, more):
         with book.case(suffix, f"{suffix.replace('-', ' ')}: what it counts", choices) as scene:
             step(scene)
             probe_tec(scene)

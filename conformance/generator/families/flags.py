@@ -25,7 +25,7 @@ def sent_again(scene: Scene) -> None:
 
 @family("error-flag-superposed-rx", "0 to 24 dominant levels behind a receiver's flag; a probe of REC")
 def superposed_rx(book: Book) -> None:
-    for dominant in (0, 1, 2, 7, 8, 16, 24):
+    for dominant in book.rows((0, 1, 2, 7, 8, 16, 24), (3, 4, 5, 6, 9, 15, 17, 23)):
         with book.case(str(dominant), f"{dominant} dominant levels behind its flag") as scene:
             scene.rest(1, "idle")
             scene.stuff_error()
@@ -35,7 +35,7 @@ def superposed_rx(book: Book) -> None:
 
 @family("error-flag-superposed-tx", "1 to 24 dominant levels behind a sender's flag; a probe of TEC")
 def superposed_tx(book: Book) -> None:
-    for dominant in (1, 7, 8, 16, 24):
+    for dominant in book.rows((1, 7, 8, 16, 24), (2, 9, 15, 23)):
         with book.case(str(dominant), f"{dominant} dominant levels behind its flag") as scene:
             sender_error(scene)
             scene.behind_flag(dominant)
@@ -44,14 +44,14 @@ def superposed_tx(book: Book) -> None:
 
 @family("error-flag-bit-error", "a flag level forced; probes")
 def flag_bit_error(book: Book) -> None:
-    for level in (1, 3, 6):
+    for level in book.rows((1, 3, 6), (2, 5)):
         with book.case(f"rx-{level}", f"level {level} of a receiver's flag is not seen", ["flag-error-once"]) as scene:
             scene.rest(1, "idle")
             scene.stuff_error()
             scene.play("1" * (level - 1) + "f", f"flag level {level} forced")
             scene.recover("a new flag, delimiter, intermission")
             probe_rec(scene)
-    for level in (1, 4, 6):
+    for level in book.rows((1, 4, 6), (2, 5)):
         with book.case(f"tx-{level}", f"level {level} of a sender's flag is not seen", ["flag-error-once"]) as scene:
             sender_error(scene)
             scene.play("1" * (level - 1) + "f", f"flag level {level} forced")
@@ -61,7 +61,7 @@ def flag_bit_error(book: Book) -> None:
 
 @family("error-delimiter-form-error", "delimiter level 2 to 7 dominant; probes")
 def delimiter_form_error(book: Book) -> None:
-    for level in (2, 3, 5, 7):
+    for level in book.rows((2, 3, 5, 7), (4,)):
         with book.case(f"rx-{level}", f"delimiter level {level} dominant at a receiver") as scene:
             scene.rest(1, "idle")
             scene.stuff_error()
@@ -69,7 +69,7 @@ def delimiter_form_error(book: Book) -> None:
             scene.play("0", f"delimiter level {level} dominant")
             scene.recover()
             probe_rec(scene)
-    for level in (2, 4, 7):
+    for level in book.rows((2, 4, 7), (5,)):
         with book.case(f"tx-{level}", f"delimiter level {level} dominant at a sender") as scene:
             sender_error(scene)
             scene.rest(6 + level - 1, "the flag, and delimiter levels before")

@@ -2,7 +2,7 @@
 
 from __future__ import annotations
 
-from typing import Callable
+from typing import Callable, ContextManager, List, Tuple
 
 from generator.book import Book, family
 from generator.probes import PROBE_FRAME, break_delimiter, probe_rec, probe_tec, raise_tec
@@ -85,7 +85,7 @@ def bus_off_limit(book: Book) -> None:
         scene.rest(6, "the overload flag")
         scene.play("0" * 16, "16 dominant levels behind it")
 
-    cases = [
+    cases: List[Tuple[str, str, Callable[[Scene], None]]] = [
         ("248", "a TEC of 248 is not off", lambda scene: tec_to(scene, 248)),
         ("255", "a TEC of 255 is not off", at_247(error)),
         ("256-by-error", "a TEC of 256 by an error is off", at_248(error)),
@@ -97,7 +97,8 @@ def bus_off_limit(book: Book) -> None:
         ("255-by-overload-flag", "a TEC of 255 by an overload flag is not off", at_248(overload_flag)),
         ("263-by-overload-run", "a TEC of 263 behind an overload flag is off", at_248(overload_run)),
     ]
-    for suffix, purpose, make in cases:
+    more = [("255-by-bit-error", "a TEC of 255 by an overridden bit is not off", at_247(bit_error))]
+    for suffix, purpose, make in book.rows(cases, more):
         with book.case(suffix, purpose) as scene:
             make(scene)
             _tester_sends(scene)
@@ -126,7 +127,7 @@ def bus_off_recovery(book: Book) -> None:
         go_off(scene)
         scene.rest(ROWS * ROW, "recessive")
         sent_behind(scene)
-    for run in (10, 11, 21, 22):
+    for run in book.rows((10, 11, 21, 22), (33,)):
         with book.case(f"runs-of-{run}", f"ten runs of {run} recessive levels, then recessive", RECOVERY) as scene:
             go_off(scene)
             scene.play(("1" * run + "0") * 10, f"ten runs of {run}")
@@ -154,6 +155,9 @@ def bus_off_recovery(book: Book) -> None:
         sent_behind(scene)
     with book.case("tec", "TEC is 0 behind bus off", RECOVERY) as scene:
         go_off(scene)
+        # an error comes first: a frame that is sent would take a TEC of 1 to 0
+        scene.wait("recessive")
+        break_delimiter(scene, OWN, 0)
         sent_behind(scene)
         probe_tec(scene)
     with book.case("rec", "REC is 0 behind bus off", RECOVERY) as scene:
@@ -168,7 +172,7 @@ def bus_off_recovery(book: Book) -> None:
 
 @family("joining", "10, 11 recessive levels, interrupted; a frame meanwhile; a probe of REC")
 def joining(book: Book) -> None:
-    def case(suffix: str, purpose: str):  # type: ignore[no-untyped-def]
+    def case(suffix: str, purpose: str) -> ContextManager[Scene]:
         return book.case(suffix, purpose, start="joining")
 
     with case("eleven", "its frame begins behind eleven recessive levels") as scene:

@@ -2,7 +2,7 @@
 
 from __future__ import annotations
 
-from typing import List
+from typing import List, Sequence
 
 from generator.book import Book, family
 from generator.families.flags import FRAME
@@ -13,7 +13,7 @@ from kit.frames import Frame
 RECEIVED = "S 123 D 1 c3"
 
 
-def after_received(scene: Scene, offers: tuple = ()) -> None:
+def after_received(scene: Scene, offers: Sequence[str] = ()) -> None:
     scene.receive(RECEIVED, offers)
 
 
@@ -73,6 +73,23 @@ def overload_intermission(book: Book) -> None:
             scene.rest(6 + 8, "flag, delimiter")
         scene.rest(3, "intermission")
         probe_rec(scene)
+    if book.is_long:
+        _more_in_intermission(book)
+
+
+def _more_in_intermission(book: Book) -> None:
+    with book.case("overload-2", "level 2 of intermission dominant behind an overload frame") as scene:
+        after_received(scene)
+        dominant_in_intermission(scene, 1)
+        scene.rest(6 + 8, "flag, delimiter")
+        dominant_in_intermission(scene, 2)
+        scene.recover()
+        probe_rec(scene)
+    with book.case("extended-received-1", "level 1 of intermission dominant behind an extended frame") as scene:
+        scene.receive("E 01234567 D 1 c3")
+        dominant_in_intermission(scene, 1)
+        scene.recover()
+        probe_rec(scene)
 
 
 @family("overload-last-eof", "end of frame 7 dominant to a receiver; a probe of REC")
@@ -95,13 +112,13 @@ def overload_last_eof(book: Book) -> None:
 
 @family("overload-flag-superposed", "1 to 16 dominant levels behind an overload flag; probes")
 def overload_superposed(book: Book) -> None:
-    for dominant in (1, 7, 8, 16):
+    for dominant in book.rows((1, 7, 8, 16), (2, 9, 15)):
         with book.case(f"rx-{dominant}", f"{dominant} dominant levels behind a receiver's overload flag") as scene:
             after_received(scene)
             dominant_in_intermission(scene, 1)
             scene.behind_flag(dominant)
             probe_rec(scene)
-    for dominant in (1, 8):
+    for dominant in book.rows((1, 8), (16,)):
         with book.case(f"tx-{dominant}", f"{dominant} dominant levels behind a sender's overload flag") as scene:
             after_sent(scene)
             dominant_in_intermission(scene, 1)
@@ -111,7 +128,8 @@ def overload_superposed(book: Book) -> None:
 
 @family("overload-flag-bit-error", "an overload flag's level forced; probes")
 def overload_flag_bit_error(book: Book) -> None:
-    for role, level in (("rx", 1), ("rx", 3), ("rx", 6), ("tx", 1), ("tx", 6)):
+    standard = (("rx", 1), ("rx", 3), ("rx", 6), ("tx", 1), ("tx", 6))
+    for role, level in book.rows(standard, (("rx", 2), ("rx", 5), ("tx", 3))):
         purpose = f"level {level} of an overload flag is not seen: an error flag"
         with book.case(f"{role}-{level}", purpose, ["flag-error-once"]) as scene:
             after_received(scene) if role == "rx" else after_sent(scene)
@@ -126,7 +144,8 @@ def overload_flag_bit_error(book: Book) -> None:
 
 @family("overload-delimiter-form-error", "an overload delimiter's level 2 to 7 dominant; probes")
 def overload_delimiter_form_error(book: Book) -> None:
-    for role, level in (("rx", 2), ("rx", 4), ("rx", 7), ("tx", 5)):
+    standard = (("rx", 2), ("rx", 4), ("rx", 7), ("tx", 5))
+    for role, level in book.rows(standard, (("rx", 3), ("rx", 5), ("tx", 2))):
         with book.case(f"{role}-{level}", f"level {level} of an overload delimiter dominant: an error flag") as scene:
             after_received(scene) if role == "rx" else after_sent(scene)
             dominant_in_intermission(scene, 2)
@@ -141,7 +160,7 @@ OVERLOAD = 6 + 8
 
 @family("overload-own", "wishes for overload frames: one or two, renewed, replaced, taken back; as sender")
 def overload_own(book: Book) -> None:
-    def begin(wish: int, offers: tuple = ()) -> Scene:
+    def begin(wish: int, offers: Sequence[str] = ()) -> Scene:
         scene.receive(RECEIVED, offers, hold=wish)
         return scene
 

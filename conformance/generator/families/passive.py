@@ -119,11 +119,16 @@ PATTERNS = [
     ("late-dominant", "1110000001"),
     ("last-dominant", "111110111111"),
 ]
+MORE_PATTERNS = [
+    ("two-late-dominant", "11100000111111"),
+    ("pairs", "110011001111110"),
+    ("five-dominant-often", "0000010000010000011111101"),
+]
 
 
 @family("passive-flag-rx", "patterns within a receiver's passive flag; the start of a frame tells its end")
 def passive_flag_rx(book: Book) -> None:
-    for suffix, pattern in PATTERNS:
+    for suffix, pattern in book.rows(PATTERNS, MORE_PATTERNS):
         with book.case(suffix, f"{pattern} within a passive flag") as scene:
             scene.rest(1, "idle")
             raise_rec(scene, 128)
@@ -137,7 +142,7 @@ def passive_flag_rx(book: Book) -> None:
 
 @family("passive-flag-tx", "patterns within a sender's passive flag; the start of the frame tells its end")
 def passive_flag_tx(book: Book) -> None:
-    for suffix, pattern in PATTERNS[:1] + PATTERNS[3:]:
+    for suffix, pattern in book.rows(PATTERNS[:1] + PATTERNS[3:], PATTERNS[1:3] + MORE_PATTERNS):
         with book.case(suffix, f"{pattern} within a passive flag") as scene:
             passive_sender(scene, OWN)
             scene.sending(OWN, Frame.parse(OWN).wire().stuffed)
@@ -151,7 +156,7 @@ def passive_flag_tx(book: Book) -> None:
 @family("passive-flag-overload", "a dominant level in delimiter and intermission behind a passive flag")
 def passive_flag_overload(book: Book) -> None:
     places = [("intermission-1", 8), ("intermission-2", 9), ("delimiter-8", 7), ("delimiter-5", 4)]
-    for suffix, before in places:
+    for suffix, before in book.rows(places, [("delimiter-2", 1)]):
         with book.case(f"rx-{suffix}", f"{suffix} dominant behind a receiver's passive flag") as scene:
             passive_receiver(scene)
             scene.stuff_error()
@@ -170,13 +175,28 @@ def passive_flag_overload(book: Book) -> None:
             scene.wait("suspend")
             scene.sent(OWN)
             scene.rest(12)
+    if book.is_long:
+        _unseen_overload_flag(book)
+
+
+def _unseen_overload_flag(book: Book) -> None:
+    purpose = "an overload flag's level is not seen: dominant levels in the passive flag behind it count nothing"
+    with book.case("tx-flag-bit", purpose, ["flag-error-once"]) as scene:
+        passive_sender(scene, OWN, OWN)
+        scene.sending(OWN)
+        scene.play("0", "the first level of intermission dominant")
+        scene.play("11f", "level 3 of the overload flag forced")
+        scene.play("0111111", "within the passive flag, the first level dominant")
+        scene.wait("delimiter, intermission, suspend")
+        scene.sent(OWN)
+        probe_tec(scene)
 
 
 @family("passive-receiver", "an error passive receiver: a frame, each kind of error, no suspend")
 def passive_receiver_family(book: Book) -> None:
     wire = Frame.parse(RECEIVED).wire()
     wrong = Frame.parse(RECEIVED).wire("crc-5")
-    errors: list = [
+    errors = [
         ("stuff", "000000"),
         ("crc", wrong.acknowledged()[: wrong.place("eof 1")]),
         ("crc-delimiter", wire.levels[: wire.stuffed] + "0"),
@@ -256,7 +276,7 @@ def _meets(scene: Scene, level: int) -> None:
 
 @family("suspend-reception", "the tester begins at suspend 1 to 9, at intermission 3; an error in it; lost")
 def suspend_reception(book: Book) -> None:
-    for level in (1, 4, 8):
+    for level in book.rows((1, 4, 8), (2, 3, 5, 6, 7)):
         with book.case(f"at-{level}", f"a frame begins at level {level} of suspend: it is received") as scene:
             _suspended(scene)
             _meets(scene, level)
@@ -332,7 +352,12 @@ def passive_unacknowledged(book: Book) -> None:
         ("completed", "000000", "dominant levels that complete the flag count once"),
         ("behind", "1111110", "a dominant level behind the flag does not count"),
     )
-    for suffix, pattern, purpose in patterns:
+    more = (
+        ("level-2", "10111111", "a dominant second level counts"),
+        ("level-4", "1110111111", "a dominant fourth level counts"),
+        ("level-5", "11110111111", "a dominant fifth level counts"),
+    )
+    for suffix, pattern, purpose in book.rows(patterns, more):
         with book.case(suffix, f"a missing acknowledgement while passive: {purpose}") as scene:
             passive_sender(scene, OWN)
             if suffix == "nothing-dominant":
@@ -344,7 +369,7 @@ def passive_unacknowledged(book: Book) -> None:
 
 @family("passive-behind-flag", "dominant levels complete the flag, and more follow; a probe of TEC")
 def passive_behind_flag(book: Book) -> None:
-    for dominant in (1, 2, 8, 16):
+    for dominant in book.rows((1, 2, 8, 16), (9,)):
         with book.case(str(dominant), f"{dominant} dominant levels behind a passive flag that six completed") as scene:
             passive_sender(scene, OWN)
             scene.sending(OWN, Frame.parse(OWN).wire().stuffed)

@@ -2,6 +2,8 @@
 
 from __future__ import annotations
 
+from typing import List, Tuple
+
 from generator.book import Book, family
 from generator.probes import probe_rec
 from generator.scene import Scene
@@ -19,6 +21,15 @@ IDENTIFIERS = [
     ("extended-mixed", "E 15555555 D 1 5a"),
     ("extended-seven-recessive", "E 1fc12345 D 1 5a"),
 ]
+MORE_IDENTIFIERS = [
+    ("lowest-recessive", "S 001 D 1 5a"),
+    ("highest-recessive", "S 400 D 1 5a"),
+    ("halves", "S 03f D 1 5a"),
+    ("extended-lowest-recessive", "E 00000001 D 1 5a"),
+    ("extended-highest-recessive", "E 10000000 D 1 5a"),
+    ("extended-base-recessive", "E 1ffc0000 D 1 5a"),
+    ("extended-extension-recessive", "E 0003ffff D 1 5a"),
+]
 DLCS = [
     ("data-0", "S 123 D 0"),
     ("data-1", "S 123 D 1 c3"),
@@ -32,11 +43,30 @@ DLCS = [
     ("extended-data-11", "E 01234567 D 11 fedcba9876543210"),
     ("extended-remote-4", "E 01234567 R 4"),
 ]
+_EIGHT = "0123456789abcdef"
+MORE_DLCS = [
+    *[(f"data-{dlc}", f"S 123 D {dlc} {_EIGHT[: 2 * dlc]}") for dlc in (2, 3, 4, 5, 6)],
+    *[(f"data-{dlc}", f"S 123 D {dlc} {_EIGHT}") for dlc in (10, 11, 12, 13, 14)],
+    ("remote-0", "S 123 R 0"),
+    ("remote-9", "S 123 R 9"),
+    ("extended-data-0", "E 01234567 D 0"),
+    ("extended-data-8", f"E 01234567 D 8 {_EIGHT}"),
+    ("extended-data-15", f"E 01234567 D 15 {_EIGHT}"),
+    ("extended-remote-0", "E 01234567 R 0"),
+    ("extended-remote-15", "E 01234567 R 15"),
+]
 STUFFED = [
     ("dominant-runs", "S 000 D 8 0000000000000000"),
     ("recessive-runs", "S 7ff D 8 ffffffffffffffff"),
     ("runs-of-stuff-bits", "S 078 D 8 787878783c3c3c3c"),
     ("extended-runs", "E 00003fff D 8 000000ffffff07c1"),
+]
+MORE_STUFFED = [
+    ("alternating", "S 555 D 8 aaaaaaaaaaaaaaaa"),
+    ("runs-of-four", "S 0f0 D 8 f0f0f0f0f0f0f0f0"),
+    ("runs-of-five", "S 01f D 8 07c1f07c1f07c1f0"),
+    ("extended-dominant-runs", "E 00000000 D 8 0000000000000000"),
+    ("extended-recessive-runs", "E 1fffffff D 8 ffffffffffffffff"),
 ]
 BEHIND_CRC = [
     ("recessive", ends_stuffed("S", 2, "1")),
@@ -46,7 +76,7 @@ BEHIND_CRC = [
 ]
 
 
-def _receive_whole(book: Book, frames: list, what: str) -> None:
+def _receive_whole(book: Book, frames: List[Tuple[str, str]], what: str) -> None:
     for suffix, frame in frames:
         with book.case(suffix, f"{what}: {frame} is received and acknowledged") as scene:
             scene.rest(1, "idle")
@@ -56,12 +86,12 @@ def _receive_whole(book: Book, frames: list, what: str) -> None:
 
 @family("rx-identifiers", "the tester sends identifiers of all kinds")
 def rx_identifiers(book: Book) -> None:
-    _receive_whole(book, IDENTIFIERS, "identifier")
+    _receive_whole(book, book.rows(IDENTIFIERS, MORE_IDENTIFIERS), "identifier")
 
 
 @family("rx-dlc", "the tester sends data and remote frames with DLC 0 to 15")
 def rx_dlc(book: Book) -> None:
-    _receive_whole(book, DLCS, "DLC")
+    _receive_whole(book, book.rows(DLCS, MORE_DLCS), "DLC")
 
 
 @family("rx-reserved", "SRR, r1, r0 at other levels; the check sequence is that of the levels sent")
@@ -75,7 +105,11 @@ def rx_reserved(book: Book) -> None:
         ("extended-r1-r0", extended, {"r1": "1", "r0": "1"}),
         ("extended-all", extended, {"srr": "0", "r1": "1", "r0": "1"}),
     ]
-    for suffix, frame, given in cases:
+    more = [
+        ("remote-r0", "S 123 R 1", {"r0": "1"}),
+        ("extended-srr-r0", extended, {"srr": "0", "r0": "1"}),
+    ]
+    for suffix, frame, given in book.rows(cases, more):
         purpose = f"{', '.join(given)} at the other level: the frame is acknowledged"
         with book.case(suffix, purpose, ["reserved-levels"]) as scene:
             scene.rest(1, "idle")
@@ -85,7 +119,7 @@ def rx_reserved(book: Book) -> None:
 
 @family("rx-stuff", "frames of long runs, and of runs that begin with stuff bits")
 def rx_stuff(book: Book) -> None:
-    _receive_whole(book, STUFFED, "stuff bits")
+    _receive_whole(book, book.rows(STUFFED, MORE_STUFFED), "stuff bits")
 
 
 @family("rx-stuff-behind-crc", "check sequences that end with five equal levels")
@@ -95,7 +129,7 @@ def rx_stuff_behind_crc(book: Book) -> None:
 
 @family("rx-spacing", "frames 3 and 2 recessive levels apart, and 200")
 def rx_spacing(book: Book) -> None:
-    for gap in (3, 2, 200):
+    for gap in book.rows((3, 2, 200), (20,)):
         with book.case(f"gap-{gap}", f"a frame begins {gap} levels behind another: both are acknowledged") as scene:
             scene.receive("S 123 D 1 c3")
             scene.rest(gap, "between the frames")
@@ -141,10 +175,34 @@ STUFF_ERRORS = [
 ]
 
 
-def break_stuff_bit(scene: Scene, frame: str, part: str, level: str, behind: bool = False) -> None:
+MORE_STUFF_ERRORS = [
+    ("identifier-second", "S 000 D 0", "base", "1"),
+    ("rtr-dominant", stuffed_in("S", 0, "rtr", "1"), "rtr", "1"),
+    ("ide-dominant", stuffed_in("S", 0, "ide", "1"), "ide", "1"),
+    ("r0-dominant", stuffed_in("S", 0, "r0", "1"), "r0", "1"),
+    ("extended-srr-recessive", stuffed_in("E", 0, "srr", "0"), "srr", "0"),
+    ("extended-ide-recessive", stuffed_in("E", 0, "ide", "0"), "ide", "0"),
+    ("extended-rtr-dominant", stuffed_in("E", 0, "rtr", "1"), "rtr", "1"),
+    ("extended-r1-dominant", stuffed_in("E", 0, "r1", "1"), "r1", "1"),
+    ("extended-r0-dominant", stuffed_in("E", 0, "r0", "1"), "r0", "1"),
+    ("extended-control-dominant", "E 15555555 D 0", "dlc", "1"),
+    ("extended-data-dominant", "E 15555555 D 2 0000", "data", "1"),
+    ("extended-data-recessive", "E 15555555 D 2 ffff", "data", "0"),
+    ("extended-crc-recessive", stuffed_in("E", 3, "crc", "0"), "crc", "0"),
+    ("data-last-dominant", "S 555 D 8 0000000000000000", "data", "1"),
+    ("data-last-recessive", "S 555 D 8 ffffffffffffffff", "data", "0"),
+    ("extended-behind-crc-dominant", BEHIND_CRC[2][1], "crc", "1"),
+]
+# which of the part's stuff bits is meant, where it is not the first
+STUFF_NUMBERS = {"identifier-second": 1, "data-last-dominant": -1, "data-last-recessive": -1}
+
+
+def break_stuff_bit(
+    scene: Scene, frame: str, part: str, level: str, behind: bool = False, number: int = 0
+) -> None:
     """The tester's frame up to a stuff bit, there the wrong level."""
     wire = Frame.parse(frame).wire()
-    place = wire.stuff[-1] if behind else stuff_place(wire, part, level)
+    place = wire.stuff[-1] if behind else stuff_place(wire, part, level, number)
     if place < 0:
         raise ValueError(f"{scene.case.name}: no such stuff bit")
     scene.receive(frame, upto=place)
@@ -153,9 +211,9 @@ def break_stuff_bit(scene: Scene, frame: str, part: str, level: str, behind: boo
 
 @family("rx-stuff-error", "the tester's frame up to a stuff bit, there the wrong level")
 def rx_stuff_error(book: Book) -> None:
-    for suffix, frame, part, level in STUFF_ERRORS:
+    for suffix, frame, part, level in book.rows(STUFF_ERRORS, MORE_STUFF_ERRORS):
         with book.case(suffix, f"a wrong stuff bit in {frame} starts an error flag") as scene:
-            break_stuff_bit(scene, frame, part, level, behind="behind" in suffix)
+            break_stuff_bit(scene, frame, part, level, "behind" in suffix, STUFF_NUMBERS.get(suffix, 0))
             scene.recover()
             scene.rest(3)
 
@@ -173,9 +231,21 @@ CRC_ERRORS = [
 ]
 
 
+MORE_CRC_ERRORS = [
+    *[(f"crc-{bit}", "S 123 D 2 c3a5", f"crc-{bit}", False) for bit in (2, 4, 5, 9, 11, 13)],
+    ("identifier-first", "S 123 D 2 c3a5", "base-0", False),
+    ("data-first", "S 123 D 2 c3a5", "data-0", False),
+    ("data-last", "S 123 D 2 c3a5", "data-15", False),
+    ("extended-first-bit", "E 01234567 D 2 c3a5", "crc-0", False),
+    ("extended-middle-bit", "E 01234567 D 2 c3a5", "crc-7", False),
+    ("extended-base", "E 01234567 D 2 c3a5", "base-3", False),
+    ("extended-extension-last", "E 01234567 D 2 c3a5", "extension-17", False),
+]
+
+
 @family("rx-crc-error", "one bit turned, stuffed anew; acknowledged by others")
 def rx_crc_error(book: Book) -> None:
-    for suffix, frame, turned, others in CRC_ERRORS:
+    for suffix, frame, turned, others in book.rows(CRC_ERRORS, MORE_CRC_ERRORS):
         purpose = f"{turned} turned in {frame}: not acknowledged, an error flag behind the ACK delimiter"
         with book.case(suffix, purpose) as scene:
             wire = Frame.parse(frame).wire(turned)
@@ -187,11 +257,14 @@ def rx_crc_error(book: Book) -> None:
 
 @family("rx-form-error", "delimiters and end of frame 1 to 6 dominant; the delimiters with a wrong check sequence")
 def rx_form_error(book: Book) -> None:
-    frame = "S 123 D 2 c3a5"
-    places = [("crc-delimiter", ""), ("ack-delimiter", ""), ("eof 1", ""), ("eof 3", ""), ("eof 5", ""), ("eof 6", "")]
-    places += [("crc-delimiter", "crc-3"), ("ack-delimiter", "crc-3")]
-    for part, turned in places:
-        suffix = part.replace(" ", "-") + ("-wrong-crc" if turned else "")
+    standard, extended = "S 123 D 2 c3a5", "E 01234567 D 2 c3a5"
+    parts = ("crc-delimiter", "ack-delimiter", "eof 1", "eof 3", "eof 5", "eof 6")
+    places = [(standard, part, "") for part in parts]
+    places += [(standard, part, "crc-3") for part in parts[:2]]
+    more = [(standard, part, "") for part in ("eof 2", "eof 4")]
+    more += [(extended, part, "") for part in ("crc-delimiter", "ack-delimiter", "eof 1", "eof 6")]
+    for frame, part, turned in book.rows(places, more):
+        suffix = ("extended-" if frame == extended else "") + part.replace(" ", "-") + ("-wrong-crc" if turned else "")
         wrong = ", the check sequence wrong" if turned else ""
         with book.case(suffix, f"{part} dominant{wrong}: an error flag and a count of 1") as scene:
             wire = Frame.parse(frame).wire(turned)

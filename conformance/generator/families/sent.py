@@ -2,8 +2,18 @@
 
 from __future__ import annotations
 
+from typing import List, Tuple
+
 from generator.book import Book, family
-from generator.families.received import BEHIND_CRC, DLCS, IDENTIFIERS, STUFFED
+from generator.families.received import (
+    BEHIND_CRC,
+    DLCS,
+    IDENTIFIERS,
+    MORE_DLCS,
+    MORE_IDENTIFIERS,
+    MORE_STUFFED,
+    STUFFED,
+)
 from generator.scene import Scene
 from generator.search import stuff_place, stuffed_in
 from kit.frames import Frame
@@ -12,7 +22,7 @@ FRAME = "S 155 D 2 5aa5"
 EXTENDED = "E 0a5a5a5a D 2 5aa5"
 
 
-def _send_whole(book: Book, frames: list, what: str) -> None:
+def _send_whole(book: Book, frames: List[Tuple[str, str]], what: str) -> None:
     for suffix, frame in frames:
         with book.case(suffix, f"{what}: {frame} as it is sent") as scene:
             scene.anchor(frame)
@@ -22,17 +32,17 @@ def _send_whole(book: Book, frames: list, what: str) -> None:
 
 @family("tx-identifiers", "the controller sends the frames of rx-identifiers")
 def tx_identifiers(book: Book) -> None:
-    _send_whole(book, IDENTIFIERS, "identifier")
+    _send_whole(book, book.rows(IDENTIFIERS, MORE_IDENTIFIERS), "identifier")
 
 
 @family("tx-dlc", "the controller sends the frames of rx-dlc")
 def tx_dlc(book: Book) -> None:
-    _send_whole(book, DLCS, "DLC")
+    _send_whole(book, book.rows(DLCS, MORE_DLCS), "DLC")
 
 
 @family("tx-stuff", "the controller sends the frames of rx-stuff")
 def tx_stuff(book: Book) -> None:
-    _send_whole(book, STUFFED, "stuff bits")
+    _send_whole(book, book.rows(STUFFED, MORE_STUFFED), "stuff bits")
 
 
 @family("tx-stuff-behind-crc", "the controller sends the frames of rx-stuff-behind-crc")
@@ -88,12 +98,13 @@ def tx_spacing(book: Book) -> None:
 @family("tx-order", "frames offered out of order; equal ones")
 def tx_order(book: Book) -> None:
     equal = ["S 123 D 1 01", "S 123 D 1 02", "S 123 D 1 03"]
-    mixed = ["S 400 D 0", "E 0fff0000 D 0", "S 3ff R 0"]
+    # one base identifier but for the first: by IDE, the extension's highest and lowest bit, and RTR
+    mixed = ["S 3ff D 0", "E 0ffa0000 D 0", "E 0ff80001 D 0", "E 0ff80000 R 0", "E 0ff80000 D 0", "S 3fe R 0"]
     orders = [
         ("three", "three frames go as in arbitration", ["S 300 D 1 33", "S 100 D 1 11", "S 200 D 1 22"], [1, 2, 0]),
         ("equal", "of equal fields the one offered first goes first", equal, [0, 1, 2]),
         ("remote", "a data frame goes before the remote frame", ["S 123 R 1", "S 123 D 1 0f"], [1, 0]),
-        ("extended", "an extended frame goes before a higher standard one", mixed, [2, 1, 0]),
+        ("extended", "extended frames go behind a standard one, and before a higher one", mixed, [5, 4, 3, 2, 1, 0]),
     ]
     for suffix, purpose, offers, order in orders:
         with book.case(suffix, purpose) as scene:
@@ -144,6 +155,31 @@ def tx_kept_frame(book: Book) -> None:
         scene.play("1" * (slot - 7) + "0" + "1" * 8 + "111")
         scene.sent(first)
         scene.rest(3)
+    if book.is_long:
+        _more_kept_frames(book)
+
+
+def _more_kept_frames(book: Book) -> None:
+    first = "S 001 D 1 56"
+    kept = "E 1aaaaaaa D 1 0f"
+    with book.case("extended-before-an-error", "behind an error the frame that goes first is sent first") as scene:
+        scene.anchor(kept)
+        scene.rest(20, f"listens to {kept}")
+        scene.offer(first)
+        scene.rest(Frame.parse(kept).wire().stuffed - 20)
+        scene.play("0", "the CRC delimiter dominant")
+        scene.recover()
+        scene.sent(first)
+        scene.sent(kept)
+        scene.rest(3)
+    with book.case("in-end-of-frame", "offered in the end of its own frame, it begins behind intermission") as scene:
+        scene.anchor(kept)
+        slot = Frame.parse(kept).wire().place("ack")
+        scene.play("1" * slot + "0" + "1" * 4, f"listens to {kept}")
+        scene.offer(first)
+        scene.rest(4 + 3, "the rest of the end of frame, intermission")
+        scene.sent(first)
+        scene.rest(3)
 
 
 def override(scene: Scene, frame: str, place: int, level: str, comment: str) -> None:
@@ -175,7 +211,15 @@ def tx_bit_error_dominant(book: Book) -> None:
         ("eof-6", FRAME, "eof", 5),
         ("eof-7", FRAME, "eof", 6),
     ]
-    for suffix, frame, part, index in cases:
+    more = [(f"data-{index + 1}", FRAME, "data", index) for index in (1, 2, 3)]
+    more += [(f"crc-{index + 1}", FRAME, "crc", index) for index in (1, 2)]
+    more += [(f"eof-{index + 1}", FRAME, "eof", index) for index in (1, 3)]
+    more += [("remote-dlc", "S 155 R 5", "dlc", 0), ("remote-crc", "S 155 R 5", "crc", 0)]
+    more += [(f"extended-{part}", EXTENDED, part, 0) for part in ("dlc", "data", "crc")]
+    more += [("extended-data-last", EXTENDED, "data", -1)]
+    more += [(f"extended-{part}", EXTENDED, part, 0) for part in ("crc-delimiter", "ack-delimiter")]
+    more += [(f"extended-eof-{index + 1}", EXTENDED, "eof", index) for index in (0, 1, 2, 3, 5, 6)]
+    for suffix, frame, part, index in book.rows(cases, more):
         with book.case(suffix, f"a recessive level of {part} overridden: an error flag, then sent again") as scene:
             scene.anchor(frame)
             override(scene, frame, _place_of(frame, part, "1", index), "0", f"{suffix} dominant")
@@ -198,11 +242,16 @@ def tx_bit_error_recessive(book: Book) -> None:
         ("data", FRAME, "data"),
         ("crc", FRAME, "crc"),
     ]
+    more = [
+        ("extended-identifier", EXTENDED, "base"),
+        *[(f"extended-{part}", EXTENDED, part) for part in ("rtr", "dlc", "data", "crc")],
+    ]
     places = [(suffix, frame, _place_of(frame, part, "0")) for suffix, frame, part in cases]
     wire = Frame.parse(stuffed).wire()
     places += [("stuff-bit-identifier", stuffed, stuff_place(wire, "base", "0"))]
     places += [("stuff-bit-data", stuffed, stuff_place(wire, "data", "0"))]
-    for suffix, frame, place in places:
+    others = [(suffix, frame, _place_of(frame, part, "0")) for suffix, frame, part in more]
+    for suffix, frame, place in book.rows(places, others):
         choices = ["own-start"] if suffix == "sof" else []
         with book.case(suffix, f"its dominant {suffix} is not on the bus: an error flag", choices) as scene:
             scene.anchor(frame)
@@ -219,9 +268,17 @@ def tx_stuff_error(book: Book) -> None:
         ("crc", stuffed_in("S", 2, "crc", "1"), "crc"),
         ("behind-crc", BEHIND_CRC[0][1], "end"),
     ]
-    for suffix, frame, part in cases:
+    more = [
+        ("data-last", "S 555 D 8 0000000000000000", "data"),
+        ("extended-control", "E 15555555 D 0", "dlc"),
+        ("extended-data", "E 15555555 D 2 0000", "data"),
+        ("extended-crc", stuffed_in("E", 2, "crc", "1"), "crc"),
+        ("extended-behind-crc", BEHIND_CRC[2][1], "end"),
+    ]
+    for suffix, frame, part in book.rows(cases, more):
         wire = Frame.parse(frame).wire()
-        place = wire.stuff[-1] if part == "end" else stuff_place(wire, part, "1")
+        number = -1 if suffix == "data-last" else 0
+        place = wire.stuff[-1] if part == "end" else stuff_place(wire, part, "1", number)
         with book.case(suffix, f"the stuff bit in {frame} overridden: an error flag, then sent again") as scene:
             scene.anchor(frame)
             override(scene, frame, place, "0", "the stuff bit dominant")

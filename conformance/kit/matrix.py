@@ -1,0 +1,114 @@
+"""Which case catches which mistake: what `conformance/mutants` finds, as text and in figures."""
+
+from __future__ import annotations
+
+from collections import Counter
+from dataclasses import dataclass
+from typing import Dict, List, Set
+
+from kit.comparing import COUNTERS, END, EVENT, LEVEL, differences
+from kit.documents import Case, Transcript
+from kit.mistakes import Mistake
+
+KINDS = {LEVEL: "levels", EVENT: "events", COUNTERS: "counters", END: "counters"}
+
+
+@dataclass
+class Caught:
+    """The cases that catch a mistake, by what differs in them: levels, events or counters."""
+
+    mistake: Mistake
+    cases: Dict[str, List[Case]]
+
+    def shows(self) -> str:
+        """The first of levels, events and counters in which some case differs."""
+        return next((kind for kind in ("levels", "events", "counters") if self.cases[kind]), "nothing")
+
+    def names(self) -> List[str]:
+        """The cases that catch it, in what its file says that it shows."""
+        return [case.name for case in self.cases.get(self.mistake.shows, [])]
+
+    def families(self) -> List[str]:
+        return sorted({case.family for case in self.cases.get(self.mistake.shows, [])})
+
+    def fault(self) -> str:
+        """Why the mistake is not caught as its file says; empty if it is."""
+        if self.shows() != self.mistake.shows:
+            return f"{self.mistake.name} shows in {self.shows()}, not in {self.mistake.shows}"
+        if self.mistake.shows != "nothing" and self.mistake.family not in self.families():
+            return f"{self.mistake.name} is not caught by {self.mistake.family}"
+        return ""
+
+
+def caught_by(mistake: Mistake, cases: List[Case], given: List[Transcript], expected: List[Transcript]) -> Caught:
+    """What the cases show of a mistake, by the transcripts of the model with it and without."""
+    by_kind: Dict[str, List[Case]] = {"levels": [], "events": [], "counters": []}
+    for case, one, other in zip(cases, given, expected):
+        for kind in {KINDS[difference[1]] for difference in differences(one, other)}:
+            by_kind[kind].append(case)
+    return Caught(mistake, by_kind)
+
+
+def cover(caught: List[Caught]) -> List[str]:
+    """Cases that together catch all mistakes: each time the one that catches most of those that are left."""
+    left: List[Set[str]] = [set(one.names()) for one in caught if one.names()]
+    chosen: List[str] = []
+    while left:
+        counts = Counter(name for names in left for name in sorted(names))
+        most = max(counts.values())
+        chosen.append(min(name for name, count in counts.items() if count == most))
+        left = [names for names in left if chosen[-1] not in names]
+    return chosen
+
+
+def count_lines(caught: List[Caught], cases: List[Case]) -> List[str]:
+    """What is caught, in figures."""
+    shown = Counter(one.mistake.shows for one in caught)
+    alone = {one.names()[0] for one in caught if len(one.names()) == 1}
+    return [
+        f"{len(caught)} mistakes and {len(cases)} cases: driven levels catch {shown['levels']}, "
+        f"{shown['events']} need events, {shown['counters']} need counters, {shown['nothing']} show nowhere",
+        f"{len(cover(caught))} cases together would catch all; {len(alone)} cases each catch one that no other does",
+    ]
+
+
+def idle_cases(caught: List[Caught], cases: List[Case]) -> List[str]:
+    """Cases that catch no mistake at all."""
+    catching = {name for one in caught for name in one.names()}
+    return [case.name for case in cases if case.name not in catching]
+
+
+def reason_faults(reasons: Dict[str, str], caught: List[Caught], cases: List[Case]) -> List[str]:
+    """Families with a case that alone catches no mistake have a reason for such cases, and no others have."""
+    alone = {one.names()[0] for one in caught if len(one.names()) == 1}
+    wanting = {case.family for case in cases if case.name not in alone}
+    faults = [f"there is no reason for the cases of {name}" for name in sorted(wanting - set(reasons))]
+    return faults + [f"there is a reason for {name}, which needs none" for name in sorted(set(reasons) - wanting)]
+
+
+def matrix(caught: List[Caught], cases: List[Case]) -> str:
+    """The whole matrix as text."""
+    lines = ["# Which case catches which mistake. Made by `conformance/mutants --write`."]
+    lines += [f"# {line}." for line in count_lines(caught, cases)]
+    lines += [
+        "",
+        "# Each mistake: the model it is a change of, where it shows, how many cases and families catch it so, and",
+        "# the cases.",
+    ]
+    catches: Dict[str, List[str]] = {case.name: [] for case in cases}
+    alone: Counter[str] = Counter()
+    for one in caught:
+        names = one.names()
+        head = f"{one.mistake.name} ({one.mistake.source}, {one.mistake.shows}): "
+        lines.append(f"{head}{len(names)} cases, {len(one.families())} families: {' '.join(names)}".rstrip(": "))
+        for name in names:
+            catches[name].append(one.mistake.name)
+        if len(names) == 1:
+            alone[names[0]] += 1
+    lines += [
+        "",
+        "# Each case: how many mistakes it catches, and how many of them no other case does. Why a case is there that",
+        "# alone catches none is said by reasons.txt, for each family.",
+    ]
+    lines += [f"{name}: {len(by)}, alone {alone[name]}" for name, by in catches.items()]
+    return "\n".join(lines) + "\n"

@@ -1,0 +1,110 @@
+"""Adapters that are built from sources, as they are and with a mistake in them."""
+
+from __future__ import annotations
+
+import glob
+import os
+import subprocess
+from dataclasses import dataclass, field
+from typing import Dict, Iterable, List, Optional, Sequence
+
+from kit.mistakes import Mistake
+
+REPOSITORY = os.path.dirname(os.path.dirname(os.path.dirname(os.path.realpath(__file__))))
+CONTROLLER = "conformance/adapters/controller"
+SIMULATOR = ("bench/machine.rs", "conformance/adapters/simulator.rs")
+
+
+class NotBuilt(Exception):
+    """The compiler refuses the sources. The text is its own."""
+
+
+def _run(command: Sequence[str]) -> None:
+    built = subprocess.run(command, capture_output=True, text=True)
+    if built.returncode != 0:
+        raise NotBuilt(built.stderr)
+
+
+def _read(paths: Iterable[str]) -> Dict[str, str]:
+    texts = {}
+    for path in paths:
+        with open(os.path.join(REPOSITORY, path), encoding="utf-8") as file:
+            texts[path] = file.read()
+    return texts
+
+
+def _write(texts: Dict[str, str], folder: str) -> None:
+    for path, text in texts.items():
+        there = os.path.join(folder, path)
+        os.makedirs(os.path.dirname(there), exist_ok=True)
+        with open(there, "w", encoding="utf-8") as file:
+            file.write(text)
+
+
+@dataclass
+class Model:
+    """An adapter's sources by their paths. Its mistakes are changes of `texts`."""
+
+    name: str
+    texts: Dict[str, str]
+
+    def build(self, folder: str, mistake: Optional[Mistake] = None) -> str:
+        """Builds the adapter in a folder of its own: the program's path. Raises NotBuilt, or ValueError where the
+        mistake does not fit."""
+        texts = self.texts if mistake is None else mistake.applied(self.texts)
+        _write(texts, folder)
+        program = os.path.join(folder, "adapter")
+        self._compile(texts, folder, program)
+        return program
+
+    def _compile(self, texts: Dict[str, str], folder: str, program: str) -> None:
+        raise NotImplementedError
+
+
+@dataclass
+class CModel(Model):
+    """The small controller in C. What is compiled of it as it is is kept for the mistakes, each of which changes one
+    file or two."""
+
+    objects: Dict[str, str] = field(default_factory=dict)
+
+    def _compile(self, texts: Dict[str, str], folder: str, program: str) -> None:
+        same_headers = all(text == self.texts[path] for path, text in texts.items() if path.endswith(".h"))
+        objects: List[str] = []
+        for path, text in texts.items():
+            if path.endswith(".c"):
+                kept = self.objects.get(path) if same_headers and text == self.texts[path] else None
+                objects.append(kept or self._object(path, folder))
+        _run([*self._compiler(), "-o", program, *objects])
+
+    def _object(self, path: str, folder: str) -> str:
+        made = os.path.join(folder, path[: -len(".c")] + ".o")
+        _run([*self._compiler(), "-c", "-o", made, os.path.join(folder, path)])
+        return made
+
+    @staticmethod
+    def _compiler() -> List[str]:
+        return [os.environ.get("CC", "cc"), "-std=c99", "-w"]
+
+    def keep_objects(self, folder: str) -> None:
+        """Compiles the sources as they are, for the builds that follow. The folder has to stay."""
+        _write(self.texts, folder)
+        self.objects = {path: self._object(path, folder) for path in self.texts if path.endswith(".c")}
+
+
+@dataclass
+class RustModel(Model):
+    """The plain simulator in Rust."""
+
+    def _compile(self, texts: Dict[str, str], folder: str, program: str) -> None:
+        _write(_read(SIMULATOR[1:]), folder)
+        _run(["rustc", "-A", "warnings", "-o", program, os.path.join(folder, SIMULATOR[1])])
+
+
+def controller() -> CModel:
+    paths = glob.glob(os.path.join(REPOSITORY, CONTROLLER, "*.[ch]"))
+    return CModel("controller", _read(sorted(os.path.relpath(path, REPOSITORY) for path in paths)))
+
+
+def simulator() -> RustModel:
+    return RustModel("simulator", _read(SIMULATOR[:1]))
