@@ -1,5 +1,5 @@
 -- The definitions of what is written for a trace, computed on a few values that are known from elsewhere.
-use Rattle.std.proofs.Common.{◌≡◌, ℕ, List, [], ◌∷◌, ◌++◌, Bool, true, false, ◌&&◌, refl, sym, ap, ◌∙◌, subst, arith}
+use Rattle.std.proofs.Common.{◌≡◌, ℕ, List, [], ◌∷◌, ◌++◌, Bool, true, ◌&&◌, refl, sym, ap, ◌∙◌, subst, arith}
 use Rattle.std.specs.Prelude.{codes}
 use Rattle.can_frame.specs.declared.level.Level.TheVariants.{Dominant}
 use Rattle.can_frame.specs.Levels.{bits_of}

@@ -1,4 +1,4 @@
-use Rattle.std.proofs.Common.{false, true, refl, sym, ◌∙◌, ne_eqb, arith}
+use Rattle.std.proofs.Common.{false, true, refl, ◌∙◌, ne_eqb, arith}
 use Rattle.std.proofs.lemmas.Result.{err_from_is_err_and}
 use Rattle.std.proofs.lemmas.List.{nil_from_length}
 use Rattle.can_stream.specs.LineReader.{ReadsLine}
