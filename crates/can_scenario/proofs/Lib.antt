@@ -1,0 +1,11 @@
+pub mod DemandLemmas
+pub mod ReadValues
+pub mod ReadLists
+pub mod ScenarioParts
+pub mod ScenarioRows
+pub mod HitLemmas
+pub mod ReportLines
+pub mod Started
+pub mod QuietReports
+pub mod QuietOrder
+pub mod OneScenario

@@ -1,0 +1,4 @@
+pub mod ScenarioProps
+pub mod Scenarios
+pub mod Report
+pub mod QuietReport

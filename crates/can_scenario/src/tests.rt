@@ -1,0 +1,3 @@
+mod hits;
+mod run;
+mod scenario;
