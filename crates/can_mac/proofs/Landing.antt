@@ -1,5 +1,5 @@
 -- Where a move lands: what was counted makes the controller bus off, or it does not.
-use Rattle.std.proofs.Common.{◌≡◌, ◌≤◌, Bool, true, false, Option, Some, None, refl, sym, ◌∙◌, ap, subst, arith, cond}
+use Rattle.std.proofs.Common.{◌≡◌, ◌≤◌, Bool, true, false, IsTrue, IsFalse, Option, Some, None, refl, sym, ◌∙◌, ap, subst, arith, cond}
 use Rattle.std.proofs.Math.Dec.{leb}
 use Rattle.std.proofs.lemmas.Bool.{cond-true, cond-false, le-leb, leb-true, or_left}
 use Rattle.can_frame.specs.declared.level.Level.{Level}
@@ -71,6 +71,15 @@ module _ (m now : MacState) (view : m ≡ now) (h : IsMac m) (on : is_off_phase 
 
     pub goes-on-IsMac : IsMac (record { phase = p; role = m.role; overloads = m.overloads; counters = m.counters })
     goes-on-IsMac = subst (λ r. IsMac r.0) (sym goes-on) (on_kept now (subst IsMac view h) waiting x on whole)
+
+-- a level that only makes another phase where it passes, and changes nothing where it doesn't
+pub passes-IsMac : (m : MacState) → IsMac m → (waiting : Option Parts) → IsWaiting waiting → (x : Level) (passed : Bool) (p : MacPhase)
+    → (IsTrue passed → (s : Stance) → s.role ≡ m.role → move s m.phase waiting x ≡ goes s p)
+    → (IsTrue passed → is_off_phase m.phase ≡ false)
+    → (IsFalse passed → p ≡ m.phase)
+    → IsMac (record { phase = p; role = m.role; overloads = m.overloads; counters = m.counters })
+passes-IsMac m h waiting whole x true p is on same = goes-on-IsMac m m refl h (on refl) waiting whole x p (is refl)
+passes-IsMac m h waiting whole x false p is on same = rw (same refl) h
 
 -- one bit time, off the bus and on it
 pub step_off : (m : MacState) (waiting : Option Parts) (x : Level) → is_off_phase m.phase ≡ true → mac_step m waiting x ≡ off_step m x

@@ -1,4 +1,4 @@
-ghost use Rattle.std.specs.Prelude.{◌≡◌, ◌≤◌, ◌↔◌, length, true, false, IsTrue, IsFalse};
+ghost use Rattle.std.specs.Prelude.{◌≡◌, ◌≤◌, ◌↔◌, length, true, false, IsTrue, IsFalse, None};
 ghost use Rattle.std.specs.Option.{option_copied};
 ghost use Rattle.can_code.specs.Front.{FrontParts};
 ghost use Rattle.can_fault.specs.Counters.{counted, is_bus_off, is_passive as is_passive_by};
@@ -117,6 +117,20 @@ impl<B: FrameBits> MediumAccess<B> {
         }
     }
 
+    /// Takes a level with which the controller just goes on, which most are: nothing but its phase changes, and
+    /// nothing is told. It answers whether the level is one; else nothing changes, and [`MediumAccess::sample`]
+    /// takes it. A caller that asks this first spares itself the event.
+    #[tactic(auto, unfolding(crate::specs::Machine::mac_step))]
+    #[inline]
+    pub fn passes(&mut self, waiting: Option<&Frame>, seen: Level) -> bool
+        ensures taken { IsTrue result → mac_step self.old (option_copied waiting.entry) seen ≡ (self.new, None) }
+        ensures unchanged { IsFalse result → self.new ≡ self.old }
+        ensures kept { IsMac self.new }
+    {
+        within_limits(waiting);
+        goes_on(&self.role, &mut self.phase, waiting, seen)
+    }
+
     /// Asks for `count` overload frames of its own, in place of what was asked for before. `false`
     /// where they are more than two: then nothing changes.
     pub fn hold(&mut self, count: u8) -> bool
@@ -152,15 +166,16 @@ impl<B: FrameBits> MediumAccess<B> {
     }
 
     /// A level at a controller that isn't off the bus.
+    #[tactic(auto, unfolding(crate::specs::Machine::mac_step))]
     fn take_part(&mut self, waiting: Option<&Frame>, seen: Level) -> Option<Event>
         requires { is_off_phase self.old.phase ≡ false }
         ensures state { self.new ≡ (on_step self.old (move (stance_of self.old) self.old.phase (option_copied waiting.entry) seen)).0 }
         ensures event { result ≡ (on_step self.old (move (stance_of self.old) self.old.phase (option_copied waiting.entry) seen)).1 }
     {
-        within_limits(waiting);
-        if goes_on(&self.role, &mut self.phase, waiting, seen) {
+        if self.passes(waiting, seen) {
             return None;
         }
+        within_limits(waiting);
         self.make_move(waiting, seen)
     }
 

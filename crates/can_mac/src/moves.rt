@@ -6,10 +6,10 @@ pub(crate) mod flags;
 pub(crate) mod frame_end;
 pub(crate) mod stuffed_part;
 
-ghost use Rattle.std.specs.Prelude.{◌≡◌, ◌≢◌, IsFalse, IsTrue};
+ghost use Rattle.std.specs.Prelude.{◌≡◌, ◌≢◌, IsFalse, IsTrue, false};
 ghost use Rattle.std.specs.Option.{option_copied};
 ghost use Rattle.can_code.specs.Front.{FrontParts};
-ghost use Rattle.can_mac.specs.State.{IsPhase};
+ghost use Rattle.can_mac.specs.State.{IsPhase, is_off_phase};
 ghost use Rattle.can_mac.specs.Moves.{begins, enters_intermission, errs, errs_by, errs_in_flag, flag, goes, is_held_back, move, overload, part_phase, phase_after, placed, tells};
 ghost use Rattle.can_mac.specs.declared.moves.Stance.{Stance as Standing};
 ghost use Rattle.can_mac.specs.declared.phase.Phase.TheVariants.{AckDelimiter, AckSlot, CrcDelimiter, EndOfFrame, StuffedPart};
@@ -252,6 +252,7 @@ pub(crate) fn goes_on<B: FrameBits>(
 ) -> bool
     requires { IsPhase phase.old }
     ensures on { IsTrue result → (s : Standing) → s.role ≡ role.now → move s phase.old (option_copied waiting.entry) seen ≡ goes s phase.new }
+    ensures on_bus { IsTrue result → is_off_phase phase.old ≡ false }
     ensures unchanged { IsFalse result → phase.new ≡ phase.old }
 {
     match phase {

@@ -69,7 +69,19 @@ impl<B: FrameBits> Node<B> {
 }
 
 impl<B: FrameBits> Node<B> {
-    ghost use Rattle.can_node.specs.Ports.{noted};
+    ghost use Rattle.can_node.specs.Ports.{noted, port_event, port_step};
+
+    /// A level that may tell something.
+    #[tactic(auto, unfolding(crate::specs::Ports::port_step))]
+    #[inline(never)]
+    fn take(&mut self, seen: Level) -> Option<Event>
+        ensures port { ⟦<Node<B> as Port>⟧.port self.new ≡ port_step (⟦<Node<B> as Port>⟧.port self.old) seen }
+        ensures event { result ≡ port_event (⟦<Node<B> as Port>⟧.port self.old) seen }
+    {
+        let event = self.mac.sample(self.queue.waiting(), seen);
+        self.note(&event);
+        event
+    }
 
     /// What an event makes of queue and log.
     #[tactic(auto, using(crate::proofs::PortLemmas::logged_is))]
@@ -107,10 +119,13 @@ impl<B: FrameBits> Port for Node<B> {
     }
 
     #[tactic(auto, unfolding(crate::specs::Ports::port_step))]
+    #[inline]
     fn sample(&mut self, seen: Level) -> Option<Event> {
-        let event = self.mac.sample(self.queue.waiting(), seen);
-        self.note(&event);
-        event
+        // most levels tell nothing, and then no event is made
+        if self.mac.passes(self.queue.waiting(), seen) {
+            return None;
+        }
+        self.take(seen)
     }
 
     fn offer(&mut self, frame: Frame) -> Result<(), Frame> {

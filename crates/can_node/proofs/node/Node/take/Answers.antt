@@ -2,7 +2,7 @@ use Rattle.std.specs.Option.{option_copied}
 use Rattle.can_mac.specs.State.{IsWaiting}
 use Rattle.can_mac.proofs.Kept.{step_kept}
 use Rattle.can_node.proofs.PortLemmas.{is_frame_waiting}
-use Rattle.can_node.proofs.node.NodePort.sample.Goals as goal
+use Rattle.can_node.proofs.node.Node.take.Goals as goal
 
 pub invariant_of-self : goal.invariant_of-self
 invariant_of-self g c =
