@@ -255,15 +255,35 @@ pub(crate) fn goes_on<B: FrameBits>(
     ensures on_bus { IsTrue result → is_off_phase phase.old ≡ false }
     ensures unchanged { IsFalse result → phase.new ≡ phase.old }
 {
+    let Phase::StuffedPart(front) = phase else {
+        return goes_on_outside(role, phase, waiting, seen);
+    };
+    if !is_in_order(role, front, seen) {
+        return false;
+    }
+    let _ = front.hear(seen);
+    if front.next_place() == Place::CrcDelimiter {
+        end_part(phase);
+    }
+    true
+}
+
+/// The same, outside of the stuffed part of a frame. It stands apart, since most levels are of that part.
+#[inline(never)]
+fn goes_on_outside<B: FrameBits>(
+    role: &Role,
+    phase: &mut Phase<Front<B>>,
+    waiting: Option<&Frame>,
+    seen: Level,
+) -> bool
+    requires phase { IsPhase phase.old }
+    requires outside { (front : FrontParts) → phase.old ≢ StuffedPart front }
+    ensures on { IsTrue result → (s : Standing) → s.role ≡ role.now → move s phase.old (option_copied waiting.entry) seen ≡ goes s phase.new }
+    ensures on_bus { IsTrue result → is_off_phase phase.old ≡ false }
+    ensures unchanged { IsFalse result → phase.new ≡ phase.old }
+{
     match phase {
         Phase::Idle => waiting.is_none() && seen.is_recessive(),
-        Phase::StuffedPart(front) if is_in_order(role, front, seen) => {
-            let _ = front.hear(seen);
-            if front.next_place() == Place::CrcDelimiter {
-                end_part(phase);
-            }
-            true
-        }
         Phase::CrcDelimiter(_) if seen.is_recessive() => {
             pass_delimiter(phase);
             true

@@ -316,6 +316,25 @@ fn bus_off_and_back(rt: HostRuntime) -> Result<(), Fail> {
     Ok(())
 }
 
+/// A receiver of a frame, its intermission and one level of rest: it does more than go on at the start of frame, in the
+/// ACK slot, at the last two levels of the end of frame, and at the last one of intermission.
+#[test]
+fn most_levels_of_a_frame_pass(rt: HostRuntime) {
+    let levels = "000001000001000001000001000001000001000010111111111111";
+    let passing = "011111111111111111111111111111111111111110111111001101";
+    let mut port = Port::idle();
+    for (level, passed) in levels.bytes().zip(passing.bytes()) {
+        let seen = Level::from_bool(level == b'1');
+        let has_passed = port.plain.passes(None, seen);
+        assert_eq!(rt; has_passed, passed == b'1');
+        assert_eq!(rt; port.packed.passes(None, seen), has_passed);
+        if !has_passed {
+            let _event = port.tells(&rt, None, seen);
+        }
+    }
+    assert_eq!(rt; port.rec(&rt), 0);
+}
+
 /// How many bytes a controller takes that holds the unstuffed levels one by one, and one that holds them in a
 /// register.
 #[test]
