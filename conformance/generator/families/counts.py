@@ -61,6 +61,12 @@ def _received(scene: Scene) -> None:
     scene.rest(5)
 
 
+def _received_twice(scene: Scene) -> None:
+    """The first one takes REC below its limit, the second one counts 1."""
+    _received(scene)
+    _received(scene)
+
+
 def _sent(scene: Scene) -> None:
     scene.receive(RECEIVED, [FRAME])
     scene.rest(3)
@@ -106,7 +112,7 @@ def count_rx(book: Book) -> None:
     others: List[Tuple[str, int, Step, Sequence[str]]] = [
         ("received-at-0", 0, _received, []),
         ("received-at-1", 1, _received, []),
-        ("received-at-128", 128, _received, ["rec-127"]),
+        ("received-at-128", 128, _received_twice, ["rec-127"]),
         ("received-at-200", 200, _received, ["rec-127"]),
         ("sent", 9, _sent, []),
         ("lost", 9, _lost, []),

@@ -182,7 +182,7 @@ def passive_flag_overload(book: Book) -> None:
 def _unseen_overload_flag(book: Book) -> None:
     purpose = "an overload flag's level is not seen: dominant levels in the passive flag behind it count nothing"
     with book.case("tx-flag-bit", purpose, ["flag-error-once"]) as scene:
-        passive_sender(scene, OWN, OWN)
+        passive_sender(scene, OWN, OWN, goal=136)
         scene.sending(OWN)
         scene.play("0", "the first level of intermission dominant")
         scene.play("11f", "level 3 of the overload flag forced")
