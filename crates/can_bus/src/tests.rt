@@ -1,3 +1,4 @@
+mod course;
 mod crowd;
 mod disturbed;
 mod lines;

@@ -5,7 +5,6 @@ use can_fault::State;
 use can_frame::{Frame, Level};
 use can_node::{EitherNode, Entry, PackedNode, PlainNode, Port};
 use std::alloc::{AllocError, Global};
-use std::process::Abort;
 use std::test::Fail;
 
 /// The levels of the standard data frames 000, 001 and 009 without data, acknowledged.
@@ -29,6 +28,17 @@ pub fn text_of(alloc: Global, levels: &[Level]) -> Result<String, AllocError> {
     let mut text = String::new(alloc);
     for level in levels {
         text.push(if level.is_recessive() { '1' } else { '0' })?;
+    }
+    Ok(text)
+}
+
+/// These texts, each as often as it says.
+pub fn line(alloc: Global, parts: &[(&str, usize)]) -> Result<String, AllocError> {
+    let mut text = String::new(alloc);
+    for (part, count) in parts {
+        for _ in 0..*count {
+            text.push_str(part)?;
+        }
     }
     Ok(text)
 }
@@ -113,18 +123,33 @@ pub fn idle_ports(
     Ok(ports)
 }
 
-/// An idle port for each of these queues, offered its frames in turn. There is room for one more.
-pub fn bus_with(alloc: Global, kinds: Kinds, queues: &[&[&str]]) -> Result<Bus<EitherNode>, Fail> {
+/// An idle port for each of these queues, with room for its frames and one more.
+pub fn ports_for(
+    alloc: Global,
+    kinds: Kinds,
+    queues: &[&[&str]],
+) -> Result<Vec<EitherNode>, AllocError> {
     let mut ports = Vec::new(alloc);
     for (node, queue) in queues.iter().enumerate() {
         ports.push(kinds.idle(alloc, node, queue.len().saturating_add(1))?)?;
     }
-    let mut bus = bus_of(ports)?;
+    Ok(ports)
+}
+
+/// Queues the frames of each of these queues at its port.
+pub fn offer_all<P: Port>(bus: &mut Bus<P>, queues: &[&[&str]]) -> Result<(), Fail> {
     for (node, queue) in queues.iter().enumerate() {
         for text in *queue {
-            offer(&mut bus, node, text)?;
+            offer(bus, node, text)?;
         }
     }
+    Ok(())
+}
+
+/// An idle port for each of these queues, offered its frames in turn. There is room for one more.
+pub fn bus_with(alloc: Global, kinds: Kinds, queues: &[&[&str]]) -> Result<Bus<EitherNode>, Fail> {
+    let mut bus = bus_of(ports_for(alloc, kinds, queues)?)?;
+    offer_all(&mut bus, queues)?;
     Ok(bus)
 }
 
@@ -138,39 +163,6 @@ pub fn recorded<P: Port>(
     let mut rec = [Level::Dominant].repeat(alloc, times)?;
     bus.run(hits, &mut rec)?;
     Ok(text_of(alloc, &rec)?)
-}
-
-/// The bus that these queues make, behind so many bit times with these hits.
-pub fn bus_after(
-    alloc: Global,
-    kinds: Kinds,
-    queues: &[&[&str]],
-    hits: &[Hit],
-    times: usize,
-) -> Result<Bus<EitherNode>, Fail> {
-    let mut bus = bus_with(alloc, kinds, queues)?;
-    let _levels = recorded(alloc, &mut bus, hits, times)?;
-    Ok(bus)
-}
-
-/// What the ports come to after each of these numbers of bit times, in runs of their own.
-pub fn stand(
-    rt: &impl Abort,
-    alloc: Global,
-    kinds: Kinds,
-    queues: &[&[&str]],
-    hits: &[Hit],
-    moments: &[(usize, &str)],
-) -> Result<(), Fail> {
-    for (times, want) in moments {
-        let bus = bus_after(alloc, kinds, queues, hits, *times)?;
-        assert_eq!(rt;
-            standing(alloc, &bus)?.as_str(),
-            *want,
-            "{kinds:?} after {times} bit times"
-        );
-    }
-    Ok(())
 }
 
 /// Runs the bus for so many bit times without hits, and gives the levels that one port drove.

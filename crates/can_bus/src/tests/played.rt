@@ -2,7 +2,7 @@
 
 use super::lines::{
     INTERMISSION, KINDS, Kinds, WIRE_000, WIRE_001, WIRE_009, bus_of, drives, frame, idle_ports,
-    offer, standing, text_of,
+    line, offer, standing, text_of,
 };
 use crate::{Bus, BusFault, Offer};
 use can_frame::Level;
@@ -157,16 +157,6 @@ fn offers_of(alloc: Global, texts: &[OfferText]) -> Result<Vec<Offer>, Fail> {
         })?;
     }
     Ok(offers)
-}
-
-fn line(alloc: Global, levels: &[(&str, usize)]) -> Result<String, Fail> {
-    let mut text = String::new(alloc);
-    for (part, count) in levels {
-        for _ in 0..*count {
-            text.push_str(part)?;
-        }
-    }
-    Ok(text)
 }
 
 fn play_row(rt: &impl Abort, alloc: Global, kinds: Kinds, row: &Row) -> Result<(), Fail> {

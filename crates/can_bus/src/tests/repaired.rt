@@ -1,92 +1,8 @@
 //! Frames that are disturbed on the wire, at one place of an attempt, and sent again.
 
-use super::lines::{
-    DELIMITER_AND_INTERMISSION, INTERMISSION, KINDS, Kinds, WIRE_000, WIRE_001, bus_with, driven,
-    recorded, standing,
-};
-use crate::{Bus, Hit};
-use can_node::EitherNode;
-use std::alloc::Global;
-use std::process::Abort;
+use super::course::{COURSE, Course, Hits, hold};
+use super::lines::{DELIMITER_AND_INTERMISSION, INTERMISSION, WIRE_000, WIRE_001};
 use std::test::Fail;
-
-/// A bus whose attempts are hit: what it records, and what its ports come to and drive.
-#[derive(Clone, Copy)]
-struct Row<'a> {
-    name: &'a str,
-    queues: &'a [&'a [&'a str]],
-    /// Attempts, from one number up to before another, and the offset at which each of them is hit.
-    hits: &'a [(u64, u64, u64)],
-    /// Texts of levels, each as often as it says.
-    levels: &'a [(&'a str, usize)],
-    /// Numbers of bit times, and what the ports have come to behind them.
-    moments: &'a [(usize, &'a str)],
-    /// Numbers of bit times, and what a port drives from then on.
-    driven: &'a [(usize, usize, &'a str)],
-}
-
-impl Row<'_> {
-    fn hits(&self, alloc: Global) -> Result<Vec<Hit>, Fail> {
-        let mut hits = Vec::new(alloc);
-        for (from, to, offset) in self.hits {
-            for attempt in *from..*to {
-                hits.push(Hit::In {
-                    attempt,
-                    offset: *offset,
-                })?;
-            }
-        }
-        Ok(hits)
-    }
-
-    fn levels(&self, alloc: Global) -> Result<String, Fail> {
-        let mut levels = String::new(alloc);
-        for (text, count) in self.levels {
-            levels.push_str(text.repeat(alloc, *count)?.as_str())?;
-        }
-        Ok(levels)
-    }
-
-    /// The bus behind so many bit times, and the levels that were recorded.
-    fn run(
-        &self,
-        alloc: Global,
-        kinds: Kinds,
-        times: usize,
-    ) -> Result<(Bus<EitherNode>, String), Fail> {
-        let mut bus = bus_with(alloc, kinds, self.queues)?;
-        let levels = recorded(alloc, &mut bus, &self.hits(alloc)?, times)?;
-        Ok((bus, levels))
-    }
-}
-
-/// The row holds of ports of these kinds.
-fn holds(rt: &impl Abort, alloc: Global, kinds: Kinds, row: &Row<'_>) -> Result<(), Fail> {
-    let want = row.levels(alloc)?;
-    let (_bus, levels) = row.run(alloc, kinds, want.len())?;
-    assert_eq!(rt; levels.as_str(), want.as_str(), "{}", row.name);
-    for (times, standings) in row.moments {
-        let (bus, _levels) = row.run(alloc, kinds, *times)?;
-        let text = standing(alloc, &bus)?;
-        assert_eq!(rt;
-            text.as_str(),
-            *standings,
-            "{} after {times} bit times",
-            row.name
-        );
-    }
-    for (times, node, want) in row.driven {
-        let (mut bus, _levels) = row.run(alloc, kinds, *times)?;
-        let text = driven(alloc, &mut bus, *node, want.len())?;
-        assert_eq!(rt;
-            text.as_str(),
-            *want,
-            "{} by port {node} from {times} on",
-            row.name
-        );
-    }
-    Ok(())
-}
 
 /// A sender with the frame of `WIRE_000`, and a receiver.
 const ONE_SENDER: &[&[&str]] = &[&["S 000 D 0"], &[]];
@@ -104,15 +20,15 @@ const BOTH_IN_ORDER: &str = "active 7 0, took S 000 D 0, sent S 001 D 0 | \
 const BROKEN_AT_16: &str = "0000010000010000100000000000011111111111";
 
 /// One hit or two, each in the window of its frame.
-const FEW_HITS: &[Row<'static>] = &[
+const FEW_HITS: &[Course] = &[
     // Level 16 is the reserved bit. The receiver takes it, and then five levels of the sender's flag;
     // the sixth stands where a stuff bit should.
-    Row {
+    Course {
         name: "a reserved bit",
         queues: ONE_SENDER,
-        hits: &[(0, 1, 16)],
+        hits: &[Hits::In(0, 1, 16)],
         levels: &[(BROKEN_AT_16, 1), (WIRE_000, 1), (INTERMISSION, 1)],
-        moments: &[
+        stands: &[
             (16, "active 0 0 | active 0 0"),
             (17, "active 8 0 | active 0 0"),
             (22, "active 8 0 | active 0 0"),
@@ -120,34 +36,36 @@ const FEW_HITS: &[Row<'static>] = &[
             (40, "active 8 0 | active 0 1"),
             (93, ONCE_EACH),
         ],
-        driven: &[(17, 0, "000000111111"), (17, 1, "111111000000")],
+        drives: &[(17, 0, "000000111111"), (17, 1, "111111000000")],
+        ..COURSE
     },
     // The flags stand one on the other from 18 to 23. The delimiter ends with 31, the intermission
     // with 34.
-    Row {
+    Course {
         name: "a recessive stuff bit",
         queues: ONE_SENDER,
-        hits: &[(0, 1, 17)],
+        hits: &[Hits::In(0, 1, 17)],
         levels: &[
             ("000001000001000000000000", 1),
             (DELIMITER_AND_INTERMISSION, 1),
             (WIRE_000, 1),
             (INTERMISSION, 1),
         ],
-        moments: &[
+        stands: &[
             (17, "active 0 0 | active 0 0"),
             (18, "active 8 0 | active 0 1"),
             (35, "active 8 0 | active 0 1"),
             (88, ONCE_EACH),
         ],
-        driven: &[(18, 0, "000000111111111110"), (18, 1, "000000111111111111")],
+        drives: &[(18, 0, "000000111111111110"), (18, 1, "000000111111111111")],
+        ..COURSE
     },
     // Level 19 of the second frame is a stuff bit too; the first frame is through by then. Undisturbed
     // the two take 103 bit times, and the hit costs at most 19 and 24 more: 146.
-    Row {
+    Course {
         name: "the second of two frames",
         queues: TWO_SENDERS,
-        hits: &[(1, 2, 19)],
+        hits: &[Hits::In(1, 2, 19)],
         levels: &[
             (WIRE_000, 1),
             (INTERMISSION, 1),
@@ -157,7 +75,7 @@ const FEW_HITS: &[Row<'static>] = &[
             (WIRE_001, 1),
             (INTERMISSION, 1),
         ],
-        moments: &[
+        stands: &[
             (
                 72,
                 "active 0 0, took S 000 D 0 | active 0 0, sent S 000 D 0",
@@ -173,14 +91,15 @@ const FEW_HITS: &[Row<'static>] = &[
             (140, BOTH_IN_ORDER),
             (146, BOTH_IN_ORDER),
         ],
-        driven: &[(90, 0, "0"), (90, 1, "1")],
+        drives: &[(90, 0, "0"), (90, 1, "1")],
+        ..COURSE
     },
     // Nobody is seen to acknowledge, so that the receiver, whose own level is overridden, counts no
     // reception, and both err at once.
-    Row {
+    Course {
         name: "the slot of the acknowledgement",
         queues: ONE_SENDER,
-        hits: &[(0, 1, 41)],
+        hits: &[Hits::In(0, 1, 41)],
         levels: &[
             ("000001000001000001000001000001000001000011", 1),
             ("0", 6),
@@ -188,18 +107,18 @@ const FEW_HITS: &[Row<'static>] = &[
             (WIRE_000, 1),
             (INTERMISSION, 1),
         ],
-        moments: &[
+        stands: &[
             (41, "active 0 0 | active 0 0"),
             (42, "active 8 0 | active 0 1"),
             (112, ONCE_EACH),
         ],
-        driven: &[],
+        ..COURSE
     },
     // The last level at which no receiver has taken the frame: the sixth of its end.
-    Row {
+    Course {
         name: "the last but one level of the frame",
         queues: ONE_SENDER,
-        hits: &[(0, 1, 48)],
+        hits: &[Hits::In(0, 1, 48)],
         levels: &[
             ("000001000001000001000001000001000001000010111111", 1),
             ("0", 7),
@@ -207,20 +126,21 @@ const FEW_HITS: &[Row<'static>] = &[
             (WIRE_000, 1),
             (INTERMISSION, 1),
         ],
-        moments: &[
+        stands: &[
             (48, "active 0 0 | active 0 0"),
             (49, "active 8 0 | active 0 1"),
             (66, "active 8 0 | active 0 1"),
             (119, ONCE_EACH),
         ],
-        driven: &[(49, 0, "000000111111111110"), (49, 1, "000000111111111111")],
+        drives: &[(49, 0, "000000111111111110"), (49, 1, "000000111111111111")],
+        ..COURSE
     },
     // The second attempt gets as far as the second level of the end of frame. The receiver has counted
     // one back in the slot of the acknowledgement, at 41 of the attempt that began at 40.
-    Row {
+    Course {
         name: "behind the acknowledgement of a second attempt",
         queues: ONE_SENDER,
-        hits: &[(0, 1, 16), (1, 2, 44)],
+        hits: &[Hits::In(0, 1, 16), Hits::In(1, 2, 44)],
         levels: &[
             (BROKEN_AT_16, 1),
             ("00000100000100000100000100000100000100001011", 1),
@@ -229,7 +149,7 @@ const FEW_HITS: &[Row<'static>] = &[
             (WIRE_000, 1),
             (INTERMISSION, 1),
         ],
-        moments: &[
+        stands: &[
             (81, "active 8 0 | active 0 1"),
             (82, "active 8 0 | active 0 0"),
             (84, "active 8 0 | active 0 0"),
@@ -239,20 +159,20 @@ const FEW_HITS: &[Row<'static>] = &[
                 "active 15 0, sent S 000 D 0 | active 0 0, took S 000 D 0",
             ),
         ],
-        driven: &[],
+        ..COURSE
     },
 ];
 
 /// A hit in each attempt, which begin at 0, 40, and so on. Behind the sixteenth, at 616, the sender is
 /// error passive. Its flag was decided before that and is active, but then it is in suspension from 640
 /// to 647. It sends its frame from 648 on, which makes it error active again.
-const MANY_HITS: &[Row<'static>] = &[
-    Row {
+const MANY_HITS: &[Course] = &[
+    Course {
         name: "fifteen attempts",
         queues: ONE_SENDER,
-        hits: &[(0, 15, 16)],
+        hits: &[Hits::In(0, 15, 16)],
         levels: &[(BROKEN_AT_16, 15), (WIRE_000, 1), (INTERMISSION, 1)],
-        moments: &[
+        stands: &[
             (576, "active 112 0 | active 0 14"),
             (577, "active 120 0 | active 0 14"),
             (582, "active 120 0 | active 0 14"),
@@ -263,19 +183,20 @@ const MANY_HITS: &[Row<'static>] = &[
                 "active 119 0, sent S 000 D 0 | active 0 14, took S 000 D 0",
             ),
         ],
-        driven: &[(600, 0, "0"), (600, 1, "1")],
+        drives: &[(600, 0, "0"), (600, 1, "1")],
+        ..COURSE
     },
-    Row {
+    Course {
         name: "a sixteenth attempt",
         queues: ONE_SENDER,
-        hits: &[(0, 16, 16)],
+        hits: &[Hits::In(0, 16, 16)],
         levels: &[
             (BROKEN_AT_16, 16),
             ("1", 8),
             (WIRE_000, 1),
             (INTERMISSION, 1),
         ],
-        moments: &[
+        stands: &[
             (616, "active 120 0 | active 0 15"),
             (617, "passive 128 0 | active 0 15"),
             (623, "passive 128 0 | active 0 16"),
@@ -286,18 +207,19 @@ const MANY_HITS: &[Row<'static>] = &[
                 "active 127 0, sent S 000 D 0 | active 0 15, took S 000 D 0",
             ),
         ],
-        driven: &[(617, 0, "00000011111111111111111111111110")],
+        drives: &[(617, 0, "00000011111111111111111111111110")],
+        ..COURSE
     },
 ];
 
 /// While both ports send: they err at different levels, and both count as senders, or not at all.
-const HITS_IN_ARBITRATION: &[Row<'static>] = &[
+const HITS_IN_ARBITRATION: &[Course] = &[
     // The second port drives dominant and has a bit error. The first drives recessive and goes on; at
     // 19 its stuff bit is overridden by the other's flag, behind its own RTR bit.
-    Row {
+    Course {
         name: "a level of the field",
         queues: TWO_SENDERS,
-        hits: &[(0, 1, 13)],
+        hits: &[Hits::In(0, 1, 13)],
         levels: &[
             ("0000010000010", 1),
             ("1", 1),
@@ -308,7 +230,7 @@ const HITS_IN_ARBITRATION: &[Row<'static>] = &[
             (WIRE_001, 1),
             (INTERMISSION, 1),
         ],
-        moments: &[
+        stands: &[
             (13, "active 0 0 | active 0 0"),
             (14, "active 0 0 | active 8 0"),
             (19, "active 0 0 | active 8 0"),
@@ -319,13 +241,14 @@ const HITS_IN_ARBITRATION: &[Row<'static>] = &[
                  active 7 0, sent S 000 D 0, took S 001 D 0",
             ),
         ],
-        driven: &[(14, 0, "000001000000111111"), (14, 1, "000000111111111111")],
+        drives: &[(14, 0, "000001000000111111"), (14, 1, "000000111111111111")],
+        ..COURSE
     },
     // A recessive stuff bit that is overridden in arbitration counts nothing.
-    Row {
+    Course {
         name: "a stuff bit of the field",
         queues: TWO_SENDERS,
-        hits: &[(0, 1, 5)],
+        hits: &[Hits::In(0, 1, 5)],
         levels: &[
             ("0", 12),
             (DELIMITER_AND_INTERMISSION, 1),
@@ -334,7 +257,7 @@ const HITS_IN_ARBITRATION: &[Row<'static>] = &[
             (WIRE_001, 1),
             (INTERMISSION, 1),
         ],
-        moments: &[
+        stands: &[
             (6, "active 0 0 | active 0 0"),
             (23, "active 0 0 | active 0 0"),
             (
@@ -343,18 +266,15 @@ const HITS_IN_ARBITRATION: &[Row<'static>] = &[
                  active 0 0, sent S 000 D 0, took S 001 D 0",
             ),
         ],
-        driven: &[(6, 0, "0000001"), (6, 1, "0000001")],
+        drives: &[(6, 0, "0000001"), (6, 1, "0000001")],
+        ..COURSE
     },
 ];
 
 #[test]
 fn a_disturbed_frame_is_sent_again(rt: HostRuntime) -> Result<(), Fail> {
-    for rows in [FEW_HITS, MANY_HITS, HITS_IN_ARBITRATION] {
-        for row in rows {
-            for kinds in KINDS {
-                holds(&rt, rt.alloc(), kinds, row)?;
-            }
-        }
+    for courses in [FEW_HITS, MANY_HITS, HITS_IN_ARBITRATION] {
+        hold(&rt, rt.alloc(), courses)?;
     }
     Ok(())
 }
