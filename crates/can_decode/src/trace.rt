@@ -6,7 +6,7 @@ ghost use Rattle.can_decode.specs.declared.finding.Finding.{Finding as Findings}
 ghost use Rattle.can_decode.specs.Decoding.{EndsWith, Hearing, Hears, SearchesOn, Stands, told_of};
 
 use crate::finding::Finding;
-use can_code::{CodeFaultKind, Decoder, PackedBits};
+use can_code::{CodeFaultKind, Decoder, PlainBits};
 use can_frame::Level;
 
 /// How many recessive levels in a row end the search behind a fault: those of an ACK delimiter, an end of
@@ -24,7 +24,7 @@ enum State {
     /// In the frame that began at this place.
     InFrame {
         start: u64,
-        decoder: Decoder<PackedBits>,
+        decoder: Decoder<PlainBits>,
     },
     /// Behind a fault, and behind so many recessive levels in a row.
     Lost {
