@@ -22,7 +22,7 @@ class Caught:
 
     def shows(self) -> str:
         """The first of levels, events and counters in which some case differs."""
-        return next((kind for kind in ("levels", "events", "counters") if self.cases[kind]), "nothing")
+        return _first_kind(self.cases)
 
     def names(self) -> List[str]:
         """The cases that catch it, in what its file says that it shows."""
@@ -40,13 +40,26 @@ class Caught:
         return ""
 
 
-def caught_by(mistake: Mistake, cases: List[Case], given: List[Transcript], expected: List[Transcript]) -> Caught:
-    """What the cases show of a mistake, by the transcripts of the model with it and without."""
+def _by_kind(cases: List[Case], given: List[Transcript], expected: List[Transcript]) -> Dict[str, List[Case]]:
     by_kind: Dict[str, List[Case]] = {"levels": [], "events": [], "counters": []}
     for case, one, other in zip(cases, given, expected):
         for kind in {KINDS[difference[1]] for difference in differences(one, other)}:
             by_kind[kind].append(case)
-    return Caught(mistake, by_kind)
+    return by_kind
+
+
+def _first_kind(by_kind: Dict[str, List[Case]]) -> str:
+    return next((kind for kind in ("levels", "events", "counters") if by_kind[kind]), "nothing")
+
+
+def shown_by(cases: List[Case], given: List[Transcript], expected: List[Transcript]) -> str:
+    """The first of levels, events and counters in which a model differs in some case; else `nothing`."""
+    return _first_kind(_by_kind(cases, given, expected))
+
+
+def caught_by(mistake: Mistake, cases: List[Case], given: List[Transcript], expected: List[Transcript]) -> Caught:
+    """What the cases show of a mistake, by the transcripts of the model with it and without."""
+    return Caught(mistake, _by_kind(cases, given, expected))
 
 
 def cover(caught: List[Caught]) -> List[str]:

@@ -1,4 +1,4 @@
-"""Adapters that are built from sources, as they are and with a mistake in them."""
+"""Adapters that are built from sources, as they are and with a change in them."""
 
 from __future__ import annotations
 
@@ -6,13 +6,18 @@ import glob
 import os
 import subprocess
 from dataclasses import dataclass, field
-from typing import Dict, Iterable, List, Optional, Sequence
-
-from kit.mistakes import Mistake
+from typing import Dict, Iterable, List, Optional, Protocol, Sequence
 
 REPOSITORY = os.path.dirname(os.path.dirname(os.path.dirname(os.path.realpath(__file__))))
 CONTROLLER = "conformance/adapters/controller"
 SIMULATOR = ("bench/machine.rs", "conformance/adapters/simulator.rs")
+
+
+class Patch(Protocol):
+    """A change of sources, such as a mistake."""
+
+    def applied(self, texts: Dict[str, str]) -> Dict[str, str]:
+        """The sources, by their paths, with the change. Raises ValueError where it does not fit."""
 
 
 class NotBuilt(Exception):
@@ -48,10 +53,10 @@ class Model:
     name: str
     texts: Dict[str, str]
 
-    def build(self, folder: str, mistake: Optional[Mistake] = None) -> str:
+    def build(self, folder: str, patch: Optional[Patch] = None) -> str:
         """Builds the adapter in a folder of its own: the program's path. Raises NotBuilt, or ValueError where the
-        mistake does not fit."""
-        texts = self.texts if mistake is None else mistake.applied(self.texts)
+        patch does not fit."""
+        texts = self.texts if patch is None else patch.applied(self.texts)
         _write(texts, folder)
         program = os.path.join(folder, "adapter")
         self._compile(texts, folder, program)

@@ -6,6 +6,7 @@ import glob
 import os
 import unittest
 
+from kit.changes import changes
 from kit.comparing import differences
 from kit.documents import DocumentFault, Transcript, read_document, write_case, write_transcript
 from kit.frames import Frame
@@ -146,6 +147,30 @@ class Matrix(unittest.TestCase):
         faults = reason_faults({"other": "why"}, self.caught, self.cases)
         told = ["there is no reason for the cases of some", "there is a reason for other, which needs none"]
         self.assertEqual(faults, told)
+
+
+class Changes(unittest.TestCase):
+    SOURCE = "static void count(int *tec)\n{\n    if (*tec > 0)\n        *tec -= 1;\n    /* 7 > 6 */\n}\n"
+
+    def test_each_part_of_a_line_is_changed_once(self) -> None:
+        self.assertEqual(
+            [change.text() for change in changes("a/count.c", self.SOURCE)],
+            [
+                "count.c, count: if (*tec > 0) => if (*tec > 1)",
+                "count.c, count: if (*tec > 0) => if (*tec >= 0)",
+                "count.c, count: *tec -= 1; => *tec -= 2;",
+                "count.c, count: *tec -= 1; => *tec -= 0;",
+                "count.c, count: *tec -= 1; => ;",
+            ],
+        )
+
+    def test_changes_that_read_alike_are_numbered(self) -> None:
+        numbers = [change.text().split("=> ")[1] for change in changes("a.c", "    x = 0;\n    x = 0;\n")]
+        self.assertEqual(numbers, ["x = 1;", ";", "x = 1; (2)", "; (2)"])
+
+    def test_a_change_is_applied_to_its_line(self) -> None:
+        change = list(changes("a.c", "    x = 0;\n    x = 0;\n"))[2]
+        self.assertEqual(change.applied({"a.c": "    x = 0;\n    x = 0;\n"}), {"a.c": "    x = 0;\n    x = 1;\n"})
 
 
 class Mistakes(unittest.TestCase):

@@ -1,0 +1,76 @@
+"""Mechanical changes of C sources: each number one more and one less, each comparison, operator and level turned, each
+statement left out, one at a time. They know nothing of CAN, and so try the cases without an opinion."""
+
+from __future__ import annotations
+
+import os
+import re
+from collections import Counter
+from dataclasses import dataclass, replace
+from typing import Dict, Iterator
+
+_NUMBER = re.compile(r"(?<![\w.])(0x[0-9a-f]+|\d+)(?!\w)")
+_TURNED = (
+    *((r"==", "!="), (r"!=", "==")),
+    *((r"(?<![<>=-])<(?![<=])", "<="), (r"(?<![->=])>(?![>=])", ">="), (r">=", ">"), (r"<=", "<")),
+    *((r"&&", "||"), (r"\|\|", "&&"), (r"!(?=[\w(])", ""), (r"\+\+", "--")),
+    *((r"\btrue\b", "false"), (r"\bfalse\b", "true")),
+    *((r"\bDOMINANT\b", "RECESSIVE"), (r"\bRECESSIVE\b", "DOMINANT")),
+    *((r"\bERROR_BIT\b", "ERROR_FORM"), (r"\bERROR_FORM\b", "ERROR_BIT")),
+)
+# of a definition's first line, its name
+_FUNCTION = re.compile(r"[a-z][\w *]*?(\w+)\(")
+_DECLARATION = re.compile(r"(return|break|static|const|enum|bool|unsigned|uint|struct|for|case)\b")
+
+
+@dataclass(frozen=True)
+class Change:
+    """One line of a source, and what comes in its place. Changes that read alike are numbered."""
+
+    path: str
+    function: str
+    line: int
+    old: str
+    new: str
+    number: int = 1
+
+    def applied(self, texts: Dict[str, str]) -> Dict[str, str]:
+        lines = texts[self.path].split("\n")
+        lines[self.line] = self.new
+        return {**texts, self.path: "\n".join(lines)}
+
+    def text(self) -> str:
+        """Names the change, whatever lines stand before it."""
+        where = os.path.basename(self.path) + (f", {self.function}" if self.function else "")
+        number = f" ({self.number})" if self.number > 1 else ""
+        return f"{where}: {self.old.strip()} => {self.new.strip()}{number}"
+
+
+def _variants(line: str) -> Iterator[str]:
+    code = line.split("/*")[0]
+    for found in _NUMBER.finditer(code):
+        number = int(found.group(1), 0)
+        for other in (number + 1, number - 1):
+            if other >= 0:
+                yield line[: found.start(1)] + str(other) + line[found.end(1) :]
+    for pattern, new in _TURNED:
+        for found in re.finditer(pattern, code):
+            yield line[: found.start()] + new + line[found.end() :]
+    statement = code.strip()
+    if statement.endswith(";") and not _DECLARATION.match(statement):
+        yield ";"
+
+
+def changes(path: str, text: str) -> Iterator[Change]:
+    """All changes of a source, line by line."""
+    function = ""
+    made: Counter[str] = Counter()
+    for at, line in enumerate(text.split("\n")):
+        begun = _FUNCTION.match(line)
+        if begun is not None or line == "}":
+            function = begun.group(1) if begun is not None else ""
+        if not line.strip().startswith(("/*", "* ", "#")):
+            for new in _variants(line):
+                change = Change(path, function, at, line, new)
+                made[change.text()] += 1
+                yield replace(change, number=made[change.text()])

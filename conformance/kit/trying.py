@@ -1,0 +1,58 @@
+"""Plays all cases to an adapter of our own at once, without waiting for each answer."""
+
+from __future__ import annotations
+
+import subprocess
+from typing import List
+
+from kit.documents import Case, Event, Transcript
+from kit.playing import cuts, seen_levels
+
+SECONDS = 20
+
+
+def script(cases: List[Case]) -> str:
+    """All that a runner would write for the cases. It is sent at once, without waiting for answers: the adapters are
+    our own, and take lines one after another."""
+    lines: List[str] = []
+    for case in cases:
+        lines.append(f"case {case.name} {case.start}")
+        levels = seen_levels(case)
+        for time, end in cuts(case):
+            lines += [f"offer {frame}" for at, frame in case.offers if at == time]
+            lines += [f"hold {wish}" for at, wish in case.holds if at == time]
+            lines.append(f"play {levels[time:end]}")
+        lines.append("end")
+    return "\n".join(lines + ["quit"]) + "\n"
+
+
+def answers(text: str, cases: List[Case]) -> List[Transcript]:
+    """The transcripts in an adapter's whole output. Raises ValueError where it ends before the cases do, or an
+    answer is an error."""
+    transcripts: List[Transcript] = []
+    drove: str = ""
+    events: List[Event] = []
+    for line in text.split("\n")[1:]:
+        word, _, rest = line.partition(" ")
+        if word == "ready":
+            drove, events = "", []
+        elif word == "event":
+            place, _, event = rest.partition(" ")
+            events.append((len(drove) + int(place), event))
+        elif word == "drove":
+            drove += rest
+        elif word == "state":
+            state, tec, rec = rest.split(" ")
+            name = cases[len(transcripts)].name
+            transcripts.append(Transcript(name, drove, events, None, (state, int(tec), int(rec))))
+        elif word == "error":
+            raise ValueError(f"the adapter answers: {line}")
+    if len(transcripts) != len(cases):
+        raise ValueError(f"the adapter ended in {cases[len(transcripts)].name}")
+    return transcripts
+
+
+def played(program: str, cases: List[Case], text: str) -> List[Transcript]:
+    """What the adapter does in the cases, of which the text is the script."""
+    run = subprocess.run([program], input=text, capture_output=True, text=True, timeout=SECONDS)
+    return answers(run.stdout, cases)
