@@ -9,13 +9,14 @@ use Rattle.can_frame.specs.declared.level.Level.TheVariants.{Recessive}
 use Rattle.can_frame.specs.Parts.{Parts}
 use Rattle.can_frame.specs.Arbitration.{arbitration_field, Before}
 use Rattle.can_code.specs.Wire.{wire}
-use Rattle.can_bus.specs.Quiet.{AreDifferent, IsRising, ascending, with_intermission, line_at}
+use Rattle.can_bus.specs.Quiet.{AreDifferent, IsRising, ascending, line_at}
 use Rattle.can_bus.specs.Schedule.{Timed, busy_time, frames_of, Lists, AreAtOnce, IsNextStart, AreOthers, IsSchedule, over, next, schedule, track_at}
 use Rattle.can_bus.proofs.Ascending.{ascending_only}
 use Rattle.can_bus.proofs.Members.{stands-none, map-stands}
 use Rattle.can_bus.proofs.NextStarts.{AreApart, apart-from, rest-left, rest-apart, rest-other}
 use Rattle.can_bus.proofs.Schedules.{one-schedule, schedule-frames, starts-free, starts-offered}
 use Rattle.can_bus.proofs.Tracks.{track-on, track-behind, track-rests}
+use Rattle.can_mac.specs.Frames.{with_intermission}
 
 rest-at_once : (f : Parts) (left rest : List Timed) → AreOthers f left rest → AreAtOnce left → AreAtOnce rest
 rest-at_once f left rest others all x s = all x (rest-left f left rest others x s)

@@ -8,7 +8,7 @@ use Rattle.can_fault.specs.declared.cause.Cause.{Cause}
 use Rattle.can_fault.specs.declared.cause.Cause.TheVariants.{FrameSent, FrameReceived, ReceiverError, SenderError}
 use Rattle.can_fault.specs.Counters.{ConfineParts, changed, counted, is_bus_off, rec_after_reception}
 use Rattle.can_mac.specs.declared.phase.Role.TheVariants.{Receiver}
-use Rattle.can_mac.specs.Frames.{line, behind_part, counters_after, slot_place}
+use Rattle.can_mac.specs.Frames.{with_intermission, behind_part, counters_after, slot_place}
 use Rattle.can_node.specs.Ports.{PortState, waiting, port_run}
 use Rattle.can_node.proofs.FrameLeaves.{Sends, Receives, port_run-sent, port_run-received}
 use Rattle.can_bus.specs.Quiet.{holds}
@@ -58,7 +58,7 @@ holds-part f p (inl sends) = holds-own f p.queue (sends-has f p sends)
 holds-part f p (inr receives) = holds-none f p.queue (others-of f p.queue (waiting p.queue) refl receives.other)
 
 pub whole-tally : (h : ℕ) (f : Parts) (p : PortState) → IsWithin h p.mac.counters → (part : TakesPart f p) →
-    tally_of (port_run p (line f)).mac.counters ≡ tallied (part-holds f p part) f None (tally_of p.mac.counters)
+    tally_of (port_run p (with_intermission f)).mac.counters ≡ tallied (part-holds f p part) f None (tally_of p.mac.counters)
 whole-tally h f p within (inl sends) =
     ap (λ (q : PortState). tally_of q.mac.counters) (port_run-sent f p sends) ∙ ap tally_of (counted-on h FrameSent p.mac.counters within)
 whole-tally h f p within (inr receives) =

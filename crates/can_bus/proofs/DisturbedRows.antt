@@ -15,7 +15,7 @@ use Rattle.can_code.specs.Layout.{frame_of, frame_len}
 use Rattle.can_mac.specs.State.{idle}
 use Rattle.can_mac.specs.Moves.{agrees}
 use Rattle.can_mac.specs.Machine.{mac_drives, mac_step}
-use Rattle.can_node.specs.Ports.{PortState, fresh_port, offered, port_drives, port_run, port_step, waiting, without}
+use Rattle.can_node.specs.Ports.{PortState, fresh_port, port_offered, port_drives, port_run, port_step, waiting, without}
 use Rattle.can_bus.specs.declared.hit.Hit.TheVariants.{At, In}
 use Rattle.can_bus.specs.Disturbed.{level_then, ports_then, rest_before, begins_at, attempts_before, FallsOnWire}
 use Rattle.can_bus.specs.Wired.{wired as wired_of}
@@ -95,7 +95,7 @@ abbrev frame_zero : Parts
 frame_zero = record { id = record { raw = 0; extended = false }; remote = false; dlc = 0; bytes = [] }
 
 abbrev sender_and_receiver : List PortState
-sender_and_receiver = offered frame_zero (fresh_port idle 1 1) ∷ fresh_port idle 0 1 ∷ []
+sender_and_receiver = port_offered frame_zero (fresh_port idle 1 1) ∷ fresh_port idle 0 1 ∷ []
 
 abbrev both_saw : List (List Level)
 both_saw = recorded_once ∷ recorded_once ∷ []

@@ -11,9 +11,9 @@ use Rattle.can_frame.specs.Levels.{is_recessive}
 use Rattle.can_node.specs.Ports.{PortState, port_drives, port_run, port_step}
 use Rattle.can_bus.specs.declared.hit.Hit.{Hit}
 use Rattle.can_bus.specs.Disturbed.{level_then, ports_then, rest_before, begins_at, FallsOnWire, IsDisturbedRun, WasDisturbed}
-use Rattle.can_bus.specs.Run.{BusState, Course, all_sampled, attempt_now, begins, bus_after, bus_level, bus_run, bus_step, course, hits_view, hits_wire, inverted_if, recorded as recorded_by, rest_after, wired_level}
+use Rattle.can_bus.specs.Run.{BusState, Course, all_sampled, attempt_now, begins_attempt, bus_after, bus_level, bus_run, bus_step, course, hits_view, hits_wire, inverted_if, recorded as recorded_by, rest_after, wired_level}
 use Rattle.can_bus.specs.Wired.{wired as wired_of}
-use Rattle.can_bus.proofs.DisturbedTimes.{LatestIs, latest-none, latest-more, rest_before-none, rest_before-more, rest_after-capped, begins-capped, inverted-tells, inverted-told, view-decided, wire-decided}
+use Rattle.can_bus.proofs.DisturbedTimes.{LatestIs, latest-none, latest-more, rest_before-none, rest_before-more, rest_after-capped, begins_attempt-capped, inverted-tells, inverted-told, view-decided, wire-decided}
 use Rattle.can_bus.proofs.StepLemmas.{course_more}
 
 -- Ports that have seen so many levels.
@@ -93,15 +93,15 @@ module _ (hits : List Hit) (before : BusState) (wired recorded : List Level) (se
   }
 
   -- an attempt begins in this bit time or not
-  begun_at : (t : ℕ) (c : Course) → Stands t c → level_then wired t ≡ wired_level c → begins_at before.rest wired recorded t ≡ begins c.bus.rest (wired_level c)
+  begun_at : (t : ℕ) (c : Course) → Stands t c → level_then wired t ≡ wired_level c → begins_at before.rest wired recorded t ≡ begins_attempt c.bus.rest (wired_level c)
   unfolding begins_at
   begun_at t c stands here =
       ap (λ x. not (is_recessive x) && nat_le 11 (rest_before before.rest recorded t)) here
-      ∙ sym (begins-capped (rest_before before.rest recorded t) (wired_level c)) ∙ ap (λ rest. begins rest (wired_level c)) (sym stands.rest)
+      ∙ sym (begins_attempt-capped (rest_before before.rest recorded t) (wired_level c)) ∙ ap (λ rest. begins_attempt rest (wired_level c)) (sym stands.rest)
 
   latest_at : (t : ℕ) (c : Course) → Stands t c → level_then wired t ≡ wired_level c → LatestIs before.rest wired recorded (t + 1) (attempt_now c)
   latest_at t c stands here =
-      latest-more before.rest wired recorded t (begins c.bus.rest (wired_level c)) c.latest (begun_at t c stands here) stands.latest
+      latest-more before.rest wired recorded t (begins_attempt c.bus.rest (wired_level c)) c.latest (begun_at t c stands here) stands.latest
 
   stands-more : Fits → (t : ℕ) (c : Course) → t < length recorded → Stands t c → Agrees t c → Stands (t + 1) (bus_step hits c)
   unfolding bus_step
@@ -191,7 +191,7 @@ module _ (hits : List Hit) (before : BusState) (wired recorded : List Level) (se
             inverted-tells (list_any (hits_view t port) hits) (level_then recorded t) (level_then levels t) (view-decided t port hits)
             ((agrees t within).views port levels own ∙ ap (inverted_if (list_any (hits_view t port) hits)) (sym (agrees t within).records));
         leads = whole.ports;
-        rests = whole.rest;
+        keeps_rest = whole.rest;
       }
 
   -- each bit time of a disturbed run
@@ -278,7 +278,7 @@ pub disturbed-end : (hits : List Hit) (before after : BusState) (recorded : List
 unfolding bus_run
 disturbed-end hits before after recorded rested run =
     let stands : Stands hits before run.0 recorded run.1 (length recorded) (course_then hits before (length recorded)) = stands_last hits before run.0 recorded run.1 after rested run.2 in
-    same_bus after (course_then hits before (length recorded)).bus (run.2.leads ∙ sym stands.ports) (run.2.rests ∙ sym stands.rest)
+    same_bus after (course_then hits before (length recorded)).bus (run.2.leads ∙ sym stands.ports) (run.2.keeps_rest ∙ sym stands.rest)
 
 -- two disturbed runs of as many bit times are one
 pub disturbed-one : (hits : List Hit) (before one other : BusState) (wired wires recorded records : List Level) (seen views : List (List Level)) → before.rest ≤ 11 →

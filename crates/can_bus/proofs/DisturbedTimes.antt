@@ -16,7 +16,7 @@ use Rattle.can_bus.specs.declared.hit.Hit.{Hit}
 use Rattle.can_bus.specs.declared.hit.Hit.TheVariants.{At, In, View}
 use Rattle.can_bus.specs.declared.moment.Attempt.{Attempt}
 use Rattle.can_bus.specs.Disturbed.{level_then, rest_before, begins_at, attempts_before, IsBeginning, FallsOnWire}
-use Rattle.can_bus.specs.Run.{aged, begins, following, hits_view, hits_wire, inverted_if, is_attempt, rest_after}
+use Rattle.can_bus.specs.Run.{aged, begins_attempt, following, hits_view, hits_wire, inverted_if, is_attempt, rest_after}
 
 -- How many recessive levels stand last.
 
@@ -52,9 +52,9 @@ pub rest_after-capped : (rest : ℕ) (x : Level) → min (cond (is_recessive x) 
 rest_after-capped rest Dominant = refl
 rest_after-capped rest Recessive = omega arith
 
-pub begins-capped : (rest : ℕ) (x : Level) → begins (min rest 11) x ≡ (not (is_recessive x) && nat_le 11 rest)
-begins-capped rest Dominant = grind (arith, nat_tests)
-begins-capped rest Recessive = refl
+pub begins_attempt-capped : (rest : ℕ) (x : Level) → begins_attempt (min rest 11) x ≡ (not (is_recessive x) && nat_le 11 rest)
+begins_attempt-capped rest Dominant = grind (arith, nat_tests)
+begins_attempt-capped rest Recessive = refl
 
 -- Where a hit inverts a level.
 

@@ -11,9 +11,8 @@ use Rattle.can_code.specs.declared.fault.CodeFaultKind.TheVariants.{Stuff, Crc, 
 use Rattle.can_code.specs.declared.fault.CodeFault.{CodeFault}
 use Rattle.can_code.specs.Crc.{IsCrc}
 use Rattle.can_code.specs.Wire.{stuffed_part, tail, unstuffed}
-use Rattle.can_code.specs.Layout.{level_at, check_of, head_of}
+use Rattle.can_code.specs.Layout.{level_at, check_of, head_of, IsPart}
 use Rattle.can_code.specs.Front.{FrontParts, is_stuff_error, heard_level}
-use Rattle.can_code.specs.Reading.{IsPart}
 use Rattle.can_code.specs.CodeFaults.{IsCodeFault}
 use Rattle.can_code.proofs.StuffedParts.{IsPart-length}
 use Rattle.can_code.proofs.FrontsOf.{IsFrontOf, IsFrontOf-part, IsFrontOf-heard_level}

@@ -7,7 +7,7 @@ use Rattle.std.proofs.lemmas.Bool.{cases_order}
 use Rattle.std.proofs.lemmas.Bool.Decides.{nat_tests}
 use Rattle.std.proofs.lemmas.Option.{slice_get-get_or, get_or_from_slice_get, slice_get_within}
 use Rattle.can_frame.specs.Parts.{Parts}
-use Rattle.can_node.specs.Ports.{PortState, offered}
+use Rattle.can_node.specs.Ports.{PortState, port_offered}
 use Rattle.can_bus.specs.declared.offer.Offer.{Offer}
 use Rattle.can_bus.specs.Offers.{AreOffered, is_no_earlier, is_full, with_offer, made, all_made, refused_at}
 use Rattle.can_bus.specs.Walks.{IsReached}
@@ -57,18 +57,18 @@ full-here S zero (x ∷ xs) d within = refl
 full-here S (suc node) (x ∷ xs) d within = full-here S node xs d (omega arith)
 
 -- a port that was offered a frame, by its answer
-pub offer-made : {T E : Type 0} (f : Parts) (p q : PortState) (answer : Result T E) → (IsOk answer ↔ (length p.queue < p.queue_room)) → OnOk answer (q ≡ offered f p) →
+pub offer-made : {T E : Type 0} (f : Parts) (p q : PortState) (answer : Result T E) → (IsOk answer ↔ (length p.queue < p.queue_room)) → OnOk answer (q ≡ port_offered f p) →
     OnErr answer (q ≡ p) → (q ≡ with_offer f p) × (is_ok answer ≡ not (nat_le p.queue_room (length p.queue)))
 offer-made f p q (Ok x) fits taken kept =
     let room : length p.queue < p.queue_room = fits.0 refl in
     let some : nat_lt (length p.queue) p.queue_room ≡ true = grind (arith, nat_tests) in
     let none : nat_le p.queue_room (length p.queue) ≡ false = grind (arith, nat_tests) in
-    (taken ∙ ap (λ b. if b then offered f p else p) (sym some), ap not (sym none))
+    (taken ∙ ap (λ b. if b then port_offered f p else p) (sym some), ap not (sym none))
 offer-made f p q (Err e) fits taken kept =
     let full : p.queue_room ≤ length p.queue = at_most _ _ (λ room. let no : false ≡ true = fits.1 room in cc) in
     let some : nat_lt (length p.queue) p.queue_room ≡ false = grind (arith, nat_tests) in
     let none : nat_le p.queue_room (length p.queue) ≡ true = grind (arith, nat_tests) in
-    (kept ∙ ap (λ b. if b then offered f p else p) (sym some), ap not (sym none))
+    (kept ∙ ap (λ b. if b then port_offered f p else p) (sym some), ap not (sym none))
 
 -- an offer that a full queue refuses is counted, and no other
 pub one_refused : (full answer : Bool) (count : ℕ) → answer ≡ not full → answer ≡ false → count + 1 ≡ count + (if full then 1 else 0)

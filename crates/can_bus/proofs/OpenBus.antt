@@ -7,7 +7,7 @@ use Rattle.std.proofs.lemmas.List.{get_or_past, length-append, length-map}
 use Rattle.can_frame.specs.declared.level.Level.TheVariants.{Recessive}
 use Rattle.can_frame.specs.Parts.{Parts}
 use Rattle.can_code.specs.Wire.{wire}
-use Rattle.can_mac.specs.Frames.{line}
+use Rattle.can_mac.specs.Frames.{with_intermission}
 use Rattle.can_node.specs.Ports.{PortState, port_drives}
 use Rattle.can_node.proofs.Arrivals.{GainingPort, gaining_drives, gaining_run}
 use Rattle.can_node.proofs.OneFrame.{gaining_run-at}
@@ -102,11 +102,11 @@ module _ (now : ℕ) (left starts : List Timed) (os : List OpenPort) (r : ℕ) (
 
 -- ---- a frame
 
-behind-machines : (f : Parts) (os : List OpenPort) → map (λ g. gaining_run g (line f)) (machines_of os) ≡ machines_of (map (behind_frame f) os)
+behind-machines : (f : Parts) (os : List OpenPort) → map (λ g. gaining_run g (with_intermission f)) (machines_of os) ≡ machines_of (map (behind_frame f) os)
 behind-machines f [] = refl
-behind-machines f (o ∷ os) = ap (λ gs. gaining_run o.machine (line f) ∷ gs) (behind-machines f os)
+behind-machines f (o ∷ os) = ap (λ gs. gaining_run o.machine (with_intermission f) ∷ gs) (behind-machines f os)
 
-length-busy : (f : Parts) → length (line f) ≡ busy_time f
+length-busy : (f : Parts) → length (with_intermission f) ≡ busy_time f
 length-busy f = length-append (wire f) (Recessive ∷ Recessive ∷ Recessive ∷ [])
 
 module _ (n : ℕ) (start : Timed) (starts : List Timed) where
@@ -114,8 +114,8 @@ module _ (n : ℕ) (start : Timed) (starts : List Timed) where
   frame = start.frame
 
   -- the track over the frame and its intermission
-  track-frame : ((s : Timed) → Lists starts s → start.time + busy_time frame ≤ s.time) → (k : ℕ) → k < length (line frame) →
-      track_at (start ∷ starts) (start.time + k) ≡ slice_index_or (line frame) k Recessive
+  track-frame : ((s : Timed) → Lists starts s → start.time + busy_time frame ≤ s.time) → (k : ℕ) → k < length (with_intermission frame) →
+      track_at (start ∷ starts) (start.time + k) ≡ slice_index_or (with_intermission frame) k Recessive
   track-frame late k within =
       let size = length-busy frame in
       elim (cases_lt k (length (wire frame))) [
@@ -131,8 +131,8 @@ module _ (n : ℕ) (start : Timed) (starts : List Timed) where
 
   -- the ports within it
   each-within : (os : List OpenPort) → AllPorts (IsOpenPort start.time n) os → AllPorts (HasPart frame) os →
-      ((s : Timed) → Lists starts s → start.time + length (line frame) ≤ s.time) → (k : ℕ) → k < length (line frame) →
-      Each (Becomes (start ∷ starts) (start.time + k)) os (ports_of (map (λ g. gaining_run g (take k (line frame))) (machines_of os)))
+      ((s : Timed) → Lists starts s → start.time + length (with_intermission frame) ≤ s.time) → (k : ℕ) → k < length (with_intermission frame) →
+      Each (Becomes (start ∷ starts) (start.time + k)) os (ports_of (map (λ g. gaining_run g (take k (with_intermission frame))) (machines_of os)))
   each-within [] are parts late k within = tt
   each-within (o ∷ os) are parts late k within = (
     subst (Becomes (start ∷ starts) (start.time + k) o)
@@ -175,10 +175,10 @@ module _ (left rest starts : List Timed) (start : Timed) (os : List OpenPort) (r
       subst (Other f) (offered.same ∙ there.2) (rest-other f left rest others round.left_apart offered.offer offered.is_offer)
 
   -- while the frame is on the wire, and in the intermission behind it
-  follows-within : (k : ℕ) → k < length (line f) → Follows (start ∷ starts) (start.time + k) os (wire_later k here)
+  follows-within : (k : ℕ) → k < length (with_intermission f) → Follows (start ∷ starts) (start.time + k) os (wire_later k here)
   follows-within k within = record {
     level =
-        gives-levels gaining_drives gaining_sees (line f) here k Recessive (frame-gives f here.machines many sends) within
+        gives-levels gaining_drives gaining_sees (with_intermission f) here k Recessive (frame-gives f here.machines many sends) within
         ∙ sym (track-frame 0 start starts (starts-free sched) k within);
     each =
         subst (λ (w : Wire GainingPort). Each (Becomes (start ∷ starts) (start.time + k)) os (ports_of w.machines))
@@ -187,16 +187,16 @@ module _ (left rest starts : List Timed) (start : Timed) (os : List OpenPort) (r
   }
 
   -- behind them
-  follows-behind : (j : ℕ) → Follows starts ((start.time + length (line f)) + j) (map (behind_frame f) os) (wire_later j (wire_with (map (behind_frame f) os) 11)) →
-      Follows (start ∷ starts) (start.time + (length (line f) + j)) os (wire_later (length (line f) + j) here)
+  follows-behind : (j : ℕ) → Follows starts ((start.time + length (with_intermission f)) + j) (map (behind_frame f) os) (wire_later j (wire_with (map (behind_frame f) os) 11)) →
+      Follows (start ∷ starts) (start.time + (length (with_intermission f) + j)) os (wire_later (length (with_intermission f) + j) here)
   follows-behind j follows =
-      let until = (start.time + length (line f)) + j in
+      let until = (start.time + length (with_intermission f)) + j in
       let w = wire_later j (wire_with (map (behind_frame f) os) 11) in
-      let ran : wire_later (length (line f) + j) here ≡ w =
-      wire_runs-joined gaining_drives gaining_sees (length (line f)) j here
+      let ran : wire_later (length (with_intermission f) + j) here ≡ w =
+      wire_runs-joined gaining_drives gaining_sees (length (with_intermission f)) j here
       ∙ ap (wire_later j) (gaining-frame-run f here many sends ∙ ap (λ gs. let v : Wire GainingPort = record { machines = gs; rest = 11 } in v) (behind-machines f os)) in
-      subst (Follows (start ∷ starts) (start.time + (length (line f) + j)) os) (sym ran)
-      (at-time (start ∷ starts) until (start.time + (length (line f) + j)) os w (omega arith) (record {
+      subst (Follows (start ∷ starts) (start.time + (length (with_intermission f) + j)) os) (sym ran)
+      (at-time (start ∷ starts) until (start.time + (length (with_intermission f) + j)) os w (omega arith) (record {
         level = follows.level ∙ sym (track-behind start starts until (omega (arith, length-busy f)));
         each = each-behind (length left) start starts os round.ports parts other-frames until (ports_of w.machines) follows.each;
       }))
@@ -237,15 +237,15 @@ follows (suc fuel) k os r less two round (next free left rest start starts is ot
       let next_now : IsNextStart start.time left start = subst (λ t. IsNextStart t left start) now is in
       let f = start.frame in
       at-time (start ∷ starts) (start.time + k) (free + k) os (wire_later k (wire_with os r)) (omega (arith, now))
-      (elim (cases_lt k (length (line f))) [
+      (elim (cases_lt k (length (with_intermission f))) [
         | inl within ↦ follows-within left rest starts start os r two round_now next_now others sched k within
         | inr past ↦
-            let j : ℕ = k - length (line f) in
-            let whole : length (line f) + j ≡ k = omega (arith, past) in
+            let j : ℕ = k - length (with_intermission f) in
+            let whole : length (with_intermission f) + j ≡ k = omega (arith, past) in
             let behind : OpenRound (start.time + busy_time f) rest (map (behind_frame f) os) =
             subst (λ n. OpenRound (start.time + n) rest (map (behind_frame f) os)) (length-busy f) (round-behind start.time left rest os round_now start refl next_now others) in
-            let after : Follows starts ((start.time + length (line f)) + j) (map (behind_frame f) os) (wire_later j (wire_with (map (behind_frame f) os) 11)) =
-            at-time starts ((start.time + busy_time f) + j) ((start.time + length (line f)) + j) (map (behind_frame f) os) (wire_later j (wire_with (map (behind_frame f) os) 11)) (omega (arith, length-busy f))
+            let after : Follows starts ((start.time + length (with_intermission f)) + j) (map (behind_frame f) os) (wire_later j (wire_with (map (behind_frame f) os) 11)) =
+            at-time starts ((start.time + busy_time f) + j) ((start.time + length (with_intermission f)) + j) (map (behind_frame f) os) (wire_later j (wire_with (map (behind_frame f) os) 11)) (omega (arith, length-busy f))
             (follows fuel j (map (behind_frame f) os) 11 (omega (arith, less, whole, length-busy f)) (simp length-map two) behind sched) in
             subst (λ n. Follows (start ∷ starts) (start.time + n) os (wire_later n (wire_with os r))) whole
             (follows-behind left rest starts start os r two round_now next_now others sched j after)

@@ -5,9 +5,9 @@ use Rattle.std.proofs.lemmas.List.{length-map}
 use Rattle.can_node.specs.Ports.{PortState, IsPort}
 use Rattle.can_node.proofs.Arrivals.{GainingPort}
 use Rattle.can_bus.specs.declared.offer.Offer.{Offer}
-use Rattle.can_bus.specs.OpenBus.{IsOpenCall, AreOver, AtEachNode, OpenLogBegins, OpenLogWhole, own_offers}
+use Rattle.can_bus.specs.OpenBus.{IsOpenCall, AreOver, OpenLogBegins, OpenLogWhole, own_offers}
 use Rattle.can_bus.specs.Offers.{AreOffered, played, played_level, refused}
-use Rattle.can_bus.specs.Quiet.{AtEachPort, Begins, CountsNothing, MissesNothing, marked}
+use Rattle.can_bus.specs.Quiet.{AtEachPort, IsPrefixOf, CountsNothing, MissesNothing, marked, AtEachNode}
 use Rattle.can_bus.specs.Run.{BusState}
 use Rattle.can_bus.specs.Schedule.{Timed, frames_of, track_at}
 use Rattle.can_bus.proofs.Contests.{AllPorts}
@@ -90,7 +90,7 @@ module _ (offers : List Offer) (starts : List Timed) (bus : BusState) (valid : A
 
     pub open-logs : AtEachNode (OpenLogBegins offers starts) bus.ports after.ports
     open-logs node p q before now =
-        subst (λ entries. Begins q.log (entries ++ marked (frames_of (own_offers offers node p)) (frames_of starts))) (call.quiet node p before).empty (at-port node p q before now).begins
+        subst (λ entries. IsPrefixOf q.log (entries ++ marked (frames_of (own_offers offers node p)) (frames_of starts))) (call.quiet node p before).empty (at-port node p q before now).begins
 
     pub open-whole : AreOver starts n → AtEachNode (OpenLogWhole offers starts) bus.ports after.ports
     open-whole past node p q before now =

@@ -4,7 +4,7 @@ use Rattle.std.proofs.lemmas.Bool.{cases_lt}
 use Rattle.std.proofs.lemmas.List.{append-nil}
 use Rattle.can_frame.specs.Parts.{Parts}
 use Rattle.can_code.specs.Wire.{wire, stuffed_part}
-use Rattle.can_mac.specs.Frames.{line}
+use Rattle.can_mac.specs.Frames.{with_intermission}
 use Rattle.can_mac.proofs.FrameParts.{length-wire}
 use Rattle.can_node.specs.declared.entry.Entry.{Entry}
 use Rattle.can_node.specs.Ports.{PortState}
@@ -12,7 +12,7 @@ use Rattle.can_node.proofs.Arrivals.{gaining, gains, later}
 use Rattle.can_node.proofs.OneFrame.{port_at}
 use Rattle.can_node.proofs.FrameLeaves.{Sends, gaining_run-sent, gaining_run-received, log-unsent, log-sent, log-unreceived, log-received}
 use Rattle.can_bus.specs.OpenBus.{AreOver}
-use Rattle.can_bus.specs.Quiet.{Begins, holds, marked}
+use Rattle.can_bus.specs.Quiet.{IsPrefixOf, holds, marked}
 use Rattle.can_bus.specs.Schedule.{Timed, Lists, frames_of, offered_by, without_offer}
 use Rattle.can_bus.proofs.Ascending.{Other}
 use Rattle.can_bus.proofs.Contests.{Has, at-has, has-at}
@@ -31,17 +31,13 @@ log_of starts o = o.machine.port.log ++ marked (frames_of o.own) (frames_of star
 
 -- what becomes of the port by this time, where these starts are still to come
 pub record Becomes (starts : List Timed) (until : ℕ) (o : OpenPort) (p : PortState) : Type 0 where
-  pub begins : Begins p.log (log_of starts o)
+  pub begins : IsPrefixOf p.log (log_of starts o)
   pub whole : AreOver starts until → p.log ≡ log_of starts o
   pub counters : p.mac.counters ≡ o.machine.port.mac.counters
   pub missed : p.missed ≡ o.machine.port.missed
 
 is-clean : (now n : ℕ) (o : OpenPort) → IsOpenPort now n o → IsClean o.machine.port.mac.counters
 is-clean now n o is = record { tec = omega (arith, is.calm.within.tec); rec = omega (arith, is.calm.within.rec) }
-
--- no wire is empty
-pub wire-some : (f : Parts) → 0 < length (wire f)
-wire-some f = omega (arith, length-wire f)
 
 -- ---- at rest
 
@@ -112,14 +108,14 @@ module _ (now n : ℕ) (f : Parts) (o : OpenPort) (is : IsOpenPort now n o) wher
     behind = marked (frames_of o.own) (frames_of starts)
 
     -- within the frame
-    pub becomes-within : ((s : Timed) → Lists starts s → now + length (line f) ≤ s.time) → (k : ℕ) → k < length (line f) →
+    pub becomes-within : ((s : Timed) → Lists starts s → now + length (with_intermission f) ≤ s.time) → (k : ℕ) → k < length (with_intermission f) →
         Becomes (start ∷ starts) (now + k) o (port_at f p o.machine.arrives k)
     becomes-within late k within =
         let log = log-within o.machine.arrives part k in
         record {
           begins = elim log [
-            | inl early ↦ subst (λ entries. Begins entries (log_of (start ∷ starts) o)) (sym early.1) (entry ∷ behind, refl)
-            | inr past ↦ subst (λ entries. Begins entries (log_of (start ∷ starts) o)) (sym past) (behind, append_assoc p.log (entry ∷ []) behind)
+            | inl early ↦ subst (λ entries. IsPrefixOf entries (log_of (start ∷ starts) o)) (sym early.1) (entry ∷ behind, refl)
+            | inr past ↦ subst (λ entries. IsPrefixOf entries (log_of (start ∷ starts) o)) (sym past) (behind, append_assoc p.log (entry ∷ []) behind)
           ];
           whole = λ over. elim log [
             | inl early ↦ absurd (omega (arith, early.0, over start (stands-here start starts)))
@@ -129,7 +125,7 @@ module _ (now n : ℕ) (f : Parts) (o : OpenPort) (is : IsOpenPort now n o) wher
           missed = misses-part f p o.machine.arrives (takes-part f o part) k;
         }
       where
-        nothing-left : (rest : List Timed) → ((s : Timed) → Lists rest s → now + length (line f) ≤ s.time) → AreOver (start ∷ rest) (now + k) → [] ≡ marked (frames_of o.own) (frames_of rest)
+        nothing-left : (rest : List Timed) → ((s : Timed) → Lists rest s → now + length (with_intermission f) ≤ s.time) → AreOver (start ∷ rest) (now + k) → [] ≡ marked (frames_of o.own) (frames_of rest)
         nothing-left [] late over = refl
         nothing-left (s ∷ rest) late over =
             absurd (omega (arith, within, late s (stands-here s rest), over s (stands-later start (s ∷ rest) s (stands-here s rest))))
@@ -166,7 +162,7 @@ module _ (now n : ℕ) (f : Parts) (o : OpenPort) (is : IsOpenPort now n o) wher
     becomes-behind others until q becomes =
         let same = log-behind others in
         record {
-          begins = subst (Begins q.log) same becomes.begins;
+          begins = subst (IsPrefixOf q.log) same becomes.begins;
           whole = λ over. becomes.whole (λ s there. over s (stands-later start starts s there)) ∙ same;
           counters = becomes.counters ∙ (leaves part).counters;
           missed = becomes.missed ∙ (leaves part).missed;

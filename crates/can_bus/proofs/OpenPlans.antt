@@ -8,7 +8,7 @@ use Rattle.can_node.specs.Ports.{PortState}
 use Rattle.can_bus.specs.declared.offer.Offer.{Offer}
 use Rattle.can_bus.specs.OpenBus.{IsOpenCall, IsOpenPlan, all_offers, offered_first, offered_to, own_offers, timed}
 use Rattle.can_bus.specs.Offers.{AreOffered}
-use Rattle.can_bus.specs.Plans.{PortPlan, planned, ready_port}
+use Rattle.can_bus.specs.Plans.{PlannedPort, planned, ready_port}
 use Rattle.can_bus.specs.Quiet.{AreDifferent, queued}
 use Rattle.can_bus.specs.Schedule.{Timed, frames_of, schedule}
 use Rattle.can_bus.proofs.OpenAtOnce.{first-frames}
@@ -31,7 +31,7 @@ length-to node (offer ∷ offers) = elim (cases_eq offer.node node) [
 ]
 
 -- nor has it more frames than all ports
-own-room : (offers : List Offer) (size : ℕ) (plans : List PortPlan) → length (planned plans) ≤ size → All (λ plan. size + length offers ≤ plan.queue_room) plans →
+own-room : (offers : List Offer) (size : ℕ) (plans : List PlannedPort) → length (planned plans) ≤ size → All (λ plan. size + length offers ≤ plan.queue_room) plans →
     (node n : ℕ) (p : PortState) → slice_get (map ready_port plans) n ≡ Some p → length (own_offers offers node p) ≤ p.queue_room
 own-room offers size [] fits room node n p there = absurd (let h : None ≡ Some p = there in cc)
 own-room offers size (plan ∷ plans) fits room node zero p there =
@@ -46,7 +46,7 @@ own-room offers size (plan ∷ plans) fits room node zero p there =
 own-room offers size (plan ∷ plans) fits room node (suc n) p there =
     own-room offers size plans (omega (arith, fits, length-append plan.frames (planned plans))) (All-tail (λ plan. size + length offers ≤ plan.queue_room) plan plans room) node n p there
 
-module _ (offers : List Offer) (plans : List PortPlan) (is : IsOpenPlan offers plans) where
+module _ (offers : List Offer) (plans : List PlannedPort) (is : IsOpenPlan offers plans) where
   abbrev ports : List PortState
   ports = map ready_port plans
 

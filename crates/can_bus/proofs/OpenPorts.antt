@@ -4,7 +4,7 @@ use Rattle.std.proofs.lemmas.List.{append-nil}
 use Rattle.std.proofs.lemmas.Bool.{cases_lt}
 use Rattle.can_frame.specs.declared.level.Level.TheVariants.{Recessive}
 use Rattle.can_frame.specs.Parts.{Parts}
-use Rattle.can_mac.specs.Frames.{line}
+use Rattle.can_mac.specs.Frames.{with_intermission}
 use Rattle.can_node.specs.Ports.{PortState, without}
 use Rattle.can_node.proofs.Arrivals.{GainingPort, gaining, gains, arrived, later, later_by, later_by-at, gaining_step, gaining_run, without-gains}
 use Rattle.can_node.proofs.FramesWaiting.{AreFrames, AreFrames-without}
@@ -82,7 +82,7 @@ abbrev pub HasPart : Parts → OpenPort → Type 0
 HasPart f o = Sends f o.machine.port ⊎ (Receives f o.machine.port × ((x : Timed) → Lists o.own x → Other f x.frame))
 
 abbrev pub behind_frame : Parts → OpenPort → OpenPort
-behind_frame f o = record { machine = gaining_run o.machine (line f); own = without_offer f o.own }
+behind_frame f o = record { machine = gaining_run o.machine (with_intermission f); own = without_offer f o.own }
 
 module _ (now entries : ℕ) (f : Parts) (o : OpenPort) (is : IsOpenPort now (suc entries) o) (apart : AreApart o.own) where
   abbrev p : PortState
@@ -92,7 +92,7 @@ module _ (now entries : ℕ) (f : Parts) (o : OpenPort) (is : IsOpenPort now (su
   arrives = o.machine.arrives
 
   abbrev size : ℕ
-  size = length (line f)
+  size = length (with_intermission f)
 
   abbrev rest : List Timed
   rest = without_offer f o.own

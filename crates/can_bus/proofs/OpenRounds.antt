@@ -3,7 +3,7 @@ use Rattle.std.proofs.Common.{◌≡◌, ℕ, suc, ◌+◌, ◌<◌, ◌≤◌, 
 use Rattle.std.specs.List.{flat_map}
 use Rattle.can_frame.specs.Parts.{Parts, IsFrame}
 use Rattle.can_frame.specs.Arbitration.{arbitration_field}
-use Rattle.can_mac.specs.Frames.{line}
+use Rattle.can_mac.specs.Frames.{with_intermission}
 use Rattle.can_node.specs.Ports.{PortState}
 use Rattle.can_node.proofs.Arrivals.{GainingPort}
 use Rattle.can_node.proofs.FrameLeaves.{Sends, IsReady}
@@ -126,7 +126,7 @@ held-behind f (o ∷ os) apart =
     ap (λ l. without_offer f o.own ++ l) (held-behind f os (apart-back o.own (held os) apart)) ∙ sym (without-append f o.own (held os) apart)
 
 all-behind : (now n : ℕ) (f : Parts) (os : List OpenPort) → AllPorts (IsOpenPort now (suc n)) os → AreApart (held os) → AllPorts (HasPart f) os →
-    AllPorts (IsOpenPort (now + length (line f)) n) (map (behind_frame f) os)
+    AllPorts (IsOpenPort (now + length (with_intermission f)) n) (map (behind_frame f) os)
 all-behind now n f [] are apart parts = tt
 all-behind now n f (o ∷ os) are apart parts = (
   open-behind now n f o are.0 (apart-front o.own (held os) apart) parts.0,
@@ -174,7 +174,7 @@ module _ (now : ℕ) (left rest : List Timed) (os : List OpenPort) (round : Open
     round-parts = one-has-it f now (length left) os round.ports round.apart round-sends
 
     -- and the others are left
-    pub round-behind : OpenRound (now + length (line f)) rest (map (behind_frame f) os)
+    pub round-behind : OpenRound (now + length (with_intermission f)) rest (map (behind_frame f) os)
     round-behind =
         let size : length left ≡ suc (length rest) = rest-length f left rest others in
         let out : AreOthers f (held os) (without_offer f (held os)) = others-without (held os) round.apart offer offer-held in

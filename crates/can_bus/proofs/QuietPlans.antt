@@ -1,37 +1,35 @@
 -- Ports that are made idle and offered their frames are a quiet bus.
 use Rattle.std.specs.Prelude.{fold, slice_get}
-use Rattle.std.specs.List.Sorted.{IsPermutation}
 use Rattle.std.proofs.Common.{◌≡◌, ℕ, zero, suc, ◌≤◌, Some, None, List, [], ◌∷◌, ◌++◌, All, length, map, refl, sym, ◌∙◌, ap, subst, arith, append_assoc}
 use Rattle.std.proofs.lemmas.List.{append-nil, length-map}
-use Rattle.std.proofs.lemmas.List.Elements.{All-cons, All-tail}
+use Rattle.std.proofs.lemmas.List.Elements.{All-tail}
 use Rattle.std.proofs.lemmas.Option.{slice_get_within, get_or_from_slice_get}
 use Rattle.can_frame.specs.Parts.{Parts, IsFrame}
 use Rattle.can_mac.specs.State.{idle}
 use Rattle.can_mac.proofs.Kept.{IsMac-idle}
-use Rattle.can_node.specs.Ports.{PortState, IsPort, fresh_port, offered}
+use Rattle.can_node.specs.Ports.{PortState, IsPort, fresh_port, port_offered}
 use Rattle.can_bus.specs.Quiet.{AreDifferent, IsQuiet, IsQuietPort, queued}
 use Rattle.can_bus.specs.Run.{BusState}
-use Rattle.can_bus.specs.Agreement.{IsQuietBus, AreAlike}
-use Rattle.can_bus.specs.Plans.{PortPlan, FitsQueue, IsQuietPlan, planned, ready_port}
+use Rattle.can_bus.specs.Plans.{PlannedPort, FitsQueue, IsQuietPlan, planned, ready_port}
 
 -- frames that are offered one after another wait behind those that waited
-pub all-offered : (frames : List Parts) (p : PortState) → fold (λ q f. offered f q) p frames ≡ record p { queue = p.queue ++ frames }
-all-offered [] p = ap (λ queue. record p { queue = queue }) (sym (append-nil p.queue))
-all-offered (f ∷ frames) p = all-offered frames (offered f p) ∙ ap (λ queue. record p { queue = queue }) (append_assoc p.queue (f ∷ []) frames)
+pub all-port_offered : (frames : List Parts) (p : PortState) → fold (λ q f. port_offered f q) p frames ≡ record p { queue = p.queue ++ frames }
+all-port_offered [] p = ap (λ queue. record p { queue = queue }) (sym (append-nil p.queue))
+all-port_offered (f ∷ frames) p = all-port_offered frames (port_offered f p) ∙ ap (λ queue. record p { queue = queue }) (append_assoc p.queue (f ∷ []) frames)
 
 -- the port as its parts
-abbrev pub filled_port : PortPlan → PortState
+abbrev pub filled_port : PlannedPort → PortState
 filled_port plan = record (fresh_port idle plan.queue_room plan.log_room) { queue = plan.frames }
 
-pub ready-filled : (plan : PortPlan) → ready_port plan ≡ filled_port plan
-ready-filled plan = all-offered plan.frames (fresh_port idle plan.queue_room plan.log_room)
+pub ready-filled : (plan : PlannedPort) → ready_port plan ≡ filled_port plan
+ready-filled plan = all-port_offered plan.frames (fresh_port idle plan.queue_room plan.log_room)
 
-pub ready-queued : (plans : List PortPlan) → queued (map ready_port plans) ≡ planned plans
+pub ready-queued : (plans : List PlannedPort) → queued (map ready_port plans) ≡ planned plans
 ready-queued [] = refl
 ready-queued (plan ∷ plans) =
     ap (λ (p : PortState). p.queue ++ queued (map ready_port plans)) (ready-filled plan) ∙ ap (λ frames. plan.frames ++ frames) (ready-queued plans)
 
-pub ready-port : (plan : PortPlan) → FitsQueue plan → IsPort (ready_port plan)
+pub ready-port : (plan : PlannedPort) → FitsQueue plan → IsPort (ready_port plan)
 ready-port plan fits = subst IsPort (sym (ready-filled plan)) (record {
   mac = IsMac-idle;
   queued = λ n f there. subst IsFrame (get_or_from_slice_get plan.frames n f f there) (fits.frames n f (slice_get_within plan.frames n f there));
@@ -41,11 +39,11 @@ ready-port plan fits = subst IsPort (sym (ready-filled plan)) (record {
   missed_fits = omega arith;
 })
 
-quiet-filled : (entries : ℕ) (plan : PortPlan) → entries ≤ plan.log_room → IsQuietPort entries (ready_port plan)
+quiet-filled : (entries : ℕ) (plan : PlannedPort) → entries ≤ plan.log_room → IsQuietPort entries (ready_port plan)
 quiet-filled entries plan room =
     subst (IsQuietPort entries) (sym (ready-filled plan)) (record { idle = refl; tec = refl; rec = refl; unasked = refl; empty = refl; room = room })
 
-pub quiet-each : (entries : ℕ) (plans : List PortPlan) → All (λ plan. entries ≤ plan.log_room) plans → (n : ℕ) (p : PortState) → slice_get (map ready_port plans) n ≡ Some p → IsQuietPort entries p
+pub quiet-each : (entries : ℕ) (plans : List PlannedPort) → All (λ plan. entries ≤ plan.log_room) plans → (n : ℕ) (p : PortState) → slice_get (map ready_port plans) n ≡ Some p → IsQuietPort entries p
 quiet-each entries [] room n p there = absurd (let h : None ≡ Some p = there in cc)
 quiet-each entries (plan ∷ plans) room zero p there =
     let is : ready_port plan ≡ p = (let h : Some (ready_port plan) ≡ Some p = there in cc) in
@@ -53,7 +51,7 @@ quiet-each entries (plan ∷ plans) room zero p there =
 quiet-each entries (plan ∷ plans) room (suc n) p there =
     quiet-each entries plans (All-tail (λ plan. entries ≤ plan.log_room) plan plans room) n p there
 
-pub ready-quiet : (plans : List PortPlan) → IsQuietPlan plans → IsQuiet (map ready_port plans)
+pub ready-quiet : (plans : List PlannedPort) → IsQuietPlan plans → IsQuiet (map ready_port plans)
 ready-quiet plans is =
     let frames : planned plans ≡ queued (map ready_port plans) = sym (ready-queued plans) in
     record {
@@ -66,24 +64,5 @@ ready-quiet plans is =
 -- ---- as a bus
 
 -- the bus of these ports
-abbrev pub ready_bus : ℕ → List PortPlan → BusState
+abbrev pub ready_bus : ℕ → List PlannedPort → BusState
 ready_bus rest plans = record { ports = map ready_port plans; rest = rest }
-
-ready-ports : (plans : List PortPlan) → All FitsQueue plans → All IsPort (map ready_port plans)
-ready-ports [] fit = λ k d h. absurd (omega arith)
-ready-ports (plan ∷ plans) fit =
-    All-cons IsPort (ready_port plan) (map ready_port plans) (ready-port plan (fit 0 plan (omega arith))) (ready-ports plans (All-tail FitsQueue plan plans fit))
-
-pub ready-bus : (rest : ℕ) (plans : List PortPlan) → All FitsQueue plans → IsQuietPlan plans → IsQuietBus (ready_bus rest plans)
-ready-bus rest plans fit is = record { ports = ready-ports plans fit; quiet = ready-quiet plans is }
-
--- two that are made for the same frames are alike
-pub ready-alike : (rest left : ℕ) (plans others : List PortPlan) → All FitsQueue plans → IsQuietPlan plans → All FitsQueue others → IsQuietPlan others →
-    IsPermutation (planned plans) (planned others) → AreAlike (ready_bus rest plans) (ready_bus left others)
-ready-alike rest left plans others fit is fits are moved = record {
-  first = ready-bus rest plans fit is;
-  second = ready-bus left others fits are;
-  frames =
-      subst (λ frames. IsPermutation frames (queued (map ready_port others))) (sym (ready-queued plans))
-      (subst (IsPermutation (planned plans)) (sym (ready-queued others)) moved);
-}

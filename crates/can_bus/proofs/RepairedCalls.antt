@@ -15,10 +15,10 @@ use Rattle.can_code.proofs.StuffingLemmas.{Stuffs-stuffed}
 use Rattle.can_mac.proofs.FrameParts.{length-wire}
 use Rattle.can_bus.specs.declared.hit.Hit.{Hit}
 use Rattle.can_bus.specs.declared.hit.Hit.TheVariants.{At, In, View}
-use Rattle.can_bus.specs.Hits.{AreTaken, is_above, names_port}
+use Rattle.can_bus.specs.Hits.{AreTaken, is_above, hit_names_port}
 use Rattle.can_bus.specs.Run.{BusState}
 use Rattle.can_bus.specs.Quiet.{IsQuietCall, IsAscending, ascending, holds, span}
-use Rattle.can_bus.specs.Plans.{PortPlan, IsQuietPlan, planned, ready_port}
+use Rattle.can_bus.specs.Plans.{PlannedPort, IsQuietPlan, planned, ready_port}
 use Rattle.can_bus.specs.Repair.{IsRepairedCall, IsInWindow, FallsInWindow, FallInWindows, IsLater, AreApart, AreBorne, Tally, tallied, tallied_attempt, tally, tally_after, frame_of_attempt, attempts, repaired_span}
 use Rattle.can_bus.proofs.Ascending.{ascending_there}
 use Rattle.can_bus.proofs.QuietPlans.{ready_bus, ready-quiet, ready-queued}
@@ -61,7 +61,7 @@ quiet-tally queue frames = after-nothing queue frames (attempts frames [])
 
 -- ---- With hits.
 
-pub made-call : (plans : List PortPlan) (hits : List Hit) → IsQuietPlan plans → FallInWindows (ascending (planned plans)) hits → AreApart 1 hits →
+pub made-call : (plans : List PlannedPort) (hits : List Hit) → IsQuietPlan plans → FallInWindows (ascending (planned plans)) hits → AreApart 1 hits →
     (length hits ≤ 15) ⊎ AreBorne (ascending (planned plans)) hits (map ready_port plans) → IsRepairedCall hits (ready_bus 11 plans) (ascending (planned plans))
 made-call plans hits is windows apart borne = record {
   quiet = ready-quiet plans is;
@@ -80,7 +80,7 @@ later-above (In attempt offset) (View time node) later = absurd later
 later-above (At time) b later = absurd later
 later-above (View time node) b later = absurd later
 
-window-named : (ports : ℕ) (frames : List Parts) (hits : List Hit) (hit : Hit) → FallsInWindow frames hits hit → names_port ports hit ≡ true
+window-named : (ports : ℕ) (frames : List Parts) (hits : List Hit) (hit : Hit) → FallsInWindow frames hits hit → hit_names_port ports hit ≡ true
 window-named ports frames hits (At time) falls = refl
 window-named ports frames hits (In attempt offset) falls = refl
 window-named ports frames hits (View time node) falls = absurd falls

@@ -10,7 +10,7 @@ use Rattle.can_frame.specs.Levels.{opposite}
 use Rattle.can_frame.specs.Parts.{Parts, IsFrame}
 use Rattle.can_code.specs.Wire.{wire}
 use Rattle.can_code.specs.Layout.{level_at}
-use Rattle.can_mac.specs.Frames.{line}
+use Rattle.can_mac.specs.Frames.{with_intermission}
 use Rattle.can_mac.proofs.FrameParts.{length-wire}
 use Rattle.can_mac.proofs.ErrorFrames.{in_flag, at_rest}
 use Rattle.can_mac.proofs.HitLevels.{IsHit, inverted, breaks-soon}
@@ -18,7 +18,7 @@ use Rattle.can_node.specs.Ports.{IsPort}
 use Rattle.can_node.proofs.BrokenFrames.{seen_of}
 use Rattle.can_bus.specs.declared.hit.Hit.{Hit}
 use Rattle.can_bus.specs.Run.{BusState, course, bus_level}
-use Rattle.can_bus.specs.Quiet.{with_intermission, line_at}
+use Rattle.can_bus.specs.Quiet.{line_at}
 use Rattle.can_bus.specs.Repair.{IsRepairedCall, frame_of_attempt, hit_of}
 use Rattle.can_bus.specs.RepairedLine.{struck, lateness, attempt_levels, first_attempts, repaired_line_at}
 use Rattle.can_bus.proofs.WireRuns.{undisturbed}
@@ -47,7 +47,7 @@ module _ (f : Parts) (is : IsFrame f) (o : ℕ) (hit : IsHit f o) where
       let j = (breaks-soon f is o hit).0 in
       let w : List Level = take o (wire f) in
       let rest : ℕ → List Level = λ i. replicate (6 + i) Dominant ++ replicate 11 Recessive in
-      let front : take o (line f) ≡ w = take-append-le o (wire f) (Recessive ∷ Recessive ∷ Recessive ∷ []) (omega (arith, hit.within, length-wire f)) in
+      let front : take o (with_intermission f) ≡ w = take-append-le o (wire f) (Recessive ∷ Recessive ∷ Recessive ∷ []) (omega (arith, hit.within, length-wire f)) in
       broken-seen f is o hit j
       ∙ ap (λ xs. xs ++ (inverted f is o hit ∷ seen_of (dead_time j))) front
       ∙ ap (λ xs. w ++ (inverted f is o hit ∷ xs)) (dead-seen j)
@@ -89,7 +89,7 @@ module _ (frames : List Parts) (hits : List Hit) (rising : Apart hits) where
       append-nil (first_attempts frames hits number) ∙ sym (attempts-stay number (total - number) end)
       ∙ ap (first_attempts frames hits) (let k : number + (total - number) ≡ total = omega (arith, within) in k)
   plan-attempts (whole h number f left free sends unhit rest) within =
-      attempts-more number (undisturbed (line f)) (plan_levels rest) (Some f) None sends unhit (seen-undisturbed (line f))
+      attempts-more number (undisturbed (with_intermission f)) (plan_levels rest) (Some f) None sends unhit (seen-undisturbed (with_intermission f))
       ∙ plan-attempts rest (omega (arith, sends-below frames hits rising number f sends))
   plan-attempts (broken_off h number f left below is o hit here sends struck rest) within =
       attempts-more number (broken_levels f is o hit) (plan_levels rest) (Some f) (Some o) sends struck (broken-attempt f is o hit)

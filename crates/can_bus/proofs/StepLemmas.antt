@@ -11,7 +11,7 @@ use Rattle.can_bus.specs.declared.hit.Hit.TheVariants.{At, In, View}
 use Rattle.can_bus.specs.declared.moment.Attempt.{Attempt}
 use Rattle.can_bus.specs.Hits.{is_pair_above}
 use Rattle.can_bus.specs.Wired.{wired}
-use Rattle.can_bus.specs.Run.{BusState, Course, course, begins, following, aged, hits_wire, inverted_if, all_sampled, rest_after, recorded, bus_step, bus_after, bus_level, bus_run}
+use Rattle.can_bus.specs.Run.{BusState, Course, course, begins_attempt, following, aged, hits_wire, inverted_if, all_sampled, rest_after, recorded, bus_step, bus_after, bus_level, bus_run}
 use Rattle.can_bus.specs.Walks.{AreBelow, IsPassed, IsCall, first_call, in_now, in_next}
 use Rattle.can_bus.proofs.CursorLemmas.{below_none, below_above}
 
@@ -49,7 +49,7 @@ passed_more false (Some a) time passed = let h : a.number + (a.offset + 1) < tim
 
 -- what is recorded, and the bus a bit time later
 pub step_is : (hits : List Hit) (ports next : List PortState) (rest time : ℕ) (latest now : Option Attempt) (w x : Level) →
-    w ≡ wired (map port_drives ports) → now ≡ (if begins rest w then Some (following latest) else aged latest) →
+    w ≡ wired (map port_drives ports) → now ≡ (if begins_attempt rest w then Some (following latest) else aged latest) →
     x ≡ inverted_if (list_any (hits_wire time now) hits) w → next ≡ all_sampled hits time x 0 ports →
     (x ≡ recorded hits (record { bus = record { ports = ports; rest = rest }; time = time; latest = latest })) ×
     (record { bus = record { ports = next; rest = rest_after rest x }; time = time + 1; latest = now }
@@ -57,10 +57,10 @@ pub step_is : (hits : List Hit) (ports next : List PortState) (rest time : ℕ) 
 unfolding recorded bus_step
 step_is hits ports next rest time latest now w x a b d e =
     let c : Course = record { bus = record { ports = ports; rest = rest }; time = time; latest = latest } in
-    let n : now ≡ (if begins rest (wired (map port_drives ports)) then Some (following latest) else aged latest) =
-    b ∙ ap (λ v. if begins rest v then Some (following latest) else aged latest) a in
+    let n : now ≡ (if begins_attempt rest (wired (map port_drives ports)) then Some (following latest) else aged latest) =
+    b ∙ ap (λ v. if begins_attempt rest v then Some (following latest) else aged latest) a in
     let r : x ≡ recorded hits c = d ∙ ap (λ m. inverted_if (list_any (hits_wire time m) hits) w) n
-    ∙ ap (λ v. inverted_if (list_any (hits_wire time (if begins rest (wired (map port_drives ports)) then Some (following latest) else aged latest)) hits) v) a in (
+    ∙ ap (λ v. inverted_if (list_any (hits_wire time (if begins_attempt rest (wired (map port_drives ports)) then Some (following latest) else aged latest)) hits) v) a in (
       r,
       ap (λ ps. record { bus = record { ports = ps; rest = rest_after rest x }; time = time + 1; latest = now }) e
           ∙ ap (λ v. record { bus = record { ports = all_sampled hits time v 0 ports; rest = rest_after rest v }; time = time + 1; latest = now }) r

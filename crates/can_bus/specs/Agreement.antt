@@ -1,4 +1,4 @@
--- Two quiet buses with the same frames.
+-- Two quiet buses with the same frames. (docs/BUS.md, "A quiet bus")
 use Rattle.std.specs.Prelude.{ℕ, ◌≡◌, List, All, map, slice_get, Some}
 use Rattle.std.specs.List.Sorted.{IsPermutation}
 use Rattle.can_frame.specs.Parts.{Parts}

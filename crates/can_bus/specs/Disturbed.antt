@@ -1,9 +1,11 @@
 -- A disturbed run, said of whole lists of levels: those on the wire, those recorded, and those that each port saw.
+-- (docs/BUS.md, "Runs")
 use Rattle.std.specs.Prelude.{ℕ, ◌≡◌, ◌↔◌, ◌+◌, ◌<◌, ◌≤◌, nat_le, min, Bool, true, false, ◌&&◌, not, List, ◌++◌, All, length, map, replicate, slice_get, slice_index_or, take, Some}
 use Rattle.std.specs.List.{Any, Contains, count_by, range_with_len, suffix_len, zip}
 use Rattle.can_frame.specs.declared.level.Level.{Level}
 use Rattle.can_frame.specs.declared.level.Level.TheVariants.{Recessive}
 use Rattle.can_frame.specs.Levels.{is_recessive, opposite}
+use Rattle.can_frame.specs.IdleRow.{idle_row}
 use Rattle.can_node.specs.Ports.{PortState, port_drives, port_run}
 use Rattle.can_bus.specs.declared.hit.Hit.{Hit}
 use Rattle.can_bus.specs.declared.hit.Hit.TheVariants.{At, In, View}
@@ -26,7 +28,7 @@ rest_before rest recorded t = suffix_len is_recessive (replicate rest Recessive 
 module _ (rest : ℕ) (wired recorded : List Level) where
   -- an attempt begins at time t: the wired level is dominant, and eleven recessive levels were recorded right before it
   unfoldable pub begins_at : ℕ → Bool
-  begins_at t = not (is_recessive (level_then wired t)) && nat_le 11 (rest_before rest recorded t)
+  begins_at t = not (is_recessive (level_then wired t)) && nat_le idle_row (rest_before rest recorded t)
 
   -- how many attempts begin before time t
   unfoldable pub attempts_before : ℕ → ℕ
@@ -54,7 +56,7 @@ module _ (rest : ℕ) (wired recorded : List Level) where
 -- `records`: the recorded level is the opposite of the wired one exactly at those times at which a hit falls on the wire.
 -- `sees`: a port sees the opposite of the recorded level exactly at those times at which a `View` names it.
 -- `leads`: each port goes from its state through the levels that it saw.
--- `rests`: the bus keeps how many recessive levels were recorded last, up to eleven.
+-- `keeps_rest`: the bus keeps how many recessive levels were recorded last, up to eleven.
 pub record IsDisturbedRun (hits : List Hit) (before : BusState) (wired recorded : List Level) (seen : List (List Level)) (after : BusState) : Type 0 where
   pub long : length wired ≡ length recorded
   pub seen_long : All (λ levels. length levels ≡ length recorded) seen
@@ -65,7 +67,7 @@ pub record IsDisturbedRun (hits : List Hit) (before : BusState) (wired recorded 
   pub sees : (port t : ℕ) (levels : List Level) → slice_get seen port ≡ Some levels → t < length recorded →
       (level_then levels t ≡ opposite (level_then recorded t)) ↔ Contains hits (View t port)
   pub leads : after.ports ≡ ports_then (length recorded) before.ports seen
-  pub rests : after.rest ≡ min (rest_before before.rest recorded (length recorded)) 11
+  pub keeps_rest : after.rest ≡ min (rest_before before.rest recorded (length recorded)) idle_row
 
 -- there are levels on the wire, and levels that the ports saw, with which these recorded ones are such a run
 abbrev pub WasDisturbed : List Hit → BusState → List Level → BusState → Type 0

@@ -1,4 +1,5 @@
 -- Which disturbances a bus takes: their order, and the ports that they name.
+-- (docs/BUS.md, "Disturbances" and "Refusals")
 use Rattle.std.specs.Prelude.{ℕ, nat_lt, ◌==◌, Bool, true, false, ◌&&◌, ◌||◌, List}
 use Rattle.can_bus.specs.declared.hit.Hit.{Hit}
 use Rattle.can_bus.specs.declared.hit.Hit.TheVariants.{At, In, View}
@@ -23,10 +24,10 @@ is_above (View time node) (In attempt offset) = true
 is_above (View time node) (View before other) = is_pair_above time node before other
 
 -- of so many ports the hit names one, if it names any
-abbrev pub names_port : ℕ → Hit → Bool
-names_port ports (At time) = true
-names_port ports (In attempt offset) = true
-names_port ports (View time node) = nat_lt node ports
+abbrev pub hit_names_port : ℕ → Hit → Bool
+hit_names_port ports (At time) = true
+hit_names_port ports (In attempt offset) = true
+hit_names_port ports (View time node) = nat_lt node ports
 
 -- the hit at this place is above the one before it
 abbrev pub IsAboveLast : List Hit → ℕ → Hit → Type 0
@@ -34,8 +35,8 @@ IsAboveLast hits place hit = FollowsLast is_above hits place hit
 
 -- the hits stand in strict order, and each names a port that there is, if it names any
 abbrev pub AreTaken : ℕ → List Hit → Type 0
-AreTaken ports hits = AreSound is_above names_port ports hits
+AreTaken ports hits = AreSound is_above hit_names_port ports hits
 
 -- the first hit that is refused has this fault
-abbrev pub IsFirstFault : ℕ → List Hit → BusFault → Type 0
-IsFirstFault ports hits fault = IsFirstWrong is_above names_port ports hits fault
+abbrev pub IsFirstHitFault : ℕ → List Hit → BusFault → Type 0
+IsFirstHitFault ports hits fault = IsFirstWrong is_above hit_names_port ports hits fault

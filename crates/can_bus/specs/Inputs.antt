@@ -1,4 +1,5 @@
 -- Lists that a call takes, in which each item may stand behind the one before it, and each names a port that there is.
+-- (docs/BUS.md, "Refusals")
 use Rattle.std.specs.Prelude.{ℕ, ◌≡◌, ◌+◌, Bool, true, false, List, take, Some, slice_get}
 use Rattle.can_bus.specs.declared.fault.BusFault.{BusFault}
 use Rattle.can_bus.specs.declared.fault.BusFault.TheVariants.{NoPort, TooManyPorts, NotRising, NoSuchPort}

@@ -1,4 +1,4 @@
--- A bus that lends a port.
+-- A bus that lends a port, to be changed in its place. (docs/BUS.md, "Runs")
 use Rattle.std.specs.Prelude.{ℕ, Option}
 use Rattle.std.specs.Borrow.{LendsIf, Fml, RattleType, MutBor}
 use Rattle.std.specs.Vec.{with_item}

@@ -6,8 +6,8 @@ use Rattle.can_code.specs.Wire.{wire}
 use Rattle.can_node.specs.Ports.{PortState}
 use Rattle.can_bus.specs.declared.offer.Offer.{Offer}
 use Rattle.can_bus.specs.Offers.{AreOffered, all_made}
-use Rattle.can_bus.specs.Plans.{PortPlan, planned}
-use Rattle.can_bus.specs.Quiet.{AreDifferent, Begins, IsQuietPort, marked, queued}
+use Rattle.can_bus.specs.Plans.{PlannedPort, planned}
+use Rattle.can_bus.specs.Quiet.{AreDifferent, IsPrefixOf, IsQuietPort, marked, queued}
 use Rattle.can_bus.specs.Run.{BusState}
 use Rattle.can_bus.specs.Schedule.{IsScheduleOf, Lists, Timed, frames_of}
 
@@ -47,17 +47,17 @@ pub record IsOpenCall (offers : List Offer) (ports : List PortState) (starts : L
   -- the schedule of all frames, no two of which have one arbitration field
   pub scheduled : IsScheduleOf (all_offers offers ports) starts
 
+-- what is claimed of such a call, with the schedule of all frames
+abbrev pub OnOpenCall : List Offer → List PortState → (List Timed → Type 0) → Type 0
+OnOpenCall offers ports Claim = (starts : List Timed) → IsOpenCall offers ports starts → Claim starts
+
 -- the wires of all starts have ended by this time
 abbrev pub AreOver : List Timed → ℕ → Type 0
 AreOver starts t = (s : Timed) → Lists starts s → s.time + length (wire s.frame) ≤ t
 
--- at each port, which has a number, before and after
-abbrev pub AtEachNode : (ℕ → PortState → PortState → Type 0) → List PortState → List PortState → Type 0
-AtEachNode R before after = (n : ℕ) (p q : PortState) → slice_get before n ≡ Some p → slice_get after n ≡ Some q → R n p q
-
 -- the log names the first of the frames that start, each as sent where the port had it to send
 abbrev pub OpenLogBegins : List Offer → List Timed → ℕ → PortState → PortState → Type 0
-OpenLogBegins offers starts node p q = Begins q.log (marked (frames_of (own_offers offers node p)) (frames_of starts))
+OpenLogBegins offers starts node p q = IsPrefixOf q.log (marked (frames_of (own_offers offers node p)) (frames_of starts))
 
 -- the log names all of them
 abbrev pub OpenLogWhole : List Offer → List Timed → ℕ → PortState → PortState → Type 0
@@ -73,7 +73,7 @@ WaitsAt offers node p q = q.queue ≡ frames_of (own_offers offers node p)
 
 -- How an open bus is made: two to 64 ports, offers in order, of which each names a port, and no two frames with one
 -- arbitration field; each queue and each log has room for all frames.
-pub record IsOpenPlan (offers : List Offer) (plans : List PortPlan) : Type 0 where
+pub record IsOpenPlan (offers : List Offer) (plans : List PlannedPort) : Type 0 where
   pub two : 2 ≤ length plans
   pub most : length plans ≤ 64
   pub offered : AreOffered (length plans) offers

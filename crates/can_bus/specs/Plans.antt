@@ -1,32 +1,32 @@
--- How a quiet bus is made.
+-- How a quiet bus is made. (docs/BUS.md, "A quiet bus")
 use Rattle.std.specs.Prelude.{ℕ, ◌≤◌, List, All, fold, length}
 use Rattle.std.specs.List.{flat_map}
 use Rattle.can_frame.specs.Parts.{Parts, IsFrame}
 use Rattle.can_mac.specs.State.{idle}
-use Rattle.can_node.specs.Ports.{PortState, fresh_port, offered}
+use Rattle.can_node.specs.Ports.{PortState, fresh_port, port_offered}
 use Rattle.can_bus.specs.Quiet.{AreDifferent}
 
 -- what a port is made with: its rooms, and the frames that it is offered, one after another
-pub record PortPlan : Type 0 where
+pub record PlannedPort : Type 0 where
   pub queue_room : ℕ
   pub log_room : ℕ
   pub frames : List Parts
 
 -- the port as it is made, idle, and then offered its frames
-abbrev pub ready_port : PortPlan → PortState
-ready_port plan = fold (λ p f. offered f p) (fresh_port idle plan.queue_room plan.log_room) plan.frames
+abbrev pub ready_port : PlannedPort → PortState
+ready_port plan = fold (λ p f. port_offered f p) (fresh_port idle plan.queue_room plan.log_room) plan.frames
 
 -- the frames of all ports
-abbrev pub planned : List PortPlan → List Parts
+abbrev pub planned : List PlannedPort → List Parts
 planned plans = flat_map (λ plan. plan.frames) plans
 
 -- the queue has room for what the port is offered, all of which are frames
-pub record FitsQueue (plan : PortPlan) : Type 0 where
+pub record FitsQueue (plan : PlannedPort) : Type 0 where
   pub frames : All IsFrame plan.frames
   pub room : length plan.frames ≤ plan.queue_room
 
 -- two to 64 ports, no two of whose frames have one arbitration field, and in each log room for all frames
-pub record IsQuietPlan (plans : List PortPlan) : Type 0 where
+pub record IsQuietPlan (plans : List PlannedPort) : Type 0 where
   pub two : 2 ≤ length plans
   pub most : length plans ≤ 64
   pub different : AreDifferent (planned plans)

@@ -1,5 +1,6 @@
--- A quiet bus: every queued frame goes out once, in arbitration order.
-use Rattle.std.specs.Prelude.{ℕ, ◌≡◌, ◌≢◌, ◌+◌, ◌<◌, ◌≤◌, Bool, if◌then◌else◌, List, [], ◌∷◌, ◌++◌, length, map, replicate, sum_by, slice_get, slice_index_or, Some}
+-- A quiet bus: every queued frame goes out once, in arbitration order. (docs/BUS.md, "The order in which frames go out"
+-- and "A quiet bus")
+use Rattle.std.specs.Prelude.{ℕ, ◌≡◌, ◌≢◌, ◌+◌, ◌<◌, ◌≤◌, Bool, if◌then◌else◌, List, [], ◌∷◌, ◌++◌, length, map, sum_by, slice_get, slice_index_or, Some}
 use Rattle.std.specs.List.{flat_map, list_any}
 use Rattle.std.specs.List.Sorted.{IsPermutation}
 use Rattle.can_frame.specs.declared.level.Level.{Level}
@@ -8,6 +9,7 @@ use Rattle.can_frame.specs.Parts.{Parts}
 use Rattle.can_frame.specs.Arbitration.{arbitration_field, Before}
 use Rattle.can_code.specs.Wire.{wire}
 use Rattle.can_mac.specs.declared.phase.Phase.TheVariants.{Idle}
+use Rattle.can_mac.specs.Frames.{with_intermission}
 use Rattle.can_node.specs.declared.entry.Entry.{Entry}
 use Rattle.can_node.specs.Ports.{PortState, goes_before, same_field}
 use Rattle.can_bus.specs.declared.hit.Hit.{Hit}
@@ -29,10 +31,6 @@ inserted f (g ∷ frames) = if goes_before g f then g ∷ inserted f frames else
 unfoldable pub ascending : List Parts → List Parts
 ascending [] = []
 ascending (f ∷ frames) = inserted f (ascending frames)
-
--- what a frame takes on the wire: its levels, and three of intermission
-abbrev pub with_intermission : Parts → List Level
-with_intermission f = wire f ++ replicate 3 Recessive
 
 -- how many bit times the frames take
 unfoldable pub span : List Parts → ℕ
@@ -74,6 +72,10 @@ pub record IsQuietCall (hits : List Hit) (ports : List PortState) (frames : List
   pub quiet : IsQuiet ports
   pub ascending : IsAscending (queued ports) frames
 
+-- what is claimed of a quiet call, with the frames that wait as it begins, in the order of arbitration
+abbrev pub OnQuietCall : List Hit → List PortState → (List Parts → Type 0) → Type 0
+OnQuietCall hits ports Claim = (frames : List Parts) → IsQuietCall hits ports frames → Claim frames
+
 -- a frame of this arbitration field is in the queue
 abbrev pub holds : List Parts → Parts → Bool
 holds queue f = list_any (same_field f) queue
@@ -83,16 +85,20 @@ abbrev pub marked : List Parts → List Parts → List Entry
 marked queue frames = map (λ f. record { frame = f; sent = holds queue f }) frames
 
 -- a is a beginning of b
-abbrev pub Begins : {A : Type 0} → List A → List A → Type 0
-Begins {A} a b = (rest : List A) × (a ++ rest ≡ b)
+abbrev pub IsPrefixOf : {A : Type 0} → List A → List A → Type 0
+IsPrefixOf {A} a b = (rest : List A) × (a ++ rest ≡ b)
 
--- at each port, before and after
+-- at each port, which has a number, before and after
+abbrev pub AtEachNode : (ℕ → PortState → PortState → Type 0) → List PortState → List PortState → Type 0
+AtEachNode R before after = (n : ℕ) (p q : PortState) → slice_get before n ≡ Some p → slice_get after n ≡ Some q → R n p q
+
+-- the same for each port, whatever its number
 abbrev pub AtEachPort : (PortState → PortState → Type 0) → List PortState → List PortState → Type 0
-AtEachPort R before after = (n : ℕ) (p q : PortState) → slice_get before n ≡ Some p → slice_get after n ≡ Some q → R p q
+AtEachPort R before after = AtEachNode (λ node. R) before after
 
 -- the log is a beginning of the marked list
 abbrev pub LogsBegin : List Parts → PortState → PortState → Type 0
-LogsBegin frames p q = Begins q.log (marked p.queue frames)
+LogsBegin frames p q = IsPrefixOf q.log (marked p.queue frames)
 
 -- the log is the whole marked list
 abbrev pub LogsWhole : List Parts → PortState → PortState → Type 0

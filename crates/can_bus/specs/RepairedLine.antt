@@ -5,14 +5,15 @@ use Rattle.can_frame.specs.declared.level.Level.{Level}
 use Rattle.can_frame.specs.declared.level.Level.TheVariants.{Dominant, Recessive}
 use Rattle.can_frame.specs.Levels.{opposite}
 use Rattle.can_frame.specs.Parts.{Parts}
+use Rattle.can_frame.specs.IdleRow.{idle_row}
 use Rattle.can_code.specs.declared.fault.CodeFaultKind.{CodeFaultKind}
 use Rattle.can_code.specs.declared.fault.CodeFaultKind.TheVariants.{Crc}
 use Rattle.can_code.specs.Wire.{wire}
 use Rattle.can_code.specs.Layout.{level_at}
 use Rattle.can_code.specs.Front.{FrontParts, first_front, next_place, hear_at, heard_levels}
 use Rattle.can_bus.specs.declared.hit.Hit.{Hit}
-use Rattle.can_bus.specs.Quiet.{with_intermission}
 use Rattle.can_bus.specs.Repair.{frame_of_attempt, hit_of}
+use Rattle.can_mac.specs.Frames.{with_intermission}
 
 -- f is hit at this offset: its levels before it, the opposite of the level there, and so many dominant levels
 abbrev pub struck : Parts → ℕ → ℕ → List Level
@@ -43,7 +44,7 @@ refused_place kind place = place
 abbrev pub attempt_levels : Option Parts → Option ℕ → List Level
 attempt_levels None hit = []
 attempt_levels (Some f) None = with_intermission f
-attempt_levels (Some f) (Some offset) = struck f offset (6 + lateness f offset) ++ replicate 11 Recessive
+attempt_levels (Some f) (Some offset) = struck f offset (6 + lateness f offset) ++ replicate idle_row Recessive
 
 -- the levels of the first attempts, so many of them
 abbrev pub first_attempts : List Parts → List Hit → ℕ → List Level

@@ -1,10 +1,12 @@
 -- The bus, one bit time after another: all ports drive, the levels are wired, a disturbance may invert the
 -- wired level, and each port samples what is recorded, or its opposite where it alone is disturbed.
-use Rattle.std.specs.Prelude.{ℕ, zero, suc, ◌+◌, ◌==◌, min, Bool, false, ◌&&◌, if◌then◌else◌, List, [], ◌∷◌, map, Option, Some, None}
+-- (docs/BUS.md, "A bit time", "Attempts" and "Disturbances")
+use Rattle.std.specs.Prelude.{ℕ, zero, suc, ◌≡◌, ◌+◌, ◌<◌, ◌==◌, min, Bool, false, ◌&&◌, if◌then◌else◌, List, [], ◌∷◌, length, map, Option, Some, None, slice_get}
 use Rattle.std.specs.List.{list_any}
 use Rattle.can_frame.specs.declared.level.Level.{Level}
 use Rattle.can_frame.specs.declared.level.Level.TheVariants.{Dominant, Recessive}
 use Rattle.can_frame.specs.Levels.{opposite}
+use Rattle.can_frame.specs.IdleRow.{idle_row}
 use Rattle.can_node.specs.Ports.{PortState, port_drives, port_step}
 use Rattle.can_bus.specs.declared.hit.Hit.{Hit}
 use Rattle.can_bus.specs.declared.hit.Hit.TheVariants.{At, In, View}
@@ -31,9 +33,9 @@ abbrev pub wired_level : Course → Level
 wired_level c = wired (map port_drives c.bus.ports)
 
 -- an attempt begins at a wired dominant level that follows eleven recessive recorded ones
-abbrev pub begins : ℕ → Level → Bool
-begins rest Dominant = rest == 11
-begins rest Recessive = false
+abbrev pub begins_attempt : ℕ → Level → Bool
+begins_attempt rest Dominant = rest == idle_row
+begins_attempt rest Recessive = false
 
 -- the attempt that begins behind this one
 abbrev pub following : Option Attempt → Attempt
@@ -47,7 +49,7 @@ aged (Some a) = Some (record { number = a.number; offset = a.offset + 1 })
 
 -- the latest attempt in this bit time
 abbrev pub attempt_now : Course → Option Attempt
-attempt_now c = if begins c.bus.rest (wired_level c) then Some (following c.latest) else aged c.latest
+attempt_now c = if begins_attempt c.bus.rest (wired_level c) then Some (following c.latest) else aged c.latest
 
 -- the attempt has this number, and began so many bit times ago
 abbrev pub is_attempt : Option Attempt → ℕ → ℕ → Bool
@@ -82,7 +84,7 @@ all_sampled hits time x number (p ∷ ports) =
 -- how many recessive levels were recorded last, with this one
 abbrev pub rest_after : ℕ → Level → ℕ
 rest_after rest Dominant = 0
-rest_after rest Recessive = min (rest + 1) 11
+rest_after rest Recessive = min (rest + 1) idle_row
 
 -- one bit time
 unfoldable pub bus_step : List Hit → Course → Course
@@ -100,6 +102,10 @@ bus_after hits (suc n) c = bus_step hits (bus_after hits n c)
 -- the level that is recorded at time t of a call
 unfoldable pub bus_level : List Hit → ℕ → BusState → Level
 bus_level hits t bus = recorded hits (bus_after hits t (course bus))
+
+-- the recorded levels are those of this line, which has one for each time
+abbrev pub AreLevelsOf : (ℕ → Level) → List Level → Type 0
+AreLevelsOf line recorded = (t : ℕ) → t < length recorded → slice_get recorded t ≡ Some (line t)
 
 -- the bus after n bit times of a call
 unfoldable pub bus_run : List Hit → ℕ → BusState → BusState

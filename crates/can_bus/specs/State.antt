@@ -1,9 +1,25 @@
--- A bus as a contract sees it.
-use Rattle.std.specs.Prelude.{map}
+-- A bus as a contract sees it. (docs/BUS.md, "The bus")
+use Rattle.std.specs.Prelude.{ℕ, List, length, map}
 use Rattle.can_node.specs.Ports.{PortState}
 use Rattle.can_bus.specs.declared.bus.Bus.{Bus}
 use Rattle.can_bus.specs.Run.{BusState}
 
+-- its ports, in order
+abbrev pub ports_in : {P : Type 0} → Bus P → List P
+ports_in bus = bus.ports.items
+
+-- how many they are
+abbrev pub port_count : {P : Type 0} → Bus P → ℕ
+port_count bus = length bus.ports.items
+
+-- what its ports are
+abbrev pub port_states : {P : Type 0} → (P → PortState) → Bus P → List PortState
+port_states port bus = map port bus.ports.items
+
+-- how many recessive levels were recorded last in a row, up to eleven
+abbrev pub rest_of : {P : Type 0} → Bus P → ℕ
+rest_of bus = bus.rest
+
 -- the bus, by what its ports are
 abbrev pub state_of : {P : Type 0} → (P → PortState) → Bus P → BusState
-state_of port bus = record { ports = map port bus.ports.items; rest = bus.rest }
+state_of port bus = record { ports = port_states port bus; rest = rest_of bus }

@@ -1,4 +1,4 @@
--- How long an offered frame waits for its start, told from a schedule.
+-- How long an offered frame waits for its start, told from a schedule. (docs/BUS.md, "How long a frame waits")
 use Rattle.std.specs.Prelude.{ℕ, ◌≡◌, ◌+◌, ◌-◌, ◌<◌, ◌≤◌, nat_le, nat_lt, ◌&&◌, if◌then◌else◌, List, [], ◌∷◌, filter}
 use Rattle.std.specs.List.{sum_by}
 use Rattle.can_frame.specs.Parts.{Parts}

@@ -1,8 +1,8 @@
 ghost use Rattle.std.specs.Prelude.{ℕ, Bool, ⊤, ◌≡◌, ◌↔◌, ◌<◌, IsOk, IsTrue, IfErr, Some, length, slice_get};
 ghost use Rattle.can_frame.specs.Parts.{IsFrame};
-ghost use Rattle.can_bus.specs.Hits.{is_above, names_port as names_hit_port};
+ghost use Rattle.can_bus.specs.Hits.{hit_names_port, is_above};
 ghost use Rattle.can_bus.specs.Inputs.{AreSound, FollowsLast, IsFirstWrong};
-ghost use Rattle.can_bus.specs.Offers.{is_no_earlier, names_port as names_offer_port};
+ghost use Rattle.can_bus.specs.Offers.{is_no_earlier, offer_names_port};
 
 use crate::fault::BusFault;
 use crate::hit::Hit;
@@ -34,7 +34,7 @@ impl Input for Hit {
 
     ghost IsKnown = { λ hit. ⊤ };
 
-    ghost names = { names_hit_port };
+    ghost names = { hit_names_port };
 
     fn may_follow(self, last: Hit) -> bool {
         last < self
@@ -53,7 +53,7 @@ impl Input for Offer {
 
     ghost IsKnown = { λ offer. IsFrame offer.frame };
 
-    ghost names = { names_offer_port };
+    ghost names = { offer_names_port };
 
     fn may_follow(self, last: Offer) -> bool {
         last.time <= self.time

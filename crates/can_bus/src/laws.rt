@@ -1,9 +1,10 @@
 //! Laws of the definitions, each a function that does nothing and ensures it.
-ghost use Rattle.std.specs.Prelude.{◌≡◌, ◌<◌, ◌≤◌, ◌+◌, ◌-◌, ◌↔◌, ◌⊎◌, ℕ, true, List, [], drop, length, map, slice_get, None, Some};
+ghost use Rattle.std.specs.Prelude.{◌≡◌, ◌<◌, ◌≤◌, ◌+◌, ◌-◌, ◌↔◌, ◌⊎◌, ℕ, true, List, [], drop, length, map, None};
 ghost use Rattle.std.specs.Ordering.{partial_lt};
 ghost use Rattle.std.specs.List.Sorted.{IsPermutation};
 ghost use Rattle.can_frame.specs.declared.level.Level.{Level};
 ghost use Rattle.can_frame.specs.Parts.{IsFrame, Parts};
+ghost use Rattle.can_frame.specs.IdleRow.{idle_row};
 ghost use Rattle.can_code.specs.declared.fault.CodeFault.{CodeFault as Fault};
 ghost use Rattle.can_code.specs.CodeFaults.{IsCodeFault};
 ghost use Rattle.can_code.specs.Front.{first_front, heard_levels};
@@ -15,11 +16,11 @@ ghost use Rattle.can_bus.specs.Agreement.{AreAlike, LogsAgree};
 ghost use Rattle.can_bus.specs.Disturbed.{IsDisturbedRun, WasDisturbed};
 ghost use Rattle.can_bus.specs.Hits.{AreTaken, is_above};
 ghost use Rattle.can_bus.specs.Offers.{played, played_level};
-ghost use Rattle.can_bus.specs.Plans.{FitsQueue, IsQuietPlan, PortPlan, planned, ready_port};
+ghost use Rattle.can_bus.specs.Plans.{FitsQueue, IsQuietPlan, PlannedPort, planned, ready_port};
 ghost use Rattle.can_bus.specs.Quiet.{AreDifferent, IsAscending, IsQuiet, IsQuietCall, ascending, line_at, queued, span};
 ghost use Rattle.can_bus.specs.Repair.{AreApart, AreBorne, AreOfOnePort, FallInWindows, IsInWindow, IsRepairedCall, repaired_span, tally};
 ghost use Rattle.can_bus.specs.RepairedLine.{lateness, refused_place, repaired_line_at, struck};
-ghost use Rattle.can_bus.specs.Run.{BusState, bus_level, bus_run};
+ghost use Rattle.can_bus.specs.Run.{AreLevelsOf, BusState, bus_level, bus_run};
 
 use crate::hit::Hit;
 
@@ -32,14 +33,14 @@ pub fn hits_are_ordered()
 /// levels that it records there are levels on the wire and levels that the ports saw. The recorded levels
 /// and the end of every disturbed run are those of the run, and there is one for each number of bit times.
 pub fn a_run_is_a_disturbed_run()
-    ensures exists { (hits : List Disturbance) (bus : BusState) (recorded : List Level) → bus.rest ≤ 11 →
-        ((t : ℕ) → t < length recorded → slice_get recorded t ≡ Some (bus_level hits t bus)) →
+    ensures exists { (hits : List Disturbance) (bus : BusState) (recorded : List Level) → bus.rest ≤ idle_row →
+        AreLevelsOf (λ t. bus_level hits t bus) recorded →
         WasDisturbed hits bus recorded (bus_run hits (length recorded) bus) }
-    ensures levels { (hits : List Disturbance) (bus after : BusState) (recorded : List Level) → bus.rest ≤ 11 → WasDisturbed hits bus recorded after →
-        (t : ℕ) → t < length recorded → slice_get recorded t ≡ Some (bus_level hits t bus) }
-    ensures bus { (hits : List Disturbance) (bus after : BusState) (recorded : List Level) → bus.rest ≤ 11 → WasDisturbed hits bus recorded after →
+    ensures levels { (hits : List Disturbance) (bus after : BusState) (recorded : List Level) → bus.rest ≤ idle_row → WasDisturbed hits bus recorded after →
+        AreLevelsOf (λ t. bus_level hits t bus) recorded }
+    ensures bus { (hits : List Disturbance) (bus after : BusState) (recorded : List Level) → bus.rest ≤ idle_row → WasDisturbed hits bus recorded after →
         after ≡ bus_run hits (length recorded) bus }
-    ensures one { (hits : List Disturbance) (bus one other : BusState) (wired wires recorded records : List Level) (seen views : List (List Level)) → bus.rest ≤ 11 →
+    ensures one { (hits : List Disturbance) (bus one other : BusState) (wired wires recorded records : List Level) (seen views : List (List Level)) → bus.rest ≤ idle_row →
         IsDisturbedRun hits bus wired recorded seen one → IsDisturbedRun hits bus wires records views other → length recorded ≡ length records →
         (recorded ≡ records) × (one ≡ other) × (wired ≡ wires) × (seen ≡ views) }
 {}
@@ -77,9 +78,9 @@ pub fn quiet_buses_agree()
 /// after another, make a quiet bus, if they are two to 64 and no two of the frames have one
 /// arbitration field. The frames that wait at it are those that were offered.
 pub fn a_quiet_bus_can_be_made()
-    ensures quiet { (plans : List PortPlan) → IsQuietPlan plans → IsQuiet (map ready_port plans) }
-    ensures queued { (plans : List PortPlan) → queued (map ready_port plans) ≡ planned plans }
-    ensures ports { (plan : PortPlan) → FitsQueue plan → IsPort (ready_port plan) }
+    ensures quiet { (plans : List PlannedPort) → IsQuietPlan plans → IsQuiet (map ready_port plans) }
+    ensures queued { (plans : List PlannedPort) → queued (map ready_port plans) ≡ planned plans }
+    ensures ports { (plan : PlannedPort) → FitsQueue plan → IsPort (ready_port plan) }
 {}
 
 /// At most fifteen hits leave every port error active, wherever they fall.
@@ -97,8 +98,8 @@ pub fn one_hit_in_nine_is_borne()
 /// Without hits a call that is repaired is a quiet call on a bus at rest, in the time of a quiet call, and
 /// its tally is 0.
 pub fn a_call_without_hits_is_quiet()
-    ensures quiet { (bus : BusState) (frames : List Parts) → IsRepairedCall [] bus frames → IsQuietCall [] bus.ports frames × (bus.rest ≡ 11) }
-    ensures repaired { (bus : BusState) (frames : List Parts) → IsQuietCall [] bus.ports frames → bus.rest ≡ 11 → IsRepairedCall [] bus frames }
+    ensures quiet { (bus : BusState) (frames : List Parts) → IsRepairedCall [] bus frames → IsQuietCall [] bus.ports frames × (bus.rest ≡ idle_row) }
+    ensures repaired { (bus : BusState) (frames : List Parts) → IsQuietCall [] bus.ports frames → bus.rest ≡ idle_row → IsRepairedCall [] bus frames }
     ensures span { (frames : List Parts) → repaired_span frames [] ≡ span frames }
     ensures tally { (queue frames : List Parts) → ((tally queue frames []).tec ≡ 0) × ((tally queue frames []).rec ≡ 0) }
 {}
@@ -107,9 +108,9 @@ pub fn a_call_without_hits_is_quiet()
 /// attempts, in order, that all ports bear, is one that is repaired; and such hits are taken. No frame's
 /// window is empty: the last but one level of its end of frame is in it.
 pub fn a_repaired_call_can_be_made()
-    ensures call { (plans : List PortPlan) (hits : List Disturbance) → IsQuietPlan plans → FallInWindows (ascending (planned plans)) hits → AreApart 1 hits →
+    ensures call { (plans : List PlannedPort) (hits : List Disturbance) → IsQuietPlan plans → FallInWindows (ascending (planned plans)) hits → AreApart 1 hits →
         (length hits ≤ 15) ⊎ AreBorne (ascending (planned plans)) hits (map ready_port plans) →
-        IsRepairedCall hits (record { ports = map ready_port plans; rest = 11 }) (ascending (planned plans)) }
+        IsRepairedCall hits (record { ports = map ready_port plans; rest = idle_row }) (ascending (planned plans)) }
     ensures taken { (ports : ℕ) (frames : List Parts) (hits : List Disturbance) → FallInWindows frames hits → AreApart 1 hits → AreTaken ports hits }
     ensures window { (f : Parts) → IsInWindow f (length (wire f) - 2) }
 {}

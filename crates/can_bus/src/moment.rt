@@ -1,8 +1,8 @@
 ghost use Rattle.std.specs.Prelude.{◌≡◌, ◌-◌, ◌^◌, if◌then◌else◌, Some};
-ghost use Rattle.can_bus.specs.Run.{aged as aged_of, begins as begins_of, following as following_of, rest_after as rest_after_of};
+ghost use Rattle.can_bus.specs.Run.{aged as aged_of, begins_attempt as begins_of, following as following_of, rest_after as rest_after_of};
 ghost use Rattle.can_bus.specs.Walks.{IsPassed};
 
-use can_frame::Level;
+use can_frame::{IDLE_ROW, Level};
 
 /// An attempt to send, counted from 0 within a call, and how many bit times ago it began.
 #[derive(Clone, Copy, Debug, PartialEq, Eq)]
@@ -10,9 +10,6 @@ pub struct Attempt {
     pub number: u64,
     pub offset: u64,
 }
-
-/// The bus is free once so many recessive levels were recorded in a row.
-pub(crate) const FREE: u8 = 11;
 
 /// The attempt that begins behind this one.
 fn following(latest: Option<Attempt>) -> Attempt
@@ -45,7 +42,7 @@ fn begins(rest: u8, wired: Level) -> bool
     ensures { result ≡ begins_of rest wired }
 {
     match wired {
-        Level::Dominant => rest == FREE,
+        Level::Dominant => rest == IDLE_ROW,
         Level::Recessive => false,
     }
 }
@@ -68,6 +65,6 @@ pub(crate) fn rest_after(rest: u8, level: Level) -> u8
 {
     match level {
         Level::Dominant => 0,
-        Level::Recessive => if rest < FREE { rest + 1 } else { FREE },
+        Level::Recessive => if rest < IDLE_ROW { rest + 1 } else { IDLE_ROW },
     }
 }

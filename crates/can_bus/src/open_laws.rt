@@ -4,9 +4,9 @@ ghost use Rattle.can_frame.specs.Parts.{Parts};
 ghost use Rattle.can_node.specs.Ports.{PortState};
 ghost use Rattle.can_bus.specs.declared.offer.Offer.{Offer};
 ghost use Rattle.can_bus.specs.Offers.{AreOffered, all_made, played, played_level};
-ghost use Rattle.can_bus.specs.OpenBus.{AtEachNode, QueuesHaveRoom, IsOpenCall, IsOpenPlan, WaitsAt, all_offers, timed, with_first};
-ghost use Rattle.can_bus.specs.Plans.{PortPlan, ready_port};
-ghost use Rattle.can_bus.specs.Quiet.{IsQuietCall, line_at};
+ghost use Rattle.can_bus.specs.OpenBus.{QueuesHaveRoom, IsOpenCall, IsOpenPlan, WaitsAt, all_offers, timed, with_first};
+ghost use Rattle.can_bus.specs.Plans.{PlannedPort, ready_port};
+ghost use Rattle.can_bus.specs.Quiet.{IsQuietCall, line_at, AtEachNode};
 ghost use Rattle.can_bus.specs.Run.{BusState, bus_level, bus_run};
 ghost use Rattle.can_bus.specs.Schedule.{AreAtOnce, Timed, frames_of, schedule, track_at};
 
@@ -32,6 +32,6 @@ pub fn offers_at_once_are_quiet()
 /// in order, meet the premises of `play`'s theorem, where no two frames have one arbitration field and there is room
 /// for all in each queue and each log.
 pub fn an_open_bus_can_be_made()
-    ensures { (offers : List Offer) (plans : List PortPlan) → IsOpenPlan offers plans →
+    ensures { (offers : List Offer) (plans : List PlannedPort) → IsOpenPlan offers plans →
         IsOpenCall offers (map ready_port plans) (schedule (all_offers offers (map ready_port plans))) }
 {}

@@ -10,11 +10,10 @@ use Rattle.can_code.specs.declared.front.Place.TheVariants.{CrcDelimiter}
 use Rattle.can_code.specs.Crc.{IsCrc}
 use Rattle.can_code.specs.Wire.{tail}
 use Rattle.can_code.specs.Heard.{HeardParts, ack_slot, heard_head, Spells, IsStuffedPart, IsShape, BeginsShape, IsSound}
-use Rattle.can_code.specs.Layout.{heard_of, check_of, head_of}
+use Rattle.can_code.specs.Layout.{heard_of, check_of, head_of, IsPart}
 use Rattle.can_code.specs.CodeFaults.{IsLongestSound, IsCodeFault}
 use Rattle.can_code.specs.Front.{FrontParts, first_front, next_place}
 use Rattle.can_code.proofs.FrontLemmas.{next_place-ended, next_place-first_front}
-use Rattle.can_code.specs.Reading.{IsPart}
 use Rattle.can_code.proofs.StuffedParts.{IsPart-from, IsPart-length, IsPart-start, front_of, IsStuffedPart-from, Spells-part}
 use Rattle.can_code.proofs.FrontsOf.{IsFrontOf, IsFrontOf-first_front, IsFrontOf-no_part, IsFrontOf-no_part_repeated, IsFrontOf-nonempty}
 use Rattle.can_code.proofs.SoundLemmas.{IsSound-front, IsLongestSound-next, IsLongestSound-whole, IsSound-open, IsShape-tail, IsPart-same, IsCrc-placed, IsSound-tail, IsSound-but_last, IsSound-wrong, IsShape-from}

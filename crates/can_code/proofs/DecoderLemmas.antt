@@ -16,9 +16,8 @@ use Rattle.can_code.specs.Crc.{IsCrc}
 use Rattle.can_code.specs.Stuffing.{Stuffs}
 use Rattle.can_code.specs.Wire.{tail}
 use Rattle.can_code.specs.Heard.{HeardParts, ack_slot, Spells}
-use Rattle.can_code.specs.Layout.{heard_of, check_of, head_of}
+use Rattle.can_code.specs.Layout.{heard_of, check_of, head_of, IsPart}
 use Rattle.can_code.specs.CodeFaults.{IsCodeFault}
-use Rattle.can_code.specs.Reading.{IsPart}
 use Rattle.can_code.specs.Front.{FrontParts, first_front, next_place, is_stuff_error, heard_level, hear_at, heard_levels}
 use Rattle.can_code.specs.Decoder.{DecoderParts, StandsBehind, HasHeard}
 use Rattle.can_code.proofs.LayoutWrite.{IsHeard-heard_of, heard_head-heard_of, head_of-heard_head}

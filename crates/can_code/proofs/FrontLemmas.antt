@@ -6,7 +6,6 @@ use Rattle.std.specs.Option.{is_some, option_eq}
 use Rattle.can_frame.specs.declared.level.Level.{Level}
 use Rattle.can_frame.specs.declared.level.Level.TheVariants.{Dominant}
 use Rattle.can_frame.specs.Levels.{is_recessive}
-use Rattle.can_code.specs.declared.front.Place.{Place}
 use Rattle.can_code.specs.declared.front.Place.TheVariants.{StuffBit, Bit, CrcDelimiter}
 use Rattle.can_code.specs.Stuffing.{run_after}
 use Rattle.can_code.specs.Layout.{level_at, extended_of, data_place, frame_len, IsComplete}
@@ -88,20 +87,6 @@ module _ (f : FrontParts) where
       by_tests true whole d w e = cc
       by_tests false true d w e = (eqb-false f.run 5 d, w)
       by_tests false false d w e = cc
-
-  pub next_place-due : next_place f ≡ StuffBit → f.run ≡ 5
-  next_place-due h = by_tests (eqb f.run 5) (has_check f.unstuffed) refl h
-    where
-      by_tests : (due whole : Bool) → eqb f.run 5 ≡ due → cond due StuffBit (cond whole CrcDelimiter Bit) ≡ StuffBit → f.run ≡ 5
-      by_tests true whole d e = eqb-true f.run 5 d
-      by_tests false true d e = cc
-      by_tests false false d e = cc
-
-  pub next_place-not_due : next_place f ≡ Bit → f.run ≢ 5
-  next_place-not_due h = λ five. not_both (ap (λ t. cond t StuffBit (cond (has_check f.unstuffed) CrcDelimiter Bit)) (eq-eqb f.run 5 five)) h
-    where
-      not_both : {p : Place} → p ≡ StuffBit → p ≡ Bit → ⊥
-      not_both e k = cc
 
   pub next_place-partial : next_place f ≢ CrcDelimiter → f.run ≢ 5 → has_check f.unstuffed ≡ false
   next_place-partial h not_due = by_tests (eqb f.run 5) (has_check f.unstuffed) (ne_eqb f.run 5 not_due) refl h

@@ -1,6 +1,6 @@
 -- The length that a list of levels tells: its bounds, and that a list has at most one complete front.
-use Rattle.std.proofs.Common.{◌≡◌, ◌≢◌, ℕ, ◌+◌, ◌-◌, ◌*◌, ◌<◌, ◌≤◌, Bool, true, false, List, [], ◌∷◌, ◌++◌, length, take, replicate, refl, sym, ◌∙◌, ap, arith, length-append, inl, inr}
-use Rattle.std.proofs.lemmas.List.{nil_from_length, length-replicate, take_at}
+use Rattle.std.proofs.Common.{◌≡◌, ◌≢◌, ℕ, ◌+◌, ◌-◌, ◌*◌, ◌<◌, ◌≤◌, Bool, true, false, List, [], ◌∷◌, ◌++◌, length, replicate, ◌∙◌, ap, arith, length-append, inl, inr}
+use Rattle.std.proofs.lemmas.List.{nil_from_length, length-replicate}
 use Rattle.std.proofs.lemmas.Bool.{cases_lt}
 use Rattle.can_frame.specs.declared.level.Level.{Level}
 use Rattle.can_frame.specs.declared.level.Level.TheVariants.{Dominant}
@@ -43,12 +43,6 @@ frame_len_ge u = omega (arith, frame_len_least u, rtr_place_ge (extended_of u))
 -- the longest frame
 pub frame_len_le : (u : List Level) → frame_len u ≤ 118
 frame_len_le u = omega (arith, frame_len_most u, rtr_place_le (extended_of u))
-
--- the longest standard frame
-pub frame_len_le-standard : (u : List Level) → level_at u 13 ≡ Dominant → frame_len u ≤ 98
-frame_len_le-standard u standard =
-    let place : rtr_place (extended_of u) ≡ 12 = ap (λ t. rtr_place (is_recessive t)) standard in
-    omega (arith, frame_len_most u, place)
 
 extended_of-append : (u w : List Level) → 14 ≤ length u → extended_of (u ++ w) ≡ extended_of u
 extended_of-append u w long = ap is_recessive (level_at-append u w 13 (omega arith))
@@ -97,39 +91,9 @@ frame_len-grows u x within partial =
 pub frame_len-settled : (u w : List Level) → frame_len u ≤ length u → frame_len (u ++ w) ≡ frame_len u
 frame_len-settled u w long = frame_len-append u w (omega (arith, frame_len_least u))
 
--- a front of what is no longer than the length it tells is no longer than the length that the front tells
-pub frame_len-front : (u w : List Level) → length (u ++ w) ≤ frame_len (u ++ w) → length u ≤ frame_len u
-frame_len-front u w within = elim (cases_lt (frame_len u) (length u)) [
-  | inl over ↦ absurd (omega (arith, length-append u w, frame_len-settled u w (omega arith)))
-  | inr inside ↦ inside
-]
-
 -- what is complete does not go on
 pub IsComplete-ends : (u x : List Level) → IsComplete u → IsComplete (u ++ x) → x ≡ []
 IsComplete-ends u x h k = nil_from_length x (omega (arith, length-append u x, h.whole, k.whole, frame_len-settled u x (omega (arith, h.whole))))
-
--- a list has at most one complete front
-pub IsComplete-once : (u v x y : List Level) → IsComplete u → IsComplete v → u ++ x ≡ v ++ y → u ≡ v
-IsComplete-once u v x y h k same =
-    let size : length u ≡ length v = h.whole
-    ∙ sym (frame_len-settled u x (omega (arith, h.whole))) ∙ ap frame_len same ∙ frame_len-settled v y (omega (arith, k.whole))
-    ∙ sym k.whole in
-    sym (take_at u x (length u) refl) ∙ ap (take (length u)) same ∙ take_at v y (length u) (sym size)
-
--- a proper front of what is complete is shorter than the length it tells
-pub IsComplete-front : (u : List Level) (x : Level) (w : List Level) → IsComplete (u ++ x ∷ w) → length u < frame_len u
-IsComplete-front u x w h = elim (cases_lt (length u) (frame_len u)) [
-  | inl shorter ↦ shorter
-  | inr over ↦ absurd (omega (arith, length-append u (x ∷ w), h.whole, frame_len-settled u (x ∷ w) over))
-]
-
-front_start : (u w : List Level) → level_at (u ++ w) 0 ≡ Dominant → level_at u 0 ≡ Dominant
-front_start [] w h = refl
-front_start (x ∷ u) w h = h
-
--- what begins something complete has a dominant first level, and is no longer than the length it tells
-pub IsComplete-begun : (u w : List Level) → IsComplete (u ++ w) → (level_at u 0 ≡ Dominant) × (length u ≤ frame_len u)
-IsComplete-begun u w h = (front_start u w h.start, frame_len-front u w (omega (arith, h.whole)))
 
 -- and so much is enough: dominant levels complete it
 pub IsComplete-completed : (u : List Level) → level_at u 0 ≡ Dominant → length u ≤ frame_len u → IsComplete (u ++ replicate (frame_len u - length u) Dominant)

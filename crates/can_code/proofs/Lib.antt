@@ -1,6 +1,54 @@
+-- For crates above.
+-- long division by the generator
+pub mod DivisionLemmas
+-- stuff places, and how a stuffed list grows at its end
+pub mod StuffPlaces
+-- the run that a list ends in, and what it tells of the stuff bit behind it
+pub mod Runs
+-- what `stuffed` computes is the stuffed list, and how long it gets
+pub mod StuffingLemmas
+-- the levels at the places of a list, and what more levels behind it change
+pub mod LayoutPlaces
+-- the length that a list of levels tells, and its bounds
+pub mod LayoutLengths
+-- complete unstuffed levels are the levels of what they tell
+pub mod LayoutWrite
+-- the levels at the places of a frame's unstuffed levels
+pub mod SentLevels
+-- the unstuffed levels of a frame that is sent are complete, and give it back
+pub mod UnstuffedLevels
+-- a list of levels has one spelling; how long that of a frame is
+pub mod WireLemmas
+-- what is heard has one spelling
+pub mod SpellingLemmas
+-- no spelling begins another
+pub mod SpellingFronts
+-- complete stuffed parts: none begins another
+pub mod StuffedParts
+-- a front stays one with each level, and tells how long it gets
+pub mod FrontLemmas
+-- the front that levels make, heard one by one
+pub mod FrontsOf
+-- levels heard one by one give a stuffed part's unstuffed levels
+pub mod HeardLevels
+-- the front that each beginning of a stuffed part makes
+pub mod PartFronts
+-- the front that each beginning of a frame's stuffed part makes, and what its sender drives next
+pub mod WireFronts
+-- arbitration, level by level: where two frames that are sent together part
+pub mod WireOrder
+-- what each fault of levels takes
+pub mod CodeFaultLemmas
+-- levels have at most one fault
+pub mod OneCodeFault
+-- what a decoder has heard, level by level
+pub mod DecoderLemmas
+-- levels begin with a spelling or have a fault
+pub mod FrameOrFault
+
+-- For this crate.
 -- check sequences
 pub mod XorLemmas
-pub mod DivisionLemmas
 pub mod Register
 -- check sequences in numbers
 pub mod LevelLemmas
@@ -9,48 +57,24 @@ pub mod CrcTable
 pub mod OctetLemmas
 pub mod CheckRuns
 -- stuffing
-pub mod StuffPlaces
-pub mod Runs
 pub mod OneStuffing
-pub mod StuffingLemmas
 -- the layout of unstuffed levels
 pub mod LayoutNumbers
-pub mod LayoutPlaces
 pub mod LayoutBytes
-pub mod LayoutLengths
 pub mod LayoutHead
 pub mod LayoutRead
-pub mod LayoutWrite
-pub mod SentLevels
 -- frames and what is heard of them
-pub mod WireLemmas
-pub mod SpellingLemmas
 pub mod StuffedFronts
-pub mod SpellingFronts
-pub mod WireOnce
 -- levels as they are heard
 pub mod ReadingLemmas
-pub mod FrontLemmas
 pub mod PlainLemmas
 pub mod PackedLemmas
-pub mod StuffedParts
-pub mod FrontsOf
-pub mod HeardLevels
 pub mod SoundLemmas
-pub mod CodeFaultLemmas
-pub mod OneCodeFault
 pub mod DecodingLemmas
-pub mod DecoderLemmas
-pub mod FrameOrFault
 pub mod TailLemmas
--- levels as they are sent, one by one
-pub mod PartFronts
-pub mod UnstuffedLevels
-pub mod WireFronts
 -- arbitration, level by level
 pub mod UnstuffedOrder
 pub mod StuffedOrder
-pub mod WireOrder
 -- known values
 pub mod LayoutRows
 pub mod Rows

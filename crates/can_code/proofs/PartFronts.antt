@@ -1,5 +1,5 @@
 -- The front that each beginning of a stuffed part makes, and the level that stands next.
-use Rattle.std.proofs.Common.{◌≡◌, ◌≢◌, ℕ, ◌+◌, ◌<◌, ◌≤◌, false, ◌&&◌, Some, List, [], ◌∷◌, ◌++◌, length, take, drop, refl, sym, ◌∙◌, ap, subst, arith, append_assoc, length-append}
+use Rattle.std.proofs.Common.{◌≡◌, ◌≢◌, ℕ, ◌+◌, ◌<◌, ◌≤◌, false, ◌&&◌, Some, List, [], ◌∷◌, ◌++◌, length, take, drop, refl, sym, ◌∙◌, ap, subst, arith, append_assoc}
 use Rattle.std.specs.Option.{option_and_then}
 use Rattle.std.proofs.lemmas.List.{append-nil, take_more, take_all, drop_more, take_at, take-append-drop, length-take-le, get_or_at}
 use Rattle.std.proofs.lemmas.Bool.{eq-eqb, both_ways}
@@ -8,8 +8,7 @@ use Rattle.can_frame.specs.declared.level.Level.TheVariants.{Dominant, Recessive
 use Rattle.can_frame.specs.Levels.{same, opposite}
 use Rattle.can_code.specs.declared.front.Place.TheVariants.{CrcDelimiter}
 use Rattle.can_code.specs.Stuffing.{kept, Stuffs}
-use Rattle.can_code.specs.Layout.{level_at, IsComplete}
-use Rattle.can_code.specs.Reading.{IsPart}
+use Rattle.can_code.specs.Layout.{level_at, IsComplete, IsPart}
 use Rattle.can_code.specs.Front.{FrontParts, first_front, next_place, is_stuff_error, heard_level, heard_levels}
 use Rattle.can_code.proofs.StuffPlaces.{is_due, Inserts, kept-within, kept-append}
 use Rattle.can_code.proofs.Runs.{is_due-long}
@@ -134,11 +133,6 @@ module _ (u b : List Level) (part : IsPart u b) (o : ℕ) (some : 0 < o) where
         let goes_on = bit other in
         let v = (front_made (take o b)).unstuffed in
         sym (ap (λ t. level_at t (length v)) goes_on.1 ∙ get_or_at v (level_at b o) goes_on.0 Dominant (length v) refl)
-
-    pub part-room : (front_made (take o b)).run ≢ 5 → length (front_made (take o b)).unstuffed < length u
-    part-room other =
-        let goes_on = bit other in
-        omega (arith, ap length goes_on.1, length-append (front_made (take o b)).unstuffed (level_at b o ∷ goes_on.0))
 
 -- all of a stuffed part
 module _ (u b : List Level) (part : IsPart u b) where

@@ -7,8 +7,7 @@ use Rattle.can_code.specs.Crc.{IsCrc}
 use Rattle.can_code.specs.Stuffing.{is_stuff_place, kept, Stuffs}
 use Rattle.can_code.specs.Wire.{tail}
 use Rattle.can_code.specs.Heard.{HeardParts, ack_slot, heard_head, Spells, IsStuffedPart}
-use Rattle.can_code.specs.Layout.{level_at, heard_of, check_of}
-use Rattle.can_code.specs.Reading.{IsPart}
+use Rattle.can_code.specs.Layout.{level_at, heard_of, check_of, IsPart}
 use Rattle.can_code.proofs.LayoutLengths.{frame_len_ge}
 use Rattle.can_code.proofs.StuffedFronts.{Stuffs-once}
 use Rattle.can_code.proofs.LayoutRead.{heard_head-complete}

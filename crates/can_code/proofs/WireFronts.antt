@@ -6,15 +6,14 @@ use Rattle.can_frame.specs.declared.level.Level.{Level}
 use Rattle.can_frame.specs.declared.level.Level.TheVariants.{Dominant}
 use Rattle.can_frame.specs.Levels.{opposite}
 use Rattle.can_frame.specs.Parts.{Parts, IsFrame}
-use Rattle.can_code.specs.declared.front.Place.TheVariants.{StuffBit, Bit, CrcDelimiter}
+use Rattle.can_code.specs.declared.front.Place.TheVariants.{CrcDelimiter}
 use Rattle.can_code.specs.Stuffing.{stuffed}
 use Rattle.can_code.specs.Wire.{head, unstuffed, stuffed_part}
 use Rattle.can_code.specs.Layout.{level_at}
 use Rattle.can_code.specs.Front.{FrontParts, first_front, next_place, is_stuff_error, heard_level, heard_levels}
 use Rattle.can_code.specs.Sending.{sent_level}
-use Rattle.can_code.proofs.FrontLemmas.{next_place-due, next_place-not_due}
 use Rattle.can_code.proofs.FrontsOf.{IsFrontOf}
-use Rattle.can_code.proofs.PartFronts.{front_made, part-front, part-heard, part-begins, part-going, part-no_error, part-next, part-stuff_bit, part-bit, part-room, part-ended, part-unstuffed}
+use Rattle.can_code.proofs.PartFronts.{front_made, part-front, part-heard, part-begins, part-going, part-no_error, part-next, part-stuff_bit, part-bit, part-ended, part-unstuffed}
 use Rattle.can_code.proofs.UnstuffedLevels.{stuffed_part-part}
 
 -- the front that the first o levels of a frame's stuffed part make
@@ -83,18 +82,6 @@ module _ (f : Parts) (is : IsFrame f) where
       pub sent_bit : (front_at f o).run ≢ 5 → level_at (stuffed_part f) o ≡ sent_level f (length (front_at f o).unstuffed)
       unfolding front_at
       sent_bit = part-bit (unstuffed f) (stuffed_part f) (stuffed_part-part f is) o some more
-
-      -- of which there is one
-      pub sent_room : (front_at f o).run ≢ 5 → length (front_at f o).unstuffed < length (unstuffed f)
-      unfolding front_at
-      sent_room = part-room (unstuffed f) (stuffed_part f) (stuffed_part-part f is) o some more
-
-      -- the same by what the next place is
-      pub sent_at_stuff_bit : next_place (front_at f o) ≡ StuffBit → level_at (stuffed_part f) o ≡ opposite (front_at f o).last
-      sent_at_stuff_bit place = sent_stuff_bit (next_place-due (front_at f o) place)
-
-      pub sent_at_bit : next_place (front_at f o) ≡ Bit → level_at (stuffed_part f) o ≡ sent_level f (length (front_at f o).unstuffed)
-      sent_at_bit place = sent_bit (next_place-not_due (front_at f o) place)
 
       -- and in one
       pub sent_next : level_at (stuffed_part f) o ≡ cond (eqb (front_at f o).run 5) (opposite (front_at f o).last) (sent_level f (length (front_at f o).unstuffed))

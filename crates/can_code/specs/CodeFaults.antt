@@ -1,4 +1,4 @@
--- Which fault levels have that begin with no frame, and where.
+-- Which fault levels have that begin with no frame, and where. (docs/FRAMES.md, "Decoding"; docs/CODES.md)
 use Rattle.std.specs.Prelude.{ℕ, ◌≡◌, ◌+◌, ◌<◌, ◌≤◌, List, ◌++◌, length, take}
 use Rattle.can_frame.specs.declared.level.Level.{Level}
 use Rattle.can_code.specs.declared.fault.CodeFaultKind.{CodeFaultKind}

@@ -1,5 +1,5 @@
 -- The cyclic redundancy check, by divisibility. Lists of levels are polynomials over two elements, the
--- highest term first.
+-- highest term first. (Bosch CAN 2.0 part B, section 3.2.1)
 use Rattle.std.specs.Prelude.{ℕ, zero, suc, ◌≡◌, List, [], ◌∷◌, ◌++◌, length, replicate}
 use Rattle.can_frame.specs.declared.level.Level.{Level}
 use Rattle.can_frame.specs.declared.level.Level.TheVariants.{Dominant, Recessive}
@@ -20,7 +20,7 @@ xor (x ∷ xs) (y ∷ ys) = plus x y ∷ xor xs ys
 abbrev pub lower_terms : List Level
 lower_terms = Recessive ∷ Dominant ∷ Dominant ∷ Dominant ∷ Recessive ∷ Dominant ∷ Recessive ∷ Recessive ∷ Dominant ∷ Dominant ∷ Recessive ∷ Recessive ∷ Dominant ∷ Dominant ∷ Recessive ∷ []
 
--- x^15 + x^14 + x^10 + x^8 + x^7 + x^4 + x^3 + 1, 1100010110011001 (Bosch CAN 2.0 part B, section 3.2.1)
+-- x^15 + x^14 + x^10 + x^8 + x^7 + x^4 + x^3 + 1, 1100010110011001
 abbrev pub generator : List Level
 generator = Recessive ∷ lower_terms
 

@@ -11,6 +11,7 @@ use Rattle.can_frame.specs.declared.level.Level.{Level}
 use Rattle.can_frame.specs.declared.level.Level.TheVariants.{Dominant, Recessive}
 use Rattle.can_frame.specs.Levels.{is_recessive, number_from}
 use Rattle.can_frame.specs.Parts.{Parts, byte_count}
+use Rattle.can_code.specs.Stuffing.{Stuffs}
 use Rattle.can_code.specs.Heard.{HeardParts}
 
 -- the level at a place; places past the end count as dominant
@@ -55,6 +56,11 @@ frame_len u = data_place (extended_of u) + 8 * byte_count (remote_of u) (dlc_of 
 pub record IsComplete (u : List Level) : Type 0 where
   pub start : level_at u 0 ≡ Dominant
   pub whole : length u ≡ frame_len u
+
+-- b is a complete stuffed part, and u its unstuffed levels
+pub record IsPart (u b : List Level) : Type 0 where
+  pub complete : IsComplete u
+  pub stuffs : Stuffs u b
 
 -- the identifier's levels: behind the SOF, and in an extended frame behind the IDE bit too
 abbrev pub identifier_of : List Level → List Level

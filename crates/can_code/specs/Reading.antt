@@ -2,8 +2,7 @@
 use Rattle.std.specs.Prelude.{ℕ, ◌≡◌, ◌+◌, ◌*◌, ◌<◌, ◌≤◌, Option, Some, None, List, length, drop}
 use Rattle.can_frame.specs.declared.level.Level.{Level}
 use Rattle.can_frame.specs.Parts.{byte_count}
-use Rattle.can_code.specs.Stuffing.{Stuffs}
-use Rattle.can_code.specs.Layout.{extended_of, remote_of, dlc_of, data_place, bytes_from, frame_len, IsComplete}
+use Rattle.can_code.specs.Layout.{extended_of, remote_of, dlc_of, data_place, bytes_from, frame_len}
 
 -- everything before the data
 abbrev pub HasControl : List Level → Type 0
@@ -21,8 +20,3 @@ TellsLength u (Some n) = HasControl u × (n ≡ frame_len u)
 -- the data bytes
 abbrev pub bytes_of : List Level → List ℕ
 bytes_of u = bytes_from (byte_count (remote_of u) (dlc_of u)) (drop (data_place (extended_of u)) u)
-
--- b is a complete stuffed part, and u its unstuffed levels
-pub record IsPart (u b : List Level) : Type 0 where
-  pub complete : IsComplete u
-  pub stuffs : Stuffs u b

@@ -1,5 +1,7 @@
 //! Where the unstuffed levels of a frame stand, counted from its start of frame. (Bosch CAN 2.0
 //! part B, section 3.2.1)
+ghost use Rattle.std.specs.Prelude.{◌≡◌};
+ghost use Rattle.can_code.specs.Layout.{rtr_place as rtr_place_of};
 
 /// Where the start of frame stands.
 pub(crate) const SOF_PLACE: usize = 0;
@@ -51,3 +53,15 @@ pub(crate) const DLC_BITS: usize = 4;
 
 /// How many bits the CRC sequence has.
 pub(crate) const CHECK_BITS: usize = 15;
+
+/// Where the RTR bit of an extended or of a standard frame stands, with which its arbitration ends: 32 or
+/// 12, behind the identifier and the bits that stand within it.
+pub fn rtr_place(extended: bool) -> usize
+    ensures { result ≡ rtr_place_of extended }
+{
+    if extended {
+        EXTENDED_RTR_PLACE
+    } else {
+        STANDARD_RTR_PLACE
+    }
+}

@@ -2,14 +2,13 @@ ghost use Rattle.std.specs.Prelude.{◌≡◌, ◌+◌, ◌<◌, ◌≤◌, leng
 ghost use Rattle.can_frame.specs.declared.level.Level.TheVariants.{Dominant, Recessive};
 ghost use Rattle.can_frame.specs.Levels.{number_from};
 ghost use Rattle.can_frame.specs.Parts.{byte_count as byte_count_of};
-ghost use Rattle.can_code.specs.Layout.{dlc_of, extended_of, frame_of, heard_of, identifier_of, level_at, remote_of, rtr_place as rtr_place_of};
+ghost use Rattle.can_code.specs.Layout.{dlc_of, extended_of, frame_of, heard_of, identifier_of, level_at, remote_of};
 ghost use Rattle.can_code.specs.Reading.{HasControl, HasData, TellsLength, bytes_of};
 
 use crate::frame_bits::FrameBits;
 use crate::heard::Heard;
 use crate::places::{
-    EXTENDED_RTR_PLACE, EXTENSION_BITS, EXTENSION_PLACE, IDE_PLACE, R1_PLACE, RTR_TO_DATA,
-    SRR_PLACE, STANDARD_RTR_PLACE,
+    EXTENSION_BITS, EXTENSION_PLACE, IDE_PLACE, R1_PLACE, RTR_TO_DATA, SRR_PLACE, rtr_place,
 };
 use arrayvec::ArrayVec;
 use can_frame::{Frame, Id, Level};
@@ -34,17 +33,6 @@ pub(crate) fn is_extended<B: FrameBits>(bits: &B) -> bool
     ensures { result ≡ extended_of (B.levels bits.now) }
 {
     bits.level_at(IDE_PLACE).is_recessive()
-}
-
-/// Where the RTR bit stands.
-fn rtr_place(extended: bool) -> usize
-    ensures { result ≡ rtr_place_of extended }
-{
-    if extended {
-        EXTENDED_RTR_PLACE
-    } else {
-        STANDARD_RTR_PLACE
-    }
 }
 
 /// How many data bytes the frame has.

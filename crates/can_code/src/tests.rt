@@ -1,5 +1,5 @@
 use crate::layout::head;
-use crate::{CrcRun, Heard, crc15, encode, respell, stuff};
+use crate::{CrcRun, Heard, crc15, encode, respell, rtr_place, stuff};
 use arrayvec::ArrayVec;
 use can_frame::{Frame, Id, Level};
 use std::test::Fail;
@@ -151,4 +151,10 @@ fn data_length_codes(rt: HostRuntime) -> Result<(), Fail> {
         assert!(rt; code == levels_of(bits).as_slice());
     }
     Ok(())
+}
+
+#[test]
+fn the_rtr_bit_is_the_13th_or_the_33rd_level(rt: HostRuntime) {
+    assert_eq!(rt; rtr_place(false), 12);
+    assert_eq!(rt; rtr_place(true), 32);
 }

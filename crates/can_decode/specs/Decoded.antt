@@ -1,6 +1,7 @@
 -- What is written for a trace: a line for each frame, and for each fault.
 use Rattle.std.specs.Prelude.{◌≡◌, ◌≢◌, ℕ, ◌+◌, ◌^◌, ◌<◌, ◌≤◌, if◌then◌else◌, Bool, true, false, not, List, [], ◌∷◌, ◌++◌, length, filter, replicate, codes, decimal}
 use Rattle.std.specs.List.{flat_map}
+use Rattle.can_frame.specs.IdleRow.{idle_row}
 use Rattle.can_frame.specs.declared.level.Level.{Level}
 use Rattle.can_frame.specs.declared.level.Level.TheVariants.{Dominant, Recessive}
 use Rattle.can_frame.specs.Levels.{is_recessive}
@@ -17,7 +18,7 @@ use Rattle.can_decode.specs.declared.finding.Finding.TheVariants.{Frame, Fault}
 
 -- the last eleven levels are recessive
 abbrev pub EndsIdle : List Level → Type 0
-EndsIdle levels = (front : List Level) × (levels ≡ front ++ replicate 11 Recessive)
+EndsIdle levels = (front : List Level) × (levels ≡ front ++ replicate idle_row Recessive)
 
 -- Of the skipped levels and the rest behind them, the skipped ones end with the first eleven consecutive
 -- recessive ones. Where there are no such eleven, all are skipped.

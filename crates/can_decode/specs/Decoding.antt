@@ -1,6 +1,7 @@
 -- What the steps of decoding a trace promise one another.
 use Rattle.std.specs.Prelude.{◌≡◌, ℕ, ◌+◌, ◌<◌, true, false, List, [], ◌∷◌, ◌++◌, length, filter, replicate, Option, Some, None, Result, Ok, Err}
 use Rattle.std.specs.List.{flat_map, AllByRecursion}
+use Rattle.can_frame.specs.IdleRow.{idle_row}
 use Rattle.can_frame.specs.declared.level.Level.{Level}
 use Rattle.can_frame.specs.declared.level.Level.TheVariants.{Dominant, Recessive}
 use Rattle.can_code.specs.Decoder.{DecoderParts, HasHeard}
@@ -40,7 +41,7 @@ pub record IsInFrame (start : ℕ) (decoder : DecoderParts) (levels : List Level
 -- so many recessive levels, not yet eleven, stand behind the levels that are done, in which a fault was told
 pub record IsLost (row : ℕ) (levels : List Level) (told : List Finding) : Type 0 where
   pub done : List Level
-  pub few : row < 11
+  pub few : row < idle_row
   pub levels_are : levels ≡ done ++ replicate row Recessive
   pub searches_on : SearchesOn (replicate row Recessive) done told
 

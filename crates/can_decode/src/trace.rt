@@ -7,13 +7,9 @@ ghost use Rattle.can_decode.specs.Decoding.{EndsWith, Hearing, Hears, SearchesOn
 
 use crate::finding::Finding;
 use can_code::{CodeFaultKind, Decoder, PlainBits};
-use can_frame::Level;
+use can_frame::{IDLE_ROW, Level};
 
-/// How many recessive levels in a row end the search behind a fault: those of an ACK delimiter, an end of
-/// frame and an intermission. (Bosch CAN 2.0 part B, section 3.2.5)
-const IDLE_ROW: u8 = 11;
-
-/// How many of them may stand in a row before they do.
+/// How many recessive levels may stand in a row behind a fault before an idle row ends the search.
 const LONGEST_ROW: u8 = IDLE_ROW - 1;
 
 /// Where a trace stands.

@@ -8,8 +8,8 @@ use Rattle.can_frame.specs.declared.level.Level.{Level}
 use Rattle.can_frame.specs.declared.level.Level.TheVariants.{Dominant, Recessive}
 use Rattle.can_fault.specs.declared.state.State.TheVariants.{Active, Passive, BusOff}
 use Rattle.can_fault.specs.Counters.{ConfineParts, IsConfine, fresh, is_bus_off, is_passive, state_of}
-use Rattle.can_fault.specs.Recovery.{rests, last_run, since_last, EndsBusOff, EndsBehind, StaysBusOff, after_levels, after_level, ends_bus_off, recovered}
-use Rattle.can_fault.proofs.RunLemmas.{last_run-dominant, last_run-recessive, rests-dominant, rests-recessive, rests-append-le, rests-replicate, last_run-replicate}
+use Rattle.can_fault.specs.Recovery.{occurrences_in, last_run, since_last, EndsBusOff, EndsBehind, StaysBusOff, after_levels, after_level, ends_bus_off, recovered}
+use Rattle.can_fault.proofs.RunLemmas.{last_run-dominant, last_run-recessive, occurrences_in-dominant, occurrences_in-recessive, occurrences_in-append-le, occurrences_in-replicate, last_run-replicate}
 
 pub state_of-bus_off : (c : ConfineParts) → state_of c ≡ BusOff → is_bus_off c ≡ true
 state_of-bus_off c h = by_tests (is_bus_off c) (is_passive c) refl refl h
@@ -21,7 +21,7 @@ state_of-bus_off c h = by_tests (is_bus_off c) (is_passive c) refl refl h
 
 -- what c holds of the levels l since its last occurrence
 held : ConfineParts → List Level → ConfineParts
-held c l = record c { occurrences = c.occurrences + rests l; row = last_run l % 11 }
+held c l = record c { occurrences = c.occurrences + occurrences_in l; row = last_run l % 11 }
 
 with_equals : (c : ConfineParts) {o p r s : ℕ} → o ≡ p → r ≡ s
     → let left : ConfineParts = record c { occurrences = o; row = r } in let right : ConfineParts = record c { occurrences = p; row = s } in left ≡ right
@@ -29,18 +29,18 @@ with_equals c {o} {p} {r} {s} e f = ap (λ t. record c { occurrences = t; row = 
 
 held-push : (c : ConfineParts) (l : List Level) (x : Level) → held c (l ++ x ∷ []) ≡ after_level x (held c l)
 unfolding held
-held-push c l Dominant = with_equals c (ap (λ t. c.occurrences + t) (rests-dominant l)) (ap (λ t. t % 11) (last_run-dominant l))
+held-push c l Dominant = with_equals c (ap (λ t. c.occurrences + t) (occurrences_in-dominant l)) (ap (λ t. t % 11) (last_run-dominant l))
 held-push c l Recessive =
     let run : last_run (l ++ Recessive ∷ []) ≡ last_run l + 1 = last_run-recessive l in
-    let more = rests-recessive l in
+    let more = occurrences_in-recessive l in
     let n = last_run l in
     elim (cases_lt (n % 11) 10) [
       | inl short ↦
-          let o : c.occurrences + rests (l ++ Recessive ∷ []) ≡ c.occurrences + rests l = omega arith in
+          let o : c.occurrences + occurrences_in (l ++ Recessive ∷ []) ≡ c.occurrences + occurrences_in l = omega arith in
           let r : last_run (l ++ Recessive ∷ []) % 11 ≡ n % 11 + 1 = omega arith in
           with_equals c o r ∙ sym (cond-true (ltb (n % 11) 10) _ _ (lt-ltb (n % 11) 10 short))
       | inr long ↦
-          let o : c.occurrences + rests (l ++ Recessive ∷ []) ≡ c.occurrences + rests l + 1 = omega arith in
+          let o : c.occurrences + occurrences_in (l ++ Recessive ∷ []) ≡ c.occurrences + occurrences_in l + 1 = omega arith in
           let r : last_run (l ++ Recessive ∷ []) % 11 ≡ 0 = omega arith in
           with_equals c o r ∙ sym (cond-false (ltb (n % 11) 10) _ _ (le-ltb (n % 11) 10 long))
     ]
@@ -53,7 +53,7 @@ after_levels-push c l x = ap (held c) (sym (append_assoc (replicate c.row Recess
 pub after_levels-nil : (c : ConfineParts) → c.row < 11 → after_levels c [] ≡ c
 after_levels-nil c short =
     let alone : since_last c [] ≡ replicate c.row Recessive = append-nil (replicate c.row Recessive) in
-    let o : c.occurrences + rests (since_last c []) ≡ c.occurrences = omega (arith, ap rests alone, rests-replicate c.row) in
+    let o : c.occurrences + occurrences_in (since_last c []) ≡ c.occurrences = omega (arith, ap occurrences_in alone, occurrences_in-replicate c.row) in
     let r : last_run (since_last c []) % 11 ≡ c.row = omega (arith, ap last_run alone, last_run-replicate c.row) in
     with_equals c o r
 
@@ -91,9 +91,9 @@ module _ (c : ConfineParts) (l : List Level) (p : ConfineParts) (w : IsWaiting c
   IsWaiting-stays m ends =
       let whole : since_last c (take m l) ++ drop m l ≡ since_last c l =
       append_assoc (replicate c.row Recessive) (take m l) (drop m l) ∙ ap (since_last c) (take-append-drop m l) in
-      let fewer : rests (since_last c (take m l)) ≤ rests (since_last c (take m l) ++ drop m l) = rests-append-le (since_last c (take m l)) (drop m l) in
-      let count : p.occurrences ≡ c.occurrences + rests (since_last c l) = ap (λ t. t.occurrences) w.here in
-      absurd (omega (arith, ap rests whole, fewer, count, ends, w.short))
+      let fewer : occurrences_in (since_last c (take m l)) ≤ occurrences_in (since_last c (take m l) ++ drop m l) = occurrences_in-append-le (since_last c (take m l)) (drop m l) in
+      let count : p.occurrences ≡ c.occurrences + occurrences_in (since_last c l) = ap (λ t. t.occurrences) w.here in
+      absurd (omega (arith, ap occurrences_in whole, fewer, count, ends, w.short))
 
   pub IsWaiting-push : (x : Level) → ends_bus_off x p ≡ false → IsWaiting c (l ++ x ∷ []) (recovered x p)
   IsWaiting-push x e =
@@ -107,13 +107,13 @@ module _ (c : ConfineParts) (l : List Level) (p : ConfineParts) (w : IsWaiting c
   pub IsWaiting-ended : (x : Level) → ends_bus_off x p ≡ true → EndsBusOff c (l ++ x ∷ []) × (recovered x p ≡ fresh)
   IsWaiting-ended x e =
       let enough : 128 ≤ (after_level x p).occurrences = leb-true 128 (after_level x p).occurrences (sym (ends_bus_off-test x p still_off) ∙ e) in
-      let count : c.occurrences + rests (since_last c (l ++ x ∷ [])) ≡ (after_level x p).occurrences = ap (λ t. t.occurrences) (next x) in
+      let count : c.occurrences + occurrences_in (since_last c (l ++ x ∷ [])) ≡ (after_level x p).occurrences = ap (λ t. t.occurrences) (next x) in
       let ends : EndsBusOff c (l ++ x ∷ []) = omega (arith, w.short, after_level-le x p) in
       (ends, cond-true (is_bus_off p) _ p still_off ∙ cond-true (ends_bus_off x p) fresh (after_level x p) e)
 
   pub IsWaiting-ends : (x : Level) → EndsBusOff c (l ++ x ∷ []) → ends_bus_off x p ≡ true
   IsWaiting-ends x ends =
-      let count : c.occurrences + rests (since_last c (l ++ x ∷ [])) ≡ (after_level x p).occurrences = ap (λ t. t.occurrences) (next x) in
+      let count : c.occurrences + occurrences_in (since_last c (l ++ x ∷ [])) ≡ (after_level x p).occurrences = ap (λ t. t.occurrences) (next x) in
       ends_bus_off-test x p still_off ∙ le-leb 128 (after_level x p).occurrences (omega arith)
 
 -- one level alone

@@ -8,7 +8,7 @@ use Rattle.can_fault.specs.declared.cause.Cause.{Cause}
 use Rattle.can_fault.specs.declared.cause.Cause.TheVariants.{ReceiverError, ReceiverFlagBit, ReceiverFirstDominant, ReceiverDominantRun, SenderError, SenderFlagBit, SenderDominantRun, PassiveUnacknowledged, FrameSent, FrameReceived}
 use Rattle.can_fault.specs.declared.state.State.TheVariants.{Active, Passive, BusOff}
 use Rattle.can_fault.specs.Counters.{ConfineParts, fresh, state_of, counted}
-use Rattle.can_fault.specs.Recovery.{recessive_runs, rests, last_run, after_levels, recovered, ends_bus_off}
+use Rattle.can_fault.specs.Recovery.{recessive_runs, occurrences_in, last_run, after_levels, recovered, ends_bus_off}
 
 -- the levels of a text of `0` and `1`
 abbrev levels_of : List ℕ → List Level
@@ -148,28 +148,28 @@ good_receptions = refl
 runs : recessive_runs (levels_of (codes "1100110001")) ≡ 2 ∷ 0 ∷ 2 ∷ 0 ∷ 0 ∷ 1 ∷ []
 runs = refl
 
-ten_recessive : rests (replicate 10 Recessive) ≡ 0
-unfolding rests
+ten_recessive : occurrences_in (replicate 10 Recessive) ≡ 0
+unfolding occurrences_in
 ten_recessive = refl
 
-eleven_recessive : rests (replicate 11 Recessive) ≡ 1
-unfolding rests
+eleven_recessive : occurrences_in (replicate 11 Recessive) ≡ 1
+unfolding occurrences_in
 eleven_recessive = refl
 
-no_overlap : rests (replicate 21 Recessive) ≡ 1
-unfolding rests
+no_overlap : occurrences_in (replicate 21 Recessive) ≡ 1
+unfolding occurrences_in
 no_overlap = refl
 
-all_recessive : rests (replicate 1407 Recessive) ≡ 127
-unfolding rests
+all_recessive : occurrences_in (replicate 1407 Recessive) ≡ 127
+unfolding occurrences_in
 all_recessive = refl
 
-all_occurrences : rests (replicate 1408 Recessive) ≡ 128
-unfolding rests
+all_occurrences : occurrences_in (replicate 1408 Recessive) ≡ 128
+unfolding occurrences_in
 all_occurrences = refl
 
-interrupted : rests (replicate 10 Recessive ++ Dominant ∷ replicate 1407 Recessive) ≡ 127
-unfolding rests
+interrupted : occurrences_in (replicate 10 Recessive ++ Dominant ∷ replicate 1407 Recessive) ≡ 127
+unfolding occurrences_in
 interrupted = refl
 
 row_at_end : last_run (replicate 30 Recessive ++ Dominant ∷ replicate 13 Recessive) ≡ 13
@@ -197,5 +197,5 @@ unfolding nearly
 on_again = refl
 
 waited : after_levels (record { tec = 256; rec = 9; occurrences = 3; row = 10 }) (levels_of (codes "1111011111111111")) ≡ record { tec = 256; rec = 9; occurrences = 5; row = 0 }
-unfolding rests last_run
+unfolding occurrences_in last_run
 waited = refl

@@ -6,11 +6,11 @@ use Rattle.std.proofs.lemmas.List.Sums.{sum_by-cons, take_while-cons}
 use Rattle.can_frame.specs.declared.level.Level.{Level}
 use Rattle.can_frame.specs.declared.level.Level.TheVariants.{Dominant, Recessive}
 use Rattle.can_frame.specs.Levels.{is_recessive}
-use Rattle.can_fault.specs.Recovery.{runs_from, recessive_runs, rests, last_run}
+use Rattle.can_fault.specs.Recovery.{runs_from, recessive_runs, occurrences_in, last_run}
 
 -- the occurrences in levels, behind n recessive ones
-abbrev rests_from : ℕ → List Level → ℕ
-rests_from n levels = sum_by (λ m. m / 11) (runs_from n levels)
+abbrev occurrences_from : ℕ → List Level → ℕ
+occurrences_from n levels = sum_by (λ m. m / 11) (runs_from n levels)
 
 -- the recessive run that ends levels, behind n recessive ones
 abbrev run_from : ℕ → List Level → ℕ
@@ -18,24 +18,24 @@ run_from n [] = n
 run_from n (Dominant ∷ levels) = run_from 0 levels
 run_from n (Recessive ∷ levels) = run_from (n + 1) levels
 
-rests_from-nil : (n : ℕ) → rests_from n [] ≡ n / 11
-rests_from-nil n = omega (arith, sum_by-cons (λ m. m / 11) n [])
+occurrences_from-nil : (n : ℕ) → occurrences_from n [] ≡ n / 11
+occurrences_from-nil n = omega (arith, sum_by-cons (λ m. m / 11) n [])
 
-rests_from-dominant : (n : ℕ) (l : List Level) → rests_from n (Dominant ∷ l) ≡ n / 11 + rests_from 0 l
-rests_from-dominant n l = sum_by-cons (λ m. m / 11) n (runs_from 0 l)
+occurrences_from-dominant : (n : ℕ) (l : List Level) → occurrences_from n (Dominant ∷ l) ≡ n / 11 + occurrences_from 0 l
+occurrences_from-dominant n l = sum_by-cons (λ m. m / 11) n (runs_from 0 l)
 
 -- a level more at the end
-rests_from-push_dominant : (n : ℕ) (l : List Level) → rests_from n (l ++ Dominant ∷ []) ≡ rests_from n l
-rests_from-push_dominant n [] = omega (arith, rests_from-dominant n [], rests_from-nil 0, rests_from-nil n)
-rests_from-push_dominant n (Dominant ∷ l) =
-    omega (arith, rests_from-dominant n (l ++ Dominant ∷ []), rests_from-push_dominant 0 l, rests_from-dominant n l)
-rests_from-push_dominant n (Recessive ∷ l) = rests_from-push_dominant (n + 1) l
+occurrences_from-push_dominant : (n : ℕ) (l : List Level) → occurrences_from n (l ++ Dominant ∷ []) ≡ occurrences_from n l
+occurrences_from-push_dominant n [] = omega (arith, occurrences_from-dominant n [], occurrences_from-nil 0, occurrences_from-nil n)
+occurrences_from-push_dominant n (Dominant ∷ l) =
+    omega (arith, occurrences_from-dominant n (l ++ Dominant ∷ []), occurrences_from-push_dominant 0 l, occurrences_from-dominant n l)
+occurrences_from-push_dominant n (Recessive ∷ l) = occurrences_from-push_dominant (n + 1) l
 
-rests_from-push_recessive : (n : ℕ) (l : List Level) → rests_from n (l ++ Recessive ∷ []) + run_from n l / 11 ≡ rests_from n l + (run_from n l + 1) / 11
-rests_from-push_recessive n [] = omega (arith, rests_from-nil n, rests_from-nil (n + 1))
-rests_from-push_recessive n (Dominant ∷ l) =
-    omega (arith, rests_from-dominant n (l ++ Recessive ∷ []), rests_from-push_recessive 0 l, rests_from-dominant n l)
-rests_from-push_recessive n (Recessive ∷ l) = rests_from-push_recessive (n + 1) l
+occurrences_from-push_recessive : (n : ℕ) (l : List Level) → occurrences_from n (l ++ Recessive ∷ []) + run_from n l / 11 ≡ occurrences_from n l + (run_from n l + 1) / 11
+occurrences_from-push_recessive n [] = omega (arith, occurrences_from-nil n, occurrences_from-nil (n + 1))
+occurrences_from-push_recessive n (Dominant ∷ l) =
+    omega (arith, occurrences_from-dominant n (l ++ Recessive ∷ []), occurrences_from-push_recessive 0 l, occurrences_from-dominant n l)
+occurrences_from-push_recessive n (Recessive ∷ l) = occurrences_from-push_recessive (n + 1) l
 
 run_from-push_dominant : (n : ℕ) (l : List Level) → run_from n (l ++ Dominant ∷ []) ≡ 0
 run_from-push_dominant n [] = refl
@@ -72,39 +72,39 @@ run_from-last_run l = subst (λ t. run_from 0 t ≡ last_run t) (reverse-reverse
         subst (λ t. run_from 0 t ≡ last_run t) (sym (reverse-append (Recessive ∷ []) l))
         (run_from-push_recessive 0 (reverse l) ∙ ap (λ n. n + 1) (turned l) ∙ sym (last_run-recessive (reverse l)))
 
-pub rests-dominant : (l : List Level) → rests (l ++ Dominant ∷ []) ≡ rests l
-unfolding rests
-rests-dominant l = rests_from-push_dominant 0 l
+pub occurrences_in-dominant : (l : List Level) → occurrences_in (l ++ Dominant ∷ []) ≡ occurrences_in l
+unfolding occurrences_in
+occurrences_in-dominant l = occurrences_from-push_dominant 0 l
 
 -- an occurrence more where the last run reaches the next multiple of eleven
-pub rests-recessive : (l : List Level) → rests (l ++ Recessive ∷ []) + last_run l / 11 ≡ rests l + (last_run l + 1) / 11
-unfolding rests last_run
-rests-recessive l =
-    subst (λ n. rests (l ++ Recessive ∷ []) + n / 11 ≡ rests l + (n + 1) / 11) (run_from-last_run l) (rests_from-push_recessive 0 l)
+pub occurrences_in-recessive : (l : List Level) → occurrences_in (l ++ Recessive ∷ []) + last_run l / 11 ≡ occurrences_in l + (last_run l + 1) / 11
+unfolding occurrences_in last_run
+occurrences_in-recessive l =
+    subst (λ n. occurrences_in (l ++ Recessive ∷ []) + n / 11 ≡ occurrences_in l + (n + 1) / 11) (run_from-last_run l) (occurrences_from-push_recessive 0 l)
 
 -- a front has no more occurrences than the list
-pub rests-append-le : (a b : List Level) → rests a ≤ rests (a ++ b)
-unfolding rests
-rests-append-le a b = by_runs 0 a
+pub occurrences_in-append-le : (a b : List Level) → occurrences_in a ≤ occurrences_in (a ++ b)
+unfolding occurrences_in
+occurrences_in-append-le a b = by_runs 0 a
   where
-    first_run : (n : ℕ) (b : List Level) → n / 11 ≤ rests_from n b
-    first_run n [] = omega (arith, rests_from-nil n)
-    first_run n (Dominant ∷ b) = omega (arith, rests_from-dominant n b)
+    first_run : (n : ℕ) (b : List Level) → n / 11 ≤ occurrences_from n b
+    first_run n [] = omega (arith, occurrences_from-nil n)
+    first_run n (Dominant ∷ b) = omega (arith, occurrences_from-dominant n b)
     first_run n (Recessive ∷ b) = omega (arith, first_run (n + 1) b)
 
-    by_runs : (n : ℕ) (a : List Level) → rests_from n a ≤ rests_from n (a ++ b)
-    by_runs n [] = omega (arith, rests_from-nil n, first_run n b)
-    by_runs n (Dominant ∷ a) = omega (arith, rests_from-dominant n a, by_runs 0 a, rests_from-dominant n (a ++ b))
+    by_runs : (n : ℕ) (a : List Level) → occurrences_from n a ≤ occurrences_from n (a ++ b)
+    by_runs n [] = omega (arith, occurrences_from-nil n, first_run n b)
+    by_runs n (Dominant ∷ a) = omega (arith, occurrences_from-dominant n a, by_runs 0 a, occurrences_from-dominant n (a ++ b))
     by_runs n (Recessive ∷ a) = by_runs (n + 1) a
 
 -- each occurrence has eleven levels of its own
-pub rests-le : (l : List Level) → 11 * rests l ≤ length l
-unfolding rests
-rests-le l = omega (arith, by_runs 0 l)
+pub occurrences_in-le : (l : List Level) → 11 * occurrences_in l ≤ length l
+unfolding occurrences_in
+occurrences_in-le l = omega (arith, by_runs 0 l)
   where
-    by_runs : (n : ℕ) (l : List Level) → 11 * rests_from n l ≤ n + length l
-    by_runs n [] = omega (arith, rests_from-nil n)
-    by_runs n (Dominant ∷ l) = omega (arith, rests_from-dominant n l, by_runs 0 l)
+    by_runs : (n : ℕ) (l : List Level) → 11 * occurrences_from n l ≤ n + length l
+    by_runs n [] = omega (arith, occurrences_from-nil n)
+    by_runs n (Dominant ∷ l) = omega (arith, occurrences_from-dominant n l, by_runs 0 l)
     by_runs n (Recessive ∷ l) = omega (arith, by_runs (n + 1) l)
 
 -- recessive levels alone
@@ -123,9 +123,9 @@ pub recessive_runs-split : (r : ℕ) (l : List Level) → recessive_runs (replic
 recessive_runs-split r l =
     runs_from-replicate 0 r (Dominant ∷ l) ∙ ap (λ n. n ∷ recessive_runs l) (let e : 0 + r ≡ r = omega arith in e)
 
-pub rests-replicate : (r : ℕ) → rests (replicate r Recessive) ≡ r / 11
-unfolding rests
-rests-replicate r = ap (sum_by (λ m. m / 11)) (recessive_runs-replicate r) ∙ rests_from-nil r
+pub occurrences_in-replicate : (r : ℕ) → occurrences_in (replicate r Recessive) ≡ r / 11
+unfolding occurrences_in
+occurrences_in-replicate r = ap (sum_by (λ m. m / 11)) (recessive_runs-replicate r) ∙ occurrences_from-nil r
 
 pub last_run-replicate : (r : ℕ) → last_run (replicate r Recessive) ≡ r
 unfolding last_run

@@ -1,6 +1,7 @@
 -- Fault confinement: the two error counters of a node, what changes them, and the state that they make.
 -- (Bosch CAN 2.0 part B, section 8)
 use Rattle.std.specs.Prelude.{ℕ, ◌≡◌, ◌+◌, ◌-◌, ◌<◌, min, nat_le, Bool, ◌||◌, if◌then◌else◌}
+use Rattle.can_frame.specs.IdleRow.{idle_row}
 use Rattle.can_fault.specs.declared.cause.Cause.{Cause}
 use Rattle.can_fault.specs.declared.cause.Cause.TheVariants.{ReceiverError, ReceiverFlagBit, ReceiverFirstDominant, ReceiverDominantRun, SenderError, SenderFlagBit, SenderDominantRun, PassiveUnacknowledged, FrameSent, FrameReceived}
 use Rattle.can_fault.specs.declared.state.State.{State}
@@ -66,6 +67,6 @@ pub record IsConfine (c : ConfineParts) : Type 0 where
   pub tec : c.tec < 264
   pub rec : c.rec < 256
   pub occurrences : c.occurrences < 128
-  pub row : c.row < 11
+  pub row : c.row < idle_row
   pub no_occurrences : c.tec < 256 → c.occurrences ≡ 0
   pub empty_row : c.tec < 256 → c.row ≡ 0

@@ -1,9 +1,10 @@
 -- How bus off ends: with the 128th occurrence of eleven recessive levels in a row. Occurrences don't
 -- overlap, and no request is needed. (Bosch CAN 2.0 part B, section 8)
-use Rattle.std.specs.Prelude.{ℕ, ◌≡◌, ◌+◌, ◌/◌, ◌%◌, ◌<◌, ◌≤◌, nat_lt, nat_le, Bool, ◌&&◌, if◌then◌else◌, List, [], ◌∷◌, ◌++◌, length, reverse, replicate, sum_by, take, take_while}
+use Rattle.std.specs.Prelude.{ℕ, ◌≡◌, ◌+◌, ◌-◌, ◌/◌, ◌%◌, ◌<◌, ◌≤◌, nat_lt, nat_le, Bool, ◌&&◌, if◌then◌else◌, List, [], ◌∷◌, ◌++◌, length, reverse, replicate, sum_by, take, take_while}
 use Rattle.can_frame.specs.declared.level.Level.{Level}
 use Rattle.can_frame.specs.declared.level.Level.TheVariants.{Dominant, Recessive}
 use Rattle.can_frame.specs.Levels.{is_recessive}
+use Rattle.can_frame.specs.IdleRow.{idle_row}
 use Rattle.can_fault.specs.declared.state.State.TheVariants.{BusOff}
 use Rattle.can_fault.specs.Counters.{ConfineParts, fresh, is_bus_off, state_of}
 
@@ -19,8 +20,8 @@ abbrev pub recessive_runs : List Level → List ℕ
 recessive_runs levels = runs_from 0 levels
 
 -- how many times eleven recessive levels stand in a row, where no two occurrences share a level
-unfoldable pub rests : List Level → ℕ
-rests levels = sum_by (λ n. n / 11) (recessive_runs levels)
+unfoldable pub occurrences_in : List Level → ℕ
+occurrences_in levels = sum_by (λ n. n / idle_row) (recessive_runs levels)
 
 -- the length of the recessive run that ends the list
 unfoldable pub last_run : List Level → ℕ
@@ -32,7 +33,7 @@ since_last c levels = replicate c.row Recessive ++ levels
 
 -- these levels make the 128th occurrence whole
 abbrev pub EndsBusOff : ConfineParts → List Level → Type 0
-EndsBusOff c levels = c.occurrences + rests (since_last c levels) ≡ 128
+EndsBusOff c levels = c.occurrences + occurrences_in (since_last c levels) ≡ 128
 
 -- bus off ends behind the first n of the levels, and not before
 pub record EndsBehind (c : ConfineParts) (levels : List Level) (n : ℕ) : Type 0 where
@@ -47,14 +48,14 @@ StaysBusOff c levels = (m : ℕ) → EndsBusOff c (take m levels) → ⊥
 
 -- what a node that is bus off holds after levels that don't end it
 abbrev pub after_levels : ConfineParts → List Level → ConfineParts
-after_levels c levels = record c { occurrences = c.occurrences + rests (since_last c levels); row = last_run (since_last c levels) % 11 }
+after_levels c levels = record c { occurrences = c.occurrences + occurrences_in (since_last c levels); row = last_run (since_last c levels) % idle_row }
 
 -- The same for one level, computed: a dominant level begins the row anew, and so does the eleventh
 -- recessive one, which is an occurrence.
 abbrev pub after_level : Level → ConfineParts → ConfineParts
 after_level Dominant c = record c { row = 0 }
 after_level Recessive c =
-    if nat_lt c.row 10 then record c { row = c.row + 1 } else record c { occurrences = c.occurrences + 1; row = 0 }
+    if nat_lt c.row (idle_row - 1) then record c { row = c.row + 1 } else record c { occurrences = c.occurrences + 1; row = 0 }
 
 -- bus off ends with this level
 abbrev pub ends_bus_off : Level → ConfineParts → Bool

@@ -4,7 +4,7 @@ ghost use Rattle.can_fault.specs.Counters.{counted, fresh, IsConfine, rec_after_
 
 use crate::cause::Cause;
 use crate::state::State;
-use can_frame::Level;
+use can_frame::{IDLE_ROW, Level};
 use std::marker::Model;
 
 /// A node is error passive where a counter has this value or more.
@@ -15,9 +15,6 @@ const BUS_OFF_FROM: u16 = 256;
 
 /// REC goes no higher.
 const HIGHEST_REC: u16 = 255;
-
-/// How many recessive levels in a row are an occurrence.
-const ROW: u8 = 11;
 
 /// Bus off ends with the occurrence of this number.
 const OCCURRENCES: u8 = 128;
@@ -127,7 +124,7 @@ impl Confine {
             Level::Dominant => self.row = 0,
             Level::Recessive => self.row += 1,
         }
-        if self.row == ROW {
+        if self.row == IDLE_ROW {
             self.row = 0;
             self.occurrences += 1;
         }

@@ -11,8 +11,8 @@
 //! Recovery is defined twice: over a list of levels, by its recessive runs, and level by level, as
 //! it is computed. The calls promise that the two agree.
 //!
-//! Crates above find lemmas in `proofs/`: the runs of a list as it grows (`RunLemmas`), and what a
-//! node holds while it is bus off (`RecoveryLemmas`).
+//! Lemmas are in `proofs/`: the runs of a list as it grows (`RunLemmas`), and what a node holds while it is bus off
+//! (`RecoveryLemmas`). `Rows` computes the definitions on values that follow from the standard.
 #![tactic(auto)]
 
 mod cause;

@@ -71,12 +71,6 @@ most_one text start d small s short longer rest few e = elim (cases_lt longer 10
       (omega arith, digit_below_ten (longer % 10) (omega arith) ∙ sym byte))
 ]
 
-pub most_two : (d : ℕ) (bytes : List ℕ) → 10 ≤ d → MostDigits d bytes
-most_two d bytes h longer rest few e = elim (cases_lt longer 10) [
-  | inl one ↦ omega (arith, ap length (decimal_one longer one), ap length (decimal_two d h))
-  | inr two ↦ omega (arith, ap length (decimal_two longer two), ap length (decimal_two d h))
-]
-
 -- where a text leaves a first digit, it leaves a DLC's digits
 pub decimal_leaves : (kind : TextFaultKind) (text : List ℕ) (start : ℕ) → start ≤ length text → (fault : TextFault)
     → LeavesPart kind (IsNumber 1 10) text start fault → LeavesPart kind IsDecimal text start fault

@@ -7,8 +7,7 @@ use Rattle.std.proofs.lemmas.Nat.Bits.{bit_at_cat_low}
 use Rattle.can_frame.specs.declared.level.Level.{Level}
 use Rattle.can_frame.specs.declared.level.Level.TheVariants.{Dominant, Recessive}
 use denote.Enum.Bare.{sameb}
-use Rattle.can_frame.specs.contracts.level.Level.{the_type}
-use Rattle.can_frame.specs.Levels.{level_of, same, bits_of, number_from}
+use Rattle.can_frame.specs.Levels.{level_of, bits_of, number_from}
 pub use Rattle.can_frame.specs.LevelNumbers.{bit_cases, length-bits_of, number_from-bits_of, number_from-whole}
 
 pub bits_of-none : (x : ℕ) → bits_of 0 x ≡ []
@@ -86,10 +85,3 @@ bits_of-number_from n (Dominant ∷ a) =
     level_back (2 * n) a (bits_of-number_from (2 * n) a) ∙ ap (λ b. level_of b ∷ a) (let e : 2 * n % 2 ≡ 0 = omega arith in e)
 bits_of-number_from n (Recessive ∷ a) =
     level_back (2 * n + 1) a (bits_of-number_from (2 * n + 1) a) ∙ ap (λ b. level_of b ∷ a) (let e : (2 * n + 1) % 2 ≡ 1 = omega arith in e)
-
--- what `==` of two levels answers
-pub sameb-same : (x y : Level) → sameb the_type x y ≡ same x y
-sameb-same Dominant Dominant = refl
-sameb-same Dominant Recessive = refl
-sameb-same Recessive Dominant = refl
-sameb-same Recessive Recessive = refl

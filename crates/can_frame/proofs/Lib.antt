@@ -1,19 +1,30 @@
+-- For crates above.
+-- the levels of a number, and the number of levels
 pub mod LevelLemmas
-pub mod FrameLemmas
+-- which of two lists is before the other
 pub mod BeforeLemmas
+-- arbitration fields: how two are ranked, that none begins another, and what one tells
+pub mod FieldLemmas
+-- the hexadecimal digits of a number, and of bytes
+pub mod HexDigits
+-- a DLC in decimal
+pub mod Decimals
+-- how long a frame's text is
+pub mod TextLengths
+-- two frames with one text are equal
+pub mod OneText
+
+-- For this crate.
+-- keys
 pub mod KeyLemmas
 pub mod LayoutLemmas
-pub mod FieldLemmas
+-- the text of a frame
 pub mod TextRows
 pub mod Leaving
-pub mod HexDigits
 pub mod ReadDigits
 pub mod ReadParts
-pub mod Decimals
 pub mod TextFronts
 pub mod PartsTold
 pub mod TextStages
 pub mod TextEnds
-pub mod OneText
 pub mod Written
-pub mod TextLengths

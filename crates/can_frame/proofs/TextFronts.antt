@@ -4,7 +4,7 @@ use Rattle.std.proofs.Common.{◌≡◌, ◌≢◌, ℕ, ◌+◌, ◌-◌, ◌<�
 use Rattle.std.proofs.Math.Seq.{take-add, take-append-add}
 use Rattle.std.proofs.lemmas.List.{append-nil, take-append-le, take-append-drop, take_at, drop_at, get_or-drop, get_or-take, get_or_append_left, length-drop, length-take-le, take-take}
 use Rattle.can_frame.specs.Parts.{Parts, IsFrame}
-use Rattle.can_frame.specs.Text.{frame_text, part_at, Begins, BeginsSome, IsTextFault}
+use Rattle.can_frame.specs.Text.{frame_text, part_at, BeginsText, BeginsSomeText, IsTextFault}
 use Rattle.can_frame.specs.TextParts.{Leaves, LeavesPart, StandsAt}
 use Rattle.can_frame.specs.declared.text.TextFaultKind.{TextFaultKind}
 use Rattle.can_frame.specs.declared.text.TextFaultKind.TheVariants.{Trailing}
@@ -39,11 +39,11 @@ module _ (text : List ℕ) (place : ℕ) (kind : TextFaultKind) (within : place 
   size : length (take place text) ≡ place
   size = length-take-le place text within
 
-  begins_with : (front : List ℕ) (f : Parts) → place ≤ length front → take place front ≡ take place text → Begins front f
+  begins_with : (front : List ℕ) (f : Parts) → place ≤ length front → take place front ≡ take place text → BeginsText front f
       → take place (frame_text f) ≡ take place text
   begins_with front f long same b = front_same place (frame_text f) front b.rest long b.text ∙ same
 
-  no_longer : (m : ℕ) → place < m → m ≤ length text → BeginsSome (take m text) → ⊥
+  no_longer : (m : ℕ) → place < m → m ≤ length text → BeginsSomeText (take m text) → ⊥
   no_longer m more fits (f, b) =
       let length_is : length (take m text) ≡ m = length-take-le m text fits in
       let long : place < length (take m text) = omega arith in
@@ -104,9 +104,6 @@ trails text place f more is_frame whole apart =
     }
 
 -- ---- reading on
-
-pub Past-start : (text : List ℕ) → Past text 0 (λ f. Unit {0}) frame_text
-Past-start text = record { within = omega arith; goes_on = λ f h q. refl; only = λ f h e. tt }
 
 module _ (text : List ℕ) (place : ℕ) (Q : Parts → Type 0) (first next : Parts → List ℕ)
     (past : Past text place Q (λ f. first f ++ next f)) where

@@ -1,4 +1,5 @@
 -- The arbitration field, by which the frames that start together are sorted out.
+-- (Bosch CAN 2.0 part B, sections 2 and 3.2.1)
 use Rattle.std.specs.Prelude.{ℕ, Bool, ◌≡◌, ◌/◌, ◌^◌, if◌then◌else◌, List, [], ◌∷◌, ◌++◌, take, slice_get, Some}
 use Rattle.std.specs.declared.cmp.Ordering.{Ordering}
 use Rattle.std.specs.Ordering.{bool_cmp, on}
@@ -8,7 +9,7 @@ use Rattle.can_frame.specs.declared.level.Level.TheVariants.{Dominant, Recessive
 use Rattle.can_frame.specs.Levels.{is_recessive, level_from, bits_of}
 use Rattle.can_frame.specs.Parts.{Parts}
 
--- Standard: identifier, RTR, IDE. (Bosch CAN 2.0 part B, section 3.2.1)
+-- Standard: identifier, RTR, IDE.
 abbrev pub standard_field : ℕ → Bool → List Level
 standard_field raw remote = bits_of 11 raw ++ level_from remote ∷ Dominant ∷ []
 

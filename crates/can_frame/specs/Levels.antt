@@ -1,4 +1,4 @@
--- Levels, and the levels of a number.
+-- Levels, and the levels of a number. (Bosch CAN 2.0 part B, sections 2 and 3.2.1)
 use Rattle.std.specs.Prelude.{ℕ, zero, suc, Bool, true, false, ◌+◌, ◌*◌, ◌/◌, ◌%◌, ◌^◌, List, [], ◌∷◌}
 use Rattle.can_frame.specs.declared.level.Level.{Level}
 use Rattle.can_frame.specs.declared.level.Level.TheVariants.{Dominant, Recessive}

@@ -1,4 +1,4 @@
--- What a contract sees of a frame: the parts that its getters tell.
+-- What a contract sees of a frame: the parts that its getters tell. (Bosch CAN 2.0 part B, sections 3.2.1 and 3.2.2)
 use Rattle.std.specs.Prelude.{◌≡◌, ℕ, Bool, ◌<◌, ◌==◌, min, if◌then◌else◌, List, length, slice_index}
 use Rattle.std.specs.Bool.{beq}
 use Rattle.std.specs.Cmp.Lexicographic.{pointwise}

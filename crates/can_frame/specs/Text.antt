@@ -1,4 +1,5 @@
 -- Frame text: how a frame is written in one line, and which fault other bytes have.
+-- (docs/FORMATS.md, "Frame text"; docs/CODES.md)
 use Rattle.std.specs.Prelude.{ℕ, zero, suc, ◌≡◌, ◌↔◌, ◌+◌, ◌/◌, ◌%◌, ◌^◌, ◌<◌, ◌≤◌, nat_lt, Bool, if◌then◌else◌, List, [], ◌∷◌, ◌++◌, length, take, slice_index, codes}
 use Rattle.hex.specs.Hex.{encode_lower}
 use Rattle.can_frame.specs.Parts.{Parts, IsFrame}
@@ -53,20 +54,20 @@ abbrev pub IsFrameText : List ℕ → Type 0
 IsFrameText bytes = (f : Parts) × IsFrame f × (frame_text f ≡ bytes)
 
 -- the bytes begin the text of this frame
-pub record Begins (front : List ℕ) (f : Parts) : Type 0 where
+pub record BeginsText (front : List ℕ) (f : Parts) : Type 0 where
   pub frame : IsFrame f
   pub rest : List ℕ
   pub text : frame_text f ≡ front ++ rest
 
 -- the bytes begin the text of some frame
-abbrev pub BeginsSome : List ℕ → Type 0
-BeginsSome front = (f : Parts) × Begins front f
+abbrev pub BeginsSomeText : List ℕ → Type 0
+BeginsSomeText front = (f : Parts) × BeginsText front f
 
 -- n is the length of the longest front of the bytes that begins the text of some frame
 pub record IsLongestBeginning (bytes : List ℕ) (n : ℕ) : Type 0 where
   pub within : n ≤ length bytes
-  pub begins : BeginsSome (take n bytes)
-  pub longest : (m : ℕ) → n < m → m ≤ length bytes → BeginsSome (take m bytes) → ⊥
+  pub begins : BeginsSomeText (take n bytes)
+  pub longest : (m : ℕ) → n < m → m ≤ length bytes → BeginsSomeText (take m bytes) → ⊥
 
 -- the part of the frame's text in which a place lies
 unfoldable pub part_at : Parts → ℕ → TextFaultKind
@@ -83,4 +84,4 @@ part_at f place =
 pub record IsTextFault (bytes : List ℕ) (fault : TextFault) : Type 0 where
   pub place : IsLongestBeginning bytes fault.place
   pub trailing : (fault.kind ≡ Trailing) ↔ IsFrameText (take fault.place bytes)
-  pub part : (f : Parts) → Begins (take fault.place bytes) f → (IsFrameText (take fault.place bytes) → ⊥) → fault.kind ≡ part_at f fault.place
+  pub part : (f : Parts) → BeginsText (take fault.place bytes) f → (IsFrameText (take fault.place bytes) → ⊥) → fault.kind ≡ part_at f fault.place

@@ -2,7 +2,7 @@ ghost use Rattle.std.specs.Prelude.{◌≡◌, ◌↔◌, ◌-◌, [], IsTrue, t
 ghost use Rattle.can_frame.specs.Levels.{level_of};
 ghost use Rattle.can_frame.specs.Arbitration.{arbitration_field};
 
-use crate::{Frame, FrameFault, Id, Level};
+use crate::{Frame, FrameFault, IDLE_ROW, Id, Level};
 use std::test::Fail;
 
 fn standard(raw: u16) -> Result<Id, Fail> {
@@ -25,6 +25,13 @@ fn levels(rt: HostRuntime) {
         assert_eq!(rt; level.opposite(), other);
     }
     assert!(rt; Level::Dominant < Level::Recessive);
+}
+
+// A frame ends with ACK delimiter, end of frame and intermission, an error frame with delimiter and intermission.
+#[test]
+fn an_idle_row_ends_each_frame(rt: HostRuntime) {
+    assert_eq!(rt; IDLE_ROW, 1 + 7 + 3);
+    assert_eq!(rt; IDLE_ROW, 8 + 3);
 }
 
 #[test]

@@ -3,12 +3,12 @@
 use Rattle.std.proofs.Common.{◌≡◌, ℕ, ◌≤◌, ◌↔◌, List, length, take, sym, ap, subst, ◌∙◌, arith}
 use Rattle.std.proofs.lemmas.List.{length-append, length-take, take_all, take-take}
 use Rattle.can_frame.specs.Parts.{Parts, IsFrame}
-use Rattle.can_frame.specs.Text.{frame_text, IsTextFault, IsLongestBeginning, Begins, BeginsSome, IsFrameText, part_at}
+use Rattle.can_frame.specs.Text.{frame_text, IsTextFault, IsLongestBeginning, BeginsText, BeginsSomeText, IsFrameText, part_at}
 use Rattle.can_frame.specs.declared.text.TextFaultKind.TheVariants.{Trailing}
 use Rattle.can_frame.specs.declared.text.TextFault.{TextFault}
 pub use Rattle.can_frame.proofs.TextLengths.{length-frame_text}
 
-front_short : (n : ℕ) (line : List ℕ) → BeginsSome (take n line) → n ≤ length line → n ≤ 32
+front_short : (n : ℕ) (line : List ℕ) → BeginsSomeText (take n line) → n ≤ length line → n ≤ 32
 front_short n line begins within =
     let b = begins.1 in
     omega (arith, length-frame_text begins.0 b.frame, ap length b.text, length-append (take n line) b.rest, length-take n line)
@@ -25,10 +25,10 @@ longest_from_front line n h short =
     let same : (m : ℕ) → m ≤ 32 → take m (take 33 line) ≡ take m line = λ m within. take-take m 33 line (omega arith) in
     record {
       within = omega (arith, h.within);
-      begins = subst BeginsSome (same n short) h.begins;
+      begins = subst BeginsSomeText (same n short) h.begins;
       longest = λ m longer within begins.
           let m_short = front_short m line begins within in
-          h.longest m longer (omega (arith, len)) (subst BeginsSome (sym (same m m_short)) begins);
+          h.longest m longer (omega (arith, len)) (subst BeginsSomeText (sym (same m m_short)) begins);
     }
 
 pub IsTextFault-front : (line : List ℕ) (fault : TextFault) → IsTextFault (take 33 line) fault → IsTextFault line fault
@@ -38,7 +38,7 @@ IsTextFault-front line fault h =
     record {
       place = longest_from_front line fault.place h.place short;
       trailing = subst (λ (t : List ℕ). (fault.kind ≡ Trailing) ↔ IsFrameText t) same h.trailing;
-      part = subst (λ (t : List ℕ). (f : Parts) → Begins t f → (IsFrameText t → ⊥) → fault.kind ≡ part_at f fault.place) same h.part;
+      part = subst (λ (t : List ℕ). (f : Parts) → BeginsText t f → (IsFrameText t → ⊥) → fault.kind ≡ part_at f fault.place) same h.part;
     }
 
 -- a frame's text is its own front
@@ -58,9 +58,9 @@ IsTextFault-kept line fault h =
     record {
       place = record {
         within = omega (arith, len, h.place.within);
-        begins = subst BeginsSome same h.place.begins;
-        longest = λ m longer within begins. h.place.longest m longer (omega (arith, len)) (subst BeginsSome (take-take m 33 line (omega (arith, len))) begins);
+        begins = subst BeginsSomeText same h.place.begins;
+        longest = λ m longer within begins. h.place.longest m longer (omega (arith, len)) (subst BeginsSomeText (take-take m 33 line (omega (arith, len))) begins);
       };
       trailing = subst (λ (t : List ℕ). (fault.kind ≡ Trailing) ↔ IsFrameText t) same h.trailing;
-      part = subst (λ (t : List ℕ). (f : Parts) → Begins t f → (IsFrameText t → ⊥) → fault.kind ≡ part_at f fault.place) same h.part;
+      part = subst (λ (t : List ℕ). (f : Parts) → BeginsText t f → (IsFrameText t → ⊥) → fault.kind ≡ part_at f fault.place) same h.part;
     }

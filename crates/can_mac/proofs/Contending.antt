@@ -7,8 +7,8 @@ use Rattle.can_code.specs.Layout.{level_at}
 use Rattle.can_mac.specs.declared.event.Event.TheVariants.{Lost}
 use Rattle.can_mac.specs.declared.phase.Role.TheVariants.{Receiver, Sender}
 use Rattle.can_mac.specs.State.{MacState}
-use Rattle.can_mac.specs.Frames.{state_after, told_at, driven_at, line, behind_part, role_at, role_after, role_drives, frame_drives, frame_event, loss, StartsWith, AreHeard, PartsAt}
-use Rattle.can_mac.proofs.FrameParts.{length-wire, length-line, line-early}
+use Rattle.can_mac.specs.Frames.{state_after, told_at, driven_at, with_intermission, behind_part, role_at, role_after, role_drives, frame_drives, frame_event, loss, StartsWith, AreHeard, PartsAt}
+use Rattle.can_mac.proofs.FrameParts.{length-wire, length-with_intermission, line-early}
 use Rattle.can_mac.proofs.FrameRoles.{role-together, role-parted}
 use Rattle.can_mac.proofs.FrameSteps.{event-early}
 use Rattle.can_mac.proofs.FrameRuns.{state_after-frame, told_at-frame}
@@ -19,10 +19,10 @@ module _ (f g : Parts) (m : MacState) (waits : ℕ → Option Parts) (start : St
   together : (o : ℕ) → 0 < o → o ≤ place + 1 → AreHeard f m o
   together o some within =
       let more = parts.within in
-      record { some = some; within = omega (arith, length-line f); no_wish = λ past. absurd (omega (arith, past, length-wire f)) }
+      record { some = some; within = omega (arith, length-with_intermission f); no_wish = λ past. absurd (omega (arith, past, length-wire f)) }
 
   -- up to there it is a sender
-  pub contender-sends : (o : ℕ) → 0 < o → o ≤ place → (state_after m waits (line f) o).role ≡ Sender g
+  pub contender-sends : (o : ℕ) → 0 < o → o ≤ place → (state_after m waits (with_intermission f) o).role ≡ Sender g
   contender-sends o some within =
       let more = parts.within in
       let none : behind_part f o ≡ 0 = omega arith in
@@ -32,7 +32,7 @@ module _ (f g : Parts) (m : MacState) (waits : ℕ → Option Parts) (start : St
       ∙ role-together f g place parts o within
 
   -- it drives its own levels
-  pub contender-drives : (o : ℕ) → o ≤ place → driven_at m waits (line f) o ≡ level_at (line g) o
+  pub contender-drives : (o : ℕ) → o ≤ place → driven_at m waits (with_intermission f) o ≡ level_at (with_intermission g) o
   contender-drives o within =
       let more = parts.within_sent in
       driven_at-frame f m waits start o (together (o + 1) (omega arith) (omega arith))
@@ -42,7 +42,7 @@ module _ (f g : Parts) (m : MacState) (waits : ℕ → Option Parts) (start : St
       ∙ sym (line-early g o (omega arith))
 
   -- there it tells that it has lost
-  pub contender-lost : told_at m waits (line f) place ≡ Some Lost
+  pub contender-lost : told_at m waits (with_intermission f) place ≡ Some Lost
   contender-lost =
       told_at-frame f m waits start place (together (place + 1) (omega arith) (omega arith))
       ∙ ap (λ w. frame_event f w place) contends
@@ -54,7 +54,7 @@ module _ (f g : Parts) (m : MacState) (waits : ℕ → Option Parts) (start : St
   receiver-stays k = cond_both (ltb k 13) Receiver Receiver (λ r. r ≡ Receiver) (λ e. refl) (λ e. refl)
 
   -- behind it it is a receiver
-  pub contender-receives : (o : ℕ) → place < o → AreHeard f m o → (state_after m waits (line f) o).role ≡ Receiver
+  pub contender-receives : (o : ℕ) → place < o → AreHeard f m o → (state_after m waits (with_intermission f) o).role ≡ Receiver
   contender-receives o past heard =
       ap (λ s. s.role) (state_after-frame f m waits start o heard)
       ∙ ap (λ r. role_after r (behind_part f o)) (ap (λ w. role_at f w o) contends ∙ role-parted f g place parts o past)

@@ -9,8 +9,7 @@ use Rattle.can_code.specs.Crc.{IsCrc}
 use Rattle.can_code.specs.Stuffing.{Stuffs}
 use Rattle.can_code.specs.Wire.{wire, tail}
 use Rattle.can_code.specs.Heard.{ack_slot, Spells}
-use Rattle.can_code.specs.Layout.{frame_of, heard_of, check_of, head_of}
-use Rattle.can_code.specs.Reading.{IsPart}
+use Rattle.can_code.specs.Layout.{frame_of, heard_of, check_of, head_of, IsPart}
 use Rattle.can_code.proofs.LayoutWrite.{IsHeard-heard_of, heard_head-heard_of, head_of-heard_head}
 use Rattle.can_mac.specs.declared.phase.Role.{Role}
 use Rattle.can_mac.specs.declared.phase.Role.TheVariants.{Receiver, Sender}

@@ -15,11 +15,11 @@ use Rattle.can_fault.specs.Counters.{ConfineParts}
 use Rattle.can_mac.specs.declared.phase.Role.{Role}
 use Rattle.can_mac.specs.declared.phase.Role.TheVariants.{Receiver, Sender}
 use Rattle.can_mac.specs.declared.phase.Phase.TheVariants.{Idle}
-use Rattle.can_mac.specs.State.{MacState, IsWaiting}
+use Rattle.can_mac.specs.State.{MacState, IsFrameOrNone}
 use Rattle.can_mac.specs.Machine.{mac_drives, part_drives}
-use Rattle.can_mac.specs.Frames.{driven_at, line, behind_part, driven_line, slot_place, role_at, role_drives, frame_state, frame_drives, StartsWith, AreHeard, PartsAt, GoesBehind}
+use Rattle.can_mac.specs.Frames.{driven_at, with_intermission, behind_part, driven_with_intermission, slot_place, role_at, role_drives, frame_state, frame_drives, StartsWith, AreHeard, PartsAt, GoesBehind}
 use Rattle.can_mac.proofs.FrameEnds.{Each, Each-at, end_levels, end_state}
-use Rattle.can_mac.proofs.FrameParts.{part_state, length-line, line-early, line-late, phase-early}
+use Rattle.can_mac.proofs.FrameParts.{part_state, length-with_intermission, line-early, line-late, phase-early}
 use Rattle.can_mac.proofs.FrameRoles.{role-own, role-together, role-parted, level-together, parting, listens, drives, driving, receives, sends, ending}
 use Rattle.can_mac.proofs.FrameSteps.{state-early, state-late}
 use Rattle.can_mac.proofs.FrameRuns.{state_after-frame}
@@ -28,13 +28,13 @@ use Rattle.can_mac.proofs.FrameRuns.{state_after-frame}
 abbrev silence : List Level
 silence = tail Recessive Recessive ++ (Recessive ∷ Recessive ∷ Recessive ∷ [])
 
-own-parts : (g : Parts) → driven_line g ≡ stuffed_part g ++ silence
+own-parts : (g : Parts) → driven_with_intermission g ≡ stuffed_part g ++ silence
 own-parts g = append_assoc (stuffed_part g) (tail Recessive Recessive) (Recessive ∷ Recessive ∷ Recessive ∷ [])
 
-pub own-early : (g : Parts) (o : ℕ) → o < length (stuffed_part g) → level_at (driven_line g) o ≡ level_at (stuffed_part g) o
+pub own-early : (g : Parts) (o : ℕ) → o < length (stuffed_part g) → level_at (driven_with_intermission g) o ≡ level_at (stuffed_part g) o
 own-early g o more = ap (λ l. level_at l o) (own-parts g) ∙ level_at-append (stuffed_part g) silence o more
 
-own-late : (g : Parts) (o : ℕ) → length (stuffed_part g) ≤ o → level_at (driven_line g) o ≡ level_at silence (behind_part g o)
+own-late : (g : Parts) (o : ℕ) → length (stuffed_part g) ≤ o → level_at (driven_with_intermission g) o ≡ level_at silence (behind_part g o)
 own-late g o past = ap (λ l. level_at l o) (own-parts g) ∙ level_at-behind (stuffed_part g) silence o past
 
 -- a receiver drives the ACK slot alone
@@ -85,7 +85,7 @@ unfolding mac_drives stuffed_part unstuffed stuffed head
 idle-drives f m None idle = rw idle (sym (receiver-elsewhere f 0 (λ e. omega (arith, e))))
 idle-drives f m (Some g) idle = rw idle refl
 
-module _ (f : Parts) (is : IsFrame f) (waiting : Option Parts) (kept : IsWaiting waiting) (behind : GoesBehind f waiting) (pending : ℕ) (c : ConfineParts) (now : Option Parts) (o : ℕ) where
+module _ (f : Parts) (is : IsFrame f) (waiting : Option Parts) (kept : IsFrameOrNone waiting) (behind : GoesBehind f waiting) (pending : ℕ) (c : ConfineParts) (now : Option Parts) (o : ℕ) where
   abbrev state : MacState
   state = frame_state f waiting pending c o
 
@@ -105,9 +105,9 @@ module _ (f : Parts) (is : IsFrame f) (waiting : Option Parts) (kept : IsWaiting
         | drives g was level more_g ↦ drives-as (Sender g) was (here (Sender g) was ∙ level ∙ sym (own-early g o more_g))
       ]
 
-  drives-late : length (stuffed_part f) ≤ o → o < length (line f) → mac_drives state now ≡ frame_drives f waiting o
+  drives-late : length (stuffed_part f) ≤ o → o < length (with_intermission f) → mac_drives state now ≡ frame_drives f waiting o
   drives-late past within =
-      let few : behind_part f o < 13 = omega (arith, within, length-line f) in
+      let few : behind_part f o < 13 = omega (arith, within, length-with_intermission f) in
       let here : (role : Role) → role_at f waiting o ≡ role → mac_drives state now ≡ mac_drives (end_state f role pending c (behind_part f o)) now =
       (λ role was. ap (λ m. mac_drives m now) (state-late f is waiting pending c o past ∙ ap (λ r. end_state f r pending c (behind_part f o)) was)) in
       elim (ending f waiting is kept behind) [
@@ -115,14 +115,14 @@ module _ (f : Parts) (is : IsFrame f) (waiting : Option Parts) (kept : IsWaiting
         | sends role ↦ drives-as (Sender f) (role o) (here (Sender f) (role o) ∙ sender-end f pending c now o past few)
       ]
 
-  pub drives-frame : 0 < o → o < length (line f) → mac_drives state now ≡ frame_drives f waiting o
+  pub drives-frame : 0 < o → o < length (with_intermission f) → mac_drives state now ≡ frame_drives f waiting o
   drives-frame some within = elim (cases_lt o (length (stuffed_part f))) [
     | inl more ↦ drives-early some more
     | inr past ↦ drives-late past within
   ]
 
 -- what a controller drives in each bit time of f
-pub driven_at-frame : (f : Parts) (m : MacState) (waits : ℕ → Option Parts) → StartsWith f m (waits 0) → (o : ℕ) → AreHeard f m (o + 1) → driven_at m waits (line f) o ≡ frame_drives f (waits 0) o
+pub driven_at-frame : (f : Parts) (m : MacState) (waits : ℕ → Option Parts) → StartsWith f m (waits 0) → (o : ℕ) → AreHeard f m (o + 1) → driven_at m waits (with_intermission f) o ≡ frame_drives f (waits 0) o
 driven_at-frame f m waits start zero heard = idle-drives f m (waits 0) start.idle
 driven_at-frame f m waits start (suc o) heard =
     let here : AreHeard f m (suc o) = record { some = omega arith; within = omega (arith, heard.within); no_wish = λ past. heard.no_wish (omega (arith, past)) } in
@@ -136,43 +136,43 @@ Alike k = k ≢ 1 → level_at silence k ≡ level_at end_levels k
 alike-each : Each Alike 0 13
 alike-each = (λ e. refl, (λ e. absurd (e refl), (λ e. refl, (λ e. refl, (λ e. refl, (λ e. refl, (λ e. refl, (λ e. refl, (λ e. refl, (λ e. refl, (λ e. refl, (λ e. refl, (λ e. refl, tt)))))))))))))
 
-pub own-line : (f : Parts) (o : ℕ) → o < length (line f) → o ≢ slot_place f → level_at (driven_line f) o ≡ level_at (line f) o
+pub own-line : (f : Parts) (o : ℕ) → o < length (with_intermission f) → o ≢ slot_place f → level_at (driven_with_intermission f) o ≡ level_at (with_intermission f) o
 own-line f o within other = elim (cases_lt o (length (stuffed_part f))) [
   | inl more ↦ own-early f o more ∙ sym (line-early f o more)
   | inr past ↦
-      let few : behind_part f o < 13 = omega (arith, within, length-line f) in
+      let few : behind_part f o < 13 = omega (arith, within, length-with_intermission f) in
       own-late f o past ∙ Each-at Alike 0 13 (behind_part f o) alike-each (omega arith) few (λ e. other (omega (arith, e))) ∙ sym (line-late f o past)
 ]
 
-pub own-slot : (f : Parts) (o : ℕ) → o ≡ slot_place f → level_at (driven_line f) o ≡ Recessive
+pub own-slot : (f : Parts) (o : ℕ) → o ≡ slot_place f → level_at (driven_with_intermission f) o ≡ Recessive
 own-slot f o here =
     let one : behind_part f o ≡ 1 = omega (arith, here) in
     own-late f o (omega (arith, here)) ∙ ap (level_at silence) one
 
-line-slot : (f : Parts) (o : ℕ) → o ≡ slot_place f → level_at (line f) o ≡ Dominant
+line-slot : (f : Parts) (o : ℕ) → o ≡ slot_place f → level_at (with_intermission f) o ≡ Dominant
 line-slot f o here =
     let one : behind_part f o ≡ 1 = omega (arith, here) in
     line-late f o (omega (arith, here)) ∙ ap (level_at end_levels) one
 
 -- whoever drives f, or goes with it, drives the bus's level or recessive
-receiver-over : (f : Parts) (o : ℕ) → (role_drives f Receiver o ≡ Recessive) ⊎ (role_drives f Receiver o ≡ level_at (line f) o)
+receiver-over : (f : Parts) (o : ℕ) → (role_drives f Receiver o ≡ Recessive) ⊎ (role_drives f Receiver o ≡ level_at (with_intermission f) o)
 receiver-over f o = elim (cases_eq o (slot_place f)) [
   | inl here ↦ inr (receiver-slot f o here ∙ sym (line-slot f o here))
   | inr other ↦ inl (receiver-elsewhere f o other)
 ]
 
-sender-over : (f : Parts) (o : ℕ) → o < length (line f) → (level_at (driven_line f) o ≡ Recessive) ⊎ (level_at (driven_line f) o ≡ level_at (line f) o)
+sender-over : (f : Parts) (o : ℕ) → o < length (with_intermission f) → (level_at (driven_with_intermission f) o ≡ Recessive) ⊎ (level_at (driven_with_intermission f) o ≡ level_at (with_intermission f) o)
 sender-over f o within = elim (cases_eq o (slot_place f)) [
   | inl here ↦ inl (own-slot f o here)
   | inr other ↦ inr (own-line f o within other)
 ]
 
 abbrev pub Over : Parts → Option Parts → ℕ → Type 0
-Over f waiting o = (frame_drives f waiting o ≡ Recessive) ⊎ (frame_drives f waiting o ≡ level_at (line f) o)
+Over f waiting o = (frame_drives f waiting o ≡ Recessive) ⊎ (frame_drives f waiting o ≡ level_at (with_intermission f) o)
 
 over-as : (f : Parts) (waiting : Option Parts) (o : ℕ) (role : Role) → role_at f waiting o ≡ role
-    → (role_drives f role o ≡ Recessive) ⊎ (role_drives f role o ≡ level_at (line f) o) → Over f waiting o
-over-as f waiting o role was level = subst (λ r. (role_drives f r o ≡ Recessive) ⊎ (role_drives f r o ≡ level_at (line f) o)) (sym was) level
+    → (role_drives f role o ≡ Recessive) ⊎ (role_drives f role o ≡ level_at (with_intermission f) o) → Over f waiting o
+over-as f waiting o role was level = subst (λ r. (role_drives f r o ≡ Recessive) ⊎ (role_drives f r o ≡ level_at (with_intermission f) o)) (sym was) level
 
 contender-over : (f g : Parts) → IsFrame f → IsFrame g → (place : ℕ) → PartsAt f g place → (o : ℕ) → Over f (Some g) o
 contender-over f g f_is g_is place parts o = elim (cases_lt place o) [
@@ -181,12 +181,12 @@ contender-over f g f_is g_is place parts o = elim (cases_lt place o) [
       let more = parts.within_sent in
       let sent = own-early g o (omega arith) ∙ sym (line-early g o (omega arith)) in
       over-as f (Some g) o (Sender g) (role-together f g place parts o within) (elim (cases_eq o place) [
-        | inl here ↦ inl (sent ∙ ap (level_at (line g)) here ∙ parts.high)
+        | inl here ↦ inl (sent ∙ ap (level_at (with_intermission g)) here ∙ parts.high)
         | inr other ↦ inr (sent ∙ level-together f g place parts o (omega (arith, within, other)))
       ])
 ]
 
-pub frame-over : (f : Parts) (waiting : Option Parts) → IsFrame f → IsWaiting waiting → GoesBehind f waiting → (o : ℕ) → o < length (line f) → Over f waiting o
+pub frame-over : (f : Parts) (waiting : Option Parts) → IsFrame f → IsFrameOrNone waiting → GoesBehind f waiting → (o : ℕ) → o < length (with_intermission f) → Over f waiting o
 frame-over f None is kept behind o within = over-as f None o Receiver refl (receiver-over f o)
 frame-over f (Some g) is kept (inl own) o within = subst (λ h. Over f (Some h) o) (sym own) (over-as f (Some f) o (Sender f) (role-own f o) (sender-over f o within))
 frame-over f (Some g) is kept (inr before) o within =
@@ -195,25 +195,25 @@ frame-over f (Some g) is kept (inr before) o within =
 
 -- the same in each role
 module _ (f : Parts) (m : MacState) (waits : ℕ → Option Parts) (start : StartsWith f m (waits 0)) (o : ℕ) (heard : AreHeard f m (o + 1)) where
-  driven-as : (waiting : Option Parts) → waits 0 ≡ waiting → driven_at m waits (line f) o ≡ frame_drives f waiting o
+  driven-as : (waiting : Option Parts) → waits 0 ≡ waiting → driven_at m waits (with_intermission f) o ≡ frame_drives f waiting o
   driven-as waiting e = driven_at-frame f m waits start o heard ∙ ap (λ w. frame_drives f w o) e
 
-  sender-drives : waits 0 ≡ Some f → driven_at m waits (line f) o ≡ level_at (driven_line f) o
+  sender-drives : waits 0 ≡ Some f → driven_at m waits (with_intermission f) o ≡ level_at (driven_with_intermission f) o
   sender-drives e = driven-as (Some f) e ∙ ap (λ r. role_drives f r o) (role-own f o)
 
-  pub sender-drives-line : waits 0 ≡ Some f → o ≢ slot_place f → driven_at m waits (line f) o ≡ level_at (line f) o
+  pub sender-drives-line : waits 0 ≡ Some f → o ≢ slot_place f → driven_at m waits (with_intermission f) o ≡ level_at (with_intermission f) o
   sender-drives-line e other = sender-drives e ∙ own-line f o (omega (arith, heard.within)) other
 
-  pub sender-drives-slot : waits 0 ≡ Some f → o ≡ slot_place f → driven_at m waits (line f) o ≡ Recessive
+  pub sender-drives-slot : waits 0 ≡ Some f → o ≡ slot_place f → driven_at m waits (with_intermission f) o ≡ Recessive
   sender-drives-slot e here = sender-drives e ∙ own-slot f o here
 
-  pub receiver-drives-nothing : waits 0 ≡ None → o ≢ slot_place f → driven_at m waits (line f) o ≡ Recessive
+  pub receiver-drives-nothing : waits 0 ≡ None → o ≢ slot_place f → driven_at m waits (with_intermission f) o ≡ Recessive
   receiver-drives-nothing e other = driven-as None e ∙ receiver-elsewhere f o other
 
-  pub receiver-drives-slot : waits 0 ≡ None → o ≡ slot_place f → driven_at m waits (line f) o ≡ Dominant
+  pub receiver-drives-slot : waits 0 ≡ None → o ≡ slot_place f → driven_at m waits (with_intermission f) o ≡ Dominant
   receiver-drives-slot e here = driven-as None e ∙ receiver-slot f o here
 
-  pub driven-over : (driven_at m waits (line f) o ≡ Recessive) ⊎ (driven_at m waits (line f) o ≡ level_at (line f) o)
+  pub driven-over : (driven_at m waits (with_intermission f) o ≡ Recessive) ⊎ (driven_at m waits (with_intermission f) o ≡ level_at (with_intermission f) o)
   driven-over =
-      subst (λ y. (y ≡ Recessive) ⊎ (y ≡ level_at (line f) o)) (sym (driven_at-frame f m waits start o heard))
+      subst (λ y. (y ≡ Recessive) ⊎ (y ≡ level_at (with_intermission f) o)) (sym (driven_at-frame f m waits start o heard))
       (frame-over f (waits 0) start.frame start.kept start.behind o (omega (arith, heard.within)))

@@ -25,7 +25,7 @@ use Rattle.can_mac.specs.declared.phase.Phase.TheVariants.{Idle, StuffedPart, Cr
 use Rattle.can_mac.specs.State.{MacPhase, MacState}
 use Rattle.can_mac.specs.Moves.{MacMove, part_phase, reading_of, agrees, hears, in_arbitration, stuff_error_move, stuff_bit_move, sent_bit_move, bit_move, stuffed_part_move, ends_part}
 use Rattle.can_mac.specs.Machine.{mac_step, part_drives, on_step}
-use Rattle.can_mac.specs.Frames.{line, behind_part, own_reading, end_phases, phase_at}
+use Rattle.can_mac.specs.Frames.{with_intermission, behind_part, own_reading, end_phases, phase_at}
 use Rattle.can_mac.proofs.PartEnds.{ends_part-ended, ends_part-partial, agrees-Decides}
 use Rattle.can_mac.proofs.FrameEnds.{end_levels}
 
@@ -84,19 +84,19 @@ module _ (f : Parts) where
   abbrev n : ℕ
   n = length (stuffed_part f)
 
-  pub line-parts : line f ≡ stuffed_part f ++ end_levels
+  pub line-parts : with_intermission f ≡ stuffed_part f ++ end_levels
   line-parts = append_assoc (stuffed_part f) (tail Dominant Recessive) (Recessive ∷ Recessive ∷ Recessive ∷ [])
 
   pub length-wire : length (wire f) ≡ n + 10
   length-wire = length-append (stuffed_part f) (tail Dominant Recessive)
 
-  pub length-line : length (line f) ≡ n + 13
-  length-line = ap length line-parts ∙ length-append (stuffed_part f) end_levels
+  pub length-with_intermission : length (with_intermission f) ≡ n + 13
+  length-with_intermission = ap length line-parts ∙ length-append (stuffed_part f) end_levels
 
-  pub line-early : (o : ℕ) → o < n → level_at (line f) o ≡ level_at (stuffed_part f) o
+  pub line-early : (o : ℕ) → o < n → level_at (with_intermission f) o ≡ level_at (stuffed_part f) o
   line-early o more = ap (λ l. level_at l o) line-parts ∙ level_at-append (stuffed_part f) end_levels o more
 
-  pub line-late : (o : ℕ) → n ≤ o → level_at (line f) o ≡ level_at end_levels (behind_part f o)
+  pub line-late : (o : ℕ) → n ≤ o → level_at (with_intermission f) o ≡ level_at end_levels (behind_part f o)
   line-late o past = ap (λ l. level_at l o) line-parts ∙ level_at-behind (stuffed_part f) end_levels o past
 
   pub phase-late : (o : ℕ) → n ≤ o → phase_at f o ≡ slice_index_or (end_phases (own_reading f)) (behind_part f o) Idle

@@ -17,10 +17,10 @@ use Rattle.can_code.proofs.WireFronts.{front_at, front_at-heard, front_at-same, 
 use Rattle.can_code.proofs.WireOrder.{FirstDifference, first_difference}
 use Rattle.can_mac.specs.declared.phase.Role.{Role}
 use Rattle.can_mac.specs.declared.phase.Role.TheVariants.{Receiver, Sender}
-use Rattle.can_mac.specs.State.{IsWaiting}
+use Rattle.can_mac.specs.State.{IsFrameOrNone}
 use Rattle.can_mac.specs.Machine.{part_drives}
 use Rattle.can_mac.specs.Moves.{in_arbitration}
-use Rattle.can_mac.specs.Frames.{line, role_at, GoesBehind, PartsAt}
+use Rattle.can_mac.specs.Frames.{with_intermission, role_at, GoesBehind, PartsAt}
 use Rattle.can_mac.proofs.PartEnds.{same-Decides}
 use Rattle.can_mac.proofs.FrameEnds.{end_levels}
 use Rattle.can_mac.proofs.FrameParts.{Takes, line-parts, line-early}
@@ -35,13 +35,13 @@ pub record Loses (f g : Parts) (o : ℕ) : Type 0 where
   pub is : role_at f (Some g) (o + 1) ≡ Receiver
 
 module _ (f g : Parts) (o : ℕ) where
-  role-alike : take o (line g) ≡ take o (line f) → role_at f (Some g) o ≡ Sender g
-  role-alike alike = cond-true (pointwise same (take o (line g)) (take o (line f))) (Sender g) Receiver ((pointwise_decides same-Decides (take o (line g)) (take o (line f))).1 alike)
+  role-alike : take o (with_intermission g) ≡ take o (with_intermission f) → role_at f (Some g) o ≡ Sender g
+  role-alike alike = cond-true (pointwise same (take o (with_intermission g)) (take o (with_intermission f))) (Sender g) Receiver ((pointwise_decides same-Decides (take o (with_intermission g)) (take o (with_intermission f))).1 alike)
 
-  role-apart : take o (line g) ≢ take o (line f) → role_at f (Some g) o ≡ Receiver
+  role-apart : take o (with_intermission g) ≢ take o (with_intermission f) → role_at f (Some g) o ≡ Receiver
   role-apart apart =
-      cond-false (pointwise same (take o (line g)) (take o (line f))) (Sender g) Receiver
-      (false_from_ne_true _ (λ e. apart ((pointwise_decides same-Decides (take o (line g)) (take o (line f))).0 e)))
+      cond-false (pointwise same (take o (with_intermission g)) (take o (with_intermission f))) (Sender g) Receiver
+      (false_from_ne_true _ (λ e. apart ((pointwise_decides same-Decides (take o (with_intermission g)) (take o (with_intermission f))).0 e)))
 
 -- the sender of f
 pub role-own : (f : Parts) (o : ℕ) → role_at f (Some f) o ≡ Sender f
@@ -52,23 +52,23 @@ module _ (f g : Parts) (place : ℕ) (parts : PartsAt f g place) where
   -- up to there g is sent
   pub role-together : (o : ℕ) → o ≤ place → role_at f (Some g) o ≡ Sender g
   role-together o within =
-      role-alike f g o (sym (take-take o place (line g) within) ∙ ap (take o) parts.alike ∙ take-take o place (line f) within)
+      role-alike f g o (sym (take-take o place (with_intermission g) within) ∙ ap (take o) parts.alike ∙ take-take o place (with_intermission f) within)
 
-  pub level-together : (o : ℕ) → o < place → level_at (line g) o ≡ level_at (line f) o
+  pub level-together : (o : ℕ) → o < place → level_at (with_intermission g) o ≡ level_at (with_intermission f) o
   level-together o within =
-      sym (get_or-take place (line g) o Dominant within) ∙ ap (λ l. level_at l o) parts.alike ∙ get_or-take place (line f) o Dominant within
+      sym (get_or-take place (with_intermission g) o Dominant within) ∙ ap (λ l. level_at l o) parts.alike ∙ get_or-take place (with_intermission f) o Dominant within
 
   -- behind it g is not sent
   pub role-parted : (o : ℕ) → place < o → role_at f (Some g) o ≡ Receiver
   role-parted o past = role-apart f g o (λ one.
       let low = parts.low in
       let high = parts.high in
-      let both = sym (get_or-take o (line g) place Dominant past) ∙ ap (λ l. level_at l place) one ∙ get_or-take o (line f) place Dominant past in
+      let both = sym (get_or-take o (with_intermission g) place Dominant past) ∙ ap (λ l. level_at l place) one ∙ get_or-take o (with_intermission f) place Dominant past in
       cc)
 
 -- f and g part behind their first d levels
 module _ (f g : Parts) (f_is : IsFrame f) (g_is : IsFrame g) (d : ℕ) (parts : FirstDifference f g d) where
-  beginning : (h : Parts) → d < length (stuffed_part h) → take d (line h) ≡ take d (stuffed_part h)
+  beginning : (h : Parts) → d < length (stuffed_part h) → take d (with_intermission h) ≡ take d (stuffed_part h)
   beginning h more = ap (take d) (line-parts h) ∙ take-append-le d (stuffed_part h) end_levels (omega arith)
 
   pub parts_at : PartsAt f g d
@@ -137,7 +137,7 @@ stays-as f waiting o role was is takes = stays (was ∙ sym is) (subst (λ r. Ta
 own-standing : (f : Parts) → IsFrame f → (o : ℕ) → 0 < o → o < length (stuffed_part f) → Standing f (Some f) o
 own-standing f is o some more = stays-as f (Some f) o (Sender f) (role-own f o) (role-own f (o + 1)) (sym (sent_next f is o some more))
 
-pub standing : (f : Parts) (waiting : Option Parts) → IsFrame f → IsWaiting waiting → GoesBehind f waiting → (o : ℕ) → 0 < o → o < length (stuffed_part f) → Standing f waiting o
+pub standing : (f : Parts) (waiting : Option Parts) → IsFrame f → IsFrameOrNone waiting → GoesBehind f waiting → (o : ℕ) → 0 < o → o < length (stuffed_part f) → Standing f waiting o
 standing f None f_is is behind o some more = stays refl tt
 standing f (Some g) f_is is (inl own) o some more = subst (λ h. Standing f (Some h) o) (sym own) (own-standing f f_is o some more)
 standing f (Some g) f_is g_is (inr before) o some more =
@@ -161,7 +161,7 @@ pub data Ending (f : Parts) (waiting : Option Parts) : Type 0 where
   receives : ((o : ℕ) → length (stuffed_part f) ≤ o → role_at f waiting o ≡ Receiver) → Ending f waiting
   sends : ((o : ℕ) → role_at f waiting o ≡ Sender f) → Ending f waiting
 
-pub ending : (f : Parts) (waiting : Option Parts) → IsFrame f → IsWaiting waiting → GoesBehind f waiting → Ending f waiting
+pub ending : (f : Parts) (waiting : Option Parts) → IsFrame f → IsFrameOrNone waiting → GoesBehind f waiting → Ending f waiting
 ending f None f_is is behind = receives (λ o past. refl)
 ending f (Some g) f_is is (inl own) = sends (λ o. subst (λ h. role_at f (Some h) o ≡ Sender f) (sym own) (role-own f o))
 ending f (Some g) f_is g_is (inr before) =
@@ -177,7 +177,7 @@ pub data Driving (f : Parts) (waiting : Option Parts) (o : ℕ) : Type 0 where
 own-driving : (f : Parts) → IsFrame f → (o : ℕ) → 0 < o → o < length (stuffed_part f) → Driving f (Some f) o
 own-driving f is o some more = drives f (role-own f o) (sym (sent_next f is o some more)) more
 
-pub driving : (f : Parts) (waiting : Option Parts) → IsFrame f → IsWaiting waiting → GoesBehind f waiting → (o : ℕ) → 0 < o → o < length (stuffed_part f) → Driving f waiting o
+pub driving : (f : Parts) (waiting : Option Parts) → IsFrame f → IsFrameOrNone waiting → GoesBehind f waiting → (o : ℕ) → 0 < o → o < length (stuffed_part f) → Driving f waiting o
 driving f None f_is is behind o some more = listens refl
 driving f (Some g) f_is is (inl own) o some more = subst (λ h. Driving f (Some h) o) (sym own) (own-driving f f_is o some more)
 driving f (Some g) f_is g_is (inr before) o some more =
@@ -193,7 +193,7 @@ driving f (Some g) f_is g_is (inr before) o some more =
           drives g (contender-early f g f_is g_is d parts o within) (ap (part_drives (Sender g)) one ∙ sym (sent_next g g_is o some more_here)) more_here
     ]
 
-line-first : (f : Parts) → take 1 (line f) ≡ Dominant ∷ []
+line-first : (f : Parts) → take 1 (with_intermission f) ≡ Dominant ∷ []
 unfolding stuffed_part unstuffed stuffed head
 line-first f = refl
 
@@ -201,6 +201,6 @@ line-first f = refl
 pub role-start : (f g : Parts) → role_at f (Some g) 1 ≡ Sender g
 role-start f g = role-alike f g 1 (line-first g ∙ sym (line-first f))
 
-pub line-start : (f : Parts) → level_at (line f) 0 ≡ Dominant
+pub line-start : (f : Parts) → level_at (with_intermission f) 0 ≡ Dominant
 unfolding stuffed_part unstuffed stuffed head
 line-start f = refl

@@ -13,7 +13,7 @@ use Rattle.can_mac.specs.declared.phase.Role.TheVariants.{Receiver, Sender}
 use Rattle.can_mac.specs.declared.phase.Phase.TheVariants.{Idle, StuffedPart}
 use Rattle.can_mac.specs.State.{MacState}
 use Rattle.can_mac.specs.Machine.{mac_step}
-use Rattle.can_mac.specs.Frames.{state_after, told_at, line, phase_at, role_at, frame_state, loss, frame_event, StartsWith, AreHeard}
+use Rattle.can_mac.specs.Frames.{state_after, told_at, with_intermission, phase_at, role_at, frame_state, loss, frame_event, StartsWith, AreHeard}
 use Rattle.can_mac.proofs.FrameParts.{part_state, length-wire, phase-early}
 use Rattle.can_mac.proofs.FrameRoles.{role-start, line-start}
 use Rattle.can_mac.proofs.FrameSteps.{outcome, some_part, state-early, event-early, step-next}
@@ -49,9 +49,9 @@ module _ (f : Parts) (m : MacState) (waits : ℕ → Option Parts) (start : Star
   more = some_part f start.frame
 
   -- the start of frame
-  first : mac_step m (waits 0) (level_at (line f) 0) ≡ outcome (state 1) None
+  first : mac_step m (waits 0) (level_at (with_intermission f) 0) ≡ outcome (state 1) None
   first =
-      ap (λ p. mac_step (part_state p m.role m.overloads m.counters) (waits 0) (level_at (line f) 0)) start.idle
+      ap (λ p. mac_step (part_state p m.role m.overloads m.counters) (waits 0) (level_at (with_intermission f) 0)) start.idle
       ∙ ap (mac_step (at_rest m.role m.overloads m.counters) (waits 0)) (line-start f)
       ∙ begins-step m.role m.overloads m.counters (waits 0)
       ∙ ap (λ p. outcome (part_state p (first_role (waits 0)) (record { pending = m.overloads.pending; used = 0 }) m.counters) None)
@@ -60,28 +60,28 @@ module _ (f : Parts) (m : MacState) (waits : ℕ → Option Parts) (start : Star
       ∙ ap (λ s. outcome s None) (sym (state-early f start.frame (waits 0) m.overloads.pending m.counters 1 (omega (arith, more))))
 
   -- a level behind it
-  next : (o : ℕ) → 0 < o → o < length (line f) → (length (wire f) ≤ o + 1 → m.overloads.pending ≡ 0)
-      → mac_step (state o) (waits o) (level_at (line f) o) ≡ outcome (state (o + 1)) (frame_event f (waits 0) o)
+  next : (o : ℕ) → 0 < o → o < length (with_intermission f) → (length (wire f) ≤ o + 1 → m.overloads.pending ≡ 0)
+      → mac_step (state o) (waits o) (level_at (with_intermission f) o) ≡ outcome (state (o + 1)) (frame_event f (waits 0) o)
   next o some within no_wish = step-next f start.frame (waits 0) m.overloads.pending m.counters start.kept start.behind start.active (waits o) o some within no_wish
 
-  run : (o : ℕ) → suc o ≤ length (line f) → (length (wire f) ≤ suc o → m.overloads.pending ≡ 0) → state_after m waits (line f) (suc o) ≡ state (suc o)
+  run : (o : ℕ) → suc o ≤ length (with_intermission f) → (length (wire f) ≤ suc o → m.overloads.pending ≡ 0) → state_after m waits (with_intermission f) (suc o) ≡ state (suc o)
   run zero within no_wish = ap (λ r. r.0) first
   run (suc o) within no_wish =
       let size = length-wire f in
       let one_more : suc o + 1 ≡ suc (suc o) = omega arith in
-      ap (λ s. (mac_step s (waits (suc o)) (level_at (line f) (suc o))).0) (run o (omega (arith, within)) (λ past. no_wish (omega (arith, past))))
+      ap (λ s. (mac_step s (waits (suc o)) (level_at (with_intermission f) (suc o))).0) (run o (omega (arith, within)) (λ past. no_wish (omega (arith, past))))
       ∙ ap (λ r. r.0) (next (suc o) (omega arith) (omega (arith, within)) (λ past. no_wish (omega (arith, past))))
       ∙ ap state one_more
 
   -- after its first o levels
-  pub state_after-frame : (o : ℕ) → AreHeard f m o → state_after m waits (line f) o ≡ state o
+  pub state_after-frame : (o : ℕ) → AreHeard f m o → state_after m waits (with_intermission f) o ≡ state o
   state_after-frame zero heard = absurd (omega (arith, heard.some))
   state_after-frame (suc o) heard = run o heard.within heard.no_wish
 
   -- what each level tells
-  pub told_at-frame : (o : ℕ) → AreHeard f m (o + 1) → told_at m waits (line f) o ≡ frame_event f (waits 0) o
+  pub told_at-frame : (o : ℕ) → AreHeard f m (o + 1) → told_at m waits (with_intermission f) o ≡ frame_event f (waits 0) o
   told_at-frame zero heard = ap (λ r. r.1) first ∙ sym (event-first f start.frame (waits 0))
   told_at-frame (suc o) heard =
-      let within : suc o < length (line f) = omega (arith, heard.within) in
-      ap (λ s. (mac_step s (waits (suc o)) (level_at (line f) (suc o))).1) (run o (omega (arith, within)) (λ past. heard.no_wish (omega (arith, past))))
+      let within : suc o < length (with_intermission f) = omega (arith, heard.within) in
+      ap (λ s. (mac_step s (waits (suc o)) (level_at (with_intermission f) (suc o))).1) (run o (omega (arith, within)) (λ past. heard.no_wish (omega (arith, past))))
       ∙ ap (λ r. r.1) (next (suc o) (omega arith) within heard.no_wish)

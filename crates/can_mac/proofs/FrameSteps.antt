@@ -18,12 +18,12 @@ use Rattle.can_mac.specs.declared.phase.Overloads.{Overloads}
 use Rattle.can_mac.specs.declared.phase.Role.{Role}
 use Rattle.can_mac.specs.declared.phase.Role.TheVariants.{Receiver, Sender}
 use Rattle.can_mac.specs.declared.phase.Phase.TheVariants.{StuffedPart}
-use Rattle.can_mac.specs.State.{MacState, IsWaiting}
+use Rattle.can_mac.specs.State.{MacState, IsFrameOrNone}
 use Rattle.can_mac.specs.Moves.{part_phase}
 use Rattle.can_mac.specs.Machine.{mac_step}
-use Rattle.can_mac.specs.Frames.{line, behind_part, phase_at, role_at, role_after, counters_after, frame_state, loss, end_event, frame_event, IsActive, GoesBehind}
+use Rattle.can_mac.specs.Frames.{with_intermission, behind_part, phase_at, role_at, role_after, counters_after, frame_state, loss, end_event, frame_event, IsActive, GoesBehind}
 use Rattle.can_mac.proofs.FrameEnds.{end_state, end_levels, receiver-ends, sender-ends}
-use Rattle.can_mac.proofs.FrameParts.{part_state, step-hears, step-loses, length-wire, length-line, line-early, line-late, phase-early, phase-late, part_phase-at}
+use Rattle.can_mac.proofs.FrameParts.{part_state, step-hears, step-loses, length-wire, length-with_intermission, line-early, line-late, phase-early, phase-late, part_phase-at}
 use Rattle.can_mac.proofs.FrameRoles.{stays, loses, standing, receives, sends, ending}
 
 counters-start : (role : Role) (c : ConfineParts) → counters_after role c 0 ≡ c
@@ -79,7 +79,7 @@ module _ (f : Parts) (is : IsFrame f) (waiting : Option Parts) (pending : ℕ) (
     abbrev x : Level
     x = level_at (stuffed_part f) o
 
-    was : mac_step (state o) now (level_at (line f) o) ≡ mac_step (part_state (StuffedPart front) (role_at f waiting o) wishes c) now x
+    was : mac_step (state o) now (level_at (with_intermission f) o) ≡ mac_step (part_state (StuffedPart front) (role_at f waiting o) wishes c) now x
     was =
         ap (λ y. mac_step (state o) now y) (line-early f o more)
         ∙ ap (λ m. mac_step m now x) (state-early o (omega (arith, more)) ∙ ap (λ p. part_state p (role_at f waiting o) wishes c) (phase-early f is o some more))
@@ -95,7 +95,7 @@ module _ (f : Parts) (is : IsFrame f) (waiting : Option Parts) (pending : ℕ) (
         ∙ ap (λ m. outcome m told) (sym (state-early (o + 1) (omega (arith, more))))
         ∙ ap (outcome (state (o + 1))) (same_event ∙ sym (event-early f waiting o more))
 
-    pub step-early : IsWaiting waiting → GoesBehind f waiting → mac_step (state o) now (level_at (line f) o) ≡ outcome (state (o + 1)) (frame_event f waiting o)
+    pub step-early : IsFrameOrNone waiting → GoesBehind f waiting → mac_step (state o) now (level_at (with_intermission f) o) ≡ outcome (state (o + 1)) (frame_event f waiting o)
     step-early kept behind = was ∙ elim (standing f waiting is kept behind o some more) [
       | stays same takes ↦
           step-hears front wishes c now (role_at f waiting o) x (front_at-no_error f is o some more) takes
@@ -111,19 +111,19 @@ module _ (f : Parts) (is : IsFrame f) (waiting : Option Parts) (pending : ℕ) (
     ]
 
   -- a level behind it
-  module _ (o : ℕ) (past : n ≤ o) (more : o < length (line f)) (now : Option Parts) where
+  module _ (o : ℕ) (past : n ≤ o) (more : o < length (with_intermission f)) (now : Option Parts) where
     abbrev k : ℕ
     k = behind_part f o
 
     few : k < 13
-    few = omega (arith, length-line f)
+    few = omega (arith, length-with_intermission f)
 
     next-place : behind_part f (o + 1) ≡ k + 1
     next-place = omega arith
 
     ends : (role : Role) → role_at f waiting o ≡ role → role_at f waiting (o + 1) ≡ role
         → mac_step (end_state f role pending c k) now (level_at end_levels k) ≡ outcome (end_state f role pending c (k + 1)) (end_event f role k)
-        → mac_step (state o) now (level_at (line f) o) ≡ outcome (state (o + 1)) (frame_event f waiting o)
+        → mac_step (state o) now (level_at (with_intermission f) o) ≡ outcome (state (o + 1)) (frame_event f waiting o)
     ends role old new step =
         ap (mac_step (state o) now) (line-late f o past)
         ∙ ap (λ m. mac_step m now (level_at end_levels k)) (state-late o past ∙ ap (λ r. end_state f r pending c k) old)
@@ -131,8 +131,8 @@ module _ (f : Parts) (is : IsFrame f) (waiting : Option Parts) (pending : ℕ) (
         ∙ ap (λ m. outcome m (end_event f role k)) (ap (end_state f role pending c) (sym next-place) ∙ ap (λ r. end_state f r pending c (behind_part f (o + 1))) (sym new) ∙ sym (state-late (o + 1) (omega arith)))
         ∙ ap (outcome (state (o + 1))) (ap (λ r. end_event f r k) (sym old) ∙ sym (event-late f waiting o past))
 
-    pub step-late : IsWaiting waiting → GoesBehind f waiting → IsActive c → (length (wire f) ≤ o + 1 → pending ≡ 0)
-        → mac_step (state o) now (level_at (line f) o) ≡ outcome (state (o + 1)) (frame_event f waiting o)
+    pub step-late : IsFrameOrNone waiting → GoesBehind f waiting → IsActive c → (length (wire f) ≤ o + 1 → pending ≡ 0)
+        → mac_step (state o) now (level_at (with_intermission f) o) ≡ outcome (state (o + 1)) (frame_event f waiting o)
     step-late kept behind active no_wish = elim (ending f waiting is kept behind) [
       | receives role ↦
           ends Receiver (role o past) (role (o + 1) (omega arith))
@@ -141,8 +141,8 @@ module _ (f : Parts) (is : IsFrame f) (waiting : Option Parts) (pending : ℕ) (
     ]
 
   -- any level of f but its start of frame
-  pub step-next : IsWaiting waiting → GoesBehind f waiting → IsActive c → (now : Option Parts) (o : ℕ) → 0 < o → o < length (line f) → (length (wire f) ≤ o + 1 → pending ≡ 0)
-      → mac_step (state o) now (level_at (line f) o) ≡ outcome (state (o + 1)) (frame_event f waiting o)
+  pub step-next : IsFrameOrNone waiting → GoesBehind f waiting → IsActive c → (now : Option Parts) (o : ℕ) → 0 < o → o < length (with_intermission f) → (length (wire f) ≤ o + 1 → pending ≡ 0)
+      → mac_step (state o) now (level_at (with_intermission f) o) ≡ outcome (state (o + 1)) (frame_event f waiting o)
   step-next kept behind active now o some within no_wish = elim (cases_lt o n) [
     | inl more ↦ step-early o some more now kept behind
     | inr past ↦ step-late o past within now kept behind active no_wish

@@ -17,11 +17,12 @@ use Rattle.can_mac.specs.declared.phase.Reading.{Reading}
 use Rattle.can_mac.specs.declared.phase.Overloads.{Overloads}
 use Rattle.can_mac.specs.declared.phase.Phase.TheVariants.{Joining, Idle, StuffedPart, CrcDelimiter, AckSlot, AckDelimiter, EndOfFrame, ErrorFlag, PassiveFlag, OverloadFlag, AfterFlag, Delimiter, Intermission, Suspend, BusOff}
 use Rattle.can_mac.specs.declared.moves.Stance.{Stance}
-use Rattle.can_mac.specs.State.{MacPhase, IsWaiting}
-use Rattle.can_mac.specs.Moves.{MacMove, flag, errs_by, begins, in_arbitration, is_uncounted, hears, stuff_error_move, stuff_bit_move, sent_bit_move, bit_move, refuses, enters_intermission, ack_slot_move, end_of_frame_move, flag_run, passive_phase, is_held_back, next_role, move}
+use Rattle.can_mac.specs.State.{MacPhase, IsFrameOrNone}
+use Rattle.can_mac.specs.Moves.{MacMove, flag, errs_by, begins_frame, in_arbitration, is_uncounted, hears, stuff_error_move, stuff_bit_move, sent_bit_move, bit_move, refuses, enters_intermission, ack_slot_move, end_of_frame_move, passive_phase, is_held_back, next_role, move}
 use Rattle.can_mac.proofs.Hearing.{IsOwnFront, HearsPart, HeardPart, HeardSlot, HeardEnd, Accepts, to_slot, to_end, Knows, KnowsAfter}
 use Rattle.can_mac.proofs.PartHearing.{OwnFront-first, OwnFront-stuff_bit, OwnFront-bit, HearsPart-first, HearsPart-more}
 use Rattle.can_mac.proofs.EndHearing.{HeardPart-more, HeardSlot-more, EndsSpelled-received, EndsIn-sent}
+use Rattle.can_code.specs.Stuffing.{run_after}
 
 -- either of two moves
 either : {v w : MacMove} {levels : List Level} (b : Bool) → KnowsAfter v levels → KnowsAfter w levels → KnowsAfter (cond b v w) levels
@@ -47,11 +48,11 @@ enters s (Sender f) = record { knows = tt; told = tt }
 enters s Receiver = either (nat_lt 0 s.overloads.pending && nat_lt s.overloads.used 2) (record { knows = tt; told = tt }) (record { knows = tt; told = tt })
 
 -- a frame begins
-begin : (levels : List Level) (s : Stance) (role : Role) → IsOwnFront role (Dominant ∷ []) first_front → KnowsAfter (begins s role) (levels ++ Dominant ∷ [])
+begin : (levels : List Level) (s : Stance) (role : Role) → IsOwnFront role (Dominant ∷ []) first_front → KnowsAfter (begins_frame s role) (levels ++ Dominant ∷ [])
 begin levels s role own = record { knows = HearsPart-first role levels own; told = tt }
 
 -- to its sender, where the frame that waits is one
-next_role-own : (held_back : Bool) (waiting : Option Parts) → IsWaiting waiting → IsOwnFront (next_role held_back waiting) (Dominant ∷ []) first_front
+next_role-own : (held_back : Bool) (waiting : Option Parts) → IsFrameOrNone waiting → IsOwnFront (next_role held_back waiting) (Dominant ∷ []) first_front
 next_role-own held_back None is = tt
 next_role-own true (Some f) is = tt
 next_role-own false (Some f) is = OwnFront-first f is
@@ -161,7 +162,7 @@ module _ (passive : Bool) (overloads : Overloads) (levels : List Level) where
         (λ e. enters (acting Receiver) Receiver))
 
   -- any phase
-  pub move-knows : (role : Role) (phase : MacPhase) (waiting : Option Parts) (x : Level) → IsWaiting waiting → Knows phase role levels → KnowsAfter (move (acting role) phase waiting x) (levels ++ x ∷ [])
+  pub move-knows : (role : Role) (phase : MacPhase) (waiting : Option Parts) (x : Level) → IsFrameOrNone waiting → Knows phase role levels → KnowsAfter (move (acting role) phase waiting x) (levels ++ x ∷ [])
   move-knows role (Joining row) waiting Dominant is h = record { knows = tt; told = tt }
   move-knows role (Joining row) waiting Recessive is h = either (nat_lt row 10) (record { knows = tt; told = tt }) (record { knows = tt; told = tt })
   move-knows role Idle None Dominant is h = begin levels (acting role) Receiver tt
@@ -181,7 +182,7 @@ module _ (passive : Bool) (overloads : Overloads) (levels : List Level) where
   move-knows role (ErrorFlag place) waiting Dominant is h = either (nat_lt place 5) (record { knows = tt; told = tt }) (record { knows = tt; told = tt })
   move-knows role (ErrorFlag place) waiting Recessive is h = error _ _ _ _
   move-knows role (PassiveFlag last run un) waiting x is h =
-      record { knows = passive_flag-knows x (flag_run last run x) (un && is_recessive x) role (levels ++ x ∷ []); told = tt }
+      record { knows = passive_flag-knows x (run_after last run x) (un && is_recessive x) role (levels ++ x ∷ []); told = tt }
   move-knows role (OverloadFlag place) waiting Dominant is h = either (nat_lt place 5) (record { knows = tt; told = tt }) (record { knows = tt; told = tt })
   move-knows role (OverloadFlag place) waiting Recessive is h = error _ _ _ _
   move-knows role (AfterFlag first dominant) waiting Dominant is h = record { knows = tt; told = tt }

@@ -1,5 +1,5 @@
 -- What a controller knows of the levels, over bit times in a row.
-use Rattle.std.proofs.Common.{◌≡◌, ℕ, zero, suc, true, Option, Some, None, List, [], ◌∷◌, ◌++◌, take, sym, subst, append-nil, append_assoc, inl, inr}
+use Rattle.std.proofs.Common.{◌≡◌, ℕ, zero, suc, true, Option, Some, None, List, [], ◌∷◌, ◌++◌, take, sym, subst, append_assoc, inl, inr}
 use Rattle.std.specs.List.{slice_get}
 use Rattle.std.proofs.lemmas.Bool.{cases_Bool, cond_both}
 use Rattle.can_frame.specs.declared.level.Level.{Level}
@@ -8,9 +8,9 @@ use Rattle.can_fault.specs.Recovery.{ends_bus_off, recovered}
 use Rattle.can_mac.specs.declared.event.Event.{Event}
 use Rattle.can_mac.specs.declared.event.Event.TheVariants.{Recovered}
 use Rattle.can_mac.specs.declared.phase.Phase.TheVariants.{Idle}
-use Rattle.can_mac.specs.State.{MacState, is_off_phase, IsWaiting}
+use Rattle.can_mac.specs.State.{MacState, is_off_phase, IsFrameOrNone}
 use Rattle.can_mac.specs.Machine.{stance, off_step, mac_step}
-use Rattle.can_mac.proofs.Turns.{Turn, levels_of, after_turn, turn_event, after_turns, turn_events}
+use Rattle.can_mac.proofs.Turns.{Turn, levels_of, after_turn, turn_event, turn_events}
 use Rattle.can_mac.proofs.TurnEnds.{on_bus, off_bus, off_is}
 use Rattle.can_mac.proofs.Hearing.{Knows, IsTold}
 use Rattle.can_mac.proofs.HearingMoves.{move-knows}
@@ -18,7 +18,7 @@ use Rattle.can_mac.proofs.HearingMoves.{move-knows}
 -- in each bit time the frame that waits is one
 abbrev pub AreTurns : List Turn → Type 0
 AreTurns [] = Unit {0}
-AreTurns (t ∷ turns) = IsWaiting t.waiting × AreTurns turns
+AreTurns (t ∷ turns) = IsFrameOrNone t.waiting × AreTurns turns
 
 -- what a controller knows of the levels
 abbrev pub MacKnows : MacState → List Level → Type 0
@@ -41,7 +41,7 @@ module _ (m : MacState) (waiting : Option Parts) (x : Level) (levels : List Leve
       (λ e. (subst (λ phase. Knows phase m.role (levels ++ x ∷ [])) (sym (off_is m.phase off)) tt, tt))
 
   -- anywhere
-  pub step-knows : IsWaiting waiting → MacKnows m levels → KnowsThen (mac_step m waiting x).0 (mac_step m waiting x).1
+  pub step-knows : IsFrameOrNone waiting → MacKnows m levels → KnowsThen (mac_step m waiting x).0 (mac_step m waiting x).1
   step-knows is h = elim (cases_Bool (is_off_phase m.phase)) [
     | inl off ↦ off_bus KnowsThen m waiting x off (off-knows off)
     | inr on ↦
@@ -49,14 +49,6 @@ module _ (m : MacState) (waiting : Option Parts) (x : Level) (levels : List Leve
         let after = move-knows s.passive s.overloads levels m.role m.phase waiting x is h in
         on_bus KnowsThen m waiting x on (λ d same. (after.knows, after.told)) (λ d same is_off. (tt, tt))
   ]
-
--- any number of them
-pub turns-know : (turns : List Turn) (m : MacState) (levels : List Level) → AreTurns turns → MacKnows m levels → MacKnows (after_turns m turns) (levels ++ levels_of turns)
-turns-know [] m levels are h = subst (MacKnows m) (sym (append-nil levels)) h
-turns-know (t ∷ turns) m levels are h =
-    let next = step-knows m t.waiting t.seen levels are.0 h in
-    subst (MacKnows (after_turns (after_turn m t) turns)) (append_assoc levels (t.seen ∷ []) (levels_of turns))
-    (turns-know turns (after_turn m t) (levels ++ t.seen ∷ []) are.1 next.0)
 
 -- each event tells the truth of the levels up to it
 pub turns-told : (turns : List Turn) (m : MacState) (levels : List Level) → AreTurns turns → MacKnows m levels → (t : ℕ) (event : Option Event)

@@ -12,9 +12,9 @@ use Rattle.can_mac.specs.declared.event.Event.{Event}
 use Rattle.can_mac.specs.declared.event.Event.TheVariants.{WentOff, Recovered}
 use Rattle.can_mac.specs.declared.phase.Role.TheVariants.{Receiver}
 use Rattle.can_mac.specs.declared.phase.Phase.TheVariants.{Joining, Idle, BusOff}
-use Rattle.can_mac.specs.State.{MacPhase, MacState, IsMac, IsPhase, IsWaiting, idle, is_off_phase, joining, starting}
+use Rattle.can_mac.specs.State.{MacPhase, MacState, IsMac, IsPhase, IsFrameOrNone, idle, is_off_phase, joining, starting}
 use Rattle.can_mac.specs.Moves.{MacMove, move}
-use Rattle.can_mac.specs.Machine.{holding, landed, mac_step, moved, off_step, on_step, stance}
+use Rattle.can_mac.specs.Machine.{holding, step_counting, mac_step, state_after_move, off_step, on_step, stance}
 use Rattle.can_mac.proofs.ConfineKept.{IsConfine-fresh, IsConfine-counted, IsConfine-recovered}
 use Rattle.can_mac.proofs.KeptMoves.{IsKept, move_kept}
 
@@ -28,13 +28,13 @@ pub IsMac-joining : IsMac joining
 IsMac-joining = starting_kept (Joining 0) (omega arith) refl
 
 -- a move lands, whatever it counts
-landed_kept : (v : MacMove) (c : ConfineParts) (cause : Option Cause) → IsKept v → IsConfine c → is_bus_off c ≡ false → IsMac (landed v c cause).0
-landed_kept v c None k h on = record { phase = k.phase; role = k.role; pending = k.pending; used = k.used; counters = h; off = k.on ∙ sym on }
-landed_kept v c (Some cause) k h on =
+step_counting_kept : (v : MacMove) (c : ConfineParts) (cause : Option Cause) → IsKept v → IsConfine c → is_bus_off c ≡ false → IsMac (step_counting v c cause).0
+step_counting_kept v c None k h on = record { phase = k.phase; role = k.role; pending = k.pending; used = k.used; counters = h; off = k.on ∙ sym on }
+step_counting_kept v c (Some cause) k h on =
     let new = counted cause c in
     let gone : MacState × Option Event = (record { phase = BusOff; role = Receiver; overloads = v.overloads; counters = new }, Some WentOff) in
     let P : MacState × Option Event → Type 0 = λ n. IsMac n.0 in
-    cond_both (is_bus_off new) gone (moved v new, v.event) P
+    cond_both (is_bus_off new) gone (state_after_move v new, v.event) P
     (λ e. record { phase = tt; role = tt; pending = k.pending; used = k.used; counters = IsConfine-counted c h cause; off = sym e })
     (λ e. record { phase = k.phase; role = k.role; pending = k.pending; used = k.used; counters = IsConfine-counted c h cause; off = k.on ∙ sym e })
 
@@ -57,10 +57,10 @@ module _ (c : ConfineParts) (x : Level) (off : is_bus_off c ≡ true) where
           cond_both (ltb c.row 10) (record c { row = c.row + 1 }) (record c { occurrences = c.occurrences + 1; row = 0 }) (λ n. n.tec ≡ c.tec) (λ d. refl) (λ d. refl)
 
 module _ (m : MacState) (h : IsMac m) where
-  pub on_kept : (waiting : Option Parts) (x : Level) → is_off_phase m.phase ≡ false → IsWaiting waiting → IsMac (on_step m (move (stance m) m.phase waiting x)).0
+  pub on_kept : (waiting : Option Parts) (x : Level) → is_off_phase m.phase ≡ false → IsFrameOrNone waiting → IsMac (on_step m (move (stance m) m.phase waiting x)).0
   on_kept waiting x on w =
       let v = move (stance m) m.phase waiting x in
-      landed_kept v m.counters v.cause (move_kept (stance m) h.role h.pending h.used m.phase waiting x h.phase on w) h.counters (sym h.off ∙ on)
+      step_counting_kept v m.counters v.cause (move_kept (stance m) h.role h.pending h.used m.phase waiting x h.phase on w) h.counters (sym h.off ∙ on)
 
   pub off_kept : (x : Level) → is_off_phase m.phase ≡ true → IsMac (off_step m x).0
   off_kept x off =
@@ -77,7 +77,7 @@ module _ (m : MacState) (h : IsMac m) where
   holding_kept n few = record { phase = h.phase; role = h.role; pending = few; used = h.used; counters = h.counters; off = h.off }
 
   -- one bit time
-  pub step_kept : (waiting : Option Parts) (x : Level) → IsWaiting waiting → IsMac (mac_step m waiting x).0
+  pub step_kept : (waiting : Option Parts) (x : Level) → IsFrameOrNone waiting → IsMac (mac_step m waiting x).0
   unfolding mac_step
   step_kept waiting x w =
       let P : MacState × Option Event → Type 0 = λ n. IsMac n.0 in

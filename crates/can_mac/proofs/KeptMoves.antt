@@ -23,8 +23,8 @@ use Rattle.can_mac.specs.declared.phase.Reading.{Reading}
 use Rattle.can_mac.specs.declared.phase.Role.{Role}
 use Rattle.can_mac.specs.declared.phase.Role.TheVariants.{Receiver, Sender}
 use Rattle.can_mac.specs.declared.phase.Phase.TheVariants.{Joining, Idle, StuffedPart, CrcDelimiter, AckSlot, AckDelimiter, EndOfFrame, ErrorFlag, PassiveFlag, OverloadFlag, AfterFlag, Delimiter, Intermission, Suspend, BusOff}
-use Rattle.can_mac.specs.State.{MacPhase, IsOpen, IsPhase, IsRole, IsWaiting, is_off_phase}
-use Rattle.can_mac.specs.Moves.{MacMove, goes, tells, begins, overload, flag, errs_by, errs, errs_in_flag, error_cause, flag_bit_cause, form_kind, joining_move, idle_move, reading_of, ends_part, part_phase, hears, in_arbitration, is_uncounted, stuff_error_move, stuff_bit_move, sent_bit_move, bit_move, stuffed_part_move, crc_delimiter_move, ack_slot_move, refuses, ack_delimiter_move, enters_intermission, sender_end_move, receiver_end_move, end_of_frame_move, error_flag_move, overload_flag_move, flag_run, passive_flag_move, after_flag_move, delimiter_move, is_held_back, next_role, intermission_move, suspend_move, move}
+use Rattle.can_mac.specs.State.{MacPhase, IsOpen, IsPhase, IsRole, IsFrameOrNone, is_off_phase}
+use Rattle.can_mac.specs.Moves.{MacMove, goes, tells, begins_frame, overload, flag, errs_by, errs, errs_in_flag, error_cause, flag_bit_cause, form_kind, joining_move, idle_move, reading_of, ends_part, part_phase, hears, in_arbitration, is_uncounted, stuff_error_move, stuff_bit_move, sent_bit_move, bit_move, stuffed_part_move, crc_delimiter_move, ack_slot_move, refuses, ack_delimiter_move, enters_intermission, sender_end_move, receiver_end_move, end_of_frame_move, error_flag_move, overload_flag_move, passive_flag_move, after_flag_move, delimiter_move, is_held_back, next_role, intermission_move, suspend_move, move}
 
 -- what a move keeps
 pub record Keeps (p : MacPhase) (r : Role) (o : Overloads) : Type 0 where
@@ -87,7 +87,7 @@ module _ (s : Stance) (role : IsRole s.role) (pending : s.overloads.pending ≤ 
   goes_kept : (p : MacPhase) → IsPhase p → is_off_phase p ≡ false → Keeps p s.role s.overloads
   goes_kept p h on = record { phase = h; on = on; role = role; pending = pending; used = used }
 
-  begins_kept : (r : Role) → IsRole r → IsKept (begins s r)
+  begins_kept : (r : Role) → IsRole r → IsKept (begins_frame s r)
   begins_kept r h = record { phase = first_open; on = refl; role = h; pending = pending; used = omega arith }
 
   overload_kept : IsKept (overload s)
@@ -202,7 +202,7 @@ module _ (s : Stance) (role : IsRole s.role) (pending : s.overloads.pending ≤ 
 
   passive_flag_kept : (last : Level) (run : ℕ) (unacknowledged : Bool) (x : Level) → IsKept (passive_flag_move s last run unacknowledged x)
   passive_flag_kept last run unacknowledged x =
-      let longer = flag_run last run x in
+      let longer = run_after last run x in
       let still = unacknowledged && is_recessive x in
       let P : MacPhase → Type 0 = λ p. IsPhase p × (is_off_phase p ≡ false) in
       let p = cond_both (ltb longer 6) (PassiveFlag x longer still) (AfterFlag true 0) P
@@ -222,15 +222,15 @@ module _ (s : Stance) (role : IsRole s.role) (pending : s.overloads.pending ≤ 
       below place 7 (goes s (Delimiter (place + 1))) (enters_intermission s s.role)
       (λ b. goes_kept (Delimiter (place + 1)) (omega arith, omega arith) refl) (λ b. enters_kept s.role)
 
-  next_role_kept : (held_back : Bool) (waiting : Option Parts) → IsWaiting waiting → IsRole (next_role held_back waiting)
+  next_role_kept : (held_back : Bool) (waiting : Option Parts) → IsFrameOrNone waiting → IsRole (next_role held_back waiting)
   next_role_kept held_back None h = tt
   next_role_kept true (Some f) h = tt
   next_role_kept false (Some f) h = h
 
-  intermission_kept : (place : ℕ) (waiting : Option Parts) (x : Level) → IsWaiting waiting → IsKept (intermission_move s place waiting x)
+  intermission_kept : (place : ℕ) (waiting : Option Parts) (x : Level) → IsFrameOrNone waiting → IsKept (intermission_move s place waiting x)
   intermission_kept place waiting Dominant h =
       let next = next_role (is_held_back s s.role) waiting in
-      below place 2 (overload s) (begins s next) (λ b. overload_kept) (λ b. begins_kept next (next_role_kept (is_held_back s s.role) waiting h))
+      below place 2 (overload s) (begins_frame s next) (λ b. overload_kept) (λ b. begins_kept next (next_role_kept (is_held_back s s.role) waiting h))
   intermission_kept place waiting Recessive h =
       let held_back = is_held_back s s.role in
       below place 2 (goes s (Intermission (place + 1))) (cond held_back (goes s (Suspend 0)) (goes (record s { role = Receiver }) Idle))
@@ -243,7 +243,7 @@ module _ (s : Stance) (role : IsRole s.role) (pending : s.overloads.pending ≤ 
       below place 7 (goes s (Suspend (place + 1))) (goes (record s { role = Receiver }) Idle)
       (λ b. goes_kept (Suspend (place + 1)) (omega arith) refl) (λ b. rests_kept)
 
-  idle_kept : (waiting : Option Parts) (x : Level) → IsWaiting waiting → IsKept (idle_move s waiting x)
+  idle_kept : (waiting : Option Parts) (x : Level) → IsFrameOrNone waiting → IsKept (idle_move s waiting x)
   idle_kept None Dominant h = begins_kept Receiver tt
   idle_kept None Recessive h = goes_kept Idle tt refl
   idle_kept (Some f) Dominant h = begins_kept (Sender f) h
@@ -251,7 +251,7 @@ module _ (s : Stance) (role : IsRole s.role) (pending : s.overloads.pending ≤ 
       let p = flag_kept s.passive false in record { phase = p.0; on = p.1; role = h; pending = pending; used = used }
 
   -- each phase but that of a controller off the bus
-  pub move_kept : (p : MacPhase) (waiting : Option Parts) (x : Level) → IsPhase p → is_off_phase p ≡ false → IsWaiting waiting → IsKept (move s p waiting x)
+  pub move_kept : (p : MacPhase) (waiting : Option Parts) (x : Level) → IsPhase p → is_off_phase p ≡ false → IsFrameOrNone waiting → IsKept (move s p waiting x)
   move_kept (Joining row) waiting x h on w = joining_kept row x
   move_kept Idle waiting x h on w = idle_kept waiting x w
   move_kept (StuffedPart front) waiting x h on w = stuffed_part_kept front x h

@@ -12,9 +12,9 @@ use Rattle.can_mac.specs.declared.moves.Move.{Move}
 use Rattle.can_mac.specs.declared.moves.Stance.{Stance}
 use Rattle.can_mac.specs.declared.phase.Role.TheVariants.{Receiver}
 use Rattle.can_mac.specs.declared.phase.Phase.TheVariants.{BusOff}
-use Rattle.can_mac.specs.State.{MacPhase, MacState, IsMac, IsWaiting, is_off_phase}
-use Rattle.can_mac.specs.Moves.{MacMove, goes, move, placed}
-use Rattle.can_mac.specs.Machine.{landed, mac_step, moved, off_step, on_step, stance}
+use Rattle.can_mac.specs.State.{MacPhase, MacState, IsMac, IsFrameOrNone, is_off_phase}
+use Rattle.can_mac.specs.Moves.{MacMove, goes, move, move_keeping}
+use Rattle.can_mac.specs.Machine.{step_counting, mac_step, state_after_move, off_step, on_step, stance}
 use Rattle.can_mac.proofs.Kept.{on_kept}
 
 -- the state of a controller that goes off the bus
@@ -26,42 +26,42 @@ pub record IsCounted (cause : Option Cause) (old new : ConfineParts) (off : Bool
   pub none : cause ≡ None → (new ≡ old) × (off ≡ false)
   pub some : (k : Cause) → cause ≡ Some k → (new ≡ counted k old) × (off ≡ is_bus_off new)
 
-pub landed-off : (v : MacMove) (cause : Option Cause) (old new : ConfineParts) (off : Bool) → IsCounted cause old new off → off ≡ true → landed v old cause ≡ (gone v new, Some WentOff)
-landed-off v None old new off h e = cc ((h.none refl).1)
-landed-off v (Some k) old new off h e =
+pub step_counting-off : (v : MacMove) (cause : Option Cause) (old new : ConfineParts) (off : Bool) → IsCounted cause old new off → off ≡ true → step_counting v old cause ≡ (gone v new, Some WentOff)
+step_counting-off v None old new off h e = cc ((h.none refl).1)
+step_counting-off v (Some k) old new off h e =
     let s = h.some k refl in
-    rw (← s.0) (cond-true (is_bus_off new) (gone v new, Some WentOff) (moved v new, v.event) (sym s.1 ∙ e))
+    rw (← s.0) (cond-true (is_bus_off new) (gone v new, Some WentOff) (state_after_move v new, v.event) (sym s.1 ∙ e))
 
-pub landed-on : (v : MacMove) (cause : Option Cause) (old new : ConfineParts) (off : Bool) → IsCounted cause old new off → off ≡ false → landed v old cause ≡ (moved v new, v.event)
-landed-on v None old new off h e = rw (h.none refl).0
-landed-on v (Some k) old new off h e =
+pub step_counting-on : (v : MacMove) (cause : Option Cause) (old new : ConfineParts) (off : Bool) → IsCounted cause old new off → off ≡ false → step_counting v old cause ≡ (state_after_move v new, v.event)
+step_counting-on v None old new off h e = rw (h.none refl).0
+step_counting-on v (Some k) old new off h e =
     let s = h.some k refl in
-    rw (← s.0) (cond-false (is_bus_off new) (gone v new, Some WentOff) (moved v new, v.event) (sym s.1 ∙ e))
+    rw (← s.0) (cond-false (is_bus_off new) (gone v new, Some WentOff) (state_after_move v new, v.event) (sym s.1 ∙ e))
 
 -- A controller whose fields are these, and which it is from outside; what its move is; and what is counted.
-module _ (m now : MacState) (view : m ≡ now) (h : IsMac m) (on : is_off_phase now.phase ≡ false) (waiting : Option Parts) (whole : IsWaiting waiting) (x : Level) where
+module _ (m now : MacState) (view : m ≡ now) (h : IsMac m) (on : is_off_phase now.phase ≡ false) (waiting : Option Parts) (whole : IsFrameOrNone waiting) (x : Level) where
   module _ (passive : Bool) (told : passive ≡ is_passive m.counters) (kept : MacPhase) (next : Move (Option MacPhase))
-      (is : placed kept next ≡ move (record { passive = passive; role = m.role; overloads = m.overloads }) m.phase waiting x)
+      (is : move_keeping kept next ≡ move (record { passive = passive; role = m.role; overloads = m.overloads }) m.phase waiting x)
       (new : ConfineParts) (off : Bool) (count : IsCounted next.cause m.counters new off) where
-    same_move : placed kept next ≡ move (stance m) m.phase waiting x
-    same_move = subst (λ p. placed kept next ≡ move (record { passive = p; role = m.role; overloads = m.overloads }) m.phase waiting x) told is
+    same_move : move_keeping kept next ≡ move (stance m) m.phase waiting x
+    same_move = subst (λ p. move_keeping kept next ≡ move (record { passive = p; role = m.role; overloads = m.overloads }) m.phase waiting x) told is
 
-    same_step : landed (placed kept next) m.counters next.cause ≡ on_step now (move (stance now) now.phase waiting x)
-    same_step = ap (λ v. landed v m.counters v.cause) same_move ∙ ap (λ n. on_step n (move (stance n) n.phase waiting x)) view
+    same_step : step_counting (move_keeping kept next) m.counters next.cause ≡ on_step now (move (stance now) now.phase waiting x)
+    same_step = ap (λ v. step_counting v m.counters v.cause) same_move ∙ ap (λ n. on_step n (move (stance n) n.phase waiting x)) view
 
-    pub goes_off : off ≡ true → (gone (placed kept next) new, Some WentOff) ≡ on_step now (move (stance now) now.phase waiting x)
-    goes_off e = sym (landed-off (placed kept next) next.cause m.counters new off count e) ∙ same_step
+    pub goes_off : off ≡ true → (gone (move_keeping kept next) new, Some WentOff) ≡ on_step now (move (stance now) now.phase waiting x)
+    goes_off e = sym (step_counting-off (move_keeping kept next) next.cause m.counters new off count e) ∙ same_step
 
-    pub stays_on : off ≡ false → (moved (placed kept next) new, next.event) ≡ on_step now (move (stance now) now.phase waiting x)
-    stays_on e = sym (landed-on (placed kept next) next.cause m.counters new off count e) ∙ same_step
+    pub stays_on : off ≡ false → (state_after_move (move_keeping kept next) new, next.event) ≡ on_step now (move (stance now) now.phase waiting x)
+    stays_on e = sym (step_counting-on (move_keeping kept next) next.cause m.counters new off count e) ∙ same_step
 
     step_is_mac : IsMac (on_step now (move (stance now) now.phase waiting x)).0
     step_is_mac = on_kept now (subst IsMac view h) waiting x on whole
 
-    pub goes_off-IsMac : off ≡ true → IsMac (gone (placed kept next) new)
+    pub goes_off-IsMac : off ≡ true → IsMac (gone (move_keeping kept next) new)
     goes_off-IsMac e = subst (λ p. IsMac p.0) (sym (goes_off e)) step_is_mac
 
-    pub stays_on-IsMac : off ≡ false → IsMac (moved (placed kept next) new)
+    pub stays_on-IsMac : off ≡ false → IsMac (state_after_move (move_keeping kept next) new)
     stays_on-IsMac e = subst (λ p. IsMac p.0) (sym (stays_on e)) step_is_mac
 
   -- where a level only makes another phase

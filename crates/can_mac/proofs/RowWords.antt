@@ -26,14 +26,14 @@ pub record Told : Type 0 where
 abbrev pub at : ℕ → Event → Told
 at time event = record { time = time; event = event }
 
-abbrev pub noted : ℕ → Option Event → List Told → List Told
-noted time None told = told
-noted time (Some event) told = at time event ∷ told
+abbrev pub with_told : ℕ → Option Event → List Told → List Told
+with_told time None told = told
+with_told time (Some event) told = at time event ∷ told
 
 -- the events of a run that begins at this time, where this frame waits
 abbrev pub events : ℕ → Option Parts → MacState → List Level → List Told
 events time waiting m [] = []
-events time waiting m (x ∷ levels) = noted time (mac_step m waiting x).1 (events (time + 1) waiting (mac_step m waiting x).0 levels)
+events time waiting m (x ∷ levels) = with_told time (mac_step m waiting x).1 (events (time + 1) waiting (mac_step m waiting x).0 levels)
 
 -- the state after levels
 abbrev pub run : Option Parts → MacState → List Level → MacState

@@ -17,7 +17,7 @@ use Rattle.can_mac.specs.declared.phase.Phase.TheVariants.{Idle, Delimiter, Inte
 use Rattle.can_mac.specs.State.{MacState, idle, joining}
 use Rattle.can_mac.specs.Moves.{agrees}
 use Rattle.can_mac.specs.Machine.{mac_drives, mac_step}
-use Rattle.can_mac.specs.Frames.{line, frame_event, frame_state}
+use Rattle.can_mac.specs.Frames.{with_intermission, frame_event, frame_state}
 use Rattle.can_mac.proofs.RowWords.{Told, at, events, levels_of, run, silence, standard}
 
 abbrev errors : ℕ → ℕ → List Told
@@ -188,7 +188,7 @@ unfolding mac_step agrees crc_of frame_of frame_len bits_of
 wrong_slot = (refl, refl)
 
 -- What the definitions of a frame at a controller say of the same frames.
-line_001 : line (standard 1) ≡ wire_001 ++ silence 3
+line_001 : with_intermission (standard 1) ≡ wire_001 ++ silence 3
 unfolding stuffed_part unstuffed stuffed head arbitration_field crc_of bits_of
 line_001 = refl
 

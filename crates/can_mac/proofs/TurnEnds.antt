@@ -11,7 +11,7 @@ use Rattle.can_mac.specs.declared.phase.Phase.TheVariants.{BusOff}
 use Rattle.can_mac.specs.State.{MacPhase, MacState, is_off_phase}
 use Rattle.can_mac.proofs.Landing.{gone, step_off, step_on}
 use Rattle.can_mac.specs.Moves.{MacMove, move}
-use Rattle.can_mac.specs.Machine.{stance, moved, landed, off_step, mac_step}
+use Rattle.can_mac.specs.Machine.{stance, state_after_move, step_counting, off_step, mac_step}
 
 -- c and d count alike what recovery has seen
 pub record SameWait (c d : ConfineParts) : Type 0 where
@@ -40,28 +40,28 @@ counted-wait : (cause : Cause) (c : ConfineParts) → SameWait c (counted cause 
 counted-wait cause c = elim (is_bus_off c) as (λ b. SameWait c (cond b c (changed cause c))) [ true ↦ same_wait c | false ↦ changed-wait cause c ]
 
 -- a move lands at its phase with its event, or off the bus
-pub landed_at : (P : MacState → Option Event → Type 0) (v : MacMove) (c : ConfineParts) (cause : Option Cause)
-    → ((d : ConfineParts) → SameWait c d → P (moved v d) v.event)
+pub step_counting_at : (P : MacState → Option Event → Type 0) (v : MacMove) (c : ConfineParts) (cause : Option Cause)
+    → ((d : ConfineParts) → SameWait c d → P (state_after_move v d) v.event)
     → ((d : ConfineParts) → SameWait c d → is_bus_off d ≡ true → P (gone v d) (Some WentOff))
-    → P (landed v c cause).0 (landed v c cause).1
-landed_at P v c None on off = on c (same_wait c)
-landed_at P v c (Some cause) on off = by_test (is_bus_off (counted cause c)) refl
+    → P (step_counting v c cause).0 (step_counting v c cause).1
+step_counting_at P v c None on off = on c (same_wait c)
+step_counting_at P v c (Some cause) on off = by_test (is_bus_off (counted cause c)) refl
   where
     d : ConfineParts
     d = counted cause c
 
-    by_test : (b : Bool) → is_bus_off d ≡ b → P (cond {A = MacState × Option Event} b (gone v d, Some WentOff) (moved v d, v.event)).0 (cond {A = MacState × Option Event} b (gone v d, Some WentOff) (moved v d, v.event)).1
+    by_test : (b : Bool) → is_bus_off d ≡ b → P (cond {A = MacState × Option Event} b (gone v d, Some WentOff) (state_after_move v d, v.event)).0 (cond {A = MacState × Option Event} b (gone v d, Some WentOff) (state_after_move v d, v.event)).1
     by_test true e = off d (counted-wait cause c) e
     by_test false e = on d (counted-wait cause c)
 
 -- on the bus, a bit time ends where its move lands
 pub on_bus : (P : MacState → Option Event → Type 0) (m : MacState) (waiting : Option Parts) (x : Level) → is_off_phase m.phase ≡ false
-    → ((d : ConfineParts) → SameWait m.counters d → P (moved (move (stance m) m.phase waiting x) d) (move (stance m) m.phase waiting x).event)
+    → ((d : ConfineParts) → SameWait m.counters d → P (state_after_move (move (stance m) m.phase waiting x) d) (move (stance m) m.phase waiting x).event)
     → ((d : ConfineParts) → SameWait m.counters d → is_bus_off d ≡ true → P (gone (move (stance m) m.phase waiting x) d) (Some WentOff))
     → P (mac_step m waiting x).0 (mac_step m waiting x).1
 on_bus P m waiting x h on off =
     let v = move (stance m) m.phase waiting x in
-    subst (λ p. P p.0 p.1) (sym (step_on m waiting x h)) (landed_at P v m.counters v.cause on off)
+    subst (λ p. P p.0 p.1) (sym (step_on m waiting x h)) (step_counting_at P v m.counters v.cause on off)
 
 -- off the bus, it is one for recovery
 pub off_bus : (P : MacState → Option Event → Type 0) (m : MacState) (waiting : Option Parts) (x : Level) → is_off_phase m.phase ≡ true

@@ -22,11 +22,6 @@ after_turn m t = (mac_step m t.waiting t.seen).0
 abbrev pub turn_event : MacState → Turn → Option Event
 turn_event m t = (mac_step m t.waiting t.seen).1
 
--- the controller after bit times
-abbrev pub after_turns : MacState → List Turn → MacState
-after_turns m [] = m
-after_turns m (t ∷ turns) = after_turns (after_turn m t) turns
-
 -- the events of bit times
 abbrev pub turn_events : MacState → List Turn → List (Option Event)
 turn_events m [] = []

@@ -1,6 +1,6 @@
 -- A frame on the bus, at one controller: where its levels lead, what it tells, and what it drives. (Bosch CAN
 -- 2.0 part B, sections 2, 3.2, 5 and 8) What stands in brackets is a rule of docs/ACCESS.md.
-use Rattle.std.specs.Prelude.{ℕ, zero, suc, ◌≡◌, ◌+◌, ◌-◌, ◌<◌, ◌≤◌, ◌==◌, nat_lt, true, if◌then◌else◌, List, [], ◌∷◌, ◌++◌, length, take, drop, Option, Some, None, unwrap_or, slice_index_or, ◌⊎◌}
+use Rattle.std.specs.Prelude.{ℕ, zero, suc, ◌≡◌, ◌+◌, ◌-◌, ◌<◌, ◌≤◌, ◌==◌, nat_lt, true, if◌then◌else◌, List, [], ◌∷◌, ◌++◌, length, replicate, take, drop, Option, Some, None, unwrap_or, slice_index_or, ◌⊎◌}
 use Rattle.std.specs.Cmp.Lexicographic.{pointwise}
 use Rattle.can_frame.specs.declared.level.Level.{Level}
 use Rattle.can_frame.specs.declared.level.Level.TheVariants.{Dominant, Recessive}
@@ -18,7 +18,7 @@ use Rattle.can_mac.specs.declared.phase.Reading.{Reading}
 use Rattle.can_mac.specs.declared.phase.Role.{Role}
 use Rattle.can_mac.specs.declared.phase.Role.TheVariants.{Receiver, Sender}
 use Rattle.can_mac.specs.declared.phase.Phase.TheVariants.{Idle, StuffedPart, CrcDelimiter, AckSlot, AckDelimiter, EndOfFrame, Intermission}
-use Rattle.can_mac.specs.State.{MacPhase, MacState, IsWaiting}
+use Rattle.can_mac.specs.State.{MacPhase, MacState, IsFrameOrNone}
 use Rattle.can_mac.specs.Moves.{in_arbitration}
 use Rattle.can_mac.specs.Machine.{mac_drives, mac_step}
 
@@ -40,12 +40,12 @@ driven_at m waits levels o = mac_drives (state_after m waits levels o) (waits o)
 -- A frame and its levels.
 
 -- the levels of a frame on the bus, and the intermission behind it
-abbrev pub line : Parts → List Level
-line f = wire f ++ (Recessive ∷ Recessive ∷ Recessive ∷ [])
+abbrev pub with_intermission : Parts → List Level
+with_intermission f = wire f ++ replicate 3 Recessive
 
 -- the levels that its sender drives: in the ACK slot it listens
-abbrev pub driven_line : Parts → List Level
-driven_line f = driven f ++ (Recessive ∷ Recessive ∷ Recessive ∷ [])
+abbrev pub driven_with_intermission : Parts → List Level
+driven_with_intermission f = driven f ++ replicate 3 Recessive
 
 -- how many levels stand before its ACK slot
 abbrev pub slot_place : Parts → ℕ
@@ -80,7 +80,7 @@ phase_at f o =
 -- are those on the bus.
 abbrev pub role_at : Parts → Option Parts → ℕ → Role
 role_at f None o = Receiver
-role_at f (Some g) o = if pointwise same (take o (line g)) (take o (line f)) then Sender g else Receiver
+role_at f (Some g) o = if pointwise same (take o (with_intermission g)) (take o (with_intermission f)) then Sender g else Receiver
 
 -- between frames a controller is a receiver
 abbrev pub role_after : Role → ℕ → Role
@@ -123,7 +123,7 @@ frame_event f waiting o =
 -- what is driven: by a sender its own levels, by a receiver the acknowledgement
 abbrev pub role_drives : Parts → Role → ℕ → Level
 role_drives f Receiver o = if o == slot_place f then Dominant else Recessive
-role_drives f (Sender g) o = level_at (driven_line g) o
+role_drives f (Sender g) o = level_at (driven_with_intermission g) o
 
 abbrev pub frame_drives : Parts → Option Parts → ℕ → Level
 frame_drives f waiting o = role_drives f (role_at f waiting o) o
@@ -145,22 +145,22 @@ pub record StartsWith (f : Parts) (m : MacState) (waiting : Option Parts) : Type
   pub frame : IsFrame f
   pub idle : m.phase ≡ Idle
   pub active : IsActive m.counters
-  pub kept : IsWaiting waiting
+  pub kept : IsFrameOrNone waiting
   pub behind : GoesBehind f waiting
 
 -- o levels of f, of which the first is on the bus; where they go past the end of frame no overload frame is
 -- asked for
 pub record AreHeard (f : Parts) (m : MacState) (o : ℕ) : Type 0 where
   pub some : 0 < o
-  pub within : o ≤ length (line f)
+  pub within : o ≤ length (with_intermission f)
   pub no_wish : length (wire f) ≤ o → m.overloads.pending ≡ 0
 
 -- [Arbitration] the place where f and g part: their levels are alike before it, and there, in the arbitration
 -- field of g, f is dominant and g recessive
 pub record PartsAt (f g : Parts) (place : ℕ) : Type 0 where
-  pub alike : take place (line g) ≡ take place (line f)
-  pub low : level_at (line f) place ≡ Dominant
-  pub high : level_at (line g) place ≡ Recessive
+  pub alike : take place (with_intermission g) ≡ take place (with_intermission f)
+  pub low : level_at (with_intermission f) place ≡ Dominant
+  pub high : level_at (with_intermission g) place ≡ Recessive
   pub within : place < length (stuffed_part f)
   pub within_sent : place < length (stuffed_part g)
   pub arbitration : in_arbitration g (heard_front f place).unstuffed ≡ true

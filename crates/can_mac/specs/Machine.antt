@@ -66,20 +66,20 @@ abbrev pub stance : MacState → Stance
 stance m = record { passive = is_passive m.counters; role = m.role; overloads = m.overloads }
 
 -- a move, with these counters
-abbrev pub moved : MacMove → ConfineParts → MacState
-moved v counters = record { phase = v.phase; role = v.role; overloads = v.overloads; counters = counters }
+abbrev pub state_after_move : MacMove → ConfineParts → MacState
+state_after_move v counters = record { phase = v.phase; role = v.role; overloads = v.overloads; counters = counters }
 
 -- [Bus off] what was counted makes the controller bus off, and this is told in
 -- place of all else
-abbrev pub settled : MacMove → ConfineParts → MacState × Option Event
-settled v counters =
+abbrev pub step_or_bus_off : MacMove → ConfineParts → MacState × Option Event
+step_or_bus_off v counters =
     if is_bus_off counters then (record { phase = BusOff; role = Receiver; overloads = v.overloads; counters = counters }, Some WentOff)
-    else (moved v counters, v.event)
+    else (state_after_move v counters, v.event)
 
 -- a move, and what it counts
-abbrev pub landed : MacMove → ConfineParts → Option Cause → MacState × Option Event
-landed v counters None = (moved v counters, v.event)
-landed v counters (Some cause) = settled v (counted cause counters)
+abbrev pub step_counting : MacMove → ConfineParts → Option Cause → MacState × Option Event
+step_counting v counters None = (state_after_move v counters, v.event)
+step_counting v counters (Some cause) = step_or_bus_off v (counted cause counters)
 
 -- off the bus each level counts for recovery
 abbrev pub off_step : MacState → Level → MacState × Option Event
@@ -88,7 +88,7 @@ off_step m x =
     else (record m { counters = recovered x m.counters }, None)
 
 abbrev pub on_step : MacState → MacMove → MacState × Option Event
-on_step m v = landed v m.counters v.cause
+on_step m v = step_counting v m.counters v.cause
 
 -- one bit time, in which this frame waits and this level is sampled: the next state, and what is told
 unfoldable pub mac_step : MacState → Option Parts → Level → MacState × Option Event

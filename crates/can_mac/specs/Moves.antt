@@ -6,7 +6,9 @@ use Rattle.can_frame.specs.declared.level.Level.{Level}
 use Rattle.can_frame.specs.declared.level.Level.TheVariants.{Dominant, Recessive}
 use Rattle.can_frame.specs.Levels.{same, is_recessive}
 use Rattle.can_frame.specs.Parts.{Parts}
+use Rattle.can_frame.specs.IdleRow.{idle_row}
 use Rattle.can_code.specs.Crc.{crc_of}
+use Rattle.can_code.specs.Stuffing.{run_after}
 use Rattle.can_code.specs.Sending.{sent_level}
 use Rattle.can_code.specs.Layout.{frame_of, head_of, check_of, rtr_place}
 use Rattle.can_code.specs.Front.{FrontParts, first_front, has_check, heard_level}
@@ -34,8 +36,8 @@ phase_after kept None = kept
 phase_after kept (Some phase) = phase
 
 -- a move that leaves the phase as it is where it names none
-abbrev pub placed : MacPhase → Move (Option MacPhase) → MacMove
-placed kept v = record { phase = phase_after kept v.phase; role = v.role; overloads = v.overloads; cause = v.cause; event = v.event }
+abbrev pub move_keeping : MacPhase → Move (Option MacPhase) → MacMove
+move_keeping kept v = record { phase = phase_after kept v.phase; role = v.role; overloads = v.overloads; cause = v.cause; event = v.event }
 
 abbrev pub goes : Stance → MacPhase → MacMove
 goes s phase = record { phase = phase; role = s.role; overloads = s.overloads; cause = None; event = None }
@@ -48,8 +50,8 @@ abbrev pub overload : Stance → MacMove
 overload s = tells s (OverloadFlag 0) Overload
 
 -- [Start of frame] a frame begins
-abbrev pub begins : Stance → Role → MacMove
-begins s role = record { phase = StuffedPart first_front; role = role; overloads = record { pending = s.overloads.pending; used = 0 }; cause = None; event = None }
+abbrev pub begins_frame : Stance → Role → MacMove
+begins_frame s role = record { phase = StuffedPart first_front; role = role; overloads = record { pending = s.overloads.pending; used = 0 }; cause = None; event = None }
 
 -- Errors.
 
@@ -86,12 +88,12 @@ form_kind (Sender f) = Bit
 
 abbrev pub joining_move : Stance → ℕ → Level → MacMove
 joining_move s row Dominant = goes s (Joining 0)
-joining_move s row Recessive = if nat_lt row 10 then goes s (Joining (row + 1)) else goes s Idle
+joining_move s row Recessive = if nat_lt row (idle_row - 1) then goes s (Joining (row + 1)) else goes s Idle
 
 abbrev pub idle_move : Stance → Option Parts → Level → MacMove
-idle_move s None Dominant = begins s Receiver
+idle_move s None Dominant = begins_frame s Receiver
 idle_move s None Recessive = goes s Idle
-idle_move s (Some f) Dominant = begins s (Sender f)
+idle_move s (Some f) Dominant = begins_frame s (Sender f)
 -- its own start of frame is not on the bus
 idle_move s (Some f) Recessive = errs (record s { role = Sender f }) Bit
 
@@ -218,10 +220,6 @@ error_flag_move s place x = flag_move s (λ p. ErrorFlag p) (AfterFlag true 0) p
 abbrev pub overload_flag_move : Stance → ℕ → Level → MacMove
 overload_flag_move s place x = flag_move s (λ p. OverloadFlag p) (AfterFlag false 0) place x
 
--- the run that a level ends, in a flag
-abbrev pub flag_run : Level → ℕ → Level → ℕ
-flag_run last run x = if same x last then run + 1 else 1
-
 -- [Error flags] a passive flag is complete where six levels in a row are equal
 abbrev pub passive_phase : Level → ℕ → Bool → MacPhase
 passive_phase x run unacknowledged = if nat_lt run 6 then PassiveFlag x run unacknowledged else AfterFlag true 0
@@ -230,7 +228,7 @@ passive_phase x run unacknowledged = if nat_lt run 6 then PassiveFlag x run unac
 -- acknowledgement is counted
 abbrev pub passive_flag_move : Stance → Level → ℕ → Bool → Level → MacMove
 passive_flag_move s last run unacknowledged x =
-    record (goes s (passive_phase x (flag_run last run x) (unacknowledged && is_recessive x)))
+    record (goes s (passive_phase x (run_after last run x) (unacknowledged && is_recessive x)))
     { cause = if unacknowledged && not (is_recessive x) then Some PassiveUnacknowledged else None }
 
 -- [Behind a flag] what a dominant level behind a flag counts: at a receiver the first one behind an error
@@ -263,14 +261,14 @@ next_role held_back (Some f) = if held_back then Receiver else Sender f
 
 abbrev pub intermission_move : Stance → ℕ → Option Parts → Level → MacMove
 intermission_move s place waiting Dominant =
-    if nat_lt place 2 then overload s else begins s (next_role (is_held_back s s.role) waiting)
+    if nat_lt place 2 then overload s else begins_frame s (next_role (is_held_back s s.role) waiting)
 intermission_move s place waiting Recessive =
     if nat_lt place 2 then goes s (Intermission (place + 1))
     else if is_held_back s s.role then goes s (Suspend 0)
     else goes (record s { role = Receiver }) Idle
 
 abbrev pub suspend_move : Stance → ℕ → Level → MacMove
-suspend_move s place Dominant = begins s Receiver
+suspend_move s place Dominant = begins_frame s Receiver
 suspend_move s place Recessive = if nat_lt place 7 then goes s (Suspend (place + 1)) else goes (record s { role = Receiver }) Idle
 
 -- All phases. Off the bus a level only counts for recovery.

@@ -1,6 +1,7 @@
--- The state of a controller's medium access.
+-- The state of a controller's medium access. (docs/ACCESS.md, "Medium access")
 use Rattle.std.specs.Prelude.{◌≡◌, ◌≢◌, ◌<◌, ◌≤◌, Bool, true, false, Option, Some, None}
 use Rattle.can_frame.specs.Parts.{Parts, IsFrame}
+use Rattle.can_frame.specs.IdleRow.{idle_row}
 use Rattle.can_code.specs.declared.front.Place.TheVariants.{CrcDelimiter as ended}
 use Rattle.can_code.specs.Front.{FrontParts, IsFront, next_place}
 use Rattle.can_fault.specs.Counters.{ConfineParts, IsConfine, fresh, is_bus_off}
@@ -62,7 +63,7 @@ pub record IsOpen (f : FrontParts) : Type 0 where
   pub goes_on : next_place f ≢ ended
 
 abbrev pub IsPhase : MacPhase → Type 0
-IsPhase (Joining row) = row < 11
+IsPhase (Joining row) = row < idle_row
 IsPhase Idle = Unit {0}
 IsPhase (StuffedPart front) = IsOpen front
 IsPhase (CrcDelimiter r) = IsFrame r.frame
@@ -83,9 +84,9 @@ IsRole Receiver = Unit {0}
 IsRole (Sender f) = IsFrame f
 
 -- a frame that waits is one
-abbrev pub IsWaiting : Option Parts → Type 0
-IsWaiting None = Unit {0}
-IsWaiting (Some f) = IsFrame f
+abbrev pub IsFrameOrNone : Option Parts → Type 0
+IsFrameOrNone None = Unit {0}
+IsFrameOrNone (Some f) = IsFrame f
 
 pub record IsMac (m : MacState) : Type 0 where
   pub phase : IsPhase m.phase

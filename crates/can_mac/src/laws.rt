@@ -4,13 +4,12 @@ ghost use Rattle.can_frame.specs.declared.level.Level.TheVariants.{Dominant, Rec
 ghost use Rattle.can_frame.specs.Arbitration.{arbitration_field, Before};
 ghost use Rattle.can_frame.specs.Parts.{IsFrame, Parts};
 ghost use Rattle.can_code.specs.Crc.{Multiple};
-ghost use Rattle.can_code.specs.Layout.{frame_len, level_at};
-ghost use Rattle.can_code.specs.Reading.{IsPart};
+ghost use Rattle.can_code.specs.Layout.{frame_len, level_at, IsPart};
 ghost use Rattle.can_mac.specs.declared.event.Event.TheVariants.{Lost};
 ghost use Rattle.can_mac.specs.declared.phase.Phase.TheVariants.{CrcDelimiter, Idle};
 ghost use Rattle.can_mac.specs.declared.phase.Role.TheVariants.{Receiver, Sender};
-ghost use Rattle.can_mac.specs.Frames.{AreHeard, driven_at, frame_drives, frame_event, frame_state, line, PartsAt, phase_at, role_at, slot_place, StartsWith, state_after, told_at};
-ghost use Rattle.can_mac.specs.State.{idle, IsMac, IsWaiting, joining, MacState};
+ghost use Rattle.can_mac.specs.Frames.{AreHeard, driven_at, frame_drives, frame_event, frame_state, with_intermission, PartsAt, phase_at, role_at, slot_place, StartsWith, state_after, told_at};
+ghost use Rattle.can_mac.specs.State.{idle, IsMac, IsFrameOrNone, joining, MacState};
 ghost use Rattle.can_mac.specs.Moves.{agrees, reading_of};
 ghost use Rattle.can_mac.specs.Machine.{holding, mac_step};
 
@@ -19,7 +18,7 @@ ghost use Rattle.can_mac.specs.Machine.{holding, mac_step};
 pub fn access_is_kept()
     ensures idle { IsMac idle }
     ensures joining { IsMac joining }
-    ensures step { (m : MacState) (waiting : Option Parts) (level : Bit) → IsMac m → IsWaiting waiting → IsMac (mac_step m waiting level).0 }
+    ensures step { (m : MacState) (waiting : Option Parts) (level : Bit) → IsMac m → IsFrameOrNone waiting → IsMac (mac_step m waiting level).0 }
     ensures wish { (m : MacState) (n : ℕ) → IsMac m → n ≤ 2 → IsMac (holding n m) }
 {}
 
@@ -28,9 +27,9 @@ pub fn access_is_kept()
 /// nothing waits, at the frame's sender, and at one where a frame waits that comes behind it in
 /// arbitration. What waits later has no say.
 pub fn a_frame_leads_all_to_one_phase()
-    ensures phase { (f : Parts) (m : MacState) (waits : ℕ → Option Parts) (o : ℕ) → StartsWith f m (waits 0) → AreHeard f m o → (state_after m waits (line f) o).phase ≡ phase_at f o }
-    ensures state { (f : Parts) (m : MacState) (waits : ℕ → Option Parts) (o : ℕ) → StartsWith f m (waits 0) → AreHeard f m o → state_after m waits (line f) o ≡ frame_state f (waits 0) m.overloads.pending m.counters o }
-    ensures event { (f : Parts) (m : MacState) (waits : ℕ → Option Parts) (o : ℕ) → StartsWith f m (waits 0) → AreHeard f m (o + 1) → told_at m waits (line f) o ≡ frame_event f (waits 0) o }
+    ensures phase { (f : Parts) (m : MacState) (waits : ℕ → Option Parts) (o : ℕ) → StartsWith f m (waits 0) → AreHeard f m o → (state_after m waits (with_intermission f) o).phase ≡ phase_at f o }
+    ensures state { (f : Parts) (m : MacState) (waits : ℕ → Option Parts) (o : ℕ) → StartsWith f m (waits 0) → AreHeard f m o → state_after m waits (with_intermission f) o ≡ frame_state f (waits 0) m.overloads.pending m.counters o }
+    ensures event { (f : Parts) (m : MacState) (waits : ℕ → Option Parts) (o : ℕ) → StartsWith f m (waits 0) → AreHeard f m (o + 1) → told_at m waits (with_intermission f) o ≡ frame_event f (waits 0) o }
     ensures receiver { (f : Parts) (o : ℕ) → role_at f None o ≡ Receiver }
     ensures sender { (f : Parts) (o : ℕ) → role_at f (Some f) o ≡ Sender f }
 {}
@@ -39,12 +38,12 @@ pub fn a_frame_leads_all_to_one_phase()
 /// listens. A receiver drives the ACK slot alone. So whoever takes part drives the level that the bus
 /// has, or recessive.
 pub fn a_sender_drives_its_wire()
-    ensures drives { (f : Parts) (m : MacState) (waits : ℕ → Option Parts) (o : ℕ) → StartsWith f m (waits 0) → AreHeard f m (o + 1) → driven_at m waits (line f) o ≡ frame_drives f (waits 0) o }
-    ensures sender { (f : Parts) (m : MacState) (waits : ℕ → Option Parts) (o : ℕ) → StartsWith f m (waits 0) → AreHeard f m (o + 1) → waits 0 ≡ Some f → o ≢ slot_place f → driven_at m waits (line f) o ≡ level_at (line f) o }
-    ensures sender_slot { (f : Parts) (m : MacState) (waits : ℕ → Option Parts) (o : ℕ) → StartsWith f m (waits 0) → AreHeard f m (o + 1) → waits 0 ≡ Some f → o ≡ slot_place f → driven_at m waits (line f) o ≡ Recessive }
-    ensures receiver { (f : Parts) (m : MacState) (waits : ℕ → Option Parts) (o : ℕ) → StartsWith f m (waits 0) → AreHeard f m (o + 1) → waits 0 ≡ None → o ≢ slot_place f → driven_at m waits (line f) o ≡ Recessive }
-    ensures receiver_slot { (f : Parts) (m : MacState) (waits : ℕ → Option Parts) (o : ℕ) → StartsWith f m (waits 0) → AreHeard f m (o + 1) → waits 0 ≡ None → o ≡ slot_place f → driven_at m waits (line f) o ≡ Dominant }
-    ensures over { (f : Parts) (m : MacState) (waits : ℕ → Option Parts) (o : ℕ) → StartsWith f m (waits 0) → AreHeard f m (o + 1) → (driven_at m waits (line f) o ≡ Recessive) ⊎ (driven_at m waits (line f) o ≡ level_at (line f) o) }
+    ensures drives { (f : Parts) (m : MacState) (waits : ℕ → Option Parts) (o : ℕ) → StartsWith f m (waits 0) → AreHeard f m (o + 1) → driven_at m waits (with_intermission f) o ≡ frame_drives f (waits 0) o }
+    ensures sender { (f : Parts) (m : MacState) (waits : ℕ → Option Parts) (o : ℕ) → StartsWith f m (waits 0) → AreHeard f m (o + 1) → waits 0 ≡ Some f → o ≢ slot_place f → driven_at m waits (with_intermission f) o ≡ level_at (with_intermission f) o }
+    ensures sender_slot { (f : Parts) (m : MacState) (waits : ℕ → Option Parts) (o : ℕ) → StartsWith f m (waits 0) → AreHeard f m (o + 1) → waits 0 ≡ Some f → o ≡ slot_place f → driven_at m waits (with_intermission f) o ≡ Recessive }
+    ensures receiver { (f : Parts) (m : MacState) (waits : ℕ → Option Parts) (o : ℕ) → StartsWith f m (waits 0) → AreHeard f m (o + 1) → waits 0 ≡ None → o ≢ slot_place f → driven_at m waits (with_intermission f) o ≡ Recessive }
+    ensures receiver_slot { (f : Parts) (m : MacState) (waits : ℕ → Option Parts) (o : ℕ) → StartsWith f m (waits 0) → AreHeard f m (o + 1) → waits 0 ≡ None → o ≡ slot_place f → driven_at m waits (with_intermission f) o ≡ Dominant }
+    ensures over { (f : Parts) (m : MacState) (waits : ℕ → Option Parts) (o : ℕ) → StartsWith f m (waits 0) → AreHeard f m (o + 1) → (driven_at m waits (with_intermission f) o ≡ Recessive) ⊎ (driven_at m waits (with_intermission f) o ≡ level_at (with_intermission f) o) }
 {}
 
 /// A controller whose frame comes behind the frame on the bus drives its own levels up to the place, in
@@ -52,10 +51,10 @@ pub fn a_sender_drives_its_wire()
 /// is a receiver from then on.
 pub fn a_loser_goes_on_as_a_receiver()
     ensures parts { (f g : Parts) → IsFrame f → IsFrame g → Before (arbitration_field f) (arbitration_field g) → (place : ℕ) × PartsAt f g place }
-    ensures sender { (f g : Parts) (m : MacState) (waits : ℕ → Option Parts) (place : ℕ) (o : ℕ) → StartsWith f m (waits 0) → waits 0 ≡ Some g → PartsAt f g place → 0 < o → o ≤ place → (state_after m waits (line f) o).role ≡ Sender g }
-    ensures drives { (f g : Parts) (m : MacState) (waits : ℕ → Option Parts) (place : ℕ) (o : ℕ) → StartsWith f m (waits 0) → waits 0 ≡ Some g → PartsAt f g place → o ≤ place → driven_at m waits (line f) o ≡ level_at (line g) o }
-    ensures lost { (f g : Parts) (m : MacState) (waits : ℕ → Option Parts) (place : ℕ) → StartsWith f m (waits 0) → waits 0 ≡ Some g → PartsAt f g place → told_at m waits (line f) place ≡ Some Lost }
-    ensures receiver { (f g : Parts) (m : MacState) (waits : ℕ → Option Parts) (place : ℕ) (o : ℕ) → StartsWith f m (waits 0) → waits 0 ≡ Some g → PartsAt f g place → place < o → AreHeard f m o → (state_after m waits (line f) o).role ≡ Receiver }
+    ensures sender { (f g : Parts) (m : MacState) (waits : ℕ → Option Parts) (place : ℕ) (o : ℕ) → StartsWith f m (waits 0) → waits 0 ≡ Some g → PartsAt f g place → 0 < o → o ≤ place → (state_after m waits (with_intermission f) o).role ≡ Sender g }
+    ensures drives { (f g : Parts) (m : MacState) (waits : ℕ → Option Parts) (place : ℕ) (o : ℕ) → StartsWith f m (waits 0) → waits 0 ≡ Some g → PartsAt f g place → o ≤ place → driven_at m waits (with_intermission f) o ≡ level_at (with_intermission g) o }
+    ensures lost { (f g : Parts) (m : MacState) (waits : ℕ → Option Parts) (place : ℕ) → StartsWith f m (waits 0) → waits 0 ≡ Some g → PartsAt f g place → told_at m waits (with_intermission f) place ≡ Some Lost }
+    ensures receiver { (f g : Parts) (m : MacState) (waits : ℕ → Option Parts) (place : ℕ) (o : ℕ) → StartsWith f m (waits 0) → waits 0 ≡ Some g → PartsAt f g place → place < o → AreHeard f m o → (state_after m waits (with_intermission f) o).role ≡ Receiver }
 {}
 
 /// For all unstuffed levels that have their whole check sequence, it agrees exactly where the generator

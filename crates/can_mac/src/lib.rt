@@ -22,11 +22,7 @@
 //! Each function of `moves` has the cases of one definition, in the same order. Most levels need none of
 //! them: `goes_on` takes these in place, and makes no move.
 //!
-//! Crates above find lemmas in `proofs/`: that what holds of every controller stays (`Kept`,
-//! `KeptMoves`), and of its counters (`ConfineKept`); of a frame at each controller, level by level
-//! (`FrameEnds`, `FrameParts`, `FrameRoles`, `FrameSteps`, `FrameRuns`, `FrameDrives`, `Contending`);
-//! and what a controller knows of the levels that it has seen (`Turns`, `TurnEnds`, `Hearing`,
-//! `HearingTurns`).
+//! Crates above find lemmas in `proofs/`, which `proofs/Lib.antt` lists with what each file has.
 //! `Rows`, `RowsBetweenFrames`, `RowsOfArbitration`, `RowsOfFrameEnds` and `RowsOfFlags` compute the
 //! definitions on levels whose outcome is known: docs/ACCESS.md leads from each rule to its rows.
 #![tactic(auto)]

@@ -2,7 +2,7 @@ ghost use Rattle.std.specs.Prelude.{◌≡◌, ◌≤◌, ◌↔◌, length, tru
 ghost use Rattle.std.specs.Option.{option_copied};
 ghost use Rattle.can_code.specs.Front.{FrontParts};
 ghost use Rattle.can_fault.specs.Counters.{counted, is_bus_off, is_passive as is_passive_by};
-ghost use Rattle.can_mac.specs.State.{idle as idle_state, IsMac, IsPhase, IsWaiting, is_off_phase, joining as joining_state, starting};
+ghost use Rattle.can_mac.specs.State.{idle as idle_state, IsMac, IsPhase, IsFrameOrNone, is_off_phase, joining as joining_state, starting};
 ghost use Rattle.can_mac.specs.Moves.{move};
 ghost use Rattle.can_mac.specs.Machine.{holding, IsSilent, mac_drives, mac_step, off_step, on_step, stance as stance_of};
 
@@ -183,7 +183,7 @@ impl<B: FrameBits> MediumAccess<B> {
     #[inline(never)]
     fn make_move(&mut self, waiting: Option<&Frame>, seen: Level) -> Option<Event>
         requires on_bus { is_off_phase self.old.phase ≡ false }
-        requires waiting { IsWaiting (option_copied waiting) }
+        requires waiting { IsFrameOrNone (option_copied waiting) }
         ensures state { self.new ≡ (on_step self.old (move (stance_of self.old) self.old.phase (option_copied waiting.entry) seen)).0 }
         ensures event { result ≡ (on_step self.old (move (stance_of self.old) self.old.phase (option_copied waiting.entry) seen)).1 }
     {
@@ -213,7 +213,7 @@ impl<B: FrameBits> MediumAccess<B> {
 
 /// A frame that waits is within its limits, which its bytes tell.
 fn within_limits(waiting: Option<&Frame>)
-    ensures { IsWaiting (option_copied waiting.entry) }
+    ensures { IsFrameOrNone (option_copied waiting.entry) }
 {
     if let Some(frame) = waiting {
         let _ = frame.bytes();

@@ -10,7 +10,7 @@ ghost use Rattle.std.specs.Prelude.{◌≡◌, ◌≢◌, IsFalse, IsTrue, false
 ghost use Rattle.std.specs.Option.{option_copied};
 ghost use Rattle.can_code.specs.Front.{FrontParts};
 ghost use Rattle.can_mac.specs.State.{IsPhase, is_off_phase};
-ghost use Rattle.can_mac.specs.Moves.{begins, enters_intermission, errs, errs_by, errs_in_flag, flag, goes, is_held_back, move, overload, part_phase, phase_after, placed, tells};
+ghost use Rattle.can_mac.specs.Moves.{begins_frame, enters_intermission, errs, errs_by, errs_in_flag, flag, goes, is_held_back, move, overload, part_phase, phase_after, move_keeping, tells};
 ghost use Rattle.can_mac.specs.declared.moves.Stance.{Stance as Standing};
 ghost use Rattle.can_mac.specs.declared.phase.Phase.TheVariants.{AckDelimiter, AckSlot, CrcDelimiter, EndOfFrame, StuffedPart};
 ghost use Rattle.can_mac.specs.declared.phase.Reading.{Reading as ReadingParts};
@@ -107,7 +107,7 @@ impl Stance {
 
     /// A frame begins.
     pub(crate) fn begins(&self, role: Role) -> Entering
-        ensures { result ≡ begins self.now role }
+        ensures { result ≡ begins_frame self.now role }
     {
         Move {
             phase: Phase::StuffedPart(NewFrame),
@@ -350,7 +350,7 @@ pub(crate) fn next_move<B: FrameBits>(
     seen: Level,
 ) -> Hearing
     requires { IsPhase phase.old }
-    ensures { placed phase.new result ≡ move stance.now phase.old (option_copied waiting.entry) seen }
+    ensures { move_keeping phase.new result ≡ move stance.now phase.old (option_copied waiting.entry) seen }
 {
     match phase {
         Phase::StuffedPart(front) => stuffed_part(stance, front, seen),

@@ -7,10 +7,10 @@ use Rattle.can_frame.specs.declared.level.Level.{Level}
 use Rattle.can_frame.specs.Parts.{Parts, IsFrame}
 use Rattle.can_mac.specs.declared.event.Event.{Event}
 use Rattle.can_mac.specs.declared.event.Event.TheVariants.{Sent, Received, Lost, Error, Overload, WentOff, Recovered}
-use Rattle.can_mac.specs.State.{IsWaiting}
+use Rattle.can_mac.specs.State.{IsFrameOrNone}
 use Rattle.can_mac.proofs.HearingTurns.{AreTurns}
 use Rattle.can_node.specs.declared.entry.Entry.{Entry}
-use Rattle.can_node.specs.Ports.{PortState, goes_before, same_field, earlier, waiting, without, logged, noted, port_event, port_step}
+use Rattle.can_node.specs.Ports.{PortState, goes_before, same_field, earlier, waiting, without, port_logging, port_noting, port_event, port_step}
 use Rattle.can_node.proofs.PortTurns.{port_turns}
 
 -- each of them is a frame
@@ -24,12 +24,12 @@ AreFrames-from [] each = tt
 AreFrames-from (f ∷ queue) each = (each zero f refl, AreFrames-from queue (λ n g at. each (suc n) g at))
 
 -- of two frames either is one
-IsFrame-earlier : (f : Parts) (next : Option Parts) → IsFrame f → IsWaiting next → IsFrame (earlier f next)
+IsFrame-earlier : (f : Parts) (next : Option Parts) → IsFrame f → IsFrameOrNone next → IsFrame (earlier f next)
 IsFrame-earlier f None is others = is
 IsFrame-earlier f (Some g) is others = cond_both {A = Parts} (goes_before g f) g f IsFrame (λ e. others) (λ e. is)
 
 -- so the one that waits is
-pub IsWaiting-waiting : (queue : List Parts) → AreFrames queue → IsWaiting (waiting queue)
+pub IsWaiting-waiting : (queue : List Parts) → AreFrames queue → IsFrameOrNone (waiting queue)
 unfolding waiting
 IsWaiting-waiting [] are = tt
 IsWaiting-waiting (f ∷ queue) are = IsFrame-earlier f (waiting queue) are.0 (IsWaiting-waiting queue are.1)
@@ -42,24 +42,24 @@ AreFrames-without f (g ∷ queue) are =
     cond_both {A = List Parts} (same_field f g) queue (g ∷ without f queue) AreFrames (λ e. are.1) (λ e. (are.0, AreFrames-without f queue are.1))
 
 -- the log changes no queue
-logged-queue : (entry : Entry) (p : PortState) → (logged entry p).queue ≡ p.queue
-logged-queue entry p = cond_both {A = PortState} (nat_lt (length p.log) p.log_room) _ _ (λ q. q.queue ≡ p.queue) (λ e. refl) (λ e. refl)
+port_logging-queue : (entry : Entry) (p : PortState) → (port_logging entry p).queue ≡ p.queue
+port_logging-queue entry p = cond_both {A = PortState} (nat_lt (length p.log) p.log_room) _ _ (λ q. q.queue ≡ p.queue) (λ e. refl) (λ e. refl)
 
 -- whatever is told of a bit time
-AreFrames-noted : (event : Option Event) (p : PortState) → AreFrames p.queue → AreFrames (noted event p).queue
-AreFrames-noted (Some (Sent f)) p are = subst AreFrames (sym (logged-queue (record { frame = f; sent = true }) (record p { queue = without f p.queue }))) (AreFrames-without f p.queue are)
-AreFrames-noted (Some (Received f)) p are = subst AreFrames (sym (logged-queue (record { frame = f; sent = false }) p)) are
-AreFrames-noted (Some Lost) p are = are
-AreFrames-noted (Some (Error kind)) p are = are
-AreFrames-noted (Some Overload) p are = are
-AreFrames-noted (Some WentOff) p are = are
-AreFrames-noted (Some Recovered) p are = are
-AreFrames-noted None p are = are
+AreFrames-port_noting : (event : Option Event) (p : PortState) → AreFrames p.queue → AreFrames (port_noting event p).queue
+AreFrames-port_noting (Some (Sent f)) p are = subst AreFrames (sym (port_logging-queue (record { frame = f; sent = true }) (record p { queue = without f p.queue }))) (AreFrames-without f p.queue are)
+AreFrames-port_noting (Some (Received f)) p are = subst AreFrames (sym (port_logging-queue (record { frame = f; sent = false }) p)) are
+AreFrames-port_noting (Some Lost) p are = are
+AreFrames-port_noting (Some (Error kind)) p are = are
+AreFrames-port_noting (Some Overload) p are = are
+AreFrames-port_noting (Some WentOff) p are = are
+AreFrames-port_noting (Some Recovered) p are = are
+AreFrames-port_noting None p are = are
 
 -- and over a bit time
 pub AreFrames-port_step : (p : PortState) (x : Level) → AreFrames p.queue → AreFrames (port_step p x).queue
 unfolding port_step
-AreFrames-port_step p x are = AreFrames-noted (port_event p x) (record p { mac = _ }) are
+AreFrames-port_step p x are = AreFrames-port_noting (port_event p x) (record p { mac = _ }) are
 
 -- in each bit time of a port the frame that waits is one
 pub AreTurns-port_turns : (p : PortState) (levels : List Level) → AreFrames p.queue → AreTurns (port_turns p levels)

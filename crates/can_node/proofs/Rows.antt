@@ -16,7 +16,7 @@ use Rattle.can_mac.specs.State.{idle}
 use Rattle.can_mac.specs.Moves.{agrees}
 use Rattle.can_mac.specs.Machine.{mac_drives, mac_step}
 use Rattle.can_node.specs.declared.entry.Entry.{Entry}
-use Rattle.can_node.specs.Ports.{PortState, fresh_port, noted, offered, port_drives, port_events, port_holding, port_run, port_step, waiting, without}
+use Rattle.can_node.specs.Ports.{PortState, fresh_port, port_noting, port_offered, port_drives, port_events, port_holding, port_run, port_step, waiting, without}
 
 -- the levels of a text of `0` and `1`
 abbrev levels_of : List ℕ → List Level
@@ -82,7 +82,7 @@ third_waits = refl
 -- A lesser frame that is offered in mid-frame goes next, and the one on the wire is sent whole.
 
 abbrev joined_later : PortState
-joined_later = offered (empty_frame 0) (port_run (offered (empty_frame 1) (fresh_port idle 2 2)) (take 10 wire_001))
+joined_later = port_offered (empty_frame 0) (port_run (port_offered (empty_frame 1) (fresh_port idle 2 2)) (take 10 wire_001))
 
 both_sent : port_run joined_later (drop 10 wire_001 ++ wire_000) ≡ record (fresh_port idle 2 2) { log = sent (empty_frame 1) ∷ sent (empty_frame 0) ∷ [] }
 unfolding port_run port_step waiting without mac_step agrees crc_of frame_of frame_len bits_of unstuffed head arbitration_field
@@ -138,39 +138,39 @@ unfolding port_drives waiting mac_drives
 no_start_driven = refl
 
 -- [Offer] behind the others
-offered_behind : (offered second (offered first (fresh_port idle 3 2))).queue ≡ first ∷ second ∷ []
+offered_behind : (port_offered second (port_offered first (fresh_port idle 3 2))).queue ≡ first ∷ second ∷ []
 offered_behind = refl
 
 -- [Sent] the first frame of the field leaves, and is logged; the one behind it with the same field stays
-first_sent : noted (Some (Sent first)) three_wait ≡ record three_wait { queue = third ∷ second ∷ []; log = sent first ∷ [] }
+first_sent : port_noting (Some (Sent first)) three_wait ≡ record three_wait { queue = third ∷ second ∷ []; log = sent first ∷ [] }
 unfolding without arbitration_field bits_of
 first_sent = refl
 
 -- nothing else makes a frame leave, or makes an entry
-not_sent : map (λ event. noted event three_wait) (Some Lost ∷ Some (Error Ack) ∷ Some Overload ∷ Some WentOff ∷ Some Recovered ∷ None ∷ []) ≡ replicate 6 three_wait
+not_sent : map (λ event. port_noting event three_wait) (Some Lost ∷ Some (Error Ack) ∷ Some Overload ∷ Some WentOff ∷ Some Recovered ∷ None ∷ []) ≡ replicate 6 three_wait
 not_sent = refl
 
 -- [Received] a frame is logged, and the queue stays, even where the same frame waits
-frame_taken : noted (Some (Received first)) three_wait ≡ record three_wait { log = taken first ∷ [] }
+frame_taken : port_noting (Some (Received first)) three_wait ≡ record three_wait { log = taken first ∷ [] }
 frame_taken = refl
 
 -- an entry comes behind the earlier ones
-second_taken : noted (Some (Received second)) (noted (Some (Received first)) three_wait) ≡ record three_wait { log = taken first ∷ taken second ∷ [] }
+second_taken : port_noting (Some (Received second)) (port_noting (Some (Received first)) three_wait) ≡ record three_wait { log = taken first ∷ taken second ∷ [] }
 second_taken = refl
 
 -- [Full log] an entry without room is counted, be it received or sent, and the sent frame leaves all the same
-full_and_received : noted (Some (Received first)) (record three_wait { log_room = 0 }) ≡ record three_wait { log_room = 0; missed = 1 }
+full_and_received : port_noting (Some (Received first)) (record three_wait { log_room = 0 }) ≡ record three_wait { log_room = 0; missed = 1 }
 full_and_received = refl
 
-full_and_sent : noted (Some (Sent first)) (record three_wait { log_room = 0 }) ≡ record three_wait { queue = third ∷ second ∷ []; log_room = 0; missed = 1 }
+full_and_sent : port_noting (Some (Sent first)) (record three_wait { log_room = 0 }) ≡ record three_wait { queue = third ∷ second ∷ []; log_room = 0; missed = 1 }
 unfolding without arbitration_field bits_of
 full_and_sent = refl
 
 -- the count stops
-missed_stops : noted (Some (Received first)) (record three_wait { log_room = 0; missed = 2 ^ 32 - 1 }) ≡ record three_wait { log_room = 0; missed = 2 ^ 32 - 1 }
+missed_stops : port_noting (Some (Received first)) (record three_wait { log_room = 0; missed = 2 ^ 32 - 1 }) ≡ record three_wait { log_room = 0; missed = 2 ^ 32 - 1 }
 missed_stops = refl
 
-last_missed : noted (Some (Received first)) (record three_wait { log_room = 0; missed = 2 ^ 32 - 2 }) ≡ record three_wait { log_room = 0; missed = 2 ^ 32 - 1 }
+last_missed : port_noting (Some (Received first)) (record three_wait { log_room = 0; missed = 2 ^ 32 - 2 }) ≡ record three_wait { log_room = 0; missed = 2 ^ 32 - 1 }
 last_missed = refl
 
 -- off the bus a frame stays in the queue, and nothing is driven
@@ -186,10 +186,10 @@ unfolding port_drives waiting mac_drives arbitration_field bits_of
 off_drives_nothing = refl
 
 -- a frame that lost arbitration waits again, and so does one in which an error came
-loser_keeps_its_frame : (port_run (offered (empty_frame 1) (fresh_port idle 1 1)) wire_000).queue ≡ empty_frame 1 ∷ []
+loser_keeps_its_frame : (port_run (port_offered (empty_frame 1) (fresh_port idle 1 1)) wire_000).queue ≡ empty_frame 1 ∷ []
 unfolding port_run port_step waiting without mac_step agrees crc_of frame_of frame_len bits_of unstuffed head arbitration_field
 loser_keeps_its_frame = refl
 
-error_keeps_its_frame : (port_run (offered (empty_frame 1) (fresh_port idle 1 1)) (levels_of (codes "01"))).queue ≡ empty_frame 1 ∷ []
+error_keeps_its_frame : (port_run (port_offered (empty_frame 1) (fresh_port idle 1 1)) (levels_of (codes "01"))).queue ≡ empty_frame 1 ∷ []
 unfolding port_run port_step waiting without mac_step frame_len bits_of unstuffed head arbitration_field crc_of
 error_keeps_its_frame = refl

@@ -15,10 +15,11 @@ use Rattle.can_mac.specs.declared.phase.Role.TheVariants.{Receiver, Sender}
 use Rattle.can_mac.specs.declared.phase.Phase.TheVariants.{Joining, Idle, StuffedPart, CrcDelimiter, AckSlot, AckDelimiter, EndOfFrame, ErrorFlag, PassiveFlag, OverloadFlag, AfterFlag, Delimiter, Intermission, Suspend, BusOff}
 use Rattle.can_mac.specs.declared.moves.Stance.{Stance}
 use Rattle.can_mac.specs.State.{MacPhase, is_off_phase}
-use Rattle.can_mac.specs.Moves.{MacMove, errs_by, flag_run, passive_phase, enters_intermission, move}
+use Rattle.can_mac.specs.Moves.{MacMove, errs_by, passive_phase, enters_intermission, move}
 use Rattle.can_node.specs.Listening.{is_of_frame}
 use Rattle.can_node.proofs.Rests.{EndsInRest, HasRested, EndsInRest-more, EndsInRest-fewer, HasRested-ends}
 use Rattle.can_node.proofs.RestingMoves.{WaitsAt, flag-waits}
+use Rattle.can_code.specs.Stuffing.{run_after}
 
 -- a move that keeps waiting with these levels, and tells of no frame
 pub record KeepsWait (v : MacMove) (levels : List Level) : Type 0 where
@@ -87,7 +88,7 @@ module _ (s : Stance) (waiting : Option Parts) (since : List Level) where
   move-waits (EndOfFrame r place) c x on h = absurd h
   move-waits (ErrorFlag place) c Dominant on h = inr (either (nat_lt place 5) (record { at = λ c. tt; no_frame = refl }) (record { at = λ c. tt; no_frame = refl }))
   move-waits (ErrorFlag place) c Recessive on h = inr (error _ _ _ _ _)
-  move-waits (PassiveFlag last run un) c x on h = inr (record { at = λ c. passive_flag x (flag_run last run x) (un && is_recessive x) c (since ++ x ∷ []); no_frame = refl })
+  move-waits (PassiveFlag last run un) c x on h = inr (record { at = λ c. passive_flag x (run_after last run x) (un && is_recessive x) c (since ++ x ∷ []); no_frame = refl })
   move-waits (OverloadFlag place) c Dominant on h = inr (either (nat_lt place 5) (record { at = λ c. tt; no_frame = refl }) (record { at = λ c. tt; no_frame = refl }))
   move-waits (OverloadFlag place) c Recessive on h = inr (error _ _ _ _ _)
   move-waits (AfterFlag first dominant) c Dominant on h = inr (record { at = λ c. tt; no_frame = refl })

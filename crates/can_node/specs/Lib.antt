@@ -1,4 +1,6 @@
+-- To believe: what public calls and laws promise is said in these words
 pub mod Ports
-pub mod Listening
 pub mod Waiting
+pub mod Listening
+-- For proofs and for models only
 pub mod MacProps

@@ -1,4 +1,5 @@
 -- What a port may claim of the levels that it has seen, in words of levels, spellings and events alone.
+-- (docs/ACCESS.md, "Ports")
 use Rattle.std.specs.Prelude.{ℕ, ◌≡◌, ◌+◌, ◌<◌, ◌≤◌, Bool, true, false, List, [], ◌∷◌, ◌++◌, take, drop, replicate, Option, Some, None, slice_get, ⊤}
 use Rattle.can_frame.specs.declared.level.Level.{Level}
 use Rattle.can_frame.specs.declared.level.Level.TheVariants.{Recessive}

@@ -1,4 +1,5 @@
 -- A port: a controller with the frames that wait to be sent, and the frames that it has taken and sent.
+-- (docs/ACCESS.md, "Ports"; Bosch CAN 2.0 part B, sections 2 and 3.2.1)
 use Rattle.std.specs.Prelude.{ℕ, ◌≡◌, ◌≤◌, ◌+◌, ◌-◌, ◌^◌, nat_lt, min, Bool, true, false, if◌then◌else◌, List, [], ◌∷◌, ◌++◌, length, Option, Some, None, slice_get}
 use Rattle.std.specs.declared.cmp.Ordering.{Ordering}
 use Rattle.std.specs.declared.cmp.Ordering.TheVariants.{Less, Equal, Greater}
@@ -7,8 +8,7 @@ use Rattle.can_frame.specs.Parts.{Parts, IsFrame}
 use Rattle.can_frame.specs.Arbitration.{arbitration_field, field_cmp}
 use Rattle.can_mac.specs.declared.event.Event.{Event}
 use Rattle.can_mac.specs.declared.event.Event.TheVariants.{Sent, Received, Lost, Error, Overload, WentOff, Recovered}
-use Rattle.can_mac.specs.declared.phase.Phase.TheVariants.{Joining, Idle, StuffedPart, CrcDelimiter, AckSlot, AckDelimiter, EndOfFrame, ErrorFlag, PassiveFlag, OverloadFlag, AfterFlag, Delimiter, Intermission, Suspend, BusOff}
-use Rattle.can_mac.specs.State.{MacPhase, MacState, IsMac}
+use Rattle.can_mac.specs.State.{MacState, IsMac}
 use Rattle.can_mac.specs.Machine.{mac_drives, mac_step, holding}
 use Rattle.can_node.specs.declared.entry.Entry.{Entry}
 
@@ -63,19 +63,19 @@ abbrev pub missed_limit : ℕ
 missed_limit = 2 ^ 32 - 1
 
 -- one entry more in the log, or one missed where the log is full
-abbrev pub logged : Entry → PortState → PortState
-logged entry p = if nat_lt (length p.log) p.log_room then record p { log = p.log ++ entry ∷ [] } else record p { missed = min (p.missed + 1) missed_limit }
+abbrev pub port_logging : Entry → PortState → PortState
+port_logging entry p = if nat_lt (length p.log) p.log_room then record p { log = p.log ++ entry ∷ [] } else record p { missed = min (p.missed + 1) missed_limit }
 
 -- what an event makes of queue and log
-abbrev pub noted : Option Event → PortState → PortState
-noted (Some (Sent f)) p = logged (record { frame = f; sent = true }) (record p { queue = without f p.queue })
-noted (Some (Received f)) p = logged (record { frame = f; sent = false }) p
-noted (Some Lost) p = p
-noted (Some (Error kind)) p = p
-noted (Some Overload) p = p
-noted (Some WentOff) p = p
-noted (Some Recovered) p = p
-noted None p = p
+abbrev pub port_noting : Option Event → PortState → PortState
+port_noting (Some (Sent f)) p = port_logging (record { frame = f; sent = true }) (record p { queue = without f p.queue })
+port_noting (Some (Received f)) p = port_logging (record { frame = f; sent = false }) p
+port_noting (Some Lost) p = p
+port_noting (Some (Error kind)) p = p
+port_noting (Some Overload) p = p
+port_noting (Some WentOff) p = p
+port_noting (Some Recovered) p = p
+port_noting None p = p
 
 -- what a port drives
 unfoldable pub port_drives : PortState → Level
@@ -87,11 +87,11 @@ port_event p seen = (mac_step p.mac (waiting p.queue) seen).1
 
 -- the port after it
 unfoldable pub port_step : PortState → Level → PortState
-port_step p seen = noted (port_event p seen) (record p { mac = (mac_step p.mac (waiting p.queue) seen).0 })
+port_step p seen = port_noting (port_event p seen) (record p { mac = (mac_step p.mac (waiting p.queue) seen).0 })
 
 -- one more frame waits
-abbrev pub offered : Parts → PortState → PortState
-offered f p = record p { queue = p.queue ++ f ∷ [] }
+abbrev pub port_offered : Parts → PortState → PortState
+port_offered f p = record p { queue = p.queue ++ f ∷ [] }
 
 -- n overload frames of the port's own are asked for
 abbrev pub port_holding : ℕ → PortState → PortState
@@ -106,24 +106,6 @@ port_run p (x ∷ levels) = port_run (port_step p x) levels
 unfoldable pub port_events : PortState → List Level → List (Option Event)
 port_events p [] = []
 port_events p (x ∷ levels) = port_event p x ∷ port_events (port_step p x) levels
-
--- a port that is joining, bus off or in a passive error flag
-abbrev pub is_silent : MacPhase → Bool
-is_silent (Joining row) = true
-is_silent (PassiveFlag last run unacknowledged) = true
-is_silent BusOff = true
-is_silent Idle = false
-is_silent (StuffedPart front) = false
-is_silent (CrcDelimiter r) = false
-is_silent (AckSlot r) = false
-is_silent (AckDelimiter r) = false
-is_silent (EndOfFrame r place) = false
-is_silent (ErrorFlag place) = false
-is_silent (OverloadFlag place) = false
-is_silent (AfterFlag first dominant) = false
-is_silent (Delimiter place) = false
-is_silent (Intermission place) = false
-is_silent (Suspend place) = false
 
 -- what holds of every port: what holds of every controller, its frames are frames, and queue and log keep
 -- within their rooms

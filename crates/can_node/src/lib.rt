@@ -18,9 +18,8 @@
 //! | `listening.rt` | [`listen`], and what a port claims | `specs/Listening.antt` |
 //! | `laws.rt` | which frame of a queue waits | `specs/Waiting.antt` |
 //!
-//! Crates above find lemmas in `proofs/`: a port's run as its controller's turns (`PortTurns`), that what
-//! waits are frames (`FramesWaiting`), which frame waits as others come and go (`WaitingLemmas`,
-//! `WaitingLaws`). `Rows` computes the definitions on levels whose outcome is known.
+//! Crates above find lemmas in `proofs/`, which `proofs/Lib.antt` lists with what each file has.
+//! `Rows` computes the definitions on levels whose outcome is known.
 #![tactic(auto)]
 
 mod alike;

@@ -69,7 +69,7 @@ impl<B: FrameBits> Node<B> {
 }
 
 impl<B: FrameBits> Node<B> {
-    ghost use Rattle.can_node.specs.Ports.{noted, port_event, port_step};
+    ghost use Rattle.can_node.specs.Ports.{port_noting, port_event, port_step};
 
     /// A level that may tell something.
     #[tactic(auto, unfolding(crate::specs::Ports::port_step))]
@@ -84,9 +84,9 @@ impl<B: FrameBits> Node<B> {
     }
 
     /// What an event makes of queue and log.
-    #[tactic(auto, using(crate::proofs::PortLemmas::logged_is))]
+    #[tactic(auto, using(crate::proofs::PortLemmas::port_logging_is))]
     fn note(&mut self, event: &Option<Event>)
-        ensures { ⟦<Node<B> as Port>⟧.port self.new ≡ noted event.now (⟦<Node<B> as Port>⟧.port self.old) }
+        ensures { ⟦<Node<B> as Port>⟧.port self.new ≡ port_noting event.now (⟦<Node<B> as Port>⟧.port self.old) }
     {
         match event {
             Some(Event::Sent(frame)) => {
@@ -113,7 +113,7 @@ impl<B: FrameBits> Port for Node<B> {
 
     ghost valid = { λ n. record { mac = n.kept; queued = n.queue.are_frames; logged = n.log.are_frames; queue_fits = n.queue.fits; log_fits = n.log.fits; missed_fits = n.log.counted } };
 
-    #[tactic(auto, using(crate::proofs::PortLemmas::is_silent_told), unfolding(crate::specs::Ports::port_drives))]
+    #[tactic(auto, unfolding(crate::specs::Ports::port_drives))]
     fn drive(&self) -> Level {
         self.mac.drive(self.queue.waiting())
     }

@@ -1,7 +1,8 @@
-ghost use Rattle.std.specs.Prelude.{◌≡◌, ◌<◌, ◌≤◌, ◌↔◌, true, length, IsTrue, IsFalse, IsOk, OnOk, OnErr, IfErr};
+ghost use Rattle.std.specs.Prelude.{◌≡◌, ◌<◌, ◌≤◌, ◌↔◌, length, IsTrue, IsFalse, IsOk, OnOk, OnErr, IfErr};
 ghost use Rattle.can_fault.specs.Counters.{state_of};
 ghost use Rattle.can_frame.specs.declared.level.Level.TheVariants.{Recessive};
-ghost use Rattle.can_node.specs.Ports.{PortState, IsPort, is_silent, offered, port_drives, port_event, port_holding, port_step};
+ghost use Rattle.can_mac.specs.Machine.{IsSilent};
+ghost use Rattle.can_node.specs.Ports.{PortState, IsPort, port_offered, port_drives, port_event, port_holding, port_step};
 
 use crate::entry::Entry;
 use can_fault::State;
@@ -18,7 +19,7 @@ pub trait Port {
     /// bus off or in a passive error flag drives recessive.
     fn drive(&self) -> Level
         ensures level { result ≡ port_drives (port self.now) }
-        ensures silent { is_silent (port self.now).mac.phase ≡ true → result ≡ Recessive };
+        ensures silent { IsSilent (port self.now).mac.phase → result ≡ Recessive };
 
     /// Samples a level, and answers what the bit time brought.
     fn sample(&mut self, seen: Level) -> Option<Event>
@@ -29,7 +30,7 @@ pub trait Port {
     /// nothing changes.
     fn offer(&mut self, frame: Frame) -> Result<(), Frame>
         ensures fits { IsOk result ↔ (length (port self.old).queue < (port self.old).queue_room) }
-        ensures taken { OnOk result (port self.new ≡ offered frame (port self.old)) }
+        ensures taken { OnOk result (port self.new ≡ port_offered frame (port self.old)) }
         ensures back { IfErr result (λ refused. refused ≡ frame) }
         ensures unchanged { OnErr result (port self.new ≡ port self.old) };
 

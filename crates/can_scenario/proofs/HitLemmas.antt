@@ -7,7 +7,7 @@ use Rattle.toml.specs.View.{view, items_view}
 use Rattle.toml.specs.declared.value.Value.{Value}
 use Rattle.can_bus.specs.declared.hit.Hit.{Hit}
 use Rattle.can_bus.specs.declared.hit.Hit.TheVariants as hit
-use Rattle.can_bus.specs.Hits.{is_above, names_port, AreTaken, IsAboveLast}
+use Rattle.can_bus.specs.Hits.{is_above, hit_names_port, AreTaken, IsAboveLast}
 use Rattle.can_stream.specs.declared.fault.TraceFault.{TraceFault}
 use Rattle.can_stream.specs.declared.fault.TraceFault.TheVariants.{ScenarioField}
 use Rattle.can_stream.specs.declared.field.Field.{Field}
@@ -128,7 +128,7 @@ sound_taken : (ports : ℕ) (before : Option Hit) (hits : List Hit) → AreSound
 sound_taken ports before [] sound place next there = absurd (let no : None ≡ Some next = there in cc)
 sound_taken ports before (first ∷ hits) sound zero next there =
     let same : first ≡ next = cc in
-    (λ n last after at. absurd (omega arith), subst (λ (h : Hit). names_port ports h ≡ true) same sound.0.0)
+    (λ n last after at. absurd (omega arith), subst (λ (h : Hit). hit_names_port ports h ≡ true) same sound.0.0)
 sound_taken ports before (first ∷ hits) sound (suc place) next there =
     let known = sound_taken ports (Some first) hits sound.1 place next there in
     (above_more ports first hits place next sound.1 there known.0, known.1)

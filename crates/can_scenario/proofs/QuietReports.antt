@@ -9,10 +9,10 @@ use Rattle.can_frame.specs.Parts.{Parts}
 use Rattle.can_fault.specs.Counters.{ConfineParts, fresh}
 use Rattle.can_mac.specs.State.{idle, joining}
 use Rattle.can_node.specs.declared.entry.Entry.{Entry}
-use Rattle.can_node.specs.Ports.{PortState, IsPort, fresh_port, offered, port_holding}
+use Rattle.can_node.specs.Ports.{PortState, IsPort, fresh_port, port_offered, port_holding}
 use Rattle.can_bus.specs.Run.{bus_level}
 use Rattle.can_bus.specs.Quiet.{AreDifferent, IsAscending, IsQuiet, IsQuietCall, AtEachPort, LogsWhole, CountsNothing, MissesNothing, ascending, line_at, marked, queued, span}
-use Rattle.can_bus.specs.Plans.{PortPlan as ReadyPlan, IsQuietPlan as AreQuietPlans, planned, ready_port}
+use Rattle.can_bus.specs.Plans.{PlannedPort as ReadyPlan, IsQuietPlan as AreQuietPlans, planned, ready_port}
 use Rattle.can_bus.proofs.Ascending.{ascending_there}
 use Rattle.can_bus.proofs.Contests.{AllPorts}
 use Rattle.can_bus.proofs.QuietAgreement.{span-permuted}
@@ -30,9 +30,9 @@ use Rattle.can_scenario.specs.QuietReport.{IsQuietPlan, IsQuietScenario, all_fra
 abbrev pub made_with : PortPlan → ReadyPlan
 made_with plan = record { queue_room = length plan.queue.items; log_room = plan.log_room; frames = plan.queue.items }
 
-all_offered-fold : (frames : List Parts) (p : PortState) → all_offered frames p ≡ fold (λ q f. offered f q) p frames
+all_offered-fold : (frames : List Parts) (p : PortState) → all_offered frames p ≡ fold (λ q f. port_offered f q) p frames
 all_offered-fold [] p = refl
-all_offered-fold (f ∷ frames) p = all_offered-fold frames (offered f p)
+all_offered-fold (f ∷ frames) p = all_offered-fold frames (port_offered f p)
 
 unasked : (plan : ReadyPlan) → port_holding 0 (ready_port plan) ≡ ready_port plan
 unasked plan = ap (port_holding 0) (ready-filled plan) ∙ sym (ready-filled plan)

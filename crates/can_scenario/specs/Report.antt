@@ -1,6 +1,7 @@
 -- The report of a scenario: what the bus records, and what is told of each port behind the run.
 use Rattle.std.specs.Prelude.{ℕ, zero, suc, ◌+◌, Bool, if◌then◌else◌, List, [], ◌∷◌, ◌++◌, length, map, codes, decimal}
 use Rattle.std.specs.List.{flat_map}
+use Rattle.can_frame.specs.IdleRow.{idle_row}
 use Rattle.can_frame.specs.declared.level.Level.{Level}
 use Rattle.can_frame.specs.Parts.{Parts}
 use Rattle.can_frame.specs.Text.{frame_text}
@@ -9,7 +10,7 @@ use Rattle.can_fault.specs.declared.state.State.TheVariants.{Active, Passive, Bu
 use Rattle.can_fault.specs.Counters.{state_of}
 use Rattle.can_mac.specs.State.{idle, joining}
 use Rattle.can_node.specs.declared.entry.Entry.{Entry}
-use Rattle.can_node.specs.Ports.{PortState, fresh_port, offered, port_holding}
+use Rattle.can_node.specs.Ports.{PortState, fresh_port, port_offered, port_holding}
 use Rattle.can_bus.specs.Run.{BusState, bus_level, bus_run}
 use Rattle.can_stream.specs.Digits.{digit_of}
 use Rattle.can_scenario.specs.declared.scenario.Scenario.{Scenario}
@@ -20,7 +21,7 @@ use Rattle.can_scenario.specs.declared.scenario.PortPlan.{PortPlan}
 -- the frames of a list are offered, one after another
 abbrev pub all_offered : List Parts → PortState → PortState
 all_offered [] p = p
-all_offered (f ∷ frames) p = all_offered frames (offered f p)
+all_offered (f ∷ frames) p = all_offered frames (port_offered f p)
 
 -- a port as it begins: it was made with a place in its queue for each frame, was offered the frames in their order,
 -- and then asked for its overload frames
@@ -31,7 +32,7 @@ started_port plan =
 
 -- the bus as the run begins: a new one, so eleven recessive levels count as recorded last
 abbrev pub started_bus : Scenario → BusState
-started_bus s = record { ports = map started_port s.ports.items; rest = 11 }
+started_bus s = record { ports = map started_port s.ports.items; rest = idle_row }
 
 -- as it ends
 abbrev pub ended_bus : Scenario → BusState

@@ -7,7 +7,7 @@ use Rattle.can_frame.specs.Parts.{Parts, IsFrame}
 use Rattle.can_frame.specs.Text.{frame_text, IsFrameText}
 use Rattle.can_bus.specs.declared.hit.Hit.{Hit}
 use Rattle.can_bus.specs.declared.hit.Hit.TheVariants as hit
-use Rattle.can_bus.specs.Hits.{is_above, names_port}
+use Rattle.can_bus.specs.Hits.{is_above, hit_names_port}
 use Rattle.can_stream.specs.declared.fault.TraceFault.{TraceFault}
 use Rattle.can_stream.specs.declared.fault.TraceFault.TheVariants.{ScenarioField, Memory}
 use Rattle.can_scenario.specs.declared.scenario.Scenario.{Scenario}
@@ -170,7 +170,7 @@ IsAboveBefore (Some before) hit = is_above hit before ≡ true
 -- of so many ports it names one, if it names any, and it is above the one before it
 abbrev pub IsSoundHit : ℕ → Option Hit → Option Hit → Type 0
 IsSoundHit ports before None = ⊥
-IsSoundHit ports before (Some hit) = (names_port ports hit ≡ true) × IsAboveBefore before hit
+IsSoundHit ports before (Some hit) = (hit_names_port ports hit ≡ true) × IsAboveBefore before hit
 
 -- each element of a list is a disturbance above the one before it
 abbrev pub hit_demands : HitList → ℕ → ℕ → Option Hit → List Data → Demands

@@ -1,10 +1,11 @@
 //! A run of a bus to whose ports frames are offered meanwhile.
-ghost use Rattle.std.specs.Prelude.{ℕ, List, ◌≡◌, ◌+◌, ◌<◌, ◌≤◌, ◌↔◌, not, length, map, slice_get, Ok, Some, IsOk, OnOk, OnErr, IfErr, IfOk};
-ghost use Rattle.can_bus.specs.Offers.{AreOffered, IsFirstFault, all_made, is_full, made, played, played_level, refused, refused_at};
-ghost use Rattle.can_bus.specs.OpenBus.{AreOver, AtEachNode, IsOpenCall, OpenLogBegins, OpenLogWhole};
-ghost use Rattle.can_bus.specs.Quiet.{AtEachPort, CountsNothing, MissesNothing};
-ghost use Rattle.can_bus.specs.Schedule.{Timed, track_at};
-ghost use Rattle.can_bus.specs.State.{state_of};
+ghost use Rattle.std.specs.Prelude.{ℕ, ◌≡◌, ◌+◌, ◌<◌, ◌≤◌, ◌↔◌, not, length, Ok, IsOk, OnOk, OnErr, IfErr, IfOk};
+ghost use Rattle.can_bus.specs.Offers.{AreOffered, IsFirstOfferFault, all_made, is_full, made, played, played_level, refused, refused_at};
+ghost use Rattle.can_bus.specs.OpenBus.{AreOver, OnOpenCall, OpenLogBegins, OpenLogWhole};
+ghost use Rattle.can_bus.specs.Quiet.{AtEachPort, CountsNothing, MissesNothing, AtEachNode};
+ghost use Rattle.can_bus.specs.Run.{AreLevelsOf};
+ghost use Rattle.can_bus.specs.Schedule.{track_at};
+ghost use Rattle.can_bus.specs.State.{port_count, port_states, rest_of, state_of};
 ghost use Rattle.can_bus.specs.Walks.{IsReached};
 
 use crate::bus::Bus;
@@ -25,22 +26,22 @@ struct Progress {
 impl<P: Port> Bus<P> {
     /// Makes an offer to its port, and answers whether the queue had room for it.
     fn make(&mut self, offer: Offer) -> bool
-        requires named { offer.node < length self.old.ports.items }
-        ensures ports { map P.port self.new.ports.items ≡ made offer 0 (map P.port self.old.ports.items) }
-        ensures rest { self.new.rest ≡ self.old.rest }
-        ensures answer { result ≡ not (is_full offer.node (map P.port self.old.ports.items)) }
+        requires named { offer.node < port_count self.old }
+        ensures ports { port_states P.port self.new ≡ made offer 0 (port_states P.port self.old) }
+        ensures rest { rest_of self.new ≡ rest_of self.old }
+        ensures answer { result ≡ not (is_full offer.node (port_states P.port self.old)) }
     {
         self.ports[offer.node].offer(offer.frame).is_ok()
     }
 
     /// Makes the offers of this time, in their order.
     fn make_all(&mut self, offers: &[Offer], time: u64, progress: &mut Progress)
-        requires offered { AreOffered (length self.old.ports.items) offers.now }
+        requires offered { AreOffered (port_count self.old) offers.now }
         requires reached { IsReached offers.now progress.old.place time }
         requires refused { progress.old.refused ≤ progress.old.place }
-        ensures ports { map P.port self.new.ports.items ≡ all_made offers.now time (map P.port self.old.ports.items) }
-        ensures rest { self.new.rest ≡ self.old.rest }
-        ensures count { progress.new.refused ≡ progress.old.refused + refused_at offers.now time (map P.port self.old.ports.items) }
+        ensures ports { port_states P.port self.new ≡ all_made offers.now time (port_states P.port self.old) }
+        ensures rest { rest_of self.new ≡ rest_of self.old }
+        ensures count { progress.new.refused ≡ progress.old.refused + refused_at offers.now time (port_states P.port self.old) }
         ensures reached { IsReached offers.now progress.new.place (time + 1) }
         ensures refused { progress.new.refused ≤ progress.new.place }
     {
@@ -69,23 +70,21 @@ impl<P: Port> Bus<P> {
     /// port that had the frame, and as received at each other port; behind the last level of the last
     /// frame it names them all. No offer is given back, no counter moves, and no entry is missed.
     pub fn play(&mut self, offers: &[Offer], rec: &mut [Level]) -> Result<usize, BusFault>
-        ensures taken { IsOk result ↔ AreOffered (length self.old.ports.items) offers.now }
-        ensures fault { IfErr result (λ fault. IsFirstFault (length self.old.ports.items) offers.now fault) }
+        ensures taken { IsOk result ↔ AreOffered (port_count self.old) offers.now }
+        ensures fault { IfErr result (λ fault. IsFirstOfferFault (port_count self.old) offers.now fault) }
         ensures bus { OnOk result (state_of P.port self.new ≡ played offers.now (length rec.new) (state_of P.port self.old)) }
-        ensures levels { OnOk result ((t : ℕ) → t < length rec.new →
-            slice_get rec.new t ≡ Some (played_level offers.now t (state_of P.port self.old))) }
+        ensures levels { OnOk result (AreLevelsOf (λ t. played_level offers.now t (state_of P.port self.old)) rec.new) }
         ensures count { IfOk result (λ count. count ≡ refused offers.now (length rec.new) (state_of P.port self.old)) }
-        ensures answer { (starts : List Timed) → IsOpenCall offers.now (map P.port self.old.ports.items) starts → result ≡ Ok 0 }
-        ensures track { (starts : List Timed) → IsOpenCall offers.now (map P.port self.old.ports.items) starts → (t : ℕ) → t < length rec.new →
-            slice_get rec.new t ≡ Some (track_at starts t) }
-        ensures open_logs { (starts : List Timed) → IsOpenCall offers.now (map P.port self.old.ports.items) starts →
-            AtEachNode (OpenLogBegins offers.now starts) (map P.port self.old.ports.items) (map P.port self.new.ports.items) }
-        ensures open_whole { (starts : List Timed) → IsOpenCall offers.now (map P.port self.old.ports.items) starts → AreOver starts (length rec.new) →
-            AtEachNode (OpenLogWhole offers.now starts) (map P.port self.old.ports.items) (map P.port self.new.ports.items) }
-        ensures open_counters { (starts : List Timed) → IsOpenCall offers.now (map P.port self.old.ports.items) starts →
-            AtEachPort CountsNothing (map P.port self.old.ports.items) (map P.port self.new.ports.items) }
-        ensures open_missed { (starts : List Timed) → IsOpenCall offers.now (map P.port self.old.ports.items) starts →
-            AtEachPort MissesNothing (map P.port self.old.ports.items) (map P.port self.new.ports.items) }
+        ensures answer { OnOpenCall offers.now (port_states P.port self.old) (λ starts. result ≡ Ok 0) }
+        ensures track { OnOpenCall offers.now (port_states P.port self.old) (λ starts. AreLevelsOf (track_at starts) rec.new) }
+        ensures open_logs { OnOpenCall offers.now (port_states P.port self.old) (λ starts.
+            AtEachNode (OpenLogBegins offers.now starts) (port_states P.port self.old) (port_states P.port self.new)) }
+        ensures open_whole { OnOpenCall offers.now (port_states P.port self.old) (λ starts. AreOver starts (length rec.new) →
+            AtEachNode (OpenLogWhole offers.now starts) (port_states P.port self.old) (port_states P.port self.new)) }
+        ensures open_counters { OnOpenCall offers.now (port_states P.port self.old) (λ starts.
+            AtEachPort CountsNothing (port_states P.port self.old) (port_states P.port self.new)) }
+        ensures open_missed { OnOpenCall offers.now (port_states P.port self.old) (λ starts.
+            AtEachPort MissesNothing (port_states P.port self.old) (port_states P.port self.new)) }
         ensures unchanged { OnErr result (self.new ≡ self.old) }
         ensures unrecorded { OnErr result (rec.new ≡ rec.old) }
     {

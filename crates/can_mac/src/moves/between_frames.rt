@@ -8,10 +8,10 @@ use crate::event::ErrorKind;
 use crate::moves::{Entering, Stance};
 use crate::phase::{Phase, Role};
 use can_code::Sending;
-use can_frame::{Frame, Level};
+use can_frame::{Frame, IDLE_ROW, Level};
 
 /// How many recessive levels in a row a controller waits for before it is on the bus, less the last.
-const LAST_OF_JOINING: u8 = 10;
+const LAST_OF_JOINING: u8 = IDLE_ROW - 1;
 
 /// The last place of intermission.
 pub(crate) const LAST_OF_INTERMISSION: u8 = 2;

@@ -3,21 +3,15 @@
 ghost use Rattle.std.specs.Prelude.{◌≡◌, ◌≢◌, List, length, if◌then◌else◌, false, IsTrue};
 ghost use Rattle.can_frame.specs.declared.level.Level.{Level as Bit};
 ghost use Rattle.can_code.specs.Front.{FrontParts, is_stuff_error, next_place as next_place_of};
-ghost use Rattle.can_mac.specs.Moves.{hears, in_arbitration, part_phase, phase_after, placed, sent_bit_move, stuff_error_move, stuffed_part_move};
+ghost use Rattle.can_mac.specs.Moves.{hears, in_arbitration, part_phase, phase_after, move_keeping, sent_bit_move, stuff_error_move, stuffed_part_move};
 ghost use Rattle.can_mac.specs.declared.moves.Stance.{Stance as Standing};
 ghost use Rattle.can_mac.specs.declared.phase.Phase.TheVariants.{StuffedPart};
 
 use crate::event::{ErrorKind, Event};
 use crate::moves::{Entering, Hearing, Move, NewFrame, Stance};
 use crate::phase::{Phase, Reading, Role};
-use can_code::{FrameBits, Front, Place, Sending};
+use can_code::{FrameBits, Front, Place, Sending, rtr_place};
 use can_frame::Level;
-
-/// Where the RTR bit stands, which ends the arbitration of a standard frame.
-const STANDARD_RTR_PLACE: usize = 12;
-
-/// Where the RTR bit stands, which ends the arbitration of an extended frame.
-const EXTENDED_RTR_PLACE: usize = 32;
 
 /// A level of the stuffed part.
 pub(crate) fn stuffed_part<B: FrameBits>(
@@ -26,7 +20,7 @@ pub(crate) fn stuffed_part<B: FrameBits>(
     seen: Level,
 ) -> Hearing
     requires { next_place_of front.old ≢ Place.CrcDelimiter }
-    ensures { placed (StuffedPart front.new) result ≡ stuffed_part_move stance.now front.old seen }
+    ensures { move_keeping (StuffedPart front.new) result ≡ stuffed_part_move stance.now front.old seen }
 {
     match (&stance.role, front.next_place()) {
         (Role::Sender(sending), Place::Bit) => {
@@ -56,7 +50,7 @@ pub(crate) fn is_in_order<B: FrameBits>(role: &Role, front: &Front<B>, seen: Lev
 /// Hears a level, which may be a wrong stuff bit.
 fn hear<B: FrameBits>(stance: &Stance, front: &mut Front<B>, seen: Level) -> Hearing
     requires { next_place_of front.old ≢ Place.CrcDelimiter }
-    ensures { placed (StuffedPart front.new) result ≡ (if is_stuff_error front.old seen then stuff_error_move stance.now front.old seen else hears stance.now front.old seen) }
+    ensures { move_keeping (StuffedPart front.new) result ≡ (if is_stuff_error front.old seen then stuff_error_move stance.now front.old seen else hears stance.now front.old seen) }
 {
     if front.hear(seen).is_err() {
         return stuff_error(stance, front.len(), seen).leaves();
@@ -101,12 +95,7 @@ fn stuff_error(stance: &Stance, place: usize, seen: Level) -> Entering
 fn is_in_arbitration(sending: &Sending, place: usize) -> bool
     ensures { (u : List Bit) → length u ≡ place → result ≡ in_arbitration sending.now u }
 {
-    let rtr_place = if sending.frame().is_extended() {
-        EXTENDED_RTR_PLACE
-    } else {
-        STANDARD_RTR_PLACE
-    };
-    place <= rtr_place
+    place <= rtr_place(sending.frame().is_extended())
 }
 
 /// A level of its frame that a sender sent, and the one that it sees. A recessive level that is overridden in its
@@ -119,7 +108,7 @@ fn sent_bit<B: FrameBits>(
     seen: Level,
 ) -> Hearing
     requires { next_place_of front.old ≡ Place.Bit }
-    ensures { placed (StuffedPart front.new) result ≡ sent_bit_move stance.now sending.now front.old sent seen }
+    ensures { move_keeping (StuffedPart front.new) result ≡ sent_bit_move stance.now sending.now front.old sent seen }
 {
     match (sent, seen) {
         (Level::Dominant, Level::Dominant) | (Level::Recessive, Level::Recessive) => {

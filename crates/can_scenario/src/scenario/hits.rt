@@ -1,6 +1,6 @@
 //! The disturbances of a scenario's document.
 ghost use Rattle.std.specs.Prelude.{◌≡◌, ◌↔◌, ℕ, Option, Some, map, option_map, IfErr, IfOk, IfSome, IsErrOf, IsNone, IsTrue, MatchOption, OnOk};
-ghost use Rattle.can_bus.specs.Hits.{AreTaken, names_port as names_port_of};
+ghost use Rattle.can_bus.specs.Hits.{AreTaken, hit_names_port as names_port_of};
 ghost use Rattle.toml.specs.Data.{table};
 ghost use Rattle.toml.specs.View.{view, table_view};
 ghost use Rattle.can_scenario.specs.Scenarios.{hit_in as hit_said, hit_demands, hits_demands, list_demands, list_name, elements_in, named, AddsHits, AllMet, IsAboveBefore, IsFieldOrMemory, IsFirstUnmet, IsNumber, IsPair, IsSoundHit, SaysHits};

@@ -2,7 +2,7 @@ use Rattle.std.proofs.Common.{◌≡◌, ◌+◌, ◌++◌, refl, List, length, 
 use Rattle.std.proofs.lemmas.List.{take_at}
 use Rattle.can_node.specs.Ports.{PortState, port_drives}
 use Rattle.can_bus.specs.Wired.{wired}
-use Rattle.can_bus.specs.Run.{Course, begins, inverted_if, all_sampled, rest_after}
+use Rattle.can_bus.specs.Run.{Course, begins_attempt, inverted_if, all_sampled, rest_after}
 use Rattle.can_bus.specs.Walks.{AreBelow, IsPassed, in_now}
 use Rattle.can_bus.proofs.StepLemmas.{within_now, within_next, at_next, passed_more, step_is}
 use Rattle.can_bus.proofs.bus.Bus.step.Goals as goal
@@ -10,7 +10,7 @@ use Rattle.can_bus.proofs.bus.Bus.step.Goals as goal
 pub hits_wire-hit-requires-clause-within : goal.hits_wire-hit-requires-clause-within
 hits_wire-hit-requires-clause-within g c =
     subst (λ l. AreBelow c.args.hits.now c.args.call.now.within.place (in_now l)) (sym c.attempt_now-call.ensures)
-    (within_now c.args.hits.now c.args.call.now.within.place (begins c.args.self.now.rest c.wired_level-wired.result) c.args.call.now.latest c.requires.call.within)
+    (within_now c.args.hits.now c.args.call.now.within.place (begins_attempt c.args.self.now.rest c.wired_level-wired.result) c.args.call.now.latest c.requires.call.within)
 
 pub returns-clause-level : goal.returns-clause-level
 returns-clause-level g c =
@@ -50,7 +50,7 @@ returns-clause-after g c =
 
 pub returns-clause-call : goal.returns-clause-call
 returns-clause-call g c =
-    let begun = begins c.args.self.now.rest c.wired_level-wired.result in
+    let begun = begins_attempt c.args.self.now.rest c.wired_level-wired.result in
     let passed : IsPassed c.attempt_now-call.result (c.args.call.now.time + 1) =
     subst (λ l. IsPassed l (c.args.call.now.time + 1)) (sym c.attempt_now-call.ensures) (passed_more begun c.args.call.now.latest c.args.call.now.time c.requires.call.passed) in
     record {

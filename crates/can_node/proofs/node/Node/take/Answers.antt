@@ -1,5 +1,5 @@
 use Rattle.std.specs.Option.{option_copied}
-use Rattle.can_mac.specs.State.{IsWaiting}
+use Rattle.can_mac.specs.State.{IsFrameOrNone}
 use Rattle.can_mac.proofs.Kept.{step_kept}
 use Rattle.can_node.proofs.PortLemmas.{is_frame_waiting}
 use Rattle.can_node.proofs.node.Node.take.Goals as goal
@@ -7,5 +7,5 @@ use Rattle.can_node.proofs.node.Node.take.Goals as goal
 pub invariant_of-self : goal.invariant_of-self
 invariant_of-self g c =
     let node = c.args.self.now in
-    let frame : IsWaiting (option_copied c.waiting.result) = rw c.waiting.ensures (is_frame_waiting node.queue.frames.items node.queue.next node.queue.are_frames node.queue.goes_first) in
+    let frame : IsFrameOrNone (option_copied c.waiting.result) = rw c.waiting.ensures (is_frame_waiting node.queue.frames.items node.queue.next node.queue.are_frames node.queue.goes_first) in
     record { kept = rw c.sample-event.ensures.state (step_kept node.mac node.kept (option_copied c.waiting.result) c.args.seen frame) }
