@@ -73,7 +73,7 @@ module _ (m now : MacState) (view : m ≡ now) (h : IsMac m) (on : is_off_phase 
     goes-on-IsMac = subst (λ r. IsMac r.0) (sym goes-on) (on_kept now (subst IsMac view h) waiting x on whole)
 
 -- a level that only makes another phase where it passes, and changes nothing where it doesn't
-pub passes-IsMac : (m : MacState) → IsMac m → (waiting : Option Parts) → IsWaiting waiting → (x : Level) (passed : Bool) (p : MacPhase)
+pub passes-IsMac : (m : MacState) → IsMac m → (waiting : Option Parts) → IsFrameOrNone waiting → (x : Level) (passed : Bool) (p : MacPhase)
     → (IsTrue passed → (s : Stance) → s.role ≡ m.role → move s m.phase waiting x ≡ goes s p)
     → (IsTrue passed → is_off_phase m.phase ≡ false)
     → (IsFalse passed → p ≡ m.phase)
