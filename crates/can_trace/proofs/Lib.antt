@@ -35,6 +35,9 @@ pub mod ScenarioRows
 pub mod HitLemmas
 pub mod ReportLines
 pub mod Started
+pub mod OfferOrder
+pub mod PlannedOffers
+pub mod OpenReports
 pub mod QuietReports
 pub mod QuietOrder
 pub mod OneScenario

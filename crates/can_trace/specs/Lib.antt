@@ -14,5 +14,7 @@ pub mod Decoded
 pub mod Decoding
 pub mod ScenarioProps
 pub mod Scenarios
+pub mod ScenarioOffers
 pub mod Report
+pub mod OpenReport
 pub mod QuietReport

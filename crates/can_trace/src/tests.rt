@@ -14,6 +14,7 @@ mod hits;
 mod order;
 mod run;
 mod scenario;
+mod timed;
 mod whole;
 
 /// The line of levels of `S 000 D 0`.
