@@ -39,5 +39,7 @@ pub mod OfferOrder
 pub mod PlannedOffers
 pub mod OpenReports
 pub mod QuietReports
+pub mod FirstOffers
+pub mod RoomForAll
 pub mod QuietOrder
 pub mod OneScenario

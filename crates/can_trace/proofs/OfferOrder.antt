@@ -10,6 +10,7 @@ use Rattle.std.proofs.lemmas.List.Elements.{filter_agree}
 use Rattle.std.proofs.lemmas.List.Sorted.{IsPermutation-cons, IsPermutation-middle, IsPermutation-refl, IsPermutation-trans}
 use Rattle.can_frame.specs.Parts.{Parts}
 use Rattle.can_bus.specs.declared.offer.Offer.{Offer}
+use Rattle.can_bus.proofs.Members.{Stands, stands-here, stands-later}
 use Rattle.can_trace.specs.ScenarioOffers.{AreInTime, in_time, offers_at, put_in_time}
 
 -- ---- offers whose times rise
@@ -67,7 +68,7 @@ none-at s t (o ∷ os) from before = at-other o os t (λ e. let later = from.0 i
 -- ---- an offer at its place
 
 module _ (o next : Offer) (os : List Offer) where
-  put-here : o.time ≤ next.time → put_in_time o (next ∷ os) ≡ o ∷ next ∷ os
+  pub put-here : o.time ≤ next.time → put_in_time o (next ∷ os) ≡ o ∷ next ∷ os
   put-here early = cond-true (leb o.time next.time) (o ∷ next ∷ os) (next ∷ put_in_time o os) (le-leb o.time next.time early)
 
   put-later : next.time < o.time → put_in_time o (next ∷ os) ≡ next ∷ put_in_time o os
@@ -155,6 +156,16 @@ same-offers (x ∷ a) (y ∷ b) rise risen same = elim (cases_order x.time y.tim
 
 pub one-order : (os ordered : List Offer) → AreInTime os ordered → ordered ≡ in_time os
 one-order os ordered are = same-offers ordered (in_time os) (rise-from ordered are.rising) (in_time-rise os) (λ t. are.same t ∙ sym (in_time-at t os))
+
+-- offers of time 0 stay as they are
+pub in_time-first : (os : List Offer) → ((o : Offer) → Stands os o → o.time ≡ 0) → in_time os ≡ os
+unfolding in_time
+in_time-first [] first = refl
+in_time-first (o ∷ os) first = ap (put_in_time o) (in_time-first os (λ p there. first p (stands-later o os p there))) ∙ in-front os
+  where
+    in-front : (later : List Offer) → put_in_time o later ≡ o ∷ later
+    in-front [] = refl
+    in-front (next ∷ later) = put-here o next later (let here = first o (stands-here o os) in omega (arith, here))
 
 -- ---- the same offers
 

@@ -6,6 +6,7 @@ use Rattle.std.proofs.lemmas.Bool.{le-leb, lt-ltb}
 use Rattle.std.proofs.lemmas.List.{length-map}
 use Rattle.std.proofs.lemmas.List.Sorted.{IsPermutation-map, IsPermutation-sym, length_permutation, list_any-IsPermutation}
 use Rattle.std.proofs.lemmas.Option.{get_or_from_slice_get, slice_get-map, slice_get_within}
+use Rattle.can_frame.specs.declared.level.Level.{Level}
 use Rattle.can_frame.specs.Parts.{Parts}
 use Rattle.can_fault.specs.Counters.{ConfineParts, fresh}
 use Rattle.can_mac.specs.State.{idle, joining}
@@ -13,16 +14,22 @@ use Rattle.can_node.specs.declared.entry.Entry.{Entry}
 use Rattle.can_node.specs.Ports.{PortState, IsPort, fresh_port, port_holding, same_field}
 use Rattle.can_bus.specs.declared.offer.Offer.{Offer}
 use Rattle.can_bus.specs.Offers.{AreOffered, played, played_level}
-use Rattle.can_bus.specs.OpenBus.{AreOver, AtEachNode, IsOpenCall, OpenLogWhole, all_offers, offered_to, own_offers, timed}
+use Rattle.can_bus.specs.OpenBus.{AreOver, AtEachNode, IsOpenCall, OpenLogWhole, QueuesHaveRoom, all_offers, offered_to, own_offers, timed}
 use Rattle.can_bus.specs.Quiet.{AreDifferent, AtEachPort, CountsNothing, IsQuietPort, MissesNothing, holds, marked, queued}
-use Rattle.can_bus.specs.Schedule.{IsScheduleOf, Timed, frames_of}
+use Rattle.can_bus.specs.Run.{BusState}
+use Rattle.can_bus.specs.Schedule.{IsScheduleOf, Timed, frames_of, track_at}
 use Rattle.can_bus.proofs.Ascending.{different_permuted}
+use Rattle.can_bus.proofs.Contests.{AllPorts}
 use Rattle.can_bus.proofs.Members.{stands-permuted}
+use Rattle.can_bus.proofs.OfferLemmas.{length-all_made}
+use Rattle.can_bus.proofs.OpenCalls.{open-counters, open-missed, open-track, open-whole}
+use Rattle.can_bus.proofs.OpenStart.{OfFrames}
+use Rattle.can_bus.proofs.RunLemmas.{length-run}
 use Rattle.can_bus.proofs.Schedules.{one-schedule}
 use Rattle.can_trace.specs.declared.scenario.Scenario.{Scenario}
 use Rattle.can_trace.specs.declared.scenario.PortPlan.{PortPlan}
 use Rattle.can_trace.specs.OpenReport.{IsOpenScenario, IsQuietPlan, all_frames, open_report, queues, quiet_port, scenario_starts}
-use Rattle.can_trace.specs.Report.{PortReport, frames_of_queue, levels_until, made_port, reported, report_text}
+use Rattle.can_trace.specs.Report.{PortReport, ended_by, frames_of_queue, level_by, levels_until, made_bus, made_port, report, reported, report_text}
 use Rattle.can_trace.specs.ScenarioOffers.{in_time, offers_from, scenario_offers}
 use Rattle.can_trace.proofs.OfferOrder.{in_time-is, in_time-permuted}
 use Rattle.can_trace.proofs.PlannedOffers.{all-permuted, offers-named, own-permuted, own-size}
@@ -74,6 +81,14 @@ plan-of [] n p there = absurd (let e : None ≡ Some p = there in cc)
 plan-of (plan ∷ plans) zero p there = (plan, refl, (let e : Some (made_port plan) ≡ Some p = there in cc))
 plan-of (plan ∷ plans) (suc n) p there = plan-of plans n p there
 
+-- each queue has room for what its port is offered
+pub planned-room : (plans : List PortPlan) → QueuesHaveRoom (in_time (offers_from 0 plans)) (map made_port plans)
+planned-room plans n p there =
+    let offers = in_time (offers_from 0 plans) in
+    let of = plan-of plans n p there in
+    let fits : length (own_offers offers n (made_port of.0)) ≤ (made_port of.0).queue_room = omega (arith, own-size plans n of.0 of.1) in
+    subst (λ (q : PortState). length (own_offers offers n q) ≤ q.queue_room) (sym of.2) fits
+
 -- the marks are those of the same frames in another order
 pub marked-same : (own queue frames : List Parts) → IsPermutation own queue → marked own frames ≡ marked queue frames
 marked-same own queue [] same = refl
@@ -117,10 +132,7 @@ module _ (s : Scenario) (open : IsOpenScenario s) where
         let of = plan-of plans n p there in
         subst (IsQuietPort (length (all_offers offers ports))) (sym of.2)
         (subst (λ k. IsQuietPort k (made_port of.0)) (sym size) (quiet-port (length (all_frames (queues s))) of.0 (open.quiet n of.0 of.1)));
-    room = λ n p there.
-        let of = plan-of plans n p there in
-        let fits : length (own_offers offers n (made_port of.0)) ≤ (made_port of.0).queue_room = omega (arith, own-size plans n of.0 of.1) in
-        subst (λ (q : PortState). length (own_offers offers n q) ≤ q.queue_room) (sym of.2) fits;
+    room = planned-room plans;
     scheduled = subst (λ all. IsScheduleOf all starts) (sym all-are) (one-schedule (map timed offers) different);
   }
 
@@ -165,3 +177,38 @@ module _ (s : Scenario) (open : IsOpenScenario s) where
       (λ n plan q there now.
       let before : slice_get ports n ≡ Some (made_port plan) = slice_get-map made_port plans n ∙ ap (λ o. option_map made_port o) there in
       subst (λ k. EndsOpen k (made_port plan) q) (sym (zero-first n)) (logs n (made_port plan) q before now, counters n (made_port plan) q before now, missed n (made_port plan) q before now))
+
+-- ---- the report
+
+pub levels-same : (f g : ℕ → Level) → ((t : ℕ) → f t ≡ g t) → (n : ℕ) → levels_until f n ≡ levels_until g n
+levels-same f g same zero = refl
+levels-same f g same (suc n) = ap (λ levels. levels ++ f n ∷ []) (levels-same f g same n) ∙ ap (λ x. levels_until g n ++ x ∷ []) (same n)
+
+pub length-played : (offers : List Offer) (n : ℕ) (bus : BusState) → length (played offers n bus).ports ≡ length bus.ports
+unfolding played
+length-played offers zero bus = refl
+length-played offers (suc n) bus = length-run [] 1 _ ∙ length-all_made offers n (played offers n bus).ports ∙ length-played offers n bus
+
+-- the report of a scenario without disturbances
+abbrev pub played_report : Scenario → List ℕ
+played_report s = report_text (levels_until (λ t. played_level (scenario_offers s) t (made_bus s)) s.bits) (map reported (played (scenario_offers s) s.bits (made_bus s)).ports)
+
+pub undisturbed-report : (s : Scenario) → s.hits.items ≡ [] → report s ≡ played_report s
+undisturbed-report s none = ap (λ hits. report_text (levels_until (level_by hits s) s.bits) (map reported (ended_by hits s).ports)) none
+
+-- the report of an open scenario, as the definition of a run has it
+module _ (s : Scenario) (valid : AllPorts IsPort (map made_port s.ports.items)) (framed : OfFrames (scenario_offers s)) (open : IsOpenScenario s) where
+  pub report-open : AreOver (scenario_starts s) s.bits → report s ≡ open_report s.bits (scenario_starts s) (queues s)
+  report-open past =
+      let offers = scenario_offers s in
+      let starts = scenario_starts s in
+      let call = open-call s open in
+      let after = played offers s.bits (made_bus s) in
+      undisturbed-report s open.undisturbed
+      ∙ ap (λ levels. report_text levels (map reported after.ports))
+      (levels-same (λ t. played_level offers t (made_bus s)) (track_at starts) (open-track offers starts (made_bus s) valid framed call) s.bits)
+      ∙ ap (report_text (levels_until (track_at starts) s.bits))
+      (ports-told s open after.ports (length-played offers s.bits (made_bus s) ∙ length-map s.ports.items made_port)
+      (open-whole offers starts (made_bus s) valid framed call s.bits after refl past)
+      (open-counters offers starts (made_bus s) valid framed call s.bits after refl)
+      (open-missed offers starts (made_bus s) valid framed call s.bits after refl))

@@ -11,7 +11,7 @@ use Rattle.can_frame.specs.Parts.{Parts}
 use Rattle.can_bus.specs.declared.offer.Offer.{Offer}
 use Rattle.can_bus.specs.OpenBus.{offered_to, timed}
 use Rattle.can_bus.specs.Schedule.{Timed, frames_of}
-use Rattle.can_bus.proofs.Members.{Stands, map-stands, stands-either, stands-none}
+use Rattle.can_bus.proofs.Members.{Stands, map-stands, stands-either, stands-here, stands-later, stands-none}
 use Rattle.can_trace.specs.declared.scenario.PortPlan.{PortPlan}
 use Rattle.can_trace.specs.declared.scenario.TimedFrame.{TimedFrame}
 use Rattle.can_trace.specs.OpenReport.{all_frames}
@@ -65,12 +65,12 @@ to-port number (first ∷ plans) (suc n) plan there =
     ∙ to-port (number + 1) plans n plan there
     ∙ ap (λ k. map (offer_to k) plan.queue.items) more
 
-queue-frames : (node : ℕ) (queue : List TimedFrame) → frames_of (map timed (map (offer_to node) queue)) ≡ map (λ (x : TimedFrame). x.frame) queue
+pub queue-frames : (node : ℕ) (queue : List TimedFrame) → frames_of (map timed (map (offer_to node) queue)) ≡ map (λ (x : TimedFrame). x.frame) queue
 queue-frames node [] = refl
 queue-frames node (x ∷ queue) = ap (λ fs. x.frame ∷ fs) (queue-frames node queue)
 
 module _ (plans : List PortPlan) (n : ℕ) (plan : PortPlan) (there : slice_get plans n ≡ Some plan) where
-  own-is : filter (is_to n) (offers_from 0 plans) ≡ map (offer_to n) plan.queue.items
+  pub own-is : filter (is_to n) (offers_from 0 plans) ≡ map (offer_to n) plan.queue.items
   own-is =
       let same : 0 + n ≡ n = omega arith in
       ap (λ k. filter (is_to k) (offers_from 0 plans)) (sym same) ∙ to-port 0 plans n plan there ∙ ap (λ k. map (offer_to k) plan.queue.items) same
@@ -114,4 +114,15 @@ offers-named number (plan ∷ plans) o there = elim (stands-either (map (offer_t
       let made = map-stands (offer_to number) plan.queue.items o own in
       let node : number ≡ o.node = ap (λ (x : Offer). x.node) made.2 in omega arith
   | inr later ↦ let named = offers-named (number + 1) plans o later in omega (arith, named)
+]
+
+-- what holds of each frame of each port holds of each offer
+pub each-offer : (P : ℕ → Parts → Type 0) (number : ℕ) (plans : List PortPlan) →
+    ((plan : PortPlan) → Stands plans plan → (x : TimedFrame) → Stands plan.queue.items x → P x.time x.frame) → (o : Offer) → Stands (offers_from number plans) o → P o.time o.frame
+each-offer P number [] each o there = absurd (stands-none o there)
+each-offer P number (plan ∷ plans) each o there = elim (stands-either (map (offer_to number) plan.queue.items) (offers_from (number + 1) plans) o there) [
+  | inl own ↦
+      let made = map-stands (offer_to number) plan.queue.items o own in
+      subst (λ (p : Offer). P p.time p.frame) made.2 (each plan (stands-here plan plans) made.0 made.1)
+  | inr later ↦ each-offer P (number + 1) plans (λ other at. each other (stands-later plan plans other at)) o later
 ]

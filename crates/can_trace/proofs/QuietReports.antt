@@ -2,7 +2,7 @@
 use Rattle.std.specs.Prelude.{slice_get, All}
 use Rattle.std.specs.List.Sorted.{IsPermutation}
 use Rattle.std.proofs.Common.{◌≡◌, ℕ, zero, suc, ◌+◌, ◌<◌, ◌≤◌, Some, List, [], ◌∷◌, ◌++◌, length, map, get_or, refl, sym, ap, subst, ◌∙◌, arith, inl, inr}
-use Rattle.std.proofs.lemmas.List.Elements.{All-get_or, All-head, All-tail}
+use Rattle.std.proofs.lemmas.List.Elements.{All-get_or}
 use Rattle.std.proofs.lemmas.Option.{get_or_from_slice_get, slice_get_within}
 use Rattle.std.proofs.lemmas.List.Sorted.{IsPermutation-sym}
 use Rattle.can_frame.specs.declared.level.Level.{Level}
@@ -16,7 +16,7 @@ use Rattle.can_bus.specs.Quiet.{AreDifferent, ascending, line_at, span}
 use Rattle.can_bus.specs.Schedule.{AreAtOnce, IsSchedule, Lists, Timed, busy_time, frames_of, next, over, schedule, track_at}
 use Rattle.can_bus.proofs.Ascending.{ascending_permuted, different_permuted}
 use Rattle.can_bus.proofs.AtOnce.{at_once-frames, at_once-line}
-use Rattle.can_bus.proofs.Members.{Stands, map-stands, stands-cases, stands-either, stands-none, stands-permuted}
+use Rattle.can_bus.proofs.Members.{Stands, map-stands, stands-cases, stands-none, stands-permuted}
 use Rattle.can_bus.proofs.NextStarts.{rest-left}
 use Rattle.can_bus.proofs.QuietAgreement.{span-permuted}
 use Rattle.can_bus.proofs.Schedules.{one-schedule, schedule-frames}
@@ -26,26 +26,27 @@ use Rattle.can_trace.specs.declared.scenario.TimedFrame.{TimedFrame}
 use Rattle.can_trace.specs.OpenReport.{IsOpenScenario, all_frames, open_report, queues, quiet_port, scenario_starts}
 use Rattle.can_trace.specs.QuietReport.{AreFirst, IsQuietScenario, quiet_report}
 use Rattle.can_trace.specs.Report.{PortReport, levels_until, report_text}
-use Rattle.can_trace.specs.ScenarioOffers.{offer_to, offers_from, scenario_offers}
+use Rattle.can_trace.specs.ScenarioOffers.{offers_from, scenario_offers}
 use Rattle.can_trace.proofs.OfferOrder.{in_time-permuted}
-use Rattle.can_trace.proofs.PlannedOffers.{all-permuted}
+use Rattle.can_trace.proofs.OpenReports.{levels-same}
+use Rattle.can_trace.proofs.PlannedOffers.{all-permuted, each-offer}
 
 -- ---- offers at time 0
 
-first-in : (queue : List TimedFrame) → All (λ (x : TimedFrame). x.time ≡ 0) queue → (x : TimedFrame) → Stands queue x → x.time ≡ 0
-first-in queue all x there =
-    let is : get_or queue there.0 x ≡ x = get_or_from_slice_get queue there.0 x x there.1 in
-    sym (ap (λ (y : TimedFrame). y.time) is) ∙ All-get_or (λ (y : TimedFrame). y.time ≡ 0) queue there.0 x (slice_get_within queue there.0 x there.1) all
+pub all-at : {X : Type 0} (P : X → Type 0) (xs : List X) (x : X) → All P xs → Stands xs x → P x
+all-at P xs x all there = subst P (get_or_from_slice_get xs there.0 x x there.1) (All-get_or P xs there.0 x (slice_get_within xs there.0 x there.1) all)
 
 -- each offer is made at time 0
-first-offers : (number : ℕ) (plans : List PortPlan) → All AreFirst plans → (o : Offer) → Stands (offers_from number plans) o → o.time ≡ 0
-first-offers number [] first o there = absurd (stands-none o there)
-first-offers number (plan ∷ plans) first o there = elim (stands-either (map (offer_to number) plan.queue.items) (offers_from (number + 1) plans) o there) [
-  | inl own ↦
-      let made = map-stands (offer_to number) plan.queue.items o own in
-      sym (ap (λ (x : Offer). x.time) made.2) ∙ first-in plan.queue.items (All-head AreFirst plan plans first) made.0 made.1
-  | inr later ↦ first-offers (number + 1) plans (All-tail AreFirst plan plans first) o later
-]
+pub first-offers : (plans : List PortPlan) → All AreFirst plans → (o : Offer) → Stands (offers_from 0 plans) o → o.time ≡ 0
+first-offers plans first =
+    each-offer (λ time frame. time ≡ 0) 0 plans
+    (λ plan at x there. all-at (λ (y : TimedFrame). y.time ≡ 0) plan.queue.items x (all-at AreFirst plans plan first at) there)
+
+pub offers-at_once : (s : Scenario) → All AreFirst s.ports.items → AreAtOnce (map timed (scenario_offers s))
+offers-at_once s first x there =
+    let made = map-stands timed (scenario_offers s) x there in
+    sym (ap (λ (y : Timed). y.time) made.2)
+    ∙ first-offers s.ports.items first made.0 (stands-permuted (scenario_offers s) (offers_from 0 s.ports.items) made.0 (in_time-permuted (offers_from 0 s.ports.items)) made.1)
 
 -- ---- how long the starts take
 
@@ -66,10 +67,6 @@ over-at_once (next free left rest start starts is others more) all s there =
 
 -- ---- the report
 
-pub levels-same : (f g : ℕ → Level) → ((t : ℕ) → f t ≡ g t) → (n : ℕ) → levels_until f n ≡ levels_until g n
-levels-same f g same zero = refl
-levels-same f g same (suc n) = ap (λ levels. levels ++ f n ∷ []) (levels-same f g same n) ∙ ap (λ x. levels_until g n ++ x ∷ []) (same n)
-
 module _ (s : Scenario) (is : IsQuietScenario s) where
   abbrev offers : List Timed
   offers = map timed (scenario_offers s)
@@ -84,10 +81,7 @@ module _ (s : Scenario) (is : IsQuietScenario s) where
   different = different_permuted frames (frames_of offers) (IsPermutation-sym (frames_of offers) frames permuted) is.open.different
 
   at_once : AreAtOnce offers
-  at_once x there =
-      let made = map-stands timed (scenario_offers s) x there in
-      sym (ap (λ (y : Timed). y.time) made.2)
-      ∙ first-offers 0 s.ports.items is.first made.0 (stands-permuted (scenario_offers s) (offers_from 0 s.ports.items) made.0 (in_time-permuted (offers_from 0 s.ports.items)) made.1)
+  at_once = offers-at_once s is.first
 
   in_order : ascending (frames_of offers) ≡ ascending frames
   in_order = ascending_permuted (frames_of offers) frames permuted different

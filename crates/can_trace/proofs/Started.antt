@@ -1,6 +1,6 @@
 -- The ports of a scenario as they are made, and the levels that are recorded.
 use Rattle.std.specs.List.{slice_get}
-use Rattle.std.proofs.Common.{◌≡◌, ℕ, zero, suc, ◌+◌, ◌<◌, ◌≤◌, Some, List, [], ◌∷◌, ◌++◌, length, map, get_or, set, take, drop, sym, ap, ◌∙◌, arith, length-take}
+use Rattle.std.proofs.Common.{◌≡◌, ◌≢◌, ℕ, zero, suc, refl, ◌+◌, ◌<◌, ◌≤◌, Some, List, [], ◌∷◌, ◌++◌, length, map, get_or, set, take, drop, sym, ap, ◌∙◌, arith, length-take}
 use Rattle.std.proofs.lemmas.List.{append-nil, drop_all, nil_from_length, get_or-take, length-map, map_more, map_push, take_all, take_more}
 use Rattle.std.proofs.lemmas.Option.{slice_get-get_or, get_or_from_slice_get}
 use Rattle.can_frame.specs.declared.level.Level.{Level}
@@ -9,7 +9,11 @@ use Rattle.can_code.specs.declared.packed_bits.PackedBits.{PackedBits}
 use Rattle.can_code.specs.contracts.packed_bits.PackedBitsFrameBits.TheImpl as packed_bits
 use Rattle.can_node.specs.declared.node.Node.{Node}
 use Rattle.can_node.specs.Ports.{PortState, IsPort}
-use Rattle.can_trace.specs.Report.{level_by, levels_until, made_port, recorded_levels, waiting_port}
+use Rattle.can_bus.specs.declared.hit.Hit.{Hit}
+use Rattle.can_bus.specs.Offers.{played, played_level}
+use Rattle.can_bus.specs.Run.{BusState, bus_level, bus_run}
+use Rattle.can_trace.specs.Report.{ended_bus, ended_by, level_by, levels_until, made_bus, made_port, new_bus, recorded_levels, waiting_bus, waiting_port}
+use Rattle.can_trace.specs.ScenarioOffers.{scenario_offers}
 use Rattle.can_trace.specs.declared.scenario.PortPlan.{PortPlan}
 use Rattle.can_trace.specs.declared.scenario.Scenario.{Scenario}
 
@@ -91,3 +95,25 @@ levels_until-is level (suc n) levels size known =
 pub recorded-is : (s : Scenario) (levels : List Level) → length levels ≡ s.bits → ((t : ℕ) → t < length levels → slice_get levels t ≡ Some (level_by s.hits.items s t)) →
     levels ≡ recorded_levels s
 recorded-is s levels size known = levels_until-is (level_by s.hits.items s) s.bits levels size (λ t h. known t (omega arith))
+
+-- with disturbances the frames wait as the run begins
+pub disturbed-level : (s : Scenario) (hits : List Hit) → hits ≢ [] → (t : ℕ) → level_by hits s t ≡ bus_level hits t (waiting_bus s)
+disturbed-level s [] some t = absurd (some refl)
+disturbed-level s (hit ∷ hits) some t = refl
+
+pub disturbed-end : (s : Scenario) (hits : List Hit) → hits ≢ [] → ended_by hits s ≡ bus_run hits s.bits (waiting_bus s)
+disturbed-end s [] some = absurd (some refl)
+disturbed-end s (hit ∷ hits) some = refl
+
+-- and without they are offered while it goes on
+pub played-level_at : (s : Scenario) → s.hits.items ≡ [] → (t : ℕ) → level_by s.hits.items s t ≡ played_level (scenario_offers s) t (made_bus s)
+played-level_at s none t = ap (λ hits. level_by hits s t) none
+
+pub played-end : (s : Scenario) → s.hits.items ≡ [] → ended_bus s ≡ played (scenario_offers s) s.bits (made_bus s)
+played-end s none = ap (λ hits. ended_by hits s) none
+
+-- the bus of these ports
+pub bus-is : (ports others : List PortState) (rest : ℕ) → ports ≡ others → rest ≡ 11 → (let start : BusState = record { ports = ports; rest = rest } in start) ≡ new_bus others
+bus-is ports others rest same at =
+    ap (λ ps. let start : BusState = record { ports = ps; rest = rest } in start) same
+    ∙ ap (λ r. let start : BusState = record { ports = others; rest = r } in start) at

@@ -128,3 +128,7 @@ report_text levels ports = bits_line (length levels) ++ (levels_line levels ++ p
 -- the report of a scenario
 abbrev pub report : Scenario → List ℕ
 report s = report_text (recorded_levels s) (map reported (ended_bus s).ports)
+
+-- the report of a run at whose beginning all frames wait
+abbrev pub waiting_report : Scenario → List ℕ
+waiting_report s = report_text (levels_until (λ t. bus_level s.hits.items t (waiting_bus s)) s.bits) (map reported (bus_run s.hits.items s.bits (waiting_bus s)).ports)

@@ -79,7 +79,10 @@ pub use check::check_lines;
 pub use decode::decode_stream;
 pub use encode::encode_lines;
 pub use fault::TraceFault;
-pub use laws::{offering_order_is_untold, one_answer, one_check, one_decoding, one_scenario};
+pub use laws::{
+    frames_of_time_0_wait, no_offer_finds_a_full_queue, offering_order_is_untold, one_answer,
+    one_check, one_decoding, one_order_of_offers, one_scenario,
+};
 pub use outbox::write_all;
 pub use run::run_scenario;
 pub use scenario::{Field, HitList, PortField, PortPlan, Scenario, TimedFrame};
