@@ -3,8 +3,8 @@ use Rattle.std.proofs.Common.{◌≡◌, ◌⊎◌, arith, inl, inr, refl, ℕ, 
 use Rattle.std.specs.Result.{IsErrOf}
 use Rattle.can_trace.specs.Checked.{ChecksAll}
 use Rattle.can_trace.specs.Told.{Told}
-use Rattle.can_trace.specs.declared.fault.TraceFault.{TraceFault}
-use Rattle.can_trace.specs.declared.fault.TraceFault.TheVariants.{BadByte, ScenarioField, Read, Write, Memory, Long, FrameLine}
+use Rattle.can_stream.specs.declared.fault.TraceFault.{TraceFault}
+use Rattle.can_stream.specs.declared.fault.TraceFault.TheVariants.{BadByte, ScenarioField, Read, Write, Memory, Long, FrameLine}
 use Rattle.canbit.specs.declared.fault.RunFault.TheVariants.{Stream}
 use Rattle.canbit.specs.declared.subcommands.Chosen.{Chosen}
 use Rattle.canbit.specs.Answers.{AnswersTooLong, HasBadByte, HasBadLine, HasWrongField, PassesAll, RefusesInput}

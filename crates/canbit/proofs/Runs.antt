@@ -5,7 +5,7 @@ use Rattle.can_trace.specs.Outbox.{TakesFront}
 use Rattle.can_trace.specs.Report.{report}
 use Rattle.can_trace.specs.Scenarios.{IsScenarioText}
 use Rattle.can_trace.specs.Told.{Told}
-use Rattle.can_trace.specs.declared.scenario.Scenario.{Scenario}
+use Rattle.can_scenario.specs.declared.scenario.Scenario.{Scenario}
 use Rattle.canbit.specs.Answers.{BeginsReport, Reports}
 
 module _ {R W : Type 0} (remaining : R → Option (List ℕ)) (before after : R) (contents : W → Option (List ℕ)) (held holds : W) where

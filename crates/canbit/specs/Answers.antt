@@ -5,8 +5,8 @@ use Rattle.can_trace.specs.Coded.{BeginsEncoding, EncodesAll, EncodesEnded, Enco
 use Rattle.can_trace.specs.Decoded.{BeginsDecoding, DecodesAll, DecodesSoFar, DecodesToBadByte, DecodesTooLong}
 use Rattle.can_trace.specs.Report.{report}
 use Rattle.can_trace.specs.Scenarios.{IsFirstWrong, IsScenarioText}
-use Rattle.can_trace.specs.declared.scenario.Scenario.{Scenario}
-use Rattle.can_trace.specs.declared.scenario.field.Field.{Field}
+use Rattle.can_scenario.specs.declared.scenario.Scenario.{Scenario}
+use Rattle.can_stream.specs.declared.field.Field.{Field}
 use Rattle.canbit.specs.declared.subcommands.Chosen.{Chosen}
 use Rattle.canbit.specs.declared.subcommands.Chosen.TheVariants.{Encode, Decode, Run, Check}
 

@@ -1,6 +1,6 @@
 -- What the exit status of a run says.
 use Rattle.std.specs.Prelude.{ℕ, Result, Ok, Err}
-use Rattle.can_trace.specs.declared.fault.TraceFault.TheVariants.{BadByte, ScenarioField, Read, Write, Memory as OutOfMemory, Long, FrameLine}
+use Rattle.can_stream.specs.declared.fault.TraceFault.TheVariants.{BadByte, ScenarioField, Read, Write, Memory as OutOfMemory, Long, FrameLine}
 use Rattle.canbit.specs.declared.fault.RunFault.{RunFault}
 use Rattle.canbit.specs.declared.fault.RunFault.TheVariants.{VectorsDiffer, Usage, Memory, Stream}
 

@@ -2,7 +2,7 @@
 ghost use Rattle.std.specs.Prelude.{◌≡◌, ◌↔◌, ℕ, false, IsErrOf, IsTrue, OnOk};
 ghost use Rattle.std.specs.Io.KnownBytes.{IsAtEnd};
 ghost use Rattle.can_trace.specs.Told.{Told};
-ghost use Rattle.can_trace.specs.declared.scenario.field.Field.{Field};
+ghost use Rattle.can_stream.specs.declared.field.Field.{Field};
 ghost use Rattle.canbit.specs.Answers.{BeginsReport, RefusesScenario, Reports, WritesNothing};
 
 use can_trace::{Scenario, Sink, Source, TraceFault, read_whole, run_scenario};

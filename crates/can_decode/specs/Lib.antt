@@ -1,0 +1,3 @@
+pub mod TraceText
+pub mod Decoded
+pub mod Decoding

@@ -1,0 +1,204 @@
+ghost use Rattle.std.specs.Prelude.{◌≡◌, ℕ, ◌+◌, ◌^◌, ◌<◌, ◌≤◌, ◌↔◌, true, false, [], ◌∷◌, ◌++◌, length, take, replicate, is_err, IsTrue, IsFalse, IsErrOf, IfErr, OnOk, OnErr};
+ghost use Rattle.std.specs.Io.KnownBytes.{IsAtEnd};
+ghost use Rattle.can_frame.specs.declared.text.TextFault.{TextFault};
+ghost use Rattle.can_stream.specs.declared.field.Field.{Field};
+ghost use Rattle.can_stream.specs.Told.{Told};
+ghost use Rattle.can_decode.specs.TraceText.{IsTraceText, levels_in};
+ghost use Rattle.can_stream.specs.Faults.{is_err_by, is_read, is_write};
+ghost use Rattle.can_decode.specs.Decoded.{BeginsDecoding, DecodesAll, DecodesSoFar, DecodesToBadByte, DecodesTooLong};
+ghost use Rattle.can_decode.specs.Decoding.{Decodes, Hears, HearsText, IsByteAs, StopsHearing};
+
+use crate::finding::put_finding;
+use crate::trace::Trace;
+use can_frame::Level;
+use can_stream::{Inbox, Outbox, Sink, Source, TraceFault};
+
+/// The digits of recessive levels, so many of which are compared at once.
+const ROW: [u8; 32] = [b'1'; 32];
+
+/// What a byte is in trace text.
+#[derive(Clone, Copy, Debug, PartialEq, Eq)]
+enum TraceByte {
+    /// The digit of a level.
+    Digit(Level),
+    /// A blank or a line end, which is skipped.
+    Skipped,
+    /// A byte that may not stand there.
+    Bad,
+}
+
+/// Reads a trace, `0` and `1` for its levels, and writes a line for each frame and each fault that is found
+/// in it. A blank, 0x0a and 0x0d are skipped. (Bosch CAN 2.0 part B, sections 3.2.1, 3.2.5 and 7.1)
+///
+/// Places count levels from 0. Between frames recessive levels are skipped. Where a frame begins, its line is
+/// its place, its text, ` ack` or ` noack`, and those that hold of ` srr0` (SRR was dominant), ` r1` (r1 was
+/// recessive), ` r0` (r0 was recessive) and ` eof0` (the last level of the end of frame was dominant). Where
+/// none does, at a dominant level, the line is the place, ` fault `, its kind, ` at ` and its own place, and
+/// the search goes on behind the first eleven recessive levels in a row from there on. Each line is ended by
+/// 0x0a. It takes no memory. The reader must have neither failed nor ended before the call, and the writer
+/// must not have failed.
+///
+/// `Ok` comes only where the reader ended in this call. `BadByte` is the place in the input, from 0, of the
+/// first byte that may not stand there. `Read` and `Write` say that the reader or the writer failed; the call
+/// that failed is not tried again. `Long` says that the input has more than 2^63 bytes. All lines before the
+/// fault have been written, but that of a frame in which the levels end, unless it is `Write`: then a
+/// beginning of the answer is written.
+pub fn decode_stream<R: Source, W: Sink>(r: &mut R, w: &mut W) -> Result<(), TraceFault>
+    requires reader_unfailed { R.has_failed r.old ≡ false }
+    requires reader_unended { R.has_ended r.old ≡ false }
+    requires writer_unfailed { W.has_failed w.old ≡ false }
+
+    // What was written of what was read.
+    ensures ok { OnOk result (Told R.remaining r.old r.new W.contents w.old w.new DecodesAll) }
+    ensures read { IsErrOf result TraceFault.Read → Told R.remaining r.old r.new W.contents w.old w.new DecodesSoFar }
+    ensures write { IsErrOf result TraceFault.Write → Told R.remaining r.old r.new W.contents w.old w.new BeginsDecoding }
+    ensures long { IsErrOf result TraceFault.Long → Told R.remaining r.old r.new W.contents w.old w.new DecodesTooLong }
+    ensures byte { (place : ℕ) → IsErrOf result (TraceFault.BadByte place) →
+        Told R.remaining r.old r.new W.contents w.old w.new (DecodesToBadByte place) }
+
+    ensures no_line { (n : ℕ) (fault : TextFault) → IsErrOf result (TraceFault.FrameLine n fault) → ⊥ }
+    ensures no_field { (wrong : Field) → IsErrOf result (TraceFault.ScenarioField wrong) → ⊥ }
+    ensures no_memory { IsErrOf result TraceFault.Memory → ⊥ }
+
+    // What the reader and the writer came to.
+    ensures ended { OnOk result (IsTrue (R.has_ended r.new)) }
+    ensures at_end { OnOk result (IsAtEnd (R.remaining r.new)) }
+    ensures read_unended { IsErrOf result TraceFault.Read → IsFalse (R.has_ended r.new) }
+    ensures long_unended { IsErrOf result TraceFault.Long → IsFalse (R.has_ended r.new) }
+    ensures write_failed { IsErrOf result TraceFault.Write ↔ IsTrue (W.has_failed w.new) }
+    ensures read_failed { IsErrOf result TraceFault.Read ↔ (IsTrue (R.has_failed r.new) × IsFalse (W.has_failed w.new)) }
+{
+    let mut out = Outbox::new();
+    let decoded = decode_all(r, w, &mut out);
+    if !w.failed() {
+        out.flush(w)?;
+    }
+    decoded
+}
+
+/// Decodes all of the input. The last lines wait in the buffer.
+fn decode_all<R: Source, W: Sink>(r: &mut R, w: &mut W, out: &mut Outbox) -> Result<(), TraceFault>
+    requires reader_unfailed { R.has_failed r.old ≡ false }
+    requires reader_unended { R.has_ended r.old ≡ false }
+    requires writer_unfailed { W.has_failed w.old ≡ false }
+    requires empty { out.old ≡ [] }
+    ensures told { Told R.remaining r.old r.new W.contents w.old w.new
+        (λ input output. Decodes result input (output ++ out.new)) }
+    ensures dropped { IsErrOf result TraceFault.Write → out.new ≡ [] }
+    ensures ended { OnOk result (R.has_ended r.new ≡ true) }
+    ensures at_end { OnOk result (IsAtEnd (R.remaining r.new)) }
+    ensures read_unended { IsErrOf result TraceFault.Read → R.has_ended r.new ≡ false }
+    ensures long_unended { IsErrOf result TraceFault.Long → R.has_ended r.new ≡ false }
+    ensures read_failed { R.has_failed r.new ≡ is_err_by is_read result }
+    ensures write_failed { W.has_failed w.new ≡ is_err_by is_write result }
+{
+    let mut inbox = Inbox::new();
+    let mut trace = Trace::begin();
+    while inbox.flush_and_fill(r, w, out)? > 0 {
+        let bytes = inbox.unread();
+        hear_bytes(bytes, inbox.place(), &mut trace, w, out)?;
+        let count = bytes.len();
+        inbox.consume(count);
+    }
+    match trace.open_fault() {
+        Some(finding) => put_finding(&finding, w, out),
+        None => Ok(()),
+    }
+}
+
+/// Hears bytes, the first of which has this place in the input.
+fn hear_bytes<W: Sink>(
+    bytes: &[u8],
+    place: u64,
+    trace: &mut Trace,
+    w: &mut W,
+    out: &mut Outbox,
+) -> Result<(), TraceFault>
+    requires unfailed { W.has_failed w.old ≡ false }
+    requires fits { place + length bytes.now < 2 ^ 64 }
+    requires within { trace.old.place ≤ place }
+    ensures ok { OnOk result (HearsText trace.old trace.new bytes.now (W.contents w.old) (W.contents w.new) out.old out.new) }
+    ensures err { IfErr result (λ e. StopsHearing e trace.old trace.new place bytes.now (W.contents w.old) (W.contents w.new) out.old out.new) }
+    ensures failed { W.has_failed w.new ≡ is_err_by is_write result }
+{
+    let mut index = 0;
+    while index < bytes.len() {
+        index += skip_row(&bytes[index..], trace);
+        if index < bytes.len() {
+            hear_byte(bytes[index], place + index as u64, trace, w, out)?;
+            index += 1;
+        }
+    }
+    Ok(())
+}
+
+/// Skips the recessive levels at the front of the bytes, if they stand between frames, and answers how many
+/// they are.
+fn skip_row(bytes: &[u8], trace: &mut Trace) -> usize
+    requires { trace.old.place + length bytes.now < 2 ^ 64 }
+    ensures within { result ≤ length bytes.now }
+    ensures text { IsTraceText (take result bytes.now) }
+    ensures hears { Hears trace.old trace.new (levels_in (take result bytes.now)) [] }
+    ensures place { trace.new.place ≤ trace.old.place + result }
+{
+    if !trace.is_idle() {
+        return 0;
+    }
+    let count = recessive_count(bytes);
+    trace.skip(count);
+    count
+}
+
+/// How many digits of recessive levels stand at the front of the bytes.
+fn recessive_count(bytes: &[u8]) -> usize
+    ensures within { result ≤ length bytes.now }
+    ensures row { take result bytes.now ≡ replicate result 49 }
+{
+    let mut count = 0;
+    while bytes[count..].starts_with(&ROW) {
+        count += ROW.len();
+    }
+    while count < bytes.len() && bytes[count] == b'1' {
+        count += 1;
+    }
+    count
+}
+
+/// Hears one byte, which has this place in the input.
+fn hear_byte<W: Sink>(
+    byte: u8,
+    place: u64,
+    trace: &mut Trace,
+    w: &mut W,
+    out: &mut Outbox,
+) -> Result<(), TraceFault>
+    requires unfailed { W.has_failed w.old ≡ false }
+    requires fits { trace.old.place + 1 < 2 ^ 64 }
+    ensures ok { OnOk result (HearsText trace.old trace.new (byte ∷ []) (W.contents w.old) (W.contents w.new) out.old out.new) }
+    ensures err { IfErr result (λ e. StopsHearing e trace.old trace.new place (byte ∷ []) (W.contents w.old) (W.contents w.new) out.old out.new) }
+    ensures place { trace.new.place ≤ trace.old.place + 1 }
+    ensures failed { W.has_failed w.new ≡ is_err_by is_write result }
+{
+    match trace_byte(byte) {
+        TraceByte::Digit(level) => match trace.hear(level) {
+            Some(finding) => put_finding(&finding, w, out),
+            None => Ok(()),
+        },
+        TraceByte::Skipped => Ok(()),
+        TraceByte::Bad => Err(TraceFault::BadByte { place }),
+    }
+}
+
+/// What the byte is in trace text.
+fn trace_byte(byte: u8) -> TraceByte
+    ensures { IsByteAs byte result }
+{
+    // no branch on which level it is, since none could be foretold
+    if byte == b'0' || byte == b'1' {
+        return TraceByte::Digit(Level::from_bool(byte == b'1'));
+    }
+    match byte {
+        b' ' | b'\n' | b'\r' => TraceByte::Skipped,
+        _ => TraceByte::Bad,
+    }
+}

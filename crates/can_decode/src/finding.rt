@@ -1,0 +1,123 @@
+//! What is told of a trace, and the line that tells it.
+ghost use Rattle.std.specs.Prelude.{◌≡◌, ◌+◌, ◌≤◌, ◌++◌, false, [], length, is_err, IfErr, OnOk, OnErr};
+ghost use Rattle.can_stream.specs.Outbox.{PassesOn, TakesFront};
+ghost use Rattle.can_decode.specs.Decoded.{acknowledgement, code_of, deviations, finding_line, word_if};
+
+use arrayvec::ArrayVec;
+use can_code::{CodeFaultKind, Heard};
+use can_stream::line::{LINE, Line, push, push_number};
+use can_stream::{Outbox, Sink, TraceFault};
+
+/// What is told of a place in a trace.
+#[derive(Clone, Copy, Debug, PartialEq, Eq)]
+pub(crate) enum Finding {
+    /// A frame begins there.
+    Frame {
+        place: u64,
+        heard: Heard,
+    },
+    /// None does, though a dominant level stands there: this fault shows at the other place.
+    Fault {
+        place: u64,
+        kind: CodeFaultKind,
+        fault_place: u64,
+    },
+}
+
+/// Puts the line of what is told.
+pub(crate) fn put_finding<W: Sink>(
+    finding: &Finding,
+    w: &mut W,
+    out: &mut Outbox,
+) -> Result<(), TraceFault>
+    requires { W.has_failed w.old ≡ false }
+    ensures ok { OnOk result (PassesOn (W.contents w.old) (W.contents w.new) out.old out.new (finding_line finding.now)) }
+    ensures err { OnErr result (TakesFront (W.contents w.old) (W.contents w.new) out.old) }
+    ensures dropped { OnErr result (out.new ≡ []) }
+    ensures failed { W.has_failed w.new ≡ is_err result }
+    ensures fault { IfErr result (λ e. e ≡ TraceFault.Write) }
+{
+    let line = match finding {
+        Finding::Frame { place, heard } => frame_line(*place, heard),
+        Finding::Fault {
+            place,
+            kind,
+            fault_place,
+        } => fault_line(*place, *kind, *fault_place),
+    };
+    out.put(w, &line)
+}
+
+/// The line of a frame that begins at this place.
+fn frame_line(place: u64, heard: &Heard) -> Line
+    ensures { result.items ≡ finding_line (Finding.Frame place heard.now) }
+{
+    let mut line = ArrayVec::new();
+    push_number(&mut line, place);
+    push(&mut line, b" ");
+    push(&mut line, heard.frame().to_text().as_bytes());
+    push_acknowledgement(&mut line, heard.acked());
+    push_deviations(&mut line, heard);
+    push(&mut line, b"\n");
+    line
+}
+
+/// Appends whether a receiver has acknowledged the frame.
+fn push_acknowledgement(line: &mut Line, acked: bool)
+    requires { length line.old.items + 6 ≤ LINE }
+    ensures text { line.new.items ≡ line.old.items ++ acknowledgement acked }
+    ensures bound { length line.new.items ≤ length line.old.items + 6 }
+{
+    let word: &[u8] = if acked { b" ack" } else { b" noack" };
+    push(line, word);
+}
+
+/// Appends which levels were heard otherwise than they are sent.
+fn push_deviations(line: &mut Line, heard: &Heard)
+    requires { length line.old.items + 16 ≤ LINE }
+    ensures text { line.new.items ≡ line.old.items ++ deviations heard.now }
+    ensures bound { length line.new.items ≤ length line.old.items + 16 }
+{
+    push_if(line, !heard.srr().is_recessive(), b" srr0");
+    push_if(line, heard.r1().is_recessive(), b" r1");
+    push_if(line, heard.r0().is_recessive(), b" r0");
+    push_if(line, !heard.last().is_recessive(), b" eof0");
+}
+
+/// Appends a word where something holds.
+fn push_if(line: &mut Line, holds: bool, word: &[u8])
+    requires { length line.old.items + length word.now ≤ LINE }
+    ensures text { line.new.items ≡ line.old.items ++ word_if holds word.now }
+    ensures bound { length line.new.items ≤ length line.old.items + length word.now }
+{
+    if holds {
+        push(line, word);
+    }
+}
+
+/// The line of a fault in what begins at this place.
+fn fault_line(place: u64, kind: CodeFaultKind, fault_place: u64) -> Line
+    ensures { result.items ≡ finding_line (Finding.Fault place kind fault_place) }
+{
+    let mut line = ArrayVec::new();
+    push_number(&mut line, place);
+    push(&mut line, b" fault ");
+    push(&mut line, &code(kind));
+    push(&mut line, b" at ");
+    push_number(&mut line, fault_place);
+    push(&mut line, b"\n");
+    line
+}
+
+/// The code of a kind of fault.
+fn code(kind: CodeFaultKind) -> [u8; 2]
+    ensures { result ≡ code_of kind }
+{
+    match kind {
+        CodeFaultKind::Short => *b"C1",
+        CodeFaultKind::NoStartOfFrame => *b"C2",
+        CodeFaultKind::Stuff => *b"C3",
+        CodeFaultKind::Crc => *b"C4",
+        CodeFaultKind::Form => *b"C5",
+    }
+}

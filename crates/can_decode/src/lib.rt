@@ -1,0 +1,29 @@
+//! Traces: levels of a bus in, a line for each frame and each fault that is found in them out, over any
+//! reader and any writer.
+//!
+//! [`decode_stream`] promises what was written of what was read, for every way in which it can end, wherever
+//! the reader and the writer tell their bytes; and for all of them, which failure its answer stands for. It
+//! holds two fixed buffers and takes no memory, and writes what is known before each read.
+//!
+//! | File | What it has | Defined in |
+//! |---|---|---|
+//! | `decode.rt` | [`decode_stream`] | `specs/TraceText.antt`, `specs/Decoded.antt` |
+//! | `trace.rt` | a trace as it is heard, level by level | `specs/Decoding.antt` |
+//! | `finding.rt` | what is told of a trace, and its line | `specs/Decoded.antt` |
+//! | `laws.rt` | that in each trace one list is found, and each input has one answer | `specs/Decoded.antt` |
+//!
+//! `specs/Decoding.antt` has what the steps of `decode.rt` and `trace.rt` promise one another. Of the lemmas,
+//! `IdleRows` has the search for eleven recessive levels, `TraceSteps` what one level makes of a trace,
+//! `DecodeSteps` and `DecodeEndings` the steps and the ends of a run, `FindsTotal` and `FindsOne` that in all
+//! levels one list is found, `OneDecoding` that each input has one full answer.
+#![tactic(auto)]
+
+mod decode;
+mod finding;
+mod laws;
+#[cfg(test)]
+mod tests;
+mod trace;
+
+pub use decode::decode_stream;
+pub use laws::one_decoding;

@@ -1,0 +1,13 @@
+pub mod TextLemmas
+pub mod MarkLemmas
+pub mod DigitLemmas
+pub mod VectorLemmas
+pub mod VectorFronts
+pub mod VerdictLines
+pub mod Codings
+pub mod Answering
+pub mod Endings
+pub mod CheckSteps
+pub mod CheckEndings
+pub mod OneVerdict
+pub mod Rows

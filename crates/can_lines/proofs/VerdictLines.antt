@@ -1,0 +1,13 @@
+-- The lines that tell verdicts and their total.
+use Rattle.std.proofs.Common.{◌≡◌, ℕ, [], ◌∷◌, ◌++◌, codes, decimal, sym, ap, ◌∙◌, append_assoc}
+use Rattle.can_lines.specs.declared.vector.Verdict.{Verdict}
+use Rattle.can_lines.specs.declared.vector.Verdict.TheVariants.{Agrees, DiffersAt}
+use Rattle.can_lines.specs.Checked.{verdict_line}
+
+pub verdict_line-agrees : (verdict : Verdict) → verdict ≡ Agrees → codes "ok" ++ 10 ∷ [] ≡ verdict_line verdict
+unfolding verdict_line
+verdict_line-agrees verdict is = sym (ap verdict_line is)
+
+pub verdict_line-differs : (verdict : Verdict) (place : ℕ) → verdict ≡ DiffersAt place → (codes "differs at " ++ decimal place) ++ 10 ∷ [] ≡ verdict_line verdict
+unfolding verdict_line
+verdict_line-differs verdict place is = append_assoc (codes "differs at ") (decimal place) (10 ∷ []) ∙ sym (ap verdict_line is)

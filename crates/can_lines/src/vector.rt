@@ -1,0 +1,150 @@
+//! A line of a frame's text and levels, and whether those are the frame's own.
+ghost use Rattle.std.specs.Prelude.{◌≡◌, ℕ, ◌≤◌, ◌<◌, ◌++◌, length, take, IfOk, IfErr, IsErrOf, MatchOption};
+ghost use Rattle.can_frame.specs.Parts.{IsFrame};
+ghost use Rattle.can_frame.specs.Text.{frame_text};
+ghost use Rattle.can_frame.specs.declared.level.Level.{Level as Bit};
+ghost use Rattle.can_stream.specs.Digits.{digit_of};
+ghost use Rattle.can_lines.specs.Checked.{mark, pass, Compares, IsBadAs, IsBadLevelByte, IsBadVectorLine, IsCommonFront, IsFirstBadDigit, IsFramePart, IsLevels, IsVerdict};
+
+use arrayvec::ArrayVec;
+use can_code::encode;
+use can_frame::{Frame, Level, TextFault, TextFaultKind};
+
+/// What a line of a frame's text and levels comes to.
+#[derive(Clone, Copy, Debug, PartialEq, Eq)]
+pub(crate) enum Verdict {
+    /// The levels are those that the frame's sender drives.
+    Agrees,
+    /// They are not, and this is the first place where they differ, or the shorter length.
+    DiffersAt(usize),
+}
+
+impl Verdict {
+    /// 1 where the line passes, else 0.
+    pub(crate) fn pass(self) -> u64
+        ensures { result ≡ pass self }
+    {
+        match self {
+            Verdict::Agrees => 1,
+            Verdict::DiffersAt(_) => 0,
+        }
+    }
+}
+
+/// Why a line has no verdict.
+#[derive(Clone, Copy, Debug, PartialEq, Eq)]
+pub(crate) enum BadLine {
+    /// It doesn't begin with a frame text and ` = `.
+    Frame(TextFault),
+    /// The byte at this place of the line is no level's digit, or has 157 levels before it.
+    Byte(usize),
+}
+
+/// Compares the levels of the line with those that the sender of its frame drives.
+pub(crate) fn judge(line: &[u8]) -> Result<Verdict, BadLine>
+    ensures ok { IfOk result (IsVerdict line.now) }
+    ensures err { IfErr result (IsBadAs line.now) }
+    ensures byte { (place : ℕ) → IsBadLevelByte line.now place → IsErrOf result (BadLine.Byte place) }
+{
+    match read_opening(line) {
+        Ok(opening) => match read_levels(&line[opening.start..]) {
+            Ok(levels) => Ok(compare(&levels, &encode(&opening.frame))),
+            Err(place) => Err(BadLine::Byte(opening.start + place)),
+        },
+        Err(fault) => Err(BadLine::Frame(fault)),
+    }
+}
+
+/// What a line begins with.
+#[derive(Drop)]
+struct Opening {
+    /// The frame whose text it is.
+    frame: Frame,
+    /// The place of the first level.
+    start: usize,
+}
+
+/// Reads a frame text and ` = ` from the front of the line.
+fn read_opening(line: &[u8]) -> Result<Opening, TextFault>
+    ensures within { IfOk result (λ opening. opening.start ≤ length line.now) }
+    ensures frame { IfOk result (λ opening. IsFrame opening.frame) }
+    ensures text { IfOk result (λ opening. take opening.start line.now ≡ frame_text opening.frame ++ mark) }
+    ensures err { IfErr result (λ fault. IsBadVectorLine fault line.now) }
+{
+    let length = frame_length(line);
+    let frame = Frame::from_text(&line[..length])?;
+    if length == line.len() {
+        return Err(TextFault {
+            kind: TextFaultKind::Trailing,
+            place: length,
+        });
+    }
+    Ok(Opening {
+        frame,
+        start: length + 3,
+    })
+}
+
+/// How many bytes stand before the first ` = `, all of them if there is none.
+fn frame_length(line: &[u8]) -> usize
+    ensures within { result ≤ length line.now }
+    ensures part { IsFramePart line.now (take result line.now) }
+{
+    for place in 0..line.len() {
+        if line[place..].starts_with(b" = ") {
+            return place;
+        }
+    }
+    line.len()
+}
+
+/// The levels whose digits these are, or the place of the first byte that is none, or is one too many.
+fn read_levels(digits: &[u8]) -> Result<ArrayVec<Level, 157>, usize>
+    ensures ok { IfOk result (λ levels. IsLevels digits.now levels.items) }
+    ensures err { IfErr result (IsFirstBadDigit digits.now) }
+{
+    let mut levels = ArrayVec::new();
+    for (place, digit) in digits.iter().enumerate() {
+        match level_of(*digit) {
+            Some(level) if !levels.is_full() => levels.push(level),
+            _ => return Err(place),
+        }
+    }
+    Ok(levels)
+}
+
+/// The level whose digit this is.
+fn level_of(digit: u8) -> Option<Level>
+    ensures { MatchOption result ((level : Bit) → digit_of level ≡ digit → ⊥) (λ level. digit_of level ≡ digit) }
+{
+    match digit {
+        b'0' => Some(Level::Dominant),
+        b'1' => Some(Level::Recessive),
+        _ => None,
+    }
+}
+
+/// Compares levels with those that are driven.
+fn compare(levels: &[Level], driven: &[Level]) -> Verdict
+    ensures { Compares levels.now driven.now result }
+{
+    let place = common_length(levels, driven);
+    if place == levels.len() && place == driven.len() {
+        Verdict::Agrees
+    } else {
+        Verdict::DiffersAt(place)
+    }
+}
+
+/// How long the longest common front is.
+fn common_length(levels: &[Level], others: &[Level]) -> usize
+    ensures { IsCommonFront levels.now others.now result }
+{
+    let shorter = levels.len().min(others.len());
+    for place in 0..shorter {
+        if levels[place] != others[place] {
+            return place;
+        }
+    }
+    shorter
+}

@@ -1,0 +1,16 @@
+pub mod DemandLemmas
+pub mod ReadValues
+pub mod ReadLists
+pub mod ScenarioParts
+pub mod ScenarioRows
+pub mod HitLemmas
+pub mod ReportLines
+pub mod Started
+pub mod OfferOrder
+pub mod PlannedOffers
+pub mod OpenReports
+pub mod QuietReports
+pub mod FirstOffers
+pub mod RoomForAll
+pub mod QuietOrder
+pub mod OneScenario

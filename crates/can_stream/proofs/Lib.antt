@@ -1,0 +1,10 @@
+pub mod Elements
+pub mod Known
+pub mod Ranges
+pub mod LineLemmas
+pub mod Reading
+pub mod LineParts
+pub mod Flushing
+pub mod PutParts
+pub mod Turns
+pub mod KnownFrame

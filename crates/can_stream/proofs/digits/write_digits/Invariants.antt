@@ -1,0 +1,6 @@
+use Rattle.std.proofs.Common.{◌≡◌, map, take}
+use Rattle.can_stream.specs.Digits.{digit_of}
+use Rattle.can_stream.proofs.digits.write_digits.Given as goal
+
+abbrev pub invariant-loop-place : goal.invariant-loop-place
+invariant-loop-place l = take l.place l.digits ≡ map digit_of (take l.place l.levels)

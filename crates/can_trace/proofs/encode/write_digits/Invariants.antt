@@ -1,6 +1,0 @@
-use Rattle.std.proofs.Common.{◌≡◌, map, take}
-use Rattle.can_trace.specs.Coded.{digit_of}
-use Rattle.can_trace.proofs.encode.write_digits.Given as goal
-
-abbrev pub invariant-loop-place : goal.invariant-loop-place
-invariant-loop-place l = take l.place l.digits ≡ map digit_of (take l.place l.levels)

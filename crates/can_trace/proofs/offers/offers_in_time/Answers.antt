@@ -1,4 +1,0 @@
-use Rattle.can_trace.proofs.offers.offers_in_time.Goals as goal
-
-pub returns : goal.returns
-returns c = ?
