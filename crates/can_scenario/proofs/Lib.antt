@@ -3,6 +3,7 @@ pub mod ReadValues
 pub mod ReadLists
 pub mod ScenarioParts
 pub mod ScenarioRows
+pub mod OfferRows
 pub mod HitLemmas
 pub mod ReportLines
 pub mod Started

@@ -158,14 +158,14 @@ pub one-order : (os ordered : List Offer) → AreInTime os ordered → ordered �
 one-order os ordered are = same-offers ordered (in_time os) (rise-from ordered are.rising) (in_time-rise os) (λ t. are.same t ∙ sym (in_time-at t os))
 
 -- offers of time 0 stay as they are
+put-first : (o : Offer) (os : List Offer) → o.time ≡ 0 → put_in_time o os ≡ o ∷ os
+put-first o [] first = refl
+put-first o (next ∷ os) first = put-here o next os (omega (arith, first))
+
 pub in_time-first : (os : List Offer) → ((o : Offer) → Stands os o → o.time ≡ 0) → in_time os ≡ os
 unfolding in_time
 in_time-first [] first = refl
-in_time-first (o ∷ os) first = ap (put_in_time o) (in_time-first os (λ p there. first p (stands-later o os p there))) ∙ in-front os
-  where
-    in-front : (later : List Offer) → put_in_time o later ≡ o ∷ later
-    in-front [] = refl
-    in-front (next ∷ later) = put-here o next later (let here = first o (stands-here o os) in omega (arith, here))
+in_time-first (o ∷ os) first = ap (put_in_time o) (in_time-first os (λ p there. first p (stands-later o os p there))) ∙ put-first o os (first o (stands-here o os))
 
 -- ---- the same offers
 

@@ -29,8 +29,9 @@ use Rattle.can_bus.proofs.Schedules.{one-schedule}
 use Rattle.can_scenario.specs.declared.scenario.Scenario.{Scenario}
 use Rattle.can_scenario.specs.declared.scenario.PortPlan.{PortPlan}
 use Rattle.can_scenario.specs.OpenReport.{IsOpenScenario, IsQuietPlan, all_frames, open_report, queues, quiet_port, scenario_starts}
-use Rattle.can_scenario.specs.Report.{PortReport, ended_by, frames_of_queue, level_by, levels_until, made_bus, made_port, report, reported, report_text}
+use Rattle.can_scenario.specs.Report.{PortReport, ended_bus, ended_by, recorded_levels, frames_of_queue, level_by, levels_until, made_bus, made_port, report, reported, report_text}
 use Rattle.can_scenario.specs.ScenarioOffers.{in_time, offers_from, scenario_offers}
+use Rattle.can_scenario.proofs.Started.{levels_until-is}
 use Rattle.can_scenario.proofs.OfferOrder.{in_time-is, in_time-permuted}
 use Rattle.can_scenario.proofs.PlannedOffers.{all-permuted, offers-named, own-permuted, own-size}
 
@@ -212,3 +213,21 @@ module _ (s : Scenario) (valid : AllPorts IsPort (map made_port s.ports.items)) 
       (open-whole offers starts (made_bus s) valid framed call s.bits after refl past)
       (open-counters offers starts (made_bus s) valid framed call s.bits after refl)
       (open-missed offers starts (made_bus s) valid framed call s.bits after refl))
+
+-- the same, from what is known of levels that were recorded and of ports that have ended
+pub played-told : (s : Scenario) (open : IsOpenScenario s) (levels : List Level) (after : List PortState) → levels ≡ recorded_levels s → after ≡ (ended_bus s).ports → length levels ≡ s.bits →
+    ((t : ℕ) → t < length levels → slice_get levels t ≡ Some (track_at (scenario_starts s) t)) →
+    AtEachNode (OpenLogWhole (scenario_offers s) (scenario_starts s)) (map made_port s.ports.items) after →
+    AtEachPort CountsNothing (map made_port s.ports.items) after → AtEachPort MissesNothing (map made_port s.ports.items) after →
+    report s ≡ open_report s.bits (scenario_starts s) (queues s)
+played-told s open levels after recorded ended size known logs counters missed =
+    let ports : map reported after ≡ map (quiet_port (frames_of (scenario_starts s))) (queues s) =
+    ports-told s open after
+    (ap length ended ∙ ap (λ (b : BusState). length b.ports) (ap (λ hits. ended_by hits s) open.undisturbed)
+    ∙ length-played (scenario_offers s) s.bits (made_bus s) ∙ length-map s.ports.items made_port)
+    logs counters missed in
+    let track : levels ≡ levels_until (track_at (scenario_starts s)) s.bits =
+    levels_until-is (track_at (scenario_starts s)) s.bits levels size (λ t h. known t (omega (arith, h, size))) in
+    ap (λ (ps : List PortState). report_text (recorded_levels s) (map reported ps)) (sym ended)
+    ∙ ap (report_text (recorded_levels s)) ports
+    ∙ ap (λ ls. report_text ls (map (quiet_port (frames_of (scenario_starts s))) (queues s))) (sym recorded ∙ track)
