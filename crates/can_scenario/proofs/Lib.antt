@@ -5,6 +5,7 @@ pub mod ScenarioParts
 pub mod ScenarioRows
 pub mod OfferRows
 pub mod HitLemmas
+pub mod TimedValues
 pub mod ReportLines
 pub mod Started
 pub mod OfferOrder
