@@ -1,5 +1,9 @@
 -- The offers of a scenario in the order of time.
 use Rattle.std.specs.Prelude.{filter, not, ◌&&◌}
+use denote.Param.Members.{Mut}
+use denote.Ref.{Bor}
+use Rattle.std.specs.Fn.{Called, ComputesKey}
+use Rattle.std.proofs.lemmas.Fn.{always_returns_same}
 use Rattle.std.specs.Ordering.{nat_cmp, is_lt}
 use Rattle.std.specs.List.Sorted.{IsNonDecreasingBy, IsPermutation, IsStableByKey, ties}
 use Rattle.std.proofs.Common.{◌≡◌, ◌≢◌, ℕ, zero, suc, ◌+◌, ◌<◌, ◌≤◌, Bool, true, false, List, [], ◌∷◌, ◌++◌, length, get_or, refl, sym, ap, subst, ◌∙◌, inl, inr, arith}
@@ -72,7 +76,7 @@ module _ (o next : Offer) (os : List Offer) where
   put-here early = cond-true (leb o.time next.time) (o ∷ next ∷ os) (next ∷ put_in_time o os) (le-leb o.time next.time early)
 
   put-later : next.time < o.time → put_in_time o (next ∷ os) ≡ next ∷ put_in_time o os
-  put-later late = cond-false (leb o.time next.time) (o ∷ next ∷ os) (next ∷ put_in_time o os) (lt-leb next.time o.time late)
+  put-later late = cond-false (leb o.time next.time) (o ∷ next ∷ os) (next ∷ put_in_time o os) (lt-leb o.time next.time late)
 
 from-put : (t : ℕ) (o : Offer) (os : List Offer) → t ≤ o.time → AreFrom t os → AreFrom t (put_in_time o os)
 from-put t o [] here from = (here, tt)
@@ -243,6 +247,11 @@ earlier x y = is_lt (nat_cmp x.time y.time)
 
 tie-is : (a b : ℕ) → (not (is_lt (nat_cmp a b)) && not (is_lt (nat_cmp b a))) ≡ eqb b a
 tie-is a b = grind (arith, nat_tests)
+
+-- from the clause `stable` of `sort_by_key`, where each call gives an offer's time
+pub stable-from_sort_by_key : {F : Type 0} {g : Mut F (Bor Offer × Unit {0}) ℕ} {f : F} (xs ys : List Offer) → ((key : Offer → ℕ) → ComputesKey g key f → IsStableByKey key nat_cmp xs ys) →
+    ((a : Bor Offer × Unit {0}) (r : ℕ) (f' : F) → Called g f a r f' → (r ≡ a.0.now.time) × (f' ≡ f)) → IsStableByKey (λ (o : Offer). o.time) nat_cmp xs ys
+stable-from_sort_by_key {g = g} {f = f} xs ys stable h = stable (λ (o : Offer). o.time) (always_returns_same g (λ a r. r ≡ a.0.now.time) f h)
 
 pub sorted-in_time : (os ordered : List Offer) → IsNonDecreasingBy (λ (o : Offer). o.time) ordered → IsStableByKey (λ (o : Offer). o.time) nat_cmp os ordered → ordered ≡ in_time os
 sorted-in_time os ordered rising stable =

@@ -1,25 +1,31 @@
--- The order of offers, and the report of an open scenario, computed on a few lists.
-use Rattle.std.specs.Prelude.{codes, decimal}
-use Rattle.std.proofs.Common.{◌≡◌, ℕ, false, List, [], ◌∷◌, refl}
+-- The order of offers, and what is told of an open scenario's ports, computed on a few lists.
+use Rattle.std.proofs.Common.{◌≡◌, ℕ, Bool, false, true, List, [], ◌∷◌, map, refl}
 use Rattle.can_frame.specs.Arbitration.{arbitration_field}
 use Rattle.can_frame.specs.Levels.{bits_of}
 use Rattle.can_frame.specs.Parts.{Parts}
-use Rattle.can_frame.specs.Text.{hex_digits}
 use Rattle.can_code.specs.Crc.{crc_of}
 use Rattle.can_code.specs.Stuffing.{stuffed}
 use Rattle.can_code.specs.Wire.{head, stuffed_part, unstuffed}
+use Rattle.can_fault.specs.declared.state.State.TheVariants.{Active}
+use Rattle.can_node.specs.declared.entry.Entry.{Entry}
 use Rattle.can_node.specs.Ports.{waiting}
 use Rattle.can_bus.specs.declared.offer.Offer.{Offer}
 use Rattle.can_bus.specs.OpenBus.{timed}
-use Rattle.can_bus.specs.Schedule.{Timed, schedule, track_at}
-use Rattle.can_scenario.specs.OpenReport.{open_report}
-use Rattle.can_scenario.specs.Report.{bits_line, entry_line, levels_line, port_line, report_text}
+use Rattle.can_bus.specs.Schedule.{Timed, frames_of, schedule}
+use Rattle.can_scenario.specs.OpenReport.{quiet_port}
+use Rattle.can_scenario.specs.Report.{PortReport}
 use Rattle.can_scenario.specs.ScenarioOffers.{in_time}
-use Rattle.std.proofs.Common.{map}
 
 -- `S 000 D 0`, `S 001 D 0`, `S 009 D 0`
 abbrev frame : ℕ → Parts
 frame identifier = record { id = record { raw = identifier; extended = false }; remote = false; dlc = 0; bytes = [] }
+
+-- it in a log, and a port of which this log is told
+abbrev entry : ℕ → Bool → Entry
+entry identifier sent = record { frame = frame identifier; sent = sent }
+
+abbrev told : List Entry → PortReport
+told log = record { state = Active; tec = 0; rec = 0; missed = 0; log = log }
 
 -- an offer of such a frame
 abbrev offer : ℕ → ℕ → ℕ → Offer
@@ -43,8 +49,8 @@ starts-are : schedule (map timed (offer 0 0 1 ∷ offer 49 1 9 ∷ offer 50 0 0 
 unfolding schedule waiting stuffed_part unstuffed stuffed crc_of head arbitration_field bits_of
 starts-are = refl
 
--- the report: the wire of each frame, three recessive levels behind it; and both logs
-the_report : open_report 155 starts ((frame 0 ∷ frame 1 ∷ []) ∷ (frame 9 ∷ []) ∷ [])
-    ≡ codes "bits 155\n00000100000101000001000100010000100111011111111111000001000001000001000001000001000001000010111111111110000010001001000001001111100000110000011011111111111\nport 0 active tec 0 rec 0 missed 0\n  sent S 001 D 0\n  sent S 000 D 0\n  took S 009 D 0\nport 1 active tec 0 rec 0 missed 0\n  took S 001 D 0\n  took S 000 D 0\n  sent S 009 D 0\n"
-unfolding report_text bits_line levels_line port_line entry_line track_at stuffed_part unstuffed stuffed crc_of head arbitration_field bits_of hex_digits
-the_report = refl
+-- what is told of the ports: each has all frames, in the order of their starts
+ports-told : map (quiet_port (frames_of starts)) ((frame 0 ∷ frame 1 ∷ []) ∷ (frame 9 ∷ []) ∷ [])
+    ≡ told (entry 1 true ∷ entry 0 true ∷ entry 9 false ∷ []) ∷ told (entry 1 false ∷ entry 0 false ∷ entry 9 true ∷ []) ∷ []
+unfolding arbitration_field bits_of
+ports-told = refl

@@ -98,7 +98,7 @@ marked-same own queue (f ∷ frames) same =
     ap (λ sent. entry sent ∷ marked own frames) (list_any-IsPermutation (same_field f) own queue same)
     ∙ ap (λ log. entry (holds queue f) ∷ log) (marked-same own queue frames same)
 
-module _ (s : Scenario) (open : IsOpenScenario s) where
+module _ (s : Scenario) (is : IsOpenScenario s) where
   abbrev plans : List PortPlan
   plans = s.ports.items
 
@@ -116,7 +116,7 @@ module _ (s : Scenario) (open : IsOpenScenario s) where
 
   different : AreDifferent (frames_of (map timed offers))
   different =
-      different_permuted (all_frames (queues s)) (frames_of (map timed offers)) (IsPermutation-sym (frames_of (map timed offers)) (all_frames (queues s)) (all-permuted plans)) open.different
+      different_permuted (all_frames (queues s)) (frames_of (map timed offers)) (IsPermutation-sym (frames_of (map timed offers)) (all_frames (queues s)) (all-permuted plans)) is.different
 
   size : length (all_offers offers ports) ≡ length (all_frames (queues s))
   size =
@@ -126,13 +126,13 @@ module _ (s : Scenario) (open : IsOpenScenario s) where
   -- the premises of the theorem
   pub open-call : IsOpenCall (scenario_offers s) (map made_port s.ports.items) (scenario_starts s)
   open-call = record {
-    two = omega (arith, open.two, length-map plans made_port);
+    two = omega (arith, is.two, length-map plans made_port);
     most = omega (arith, s.few, length-map plans made_port);
     offered = subst (λ n. AreOffered n offers) (sym (length-map plans made_port)) (offered plans);
     quiet = λ n p there.
         let of = plan-of plans n p there in
         subst (IsQuietPort (length (all_offers offers ports))) (sym of.2)
-        (subst (λ k. IsQuietPort k (made_port of.0)) (sym size) (quiet-port (length (all_frames (queues s))) of.0 (open.quiet n of.0 of.1)));
+        (subst (λ k. IsQuietPort k (made_port of.0)) (sym size) (quiet-port (length (all_frames (queues s))) of.0 (is.quiet n of.0 of.1)));
     room = planned-room plans;
     scheduled = subst (λ all. IsScheduleOf all starts) (sym all-are) (one-schedule (map timed offers) different);
   }
@@ -145,7 +145,7 @@ module _ (s : Scenario) (open : IsOpenScenario s) where
 
   told : (n : ℕ) (plan : PortPlan) (q : PortState) → slice_get plans n ≡ Some plan → EndsOpen n (made_port plan) q → reported q ≡ quiet_port (frames_of starts) (frames_of_queue plan)
   told n plan q there ends =
-      let quiet : made_port plan ≡ fresh_quiet plan = made-quiet (length (all_frames (queues s))) plan (open.quiet n plan there) in
+      let quiet : made_port plan ≡ fresh_quiet plan = made-quiet (length (all_frames (queues s))) plan (is.quiet n plan there) in
       let log : q.log ≡ marked (frames_of_queue plan) (frames_of starts) =
       ends.0 ∙ marked-same (frames_of (offered_to n offers)) (frames_of_queue plan) (frames_of starts) (own-permuted plans n plan there) in
       let counters : q.mac.counters ≡ fresh = ends.1 ∙ ap (λ (p : PortState). p.mac.counters) quiet in
@@ -198,32 +198,32 @@ pub undisturbed-report : (s : Scenario) → s.hits.items ≡ [] → report s ≡
 undisturbed-report s none = ap (λ hits. report_text (levels_until (level_by hits s) s.bits) (map reported (ended_by hits s).ports)) none
 
 -- the report of an open scenario, as the definition of a run has it
-module _ (s : Scenario) (valid : AllPorts IsPort (map made_port s.ports.items)) (framed : OfFrames (scenario_offers s)) (open : IsOpenScenario s) where
+module _ (s : Scenario) (valid : AllPorts IsPort (map made_port s.ports.items)) (framed : OfFrames (scenario_offers s)) (is : IsOpenScenario s) where
   pub report-open : AreOver (scenario_starts s) s.bits → report s ≡ open_report s.bits (scenario_starts s) (queues s)
   report-open past =
       let offers = scenario_offers s in
       let starts = scenario_starts s in
-      let call = open-call s open in
+      let call = open-call s is in
       let after = played offers s.bits (made_bus s) in
-      undisturbed-report s open.undisturbed
+      undisturbed-report s is.undisturbed
       ∙ ap (λ levels. report_text levels (map reported after.ports))
       (levels-same (λ t. played_level offers t (made_bus s)) (track_at starts) (open-track offers starts (made_bus s) valid framed call) s.bits)
       ∙ ap (report_text (levels_until (track_at starts) s.bits))
-      (ports-told s open after.ports (length-played offers s.bits (made_bus s) ∙ length-map s.ports.items made_port)
+      (ports-told s is after.ports (length-played offers s.bits (made_bus s) ∙ length-map s.ports.items made_port)
       (open-whole offers starts (made_bus s) valid framed call s.bits after refl past)
       (open-counters offers starts (made_bus s) valid framed call s.bits after refl)
       (open-missed offers starts (made_bus s) valid framed call s.bits after refl))
 
 -- the same, from what is known of levels that were recorded and of ports that have ended
-pub played-told : (s : Scenario) (open : IsOpenScenario s) (levels : List Level) (after : List PortState) → levels ≡ recorded_levels s → after ≡ (ended_bus s).ports → length levels ≡ s.bits →
+pub played-told : (s : Scenario) (is : IsOpenScenario s) (levels : List Level) (after : List PortState) → levels ≡ recorded_levels s → after ≡ (ended_bus s).ports → length levels ≡ s.bits →
     ((t : ℕ) → t < length levels → slice_get levels t ≡ Some (track_at (scenario_starts s) t)) →
     AtEachNode (OpenLogWhole (scenario_offers s) (scenario_starts s)) (map made_port s.ports.items) after →
     AtEachPort CountsNothing (map made_port s.ports.items) after → AtEachPort MissesNothing (map made_port s.ports.items) after →
     report s ≡ open_report s.bits (scenario_starts s) (queues s)
-played-told s open levels after recorded ended size known logs counters missed =
+played-told s is levels after recorded ended size known logs counters missed =
     let ports : map reported after ≡ map (quiet_port (frames_of (scenario_starts s))) (queues s) =
-    ports-told s open after
-    (ap length ended ∙ ap (λ (b : BusState). length b.ports) (ap (λ hits. ended_by hits s) open.undisturbed)
+    ports-told s is after
+    (ap length ended ∙ ap (λ (b : BusState). length b.ports) (ap (λ hits. ended_by hits s) is.undisturbed)
     ∙ length-played (scenario_offers s) s.bits (made_bus s) ∙ length-map s.ports.items made_port)
     logs counters missed in
     let track : levels ≡ levels_until (track_at (scenario_starts s)) s.bits =
@@ -231,3 +231,20 @@ played-told s open levels after recorded ended size known logs counters missed =
     ap (λ (ps : List PortState). report_text (recorded_levels s) (map reported ps)) (sym ended)
     ∙ ap (report_text (recorded_levels s)) ports
     ∙ ap (λ ls. report_text ls (map (quiet_port (frames_of (scenario_starts s))) (queues s))) (sym recorded ∙ track)
+
+-- and from what a bus promises that is played
+pub scheduled-told : (s : Scenario) (is : IsOpenScenario s) (levels : List Level) (offers : List Offer) (before after : List PortState) →
+    offers ≡ scenario_offers s → before ≡ map made_port s.ports.items → levels ≡ recorded_levels s → after ≡ (ended_bus s).ports → length levels ≡ s.bits → AreOver (scenario_starts s) s.bits →
+    ((starts : List Timed) → IsOpenCall offers before starts → (t : ℕ) → t < length levels → slice_get levels t ≡ Some (track_at starts t)) →
+    ((starts : List Timed) → IsOpenCall offers before starts → AreOver starts (length levels) → AtEachNode (OpenLogWhole offers starts) before after) →
+    ((starts : List Timed) → IsOpenCall offers before starts → AtEachPort CountsNothing before after) → ((starts : List Timed) → IsOpenCall offers before starts → AtEachPort MissesNothing before after) →
+    report s ≡ open_report s.bits (scenario_starts s) (queues s)
+scheduled-told s is levels offers before after are from recorded ended size past track whole counters missed =
+    let starts = scenario_starts s in
+    let call : IsOpenCall offers before starts =
+    subst (λ os. IsOpenCall os before starts) (sym are) (subst (λ ports. IsOpenCall (scenario_offers s) ports starts) (sym from) (open-call s is)) in
+    played-told s is levels after recorded ended size (track starts call)
+    (subst (λ os. AtEachNode (OpenLogWhole os starts) (map made_port s.ports.items) after) are
+    (subst (λ ports. AtEachNode (OpenLogWhole offers starts) ports after) from (whole starts call (subst (AreOver starts) (sym size) past))))
+    (subst (λ ports. AtEachPort CountsNothing ports after) from (counters starts call))
+    (subst (λ ports. AtEachPort MissesNothing ports after) from (missed starts call))

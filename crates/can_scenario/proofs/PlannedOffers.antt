@@ -132,7 +132,7 @@ each-offer P number (plan ∷ plans) each o there = elim (stands-either (map (of
 pub offers-next : (plans : List PortPlan) (node : ℕ) (plan : PortPlan) (before after all : List Offer) → node < length plans → plan ≡ get_or plans node plan →
     before ++ offers_from node (drop node plans) ≡ all → after ≡ before ++ map (offer_to node) plan.queue.items → after ++ offers_from (node + 1) (drop (node + 1) plans) ≡ all
 offers-next plans node plan before after all within is listed more =
-    let from : drop node plans ≡ plan ∷ drop (node + 1) plans = drop_more plans node plan within is ∙ ap (λ (p : PortPlan). p ∷ drop (node + 1) plans) (sym is) in
+    let from : drop node plans ≡ plan ∷ drop (node + 1) plans = drop_more plans node plan within ∙ ap (λ (p : PortPlan). p ∷ drop (node + 1) plans) (sym is) in
     ap (λ os. os ++ offers_from (node + 1) (drop (node + 1) plans)) more
     ∙ append_assoc before (map (offer_to node) plan.queue.items) (offers_from (node + 1) (drop (node + 1) plans))
     ∙ sym (ap (λ ps. before ++ offers_from node ps) from) ∙ listed

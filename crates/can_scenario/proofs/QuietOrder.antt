@@ -82,11 +82,11 @@ offers-framed s hold n o there =
 
 report-quiet : (s : Scenario) → HoldsFrames s → IsQuietScenario s → span (all_frames (queues s)) ≤ s.bits → report s ≡ quiet_report s.bits (queues s)
 report-quiet s hold is past =
-    report-open s (made-valid (length (all_frames (queues s))) s.ports.items is.open.quiet) (offers-framed s hold) is.open (quiet-over s is past) ∙ open-is-quiet s is
+    report-open s (made-valid (length (all_frames (queues s))) s.ports.items is.is_open.quiet) (offers-framed s hold) is.is_open (quiet-over s is past) ∙ open-is-quiet s is
 
 pub report-reordered : (s t : Scenario) → AreReorderings s t → span (all_frames (queues s)) ≤ s.bits → report s ≡ report t
 report-reordered s t are past =
     let long : span (all_frames (queues t)) ≤ t.bits =
     omega (arith, past, are.bits, span-permuted (all_frames (queues s)) (all_frames (queues t)) (frames-reordered (queues s) (queues t) are.same)) in
     report-quiet s are.frames.0 are.first past ∙ ap (λ bits. quiet_report bits (queues s)) are.bits
-    ∙ quiet_report-reordered t.bits (queues s) (queues t) are.first.open.different are.same ∙ sym (report-quiet t are.frames.1 are.second long)
+    ∙ quiet_report-reordered t.bits (queues s) (queues t) are.first.is_open.different are.same ∙ sym (report-quiet t are.frames.1 are.second long)

@@ -60,9 +60,10 @@ over-at_once (next free left rest start starts is others more) all s there =
     let at = all offered is.left_over in
     let after = is.is_free in
     let from : start.time ≡ free = omega arith in
+    let whole : span (frames_of (start ∷ starts)) ≡ length (wire start.frame) + 3 + span (frames_of starts) = refl in
     elim (stands-cases start starts s there) [
-      | inl same ↦ subst (λ (x : Timed). x.time + length (wire x.frame) ≤ free + span (frames_of (start ∷ starts))) same (omega arith)
-      | inr later ↦ let ends = over-at_once more (λ x s. all x (rest-left start.frame left rest others x s)) s later in omega arith
+      | inl same ↦ subst (λ (x : Timed). x.time + length (wire x.frame) ≤ free + span (frames_of (start ∷ starts))) same (omega (arith, whole, from))
+      | inr later ↦ let ends = over-at_once more (λ x s. all x (rest-left start.frame left rest others x s)) s later in omega (arith, whole, from, ends)
     ]
 
 -- ---- the report
@@ -78,7 +79,7 @@ module _ (s : Scenario) (is : IsQuietScenario s) where
   permuted = all-permuted s.ports.items
 
   different : AreDifferent (frames_of offers)
-  different = different_permuted frames (frames_of offers) (IsPermutation-sym (frames_of offers) frames permuted) is.open.different
+  different = different_permuted frames (frames_of offers) (IsPermutation-sym (frames_of offers) frames permuted) is.is_open.different
 
   at_once : AreAtOnce offers
   at_once = offers-at_once s is.first

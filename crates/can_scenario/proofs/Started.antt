@@ -10,6 +10,7 @@ use Rattle.can_code.specs.contracts.packed_bits.PackedBitsFrameBits.TheImpl as p
 use Rattle.can_node.specs.declared.node.Node.{Node}
 use Rattle.can_node.specs.Ports.{PortState, IsPort}
 use Rattle.can_bus.specs.declared.hit.Hit.{Hit}
+use Rattle.can_bus.specs.declared.offer.Offer.{Offer}
 use Rattle.can_bus.specs.Offers.{played, played_level}
 use Rattle.can_bus.specs.Run.{BusState, bus_level, bus_run}
 use Rattle.can_scenario.specs.Report.{ended_bus, ended_by, level_by, levels_until, made_bus, made_port, new_bus, recorded_levels, waiting_bus, waiting_port}
@@ -96,21 +97,46 @@ pub recorded-is : (s : Scenario) (levels : List Level) → length levels ≡ s.b
     levels ≡ recorded_levels s
 recorded-is s levels size known = levels_until-is (level_by s.hits.items s) s.bits levels size (λ t h. known t (omega arith))
 
--- with disturbances the frames wait as the run begins
-pub disturbed-level : (s : Scenario) (hits : List Hit) → hits ≢ [] → (t : ℕ) → level_by hits s t ≡ bus_level hits t (waiting_bus s)
+-- ---- a run without disturbances
+
+pub played-known : (s : Scenario) (levels : List Level) (offers : List Offer) (start : BusState) → s.hits.items ≡ [] → offers ≡ scenario_offers s → start ≡ made_bus s → length levels ≡ s.bits →
+    ((t : ℕ) → t < length levels → slice_get levels t ≡ Some (played_level offers t start)) → levels ≡ recorded_levels s
+played-known s levels offers start none are from size known =
+    recorded-is s levels size (λ t h.
+    known t h ∙ ap (λ os. Some (played_level os t start)) are ∙ ap (λ b. Some (played_level (scenario_offers s) t b)) from
+    ∙ sym (ap (λ hits. Some (level_by hits s t)) none))
+
+pub played-ends : (s : Scenario) (n : ℕ) (offers : List Offer) (start after : BusState) → s.hits.items ≡ [] → offers ≡ scenario_offers s → start ≡ made_bus s → n ≡ s.bits →
+    after ≡ played offers n start → after.ports ≡ (ended_bus s).ports
+played-ends s n offers start after none are from size ran =
+    ap (λ (b : BusState). b.ports)
+    (ran ∙ ap (λ os. played os n start) are ∙ ap (λ b. played (scenario_offers s) n b) from ∙ ap (λ k. played (scenario_offers s) k (made_bus s)) size
+    ∙ sym (ap (λ hits. ended_by hits s) none))
+
+-- ---- a run with disturbances, at whose beginning the frames wait
+
+disturbed-level : (s : Scenario) (hits : List Hit) → hits ≢ [] → (t : ℕ) → level_by hits s t ≡ bus_level hits t (waiting_bus s)
 disturbed-level s [] some t = absurd (some refl)
 disturbed-level s (hit ∷ hits) some t = refl
 
-pub disturbed-end : (s : Scenario) (hits : List Hit) → hits ≢ [] → ended_by hits s ≡ bus_run hits s.bits (waiting_bus s)
+disturbed-end : (s : Scenario) (hits : List Hit) → hits ≢ [] → ended_by hits s ≡ bus_run hits s.bits (waiting_bus s)
 disturbed-end s [] some = absurd (some refl)
 disturbed-end s (hit ∷ hits) some = refl
 
--- and without they are offered while it goes on
-pub played-level_at : (s : Scenario) → s.hits.items ≡ [] → (t : ℕ) → level_by s.hits.items s t ≡ played_level (scenario_offers s) t (made_bus s)
-played-level_at s none t = ap (λ hits. level_by hits s t) none
+pub disturbed-known : (s : Scenario) (levels : List Level) (start : BusState) → s.hits.items ≢ [] → start ≡ waiting_bus s → length levels ≡ s.bits →
+    ((t : ℕ) → t < length levels → slice_get levels t ≡ Some (bus_level s.hits.items t start)) → levels ≡ recorded_levels s
+disturbed-known s levels start some from size known =
+    recorded-is s levels size (λ t h. known t h ∙ ap (λ b. Some (bus_level s.hits.items t b)) from ∙ sym (ap Some (disturbed-level s s.hits.items some t)))
 
-pub played-end : (s : Scenario) → s.hits.items ≡ [] → ended_bus s ≡ played (scenario_offers s) s.bits (made_bus s)
-played-end s none = ap (λ hits. ended_by hits s) none
+pub disturbed-ends : (s : Scenario) (n : ℕ) (start after : BusState) → s.hits.items ≢ [] → start ≡ waiting_bus s → n ≡ s.bits → after ≡ bus_run s.hits.items n start →
+    after.ports ≡ (ended_bus s).ports
+disturbed-ends s n start after some from size ran =
+    ap (λ (b : BusState). b.ports)
+    (ran ∙ ap (λ b. bus_run s.hits.items n b) from ∙ ap (λ k. bus_run s.hits.items k (waiting_bus s)) size ∙ sym (disturbed-end s s.hits.items some))
+
+-- there are as many as are planned
+pub same-size : {N : Type 0} (port : N → PortState) (from : PortPlan → PortState) (nodes : List N) (plans : List PortPlan) → map port nodes ≡ map from plans → length nodes ≡ length plans
+same-size port from nodes plans is = sym (length-map nodes port) ∙ ap length is ∙ length-map plans from
 
 -- the bus of these ports
 pub bus-is : (ports others : List PortState) (rest : ℕ) → ports ≡ others → rest ≡ 11 → (let start : BusState = record { ports = ports; rest = rest } in start) ≡ new_bus others

@@ -15,7 +15,7 @@ AreFirst plan = All (λ timed. timed.time ≡ 0) plan.queue.items
 
 -- a scenario of an open bus, all frames of which are offered at time 0
 pub record IsQuietScenario (s : Scenario) : Type 0 where
-  pub open : IsOpenScenario s
+  pub is_open : IsOpenScenario s
   pub first : All AreFirst s.ports.items
 
 -- the report of a quiet bus at whose ports these frames waited, after so many bit times: the line of the frames, and

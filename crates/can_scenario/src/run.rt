@@ -48,7 +48,7 @@ pub fn run_scenario<W: Sink>(
     ensures memory { IsErrOf result TraceFault.Memory → w.new ≡ w.old }
     ensures other { IfErr result (λ fault. (fault ≡ TraceFault.Write) ⊎ (fault ≡ TraceFault.Memory)) }
     ensures write_failed { IsErrOf result TraceFault.Write ↔ IsTrue (W.has_failed w.new) }
-    ensures open { OnOk result (IsOpenScenario scenario.now → AreOver (scenario_starts scenario.now) scenario.now.bits →
+    ensures scheduled { OnOk result (IsOpenScenario scenario.now → AreOver (scenario_starts scenario.now) scenario.now.bits →
         Appends (W.contents w.old) (W.contents w.new) (open_report scenario.now.bits (scenario_starts scenario.now) (queues scenario.now))) }
     ensures quiet { OnOk result (IsQuietScenario scenario.now → span (all_frames (queues scenario.now)) ≤ scenario.now.bits →
         Appends (W.contents w.old) (W.contents w.new) (quiet_report scenario.now.bits (queues scenario.now))) }
@@ -72,7 +72,7 @@ struct Ended {
 fn run(alloc: Global, scenario: &Scenario) -> Result<Ended, AllocError>
     ensures levels { IfOk result (λ ended. ended.levels.items ≡ recorded_levels scenario.now) }
     ensures ports { IfOk result (λ ended. map ⟦<PackedNode as Port>⟧.port ended.ports.items ≡ (ended_bus scenario.now).ports) }
-    ensures open { OnOk result (IsOpenScenario scenario.now → AreOver (scenario_starts scenario.now) scenario.now.bits →
+    ensures scheduled { OnOk result (IsOpenScenario scenario.now → AreOver (scenario_starts scenario.now) scenario.now.bits →
         report scenario.now ≡ open_report scenario.now.bits (scenario_starts scenario.now) (queues scenario.now)) }
     ensures quiet { OnOk result (IsQuietScenario scenario.now → span (all_frames (queues scenario.now)) ≤ scenario.now.bits →
         report scenario.now ≡ quiet_report scenario.now.bits (queues scenario.now)) }
@@ -89,7 +89,7 @@ fn play(alloc: Global, scenario: &Scenario) -> Result<Ended, AllocError>
     requires { scenario.now.hits.items ≡ [] }
     ensures levels { IfOk result (λ ended. ended.levels.items ≡ recorded_levels scenario.now) }
     ensures ports { IfOk result (λ ended. map ⟦<PackedNode as Port>⟧.port ended.ports.items ≡ (ended_bus scenario.now).ports) }
-    ensures open { OnOk result (IsOpenScenario scenario.now → AreOver (scenario_starts scenario.now) scenario.now.bits →
+    ensures scheduled { OnOk result (IsOpenScenario scenario.now → AreOver (scenario_starts scenario.now) scenario.now.bits →
         report scenario.now ≡ open_report scenario.now.bits (scenario_starts scenario.now) (queues scenario.now)) }
 {
     let ports = made_ports(alloc, &scenario.ports)?;
