@@ -3,6 +3,7 @@ use Rattle.std.specs.Prelude.{slice_get, All}
 use Rattle.std.specs.List.Sorted.{IsPermutation}
 use Rattle.std.proofs.Common.{◌≡◌, ℕ, zero, suc, ◌+◌, ◌<◌, ◌≤◌, Some, List, [], ◌∷◌, ◌++◌, length, map, get_or, refl, sym, ap, subst, ◌∙◌, arith, inl, inr}
 use Rattle.std.proofs.lemmas.List.Elements.{All-get_or}
+use Rattle.std.proofs.lemmas.List.Sums.{sum_by-cons}
 use Rattle.std.proofs.lemmas.Option.{get_or_from_slice_get, slice_get_within}
 use Rattle.std.proofs.lemmas.List.Sorted.{IsPermutation-sym}
 use Rattle.can_frame.specs.declared.level.Level.{Level}
@@ -60,7 +61,7 @@ over-at_once (next free left rest start starts is others more) all s there =
     let at = all offered is.left_over in
     let after = is.is_free in
     let from : start.time ≡ free = omega arith in
-    let whole : span (frames_of (start ∷ starts)) ≡ length (wire start.frame) + 3 + span (frames_of starts) = refl in
+    let whole : span (frames_of (start ∷ starts)) ≡ length (wire start.frame) + 3 + span (frames_of starts) = sum_by-cons (λ (f : Parts). length (wire f) + 3) start.frame (frames_of starts) in
     elim (stands-cases start starts s there) [
       | inl same ↦ subst (λ (x : Timed). x.time + length (wire x.frame) ≤ free + span (frames_of (start ∷ starts))) same (omega (arith, whole, from))
       | inr later ↦ let ends = over-at_once more (λ x s. all x (rest-left start.frame left rest others x s)) s later in omega (arith, whole, from, ends)

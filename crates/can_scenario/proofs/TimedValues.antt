@@ -1,23 +1,38 @@
 -- A frame with its time, as an element of a queue says it.
-use Rattle.std.proofs.Common.{◌≡◌, ℕ, ◌≤◌, Some, List, [], ◌∷◌, length, get_or, pos, refl, sym, ap, subst, ◌∙◌, arith}
-use Rattle.toml.specs.Data.{Data, integer, array, item, no_items, as_array}
-use Rattle.toml.specs.View.{view, items_view}
+use Rattle.std.proofs.Common.{◌≡◌, ℕ, ◌≤◌, List, [], ◌∷◌, length, map, get_or, pos, refl, sym, ap, subst, ◌∙◌, arith}
+use Rattle.std.proofs.lemmas.List.{length-map}
+use Rattle.toml.specs.Data.{Data, Items, integer, array, item, no_items}
+use Rattle.toml.specs.View.{view}
 use Rattle.toml.specs.declared.value.Value.{Value}
 use Rattle.can_scenario.specs.declared.scenario.TimedFrame.{TimedFrame}
-use Rattle.can_scenario.specs.Scenarios.{IsFrameValue, IsTimedFrameValue, IsUpTo, SaysFrame, SaysTimedFrame, most_time}
-use Rattle.can_scenario.proofs.HitLemmas.{array_from}
+use Rattle.can_scenario.specs.Scenarios.{IsArray, IsFrameValue, IsTimedFrameValue, IsUpTo, SaysFrame, SaysTimedFrame, elements, elements_of, most_time}
 
-two-view : (values : List Value) (x y : Value) → length values ≡ 2 → x ≡ get_or values 0 x → y ≡ get_or values 1 y → items_view values ≡ item (view x) (item (view y) no_items)
+-- such an array has two elements
+pub timed-two : (values : List Value) (d : Data) → map view values ≡ elements d → IsTimedFrameValue d → length values ≡ 2
+timed-two values d are is = sym (length-map values view) ∙ ap length are ∙ ap (λ (e : Data). length (elements e)) is.pair
+
+-- and is an array
+pub timed-array : (d : Data) → IsTimedFrameValue d → IsArray d
+timed-array d is = (item (integer (pos is.time)) (item is.frame no_items), is.pair)
+
+items-two : (items : Items) (a b : Data) → elements_of items ≡ a ∷ b ∷ [] → items ≡ item a (item b no_items)
+items-two no_items a b e = absurd (cc)
+items-two (item c no_items) a b e = absurd (cc)
+items-two (item c (item d no_items)) a b e = cc
+items-two (item c (item d (item f items))) a b e = absurd (cc)
+
+two-view : (values : List Value) (x y : Value) → length values ≡ 2 → x ≡ get_or values 0 x → y ≡ get_or values 1 y → map view values ≡ view x ∷ view y ∷ []
 two-view [] x y size first second = absurd (omega (arith, size))
 two-view (v ∷ []) x y size first second = absurd (omega (arith, size))
-two-view (v ∷ w ∷ []) x y size first second = ap (λ d. item d (item (view w) no_items)) (sym (ap view first)) ∙ ap (λ d. item (view x) (item d no_items)) (sym (ap view second))
+two-view (v ∷ w ∷ []) x y size first second = ap (λ d. d ∷ view w ∷ []) (sym (ap view first)) ∙ ap (λ d. view x ∷ d ∷ []) (sym (ap view second))
 two-view (v ∷ w ∷ u ∷ values) x y size first second = absurd (omega (arith, size))
 
 -- an array of these two values
-pub two-values : (values elements : List Value) (d : Data) (x y : Value) → elements ≡ values → Some (items_view values) ≡ as_array d →
-    length elements ≡ 2 → x ≡ get_or elements 0 x → y ≡ get_or elements 1 y → d ≡ array (item (view x) (item (view y) no_items))
-two-values values elements d x y same is size first second =
-    array_from d (items_view values) (sym is) ∙ ap array (ap items_view (sym same) ∙ two-view elements x y size first second)
+pub two-values : (values : List Value) (d : Data) (x y : Value) → IsArray d → map view values ≡ elements d → length values ≡ 2 → x ≡ get_or values 0 x → y ≡ get_or values 1 y →
+    d ≡ array (item (view x) (item (view y) no_items))
+two-values values d x y is are size first second =
+    let listed : elements_of is.0 ≡ view x ∷ view y ∷ [] = sym (are ∙ ap elements is.1) ∙ two-view values x y size first second in
+    is.1 ∙ ap array (items-two is.0 (view x) (view y) listed)
 
 module _ (d x y : Data) (pair : d ≡ array (item x (item y no_items))) where
   same-pair : (is : IsTimedFrameValue d) → array (item x (item y no_items)) ≡ array (item (integer (pos is.time)) (item is.frame no_items))

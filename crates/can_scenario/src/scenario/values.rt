@@ -147,12 +147,11 @@ fn timed_frame(value: &Value) -> Option<TimedFrame>
     ensures met { OnSome result (IsTimedFrameValue (view value.now)) }
     ensures unmet { IfNone result (¬ IsTimedFrameValue (view value.now)) }
 {
-    let values = value.as_array()?;
-    match values.as_slice() {
-        [time, text] => Some(TimedFrame {
-            time: number(time, MOST_TIME)?,
-            frame: frame(text)?,
-        }),
-        _ => None,
+    let values = elements_of(value)?;
+    if values.len() != 2 {
+        return None;
     }
+    let time = number(&values[0], MOST_TIME)?;
+    let frame = frame(&values[1])?;
+    Some(TimedFrame { time, frame })
 }
