@@ -1,5 +1,6 @@
 -- A frame with its time, as an element of a queue says it.
-use Rattle.std.proofs.Common.{◌≡◌, ℕ, ◌≤◌, List, [], ◌∷◌, length, map, get_or, pos, refl, sym, ap, subst, ◌∙◌, arith}
+use Rattle.std.specs.Prelude.{IfNone}
+use Rattle.std.proofs.Common.{◌≡◌, ℕ, ◌≤◌, Option, Some, None, List, [], ◌∷◌, length, map, get_or, pos, refl, sym, ap, subst, ◌∙◌, arith}
 use Rattle.std.proofs.lemmas.List.{length-map}
 use Rattle.toml.specs.Data.{Data, Items, integer, array, item, no_items}
 use Rattle.toml.specs.View.{view}
@@ -34,6 +35,14 @@ two-values values d x y is are size first second =
     let listed : elements_of is.0 ≡ view x ∷ view y ∷ [] = sym (are ∙ ap elements is.1) ∙ two-view values x y size first second in
     is.1 ∙ ap array (items-two is.0 (view x) (view y) listed)
 
+-- an array of this value and another
+pub first-value : (values : List Value) (d : Data) (x : Value) → IsArray d → map view values ≡ elements d → length values ≡ 2 → x ≡ get_or values 0 x →
+    (y : Data) × (d ≡ array (item (view x) (item y no_items)))
+first-value [] d x is are size first = absurd (omega (arith, size))
+first-value (v ∷ []) d x is are size first = absurd (omega (arith, size))
+first-value (v ∷ w ∷ []) d x is are size first = (view w, two-values (v ∷ w ∷ []) d x w is are size first refl)
+first-value (v ∷ w ∷ u ∷ values) d x is are size first = absurd (omega (arith, size))
+
 module _ (d x y : Data) (pair : d ≡ array (item x (item y no_items))) where
   same-pair : (is : IsTimedFrameValue d) → array (item x (item y no_items)) ≡ array (item (integer (pos is.time)) (item is.frame no_items))
   same-pair is = sym pair ∙ is.pair
@@ -58,3 +67,8 @@ module _ (d x y : Data) (pair : d ≡ array (item x (item y no_items))) where
 
   pub timed-says : (timed : TimedFrame) → x ≡ integer (pos timed.time) → SaysFrame y timed.frame → SaysTimedFrame d timed
   timed-says timed is text = record { frame = y; pair = pair ∙ ap (λ v. array (item v (item y no_items))) is; text = text }
+
+-- where there is no value, what is said of that
+pub none-then : {X : Type 0} (P : Type 0) (o : Option X) → P → IfNone o P
+none-then P None p = p
+none-then P (Some x) p = tt
