@@ -25,11 +25,15 @@ two_items (v ∷ []) a b e = absurd (let no : item (view v) no_items ≡ item a 
 two_items (v ∷ w ∷ []) a b e = refl
 two_items (v ∷ w ∷ x ∷ values) a b e = absurd (let no : item (view v) (item (view w) (item (view x) (items_view values))) ≡ item a (item b no_items) = e in cc)
 
--- the elements of an array of two numbers are two
+-- the elements of an array of two are two
+pub two_elements : (values elements : List Value) (d a b : Data) → elements ≡ values → Some (items_view values) ≡ as_array d → d ≡ array (item a (item b no_items)) → length elements ≡ 2
+two_elements values elements d a b same e is =
+    let pair : Some (items_view values) ≡ Some (item a (item b no_items)) = e ∙ ap as_array is in
+    ap length same ∙ two_items values a b (cc)
+
+-- those of an array of two numbers, too
 pub pair_has_two : (values elements : List Value) (d : Data) (a b : ℕ) → elements ≡ values → Some (items_view values) ≡ as_array d → IsPair a b d → length elements ≡ 2
-pair_has_two values elements d a b same e is =
-    let pair : Some (items_view values) ≡ Some (item (integer (pos a)) (item (integer (pos b)) no_items)) = e ∙ ap as_array is in
-    ap length same ∙ two_items values (integer (pos a)) (integer (pos b)) (cc)
+pair_has_two values elements d a b same e is = two_elements values elements d (integer (pos a)) (integer (pos b)) same e is
 
 -- ---- the elements of a list
 
@@ -80,7 +84,7 @@ IsReading-said list ports ds start place before hits reading = subst (AddsHits l
 pub err_instead : {A B : Type 0} (fault other : TraceFault) → IsErrOf {T = A} (Err fault) other → IsErrOf {T = B} (Err fault) other
 err_instead fault other is = let same : fault ≡ other = cc is in ap Err same
 
-array_from : (d : Data) (items : Items) → as_array d ≡ Some items → d ≡ array items
+pub array_from : (d : Data) (items : Items) → as_array d ≡ Some items → d ≡ array items
 array_from (string s) items e = cc
 array_from (integer z) items e = cc
 array_from (float x) items e = cc

@@ -3,9 +3,16 @@ pub mod ReadValues
 pub mod ReadLists
 pub mod ScenarioParts
 pub mod ScenarioRows
+pub mod OfferRows
 pub mod HitLemmas
+pub mod TimedValues
 pub mod ReportLines
 pub mod Started
+pub mod OfferOrder
+pub mod PlannedOffers
+pub mod OpenReports
 pub mod QuietReports
+pub mod FirstOffers
+pub mod RoomForAll
 pub mod QuietOrder
 pub mod OneScenario

@@ -1,7 +1,7 @@
 -- Bytes say one scenario, or have one field that is told.
 use Rattle.std.specs.Prelude.{codes}
 use Rattle.std.proofs.Common.{◌≡◌, ℕ, pos, Bool, Option, Some, None, List, [], ◌∷◌, ◌++◌, refl, sym, ap, ◌∙◌, subst, inl, inr}
-use Rattle.toml.specs.Data.{Data, string, integer, boolean, table, Members}
+use Rattle.toml.specs.Data.{Data, string, integer, boolean, array, table, Members, item, no_items}
 use Rattle.toml.specs.Parse.{parse_document}
 use Rattle.can_frame.specs.Parts.{Parts}
 use Rattle.can_frame.specs.Text.{frame_text}
@@ -9,10 +9,13 @@ use Rattle.can_frame.proofs.OneText.{same_frame}
 use Rattle.can_bus.specs.declared.hit.Hit.{Hit}
 use Rattle.can_scenario.specs.declared.scenario.Scenario.{Scenario}
 use Rattle.can_scenario.specs.declared.scenario.PortPlan.{PortPlan}
+use Rattle.can_scenario.specs.declared.scenario.TimedFrame.{TimedFrame}
+use Rattle.can_scenario.specs.declared.scenario.version.Version.{Version}
+use Rattle.can_scenario.specs.declared.scenario.version.Version.TheVariants.{One, Two}
 use Rattle.can_stream.specs.declared.field.Field.{Field}
 use Rattle.can_stream.specs.declared.field.HitList.{HitList}
 use Rattle.can_stream.specs.declared.field.HitList.TheVariants.{At, In, View}
-use Rattle.can_scenario.specs.Scenarios.{Demands, no_demands, demand, AllMet, IsFirstUnmet, ArePaired, IsDocument, IsRequired, IsNumber, SaysNumber, SaysWhether, SaysFrame, SaysHit, SaysPort, SaysHits, SaysScenario, IsScenarioText, IsFirstWrong, AreSamePorts, AreSame, elements_in, named, ports_in, scenario_demands}
+use Rattle.can_scenario.specs.Scenarios.{Demands, no_demands, demand, AllMet, IsFirstUnmet, ArePaired, IsDocument, IsRequired, IsNumber, SaysNumber, SaysWhether, SaysFrame, SaysTimedFrame, SaysQueueElement, version_of, SaysHit, SaysPort, SaysHits, SaysScenario, IsScenarioText, IsFirstWrong, AreSamePorts, AreSame, elements_in, named, ports_in, scenario_demands}
 
 -- ---- demands
 
@@ -60,6 +63,29 @@ said-frame d f g a b =
     let texts : frame_text f ≡ frame_text g = (let h : string (frame_text f) ≡ string (frame_text g) = sym a.1 ∙ b.1 in cc) in
     same_frame f g a.0 b.0 texts
 
+same-timed : (f g : TimedFrame) → f.time ≡ g.time → f.frame ≡ g.frame → f ≡ g
+same-timed f g times frames =
+    let at : ℕ → Parts → TimedFrame = λ time frame. record { time = time; frame = frame } in
+    ap (λ t. at t f.frame) times ∙ ap (at g.time) frames
+
+said-first : (d : Data) (f g : TimedFrame) → SaysQueueElement One d f → SaysQueueElement One d g → f ≡ g
+said-first d f g a b =
+    let frames : f.frame ≡ g.frame = said-frame d f.frame g.frame a.1 b.1 in
+    let times : f.time ≡ g.time = a.0 ∙ sym b.0 in
+    same-timed f g times frames
+
+said-timed : (d : Data) (f g : TimedFrame) → SaysTimedFrame d f → SaysTimedFrame d g → f ≡ g
+said-timed d f g a b =
+    let pairs : array (item (integer (pos f.time)) (item a.frame no_items)) ≡ array (item (integer (pos g.time)) (item b.frame no_items)) = sym a.pair ∙ b.pair in
+    let values : a.frame ≡ b.frame = cc in
+    let times : f.time ≡ g.time = cc in
+    let frames : f.frame ≡ g.frame = said-frame a.frame f.frame g.frame a.text (subst (λ d. SaysFrame d g.frame) (sym values) b.text) in
+    same-timed f g times frames
+
+said-element : (version : Version) (d : Data) (f g : TimedFrame) → SaysQueueElement version d f → SaysQueueElement version d g → f ≡ g
+said-element One d f g a b = said-first d f g a b
+said-element Two d f g a b = said-timed d f g a b
+
 said-hit : (list : HitList) (d : Data) (a b : Hit) → SaysHit list d a → SaysHit list d b → a ≡ b
 said-hit list d a b e f = let h : Some a ≡ Some b = sym e ∙ f in cc
 
@@ -86,9 +112,9 @@ one-list R one xs ys zs a b = paired-same ys zs (paired-each R (λ y z. y ≡ z)
 
 -- ---- scenarios
 
-one-port : (d : Data) (p q : PortPlan) → SaysPort d p → SaysPort d q → AreSamePorts p q
-one-port d p q a b = record {
-  queue = one-list SaysFrame said-frame (elements_in (named (codes "queue") d)) p.queue.items q.queue.items a.queue b.queue;
+one-port : (version : Version) (d : Data) (p q : PortPlan) → SaysPort version d p → SaysPort version d q → AreSamePorts p q
+one-port version d p q a b = record {
+  queue = one-list (SaysQueueElement version) (said-element version) (elements_in (named (codes "queue") d)) p.queue.items q.queue.items a.queue b.queue;
   log_room = said-number 64 p.log_room q.log_room (named (codes "log") d) a.log_room b.log_room;
   joins = said-whether p.joins q.joins (named (codes "join") d) a.joins b.joins;
   overloads = said-number 0 p.overloads q.overloads (named (codes "hold") d) a.overloads b.overloads;
@@ -104,7 +130,7 @@ one-hits document a b x y =
 says-one : (document : Data) (s t : Scenario) → SaysScenario document s → SaysScenario document t → AreSame s t
 says-one document s t a b = record {
   bits = required-number s.bits t.bits (named (codes "bits") document) a.bits b.bits;
-  ports = paired-each SaysPort AreSamePorts one-port (ports_in document) s.ports.items t.ports.items a.ports b.ports;
+  ports = paired-each (SaysPort (version_of document)) AreSamePorts (one-port (version_of document)) (ports_in document) s.ports.items t.ports.items a.ports b.ports;
   hits = one-hits document s.hits.items t.hits.items a.hits b.hits;
 }
 

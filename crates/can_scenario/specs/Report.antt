@@ -11,32 +11,56 @@ use Rattle.can_fault.specs.Counters.{state_of}
 use Rattle.can_mac.specs.State.{idle, joining}
 use Rattle.can_node.specs.declared.entry.Entry.{Entry}
 use Rattle.can_node.specs.Ports.{PortState, fresh_port, port_offered, port_holding}
+use Rattle.can_bus.specs.declared.hit.Hit.{Hit}
+use Rattle.can_bus.specs.Offers.{played, played_level}
 use Rattle.can_bus.specs.Run.{BusState, bus_level, bus_run}
 use Rattle.can_stream.specs.Digits.{digit_of}
+use Rattle.can_scenario.specs.ScenarioOffers.{scenario_offers}
 use Rattle.can_scenario.specs.declared.scenario.Scenario.{Scenario}
 use Rattle.can_scenario.specs.declared.scenario.PortPlan.{PortPlan}
 
 -- ---- the run
+
+-- A port as it is made: with a place in its queue for each frame that it is offered, and asked for its overload frames.
+abbrev pub made_port : PortPlan → PortState
+made_port plan = port_holding plan.overloads (fresh_port (if plan.joins then joining else idle) (length plan.queue.items) plan.log_room)
+
+-- a bus as it is made, where eleven recessive levels count as recorded last
+abbrev pub new_bus : List PortState → BusState
+new_bus ports = record { ports = ports; rest = idle_row }
+
+abbrev pub made_bus : Scenario → BusState
+made_bus s = new_bus (map made_port s.ports.items)
 
 -- the frames of a list are offered, one after another
 abbrev pub all_offered : List Parts → PortState → PortState
 all_offered [] p = p
 all_offered (f ∷ frames) p = all_offered frames (port_offered f p)
 
--- a port as it begins: it was made with a place in its queue for each frame, was offered the frames in their order,
--- and then asked for its overload frames
-abbrev pub started_port : PortPlan → PortState
-started_port plan =
-    port_holding plan.overloads
-    (all_offered plan.queue.items (fresh_port (if plan.joins then joining else idle) (length plan.queue.items) plan.log_room))
+-- the frames that a port is offered, in the order of its queue
+abbrev pub frames_of_queue : PortPlan → List Parts
+frames_of_queue plan = map (λ timed. timed.frame) plan.queue.items
 
--- the bus as the run begins: a new one, so eleven recessive levels count as recorded last
-abbrev pub started_bus : Scenario → BusState
-started_bus s = record { ports = map started_port s.ports.items; rest = idle_row }
+-- the port with all its frames waiting
+abbrev pub waiting_port : PortPlan → PortState
+waiting_port plan = all_offered (frames_of_queue plan) (made_port plan)
 
--- as it ends
+abbrev pub waiting_bus : Scenario → BusState
+waiting_bus s = new_bus (map waiting_port s.ports.items)
+
+-- The bus as the run ends. Without disturbances each frame is offered before its bit time. With disturbances, all frames of which
+-- have time 0, the frames wait as the run begins.
+abbrev pub ended_by : List Hit → Scenario → BusState
+ended_by [] s = played (scenario_offers s) s.bits (made_bus s)
+ended_by (hit ∷ hits) s = bus_run (hit ∷ hits) s.bits (waiting_bus s)
+
 abbrev pub ended_bus : Scenario → BusState
-ended_bus s = bus_run s.hits.items s.bits (started_bus s)
+ended_bus s = ended_by s.hits.items s
+
+-- the level that is recorded at a time
+abbrev pub level_by : List Hit → Scenario → ℕ → Level
+level_by [] s t = played_level (scenario_offers s) t (made_bus s)
+level_by (hit ∷ hits) s t = bus_level (hit ∷ hits) t (waiting_bus s)
 
 -- the levels at times 0 to n
 abbrev pub levels_until : (ℕ → Level) → ℕ → List Level
@@ -45,7 +69,7 @@ levels_until level (suc n) = levels_until level n ++ level n ∷ []
 
 -- the levels that are recorded
 abbrev pub recorded_levels : Scenario → List Level
-recorded_levels s = levels_until (λ t. bus_level s.hits.items t (started_bus s)) s.bits
+recorded_levels s = levels_until (level_by s.hits.items s) s.bits
 
 -- ---- the text
 
@@ -105,3 +129,7 @@ report_text levels ports = bits_line (length levels) ++ (levels_line levels ++ p
 -- the report of a scenario
 abbrev pub report : Scenario → List ℕ
 report s = report_text (recorded_levels s) (map reported (ended_bus s).ports)
+
+-- the report of a run at whose beginning all frames wait
+abbrev pub waiting_report : Scenario → List ℕ
+waiting_report s = report_text (levels_until (λ t. bus_level s.hits.items t (waiting_bus s)) s.bits) (map reported (bus_run s.hits.items s.bits (waiting_bus s)).ports)

@@ -1,5 +1,5 @@
 -- Scenarios: what a document has to meet, in the order in which it is tested, and which scenario it says.
-use Rattle.std.specs.Prelude.{◌≡◌, ◌⊎◌, ℕ, ◌+◌, ◌≤◌, pos, Bool, true, false, ◌&&◌, List, [], ◌∷◌, ◌++◌, length, Option, Some, None, codes, IsUtf8}
+use Rattle.std.specs.Prelude.{◌≡◌, ◌⊎◌, ℕ, ◌+◌, ◌==◌, ◌≤◌, pos, Bool, true, false, ◌&&◌, if◌then◌else◌, List, [], ◌∷◌, ◌++◌, length, Option, Some, None, IsSome, unwrap_or, codes, IsUtf8}
 use Rattle.std.specs.List.{list_any}
 use Rattle.toml.specs.Data.{Data, string, integer, boolean, array, table, Items, no_items, item, Members, no_members, member, get_member, same_key}
 use Rattle.toml.specs.Parse.{parse_document}
@@ -12,6 +12,9 @@ use Rattle.can_stream.specs.declared.fault.TraceFault.{TraceFault}
 use Rattle.can_stream.specs.declared.fault.TraceFault.TheVariants.{ScenarioField, Memory}
 use Rattle.can_scenario.specs.declared.scenario.Scenario.{Scenario}
 use Rattle.can_scenario.specs.declared.scenario.PortPlan.{PortPlan}
+use Rattle.can_scenario.specs.declared.scenario.TimedFrame.{TimedFrame}
+use Rattle.can_scenario.specs.declared.scenario.version.Version.{Version}
+use Rattle.can_scenario.specs.declared.scenario.version.Version.TheVariants.{One, Two}
 use Rattle.can_stream.specs.declared.field.Field.{Field}
 use Rattle.can_stream.specs.declared.field.Field.TheVariants as field
 use Rattle.can_stream.specs.declared.field.PortField.TheVariants as of_port
@@ -102,6 +105,20 @@ are_known names (member key d rest) = list_any (same_key key) names && are_known
 abbrev pub named : List ℕ → Data → Option Data
 named name d = get_member name (members_in d)
 
+-- ---- the version
+
+-- the version that a field says, if there is such a version
+abbrev pub version_said : Option Data → Option Version
+version_said (Some (integer (pos n))) = if n == 1 then Some One else (if n == 2 then Some Two else None)
+version_said _ = None
+
+abbrev pub version_in : Data → Option Version
+version_in document = version_said (named (codes "version") document)
+
+-- the version by which the document is read: the first, where it says none
+abbrev pub version_of : Data → Version
+version_of document = unwrap_or (version_in document) One
+
 -- ---- a port
 
 abbrev pub port_fields : List (List ℕ)
@@ -118,15 +135,31 @@ usual_log_room = 64
 abbrev pub IsFrameValue : Data → Type 0
 IsFrameValue d = (text : List ℕ) × (d ≡ string text) × IsFrameText text
 
--- an element of a queue is the text of a frame
-abbrev pub frame_demands : ℕ → ℕ → Data → Demands
-frame_demands number place d = demand (field.Port number (of_port.Frame place)) (IsFrameValue d) no_demands
+-- before which bit time a frame may be offered at most
+abbrev pub most_time : ℕ
+most_time = 1000000
+
+-- an array of such a time and the text of a frame
+pub record IsTimedFrameValue (d : Data) : Type 0 where
+  pub time : ℕ
+  pub frame : Data
+  pub pair : d ≡ array (item (integer (pos time)) (item frame no_items))
+  pub in_range : time ≤ most_time
+  pub text : IsFrameValue frame
+
+-- an element of a queue: the text of a frame, in version 2 with its time
+abbrev pub IsQueueElement : Version → Data → Type 0
+IsQueueElement One d = IsFrameValue d
+IsQueueElement Two d = IsTimedFrameValue d
+
+abbrev pub frame_demands : Version → ℕ → ℕ → Data → Demands
+frame_demands version number place d = demand (field.Port number (of_port.Frame place)) (IsQueueElement version d) no_demands
 
 -- a queue and its elements
-abbrev pub queue_demands : ℕ → Data → Demands
-queue_demands number d =
+abbrev pub queue_demands : Version → ℕ → Data → Demands
+queue_demands version number d =
     demand (field.Port number of_port.Queue) (IsOptional IsArray (named (codes "queue") d))
-    (demands_on_each (frame_demands number) 0 (elements_in (named (codes "queue") d)))
+    (demands_on_each (frame_demands version number) 0 (elements_in (named (codes "queue") d)))
 
 -- the fields of a port's table behind its queue
 abbrev pub room_demands : ℕ → Data → Demands
@@ -137,16 +170,16 @@ room_demands number d =
     no_demands))
 
 -- a port's table
-abbrev pub port_demands : ℕ → Data → Demands
-port_demands number d =
+abbrev pub port_demands : Version → ℕ → Data → Demands
+port_demands version number d =
     demand (field.Port number of_port.Table) (IsTable d)
     (demand (field.Port number of_port.Unknown) (are_known port_fields (members_in d) ≡ true)
-    (followed (queue_demands number d)
+    (followed (queue_demands version number d)
     (room_demands number d)))
 
 -- the tables of all ports, the first of which has this number
-abbrev pub ports_demands : ℕ → List Data → Demands
-ports_demands = demands_on_each port_demands
+abbrev pub ports_demands : Version → ℕ → List Data → Demands
+ports_demands version = demands_on_each (port_demands version)
 
 -- ---- disturbances
 
@@ -191,8 +224,10 @@ list_demands list ports document =
 
 -- ---- the document
 
-abbrev pub top_fields : List (List ℕ)
-top_fields = codes "version" ∷ codes "bits" ∷ codes "port" ∷ codes "at" ∷ codes "in" ∷ codes "view" ∷ []
+-- only version 1 has disturbances
+abbrev pub top_fields : Version → List (List ℕ)
+top_fields One = codes "version" ∷ codes "bits" ∷ codes "port" ∷ codes "at" ∷ codes "in" ∷ codes "view" ∷ []
+top_fields Two = codes "version" ∷ codes "bits" ∷ codes "port" ∷ []
 
 abbrev pub most_bits : ℕ
 most_bits = 1000000
@@ -213,17 +248,17 @@ hits_demands ports document =
 -- the fields at the top, but for the disturbances
 abbrev pub top_demands : Data → Demands
 top_demands document =
-    demand field.Unknown (are_known top_fields (members_in document) ≡ true)
-    (demand field.Version (IsRequired (IsNumber 1) (named (codes "version") document))
+    demand field.Unknown (are_known (top_fields (version_of document)) (members_in document) ≡ true)
+    (demand field.Version (IsSome (version_in document))
     (demand field.Bits (IsRequired (IsUpTo most_bits) (named (codes "bits") document))
     (demand field.Ports (IsRequired IsPortArray (named (codes "port") document))
     no_demands)))
 
--- what a document of version 1 has to meet
+-- what a document has to meet
 abbrev pub scenario_demands : Data → Demands
 scenario_demands document =
     followed (top_demands document)
-    (followed (ports_demands 0 (ports_in document))
+    (followed (ports_demands (version_of document) 0 (ports_in document))
     (hits_demands (length (ports_in document)) document))
 
 -- ---- which scenario it says
@@ -249,6 +284,17 @@ SaysWhether (Some d) b = d ≡ boolean b
 abbrev pub SaysFrame : Data → Parts → Type 0
 SaysFrame d f = IsFrame f × (d ≡ string (frame_text f))
 
+-- an array of this time and the text of this frame
+pub record SaysTimedFrame (d : Data) (timed : TimedFrame) : Type 0 where
+  pub frame : Data
+  pub pair : d ≡ array (item (integer (pos timed.time)) (item frame no_items))
+  pub text : SaysFrame frame timed.frame
+
+-- the element of a queue says this frame and its time, in version 1 time 0
+abbrev pub SaysQueueElement : Version → Data → TimedFrame → Type 0
+SaysQueueElement One d timed = (timed.time ≡ 0) × SaysFrame d timed.frame
+SaysQueueElement Two d timed = SaysTimedFrame d timed
+
 -- the element of such a list says this disturbance
 abbrev pub SaysHit : HitList → Data → Hit → Type 0
 SaysHit list d hit = hit_in list d ≡ Some hit
@@ -260,8 +306,8 @@ pub record AddsHits (list : HitList) (ds : List Data) (before after : List Hit) 
   pub all : after ≡ before ++ added
 
 -- the table says this port
-pub record SaysPort (d : Data) (plan : PortPlan) : Type 0 where
-  pub queue : ArePaired SaysFrame (elements_in (named (codes "queue") d)) plan.queue.items
+pub record SaysPort (version : Version) (d : Data) (plan : PortPlan) : Type 0 where
+  pub queue : ArePaired (SaysQueueElement version) (elements_in (named (codes "queue") d)) plan.queue.items
   pub log_room : SaysNumber usual_log_room (named (codes "log") d) plan.log_room
   pub joins : SaysWhether (named (codes "join") d) plan.joins
   pub overloads : SaysNumber 0 (named (codes "hold") d) plan.overloads
@@ -280,7 +326,7 @@ pub record SaysHits (document : Data) (hits : List Hit) : Type 0 where
 pub record SaysScenario (document : Data) (s : Scenario) : Type 0 where
   pub met : AllMet (scenario_demands document)
   pub bits : IsRequired (IsNumber s.bits) (named (codes "bits") document)
-  pub ports : ArePaired SaysPort (ports_in document) s.ports.items
+  pub ports : ArePaired (SaysPort (version_of document)) (ports_in document) s.ports.items
   pub hits : SaysHits document s.hits.items
 
 -- the bytes are this document

@@ -1,10 +1,15 @@
-ghost use Rattle.std.specs.Prelude.{◌≡◌, ◌≤◌, ℕ, List};
+ghost use Rattle.std.specs.Prelude.{◌≡◌, ◌≤◌, ℕ, List, All};
+ghost use Rattle.std.specs.List.Sorted.{IsPermutation};
 ghost use Rattle.can_frame.specs.Parts.{Parts};
+ghost use Rattle.can_bus.specs.declared.offer.Offer.{Offer as Offered};
+ghost use Rattle.can_bus.specs.Offers.{refused};
 ghost use Rattle.can_bus.specs.Quiet.{AreDifferent, span};
 ghost use Rattle.can_stream.specs.declared.field.Field.{Field as Wrong};
 ghost use Rattle.can_scenario.specs.declared.scenario.Scenario.{Scenario as Planned};
-ghost use Rattle.can_scenario.specs.QuietReport.{AreReordered, AreReorderings, all_frames, queues, quiet_report};
-ghost use Rattle.can_scenario.specs.Report.{report};
+ghost use Rattle.can_scenario.specs.OpenReport.{all_frames, queues};
+ghost use Rattle.can_scenario.specs.QuietReport.{AreFirst, AreReordered, AreReorderings, quiet_report};
+ghost use Rattle.can_scenario.specs.Report.{made_bus, report, waiting_report};
+ghost use Rattle.can_scenario.specs.ScenarioOffers.{AreInTime, in_time, scenario_offers};
 ghost use Rattle.can_scenario.specs.Scenarios.{AreSame, IsFirstWrong, IsScenarioText};
 
 /// Bytes say at most one scenario; bytes that say one have no field that is told, and others have at
@@ -13,6 +18,25 @@ pub fn one_scenario()
     ensures scenario { (bytes : List ℕ) (s t : Planned) → IsScenarioText bytes s → IsScenarioText bytes t → AreSame s t }
     ensures no_field { (bytes : List ℕ) (s : Planned) (wrong : Wrong) → IsScenarioText bytes s → IsFirstWrong wrong bytes → ⊥ }
     ensures one_field { (bytes : List ℕ) (wrong other : Wrong) → IsFirstWrong wrong bytes → IsFirstWrong other bytes → wrong ≡ other }
+{}
+
+/// Offers have exactly one list in which they stand in the order of time, and those of one time in the order
+/// that they had. It has the same offers.
+pub fn one_order_of_offers()
+    ensures exists { (offers : List Offered) → AreInTime offers (in_time offers) }
+    ensures only { (offers ordered : List Offered) → AreInTime offers ordered → ordered ≡ in_time offers }
+    ensures same { (offers : List Offered) → IsPermutation (in_time offers) offers }
+{}
+
+/// A scenario all frames of which have time 0, as those of version 1 have, runs as a bus at whose ports they
+/// wait as the run begins, with or without disturbances.
+pub fn frames_of_time_0_wait()
+    ensures { (s : Planned) → All AreFirst s.ports.items → report s ≡ waiting_report s }
+{}
+
+/// No frame of a scenario is offered to a full queue.
+pub fn no_offer_finds_a_full_queue()
+    ensures { (s : Planned) (n : ℕ) → refused (scenario_offers s) n (made_bus s) ≡ 0 }
 {}
 
 /// In which order a port of a quiet scenario was offered its frames is not told by the report: two that run

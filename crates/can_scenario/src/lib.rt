@@ -1,4 +1,5 @@
-//! Scenarios: a bus with its ports, the frames that wait there and disturbances, and the report of its run.
+//! Scenarios: a bus with its ports, the frames that are offered to them and disturbances, and the report of its
+//! run.
 //!
 //! [`Scenario::from_text`] reads a scenario from a document, and [`run_scenario`] runs the bus and writes what
 //! came of it: it takes its memory before the first byte is written.
@@ -10,19 +11,23 @@
 //! | `scenario/ports.rt` | its ports | `specs/Scenarios.antt` |
 //! | `scenario/hits.rt` | its disturbances | `specs/Scenarios.antt` |
 //! | `scenario/values.rt` | the readers of values | `specs/Scenarios.antt` |
-//! | `run.rt` | [`run_scenario`] | `specs/Report.antt` |
+//! | `scenario/version.rt` | the versions of the format | |
+//! | `offers.rt` | the offers of a scenario, in the order in which they are made | `specs/ScenarioOffers.antt` |
+//! | `run.rt` | [`run_scenario`] | `specs/Report.antt`, `specs/OpenReport.antt`, `specs/QuietReport.antt` |
 //! | `report.rt` | the report of a run, put line by line | `specs/Report.antt` |
-//! | `laws.rt` | that documents have one reading, and quiet scenarios one report, however each port was offered its frames | `specs/Scenarios.antt`, `specs/QuietReport.antt` |
+//! | `laws.rt` | that documents have one reading, offers one order, none of them finds a full queue, frames of time 0 wait, and quiet scenarios have one report, however each port was offered its frames | `specs/Scenarios.antt`, `specs/ScenarioOffers.antt`, `specs/Report.antt`, `specs/QuietReport.antt` |
 //!
 //! Of the lemmas, `DemandLemmas` has demands one behind another, `ReadValues` the values of a document,
 //! `ReadLists` its arrays, `HitLemmas` its disturbances, `ScenarioParts` what a port and a document come to;
 //! `ScenarioRows` has a few documents, and `OneScenario` that a document says at most one scenario. Of
-//! reports, `ReportLines` has the lines, `Started` how a run begins and which levels it records,
-//! `QuietReports` the report of a quiet scenario, and `QuietOrder` that the order within a queue has no say
-//! in it.
+//! offers, `OfferOrder` has their order, `PlannedOffers` what each port is offered, and `RoomForAll` that no
+//! queue is full. Of reports, `ReportLines` has the lines, `Started` how a run begins and which levels it
+//! records, `OpenReports` the report of an open scenario, `QuietReports` that of a quiet one, `QuietOrder`
+//! that the order within a queue has no say in it, and `FirstOffers` that frames of time 0 wait.
 #![tactic(auto)]
 
 mod laws;
+mod offers;
 mod report;
 mod run;
 mod scenario;
@@ -30,6 +35,9 @@ mod scenario;
 mod tests;
 
 pub use can_stream::{Field, HitList, PortField};
-pub use laws::{offering_order_is_untold, one_scenario};
+pub use laws::{
+    frames_of_time_0_wait, no_offer_finds_a_full_queue, offering_order_is_untold,
+    one_order_of_offers, one_scenario,
+};
 pub use run::run_scenario;
-pub use scenario::{PortPlan, Scenario};
+pub use scenario::{PortPlan, Scenario, TimedFrame};

@@ -1,4 +1,4 @@
-//! Scenarios: a bus with its ports, the frames that wait there, and disturbances.
+//! Scenarios: a bus with its ports, the frames that are offered to them, and disturbances.
 ghost use Rattle.std.specs.Prelude.{◌≤◌, length};
 ghost use Rattle.can_bus.specs.Hits.{AreTaken};
 ghost use Rattle.can_scenario.specs.ScenarioProps.{AreTaken-prop};
@@ -7,6 +7,7 @@ mod document;
 pub(crate) mod hits;
 mod ports;
 mod values;
+mod version;
 
 use can_bus::Hit;
 use can_frame::Frame;
@@ -25,11 +26,18 @@ pub struct Scenario {
     ghost taken: { AreTaken (length ports.items) hits.items } by { AreTaken-prop (length ports.items) hits.items },
 }
 
-/// A port before the run: the frames that it is offered, in their order, how many entries its log has
-/// room for, whether it has to join the bus, and how many overload frames it asks for.
+/// A frame, and the bit time before which it is offered, counted from 0.
+#[derive(Clone, Copy, Debug, PartialEq, Eq)]
+pub struct TimedFrame {
+    pub(crate) time: u64,
+    pub(crate) frame: Frame,
+}
+
+/// A port before the run: the frames that it is offered, in any order of time, how many entries its log
+/// has room for, whether it has to join the bus, and how many overload frames it asks for.
 #[derive(Debug, Drop)]
 pub struct PortPlan {
-    pub(crate) queue: Vec<Frame>,
+    pub(crate) queue: Vec<TimedFrame>,
     pub(crate) log_room: usize,
     pub(crate) joins: bool,
     pub(crate) overloads: u8,
@@ -41,11 +49,12 @@ impl Scenario {
     ghost use Rattle.can_stream.specs.declared.field.Field.{Field as Wrong};
     ghost use Rattle.can_scenario.specs.Scenarios.{IsFieldOrMemory, IsFirstWrong, IsScenarioText};
 
-    /// The scenario that a TOML document says: `version`, which is 1; `bits`, 0 to 1000000; `port`, an
-    /// array of 1 to 64 tables; and `at`, `in` and `view`, the disturbances, each list strictly rising.
-    /// A port has `queue`, an array of frame texts, `log`, 0 to 65536, `join`, a truth value, and `hold`,
-    /// 0 to 2. All but `version`, `bits` and `port` may be left out: an array is then empty, `log` is 64,
-    /// `join` false and `hold` 0.
+    /// The scenario that a TOML document says: `version`, 1 or 2; `bits`, 0 to 1000000; `port`, an
+    /// array of 1 to 64 tables; and in version 1 `at`, `in` and `view`, the disturbances, each list strictly
+    /// rising. A port has `queue`, `log`, 0 to 65536, `join`, a truth value, and `hold`, 0 to 2. A queue is
+    /// an array of frame texts, which are offered at time 0; in version 2 of arrays of a time, 0 to
+    /// 1000000, and a frame text. All but `version`, `bits` and `port` may be left out: an array is then
+    /// empty, `log` is 64, `join` false and `hold` 0.
     ///
     /// `ScenarioField` names the first field that is wrong, in this order: the document; an unknown
     /// field; `version`, `bits` and `port`; of each port its table, an unknown field, `queue` and its
@@ -57,9 +66,13 @@ impl Scenario {
         ensures other { IfErr result IsFieldOrMemory }
     {
         let document = document::parse(alloc, text)?;
-        let (bits, tables) = document::read_top(&document)?;
-        let ports = ports::read_ports(alloc, tables)?;
+        let top = document::read_top(&document)?;
+        let ports = ports::read_ports(alloc, top.version, top.ports)?;
         let hits = hits::read_hits(alloc, &document, ports.len())?;
-        Ok(Scenario { bits, ports, hits })
+        Ok(Scenario {
+            bits: top.bits,
+            ports,
+            hits,
+        })
     }
 }

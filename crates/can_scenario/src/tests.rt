@@ -1,3 +1,4 @@
 mod hits;
 mod run;
 mod scenario;
+mod timed;

@@ -8,4 +8,6 @@ pub use Rattle.can_decode.specs.TraceText
 pub use Rattle.can_decode.specs.Decoded
 pub use Rattle.can_scenario.specs.Scenarios
 pub use Rattle.can_scenario.specs.Report
+pub use Rattle.can_scenario.specs.ScenarioOffers
+pub use Rattle.can_scenario.specs.OpenReport
 pub use Rattle.can_scenario.specs.QuietReport

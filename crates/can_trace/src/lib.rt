@@ -26,7 +26,8 @@ mod tests;
 pub use can_decode::{decode_stream, one_decoding};
 pub use can_lines::{check_lines, encode_lines, one_answer, one_check};
 pub use can_scenario::{
-    Field, HitList, PortField, PortPlan, Scenario, offering_order_is_untold, one_scenario,
+    Field, HitList, PortField, PortPlan, Scenario, TimedFrame, frames_of_time_0_wait,
+    no_offer_finds_a_full_queue, offering_order_is_untold, one_order_of_offers, one_scenario,
     run_scenario,
 };
 pub use can_stream::{FromRead, Sink, Source, ToWrite, TraceFault, read_whole, write_all};

@@ -67,6 +67,9 @@ Standard input: a scenario, in TOML.
   [[port]]               # 1 to 64 of them
   queue = [\"S 000 D 0\"]  # also log = entries, join = true, hold = overload frames
   [[port]]
+With version = 2 each frame stands with the bit time before which it is offered, and there are no
+at, in and view:
+  queue = [[50, \"S 000 D 0\"], [0, \"S 001 D 0\"]]
 
 Standard output: the report, the levels of the bus and of each port its state, error counters and log.
   bits 93

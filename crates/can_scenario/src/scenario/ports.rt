@@ -3,11 +3,11 @@ ghost use Rattle.std.specs.Prelude.{◌≡◌, codes, map, IfErr, IfOk, IsErrOf,
 ghost use Rattle.toml.specs.Data.{table};
 ghost use Rattle.toml.specs.View.{view, table_view};
 ghost use Rattle.can_stream.specs.declared.field.Field.{Field as Wrong};
-ghost use Rattle.can_scenario.specs.Scenarios.{demands_on_each, elements_in, frame_demands, named, port_demands, ports_demands, queue_demands, room_demands, usual_log_room, AllMet, ArePaired, IsFieldOrMemory, IsFirstUnmet, SaysFrame, SaysNumber, SaysPort, SaysWhether};
+ghost use Rattle.can_scenario.specs.Scenarios.{demands_on_each, elements_in, frame_demands, named, port_demands, ports_demands, queue_demands, room_demands, usual_log_room, AllMet, ArePaired, IsFieldOrMemory, IsFirstUnmet, SaysNumber, SaysPort, SaysQueueElement, SaysWhether};
 
-use crate::scenario::values::{elements_or_none, fields_of, frame, has_only, number_or, truth};
-use crate::scenario::{Field, PortField, PortPlan};
-use can_frame::Frame;
+use crate::scenario::values::{elements_or_none, fields_of, has_only, number_or, queued, truth};
+use crate::scenario::version::Version;
+use crate::scenario::{Field, PortField, PortPlan, TimedFrame};
 use can_stream::TraceFault;
 use std::alloc::Global;
 use toml::{Table, Value};
@@ -25,31 +25,40 @@ const USUAL_LOG_ROOM: u64 = 64;
 const MOST_OVERLOADS: u64 = 2;
 
 /// The ports whose tables these are.
-pub(crate) fn read_ports(alloc: Global, tables: &[Value]) -> Result<Vec<PortPlan>, TraceFault>
-    ensures said { IfOk result (λ plans. ArePaired SaysPort (map view tables.now) plans.items) }
-    ensures met { OnOk result (AllMet (ports_demands 0 (map view tables.now))) }
-    ensures unmet { (wrong : Wrong) → IsErrOf result (TraceFault.ScenarioField wrong) → IsFirstUnmet wrong (ports_demands 0 (map view tables.now)) }
+pub(crate) fn read_ports(
+    alloc: Global,
+    version: Version,
+    tables: &[Value],
+) -> Result<Vec<PortPlan>, TraceFault>
+    ensures said { IfOk result (λ plans. ArePaired (SaysPort version) (map view tables.now) plans.items) }
+    ensures met { OnOk result (AllMet (ports_demands version 0 (map view tables.now))) }
+    ensures unmet { (wrong : Wrong) → IsErrOf result (TraceFault.ScenarioField wrong) → IsFirstUnmet wrong (ports_demands version 0 (map view tables.now)) }
     ensures other { IfErr result IsFieldOrMemory }
 {
     let mut plans = Vec::new(alloc);
     for (number, value) in tables.iter().enumerate() {
-        plans.push(read_port(alloc, number, value)?)?;
+        plans.push(read_port(alloc, version, number, value)?)?;
     }
     Ok(plans)
 }
 
 /// The port of this number, whose table this is.
-fn read_port(alloc: Global, number: usize, value: &Value) -> Result<PortPlan, TraceFault>
-    ensures said { IfOk result (SaysPort (view value.now)) }
-    ensures met { OnOk result (AllMet (port_demands number (view value.now))) }
-    ensures unmet { (wrong : Wrong) → IsErrOf result (TraceFault.ScenarioField wrong) → IsFirstUnmet wrong (port_demands number (view value.now)) }
+fn read_port(
+    alloc: Global,
+    version: Version,
+    number: usize,
+    value: &Value,
+) -> Result<PortPlan, TraceFault>
+    ensures said { IfOk result (SaysPort version (view value.now)) }
+    ensures met { OnOk result (AllMet (port_demands version number (view value.now))) }
+    ensures unmet { (wrong : Wrong) → IsErrOf result (TraceFault.ScenarioField wrong) → IsFirstUnmet wrong (port_demands version number (view value.now)) }
     ensures other { IfErr result IsFieldOrMemory }
 {
     let fields = fields_of(value).ok_or(refused(number, PortField::Table))?;
     if !has_only(fields, &PORT_FIELDS) {
         return Err(refused(number, PortField::Unknown));
     }
-    let queue = read_queue(alloc, number, fields)?;
+    let queue = read_queue(alloc, version, number, fields)?;
     with_queue(number, fields, queue)
 }
 
@@ -61,35 +70,49 @@ fn refused(number: usize, part: PortField) -> TraceFault
 }
 
 /// The frames in the queue of the port of this number, whose fields these are.
-fn read_queue(alloc: Global, number: usize, fields: &Table) -> Result<Vec<Frame>, TraceFault>
-    ensures said { IfOk result (λ frames. ArePaired SaysFrame (elements_in (named (codes "queue") (table (table_view fields.now)))) frames.items) }
-    ensures met { OnOk result (AllMet (queue_demands number (table (table_view fields.now)))) }
-    ensures unmet { (wrong : Wrong) → IsErrOf result (TraceFault.ScenarioField wrong) → IsFirstUnmet wrong (queue_demands number (table (table_view fields.now))) }
+fn read_queue(
+    alloc: Global,
+    version: Version,
+    number: usize,
+    fields: &Table,
+) -> Result<Vec<TimedFrame>, TraceFault>
+    ensures said { IfOk result (λ frames. ArePaired (SaysQueueElement version) (elements_in (named (codes "queue") (table (table_view fields.now)))) frames.items) }
+    ensures met { OnOk result (AllMet (queue_demands version number (table (table_view fields.now)))) }
+    ensures unmet { (wrong : Wrong) → IsErrOf result (TraceFault.ScenarioField wrong) → IsFirstUnmet wrong (queue_demands version number (table (table_view fields.now))) }
     ensures other { IfErr result IsFieldOrMemory }
 {
-    let texts = elements_or_none(fields, "queue").ok_or(refused(number, PortField::Queue))?;
-    read_frames(alloc, number, texts)
+    let values = elements_or_none(fields, "queue").ok_or(refused(number, PortField::Queue))?;
+    read_frames(alloc, version, number, values)
 }
 
-/// The frames whose texts stand in the queue of the port of this number.
-fn read_frames(alloc: Global, number: usize, texts: &[Value]) -> Result<Vec<Frame>, TraceFault>
-    ensures said { IfOk result (λ frames. ArePaired SaysFrame (map view texts.now) frames.items) }
-    ensures met { OnOk result (AllMet (demands_on_each (frame_demands number) 0 (map view texts.now))) }
-    ensures unmet { (wrong : Wrong) → IsErrOf result (TraceFault.ScenarioField wrong) → IsFirstUnmet wrong (demands_on_each (frame_demands number) 0 (map view texts.now)) }
+/// The frames that these elements of the queue of the port of this number say.
+fn read_frames(
+    alloc: Global,
+    version: Version,
+    number: usize,
+    values: &[Value],
+) -> Result<Vec<TimedFrame>, TraceFault>
+    ensures said { IfOk result (λ frames. ArePaired (SaysQueueElement version) (map view values.now) frames.items) }
+    ensures met { OnOk result (AllMet (demands_on_each (frame_demands version number) 0 (map view values.now))) }
+    ensures unmet { (wrong : Wrong) → IsErrOf result (TraceFault.ScenarioField wrong) → IsFirstUnmet wrong (demands_on_each (frame_demands version number) 0 (map view values.now)) }
     ensures other { IfErr result IsFieldOrMemory }
 {
     let mut frames = Vec::new(alloc);
-    for (place, text) in texts.iter().enumerate() {
-        let Some(frame) = frame(text) else {
+    for (place, value) in values.iter().enumerate() {
+        let Some(timed) = queued(version, value) else {
             return Err(refused(number, PortField::Frame(place)));
         };
-        frames.push(frame)?;
+        frames.push(timed)?;
     }
     Ok(frames)
 }
 
 /// The port of this number with this queue, whose fields these are.
-fn with_queue(number: usize, fields: &Table, queue: Vec<Frame>) -> Result<PortPlan, TraceFault>
+fn with_queue(
+    number: usize,
+    fields: &Table,
+    queue: Vec<TimedFrame>,
+) -> Result<PortPlan, TraceFault>
     ensures queue { IfOk result (λ plan. plan.queue.items ≡ queue.items) }
     ensures log_room { IfOk result (λ plan. SaysNumber usual_log_room (named (codes "log") (table (table_view fields.now))) plan.log_room) }
     ensures joins { IfOk result (λ plan. SaysWhether (named (codes "join") (table (table_view fields.now))) plan.joins) }

@@ -4,10 +4,15 @@ ghost use Rattle.std.specs.Prelude.{◌≡◌, ◌≤◌, map, option_map, IfSom
 ghost use Rattle.std.specs.List.{list_any};
 ghost use Rattle.toml.specs.Data.{same_key, table};
 ghost use Rattle.toml.specs.View.{view, table_view};
-ghost use Rattle.can_scenario.specs.Scenarios.{are_known, elements_in, elements, named, IsArray, IsFrameValue, IsNumber, IsOptional, IsRequired, IsTable, IsTruthValue, IsUpTo, SaysFrame, SaysNumber, SaysWhether};
+ghost use Rattle.can_scenario.specs.Scenarios.{are_known, elements_in, elements, named, IsArray, IsFrameValue, IsNumber, IsOptional, IsQueueElement, IsRequired, IsTable, IsTimedFrameValue, IsTruthValue, IsUpTo, SaysFrame, SaysNumber, SaysQueueElement, SaysTimedFrame, SaysWhether};
 
+use crate::scenario::TimedFrame;
+use crate::scenario::version::Version;
 use can_frame::Frame;
 use toml::{Table, Value};
+
+/// Before which bit time a frame may be offered at most.
+const MOST_TIME: u64 = 1_000_000;
 
 /// The field of this name.
 pub(crate) fn field<'a>(fields: &'a Table, name: &str) -> Option<&'a Value>
@@ -112,4 +117,41 @@ pub(crate) fn frame(value: &Value) -> Option<Frame>
     ensures unmet { IfNone result (¬ IsFrameValue (view value.now)) }
 {
     Frame::from_text(value.as_str()?.as_bytes()).ok()
+}
+
+/// The frame that an element of a queue says, with the time at which it is offered.
+pub(crate) fn queued(version: Version, value: &Value) -> Option<TimedFrame>
+    ensures said { IfSome result (SaysQueueElement version (view value.now)) }
+    ensures met { OnSome result (IsQueueElement version (view value.now)) }
+    ensures unmet { IfNone result (¬ IsQueueElement version (view value.now)) }
+{
+    match version {
+        Version::One => first_frame(value),
+        Version::Two => timed_frame(value),
+    }
+}
+
+/// The frame whose text the value is, offered at time 0.
+fn first_frame(value: &Value) -> Option<TimedFrame>
+    ensures said { IfSome result (SaysQueueElement Version.One (view value.now)) }
+    ensures met { OnSome result (IsFrameValue (view value.now)) }
+    ensures unmet { IfNone result (¬ IsFrameValue (view value.now)) }
+{
+    let frame = frame(value)?;
+    Some(TimedFrame { time: 0, frame })
+}
+
+/// The time and the frame of an array of a time and a frame text.
+fn timed_frame(value: &Value) -> Option<TimedFrame>
+    ensures said { IfSome result (SaysTimedFrame (view value.now)) }
+    ensures met { OnSome result (IsTimedFrameValue (view value.now)) }
+    ensures unmet { IfNone result (¬ IsTimedFrameValue (view value.now)) }
+{
+    let values = elements_of(value)?;
+    if values.len() != 2 {
+        return None;
+    }
+    let time = number(&values[0], MOST_TIME)?;
+    let frame = frame(&values[1])?;
+    Some(TimedFrame { time, frame })
 }

@@ -1,6 +1,6 @@
 //! Scenarios and their reports, and writers that fail in one.
+use crate::scenario::{PortPlan, Scenario, TimedFrame};
 use crate::run_scenario;
-use crate::scenario::{PortPlan, Scenario};
 use can_bus::{Bus, Hit};
 use can_frame::{Frame, Id};
 use can_node::PlainNode;
@@ -12,13 +12,18 @@ use std::process::Abort;
 use std::test::Fail;
 
 /// The levels of `S 000 D 0`, acknowledged.
-const WIRE_000: &str = "00000100000100000100000100000100000100001011111111";
+pub(super) const WIRE_000: &str = "00000100000100000100000100000100000100001011111111";
 
 /// The levels of `S 001 D 0`, acknowledged.
-const WIRE_001: &str = "00000100000101000001000100010000100111011111111";
+pub(super) const WIRE_001: &str = "00000100000101000001000100010000100111011111111";
 
 /// The eight recessive levels of a delimiter behind a flag, and an intermission.
 const DELIMITER_AND_INTERMISSION: &str = "11111111111";
+
+/// The frame, offered at time 0.
+fn first(frame: Frame) -> TimedFrame {
+    TimedFrame { time: 0, frame }
+}
 
 /// An idle port for each list of frames that it has to send, with room for eight entries.
 fn idle_ports(alloc: Global, queues: &[&[&str]]) -> Result<Vec<PortPlan>, Fail> {
@@ -26,7 +31,7 @@ fn idle_ports(alloc: Global, queues: &[&[&str]]) -> Result<Vec<PortPlan>, Fail> 
     for texts in queues {
         let mut queue = Vec::new(alloc);
         for text in *texts {
-            queue.push(Frame::from_text(text.as_bytes())?)?;
+            queue.push(first(Frame::from_text(text.as_bytes())?))?;
         }
         ports.push(PortPlan {
             queue,
@@ -62,7 +67,7 @@ fn of_queues(alloc: Global, bits: u32, queues: &[&[&str]], hits: &[Hit]) -> Resu
 }
 
 /// The report of the scenario.
-fn report_of(alloc: Global, scenario: &Scenario) -> Result<Vec<u8>, Fail> {
+pub(super) fn report_of(alloc: Global, scenario: &Scenario) -> Result<Vec<u8>, Fail> {
     let mut writer = writer_of(alloc, ROOM, 2 * ROOM, Stop::Nothing);
     run_scenario(alloc, scenario, &mut writer)?;
     let Taker { taken, .. } = writer.into_inner();
@@ -70,7 +75,7 @@ fn report_of(alloc: Global, scenario: &Scenario) -> Result<Vec<u8>, Fail> {
 }
 
 /// Its report has these levels and these lines of ports, whatever number of bytes is written at once.
-fn reports(
+pub(super) fn reports(
     rt: &impl Abort,
     alloc: Global,
     scenario: &Scenario,
@@ -147,7 +152,7 @@ fn sixty_four_ports(rt: HostRuntime) -> Result<(), Fail> {
     let mut lines = String::new(alloc);
     for number in 0..64u16 {
         let mut queue = Vec::new(alloc);
-        queue.push(standard(63u16.saturating_sub(number))?)?;
+        queue.push(first(standard(63u16.saturating_sub(number))?))?;
         ports.push(PortPlan {
             queue,
             log_room: 8,

@@ -37,7 +37,10 @@ fn fields_at_the_top(rt: HostRuntime) -> Result<(), Fail> {
         ("version = 1\nbits = 5\nname = \"a\"\n[[port]]\n", "P2 key"),
         ("", "P2 version"),
         ("bits = 5\n[[port]]\n", "P2 version"),
-        ("version = 2\nbits = 5\n[[port]]\n", "P2 version"),
+        ("version = 2\nbits = 5\n[[port]]\n", ""),
+        ("version = 3\nbits = 5\n[[port]]\n", "P2 version"),
+        ("version = [2]\nbits = 5\n[[port]]\n", "P2 version"),
+        ("version = 2.0\nbits = 5\n[[port]]\n", "P2 version"),
         ("version = 0\nbits = 5\n[[port]]\n", "P2 version"),
         ("version = -1\nbits = 5\n[[port]]\n", "P2 version"),
         ("version = 1.0\nbits = 5\n[[port]]\n", "P2 version"),
@@ -136,8 +139,8 @@ fn disturbances(rt: HostRuntime) -> Result<(), Fail> {
 fn order_of_refusals(rt: HostRuntime) -> Result<(), Fail> {
     let rows = [
         ("speed = 1\nversion = ", "P2 toml"),
-        ("speed = 1\nversion = 2\n", "P2 key"),
-        ("bits = -1\nversion = 2\n", "P2 version"),
+        ("speed = 1\nversion = 3\n", "P2 key"),
+        ("bits = -1\nversion = 3\n", "P2 version"),
         ("bits = -1\nversion = 1\nport = 1\n", "P2 bits"),
         ("at = 1\nversion = 1\nbits = 5\n", "P2 port"),
         (
@@ -177,6 +180,41 @@ fn order_of_refusals(rt: HostRuntime) -> Result<(), Fail> {
         "version = 1\nbits = 5\nport = [{}]\n",
         &rows,
     )?;
+    Ok(())
+}
+
+/// In version 2 a frame stands with its time, and there are no disturbances. Under another version, or none, the
+/// known fields are those of version 1.
+#[test]
+fn fields_of_version_two(rt: HostRuntime) -> Result<(), Fail> {
+    let rows = [
+        ("at = [5]\n[[port]]", "P2 key"),
+        ("in = []\n[[port]]", "P2 key"),
+        ("view = []\nport = 1", "P2 key"),
+        ("bit = 1\n[[port]]", "P2 key"),
+        ("port = [{queue = [[0, \"S 001 D 0\"], [0, \"S 001 D 0\"]]}]", ""),
+        ("port = [{queue = [[1000000, \"S 001 D 0\"], [7, \"S 000 D 0\"]]}]", ""),
+        ("port = [{queue = []}, {log = 0, join = true, hold = 2}]", ""),
+        ("port = [{queue = 1}]", "P2 port[0].queue"),
+        ("port = [{queue = [\"S 001 D 0\"]}]", "P2 port[0].queue[0]"),
+        ("port = [{}, {queue = [[1000001, \"S 009 D 0\"]]}]", "P2 port[1].queue[0]"),
+        ("port = [{queue = [[0, \"S 001 D 0\"], [-1, \"S 000 D 0\"]]}]", "P2 port[0].queue[1]"),
+        ("port = [{queue = [[0.0, \"S 001 D 0\"]]}]", "P2 port[0].queue[0]"),
+        ("port = [{queue = [[\"S 001 D 0\", 0]]}]", "P2 port[0].queue[0]"),
+        ("port = [{queue = [[]]}]", "P2 port[0].queue[0]"),
+        ("port = [{queue = [[0]]}]", "P2 port[0].queue[0]"),
+        ("port = [{queue = [[0, \"S 001 D 0\", 0]]}]", "P2 port[0].queue[0]"),
+        ("port = [{queue = [[0, \"S 800 D 0\"]]}]", "P2 port[0].queue[0]"),
+        ("port = [{queue = [[0, 1]], log = -1}]", "P2 port[0].queue[0]"),
+        ("port = [{log = -1, queue = [[0, \"S 001 D 0\"]]}]", "P2 port[0].log"),
+    ];
+    are_told(&rt, rt.alloc(), "version = 2\nbits = 5\n", &rows)?;
+    let rows = [
+        ("version = 3\nbits = 5\nat = [5]\n[[port]]\n", "P2 version"),
+        ("bits = 5\nat = [5]\n[[port]]\n", "P2 version"),
+        ("version = 1\nbits = 5\nport = [{queue = [[0, \"S 001 D 0\"]]}]\n", "P2 port[0].queue[0]"),
+    ];
+    are_told(&rt, rt.alloc(), "", &rows)?;
     Ok(())
 }
 
@@ -221,9 +259,20 @@ fn values_of_scenarios(rt: HostRuntime) -> Result<(), Fail> {
     assert_eq!(rt;
         format!(in alloc; "{all:?}")?.as_str(),
         "Scenario { bits: 9, ports: [PortPlan { queue: [\
-         Frame { id: Id { raw: 1, extended: false }, remote: false, dlc: 0, store: [0, 0, 0, 0, 0, 0, 0, 0] }, \
-         Frame { id: Id { raw: 2, extended: true }, remote: true, dlc: 3, store: [0, 0, 0, 0, 0, 0, 0, 0] }\
+         TimedFrame { time: 0, frame: Frame { id: Id { raw: 1, extended: false }, remote: false, dlc: 0, store: [0, 0, 0, 0, 0, 0, 0, 0] } }, \
+         TimedFrame { time: 0, frame: Frame { id: Id { raw: 2, extended: true }, remote: true, dlc: 3, store: [0, 0, 0, 0, 0, 0, 0, 0] } }\
          ], log_room: 1, joins: true, overloads: 2 }], hits: [At(3)] }"
+    );
+    let timed = Scenario::from_text(
+        alloc,
+        b"version = 2\nbits = 9\n[[port]]\nqueue = [[8, \"S 001 D 0\"], [1000000, \"E 00000002 R 3\"]]\n",
+    )?;
+    assert_eq!(rt;
+        format!(in alloc; "{timed:?}")?.as_str(),
+        "Scenario { bits: 9, ports: [PortPlan { queue: [\
+         TimedFrame { time: 8, frame: Frame { id: Id { raw: 1, extended: false }, remote: false, dlc: 0, store: [0, 0, 0, 0, 0, 0, 0, 0] } }, \
+         TimedFrame { time: 1000000, frame: Frame { id: Id { raw: 2, extended: true }, remote: true, dlc: 3, store: [0, 0, 0, 0, 0, 0, 0, 0] } }\
+         ], log_room: 64, joins: false, overloads: 0 }], hits: [] }"
     );
     Ok(())
 }

@@ -24,6 +24,30 @@ port 1 active tec 0 rec 0 missed 0
   took S 001 D 0
 ";
 
+/// Frames that are offered behind one another, the last of which goes before the one ahead of it.
+const TIMED_OFFERS: &str = "\
+version = 2
+bits = 155
+[[port]]
+queue = [[50, \"S 000 D 0\"], [0, \"S 001 D 0\"]]
+[[port]]
+queue = [[49, \"S 009 D 0\"]]
+";
+
+/// Their report: three frames, acknowledged, and after each an intermission of three levels.
+const TIMED_REPORTS: &str = "\
+bits 155
+00000100000101000001000100010000100111011111111111000001000001000001000001000001000001000010111111111110000010001001000001001111100000110000011011111111111
+port 0 active tec 0 rec 0 missed 0
+  sent S 001 D 0
+  sent S 000 D 0
+  took S 009 D 0
+port 1 active tec 0 rec 0 missed 0
+  took S 001 D 0
+  took S 000 D 0
+  sent S 009 D 0
+";
+
 /// The report of a port alone that sends nothing.
 const ONE_REPORT: &str = "\
 bits 103
@@ -35,6 +59,7 @@ port 0 active tec 0 rec 0 missed 0
 fn scenarios_are_reported_whatever_the_pieces(rt: HostRuntime) -> Result<(), Fail> {
     let rows = [
         (TWO_PORTS, 0, TWO_REPORTS, ""),
+        (TIMED_OFFERS, 0, TIMED_REPORTS, ""),
         // The same, cut after its first port.
         ("version = 1\nbits = 103\n[[port]]\n", 0, ONE_REPORT, ""),
         (
@@ -54,10 +79,35 @@ fn wrong_scenarios_are_refused_whatever_the_pieces(rt: HostRuntime) -> Result<()
         ("version = 1\nbits 5\n", 1, "", "canbit: P2 toml\n"),
         ("version = 1\nbits = 5\n", 1, "", "canbit: P2 port\n"),
         (
-            "version = 2\nbits = 5\n[[port]]\n",
+            "version = 3\nbits = 5\n[[port]]\n",
             1,
             "",
             "canbit: P2 version\n",
+        ),
+        // The scenario of timed offers, with one part changed.
+        (
+            "version = 3\nbits = 155\n[[port]]\nqueue = [[50, \"S 000 D 0\"], [0, \"S 001 D 0\"]]\n[[port]]\nqueue = [[49, \"S 009 D 0\"]]\n",
+            1,
+            "",
+            "canbit: P2 version\n",
+        ),
+        (
+            "version = 2\nbits = 155\nat = [5]\n[[port]]\nqueue = [[50, \"S 000 D 0\"], [0, \"S 001 D 0\"]]\n[[port]]\nqueue = [[49, \"S 009 D 0\"]]\n",
+            1,
+            "",
+            "canbit: P2 key\n",
+        ),
+        (
+            "version = 2\nbits = 155\n[[port]]\nqueue = [\"S 001 D 0\"]\n[[port]]\nqueue = [[49, \"S 009 D 0\"]]\n",
+            1,
+            "",
+            "canbit: P2 port[0].queue[0]\n",
+        ),
+        (
+            "version = 2\nbits = 155\n[[port]]\nqueue = [[50, \"S 000 D 0\"], [0, \"S 001 D 0\"]]\n[[port]]\nqueue = [[1000001, \"S 009 D 0\"]]\n",
+            1,
+            "",
+            "canbit: P2 port[1].queue[0]\n",
         ),
         (
             "version = 1\nbits = 5\n[[port]]\nqueue = [\"S 800 D 0\"]\n",

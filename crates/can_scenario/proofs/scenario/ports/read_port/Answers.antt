@@ -10,26 +10,26 @@ returns-in_err-queue-clause-unmet c = λ wrong told.
     let fields : Members = table_view c.in_ok-fields.fields.now in
     let is : view c.args.value.now ≡ table fields = search rules in
     let known : are_known port_fields fields ≡ true = search rules in
-    let unmet : IsFirstUnmet wrong (queue_demands c.args.number (table fields)) = search rules in
-    queue-unmet wrong c.args.number _ fields is known unmet
+    let unmet : IsFirstUnmet wrong (queue_demands c.args.version c.args.number (table fields)) = search rules in
+    queue-unmet wrong c.args.version c.args.number _ fields is known unmet
 
 pub returns-clause-unmet : goal.returns-clause-unmet
 returns-clause-unmet c = λ wrong told.
     let fields : Members = table_view c.in_ok-fields.fields.now in
     let is : view c.args.value.now ≡ table fields = search rules in
     let known : are_known port_fields fields ≡ true = search rules in
-    room-unmet wrong c.args.number _ fields is known c.in_ok-queue.ensures.met (c.with_queue.ensures.unmet wrong told)
+    room-unmet wrong c.args.version c.args.number _ fields is known c.in_ok-queue.ensures.met (c.with_queue.ensures.unmet wrong told)
 
 pub returns-clause-met : goal.returns-clause-met
 returns-clause-met c =
     let fields : Members = table_view c.in_ok-fields.fields.now in
     let is : view c.args.value.now ≡ table fields = search rules in
     let known : are_known port_fields fields ≡ true = search rules in
-    port-met-by c.with_queue.result c.args.number _ fields is known c.in_ok-queue.ensures.met c.with_queue.ensures.met
+    port-met-by c.with_queue.result c.args.version c.args.number _ fields is known c.in_ok-queue.ensures.met c.with_queue.ensures.met
 
 pub returns-clause-said : goal.returns-clause-said
 returns-clause-said c =
     let fields : Members = table_view c.in_ok-fields.fields.now in
     let is : view c.args.value.now ≡ table fields = search rules in
     let with = c.with_queue.ensures in
-    port-said-by c.with_queue.result _ fields _ is c.in_ok-queue.ensures.said with.queue with.log_room with.joins with.overloads
+    port-said-by c.with_queue.result c.args.version _ fields _ is c.in_ok-queue.ensures.said with.queue with.log_room with.joins with.overloads

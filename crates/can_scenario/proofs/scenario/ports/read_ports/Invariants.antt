@@ -3,4 +3,4 @@ use Rattle.can_scenario.proofs.ReadLists.{IsRead}
 use Rattle.can_scenario.proofs.scenario.ports.read_ports.Given as goal
 
 abbrev pub invariant-loop-number : goal.invariant-loop-number
-invariant-loop-number l = IsRead port_demands SaysPort l.tables l.number l.plans.items
+invariant-loop-number l = IsRead (port_demands l.version) (SaysPort l.version) l.tables l.number l.plans.items

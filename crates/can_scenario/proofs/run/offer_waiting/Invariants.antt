@@ -1,0 +1,6 @@
+use Rattle.std.proofs.Common.{◌≡◌, map, length}
+use Rattle.can_scenario.proofs.Started.{node_port, partly_waiting}
+use Rattle.can_scenario.proofs.run.offer_waiting.Given as goal
+
+abbrev pub invariant-loop-number : goal.invariant-loop-number
+invariant-loop-number l = map node_port l.ports ≡ partly_waiting l.number l.plans

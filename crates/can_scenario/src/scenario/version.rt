@@ -1,0 +1,8 @@
+/// The version of a scenario's format.
+#[derive(Clone, Copy, Debug, PartialEq, Eq)]
+pub(crate) enum Version {
+    /// Frames that wait as the run begins, and disturbances.
+    One,
+    /// Frames with the times at which they are offered.
+    Two,
+}
