@@ -45,7 +45,6 @@ pub mod OneCodeFault
 pub mod DecoderLemmas
 -- levels begin with a spelling or have a fault
 pub mod FrameOrFault
-
 -- For this crate.
 -- check sequences
 pub mod XorLemmas

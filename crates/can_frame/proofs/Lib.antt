@@ -13,7 +13,6 @@ pub mod Decimals
 pub mod TextLengths
 -- two frames with one text are equal
 pub mod OneText
-
 -- For this crate.
 -- keys
 pub mod KeyLemmas

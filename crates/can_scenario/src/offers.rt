@@ -28,11 +28,7 @@ fn all_offers(alloc: Global, plans: &[PortPlan]) -> Result<Vec<Offer>, AllocErro
 }
 
 /// Adds what the port of this number is offered.
-fn add_offers(
-    node: usize,
-    queue: &[TimedFrame],
-    offers: &mut Vec<Offer>,
-) -> Result<(), AllocError>
+fn add_offers(node: usize, queue: &[TimedFrame], offers: &mut Vec<Offer>) -> Result<(), AllocError>
     ensures { OnOk result (offers.new.items ≡ offers.old.items ++ map (offer_to node) queue.now) }
 {
     for timed in queue {

@@ -92,14 +92,26 @@ pub fn hold(rt: &impl Abort, alloc: Global, courses: &[Course]) -> Result<(), Fa
 }
 
 fn same(rt: &impl Abort, course: &Course, kinds: Kinds, times: usize, found: &str, want: &str) {
-    assert_eq!(rt; found, want, "{}, {kinds:?} ports, {times} bit times", course.name);
+    assert_eq!(rt;
+        found,
+        want,
+        "{}, {kinds:?} ports, {times} bit times",
+        course.name
+    );
 }
 
 fn records(rt: &impl Abort, alloc: Global, kinds: Kinds, course: &Course) -> Result<(), Fail> {
     let want = line(alloc, course.levels)?;
     let mut bus = course.bus(alloc, kinds)?;
     let levels = recorded(alloc, &mut bus, course.hits(alloc)?.as_slice(), want.len())?;
-    same(rt, course, kinds, want.len(), levels.as_str(), want.as_str());
+    same(
+        rt,
+        course,
+        kinds,
+        want.len(),
+        levels.as_str(),
+        want.as_str(),
+    );
     Ok(())
 }
 
@@ -119,14 +131,23 @@ fn stands(
     want: &str,
 ) -> Result<(), Fail> {
     let bus = course.bus_after(alloc, kinds, times)?;
-    same(rt, course, kinds, times, standing(alloc, &bus)?.as_str(), want);
+    same(
+        rt,
+        course,
+        kinds,
+        times,
+        standing(alloc, &bus)?.as_str(),
+        want,
+    );
     Ok(())
 }
 
 fn climbs(rt: &impl Abort, alloc: Global, kinds: Kinds, course: &Course) -> Result<(), Fail> {
     for climb in course.climbs {
         for error in 0..climb.errors {
-            let times = climb.first.saturating_add(climb.every.saturating_mul(error));
+            let times = climb
+                .first
+                .saturating_add(climb.every.saturating_mul(error));
             let transmit = climb.transmit.saturating_add(error.saturating_mul(8));
             let after = transmit.saturating_add(8);
             stands_alone(rt, alloc, kinds, course, times, transmit)?;
@@ -170,7 +191,14 @@ fn starts(rt: &impl Abort, alloc: Global, kinds: Kinds, course: &Course) -> Resu
             offer(&mut bus, *node, frame)?;
         }
         let levels = drives(alloc, bus.ports())?;
-        same(rt, course, kinds, start.times, levels.as_str(), start.drives);
+        same(
+            rt,
+            course,
+            kinds,
+            start.times,
+            levels.as_str(),
+            start.drives,
+        );
     }
     Ok(())
 }

@@ -190,12 +190,7 @@ struct Run {
 }
 
 impl Run {
-    fn goes(
-        &self,
-        rt: &impl Abort,
-        alloc: Global,
-        bus: &mut Bus<EitherNode>,
-    ) -> Result<(), Fail> {
+    fn goes(&self, rt: &impl Abort, alloc: Global, bus: &mut Bus<EitherNode>) -> Result<(), Fail> {
         for (node, frame) in self.offers {
             offer(bus, *node, frame)?;
         }

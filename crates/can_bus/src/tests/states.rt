@@ -31,7 +31,11 @@ const SUSPENSION: &str = "11111111";
 const LONE: Course = Course {
     name: "a lone sender",
     queues: ALONE,
-    levels: &[(ACTIVE_ATTEMPT, 16), (SUSPENSION, 1), (PASSIVE_ATTEMPT, 136)],
+    levels: &[
+        (ACTIVE_ATTEMPT, 16),
+        (SUSPENSION, 1),
+        (PASSIVE_ATTEMPT, 136),
+    ],
     stands: &[
         (926, "active 120 0"),
         (927, "passive 128 0"),

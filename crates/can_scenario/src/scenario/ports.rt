@@ -108,11 +108,7 @@ fn read_frames(
 }
 
 /// The port of this number with this queue, whose fields these are.
-fn with_queue(
-    number: usize,
-    fields: &Table,
-    queue: Vec<TimedFrame>,
-) -> Result<PortPlan, TraceFault>
+fn with_queue(number: usize, fields: &Table, queue: Vec<TimedFrame>) -> Result<PortPlan, TraceFault>
     ensures queue { IfOk result (λ plan. plan.queue.items ≡ queue.items) }
     ensures log_room { IfOk result (λ plan. SaysNumber usual_log_room (named (codes "log") (table (table_view fields.now))) plan.log_room) }
     ensures joins { IfOk result (λ plan. SaysWhether (named (codes "join") (table (table_view fields.now))) plan.joins) }

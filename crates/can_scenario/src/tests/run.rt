@@ -1,6 +1,6 @@
 //! Scenarios and their reports, and writers that fail in one.
-use crate::scenario::{PortPlan, Scenario, TimedFrame};
 use crate::run_scenario;
+use crate::scenario::{PortPlan, Scenario, TimedFrame};
 use can_bus::{Bus, Hit};
 use can_frame::{Frame, Id};
 use can_node::PlainNode;

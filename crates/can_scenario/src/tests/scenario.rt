@@ -192,27 +192,63 @@ fn fields_of_version_two(rt: HostRuntime) -> Result<(), Fail> {
         ("in = []\n[[port]]", "P2 key"),
         ("view = []\nport = 1", "P2 key"),
         ("bit = 1\n[[port]]", "P2 key"),
-        ("port = [{queue = [[0, \"S 001 D 0\"], [0, \"S 001 D 0\"]]}]", ""),
-        ("port = [{queue = [[1000000, \"S 001 D 0\"], [7, \"S 000 D 0\"]]}]", ""),
-        ("port = [{queue = []}, {log = 0, join = true, hold = 2}]", ""),
+        (
+            "port = [{queue = [[0, \"S 001 D 0\"], [0, \"S 001 D 0\"]]}]",
+            "",
+        ),
+        (
+            "port = [{queue = [[1000000, \"S 001 D 0\"], [7, \"S 000 D 0\"]]}]",
+            "",
+        ),
+        (
+            "port = [{queue = []}, {log = 0, join = true, hold = 2}]",
+            "",
+        ),
         ("port = [{queue = 1}]", "P2 port[0].queue"),
         ("port = [{queue = [\"S 001 D 0\"]}]", "P2 port[0].queue[0]"),
-        ("port = [{}, {queue = [[1000001, \"S 009 D 0\"]]}]", "P2 port[1].queue[0]"),
-        ("port = [{queue = [[0, \"S 001 D 0\"], [-1, \"S 000 D 0\"]]}]", "P2 port[0].queue[1]"),
-        ("port = [{queue = [[0.0, \"S 001 D 0\"]]}]", "P2 port[0].queue[0]"),
-        ("port = [{queue = [[\"S 001 D 0\", 0]]}]", "P2 port[0].queue[0]"),
+        (
+            "port = [{}, {queue = [[1000001, \"S 009 D 0\"]]}]",
+            "P2 port[1].queue[0]",
+        ),
+        (
+            "port = [{queue = [[0, \"S 001 D 0\"], [-1, \"S 000 D 0\"]]}]",
+            "P2 port[0].queue[1]",
+        ),
+        (
+            "port = [{queue = [[0.0, \"S 001 D 0\"]]}]",
+            "P2 port[0].queue[0]",
+        ),
+        (
+            "port = [{queue = [[\"S 001 D 0\", 0]]}]",
+            "P2 port[0].queue[0]",
+        ),
         ("port = [{queue = [[]]}]", "P2 port[0].queue[0]"),
         ("port = [{queue = [[0]]}]", "P2 port[0].queue[0]"),
-        ("port = [{queue = [[0, \"S 001 D 0\", 0]]}]", "P2 port[0].queue[0]"),
-        ("port = [{queue = [[0, \"S 800 D 0\"]]}]", "P2 port[0].queue[0]"),
-        ("port = [{queue = [[0, 1]], log = -1}]", "P2 port[0].queue[0]"),
-        ("port = [{log = -1, queue = [[0, \"S 001 D 0\"]]}]", "P2 port[0].log"),
+        (
+            "port = [{queue = [[0, \"S 001 D 0\", 0]]}]",
+            "P2 port[0].queue[0]",
+        ),
+        (
+            "port = [{queue = [[0, \"S 800 D 0\"]]}]",
+            "P2 port[0].queue[0]",
+        ),
+        (
+            "port = [{queue = [[0, 1]], log = -1}]",
+            "P2 port[0].queue[0]",
+        ),
+        (
+            "port = [{log = -1, queue = [[0, \"S 001 D 0\"]]}]",
+            "P2 port[0].log",
+        ),
     ];
     are_told(&rt, rt.alloc(), "version = 2\nbits = 5\n", &rows)?;
     let rows = [
         ("version = 3\nbits = 5\nat = [5]\n[[port]]\n", "P2 version"),
         ("bits = 5\nat = [5]\n[[port]]\n", "P2 version"),
-        ("version = 1\nbits = 5\nport = [{queue = [[0, \"S 001 D 0\"]]}]\n", "P2 port[0].queue[0]"),
+        (
+            "version = 1\nbits = 5\nport = [{queue = [[0, \"S 001 D 0\"]]}]\n",
+            "P2 port[0].queue[0]",
+        ),
     ];
     are_told(&rt, rt.alloc(), "", &rows)?;
     Ok(())

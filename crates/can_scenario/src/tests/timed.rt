@@ -8,7 +8,9 @@ const WIRE_009: &str = "0000010001001000001001111100000110000011011111111";
 
 /// The levels of `S 123 D 0`, `S 123 R 0` and `E 048c0000 D 0`, acknowledged.
 const WIRE_123: &str = "000100100011000001001101000010110001011111111";
+
 const WIRE_123_REMOTE: &str = "000100100011100000100011011100111011011111111";
+
 const WIRE_123_EXTENDED: &str =
     "000100100011110000010000010000010000010000011011110001101111011111111";
 
@@ -17,7 +19,8 @@ const WIRE_123_EXTENDED: &str =
 #[test]
 fn offers_behind_a_frame(rt: HostRuntime) -> Result<(), Fail> {
     let alloc = rt.alloc();
-    let text = b"version = 2\nbits = 155\n[[port]]\nqueue = [[50, \"S 000 D 0\"], [0, \"S 001 D 0\"]]\n\
+    let text =
+        b"version = 2\nbits = 155\n[[port]]\nqueue = [[50, \"S 000 D 0\"], [0, \"S 001 D 0\"]]\n\
         [[port]]\nqueue = [[49, \"S 009 D 0\"]]\n";
     let levels = format!(in alloc; "{WIRE_001}111{WIRE_000}111{WIRE_009}111")?;
     let ports = "port 0 active tec 0 rec 0 missed 0
@@ -29,14 +32,21 @@ port 1 active tec 0 rec 0 missed 0
   took S 000 D 0
   sent S 009 D 0
 ";
-    reports(&rt, alloc, &Scenario::from_text(alloc, text)?, &levels, ports)
+    reports(
+        &rt,
+        alloc,
+        &Scenario::from_text(alloc, text)?,
+        &levels,
+        ports,
+    )
 }
 
 /// An offer behind the last bit time is not made: the bus rests from 103 on.
 #[test]
 fn an_offer_behind_the_end(rt: HostRuntime) -> Result<(), Fail> {
     let alloc = rt.alloc();
-    let text = b"version = 2\nbits = 155\n[[port]]\nqueue = [[50, \"S 000 D 0\"], [0, \"S 001 D 0\"]]\n\
+    let text =
+        b"version = 2\nbits = 155\n[[port]]\nqueue = [[50, \"S 000 D 0\"], [0, \"S 001 D 0\"]]\n\
         [[port]]\nqueue = [[155, \"S 009 D 0\"]]\n";
     let rest = "1111111111111111111111111111111111111111111111111111";
     let levels = format!(in alloc; "{WIRE_001}111{WIRE_000}111{rest}")?;
@@ -47,7 +57,13 @@ port 1 active tec 0 rec 0 missed 0
   took S 001 D 0
   took S 000 D 0
 ";
-    reports(&rt, alloc, &Scenario::from_text(alloc, text)?, &levels, ports)
+    reports(
+        &rt,
+        alloc,
+        &Scenario::from_text(alloc, text)?,
+        &levels,
+        ports,
+    )
 }
 
 /// The bus rests before the first frame, and between the two.
@@ -65,7 +81,13 @@ port 1 active tec 0 rec 0 missed 0
   took S 000 D 0
   sent S 001 D 0
 ";
-    reports(&rt, alloc, &Scenario::from_text(alloc, text)?, &levels, ports)
+    reports(
+        &rt,
+        alloc,
+        &Scenario::from_text(alloc, text)?,
+        &levels,
+        ports,
+    )
 }
 
 /// Three frames of one bit time that begin alike: the data frame wins at RTR, and the remote frame at IDE.
@@ -74,8 +96,9 @@ fn offers_of_one_bit_time(rt: HostRuntime) -> Result<(), Fail> {
     let alloc = rt.alloc();
     let text = b"version = 2\nbits = 175\n[[port]]\nqueue = [[7, \"E 048c0000 D 0\"]]\n\
         [[port]]\nqueue = [[7, \"S 123 R 0\"]]\n[[port]]\nqueue = [[7, \"S 123 D 0\"]]\n";
-    let levels =
-        format!(in alloc; "1111111{WIRE_123}111{WIRE_123_REMOTE}111{WIRE_123_EXTENDED}111")?;
+    let levels = format!(in alloc;
+        "1111111{WIRE_123}111{WIRE_123_REMOTE}111{WIRE_123_EXTENDED}111"
+    )?;
     let ports = "port 0 active tec 0 rec 0 missed 0
   took S 123 D 0
   took S 123 R 0
@@ -89,7 +112,13 @@ port 2 active tec 0 rec 0 missed 0
   took S 123 R 0
   took E 048c0000 D 0
 ";
-    reports(&rt, alloc, &Scenario::from_text(alloc, text)?, &levels, ports)
+    reports(
+        &rt,
+        alloc,
+        &Scenario::from_text(alloc, text)?,
+        &levels,
+        ports,
+    )
 }
 
 /// Two frames with one arbitration field, offered in one bit time: the one that stands first in the queue goes
@@ -119,7 +148,8 @@ port 1 active tec 0 rec 0 missed 0
 #[test]
 fn a_port_joins_meanwhile(rt: HostRuntime) -> Result<(), Fail> {
     let alloc = rt.alloc();
-    let text = b"version = 2\nbits = 155\n[[port]]\nqueue = [[0, \"S 000 D 0\"], [60, \"S 001 D 0\"]]\n[[port]]\n\
+    let text =
+        b"version = 2\nbits = 155\n[[port]]\nqueue = [[0, \"S 000 D 0\"], [60, \"S 001 D 0\"]]\n[[port]]\n\
         [[port]]\njoin = true\nqueue = [[10, \"S 009 D 0\"]]\n";
     let levels = format!(in alloc; "{WIRE_000}111{WIRE_009}111{WIRE_001}111")?;
     let ports = "port 0 active tec 0 rec 0 missed 0
@@ -134,5 +164,11 @@ port 2 active tec 0 rec 0 missed 0
   sent S 009 D 0
   took S 001 D 0
 ";
-    reports(&rt, alloc, &Scenario::from_text(alloc, text)?, &levels, ports)
+    reports(
+        &rt,
+        alloc,
+        &Scenario::from_text(alloc, text)?,
+        &levels,
+        ports,
+    )
 }
