@@ -1,0 +1,4 @@
+mod StatusLemmas
+mod CodeLemmas
+mod FrameLemmas
+mod RunLemmas
