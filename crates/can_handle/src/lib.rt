@@ -14,6 +14,8 @@
 mod controller;
 mod handle;
 mod parts;
+#[cfg(test)]
+mod tests;
 
 pub use controller::Controller;
 pub use handle::Handle;
