@@ -111,7 +111,7 @@ def random_scenario(seed: int, bits: int) -> Iterator[str]:
     yield f"in = {[list(hit) for hit in hits]}\nview = {[list(view) for view in views]}"
     for port in range(ports):
         queue = ", ".join(f'"{random_frame(chance)}"' for _ in range(bits // 500))
-        yield f"[[port]]\nqueue = [{queue}]\nlog = {bits // 800}\njoin = {str(port == 3).lower()}\nhold = {port % 3}"
+        yield f"[[port]]\nqueue = [{queue}]\nlog = {bits // 100}\njoin = {str(port == 3).lower()}\nhold = {port % 3}"
 
 
 def main() -> None:

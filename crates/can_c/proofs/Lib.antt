@@ -2,3 +2,4 @@ mod StatusLemmas
 mod CodeLemmas
 mod FrameLemmas
 mod RunLemmas
+mod DecodeLemmas

@@ -17,14 +17,14 @@ event_codes p codes = map event_code (port_events p (levels_of_codes codes))
 -- n bit times have brought the port p to q, and are written
 pub record IsPassed (p q : PortState) (codes drives events : List ℕ) (n : ℕ) : Type 0 where
   pub run : port_run q (levels_of_codes (drop n codes)) ≡ port_run p (levels_of_codes codes)
-  pub drives : take n drives ++ drives_codes q (drop n codes) ≡ drives_codes p codes
-  pub events : take n events ++ event_codes q (drop n codes) ≡ event_codes p codes
+  pub driven : take n drives ++ drives_codes q (drop n codes) ≡ drives_codes p codes
+  pub told : take n events ++ event_codes q (drop n codes) ≡ event_codes p codes
   pub long_drives : length drives ≡ length codes
   pub long_events : length events ≡ length codes
 
 -- none has
 pub none_passed : (p : PortState) (codes drives events : List ℕ) → length drives ≡ length codes → length events ≡ length codes → IsPassed p p codes drives events 0
-none_passed p codes drives events long_drives long_events = record { run = refl; drives = refl; events = refl; long_drives = long_drives; long_events = long_events }
+none_passed p codes drives events long_drives long_events = record { run = refl; driven = refl; told = refl; long_drives = long_drives; long_events = long_events }
 
 -- the next one
 run_first : (q : PortState) (c : ℕ) (rest : List ℕ) → port_run q (levels_of_codes (c ∷ rest)) ≡ port_run (port_step q (level_of c)) (levels_of_codes rest)
@@ -54,8 +54,8 @@ one_more_passed p q codes drives events n h within =
     let in_events : n < length events = omega (arith, h.long_events) in
     record {
       run = sym (ap (λ l. port_run q (levels_of_codes l)) next ∙ run_first q c rest) ∙ h.run;
-      drives = one_more drives n (level_code (port_drives q)) _ _ _ in_drives h.drives (ap (drives_codes q) next ∙ drives_first q c rest);
-      events = one_more events n (event_code (port_event q (level_of c))) _ _ _ in_events h.events (ap (event_codes q) next ∙ events_first q c rest);
+      driven = one_more drives n (level_code (port_drives q)) _ _ _ in_drives h.driven (ap (drives_codes q) next ∙ drives_first q c rest);
+      told = one_more events n (event_code (port_event q (level_of c))) _ _ _ in_events h.told (ap (event_codes q) next ∙ events_first q c rest);
       long_drives = length-set drives n _ ∙ h.long_drives;
       long_events = length-set events n _ ∙ h.long_events;
     }
@@ -78,14 +78,14 @@ whole written left all n long so none = sym (append-nil written) ∙ sym (ap (λ
 
 pub record AllPassed (p q : PortState) (codes drives events : List ℕ) : Type 0 where
   pub run : q ≡ port_run p (levels_of_codes codes)
-  pub drives : drives ≡ drives_codes p codes
-  pub events : events ≡ event_codes p codes
+  pub driven : drives ≡ drives_codes p codes
+  pub told : events ≡ event_codes p codes
 
 pub all_passed : (p q : PortState) (codes drives events : List ℕ) (n : ℕ) → IsPassed p q codes drives events n → length codes ≤ n → AllPassed p q codes drives events
 all_passed p q codes drives events n h long =
     let end = drop_all n codes long in
     record {
       run = sym (ap (λ l. port_run q (levels_of_codes l)) end ∙ run_none q) ∙ h.run;
-      drives = whole drives _ _ n (omega (arith, h.long_drives)) h.drives (ap (drives_codes q) end ∙ drives_none q);
-      events = whole events _ _ n (omega (arith, h.long_events)) h.events (ap (event_codes q) end ∙ events_none q);
+      driven = whole drives _ _ n (omega (arith, h.long_drives)) h.driven (ap (drives_codes q) end ∙ drives_none q);
+      told = whole events _ _ n (omega (arith, h.long_events)) h.told (ap (event_codes q) end ∙ events_none q);
     }

@@ -24,7 +24,7 @@ ident_in f = record { raw = f.identifier; extended = f.extended == 1 }
 
 -- the frame of plain fields
 abbrev pub frame_in : PlainFrame → Parts
-frame_in f = record { id = ident_in f; remote = f.remote == 1; dlc = f.dlc; bytes = take (byte_count (f.remote == 1) f.dlc) f.data }
+frame_in f = record { id = ident_in f; remote = f.remote == 1; dlc = f.dlc; bytes = take (byte_count (f.remote == 1) f.dlc) f.bytes }
 
 -- the plain fields of a frame: the data bytes that it has not are 0
 abbrev pub plain_frame : Parts → PlainFrame
@@ -33,7 +33,7 @@ plain_frame f = record {
   extended = flag_code f.id.extended;
   remote = flag_code f.remote;
   dlc = f.dlc;
-  data = f.bytes ++ replicate (8 - length f.bytes) 0;
+  bytes = f.bytes ++ replicate (8 - length f.bytes) 0;
 }
 
 -- the plain fields of what is heard

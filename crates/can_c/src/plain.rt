@@ -23,7 +23,7 @@ pub struct PlainFrame {
     pub dlc: u8,
     /// The data bytes. Of these a data frame has the first, as many as the lesser of the DLC and 8, and a remote
     /// frame none; the others are not read, and written as 0.
-    pub data: [u8; 8],
+    pub bytes: [u8; 8],
 }
 
 /// A frame as it is heard on the bus, as plain fields: with the levels that a receiver takes at either value, each
@@ -72,12 +72,12 @@ impl PlainFrame {
     fn frame_of(&self, id: Id) -> Option<Frame>
         ensures none { IsNone result → 15 < self.now.dlc }
         ensures within { IfSome result (λ f. self.now.dlc ≤ 15) }
-        ensures frame { IfSome result (λ f. f ≡ record { id = id; remote = self.now.remote == 1; dlc = self.now.dlc; bytes = take (byte_count (self.now.remote == 1) self.now.dlc) self.now.data }) }
+        ensures frame { IfSome result (λ f. f ≡ record { id = id; remote = self.now.remote == 1; dlc = self.now.dlc; bytes = take (byte_count (self.now.remote == 1) self.now.dlc) self.now.bytes }) }
     {
         if self.remote == 1 {
             return Frame::remote(id, self.dlc).ok();
         }
-        Frame::data(id, self.dlc, self.bytes()).ok()
+        Frame::data(id, self.dlc, self.used_bytes()).ok()
     }
 
     /// The identifier, if its kind has one of this number.
@@ -97,10 +97,10 @@ impl PlainFrame {
     }
 
     /// The data bytes of a data frame with this DLC.
-    fn bytes(&self) -> &[u8]
-        ensures { result.now ≡ take (byte_count false self.now.dlc) self.now.data }
+    fn used_bytes(&self) -> &[u8]
+        ensures { result.now ≡ take (byte_count false self.now.dlc) self.now.bytes }
     {
-        &self.data[..usize::from(self.dlc).min(8)]
+        &self.bytes[..usize::from(self.dlc).min(8)]
     }
 
     /// The plain fields of a frame.
@@ -113,7 +113,7 @@ impl PlainFrame {
             extended: flag_code(frame.is_extended()),
             remote: flag_code(frame.is_remote()),
             dlc: frame.dlc(),
-            data: padded(frame.bytes()),
+            bytes: padded(frame.bytes()),
         }
     }
 }

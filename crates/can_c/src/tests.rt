@@ -28,7 +28,7 @@ fn frame_001() -> PlainFrame {
         extended: 0,
         remote: 0,
         dlc: 0,
-        data: [0; 8],
+        bytes: [0; 8],
     }
 }
 
@@ -39,13 +39,13 @@ fn other_frame() -> PlainFrame {
         extended: 1,
         remote: 1,
         dlc: 15,
-        data: [7; 8],
+        bytes: [7; 8],
     }
 }
 
 fn assert_is_001(rt: &impl Abort, frame: &PlainFrame) {
     assert_eq!(rt; (frame.identifier, frame.extended, frame.remote, frame.dlc), (1, 0, 0, 0));
-    assert_eq!(rt; frame.data, [0; 8]);
+    assert_eq!(rt; frame.bytes, [0; 8]);
 }
 
 /// Lets go of a handle, with the port that it holds.
@@ -85,7 +85,7 @@ fn what_is_no_frame_is_refused(rt: HostRuntime) -> Result<(), Fail> {
             extended,
             remote,
             dlc,
-            data: [0; 8],
+            bytes: [0; 8],
         };
         assert_eq!(rt; can_c_encode(&frame, &mut levels, &mut count), status);
     }
