@@ -1,5 +1,5 @@
 -- Many bit times of a port, level by level: those that have passed, and those that are left.
-use Rattle.std.proofs.Common.{◌≡◌, ℕ, ◌+◌, ◌<◌, ◌≤◌, List, [], ◌∷◌, ◌++◌, length, take, drop, map, get_or, set, refl, sym, ◌∙◌, ap, arith, length-set}
+use Rattle.std.proofs.Common.{◌≡◌, ℕ, ◌+◌, ◌<◌, ◌≤◌, List, [], ◌∷◌, ◌++◌, length, take, drop, map, get_or, set, refl, sym, ◌∙◌, ap, subst, arith, length-set}
 use Rattle.std.proofs.lemmas.List.{append-nil, append_assoc, drop_all, drop_more, take_all, take_more_set}
 use Rattle.can_frame.specs.declared.level.Level.{Level}
 use Rattle.can_frame.specs.Levels.{level_of}
@@ -44,7 +44,7 @@ one_more : (written : List ℕ) (n x : ℕ) (left whole rest : List ℕ) → n <
 one_more written n x left whole rest within so first =
     ap (λ t. t ++ rest) (take_more_set written n x within) ∙ append_assoc (take n written) (x ∷ []) rest ∙ sym (ap (λ t. take n written ++ t) first) ∙ so
 
-pub one_more_passed : (p q : PortState) (codes drives events : List ℕ) (n : ℕ) → IsPassed p q codes drives events n → n < length codes →
+one_more_passed : (p q : PortState) (codes drives events : List ℕ) (n : ℕ) → IsPassed p q codes drives events n → n < length codes →
     IsPassed p (port_step q (level_of (get_or codes n 0))) codes (set drives n (level_code (port_drives q))) (set events n (event_code (port_event q (level_of (get_or codes n 0))))) (n + 1)
 one_more_passed p q codes drives events n h within =
     let c = get_or codes n 0 in
@@ -59,6 +59,19 @@ one_more_passed p q codes drives events n h within =
       long_drives = length-set drives n _ ∙ h.long_drives;
       long_events = length-set events n _ ∙ h.long_events;
     }
+
+-- the same, of values that are told by equations
+pub next_passed : (p q next : PortState) (codes drives events : List ℕ) (n drive event code : ℕ) (seen : Level) → IsPassed p q codes drives events n → n < length codes →
+    code ≡ get_or codes n 0 → seen ≡ level_of code → drive ≡ level_code (port_drives q) → next ≡ port_step q seen → event ≡ event_code (port_event q seen) →
+    IsPassed p next codes (set drives n drive) (set events n event) (n + 1)
+next_passed p q next codes drives events n drive event code seen h within is_code is_seen is_drive is_next is_event =
+    let x = level_of (get_or codes n 0) in
+    let seen_is : seen ≡ x = is_seen ∙ ap level_of is_code in
+    let at_next : port_step q x ≡ next = sym (is_next ∙ ap (port_step q) seen_is) in
+    let at_event : event_code (port_event q x) ≡ event = sym (is_event ∙ ap (λ y. event_code (port_event q y)) seen_is) in
+    subst (λ s. IsPassed p s codes (set drives n drive) (set events n event) (n + 1)) at_next
+    (subst (λ e. IsPassed p (port_step q x) codes (set drives n drive) (set events n e) (n + 1)) at_event
+    (subst (λ d. IsPassed p (port_step q x) codes (set drives n d) (set events n (event_code (port_event q x))) (n + 1)) (sym is_drive) (one_more_passed p q codes drives events n h within)))
 
 -- all have
 run_none : (q : PortState) → port_run q [] ≡ q

@@ -1,7 +1,7 @@
-use Rattle.std.proofs.Common.{◌≡◌, ◌++◌, Ok, length, take, sym, ◌∙◌, ap}
+use Rattle.std.proofs.Common.{sym, ◌∙◌, ap}
 use Rattle.can_c.specs.Codes.{levels_of_codes}
 use Rattle.can_c.specs.PlainFrames.{plain_heard}
-use Rattle.can_c.proofs.DecodeLemmas.{front_within}
+use Rattle.can_c.proofs.DecodeLemmas.{front_within, one_found}
 use Rattle.can_c.proofs.coding.can_c_decode.Goals as goal
 
 pub returns-in-Ok-clause-within : goal.returns-in-Ok-clause-within
@@ -13,8 +13,8 @@ pub returns-in-Ok-clause-only : goal.returns-in-Ok-clause-only
 returns-in-Ok-clause-only c =
     let front = c.as_slice.ensures.value ∙ c.levels_in.ensures ∙ ap levels_of_codes c.front_of-front.ensures.front in
     λ fine h w rest spelled whole.
-    let same = c.in-Ok.ensures.only h w rest spelled (whole ∙ sym front) in
-    (c.code-in-Ok.ensures, c.of.ensures ∙ ap plain_heard (let e : c.in-Ok.found ≡ h = cc in e), (let e : c.in-Ok.count ≡ length w = cc in e))
+    let same = one_found c.decode.result _ _ c.in-Ok.is (c.decode.ensures.only h w rest spelled (whole ∙ sym front)) in
+    (c.code-in-Ok.ensures, c.of.ensures ∙ ap (λ found. plain_heard found.0) same, ap (λ found. found.1) same)
 
 pub returns-in-Err-clause-only : goal.returns-in-Err-clause-only
 returns-in-Err-clause-only c =
