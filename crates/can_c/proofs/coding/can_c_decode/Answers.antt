@@ -1,4 +1,4 @@
-use Rattle.std.proofs.Common.{sym, ◌∙◌, ap}
+use Rattle.std.proofs.Common.{refl, sym, ◌∙◌, ap}
 use Rattle.can_c.specs.Codes.{levels_of_codes}
 use Rattle.can_c.specs.PlainFrames.{plain_heard}
 use Rattle.can_c.proofs.DecodeLemmas.{front_within, one_found}
@@ -13,9 +13,8 @@ pub returns-in-Ok-clause-only : goal.returns-in-Ok-clause-only
 returns-in-Ok-clause-only c =
     let front = c.as_slice.ensures.value ∙ c.levels_in.ensures ∙ ap levels_of_codes c.front_of-front.ensures.front in
     λ fine h w rest spelled whole.
-    let same = one_found c.decode.result _ _ c.in-Ok.is (c.decode.ensures.only h w rest spelled (whole ∙ sym front)) in
-    let told = ap plain_heard (sym c.in-Ok.found-is) ∙ ap (λ found. plain_heard found.0) same in
-    (c.code-in-Ok.ensures, c.of.ensures ∙ told, sym c.in-Ok.count-is ∙ ap (λ found. found.1) same)
+    let same = one_found _ _ _ refl (c.in-Ok.ensures.only h w rest spelled (whole ∙ sym front)) in
+    (c.code-in-Ok.ensures, c.of.ensures ∙ ap (λ found. plain_heard found.0) same, ap (λ found. found.1) same)
 
 pub returns-in-Err-clause-only : goal.returns-in-Err-clause-only
 returns-in-Err-clause-only c =
