@@ -89,7 +89,8 @@ fn what_is_no_frame_is_refused(rt: HostRuntime) -> Result<(), Fail> {
         };
         assert_eq!(rt; can_c_encode(&frame, &mut levels, &mut count), status);
     }
-    assert_eq!(rt; can_c_encode(&frame_001(), &mut levels[..46], &mut count), 13);
+    let mut short = [9; 46];
+    assert_eq!(rt; can_c_encode(&frame_001(), &mut short, &mut count), 13);
     Ok(())
 }
 
