@@ -1,0 +1,62 @@
+#!/usr/bin/env python3
+"""Decodes a trace, as `canbit decode` does: its frames and its faults, a line for each, with their places.
+
+    bindings/examples/decode_trace.py < examples/trace.txt
+"""
+
+import pathlib
+import sys
+from collections.abc import Iterator
+
+sys.path.insert(0, str(pathlib.Path(__file__).resolve().parent.parent / "python"))
+
+from riddlesage import DOMINANT, Fault, Frame, Heard, Status, decode  # noqa: E402
+
+# The kinds of faults as the program tells them.
+CODES = {Status.SHORT: "C1", Status.NO_START: "C2", Status.STUFF: "C3", Status.CRC: "C4", Status.FORM: "C5"}
+# A bus that was recessive for so long is at rest.
+REST = bytes([1] * 11)
+
+
+def text_of(frame: Frame) -> str:
+    """The text of a frame, as `S 123 D 2 aa55`."""
+    identifier = f"E {frame.identifier:08x}" if frame.extended else f"S {frame.identifier:03x}"
+    data = f" {frame.data.hex()}" if frame.data else ""
+    return f"{identifier} {'R' if frame.remote else 'D'} {frame.dlc}{data}"
+
+
+def line_of(place: int, heard: Heard) -> str:
+    """The line of a frame that begins at this place."""
+    words = [str(place), text_of(heard.frame), "ack" if heard.acknowledged else "noack"]
+    words += ["srr0"] * (heard.srr == DOMINANT)
+    words += ["r1"] * (heard.r1 != DOMINANT) + ["r0"] * (heard.r0 != DOMINANT) + ["eof0"] * (heard.last == DOMINANT)
+    return " ".join(words)
+
+
+def lines(levels: bytes) -> Iterator[str]:
+    """The lines of a trace."""
+    place = levels.find(DOMINANT)
+    while place >= 0:
+        try:
+            heard = decode(levels[place : place + 157])
+            yield line_of(place, heard)
+            place += heard.length
+        except Fault as fault:
+            wrong = place + fault.place
+            yield f"{place} fault {CODES[fault.status]} at {wrong}"
+            rest = levels.find(REST, wrong)
+            if rest < 0:
+                return
+            place = rest + len(REST)
+        place = levels.find(DOMINANT, place)
+
+
+def main() -> None:
+    """Reads a trace of `0` and `1` on standard input."""
+    levels = bytes(int(letter) for letter in sys.stdin.read() if not letter.isspace())
+    for line in lines(levels):
+        print(line)
+
+
+if __name__ == "__main__":
+    main()

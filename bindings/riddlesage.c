@@ -1,0 +1,207 @@
+/*
+ * The public calls over the proved ones of crates/can_c: each tests its pointers, and hands on. Nothing here is proved,
+ * and nothing here knows a rule of CAN.
+ */
+#include "riddlesage.h"
+
+#define EXPORT __attribute__((visibility("default")))
+
+/* The proved functions. A slice is a pointer, which is not NULL, and its length. */
+uint8_t can_c_idle(struct riddlesage_handle *handle, size_t queue, size_t log);
+uint8_t can_c_joining(struct riddlesage_handle *handle, size_t queue, size_t log);
+void can_c_free(struct riddlesage_handle *handle);
+uint8_t can_c_offer(struct riddlesage_handle *handle, const riddlesage_frame *frame);
+uint8_t can_c_hold(struct riddlesage_handle *handle, uint8_t count);
+uint8_t can_c_drive(struct riddlesage_handle *handle, uint8_t *level);
+uint8_t can_c_sample(struct riddlesage_handle *handle, uint8_t level, uint8_t *event, riddlesage_frame *frame);
+uint8_t can_c_run(struct riddlesage_handle *handle, const uint8_t *levels, size_t levels_length, uint8_t *drives,
+                  size_t drives_length, uint8_t *events, size_t events_length);
+uint8_t can_c_counters(struct riddlesage_handle *handle, uint16_t *transmit, uint16_t *receive);
+uint8_t can_c_state(struct riddlesage_handle *handle, uint8_t *state);
+uint8_t can_c_log_length(struct riddlesage_handle *handle, size_t *count);
+uint8_t can_c_missed(struct riddlesage_handle *handle, uint32_t *count);
+uint8_t can_c_entry(struct riddlesage_handle *handle, size_t number, riddlesage_frame *frame, uint8_t *sent);
+uint8_t can_c_encode(const riddlesage_frame *frame, uint8_t *levels, size_t levels_length, size_t *count);
+uint8_t can_c_decode(const uint8_t *levels, size_t levels_length, riddlesage_heard *heard, size_t *place);
+
+/* Whether a port may be handed on: `self` is NULL where none was made, and else the place where one was made. */
+static riddlesage_status port_at(const riddlesage_port *port)
+{
+  if (port == NULL)
+    return RIDDLESAGE_NULL_POINTER;
+  if (port->self == NULL)
+    return RIDDLESAGE_NO_PORT;
+  return port->self == port ? RIDDLESAGE_OK : RIDDLESAGE_MOVED;
+}
+
+static riddlesage_status make(riddlesage_port *port, size_t queue, size_t log,
+                              uint8_t (*made)(struct riddlesage_handle *, size_t, size_t))
+{
+  static const riddlesage_port none = RIDDLESAGE_PORT_INIT;
+  riddlesage_status status = port_at(port);
+  if (status == RIDDLESAGE_NO_PORT)
+    *port = none;
+  else if (status != RIDDLESAGE_OK)
+    return status;
+  status = (riddlesage_status)made(&port->handle, queue, log);
+  if (status == RIDDLESAGE_OK)
+    port->self = port;
+  return status;
+}
+
+EXPORT riddlesage_status riddlesage_port_idle(riddlesage_port *port, size_t queue, size_t log)
+{
+  return make(port, queue, log, can_c_idle);
+}
+
+EXPORT riddlesage_status riddlesage_port_joining(riddlesage_port *port, size_t queue, size_t log)
+{
+  return make(port, queue, log, can_c_joining);
+}
+
+EXPORT riddlesage_status riddlesage_port_free(riddlesage_port *port)
+{
+  riddlesage_status status = port_at(port);
+  if (status == RIDDLESAGE_NO_PORT)
+    return RIDDLESAGE_OK;
+  if (status != RIDDLESAGE_OK)
+    return status;
+  can_c_free(&port->handle);
+  port->self = NULL;
+  return RIDDLESAGE_OK;
+}
+
+EXPORT riddlesage_status riddlesage_port_offer(riddlesage_port *port, const riddlesage_frame *frame)
+{
+  riddlesage_status status = port_at(port);
+  if (status != RIDDLESAGE_OK)
+    return status;
+  if (frame == NULL)
+    return RIDDLESAGE_NULL_POINTER;
+  return (riddlesage_status)can_c_offer(&port->handle, frame);
+}
+
+EXPORT riddlesage_status riddlesage_port_hold(riddlesage_port *port, uint8_t count)
+{
+  riddlesage_status status = port_at(port);
+  if (status != RIDDLESAGE_OK)
+    return status;
+  return (riddlesage_status)can_c_hold(&port->handle, count);
+}
+
+EXPORT riddlesage_status riddlesage_port_drive(riddlesage_port *port, uint8_t *level)
+{
+  riddlesage_status status = port_at(port);
+  if (status != RIDDLESAGE_OK)
+    return status;
+  if (level == NULL)
+    return RIDDLESAGE_NULL_POINTER;
+  return (riddlesage_status)can_c_drive(&port->handle, level);
+}
+
+EXPORT riddlesage_status riddlesage_port_sample(riddlesage_port *port, uint8_t level, uint8_t *event,
+                                                riddlesage_frame *frame)
+{
+  riddlesage_frame unwanted = { 0, 0, 0, 0, { 0 } };
+  riddlesage_status status = port_at(port);
+  if (status != RIDDLESAGE_OK)
+    return status;
+  if (event == NULL)
+    return RIDDLESAGE_NULL_POINTER;
+  return (riddlesage_status)can_c_sample(&port->handle, level, event, frame == NULL ? &unwanted : frame);
+}
+
+EXPORT riddlesage_status riddlesage_port_run(riddlesage_port *port, const uint8_t *levels, size_t count,
+                                             uint8_t *drives, uint8_t *events)
+{
+  riddlesage_status status = port_at(port);
+  if (status != RIDDLESAGE_OK)
+    return status;
+  if (levels == NULL || drives == NULL || events == NULL)
+    return RIDDLESAGE_NULL_POINTER;
+  return (riddlesage_status)can_c_run(&port->handle, levels, count, drives, count, events, count);
+}
+
+EXPORT riddlesage_status riddlesage_port_counters(riddlesage_port *port, uint16_t *transmit, uint16_t *receive)
+{
+  riddlesage_status status = port_at(port);
+  if (status != RIDDLESAGE_OK)
+    return status;
+  if (transmit == NULL || receive == NULL)
+    return RIDDLESAGE_NULL_POINTER;
+  return (riddlesage_status)can_c_counters(&port->handle, transmit, receive);
+}
+
+EXPORT riddlesage_status riddlesage_port_state(riddlesage_port *port, uint8_t *state)
+{
+  riddlesage_status status = port_at(port);
+  if (status != RIDDLESAGE_OK)
+    return status;
+  if (state == NULL)
+    return RIDDLESAGE_NULL_POINTER;
+  return (riddlesage_status)can_c_state(&port->handle, state);
+}
+
+EXPORT riddlesage_status riddlesage_port_log_length(riddlesage_port *port, size_t *count)
+{
+  riddlesage_status status = port_at(port);
+  if (status != RIDDLESAGE_OK)
+    return status;
+  if (count == NULL)
+    return RIDDLESAGE_NULL_POINTER;
+  return (riddlesage_status)can_c_log_length(&port->handle, count);
+}
+
+EXPORT riddlesage_status riddlesage_port_missed(riddlesage_port *port, uint32_t *count)
+{
+  riddlesage_status status = port_at(port);
+  if (status != RIDDLESAGE_OK)
+    return status;
+  if (count == NULL)
+    return RIDDLESAGE_NULL_POINTER;
+  return (riddlesage_status)can_c_missed(&port->handle, count);
+}
+
+EXPORT riddlesage_status riddlesage_port_entry(riddlesage_port *port, size_t number, riddlesage_frame *frame,
+                                               uint8_t *sent)
+{
+  riddlesage_status status = port_at(port);
+  if (status != RIDDLESAGE_OK)
+    return status;
+  if (frame == NULL || sent == NULL)
+    return RIDDLESAGE_NULL_POINTER;
+  return (riddlesage_status)can_c_entry(&port->handle, number, frame, sent);
+}
+
+EXPORT riddlesage_status riddlesage_encode(const riddlesage_frame *frame, uint8_t *levels, size_t room, size_t *count)
+{
+  if (frame == NULL || levels == NULL || count == NULL)
+    return RIDDLESAGE_NULL_POINTER;
+  return (riddlesage_status)can_c_encode(frame, levels, room, count);
+}
+
+EXPORT riddlesage_status riddlesage_decode(const uint8_t *levels, size_t count, riddlesage_heard *heard, size_t *place)
+{
+  if (levels == NULL || heard == NULL || place == NULL)
+    return RIDDLESAGE_NULL_POINTER;
+  return (riddlesage_status)can_c_decode(levels, count, heard, place);
+}
+
+EXPORT const char *riddlesage_status_name(riddlesage_status status)
+{
+  static const char *const names[] = {
+    "ok",       "null pointer",   "moved",   "no port",   "no memory", "queue full", "no entry",
+    "bad flag", "bad identifier", "bad dlc", "bad level", "bad count", "no levels",  "no room",
+    "short",    "no start",       "stuff",   "crc",       "form",
+  };
+  return (size_t)status < sizeof names / sizeof names[0] ? names[status] : NULL;
+}
+
+EXPORT const char *riddlesage_event_name(riddlesage_event event)
+{
+  static const char *const names[] = {
+    "nothing",   "sent",       "received",  "lost",     "bit error", "stuff error",
+    "crc error", "form error", "ack error", "overload", "went off",  "recovered",
+  };
+  return (size_t)event < sizeof names / sizeof names[0] ? names[event] : NULL;
+}

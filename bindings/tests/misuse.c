@@ -1,0 +1,239 @@
+/*
+ * Misuse of every call: NULL pointers, ports that are not made, freed, freed twice, copied, not begun as zeros; frames,
+ * levels, counts and numbers that are none; lists that are too short or empty; more memory than there is. Each is
+ * refused by its name, and changes nothing. It is run under AddressSanitizer and under valgrind.
+ */
+#include "riddlesage.h"
+
+#include <stdio.h>
+#include <stdlib.h>
+#include <string.h>
+
+static unsigned tried, wrong;
+
+#define WANT(status, call) want(RIDDLESAGE_##status, (call), #call, __LINE__)
+
+static void want(riddlesage_status wanted, riddlesage_status given, const char *call, int line)
+{
+  tried++;
+  if (wanted == given)
+    return;
+  wrong++;
+  printf("line %d: %s: %s and not %s\n", line, call, riddlesage_status_name(given), riddlesage_status_name(wanted));
+}
+
+static void want_same(const void *one, const void *other, size_t size, int line)
+{
+  tried++;
+  if (memcmp(one, other, size) == 0)
+    return;
+  wrong++;
+  printf("line %d: something has changed\n", line);
+}
+
+#define WANT_SAME(one, other) want_same(&(one), &(other), sizeof(one), __LINE__)
+
+/* What is written by calls that are not refused. */
+static riddlesage_frame frame, told;
+static riddlesage_heard heard;
+static uint8_t level, event, state, sent, levels[RIDDLESAGE_MOST_LEVELS], drives[RIDDLESAGE_MOST_LEVELS],
+    events[RIDDLESAGE_MOST_LEVELS];
+static uint16_t transmit, receive;
+static uint32_t missed;
+static size_t count, place;
+
+/* Each call on a port, with arguments that nothing is wrong with. */
+static void call_all(riddlesage_port *port, riddlesage_status wanted)
+{
+  want(wanted, riddlesage_port_offer(port, &frame), "offer", __LINE__);
+  want(wanted, riddlesage_port_hold(port, 1), "hold", __LINE__);
+  want(wanted, riddlesage_port_drive(port, &level), "drive", __LINE__);
+  want(wanted, riddlesage_port_sample(port, 1, &event, &told), "sample", __LINE__);
+  want(wanted, riddlesage_port_sample(port, 1, &event, NULL), "sample", __LINE__);
+  want(wanted, riddlesage_port_run(port, levels, 3, drives, events), "run", __LINE__);
+  want(wanted, riddlesage_port_counters(port, &transmit, &receive), "counters", __LINE__);
+  want(wanted, riddlesage_port_state(port, &state), "state", __LINE__);
+  want(wanted, riddlesage_port_log_length(port, &count), "log_length", __LINE__);
+  want(wanted, riddlesage_port_missed(port, &missed), "missed", __LINE__);
+  if (wanted != RIDDLESAGE_OK)
+    want(wanted, riddlesage_port_entry(port, 0, &told, &sent), "entry", __LINE__);
+}
+
+static void null_pointers(riddlesage_port *port)
+{
+  call_all(NULL, RIDDLESAGE_NULL_POINTER);
+  WANT(NULL_POINTER, riddlesage_port_idle(NULL, 1, 1));
+  WANT(NULL_POINTER, riddlesage_port_joining(NULL, 1, 1));
+  WANT(NULL_POINTER, riddlesage_port_free(NULL));
+  WANT(NULL_POINTER, riddlesage_port_offer(port, NULL));
+  WANT(NULL_POINTER, riddlesage_port_drive(port, NULL));
+  WANT(NULL_POINTER, riddlesage_port_sample(port, 1, NULL, &told));
+  WANT(NULL_POINTER, riddlesage_port_run(port, NULL, 3, drives, events));
+  WANT(NULL_POINTER, riddlesage_port_run(port, levels, 3, NULL, events));
+  WANT(NULL_POINTER, riddlesage_port_run(port, levels, 3, drives, NULL));
+  WANT(NULL_POINTER, riddlesage_port_counters(port, NULL, &receive));
+  WANT(NULL_POINTER, riddlesage_port_counters(port, &transmit, NULL));
+  WANT(NULL_POINTER, riddlesage_port_state(port, NULL));
+  WANT(NULL_POINTER, riddlesage_port_log_length(port, NULL));
+  WANT(NULL_POINTER, riddlesage_port_missed(port, NULL));
+  WANT(NULL_POINTER, riddlesage_port_entry(port, 0, NULL, &sent));
+  WANT(NULL_POINTER, riddlesage_port_entry(port, 0, &told, NULL));
+  WANT(NULL_POINTER, riddlesage_encode(NULL, levels, sizeof levels, &count));
+  WANT(NULL_POINTER, riddlesage_encode(&frame, NULL, sizeof levels, &count));
+  WANT(NULL_POINTER, riddlesage_encode(&frame, NULL, 0, &count));
+  WANT(NULL_POINTER, riddlesage_encode(&frame, levels, sizeof levels, NULL));
+  WANT(NULL_POINTER, riddlesage_decode(NULL, 1, &heard, &place));
+  WANT(NULL_POINTER, riddlesage_decode(NULL, 0, &heard, &place));
+  WANT(NULL_POINTER, riddlesage_decode(levels, 1, NULL, &place));
+  WANT(NULL_POINTER, riddlesage_decode(levels, 1, &heard, NULL));
+}
+
+/* Frames with one field that is none of its values. */
+static void bad_frames(riddlesage_port *port)
+{
+  static const struct {
+    riddlesage_frame frame;
+    riddlesage_status status;
+  } rows[] = {
+    { { 0x800, 0, 0, 0, { 0 } }, RIDDLESAGE_BAD_IDENTIFIER },
+    { { 0xffffffff, 0, 0, 0, { 0 } }, RIDDLESAGE_BAD_IDENTIFIER },
+    { { 0x20000000, 1, 0, 0, { 0 } }, RIDDLESAGE_BAD_IDENTIFIER },
+    { { 0xffffffff, 1, 1, 200, { 0 } }, RIDDLESAGE_BAD_IDENTIFIER },
+    { { 0, 2, 0, 0, { 0 } }, RIDDLESAGE_BAD_FLAG },
+    { { 0, 255, 0, 0, { 0 } }, RIDDLESAGE_BAD_FLAG },
+    { { 0, 0, 2, 0, { 0 } }, RIDDLESAGE_BAD_FLAG },
+    { { 0xffffffff, 0, 255, 255, { 0 } }, RIDDLESAGE_BAD_FLAG },
+    { { 0, 0, 0, 16, { 0 } }, RIDDLESAGE_BAD_DLC },
+    { { 0, 0, 0, 200, { 0 } }, RIDDLESAGE_BAD_DLC },
+    { { 0, 0, 1, 16, { 0 } }, RIDDLESAGE_BAD_DLC },
+    { { 0, 1, 1, 255, { 0 } }, RIDDLESAGE_BAD_DLC },
+  };
+  size_t row;
+
+  for (row = 0; row < sizeof rows / sizeof rows[0]; row++) {
+    want(rows[row].status, riddlesage_port_offer(port, &rows[row].frame), "a frame that is none", (int)row);
+    count = 99;
+    want(rows[row].status, riddlesage_encode(&rows[row].frame, levels, sizeof levels, &count), "encode", (int)row);
+    want(count == 99 ? RIDDLESAGE_OK : RIDDLESAGE_NO_ROOM, RIDDLESAGE_OK, "count is written", (int)row);
+  }
+}
+
+static void bad_numbers(riddlesage_port *port)
+{
+  uint8_t three[3] = { 1, 1, 2 }, before;
+  unsigned code;
+
+  for (code = 2; code < 256; code++) {
+    event = 77;
+    want(RIDDLESAGE_BAD_LEVEL, riddlesage_port_sample(port, (uint8_t)code, &event, &told), "sample", (int)code);
+    want(event == 77 ? RIDDLESAGE_OK : RIDDLESAGE_BAD_LEVEL, RIDDLESAGE_OK, "event is written", (int)code);
+  }
+  for (code = 3; code < 256; code++)
+    want(RIDDLESAGE_BAD_COUNT, riddlesage_port_hold(port, (uint8_t)code), "hold", (int)code);
+  WANT(OK, riddlesage_port_drive(port, &before));
+  WANT(BAD_LEVEL, riddlesage_port_run(port, three, 3, drives, events));
+  WANT(NO_LEVELS, riddlesage_port_run(port, three, 0, drives, events));
+  WANT(BAD_LEVEL, riddlesage_decode(three, 3, &heard, &place));
+  place = 99;
+  WANT(SHORT, riddlesage_decode(three, 0, &heard, &place));
+  want(place == 0 ? RIDDLESAGE_OK : RIDDLESAGE_SHORT, RIDDLESAGE_OK, "the place of nothing", __LINE__);
+  WANT(NO_ENTRY, riddlesage_port_entry(port, 0, &told, &sent));
+  WANT(NO_ENTRY, riddlesage_port_entry(port, SIZE_MAX, &told, &sent));
+  WANT(NO_ROOM, riddlesage_encode(&frame, levels, 0, &count));
+  WANT(NO_ROOM, riddlesage_encode(&frame, levels, 49, &count));
+  WANT(OK, riddlesage_encode(&frame, levels, 50, &count));
+}
+
+/* A block of exactly so many bytes, behind which a tool would see a read or a write. */
+static uint8_t *block(size_t size)
+{
+  uint8_t *at = malloc(size);
+
+  if (at == NULL)
+    exit(2);
+  memset(at, 1, size);
+  return at;
+}
+
+/* Lists are read and written up to their ends and no further. */
+static void exact_lists(riddlesage_port *port)
+{
+  size_t size;
+
+  for (size = 1; size <= RIDDLESAGE_MOST_LEVELS + 3; size++) {
+    uint8_t *in = block(size), *out = block(size), *told_here = block(size);
+    riddlesage_frame longest = { 0x1fffffff, 1, 0, 15, { 0, 0, 0, 0, 0, 0, 0, 0 } };
+    riddlesage_status status = riddlesage_encode(&longest, out, size, &count);
+    want(status == RIDDLESAGE_OK && count <= size ? RIDDLESAGE_OK : RIDDLESAGE_NO_ROOM, status, "encode", (int)size);
+    WANT(OK, riddlesage_port_run(port, in, size, out, told_here));
+    WANT(NO_START, riddlesage_decode(in, size, &heard, &place));
+    memset(in, 0, size);
+    want(size < 6 ? RIDDLESAGE_SHORT : RIDDLESAGE_STUFF, riddlesage_decode(in, size, &heard, &place), "decode", (int)size);
+    free(in);
+    free(out);
+    free(told_here);
+  }
+}
+
+static void handles(void)
+{
+  riddlesage_port port = RIDDLESAGE_PORT_INIT, zeros, copy, garbage;
+
+  memset(&zeros, 0, sizeof zeros);
+  memset(&garbage, 0xa5, sizeof garbage);
+  call_all(&port, RIDDLESAGE_NO_PORT);
+  call_all(&zeros, RIDDLESAGE_NO_PORT);
+  WANT(OK, riddlesage_port_free(&port));
+  call_all(&garbage, RIDDLESAGE_MOVED);
+  WANT(MOVED, riddlesage_port_idle(&garbage, 1, 1));
+  WANT(MOVED, riddlesage_port_free(&garbage));
+
+  WANT(OK, riddlesage_port_idle(&port, 1, 1));
+  copy = port;
+  call_all(&copy, RIDDLESAGE_MOVED);
+  WANT(MOVED, riddlesage_port_joining(&copy, 1, 1));
+  WANT(MOVED, riddlesage_port_free(&copy));
+  WANT(OK, riddlesage_port_free(&port));
+  WANT(OK, riddlesage_port_free(&port));
+  call_all(&port, RIDDLESAGE_NO_PORT);
+  call_all(&copy, RIDDLESAGE_MOVED);
+
+  /* made again over a port that is there, and over one that was freed */
+  WANT(OK, riddlesage_port_joining(&port, 2, 2));
+  WANT(OK, riddlesage_port_idle(&port, 1, 1));
+  call_all(&port, RIDDLESAGE_OK);
+  WANT(QUEUE_FULL, riddlesage_port_offer(&port, &frame));
+  WANT(NO_MEMORY, riddlesage_port_idle(&port, SIZE_MAX, 0));
+  WANT(NO_MEMORY, riddlesage_port_joining(&port, 0, SIZE_MAX));
+  WANT(NO_MEMORY, riddlesage_port_idle(&port, SIZE_MAX / 16, SIZE_MAX / 16));
+  WANT(QUEUE_FULL, riddlesage_port_offer(&port, &frame));
+  WANT(OK, riddlesage_port_free(&port));
+
+  /* no room at all */
+  WANT(OK, riddlesage_port_idle(&port, 0, 0));
+  WANT(QUEUE_FULL, riddlesage_port_offer(&port, &frame));
+  WANT(NO_ENTRY, riddlesage_port_entry(&port, 0, &told, &sent));
+  WANT(OK, riddlesage_port_free(&port));
+}
+
+int main(void)
+{
+  riddlesage_port port = RIDDLESAGE_PORT_INIT;
+  riddlesage_heard nothing_heard = heard;
+  riddlesage_frame nothing_told = told;
+
+  memset(levels, 1, sizeof levels);
+  handles();
+  WANT(OK, riddlesage_port_idle(&port, 4, 4));
+  null_pointers(&port);
+  bad_frames(&port);
+  bad_numbers(&port);
+  WANT_SAME(nothing_heard, heard);
+  WANT_SAME(nothing_told, told);
+  exact_lists(&port);
+  WANT(OK, riddlesage_port_free(&port));
+  if (riddlesage_status_name((riddlesage_status)19) != NULL || riddlesage_event_name((riddlesage_event)12) != NULL)
+    wrong++;
+  printf("%u of %u refused or taken as they should be\n", tried - wrong, tried);
+  return wrong == 0 ? EXIT_SUCCESS : EXIT_FAILURE;
+}

@@ -1,0 +1,133 @@
+#!/usr/bin/env python3
+"""Scenarios of `canbit run`: played by ports of the Python module, in plain lines for tests/scenario.c, and random ones.
+
+    scenarios.py report < SCENARIO     the report, as `canbit run` prints it
+    scenarios.py plain < SCENARIO      the lines that tests/scenario.c reads
+    scenarios.py random SEED BITS      a scenario of four ports with frames and disturbances of all kinds
+"""
+
+from __future__ import annotations
+
+import argparse
+import pathlib
+import random
+import sys
+import tomllib
+from collections.abc import Iterator
+from typing import Any
+
+HERE = pathlib.Path(__file__).resolve().parent
+sys.path.insert(0, str(HERE.parent / "python"))
+
+from riddlesage import DOMINANT, Frame, Port, State  # noqa: E402
+
+STATES = {State.ERROR_ACTIVE: "active", State.ERROR_PASSIVE: "passive", State.BUS_OFF: "off"}
+# So many recessive levels in a row lie between two frames.
+REST = 11
+
+Document = dict[str, Any]
+
+
+def frame_of(text: str) -> Frame:
+    """The frame of a text, as `S 123 D 2 aa55`."""
+    kind, identifier, direction, dlc, *data = text.split(" ")
+    return Frame(int(identifier, 16), bytes.fromhex("".join(data)), kind == "E", direction == "R", int(dlc))
+
+
+def text_of(frame: Frame) -> str:
+    """The text of a frame."""
+    identifier = f"E {frame.identifier:08x}" if frame.extended else f"S {frame.identifier:03x}"
+    data = f" {frame.data.hex()}" if frame.data else ""
+    return f"{identifier} {'R' if frame.remote else 'D'} {frame.dlc}{data}"
+
+
+def plain(document: Document) -> Iterator[str]:
+    """The lines that tests/scenario.c reads."""
+    yield f"bits {document['bits']}"
+    for port in document["port"]:
+        queue = port.get("queue", [])
+        start = "joining" if port.get("join") else "idle"
+        yield f"port {start} {len(queue)} {port.get('log', 64)} {port.get('hold', 0)}"
+        yield from (f"offer {text}" for text in queue)
+    yield from (f"at {time}" for time in document.get("at", []))
+    yield from (f"in {attempt} {offset}" for attempt, offset in document.get("in", []))
+    yield from (f"view {time} {port}" for time, port in document.get("view", []))
+
+
+def made(table: Document) -> Port:
+    """A port of a scenario, with the frames that wait there."""
+    queue = table.get("queue", [])
+    port = Port(len(queue), table.get("log", 64), joining=table.get("join", False))
+    for text in queue:
+        port.offer(frame_of(text))
+    port.hold(table.get("hold", 0))
+    return port
+
+
+def report(document: Document) -> Iterator[str]:
+    """The lines of the report."""
+    ports = [made(table) for table in document["port"]]
+    on_wire = set(document.get("at", []))
+    in_attempt = {tuple(hit) for hit in document.get("in", [])}
+    seen_by_one = {tuple(hit) for hit in document.get("view", [])}
+    recorded = bytearray()
+    attempt, offset, rest = -1, 0, REST
+    for time in range(document["bits"]):
+        bus = min(port.drive() for port in ports)
+        offset += 1
+        if bus == DOMINANT and rest == REST:
+            attempt, offset = attempt + 1, 0
+        bus ^= time in on_wire or (attempt, offset) in in_attempt
+        rest = 0 if bus == DOMINANT else min(rest + 1, REST)
+        for place, port in enumerate(ports):
+            port.sample(bus ^ ((time, place) in seen_by_one))
+        recorded.append(bus)
+    yield f"bits {document['bits']}"
+    yield "".join(map(str, recorded))
+    for place, port in enumerate(ports):
+        transmit, receive = port.counters
+        yield f"port {place} {STATES[port.state]} tec {transmit} rec {receive} missed {port.missed}"
+        yield from (f"  {'sent' if entry.sent else 'took'} {text_of(entry.frame)}" for entry in port.log)
+
+
+def random_frame(chance: random.Random) -> str:
+    """The text of some frame."""
+    extended, remote, dlc = chance.random() < 0.4, chance.random() < 0.2, chance.randrange(16)
+    few = chance.random() < 0.5
+    identifier = chance.randrange(4 if few else 1 << (29 if extended else 11))
+    data = b"" if remote else bytes(chance.choice((0, 255, chance.randrange(256))) for _ in range(min(dlc, 8)))
+    return text_of(Frame(identifier, data, extended, remote, dlc))
+
+
+def random_scenario(seed: int, bits: int) -> Iterator[str]:
+    """The lines of a TOML document. Disturbances are rare enough that frames pass, and come in bursts."""
+    chance = random.Random(seed)
+    ports = 4
+    busy = [time for time in range(bits) if time // 5000 % 3 != 2]
+    times = sorted(chance.sample(busy, bits // 900))
+    hits = sorted({(chance.randrange(bits // 100), chance.randrange(140)) for _ in range(bits // 2000)})
+    views = sorted({(chance.choice(busy), chance.randrange(ports)) for _ in range(bits // 400)})
+    yield f"version = 1\nbits = {bits}\nat = {times}"
+    yield f"in = {[list(hit) for hit in hits]}\nview = {[list(view) for view in views]}"
+    for port in range(ports):
+        queue = ", ".join(f'"{random_frame(chance)}"' for _ in range(bits // 500))
+        yield f"[[port]]\nqueue = [{queue}]\nlog = {bits // 100}\njoin = {str(port == 3).lower()}\nhold = {port % 3}"
+
+
+def main() -> None:
+    """Runs one of the three."""
+    parser = argparse.ArgumentParser(description=__doc__, formatter_class=argparse.RawDescriptionHelpFormatter)
+    parser.add_argument("what", choices=("report", "plain", "random"))
+    parser.add_argument("numbers", nargs="*", type=int)
+    words = parser.parse_args()
+    if words.what == "random":
+        lines = random_scenario(*words.numbers)
+    else:
+        document = tomllib.loads(sys.stdin.read())
+        lines = report(document) if words.what == "report" else plain(document)
+    for line in lines:
+        print(line)
+
+
+if __name__ == "__main__":
+    main()

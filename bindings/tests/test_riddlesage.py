@@ -1,0 +1,258 @@
+"""Tests of the Python module: the rows of rows.txt, the example scenarios, refusals, and the example in its text."""
+
+from __future__ import annotations
+
+import ctypes
+import doctest
+import pathlib
+import subprocess
+import sys
+import tomllib
+import unittest
+from typing import Optional
+
+HERE = pathlib.Path(__file__).resolve().parent
+TOP = HERE.parent.parent
+sys.path[:0] = [str(HERE), str(HERE.parent / "python")]
+
+import riddlesage  # noqa: E402
+from riddlesage import Event, Fault, Frame, Port, Refused, State, Status, Told, decode, encode  # noqa: E402
+from scenarios import STATES, frame_of, report, text_of  # noqa: E402
+
+
+def levels_of(text: str) -> bytes:
+    """The levels of a text of `0` and `1`."""
+    return bytes(map(int, text))
+
+
+def name_of(code: Event | Status) -> str:
+    """The name of an event or a status, as rows.txt has it."""
+    return code.name.lower().replace("_", " ")
+
+
+def heard_text(levels: bytes) -> str:
+    """What decoding tells of levels, as rows.txt has it."""
+    try:
+        heard = decode(levels)
+    except Fault as fault:
+        return f"{fault.name.lower().replace('_', ' ')} {fault.place}"
+    words = [text_of(heard.frame), "ack" if heard.acknowledged else "noack"]
+    words += ["srr0"] * (heard.srr == 0) + ["r1"] * heard.r1 + ["r0"] * heard.r0 + ["eof0"] * (heard.last == 0)
+    return " ".join([*words, str(heard.length)])
+
+
+class Row:
+    """A row of rows.txt as it is played: its port, and what that drove and told."""
+
+    def __init__(self, in_one_call: bool) -> None:
+        self.port = Port(0, 0)
+        self.in_one_call = in_one_call
+        self.drove: list[int] = []
+        self.told: list[tuple[int, Told]] = []
+
+    def see(self, text: str) -> None:
+        """Samples levels, one by one or in one call."""
+        levels, now = levels_of(text), len(self.drove)
+        if self.in_one_call:
+            seen = len(self.port.log)
+            run = self.port.run(levels)
+            self.drove += run.drives
+            for time, event in run.told():
+                frame: Optional[Frame] = None
+                if event in (Event.SENT, Event.RECEIVED) and seen < len(self.port.log):
+                    frame, seen = self.port.entry(seen).frame, seen + 1
+                self.told.append((now + time, Told(event, frame)))
+            return
+        for time, level in enumerate(levels, now):
+            self.drove.append(self.port.drive())
+            told = self.port.sample(level)
+            if told:
+                self.told.append((time, told))
+
+    def next_told(self) -> str:
+        """The text of the next event."""
+        time, told = self.told.pop(0)
+        return f"{time} {name_of(told.event)}" + (f" {text_of(told.frame)}" if told.frame else "")
+
+    def hand_in(self, text: str) -> None:
+        """Makes a port, offers a frame, or asks for overload frames."""
+        word, rest = text.split(" ", 1)
+        if word == "offer":
+            self.port.offer(frame_of(rest))
+        elif word == "hold":
+            self.port.hold(int(rest))
+        else:
+            queue, log = map(int, rest.split())
+            self.port = Port(queue, log, joining=word == "joining")
+            self.drove.clear()
+
+    def holds(self, line: str) -> tuple[object, object]:
+        """What a line says, and what is so."""
+        word, _, rest = line.partition(" ")
+        if word == "see":
+            self.see(rest)
+            return None, None
+        if word == "told":
+            told = self.next_told()
+            return (rest, told) if not self.in_one_call or "S" in told else (rest[: len(told)], told)
+        if word == "drives":
+            return int(rest), self.port.drive()
+        if word == "drove":
+            time, levels = rest.split(" ")
+            return list(levels_of(levels)), self.drove[int(time) :][: len(levels)]
+        if word == "counters":
+            return tuple(map(int, rest.split())), tuple(self.port.counters)
+        if word == "state":
+            return rest, STATES[self.port.state]
+        if word == "missed":
+            return int(rest), self.port.missed
+        if word == "log":
+            entries = [f"{'sent' if entry.sent else 'received'} {text_of(entry.frame)}" for entry in self.port.log]
+            return rest, ", ".join(entries)
+        left, right = rest.split(" = ")
+        return (levels_of(right), encode(frame_of(left))) if word == "encode" else (right, heard_text(levels_of(left)))
+
+
+class Rows(unittest.TestCase):
+    """The rows of a controller and a port, of encoding and decoding."""
+
+    def play(self, in_one_call: bool) -> None:
+        """Plays every line of rows.txt."""
+        row = Row(in_one_call)
+        for line in (HERE / "rows.txt").read_text(encoding="ascii").splitlines():
+            if line.startswith("#"):
+                continue
+            with self.subTest(line):
+                if not line:
+                    self.assertEqual(row.told, [])
+                    continue
+                refusal, colon, call = line.rpartition(": ")
+                if call.split(" ")[0] in ("idle", "joining", "offer", "hold"):
+                    if not colon:
+                        row.hand_in(call)
+                    else:
+                        with self.assertRaises(Refused) as refused:
+                            row.hand_in(call)
+                        self.assertEqual(refusal, str(refused.exception))
+                    continue
+                wanted, given = row.holds(line)
+                self.assertEqual(wanted, given)
+
+    def test_one_by_one(self) -> None:
+        """Bit time by bit time."""
+        self.play(False)
+
+    def test_in_one_call(self) -> None:
+        """Each list of levels in one call."""
+        self.play(True)
+
+
+class Scenarios(unittest.TestCase):
+    """The example scenarios give their stored reports, and the trace what the README shows."""
+
+    def test_reports(self) -> None:
+        """Each scenario of examples/scenarios."""
+        for path in sorted((TOP / "examples" / "scenarios").glob("*.toml")):
+            with self.subTest(path.name):
+                lines = report(tomllib.loads(path.read_text(encoding="utf-8")))
+                self.assertEqual(path.with_suffix(".report").read_text(encoding="ascii").splitlines(), list(lines))
+
+    def test_trace(self) -> None:
+        """The script that decodes a trace."""
+        with (TOP / "examples" / "trace.txt").open("rb") as trace:
+            told = subprocess.run(
+                [sys.executable, HERE.parent / "examples" / "decode_trace.py"], stdin=trace, capture_output=True, check=True
+            )
+        lines = [
+            "11 S 123 D 0 ack",
+            "59 E 048c0000 D 0 noack",
+            "131 fault C3 at 136",
+            "148 S 001 D 0 ack",
+            "258 S 000 R 8 ack",
+        ]
+        self.assertEqual(told.stdout.decode("ascii").splitlines(), lines)
+
+
+class Refusals(unittest.TestCase):
+    """What is refused, and by which name."""
+
+    def refused(self, status: Status, call: object, *words: object) -> None:
+        """The call is refused so."""
+        assert callable(call)
+        with self.assertRaises(Refused) as refused:
+            call(*words)
+        self.assertEqual(status, refused.exception.status)
+
+    def test_frames(self) -> None:
+        """Frames that are none."""
+        for call in (Port().offer, encode):
+            self.refused(Status.BAD_IDENTIFIER, call, Frame(0x800))
+            self.refused(Status.BAD_IDENTIFIER, call, Frame(1 << 29, extended=True))
+            self.refused(Status.BAD_IDENTIFIER, call, Frame(1 << 40))
+            self.refused(Status.BAD_IDENTIFIER, call, Frame(-1))
+            self.refused(Status.BAD_DLC, call, Frame(0, remote=True, dlc=200))
+            self.refused(Status.BAD_DLC, call, Frame(0, remote=True, dlc=300))
+        for data, dlc, remote in ((b"", 1, False), (b"123456789", -1, False), (b"1", 1, True)):
+            with self.assertRaises(ValueError):
+                Frame(0, data, dlc=dlc, remote=remote)
+
+    def test_ports(self) -> None:
+        """Calls of a port."""
+        port = Port(1, 1)
+        self.refused(Status.BAD_LEVEL, port.sample, 2)
+        self.refused(Status.BAD_LEVEL, port.sample, -1)
+        self.refused(Status.BAD_LEVEL, port.run, b"\x00\x02")
+        self.refused(Status.NO_LEVELS, port.run, b"")
+        self.refused(Status.BAD_COUNT, port.hold, 3)
+        self.refused(Status.BAD_COUNT, port.hold, 1000)
+        self.refused(Status.NO_ENTRY, port.entry, 0)
+        self.refused(Status.NO_ENTRY, port.entry, -1)
+        port.offer(Frame(0))
+        self.refused(Status.QUEUE_FULL, port.offer, Frame(0))
+        for room in ((1 << 62, 1), (1, 1 << 62), (1 << 70, 1), (-1, 1)):
+            with self.assertRaises(MemoryError):
+                Port(*room)
+
+    def test_closed(self) -> None:
+        """A port that was closed."""
+        with Port() as port:
+            self.assertEqual(port.state, State.ERROR_ACTIVE)
+        port.close()
+        for call, *words in ((port.drive,), (port.sample, 1), (port.run, b"\x01"), (port.offer, Frame(0)), (port.hold, 0)):
+            self.refused(Status.NO_PORT, call, *words)
+        for name in ("counters", "state", "log", "missed"):
+            self.refused(Status.NO_PORT, getattr, port, name)
+
+    def test_faults(self) -> None:
+        """Levels with no frame."""
+        with self.assertRaises(Fault) as caught:
+            decode(bytes(6))
+        self.assertEqual(("STUFF", 5, "stuff at 5"), (caught.exception.name, caught.exception.place, str(caught.exception)))
+        with self.assertRaises(Fault) as caught:
+            decode(b"")
+        self.assertEqual(("SHORT", 0), (caught.exception.name, caught.exception.place))
+        self.refused(Status.BAD_LEVEL, decode, b"\x00\x07")
+
+    def test_names(self) -> None:
+        """The names are those of the library."""
+        for function, names in (
+            ("riddlesage_status_name", [name_of(status) for status in Status]),
+            ("riddlesage_event_name", [name_of(event) for event in Event]),
+        ):
+            told = getattr(riddlesage._lib, function)
+            told.restype = ctypes.c_char_p
+            self.assertEqual(names, [told(code).decode("ascii") for code in range(len(names))])
+            self.assertIsNone(told(len(names)))
+
+
+class Text(unittest.TestCase):
+    """The module's own text."""
+
+    def test_example(self) -> None:
+        """Its example does what it says."""
+        failed, tried = doctest.testmod(riddlesage)
+        self.assertEqual((failed, tried > 0), (0, True))
+
+
+if __name__ == "__main__":
+    unittest.main()

@@ -1,0 +1,5 @@
+mod StatusLemmas
+mod CodeLemmas
+mod FrameLemmas
+mod RunLemmas
+mod DecodeLemmas

@@ -1,0 +1,47 @@
+-- What the calls answer: the first refusal that fits, in the order in which they stand here.
+use Rattle.std.specs.Prelude.{ℕ, ◌==◌, nat_lt, nat_le, if◌then◌else◌, Option, Some, None, unwrap_or, List, length}
+use Rattle.can_frame.specs.Parts.{Parts}
+use Rattle.can_code.specs.Wire.{driven}
+use Rattle.can_node.specs.Ports.{PortState}
+use Rattle.can_c.specs.declared.plain.PlainFrame.{PlainFrame}
+use Rattle.can_c.specs.declared.status.Status.{Status}
+use Rattle.can_c.specs.declared.status.Status.TheVariants.{Done, NoPort, QueueFull, NoEntry, BadLevel, BadCount, NoLevels, NoRoom}
+use Rattle.can_c.specs.Codes.{are_levels, is_level_code}
+use Rattle.can_c.specs.PlainFrames.{frame_in, refusal}
+
+-- a call that a port never refuses
+abbrev pub port_status : Option PortState → Status
+port_status None = NoPort
+port_status (Some p) = Done
+
+-- a frame that is offered
+abbrev pub offer_status : Option PortState → PlainFrame → Status
+offer_status None frame = NoPort
+offer_status (Some p) frame = unwrap_or (refusal frame) (if nat_lt (length p.queue) p.queue_room then Done else QueueFull)
+
+-- a wish for so many overload frames
+abbrev pub hold_status : Option PortState → ℕ → Status
+hold_status None count = NoPort
+hold_status (Some p) count = if nat_le count 2 then Done else BadCount
+
+-- a level that is sampled
+abbrev pub sample_status : Option PortState → ℕ → Status
+sample_status None level = NoPort
+sample_status (Some p) level = if is_level_code level then Done else BadLevel
+
+-- levels that are sampled, with lists for what is driven and for the events of each bit time
+abbrev pub run_status : Option PortState → List ℕ → List ℕ → List ℕ → Status
+run_status None levels drives events = NoPort
+run_status (Some p) levels drives events =
+    if length levels == 0 then NoLevels
+    else if length drives == length levels then (if length events == length levels then (if are_levels levels then Done else BadLevel) else NoRoom)
+    else NoRoom
+
+-- the entry of the log with this number, counted from 0
+abbrev pub entry_status : Option PortState → ℕ → Status
+entry_status None number = NoPort
+entry_status (Some p) number = if nat_lt number (length p.log) then Done else NoEntry
+
+-- a frame that is encoded, with a list for its levels
+abbrev pub encode_status : PlainFrame → List ℕ → Status
+encode_status frame levels = unwrap_or (refusal frame) (if nat_le (length (driven (frame_in frame))) (length levels) then Done else NoRoom)

@@ -1,0 +1,5 @@
+pub mod Statuses
+pub mod Codes
+pub mod PlainFrames
+pub mod BitTimes
+pub mod Calls

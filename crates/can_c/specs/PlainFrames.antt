@@ -1,0 +1,48 @@
+-- Frames and what is heard of them as plain fields, as they cross to C: eight data bytes always, of which a
+-- frame has the first ones; flags and levels as 0 and 1. (Bosch CAN 2.0 part B, section 3.2.1)
+use Rattle.std.specs.Prelude.{ℕ, ◌-◌, ◌==◌, nat_lt, if◌then◌else◌, Option, Some, None, ◌++◌, length, take, replicate}
+use Rattle.can_frame.specs.Ident.{Ident, ident_count}
+use Rattle.can_frame.specs.Parts.{Parts, byte_count}
+use Rattle.can_code.specs.Heard.{HeardParts}
+use Rattle.can_c.specs.declared.plain.PlainFrame.{PlainFrame}
+use Rattle.can_c.specs.declared.plain.PlainHeard.{PlainHeard}
+use Rattle.can_c.specs.declared.status.Status.{Status}
+use Rattle.can_c.specs.declared.status.Status.TheVariants.{BadFlag, BadIdentifier, BadDlc}
+use Rattle.can_c.specs.Codes.{flag_code, level_code}
+
+-- why plain fields are no frame, the first reason that fits: a flag that is neither 0 nor 1, an identifier that
+-- its kind has not, a data length code above 15
+abbrev pub refusal : PlainFrame → Option Status
+refusal f =
+    if nat_lt 1 f.extended then Some BadFlag
+    else if nat_lt 1 f.remote then Some BadFlag
+    else if nat_lt f.identifier (ident_count (f.extended == 1)) then (if nat_lt 15 f.dlc then Some BadDlc else None)
+    else Some BadIdentifier
+
+abbrev pub ident_in : PlainFrame → Ident
+ident_in f = record { raw = f.identifier; extended = f.extended == 1 }
+
+-- the frame of plain fields
+abbrev pub frame_in : PlainFrame → Parts
+frame_in f = record { id = ident_in f; remote = f.remote == 1; dlc = f.dlc; bytes = take (byte_count (f.remote == 1) f.dlc) f.bytes }
+
+-- the plain fields of a frame: the data bytes that it has not are 0
+abbrev pub plain_frame : Parts → PlainFrame
+plain_frame f = record {
+  identifier = f.id.raw;
+  extended = flag_code f.id.extended;
+  remote = flag_code f.remote;
+  dlc = f.dlc;
+  bytes = f.bytes ++ replicate (8 - length f.bytes) 0;
+}
+
+-- the plain fields of what is heard
+abbrev pub plain_heard : HeardParts → PlainHeard
+plain_heard h = record {
+  frame = plain_frame h.frame;
+  acknowledged = flag_code h.acked;
+  srr = level_code h.srr;
+  r1 = level_code h.r1;
+  r0 = level_code h.r0;
+  last = level_code h.last;
+}

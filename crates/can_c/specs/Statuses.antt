@@ -1,0 +1,38 @@
+-- The numbers by which C knows what a call answers. They are those of bindings/riddlesage.h, where 1 and 2 are
+-- what it answers of pointers itself.
+use Rattle.std.specs.Prelude.{ℕ}
+use Rattle.can_code.specs.declared.fault.CodeFaultKind.{CodeFaultKind}
+use Rattle.can_code.specs.declared.fault.CodeFaultKind.TheVariants.{Short, NoStartOfFrame, Stuff, Crc, Form}
+use Rattle.can_c.specs.declared.status.Status.{Status}
+use Rattle.can_c.specs.declared.status.Status.TheVariants.{Done, NoPort, NoMemory, QueueFull, NoEntry, BadFlag, BadIdentifier, BadDlc, BadLevel, BadCount, NoLevels, NoRoom, ShortFrame, NoStart, StuffFault, CrcFault, FormFault}
+
+abbrev pub status_code : Status → ℕ
+status_code Done = 0
+status_code NoPort = 3
+status_code NoMemory = 4
+status_code QueueFull = 5
+status_code NoEntry = 6
+status_code BadFlag = 7
+status_code BadIdentifier = 8
+status_code BadDlc = 9
+status_code BadLevel = 10
+status_code BadCount = 11
+status_code NoLevels = 12
+status_code NoRoom = 13
+status_code ShortFrame = 14
+status_code NoStart = 15
+status_code StuffFault = 16
+status_code CrcFault = 17
+status_code FormFault = 18
+
+-- the call has done what it says
+abbrev pub done : ℕ
+done = status_code Done
+
+-- the status of a fault of levels
+abbrev pub fault_status : CodeFaultKind → Status
+fault_status Short = ShortFrame
+fault_status NoStartOfFrame = NoStart
+fault_status Stuff = StuffFault
+fault_status Crc = CrcFault
+fault_status Form = FormFault

@@ -1,0 +1,157 @@
+ghost use Rattle.std.specs.Prelude.{◌≡◌, ◌≢◌, Some, IfSome, length, map, option_map};
+ghost use Rattle.can_frame.specs.Levels.{level_of};
+ghost use Rattle.can_node.specs.Ports.{port_drives, port_event, port_events, port_run, port_step};
+ghost use Rattle.can_c.specs.BitTimes.{drives_over, told_frame};
+ghost use Rattle.can_c.specs.Calls.{port_status, run_status, sample_status};
+ghost use Rattle.can_c.specs.Codes.{event_code as event_code_of, level_code as level_code_of, levels_of_codes};
+ghost use Rattle.can_c.specs.Statuses.{done, status_code};
+
+use crate::codes::{are_levels, event_code, is_level, level_code, level_of_code};
+use crate::plain::PlainFrame;
+use crate::status::Status;
+use can_handle::{Controller, Handle};
+use can_mac::Event;
+use std::alloc::Global;
+
+/// Writes the level that the port drives in this bit time. It changes nothing at the port.
+#[unsafe(no_mangle)]
+pub extern "C" fn can_c_drive(alloc: Global, handle: &mut Handle, level: &mut u8) -> u8
+    ensures status { result ≡ status_code (port_status handle.old.held) }
+    ensures level { IfSome handle.old.held (λ p. level.new ≡ level_code_of (port_drives p)) }
+    ensures unchanged { handle.new.held ≡ handle.old.held }
+    ensures unwritten { result ≢ done → level.new ≡ level.old }
+{
+    match handle.take(alloc) {
+        None => Status::NoPort.code(),
+        Some(port) => {
+            *level = level_code(port.drive());
+            handle.put(alloc, port);
+            Status::Done.code()
+        }
+    }
+}
+
+/// Has the port sample the level that the bus has in this bit time, and writes the number of what it brought, and
+/// the frame where one was sent or received.
+#[tactic(auto, using(crate::proofs::StatusLemmas::done_only, crate::proofs::StatusLemmas::not_done))]
+#[unsafe(no_mangle)]
+pub extern "C" fn can_c_sample(
+    alloc: Global,
+    handle: &mut Handle,
+    level: u8,
+    event: &mut u8,
+    frame: &mut PlainFrame,
+) -> u8
+    ensures status { result ≡ status_code (sample_status handle.old.held level) }
+    ensures step { result ≡ done → handle.new.held ≡ option_map (λ p. port_step p (level_of level)) handle.old.held }
+    ensures event { result ≡ done → IfSome handle.old.held (λ p. event.new ≡ event_code_of (port_event p (level_of level))) }
+    ensures frame { result ≡ done → IfSome handle.old.held (λ p. frame.new ≡ told_frame (port_event p (level_of level)) frame.old) }
+    ensures unchanged { result ≢ done → handle.new.held ≡ handle.old.held }
+    ensures unwritten { result ≢ done → (event.new ≡ event.old) × (frame.new ≡ frame.old) }
+{
+    match handle.take(alloc) {
+        None => Status::NoPort.code(),
+        Some(mut port) => {
+            let status = sample(&mut port, level, event, frame);
+            handle.put(alloc, port);
+            status.code()
+        }
+    }
+}
+
+/// Has a port sample a level, and writes what this brought.
+fn sample(port: &mut Controller, level: u8, event: &mut u8, frame: &mut PlainFrame) -> Status
+    ensures status { result ≡ sample_status (Some port.old) level }
+    ensures step { result ≡ Status.Done → port.new ≡ port_step port.old (level_of level) }
+    ensures event { result ≡ Status.Done → event.new ≡ event_code_of (port_event port.old (level_of level)) }
+    ensures frame { result ≡ Status.Done → frame.new ≡ told_frame (port_event port.old (level_of level)) frame.old }
+    ensures unchanged { result ≢ Status.Done → port.new ≡ port.old }
+    ensures unwritten { result ≢ Status.Done → (event.new ≡ event.old) × (frame.new ≡ frame.old) }
+{
+    if !is_level(level) {
+        return Status::BadLevel;
+    }
+    let told = port.sample(level_of_code(level));
+    *event = event_code(&told);
+    tell(&told, frame);
+    Status::Done
+}
+
+/// Writes the frame that was sent or received, if one was.
+fn tell(event: &Option<Event>, frame: &mut PlainFrame)
+    ensures { frame.new ≡ told_frame event.now frame.old }
+{
+    match event {
+        Some(Event::Sent(told)) => *frame = PlainFrame::of(told),
+        Some(Event::Received(told)) => *frame = PlainFrame::of(told),
+        Some(
+            Event::Lost | Event::Error(_) | Event::Overload | Event::WentOff | Event::Recovered,
+        )
+        | None => {}
+    }
+}
+
+/// Has the port sample these levels, one a bit time, and writes for each bit time the level that it drove, and the
+/// number of what it brought. All three are of one length. A level that is none is refused before the first one is
+/// sampled.
+#[tactic(auto, using(crate::proofs::StatusLemmas::done_only, crate::proofs::StatusLemmas::not_done))]
+#[unsafe(no_mangle)]
+pub extern "C" fn can_c_run(
+    alloc: Global,
+    handle: &mut Handle,
+    levels: &[u8],
+    drives: &mut [u8],
+    events: &mut [u8],
+) -> u8
+    ensures status { result ≡ status_code (run_status handle.old.held levels.now drives.old events.old) }
+    ensures run { result ≡ done → handle.new.held ≡ option_map (λ p. port_run p (levels_of_codes levels.now)) handle.old.held }
+    ensures drives { result ≡ done → IfSome handle.old.held (λ p. drives.new ≡ map level_code_of (drives_over p (levels_of_codes levels.now))) }
+    ensures events { result ≡ done → IfSome handle.old.held (λ p. events.new ≡ map event_code_of (port_events p (levels_of_codes levels.now))) }
+    ensures unchanged { result ≢ done → handle.new.held ≡ handle.old.held }
+    ensures unwritten { result ≢ done → (drives.new ≡ drives.old) × (events.new ≡ events.old) }
+{
+    match handle.take(alloc) {
+        None => Status::NoPort.code(),
+        Some(mut port) => {
+            let status = run(&mut port, levels, drives, events);
+            handle.put(alloc, port);
+            status.code()
+        }
+    }
+}
+
+/// Has a port sample levels, and writes what it drove and told.
+fn run(port: &mut Controller, levels: &[u8], drives: &mut [u8], events: &mut [u8]) -> Status
+    ensures status { result ≡ run_status (Some port.old) levels.now drives.old events.old }
+    ensures run { result ≡ Status.Done → port.new ≡ port_run port.old (levels_of_codes levels.now) }
+    ensures drives { result ≡ Status.Done → drives.new ≡ map level_code_of (drives_over port.old (levels_of_codes levels.now)) }
+    ensures events { result ≡ Status.Done → events.new ≡ map event_code_of (port_events port.old (levels_of_codes levels.now)) }
+    ensures unchanged { result ≢ Status.Done → port.new ≡ port.old }
+    ensures unwritten { result ≢ Status.Done → (drives.new ≡ drives.old) × (events.new ≡ events.old) }
+{
+    if levels.is_empty() {
+        return Status::NoLevels;
+    }
+    if drives.len() != levels.len() || events.len() != levels.len() {
+        return Status::NoRoom;
+    }
+    if !are_levels(levels) {
+        return Status::BadLevel;
+    }
+    pass(port, levels, drives, events);
+    Status::Done
+}
+
+/// Takes a port through as many bit times as there are levels.
+fn pass(port: &mut Controller, levels: &[u8], drives: &mut [u8], events: &mut [u8])
+    requires drives { length drives.old ≡ length levels.now }
+    requires events { length events.old ≡ length levels.now }
+    ensures run { port.new ≡ port_run port.old (levels_of_codes levels.now) }
+    ensures drives { drives.new ≡ map level_code_of (drives_over port.old (levels_of_codes levels.now)) }
+    ensures events { events.new ≡ map event_code_of (port_events port.old (levels_of_codes levels.now)) }
+{
+    for place in 0..levels.len() {
+        drives[place] = level_code(port.drive());
+        events[place] = event_code(&port.sample(level_of_code(levels[place])));
+    }
+}

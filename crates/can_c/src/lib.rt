@@ -1,0 +1,36 @@
+//! The controller and the coding of frames as a static library, for C and for what calls C.
+//!
+//! Each export does what one call of can_node or can_code does, and promises it in the same definitions. What
+//! crosses are numbers, structs of numbers and slices of them: a port is a [`Handle`], a frame a
+//! [`PlainFrame`], a level the number 0 or 1. Every number that is none of a field's is refused by a
+//! [`Status`], and then nothing has changed.
+//!
+//! | File | What it has | Defined in |
+//! |---|---|---|
+//! | `status.rt` | [`Status`], what a call answers | `specs/Codes.antt` |
+//! | `codes.rt` | the numbers of events, states and levels | `specs/Codes.antt` |
+//! | `plain.rt` | [`PlainFrame`], [`PlainHeard`], frames as plain fields | `specs/PlainFrames.antt` |
+//! | `ports.rt` | the exports that make a port, and what is done at one between two bit times | `specs/Calls.antt` |
+//! | `bit_times.rt` | the exports that take a port through bit times, one or many | `specs/Calls.antt`, `specs/BitTimes.antt` |
+//! | `told.rt` | the exports that tell of a port: counters, state, log | `specs/Calls.antt` |
+//! | `coding.rt` | the exports that encode and decode | `specs/Calls.antt` |
+//!
+//! bindings/ has the header, what else a program in C needs, and a module for Python.
+#![tactic(auto)]
+
+mod bit_times;
+mod codes;
+mod coding;
+mod plain;
+mod ports;
+mod status;
+#[cfg(test)]
+mod tests;
+mod told;
+
+pub use bit_times::{can_c_drive, can_c_run, can_c_sample};
+pub use coding::{can_c_decode, can_c_encode};
+pub use plain::{PlainFrame, PlainHeard};
+pub use ports::{can_c_free, can_c_hold, can_c_idle, can_c_joining, can_c_offer};
+pub use status::Status;
+pub use told::{can_c_counters, can_c_entry, can_c_log_length, can_c_missed, can_c_state};

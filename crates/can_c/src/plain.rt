@@ -1,0 +1,145 @@
+ghost use Rattle.std.specs.Prelude.{◌≡◌, ◌≢◌, ◌<◌, ◌≤◌, ◌-◌, ◌++◌, ◌==◌, false, length, replicate, take, IfErr, IfOk, IfSome, IsNone};
+ghost use Rattle.can_frame.specs.Ident.{ident_count};
+ghost use Rattle.can_frame.specs.Parts.{byte_count};
+ghost use Rattle.can_c.specs.PlainFrames.{frame_in, ident_in, plain_frame, plain_heard, refusal};
+
+use crate::codes::{flag_code, level_code};
+use crate::status::Status;
+use can_code::Heard;
+use can_frame::{Frame, Id};
+
+/// A frame as plain fields. Each content is allowed; what is no frame is refused where it is handed in.
+/// (Bosch CAN 2.0 part B, section 3.2.1)
+#[repr(C)]
+#[derive(Clone, Copy, Debug)]
+pub struct PlainFrame {
+    /// 0 to 2^11 - 1, or to 2^29 - 1 where it is extended.
+    pub identifier: u32,
+    /// 1 where the identifier has 29 bits, else 0.
+    pub extended: u8,
+    /// 1 for a remote frame, else 0.
+    pub remote: u8,
+    /// The data length code, 0 to 15.
+    pub dlc: u8,
+    /// The data bytes. Of these a data frame has the first, as many as the lesser of the DLC and 8, and a remote
+    /// frame none; the others are not read, and written as 0.
+    pub bytes: [u8; 8],
+}
+
+/// A frame as it is heard on the bus, as plain fields: with the levels that a receiver takes at either value, each
+/// 0 for dominant or 1 for recessive. (Bosch CAN 2.0 part B, sections 3.2.1 and 5)
+#[repr(C)]
+#[derive(Clone, Copy, Debug)]
+pub struct PlainHeard {
+    /// The frame.
+    pub frame: PlainFrame,
+    /// 1 where a receiver has acknowledged it, else 0.
+    pub acknowledged: u8,
+    /// The SRR bit, recessive in a standard frame, which has none.
+    pub srr: u8,
+    /// The reserved bit r1, dominant in a standard frame, which has none.
+    pub r1: u8,
+    /// The reserved bit r0.
+    pub r0: u8,
+    /// The last level of the end of frame.
+    pub last: u8,
+}
+
+impl PlainFrame {
+    /// The frame, or the first reason why there is none.
+    pub fn frame(&self) -> Result<Frame, Status>
+        ensures refused { IfErr result (λ why. refusal self.now ≡ Some why) }
+        ensures named { IfErr result (λ why. why ≢ Status.Done) }
+        ensures none { IfOk result (λ f. refusal self.now ≡ None) }
+        ensures frame { IfOk result (λ f. f ≡ frame_in self.now) }
+    {
+        if self.extended > 1 {
+            return Err(Status::BadFlag);
+        }
+        if self.remote > 1 {
+            return Err(Status::BadFlag);
+        }
+        let Some(id) = self.id() else {
+            return Err(Status::BadIdentifier);
+        };
+        match self.frame_of(id) {
+            Some(frame) => Ok(frame),
+            None => Err(Status::BadDlc),
+        }
+    }
+
+    /// The frame with this identifier, if the DLC is one.
+    fn frame_of(&self, id: Id) -> Option<Frame>
+        ensures none { IsNone result → 15 < self.now.dlc }
+        ensures within { IfSome result (λ f. self.now.dlc ≤ 15) }
+        ensures frame { IfSome result (λ f. f ≡ record { id = id; remote = self.now.remote == 1; dlc = self.now.dlc; bytes = take (byte_count (self.now.remote == 1) self.now.dlc) self.now.bytes }) }
+    {
+        if self.remote == 1 {
+            return Frame::remote(id, self.dlc).ok();
+        }
+        Frame::data(id, self.dlc, self.used_bytes()).ok()
+    }
+
+    /// The identifier, if its kind has one of this number.
+    fn id(&self) -> Option<Id>
+        requires { self.now.extended < 2 }
+        ensures none { IsNone result → ident_count (self.now.extended == 1) ≤ self.now.identifier }
+        ensures within { IfSome result (λ id. self.now.identifier < ident_count (self.now.extended == 1)) }
+        ensures id { IfSome result (λ id. id ≡ ident_in self.now) }
+    {
+        if self.extended == 1 {
+            return Id::extended(self.identifier);
+        }
+        if self.identifier < 0x800 {
+            return Id::standard(self.identifier as u16);
+        }
+        None
+    }
+
+    /// The data bytes of a data frame with this DLC.
+    fn used_bytes(&self) -> &[u8]
+        ensures { result.now ≡ take (byte_count false self.now.dlc) self.now.bytes }
+    {
+        &self.bytes[..usize::from(self.dlc).min(8)]
+    }
+
+    /// The plain fields of a frame.
+    #[tactic(auto, using(crate::proofs::FrameLemmas::few_bytes))]
+    pub fn of(frame: &Frame) -> PlainFrame
+        ensures { result ≡ plain_frame frame.now }
+    {
+        PlainFrame {
+            identifier: frame.id().raw(),
+            extended: flag_code(frame.is_extended()),
+            remote: flag_code(frame.is_remote()),
+            dlc: frame.dlc(),
+            bytes: padded(frame.bytes()),
+        }
+    }
+}
+
+impl PlainHeard {
+    /// The plain fields of what is heard.
+    pub fn of(heard: &Heard) -> PlainHeard
+        ensures { result ≡ plain_heard heard.now }
+    {
+        PlainHeard {
+            frame: PlainFrame::of(&heard.frame()),
+            acknowledged: flag_code(heard.acked()),
+            srr: level_code(heard.srr()),
+            r1: level_code(heard.r1()),
+            r0: level_code(heard.r0()),
+            last: level_code(heard.last()),
+        }
+    }
+}
+
+/// These bytes, and zeros behind them.
+fn padded(bytes: &[u8]) -> [u8; 8]
+    requires { length bytes.now ≤ 8 }
+    ensures { result ≡ bytes.now ++ replicate (8 - length bytes.now) 0 }
+{
+    let mut data = [0; 8];
+    data[..bytes.len()].copy_from_slice(bytes);
+    data
+}

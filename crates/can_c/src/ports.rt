@@ -1,0 +1,118 @@
+ghost use Rattle.std.specs.Prelude.{◌≡◌, ◌≢◌, None, Some, option_map};
+ghost use Rattle.can_mac.specs.State.{idle, joining};
+ghost use Rattle.can_node.specs.Ports.{fresh_port, port_offered, port_holding};
+ghost use Rattle.can_c.specs.Calls.{hold_status, offer_status};
+ghost use Rattle.can_c.specs.PlainFrames.{frame_in};
+ghost use Rattle.can_c.specs.Statuses.{done, status_code};
+
+use crate::plain::PlainFrame;
+use crate::status::Status;
+use can_handle::{Controller, Handle};
+use std::alloc::Global;
+
+/// Makes a port that is on the bus and idle, with room for so many frames that wait and so many entries of the
+/// log, and frees the one that the handle held. Without memory for it nothing changes.
+#[unsafe(no_mangle)]
+pub extern "C" fn can_c_idle(alloc: Global, handle: &mut Handle, queue: usize, log: usize) -> u8
+    ensures answers { result ≢ done → result ≡ status_code Status.NoMemory }
+    ensures made { result ≡ done → handle.new.held ≡ Some (fresh_port idle queue log) }
+    ensures unchanged { result ≢ done → handle.new.held ≡ handle.old.held }
+{
+    let Ok(port) = Controller::idle(alloc, queue, log) else {
+        return Status::NoMemory.code();
+    };
+    put(alloc, handle, port)
+}
+
+/// The same, of a port that waits for eleven recessive levels in a row before it is on the bus.
+#[unsafe(no_mangle)]
+pub extern "C" fn can_c_joining(
+    alloc: Global,
+    handle: &mut Handle,
+    queue: usize,
+    log: usize,
+) -> u8
+    ensures answers { result ≢ done → result ≡ status_code Status.NoMemory }
+    ensures made { result ≡ done → handle.new.held ≡ Some (fresh_port joining queue log) }
+    ensures unchanged { result ≢ done → handle.new.held ≡ handle.old.held }
+{
+    let Ok(port) = Controller::joining(alloc, queue, log) else {
+        return Status::NoMemory.code();
+    };
+    put(alloc, handle, port)
+}
+
+/// Puts a port on the heap and into the handle, if there is memory for it.
+fn put(alloc: Global, handle: &mut Handle, port: Controller) -> u8
+    ensures answers { result ≢ done → result ≡ status_code Status.NoMemory }
+    ensures made { result ≡ done → handle.new.held ≡ Some port }
+    ensures unchanged { result ≢ done → handle.new.held ≡ handle.old.held }
+{
+    let Ok(port) = Box::new(alloc, port) else {
+        return Status::NoMemory.code();
+    };
+    handle.put(alloc, port);
+    Status::Done.code()
+}
+
+/// Frees the port, if there is one.
+#[unsafe(no_mangle)]
+pub extern "C" fn can_c_free(alloc: Global, handle: &mut Handle)
+    ensures { handle.new.held ≡ None }
+{
+    drop(handle.take(alloc));
+}
+
+/// Offers a frame, which then waits behind those that were offered before.
+#[tactic(auto, using(crate::proofs::StatusLemmas::done_only, crate::proofs::StatusLemmas::not_done))]
+#[unsafe(no_mangle)]
+pub extern "C" fn can_c_offer(alloc: Global, handle: &mut Handle, frame: &PlainFrame) -> u8
+    ensures status { result ≡ status_code (offer_status handle.old.held frame.now) }
+    ensures offered { result ≡ done → handle.new.held ≡ option_map (port_offered (frame_in frame.now)) handle.old.held }
+    ensures unchanged { result ≢ done → handle.new.held ≡ handle.old.held }
+{
+    match handle.take(alloc) {
+        None => Status::NoPort.code(),
+        Some(mut port) => {
+            let status = offer(&mut port, frame);
+            handle.put(alloc, port);
+            status.code()
+        }
+    }
+}
+
+/// Offers a frame at a port.
+fn offer(port: &mut Controller, frame: &PlainFrame) -> Status
+    ensures status { result ≡ offer_status (Some port.old) frame.now }
+    ensures offered { result ≡ Status.Done → port.new ≡ port_offered (frame_in frame.now) port.old }
+    ensures unchanged { result ≢ Status.Done → port.new ≡ port.old }
+{
+    match frame.frame() {
+        Err(why) => why,
+        Ok(frame) => match port.offer(frame) {
+            Ok(()) => Status::Done,
+            Err(_) => Status::QueueFull,
+        },
+    }
+}
+
+/// Asks for so many overload frames of the port's own, 0 to 2, in place of an earlier wish.
+#[unsafe(no_mangle)]
+pub extern "C" fn can_c_hold(alloc: Global, handle: &mut Handle, count: u8) -> u8
+    ensures status { result ≡ status_code (hold_status handle.old.held count) }
+    ensures held { result ≡ done → handle.new.held ≡ option_map (port_holding count) handle.old.held }
+    ensures unchanged { result ≢ done → handle.new.held ≡ handle.old.held }
+{
+    match handle.take(alloc) {
+        None => Status::NoPort.code(),
+        Some(mut port) => {
+            let asked = port.hold(count);
+            handle.put(alloc, port);
+            if asked {
+                Status::Done.code()
+            } else {
+                Status::BadCount.code()
+            }
+        }
+    }
+}

@@ -1,0 +1,83 @@
+ghost use Rattle.std.specs.Prelude.{◌≡◌};
+ghost use Rattle.can_c.specs.Statuses.{fault_status, status_code};
+
+use can_code::CodeFaultKind;
+
+/// What a call answers.
+#[derive(Clone, Copy, Debug, PartialEq, Eq)]
+pub enum Status {
+    /// The call has done what it says.
+    Done,
+    /// The handle holds no port: none was made, or it was freed.
+    NoPort,
+    /// There was no memory for the port.
+    NoMemory,
+    /// The queue of the port is full.
+    QueueFull,
+    /// The log has no entry of this number.
+    NoEntry,
+    /// `extended` or `remote` is neither 0 nor 1.
+    BadFlag,
+    /// The identifier is 2^11 or more and not extended, or 2^29 or more.
+    BadIdentifier,
+    /// The DLC is above 15.
+    BadDlc,
+    /// A level is neither 0 nor 1.
+    BadLevel,
+    /// More than two overload frames were asked for.
+    BadCount,
+    /// No levels were handed in.
+    NoLevels,
+    /// A list for what is told is too short.
+    NoRoom,
+    /// The levels end before the frame does.
+    ShortFrame,
+    /// The first level is recessive.
+    NoStart,
+    /// A stuff place repeats the level before it.
+    StuffFault,
+    /// The check sequence is wrong.
+    CrcFault,
+    /// A level of fixed form is dominant.
+    FormFault,
+}
+
+impl Status {
+    /// Its number.
+    pub fn code(self) -> u8
+        ensures { result ≡ status_code self }
+    {
+        match self {
+            Status::Done => 0,
+            Status::NoPort => 3,
+            Status::NoMemory => 4,
+            Status::QueueFull => 5,
+            Status::NoEntry => 6,
+            Status::BadFlag => 7,
+            Status::BadIdentifier => 8,
+            Status::BadDlc => 9,
+            Status::BadLevel => 10,
+            Status::BadCount => 11,
+            Status::NoLevels => 12,
+            Status::NoRoom => 13,
+            Status::ShortFrame => 14,
+            Status::NoStart => 15,
+            Status::StuffFault => 16,
+            Status::CrcFault => 17,
+            Status::FormFault => 18,
+        }
+    }
+
+    /// The status of a fault of levels.
+    pub(crate) fn of_fault(kind: CodeFaultKind) -> Status
+        ensures { result ≡ fault_status kind }
+    {
+        match kind {
+            CodeFaultKind::Short => Status::ShortFrame,
+            CodeFaultKind::NoStartOfFrame => Status::NoStart,
+            CodeFaultKind::Stuff => Status::StuffFault,
+            CodeFaultKind::Crc => Status::CrcFault,
+            CodeFaultKind::Form => Status::FormFault,
+        }
+    }
+}

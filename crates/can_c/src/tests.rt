@@ -1,0 +1,188 @@
+use crate::{
+    PlainFrame, PlainHeard, can_c_counters, can_c_decode, can_c_drive, can_c_encode, can_c_entry,
+    can_c_free, can_c_hold, can_c_idle, can_c_joining, can_c_log_length, can_c_missed, can_c_offer,
+    can_c_run, can_c_sample, can_c_state,
+};
+use can_handle::Handle;
+use std::process::Abort;
+use std::test::Fail;
+
+/// The levels of the standard data frame 001 without data, acknowledged, and where its ACK slot stands.
+const WIRE_001: &[u8; 47] = b"00000100000101000001000100010000100111011111111";
+
+const ACK_SLOT: usize = 38;
+
+/// The levels of a text of `0` and `1`.
+fn levels_of(text: &[u8; 47]) -> [u8; 47] {
+    let mut levels = [0; 47];
+    for place in 0..47 {
+        levels[place] = u8::from(text[place] == b'1');
+    }
+    levels
+}
+
+/// The frame of [`WIRE_001`].
+fn frame_001() -> PlainFrame {
+    PlainFrame {
+        identifier: 1,
+        extended: 0,
+        remote: 0,
+        dlc: 0,
+        bytes: [0; 8],
+    }
+}
+
+/// A frame of which nothing is that of [`frame_001`].
+fn other_frame() -> PlainFrame {
+    PlainFrame {
+        identifier: 0x1fff_ffff,
+        extended: 1,
+        remote: 1,
+        dlc: 15,
+        bytes: [7; 8],
+    }
+}
+
+fn assert_is_001(rt: &impl Abort, frame: &PlainFrame) {
+    assert_eq!(rt; (frame.identifier, frame.extended, frame.remote, frame.dlc), (1, 0, 0, 0));
+    assert_eq!(rt; frame.bytes, [0; 8]);
+}
+
+/// Lets go of a handle, with the port that it holds.
+fn let_go(rt: &HostRuntime, handle: Handle) {
+    drop(handle.into_box(rt.alloc()));
+}
+
+#[test]
+fn a_frame_is_encoded(rt: HostRuntime) -> Result<(), Fail> {
+    let mut levels = [9; 60];
+    let mut count = 0;
+    let mut wire = levels_of(WIRE_001);
+    wire[ACK_SLOT] = 1;
+    assert_eq!(rt; can_c_encode(&frame_001(), &mut levels, &mut count), 0);
+    assert_eq!(rt; &levels[..count], wire.as_slice());
+    assert_eq!(rt; levels[count], 9);
+    Ok(())
+}
+
+#[test]
+fn what_is_no_frame_is_refused(rt: HostRuntime) -> Result<(), Fail> {
+    let mut levels = [9; 157];
+    let mut count = 0;
+    let rows = [
+        (0x7ff, 0, 0, 15, 0),
+        (0x800, 0, 0, 0, 8),
+        (0x1fff_ffff, 1, 1, 15, 0),
+        (0x2000_0000, 1, 0, 0, 8),
+        (0, 2, 0, 0, 7),
+        (0, 0, 2, 0, 7),
+        (0, 0, 0, 16, 9),
+        (0, 0, 1, 200, 9),
+    ];
+    for (identifier, extended, remote, dlc, status) in rows {
+        let frame = PlainFrame {
+            identifier,
+            extended,
+            remote,
+            dlc,
+            bytes: [0; 8],
+        };
+        assert_eq!(rt; can_c_encode(&frame, &mut levels, &mut count), status);
+    }
+    let mut short = [9; 46];
+    assert_eq!(rt; can_c_encode(&frame_001(), &mut short, &mut count), 13);
+    Ok(())
+}
+
+#[test]
+fn levels_are_decoded(rt: HostRuntime) -> Result<(), Fail> {
+    let mut place = 9;
+    let mut heard = PlainHeard {
+        frame: other_frame(),
+        acknowledged: 9,
+        srr: 9,
+        r1: 9,
+        r0: 9,
+        last: 9,
+    };
+    assert_eq!(rt; can_c_decode(&[0; 6], &mut heard, &mut place), 16);
+    assert_eq!(rt; (place, heard.acknowledged), (5, 9));
+    assert_eq!(rt; can_c_decode(&[], &mut heard, &mut place), 14);
+    assert_eq!(rt; can_c_decode(&[1], &mut heard, &mut place), 15);
+    assert_eq!(rt; can_c_decode(&[2], &mut heard, &mut place), 10);
+    assert_eq!(rt; can_c_decode(&levels_of(WIRE_001), &mut heard, &mut place), 0);
+    assert_is_001(&rt, &heard.frame);
+    assert_eq!(rt; (place, heard.acknowledged, heard.srr), (47, 1, 1));
+    assert_eq!(rt; (heard.r1, heard.r0, heard.last), (0, 0, 1));
+    Ok(())
+}
+
+#[test]
+fn a_port_receives(rt: HostRuntime) -> Result<(), Fail> {
+    let mut handle = Handle::empty();
+    let mut drives = [9; 47];
+    let mut events = [9; 47];
+    let mut told = other_frame();
+    let mut sent = 9;
+    let made = can_c_idle(rt.alloc(), &mut handle, 0, 1);
+    let run = can_c_run(rt.alloc(), &mut handle, &levels_of(WIRE_001), &mut drives, &mut events);
+    let entry = can_c_entry(rt.alloc(), &mut handle, 0, &mut told, &mut sent);
+    let none = can_c_entry(rt.alloc(), &mut handle, 1, &mut told, &mut sent);
+    let_go(&rt, handle);
+    assert_eq!(rt; (made, run, entry, none), (0, 0, 0, 6));
+    assert_eq!(rt; (drives[ACK_SLOT], drives[0], events[44], events[45], sent), (0, 1, 0, 2, 0));
+    assert_is_001(&rt, &told);
+    Ok(())
+}
+
+#[test]
+fn a_port_tells_of_itself(rt: HostRuntime) -> Result<(), Fail> {
+    let mut handle = Handle::empty();
+    let (mut transmit, mut receive, mut state) = (9, 9, 9);
+    let (mut count, mut missed) = (9, 9);
+    let made = can_c_idle(rt.alloc(), &mut handle, 0, 1);
+    let counters = can_c_counters(rt.alloc(), &mut handle, &mut transmit, &mut receive);
+    let states = can_c_state(rt.alloc(), &mut handle, &mut state);
+    let length = can_c_log_length(rt.alloc(), &mut handle, &mut count);
+    let misses = can_c_missed(rt.alloc(), &mut handle, &mut missed);
+    let_go(&rt, handle);
+    assert_eq!(rt; (made, counters, states, length, misses), (0, 0, 0, 0, 0));
+    assert_eq!(rt; (transmit, receive, state, count, missed), (0, 0, 0, 0, 0));
+    Ok(())
+}
+
+#[test]
+fn a_port_sends(rt: HostRuntime) -> Result<(), Fail> {
+    let mut handle = Handle::empty();
+    let mut told = other_frame();
+    let (mut level, mut event) = (9, 9);
+    let made = can_c_idle(rt.alloc(), &mut handle, 1, 1);
+    let offered = can_c_offer(rt.alloc(), &mut handle, &frame_001());
+    let full = can_c_offer(rt.alloc(), &mut handle, &frame_001());
+    let driven = can_c_drive(rt.alloc(), &mut handle, &mut level);
+    let sampled = can_c_sample(rt.alloc(), &mut handle, 1, &mut event, &mut told);
+    let_go(&rt, handle);
+    assert_eq!(rt; (made, offered, full, driven, sampled), (0, 0, 5, 0, 0));
+    // its start of frame is not on the bus: a bit error
+    assert_eq!(rt; (level, event), (0, 4));
+    Ok(())
+}
+
+#[test]
+fn what_a_port_has_not_is_refused(rt: HostRuntime) -> Result<(), Fail> {
+    let mut handle = Handle::empty();
+    let mut told = other_frame();
+    let (mut level, mut event) = (9, 9);
+    let none = can_c_drive(rt.alloc(), &mut handle, &mut level);
+    let made = can_c_joining(rt.alloc(), &mut handle, 1, 0);
+    let offered = can_c_offer(rt.alloc(), &mut handle, &frame_001());
+    let driven = can_c_drive(rt.alloc(), &mut handle, &mut level);
+    let held = can_c_hold(rt.alloc(), &mut handle, 3);
+    let sampled = can_c_sample(rt.alloc(), &mut handle, 2, &mut event, &mut told);
+    can_c_free(rt.alloc(), &mut handle);
+    let freed = can_c_hold(rt.alloc(), &mut handle, 1);
+    let_go(&rt, handle);
+    assert_eq!(rt; (none, made, offered, driven, level), (3, 0, 0, 0, 1));
+    assert_eq!(rt; (held, sampled, event, freed), (11, 10, 9, 3));
+    Ok(())
+}

@@ -1,0 +1,136 @@
+ghost use Rattle.std.specs.Prelude.{◌≡◌, ◌≢◌, IfSome, Some, length, slice_get};
+ghost use Rattle.can_fault.specs.Counters.{state_of};
+ghost use Rattle.can_c.specs.Calls.{entry_status, port_status};
+ghost use Rattle.can_c.specs.Codes.{flag_code as flag_code_of, state_code as state_code_of};
+ghost use Rattle.can_c.specs.PlainFrames.{plain_frame};
+ghost use Rattle.can_c.specs.Statuses.{done, status_code};
+
+use crate::codes::{flag_code, state_code};
+use crate::plain::PlainFrame;
+use crate::status::Status;
+use can_handle::{Controller, Handle};
+use std::alloc::Global;
+
+/// Writes the transmit and the receive error counter.
+#[unsafe(no_mangle)]
+pub extern "C" fn can_c_counters(
+    alloc: Global,
+    handle: &mut Handle,
+    transmit: &mut u16,
+    receive: &mut u16,
+) -> u8
+    ensures status { result ≡ status_code (port_status handle.old.held) }
+    ensures transmit { IfSome handle.old.held (λ p. transmit.new ≡ p.mac.counters.tec) }
+    ensures receive { IfSome handle.old.held (λ p. receive.new ≡ p.mac.counters.rec) }
+    ensures unchanged { handle.new.held ≡ handle.old.held }
+    ensures unwritten { result ≢ done → (transmit.new ≡ transmit.old) × (receive.new ≡ receive.old) }
+{
+    match handle.take(alloc) {
+        None => Status::NoPort.code(),
+        Some(port) => {
+            let (tec, rec) = port.counters();
+            *transmit = tec;
+            *receive = rec;
+            handle.put(alloc, port);
+            Status::Done.code()
+        }
+    }
+}
+
+/// Writes the number of the state of fault confinement.
+#[unsafe(no_mangle)]
+pub extern "C" fn can_c_state(alloc: Global, handle: &mut Handle, state: &mut u8) -> u8
+    ensures status { result ≡ status_code (port_status handle.old.held) }
+    ensures state { IfSome handle.old.held (λ p. state.new ≡ state_code_of (state_of p.mac.counters)) }
+    ensures unchanged { handle.new.held ≡ handle.old.held }
+    ensures unwritten { result ≢ done → state.new ≡ state.old }
+{
+    match handle.take(alloc) {
+        None => Status::NoPort.code(),
+        Some(port) => {
+            *state = state_code(port.state());
+            handle.put(alloc, port);
+            Status::Done.code()
+        }
+    }
+}
+
+/// Writes how many entries the log has.
+#[unsafe(no_mangle)]
+pub extern "C" fn can_c_log_length(alloc: Global, handle: &mut Handle, count: &mut usize) -> u8
+    ensures status { result ≡ status_code (port_status handle.old.held) }
+    ensures count { IfSome handle.old.held (λ p. count.new ≡ length p.log) }
+    ensures unchanged { handle.new.held ≡ handle.old.held }
+    ensures unwritten { result ≢ done → count.new ≡ count.old }
+{
+    match handle.take(alloc) {
+        None => Status::NoPort.code(),
+        Some(port) => {
+            *count = port.log().len();
+            handle.put(alloc, port);
+            Status::Done.code()
+        }
+    }
+}
+
+/// Writes how many entries the log had no room for.
+#[unsafe(no_mangle)]
+pub extern "C" fn can_c_missed(alloc: Global, handle: &mut Handle, count: &mut u32) -> u8
+    ensures status { result ≡ status_code (port_status handle.old.held) }
+    ensures count { IfSome handle.old.held (λ p. count.new ≡ p.missed) }
+    ensures unchanged { handle.new.held ≡ handle.old.held }
+    ensures unwritten { result ≢ done → count.new ≡ count.old }
+{
+    match handle.take(alloc) {
+        None => Status::NoPort.code(),
+        Some(port) => {
+            *count = port.missed();
+            handle.put(alloc, port);
+            Status::Done.code()
+        }
+    }
+}
+
+/// Writes the entry of the log with this number, the oldest having 0: its frame, and 1 where it was sent, 0 where it
+/// was received.
+#[tactic(auto, using(crate::proofs::StatusLemmas::done_only, crate::proofs::StatusLemmas::not_done))]
+#[unsafe(no_mangle)]
+pub extern "C" fn can_c_entry(
+    alloc: Global,
+    handle: &mut Handle,
+    number: usize,
+    frame: &mut PlainFrame,
+    sent: &mut u8,
+) -> u8
+    ensures status { result ≡ status_code (entry_status handle.old.held number) }
+    ensures frame { IfSome handle.old.held (λ p. IfSome (slice_get p.log number) (λ entry. frame.new ≡ plain_frame entry.frame)) }
+    ensures sent { IfSome handle.old.held (λ p. IfSome (slice_get p.log number) (λ entry. sent.new ≡ flag_code_of entry.sent)) }
+    ensures unchanged { handle.new.held ≡ handle.old.held }
+    ensures unwritten { result ≢ done → (frame.new ≡ frame.old) × (sent.new ≡ sent.old) }
+{
+    match handle.take(alloc) {
+        None => Status::NoPort.code(),
+        Some(port) => {
+            let status = entry(&port, number, frame, sent);
+            handle.put(alloc, port);
+            status.code()
+        }
+    }
+}
+
+/// Writes an entry of a port's log.
+fn entry(port: &Controller, number: usize, frame: &mut PlainFrame, sent: &mut u8) -> Status
+    ensures status { result ≡ entry_status (Some port.now) number }
+    ensures frame { IfSome (slice_get port.now.log number) (λ entry. frame.new ≡ plain_frame entry.frame) }
+    ensures sent { IfSome (slice_get port.now.log number) (λ entry. sent.new ≡ flag_code_of entry.sent) }
+    ensures unwritten { result ≢ Status.Done → (frame.new ≡ frame.old) × (sent.new ≡ sent.old) }
+{
+    match port.log().get(number) {
+        None => Status::NoEntry,
+        Some(entry) => {
+            *frame = PlainFrame::of(&entry.frame);
+            *sent = flag_code(entry.sent);
+            Status::Done
+        }
+    }
+}
