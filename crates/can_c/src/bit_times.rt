@@ -84,9 +84,7 @@ fn tell(event: &Option<Event>, frame: &mut PlainFrame)
     match event {
         Some(Event::Sent(told)) => *frame = PlainFrame::of(told),
         Some(Event::Received(told)) => *frame = PlainFrame::of(told),
-        Some(
-            Event::Lost | Event::Error(_) | Event::Overload | Event::WentOff | Event::Recovered,
-        )
+        Some(Event::Lost | Event::Error(_) | Event::Overload | Event::WentOff | Event::Recovered)
         | None => {}
     }
 }

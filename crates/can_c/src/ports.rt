@@ -26,12 +26,7 @@ pub extern "C" fn can_c_idle(alloc: Global, handle: &mut Handle, queue: usize, l
 
 /// The same, of a port that waits for eleven recessive levels in a row before it is on the bus.
 #[unsafe(no_mangle)]
-pub extern "C" fn can_c_joining(
-    alloc: Global,
-    handle: &mut Handle,
-    queue: usize,
-    log: usize,
-) -> u8
+pub extern "C" fn can_c_joining(alloc: Global, handle: &mut Handle, queue: usize, log: usize) -> u8
     ensures answers { result ≢ done → result ≡ status_code Status.NoMemory }
     ensures made { result ≡ done → handle.new.held ≡ Some (fresh_port joining queue log) }
     ensures unchanged { result ≢ done → handle.new.held ≡ handle.old.held }

@@ -44,7 +44,10 @@ fn other_frame() -> PlainFrame {
 }
 
 fn assert_is_001(rt: &impl Abort, frame: &PlainFrame) {
-    assert_eq!(rt; (frame.identifier, frame.extended, frame.remote, frame.dlc), (1, 0, 0, 0));
+    assert_eq!(rt;
+        (frame.identifier, frame.extended, frame.remote, frame.dlc),
+        (1, 0, 0, 0)
+    );
     assert_eq!(rt; frame.bytes, [0; 8]);
 }
 
@@ -110,7 +113,10 @@ fn levels_are_decoded(rt: HostRuntime) -> Result<(), Fail> {
     assert_eq!(rt; can_c_decode(&[], &mut heard, &mut place), 14);
     assert_eq!(rt; can_c_decode(&[1], &mut heard, &mut place), 15);
     assert_eq!(rt; can_c_decode(&[2], &mut heard, &mut place), 10);
-    assert_eq!(rt; can_c_decode(&levels_of(WIRE_001), &mut heard, &mut place), 0);
+    assert_eq!(rt;
+        can_c_decode(&levels_of(WIRE_001), &mut heard, &mut place),
+        0
+    );
     assert_is_001(&rt, &heard.frame);
     assert_eq!(rt; (place, heard.acknowledged, heard.srr), (47, 1, 1));
     assert_eq!(rt; (heard.r1, heard.r0, heard.last), (0, 0, 1));
@@ -125,12 +131,21 @@ fn a_port_receives(rt: HostRuntime) -> Result<(), Fail> {
     let mut told = other_frame();
     let mut sent = 9;
     let made = can_c_idle(rt.alloc(), &mut handle, 0, 1);
-    let run = can_c_run(rt.alloc(), &mut handle, &levels_of(WIRE_001), &mut drives, &mut events);
+    let run = can_c_run(
+        rt.alloc(),
+        &mut handle,
+        &levels_of(WIRE_001),
+        &mut drives,
+        &mut events,
+    );
     let entry = can_c_entry(rt.alloc(), &mut handle, 0, &mut told, &mut sent);
     let none = can_c_entry(rt.alloc(), &mut handle, 1, &mut told, &mut sent);
     let_go(&rt, handle);
     assert_eq!(rt; (made, run, entry, none), (0, 0, 0, 6));
-    assert_eq!(rt; (drives[ACK_SLOT], drives[0], events[44], events[45], sent), (0, 1, 0, 2, 0));
+    assert_eq!(rt;
+        (drives[ACK_SLOT], drives[0], events[44], events[45], sent),
+        (0, 1, 0, 2, 0)
+    );
     assert_is_001(&rt, &told);
     Ok(())
 }
