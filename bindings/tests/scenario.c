@@ -4,7 +4,7 @@
  *
  *   bits N                         how many bit times
  *   port START QUEUE LOG HOLD      the next port: idle or joining, its rooms, the overload frames that it asks for
- *   offer FRAME                    a frame that waits there
+ *   offer TIME PORT FRAME          a frame, and before which bit time it is offered; times rise
  *   at TIME, in ATTEMPT OFFSET, view TIME PORT    a disturbance, in the order of docs/BUS.md
  */
 #include "../examples/frame_text.h"
@@ -27,10 +27,19 @@ struct hits {
   size_t count, over;
 };
 
+/* A frame that is offered to a port before a bit time. */
+struct offer {
+  unsigned long time;
+  size_t port;
+  riddlesage_frame frame;
+};
+
 struct scenario {
   unsigned long bits;
   riddlesage_port ports[MOST_PORTS];
   size_t port_count;
+  struct offer *offers;
+  size_t offer_count, made;
   struct hits at, in, view;
 };
 
@@ -42,13 +51,20 @@ static void demand(riddlesage_status status)
   }
 }
 
+/* Room for one item more behind so many. */
+static void *grown(void *items, size_t count, size_t size)
+{
+  if ((count & (count + 1)) != 0)
+    return items;
+  items = realloc(items, (2 * count + 2) * size);
+  if (items == NULL)
+    exit(EXIT_FAILURE);
+  return items;
+}
+
 static void add(struct hits *hits, struct hit hit)
 {
-  if ((hits->count & (hits->count + 1)) == 0) {
-    hits->items = realloc(hits->items, (2 * hits->count + 2) * sizeof hit);
-    if (hits->items == NULL)
-      exit(EXIT_FAILURE);
-  }
+  hits->items = grown(hits->items, hits->count, sizeof hit);
   hits->items[hits->count++] = hit;
 }
 
@@ -77,17 +93,30 @@ static void read_port(struct scenario *scenario, const char *line)
   demand(riddlesage_port_hold(port, (uint8_t)hold));
 }
 
+static void read_offer(struct scenario *scenario, const char *line)
+{
+  struct offer offer;
+  unsigned long port;
+  int read;
+
+  if (sscanf(line, "offer %lu %lu %n", &offer.time, &port, &read) != 2 || port >= scenario->port_count ||
+      !frame_from_text(line + read, &offer.frame))
+    exit(EXIT_FAILURE);
+  offer.port = port;
+  scenario->offers = grown(scenario->offers, scenario->offer_count, sizeof offer);
+  scenario->offers[scenario->offer_count++] = offer;
+}
+
 static void read_line(struct scenario *scenario, const char *line)
 {
   struct hit hit = { 0, 0 };
-  riddlesage_frame frame;
 
   if (sscanf(line, "bits %lu", &scenario->bits) == 1)
     return;
   if (strncmp(line, "port ", 5) == 0)
     read_port(scenario, line);
-  else if (strncmp(line, "offer ", 6) == 0 && frame_from_text(line + 6, &frame))
-    demand(riddlesage_port_offer(&scenario->ports[scenario->port_count - 1], &frame));
+  else if (strncmp(line, "offer ", 6) == 0)
+    read_offer(scenario, line);
   else if (sscanf(line, "at %lu", &hit.first) == 1)
     add(&scenario->at, hit);
   else if (sscanf(line, "in %lu %lu", &hit.first, &hit.second) == 2)
@@ -96,6 +125,15 @@ static void read_line(struct scenario *scenario, const char *line)
     add(&scenario->view, hit);
   else
     exit(EXIT_FAILURE);
+}
+
+/* Makes the offers of this bit time. */
+static void offer_all(struct scenario *scenario, unsigned long time)
+{
+  for (; scenario->made < scenario->offer_count && scenario->offers[scenario->made].time == time; scenario->made++) {
+    const struct offer *offer = &scenario->offers[scenario->made];
+    demand(riddlesage_port_offer(&scenario->ports[offer->port], &offer->frame));
+  }
 }
 
 static uint8_t wired(struct scenario *scenario)
@@ -130,7 +168,9 @@ static void run(struct scenario *scenario)
   unsigned rest = REST;
 
   for (; now.first < scenario->bits; now.first++) {
-    uint8_t bus = wired(scenario);
+    uint8_t bus;
+    offer_all(scenario, now.first);
+    bus = wired(scenario);
     if (bus == RIDDLESAGE_DOMINANT && rest == REST) {
       attempt.first += is_attempt;
       attempt.second = 0;
@@ -189,6 +229,7 @@ int main(void)
     print_port(&scenario.ports[place], place);
     demand(riddlesage_port_free(&scenario.ports[place]));
   }
+  free(scenario.offers);
   free(scenario.at.items);
   free(scenario.in.items);
   free(scenario.view.items);

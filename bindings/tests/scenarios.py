@@ -41,25 +41,32 @@ def text_of(frame: Frame) -> str:
     return f"{identifier} {'R' if frame.remote else 'D'} {frame.dlc}{data}"
 
 
+def offers(document: Document) -> list[tuple[int, int, str]]:
+    """Time, port and frame of each offer, in their order. In version 1 all frames are offered at time 0."""
+    timed = document["version"] == 2
+    made_of = (
+        (*(offer if timed else (0, offer)), place)
+        for place, port in enumerate(document["port"])
+        for offer in port.get("queue", [])
+    )
+    return sorted(((time, place, text) for time, text, place in made_of), key=lambda offer: offer[0])
+
+
 def plain(document: Document) -> Iterator[str]:
     """The lines that tests/scenario.c reads."""
     yield f"bits {document['bits']}"
     for port in document["port"]:
-        queue = port.get("queue", [])
         start = "joining" if port.get("join") else "idle"
-        yield f"port {start} {len(queue)} {port.get('log', 64)} {port.get('hold', 0)}"
-        yield from (f"offer {text}" for text in queue)
+        yield f"port {start} {len(port.get('queue', []))} {port.get('log', 64)} {port.get('hold', 0)}"
+    yield from (f"offer {time} {place} {text}" for time, place, text in offers(document))
     yield from (f"at {time}" for time in document.get("at", []))
     yield from (f"in {attempt} {offset}" for attempt, offset in document.get("in", []))
     yield from (f"view {time} {port}" for time, port in document.get("view", []))
 
 
 def made(table: Document) -> Port:
-    """A port of a scenario, with the frames that wait there."""
-    queue = table.get("queue", [])
-    port = Port(len(queue), table.get("log", 64), joining=table.get("join", False))
-    for text in queue:
-        port.offer(frame_of(text))
+    """A port of a scenario, before anything is offered to it."""
+    port = Port(len(table.get("queue", [])), table.get("log", 64), joining=table.get("join", False))
     port.hold(table.get("hold", 0))
     return port
 
@@ -72,7 +79,11 @@ def report(document: Document) -> Iterator[str]:
     seen_by_one = {tuple(hit) for hit in document.get("view", [])}
     recorded = bytearray()
     attempt, offset, rest = -1, 0, REST
+    coming = offers(document)[::-1]
     for time in range(document["bits"]):
+        while coming and coming[-1][0] == time:
+            _, place, text = coming.pop()
+            ports[place].offer(frame_of(text))
         bus = min(port.drive() for port in ports)
         offset += 1
         if bus == DOMINANT and rest == REST:
