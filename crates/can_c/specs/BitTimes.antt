@@ -1,4 +1,4 @@
--- What a port drives over many bit times.
+-- What a port drives over many bit times. (bindings/README.md, "Link and call")
 use Rattle.std.specs.Prelude.{List, [], ◌∷◌, Option, Some, None}
 use Rattle.can_frame.specs.declared.level.Level.{Level}
 use Rattle.can_mac.specs.declared.event.Event.{Event}

@@ -1,4 +1,5 @@
 -- What is written for a trace: a line for each frame, and for each fault.
+-- (docs/FORMATS.md, "`canbit decode`"; docs/FRAMES.md, "Decoding")
 use Rattle.std.specs.Prelude.{◌≡◌, ◌≢◌, ℕ, ◌+◌, ◌^◌, ◌<◌, ◌≤◌, if◌then◌else◌, Bool, true, false, not, List, [], ◌∷◌, ◌++◌, length, filter, replicate, codes, decimal}
 use Rattle.std.specs.List.{flat_map}
 use Rattle.can_frame.specs.IdleRow.{idle_row}

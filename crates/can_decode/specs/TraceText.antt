@@ -1,4 +1,4 @@
--- Trace text: levels as digits, with blanks and line ends between them.
+-- Trace text: levels as digits, with blanks and line ends between them. (docs/FORMATS.md, "`canbit decode`")
 use Rattle.std.specs.Prelude.{◌≡◌, ℕ, ◌==◌, ◌||◌, if◌then◌else◌, Bool, true, false, List, [], ◌∷◌, ◌++◌, length}
 use Rattle.std.specs.List.{flat_map, AllByRecursion}
 use Rattle.can_frame.specs.declared.level.Level.{Level}

@@ -1,4 +1,5 @@
 -- The spellings of the parts of a frame's text, and the place at which bytes leave them.
+-- (docs/FORMATS.md, "Frame text")
 use Rattle.std.specs.Prelude.{ℕ, ◌≡◌, ◌≢◌, ◌-◌, ◌*◌, ◌^◌, ◌<◌, ◌≤◌, ◌==◌, Bool, if◌then◌else◌, List, [], ◌∷◌, ◌++◌, length, take, drop, slice_index}
 use Rattle.hex.specs.Hex.{encode_lower, lower_digits, IsBytes}
 use Rattle.can_frame.specs.Ident.{ident_count}

@@ -1,4 +1,5 @@
 -- What a handle owns: what a `Box` of its port does, and nothing where it has none.
+-- (bindings/README.md, "What is proved")
 use Rattle.std.specs.Prelude.{Bool, true, false, Option, Some, None}
 use Rattle.std.specs.Coded.{coded_option}
 use base.Fml.{Fml, ftrue, ffalse}

@@ -1,5 +1,5 @@
 -- How much of its answer a stream of lines has written, over the relation `Answer` between lines and what
--- is written for them.
+-- is written for them. (docs/FORMATS.md, "Faults and statuses of the program")
 use Rattle.std.specs.Prelude.{◌≡◌, ℕ, ◌+◌, List, ◌∷◌, ◌++◌, length, Bool}
 use Rattle.can_stream.specs.Lines.{whole_lines}
 

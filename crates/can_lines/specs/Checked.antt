@@ -1,4 +1,5 @@
 -- What is written for lines of vectors, each a frame's text and levels that may be the frame's own.
+-- (docs/FORMATS.md, "`canbit check`")
 use Rattle.std.specs.Prelude.{◌≡◌, ◌≢◌, ◌⊎◌, ℕ, ◌+◌, ◌^◌, ◌<◌, ◌≤◌, List, [], ◌∷◌, ◌++◌, length, take, drop, map, codes, decimal, Bool, true}
 use Rattle.std.specs.List.{flat_map}
 use Rattle.can_frame.specs.declared.level.Level.{Level}

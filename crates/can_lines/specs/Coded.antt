@@ -1,4 +1,4 @@
--- What is written for lines of frames.
+-- What is written for lines of frames. (docs/FORMATS.md, "`canbit encode`")
 use Rattle.std.specs.Prelude.{◌≡◌, ℕ, ◌^◌, ◌<◌, ◌≤◌, List, [], ◌∷◌, ◌++◌, length, map, Bool}
 use Rattle.std.specs.List.{flat_map, AllByRecursion}
 use Rattle.can_frame.specs.declared.text.TextFault.{TextFault}

@@ -1,5 +1,7 @@
+-- To believe: what public calls and laws promise is said in these words
 pub mod Answered
 pub mod Coded
 pub mod Checked
-pub mod Checking
+-- For proofs and for models only
 pub mod Answering
+pub mod Checking

@@ -1,6 +1,8 @@
-pub mod ScenarioProps
+-- To believe: what public calls and laws promise is said in these words
 pub mod Scenarios
 pub mod ScenarioOffers
 pub mod Report
-pub mod OpenReport
 pub mod QuietReport
+pub mod OpenReport
+-- For proofs and for models only
+pub mod ScenarioProps

@@ -1,4 +1,5 @@
 -- Scenarios of an open bus, to whose ports frames are offered while it goes on, and their reports.
+-- (docs/FORMATS.md, "`canbit run`"; docs/BUS.md, "The schedule")
 use Rattle.std.specs.Prelude.{ℕ, ◌≡◌, ◌≤◌, false, List, [], length, map, Some, slice_get}
 use Rattle.std.specs.List.{flat_map}
 use Rattle.can_frame.specs.Parts.{Parts}

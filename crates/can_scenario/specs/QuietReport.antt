@@ -1,4 +1,4 @@
--- Scenarios of a quiet bus, and their reports.
+-- Scenarios of a quiet bus, and their reports. (docs/FORMATS.md, "`canbit run`"; docs/BUS.md, "A quiet bus")
 use Rattle.std.specs.Prelude.{ℕ, ◌≡◌, List, [], ◌∷◌, All, map}
 use Rattle.std.specs.List.{AllByRecursion}
 use Rattle.std.specs.List.Sorted.{IsPermutation}

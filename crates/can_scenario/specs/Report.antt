@@ -1,4 +1,5 @@
 -- The report of a scenario: what the bus records, and what is told of each port behind the run.
+-- (docs/FORMATS.md, "`canbit run`")
 use Rattle.std.specs.Prelude.{ℕ, zero, suc, ◌+◌, Bool, if◌then◌else◌, List, [], ◌∷◌, ◌++◌, length, map, codes, decimal}
 use Rattle.std.specs.List.{flat_map}
 use Rattle.can_frame.specs.IdleRow.{idle_row}

@@ -1,4 +1,5 @@
 -- The offers of a scenario: which frame is offered to which port when, and in which order.
+-- (docs/FORMATS.md, "`canbit run`"; docs/BUS.md, "Frames offered while the bus runs")
 use Rattle.std.specs.Prelude.{ℕ, ◌≡◌, ◌+◌, ◌==◌, nat_le, if◌then◌else◌, List, [], ◌∷◌, ◌++◌, filter, map}
 use Rattle.std.specs.List.Sorted.{IsNonDecreasingBy}
 use Rattle.can_bus.specs.declared.offer.Offer.{Offer}

@@ -1,4 +1,4 @@
--- Levels as digits.
+-- Levels as digits. (docs/FORMATS.md, "`canbit encode`")
 use Rattle.std.specs.Prelude.{ℕ}
 use Rattle.can_frame.specs.declared.level.Level.{Level}
 use Rattle.can_frame.specs.declared.level.Level.TheVariants.{Dominant, Recessive}

@@ -1,4 +1,4 @@
--- The lines of a text. A line is ended by 0x0a; the last may lack it, and empty text has no lines.
+-- The lines of a text. A line is ended by 0x0a; the last may lack it, and empty text has no lines. (docs/FORMATS.md)
 use Rattle.std.specs.Prelude.{◌≡◌, ℕ, ◌==◌, if◌then◌else◌, Bool, false, List, [], ◌∷◌, ◌++◌}
 use Rattle.std.specs.List.{AllByRecursion}
 

@@ -1,4 +1,5 @@
 -- What one call read and wrote, where its reader and its writer tell their bytes.
+-- (docs/FORMATS.md, "Faults and statuses of the program")
 use Rattle.std.specs.Prelude.{ℕ, Bool, false, ◌==◌, ◌&&◌, not, List, Option, Result, Ok, Err}
 use Rattle.std.specs.Io.KnownBytes.{Consumes, Appends}
 

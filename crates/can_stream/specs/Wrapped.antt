@@ -1,4 +1,4 @@
--- What a contract sees of a wrapped reader or writer of std.
+-- What a contract sees of a wrapped reader or writer of std. (docs/ARCHITECTURE.md)
 use Rattle.std.specs.Prelude.{Bool}
 use Rattle.can_stream.specs.declared.source.FromRead.{FromRead}
 use Rattle.can_stream.specs.declared.sink.ToWrite.{ToWrite}

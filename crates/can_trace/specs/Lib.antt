@@ -1,3 +1,4 @@
+-- To believe: the words of the crates below that this one names, by the page of docs/ that each of them gives
 pub use Rattle.can_stream.specs.Told
 pub use Rattle.can_stream.specs.Wrapped
 pub use Rattle.can_stream.specs.Outbox

@@ -1,4 +1,4 @@
--- What each subcommand has written of what it read, for each way in which it can end.
+-- What each subcommand has written of what it read, for each way in which it can end. (docs/FORMATS.md)
 use Rattle.std.specs.Prelude.{◌≡◌, ◌≢◌, ◌⊎◌, ℕ, Bool, IsTrue, List, [], ◌++◌}
 use Rattle.can_trace.specs.Checked.{BeginsChecking, ChecksAll, ChecksEnded, ChecksTooLong, IsFirstBadByte, IsFirstBadVectorLine}
 use Rattle.can_trace.specs.Coded.{BeginsEncoding, EncodesAll, EncodesEnded, EncodesTooLong, IsFirstBadLine}

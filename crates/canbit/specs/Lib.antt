@@ -1,4 +1,5 @@
-pub mod Answers
-pub mod Status
+-- To believe: what public calls and laws promise is said in these words
 pub mod Subcommands
 pub mod Words
+pub mod Answers
+pub mod Status

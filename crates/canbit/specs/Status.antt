@@ -1,4 +1,4 @@
--- What the exit status of a run says.
+-- What the exit status of a run says. (docs/FORMATS.md, "Faults and statuses of the program")
 use Rattle.std.specs.Prelude.{ℕ, Result, Ok, Err}
 use Rattle.can_stream.specs.declared.fault.TraceFault.TheVariants.{BadByte, ScenarioField, Read, Write, Memory as OutOfMemory, Long, FrameLine}
 use Rattle.canbit.specs.declared.fault.RunFault.{RunFault}

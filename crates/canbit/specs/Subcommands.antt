@@ -1,4 +1,4 @@
--- The subcommands of the program, and its command.
+-- The subcommands of the program, and its command. (docs/FORMATS.md)
 use Rattle.std.specs.Prelude.{List, [], ◌∷◌, codes, fold, true}
 use Rattle.clap.specs.Words.{App, Text, new_app, with_subcommand}
 use Rattle.clap.specs.Simple.{on_top, new_shape}

@@ -1,4 +1,5 @@
 -- What the words of a command line ask for, by clap's definition of what a simple command makes of words.
+-- (docs/FORMATS.md, "Faults and statuses of the program")
 use Rattle.std.specs.Prelude.{◌≡◌, ◌≢◌, List, [], Option, Some, map, option_map, string_bytes}
 use Rattle.std.specs.declared.alloc.Global.{Global}
 use Rattle.std.specs.declared.string.String.{String}
