@@ -16,17 +16,13 @@ use Rattle.can_frame.proofs.BeforeLemmas.{Before-trans, Before-differs, Before-o
 use Rattle.can_frame.proofs.FieldLemmas.{fields_ranked, key_cmp-tells}
 use Rattle.can_node.specs.Ports.{is_less, goes_before}
 use Rattle.can_bus.specs.Quiet.{IsRising, IsAscending, AreDifferent, inserted, ascending}
+use Rattle.can_node.proofs.WaitingLemmas.{is_less-Less}
 
 abbrev pub Goes : Parts → Parts → Type 0
 Goes f g = Before (arbitration_field f) (arbitration_field g)
 
-is_less-true : (o : Ordering) → is_less o ≡ true → o ≡ Less
-is_less-true Less e = refl
-is_less-true Equal e = absurd (let h : false ≡ true = e in cc)
-is_less-true Greater e = absurd (let h : false ≡ true = e in cc)
-
 goes_before-Goes : (f g : Parts) → goes_before f g ≡ true → Goes f g
-goes_before-Goes f g e = (key_cmp-tells f g).less.0 (is_less-true (field_cmp (arbitration_field f) (arbitration_field g)) e)
+goes_before-Goes f g e = (key_cmp-tells f g).less.0 (is_less-Less (field_cmp (arbitration_field f) (arbitration_field g)) e)
 
 other_goes : (f g : Parts) → goes_before g f ≡ false → arbitration_field f ≢ arbitration_field g → Goes f g
 other_goes f g e other =

@@ -17,6 +17,7 @@ use Rattle.can_bus.proofs.NextStarts.{AreApart, apart-from, rest-left, rest-apar
 use Rattle.can_bus.proofs.Schedules.{one-schedule, schedule-frames, starts-free, starts-offered}
 use Rattle.can_bus.proofs.Tracks.{track-on, track-behind, track-rests}
 use Rattle.can_mac.specs.Frames.{with_intermission}
+use Rattle.can_bus.proofs.QuietLine.{none-filled}
 
 rest-at_once : (f : Parts) (left rest : List Timed) → AreOthers f left rest → AreAtOnce left → AreAtOnce rest
 rest-at_once f left rest others all x s = all x (rest-left f left rest others x s)
@@ -59,11 +60,6 @@ module _ (offers : List Timed) (different : AreDifferent (frames_of offers)) (al
 abbrev line_from : ℕ → List Parts → ℕ → Level
 line_from free frames t = slice_index_or (flat_map with_intermission frames) (t - free) Recessive
 
-resting : (n k : ℕ) → slice_index_or (replicate n Recessive) k Recessive ≡ Recessive
-resting zero k = refl
-resting (suc n) zero = refl
-resting (suc n) (suc k) = resting n k
-
 module _ (f : Parts) (frames : List Parts) (k : ℕ) where
   abbrev others : List Level
   others = flat_map with_intermission frames
@@ -77,7 +73,7 @@ module _ (f : Parts) (frames : List Parts) (k : ℕ) where
   line-intermission past within =
       get_or_append_left (with_intermission f) others Recessive k (omega (arith, length-append (wire f) (replicate 3 Recessive), length-replicate 3 Recessive))
       ∙ get_or-append_right (wire f) (replicate 3 Recessive) (length (wire f)) k Recessive refl past
-      ∙ resting 3 (k - length (wire f))
+      ∙ none-filled 3 (k - length (wire f))
 
   line-behind : busy_time f ≤ k → slice_index_or (flat_map with_intermission (f ∷ frames)) k Recessive ≡ slice_index_or others (k - busy_time f) Recessive
   line-behind past =

@@ -29,6 +29,7 @@ use Rattle.can_mac.proofs.FrameSteps.{some_part}
 use Rattle.can_mac.proofs.BrokenFrames.{ErrsIn, stuffed, ended, goes_on, soon}
 use Rattle.can_mac.proofs.HitLevels.{IsHit, BreaksIn, at_end, at_stuff_bit, at_bit, inverted, breaks-soon}
 use Rattle.can_bus.specs.RepairedLine.{struck, until_refused, lateness}
+use Rattle.can_code.proofs.DecoderLemmas.{heard_levels-append}
 
 -- ---- Dominant levels, one by one.
 
@@ -100,15 +101,6 @@ errs-some (goes_on w j no_error next) v e (suc k) less none =
 
 -- ---- The levels of a frame that is hit.
 
-heard-more : (xs ys : List Level) (v w : FrontParts) → heard_levels v xs ≡ Some w → heard_levels v (xs ++ ys) ≡ heard_levels w ys
-heard-more [] ys v w e = let one : v ≡ w = cc in ap (λ u. heard_levels u ys) one
-heard-more (x ∷ xs) ys v w e = by_next (hear_at (next_place v) v x) e (λ u h. heard-more xs ys u w h)
-  where
-    by_next : (o : Option FrontParts) → option_and_then (λ u. heard_levels u xs) o ≡ Some w → ((u : FrontParts) → heard_levels u xs ≡ Some w → heard_levels u (xs ++ ys) ≡ heard_levels w ys)
-        → option_and_then (λ u. heard_levels u (xs ++ ys)) o ≡ heard_levels w ys
-    by_next None h more = cc
-    by_next (Some u) h more = more u h
-
 drop-first : (b ys : List Level) → 0 < length b → drop 1 (b ++ ys) ≡ drop 1 b ++ ys
 drop-first [] ys some = absurd (omega (arith, some))
 drop-first (x ∷ b) ys some = refl
@@ -132,7 +124,7 @@ module _ (f : Parts) (is : IsFrame f) (o : ℕ) (some : 0 < o) where
       let size : length b ≡ o = length-take-le o (stuffed_part f) within in
       ap (λ ls. heard_levels first_front (drop 1 (ls ++ ys))) (take-append-le o (stuffed_part f) (tail Dominant Recessive) within)
       ∙ ap (heard_levels first_front) (drop-first b ys (omega (arith, size, some)))
-      ∙ heard-more (drop 1 b) ys first_front (front_at f o) (front_at-heard f is o some within)
+      ∙ heard_levels-append (drop 1 b) ys first_front (front_at f o) (front_at-heard f is o some within)
 
 -- behind it
 heard-late : (f : Parts) (is : IsFrame f) (o : ℕ) (ys : List Level) → length (stuffed_part f) ≤ o → 0 < length ys → heard_levels first_front (drop 1 (take o (wire f) ++ ys)) ≡ None

@@ -11,14 +11,7 @@ use Rattle.can_frame.specs.declared.level.Level.{Level}
 use Rattle.can_frame.specs.declared.level.Level.TheVariants.{Dominant, Recessive}
 use Rattle.can_frame.specs.Levels.{is_recessive, level_from}
 use Rattle.can_bus.specs.Wired.{over, wired, level_bit}
-
-pub level_dominant : (x : Level) → is_recessive x ≡ false → x ≡ Dominant
-level_dominant Dominant e = refl
-level_dominant Recessive e = absurd (let h : true ≡ false = e in cc)
-
-pub level_recessive : (x : Level) → is_recessive x ≡ true → x ≡ Recessive
-level_recessive Dominant e = absurd (let h : false ≡ true = e in cc)
-level_recessive Recessive e = refl
+use Rattle.can_frame.proofs.LevelTests.{level_dominant, level_recessive}
 
 over_swap : (x y z : Level) → over x (over y z) ≡ over y (over x z)
 over_swap Dominant Dominant z = refl
@@ -187,6 +180,3 @@ pub lanes_wired : (levels : List Level) (bits : List ℕ) (n : ℕ) → bits ≡
 lanes_wired levels bits n e long short =
     ap (λ m. eqb m 0) (bitmask_splat w8 eqb bits n 0 long short) ∙ ap (λ b. eqb (mask_l (map (λ x. eqb x 0) b)) 0) e ∙ mask_wired levels
 
-pub level_back : (x : Level) → level_from (is_recessive x) ≡ x
-level_back Dominant = refl
-level_back Recessive = refl

@@ -37,7 +37,7 @@ HasHeard-begin d first none = record {
 }
 
 -- levels heard behind others
-heard_levels-append : (xs ys : List Level) (f g : FrontParts) → heard_levels f xs ≡ Some g → heard_levels f (xs ++ ys) ≡ heard_levels g ys
+pub heard_levels-append : (xs ys : List Level) (f g : FrontParts) → heard_levels f xs ≡ Some g → heard_levels f (xs ++ ys) ≡ heard_levels g ys
 heard_levels-append [] ys f g heard =
     let one : f ≡ g = cc in
     ap (λ h. heard_levels h ys) one

@@ -12,13 +12,13 @@ use Rattle.can_code.specs.Layout.{level_at, extended_of, data_place, frame_len, 
 use Rattle.can_code.specs.Reading.{TellsLength}
 use Rattle.can_code.specs.Front.{FrontParts, first_front, has_check, next_place, IsFront}
 use Rattle.can_code.proofs.LayoutPlaces.{level_at-append}
-use Rattle.can_code.proofs.LayoutLengths.{frame_len_le, frame_len_ge, frame_len-grows, frame_len-append}
-use Rattle.can_code.proofs.ReadingLemmas.{data_before_end, data_behind_ide}
+use Rattle.can_code.proofs.LayoutLengths.{frame_len_le, frame_len_ge, frame_len-grows, frame_len-append, frame_len_least}
+use Rattle.can_code.proofs.ReadingLemmas.{data_behind_ide}
 use Rattle.can_code.proofs.Runs.{run_after-le, run_after-ge}
 
 -- the length that levels tell decides whether they have their whole check sequence
 pub has_check-told : (u : List Level) (told : Option ℕ) → TellsLength u told → has_check u ≡ option_eq eqb told (Some (length u))
-has_check-told u None h = ne_eqb (frame_len u) (length u) (λ e. omega (arith, data_before_end u))
+has_check-told u None h = ne_eqb (frame_len u) (length u) (λ e. omega (arith, frame_len_least u))
 has_check-told u (Some n) h = ap (λ t. eqb t (length u)) (sym h.1)
 
 -- a length that is told stays

@@ -16,6 +16,7 @@ use Rattle.can_code.proofs.StuffingLemmas.{Stuffed, Stuffed-more}
 use Rattle.can_code.proofs.LayoutLengths.{IsComplete-completed}
 use Rattle.can_code.proofs.FrontLemmas.{IsFront-first_front, IsFront-start, IsFront-complete, IsFront-stuff_bit, IsFront-bit, next_place-ended, next_place-partial, next_place-complete}
 use Rattle.can_code.proofs.StuffedParts.{IsPart-once, front_of}
+use Rattle.can_frame.proofs.LevelTests.{same-Decides}
 
 -- f is the front that the levels b make
 pub record IsFrontOf (b : List Level) (f : FrontParts) : Type 0 where
@@ -162,14 +163,8 @@ module _ (b : List Level) (f : FrontParts) (r : IsFrontOf b f) where
         ap (λ t. get_or t (length b - 1) Dominant) at_end
         ∙ get_or_append_left b (drop (length b) s) Dominant (length b - 1) (omega arith)
         ∙ sym (last_before b f.last f.run r.ends (due five)) in
-        part.stuffs.differs (length b) longer place (here ∙ same_is x f.last repeated ∙ sym before)
+        part.stuffs.differs (length b) longer place (here ∙ (same-Decides x f.last).0 repeated ∙ sym before)
     | inr within ↦
         let going : next_place f ≢ CrcDelimiter = λ ended. (next_place-ended f ended).0 five in
         IsFrontOf-no_part going w s (drop (length s) b) part (sym (front_of s b y (x ∷ z) joined within))
   ]
-    where
-      same_is : (x y : Level) → same x y ≡ true → x ≡ y
-      same_is Dominant Dominant h = refl
-      same_is Recessive Recessive h = refl
-      same_is Dominant Recessive h = cc
-      same_is Recessive Dominant h = cc

@@ -27,7 +27,7 @@ rtr_place_le true = omega arith
 rtr_place_le false = omega arith
 
 -- a frame without data is shortest
-frame_len_least : (u : List Level) → data_place (extended_of u) + 15 ≤ frame_len u
+pub frame_len_least : (u : List Level) → data_place (extended_of u) + 15 ≤ frame_len u
 unfolding frame_len
 frame_len_least u = omega arith
 

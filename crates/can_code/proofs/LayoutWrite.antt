@@ -15,16 +15,15 @@ use Rattle.can_code.proofs.LayoutPlaces.{length-filled, next_level, next_levels}
 use Rattle.can_code.proofs.LayoutBytes.{length-bytes_from, bytes_from-small, levels-bytes_from}
 use Rattle.can_code.proofs.LayoutLengths.{frame_len_ge}
 use Rattle.can_code.proofs.LayoutRead.{head_of-append}
+use Rattle.can_frame.proofs.LevelTests.{level_told, level_dominant, level_recessive}
+use Rattle.can_code.proofs.ReadingLemmas.{levels_at-lt}
 
 -- n levels spell a number of n bits
-levels_at-small : (u : List Level) (p n : ℕ) → number_from 0 (levels_at u p n) < 2 ^ n
-levels_at-small u p n = omega (arith, number_from-lt (levels_at u p n), ap (λ t. 2 ^ t) (length-filled n (drop p u)))
-
 identifier_small : (u : List Level) → IsIdent (record { raw = number_from 0 (identifier_of u); extended = extended_of u })
 identifier_small u = by_kind (extended_of u)
   where
     by_kind : (extended : Bool) → IsIdent (record { raw = number_from 0 (cond extended (levels_at u 1 11 ++ levels_at u 14 18) (levels_at u 1 11)); extended = extended })
-    by_kind false = levels_at-small u 1 11
+    by_kind false = levels_at-lt u 1 11
     by_kind true =
         let whole = levels_at u 1 11 ++ levels_at u 14 18 in
         let size : length whole ≡ 29 =
@@ -41,7 +40,7 @@ IsFrame-frame_of u =
     let rest = drop (data_place (extended_of u)) u in
     record {
       id = identifier_small u;
-      dlc = levels_at-small u (rtr_place (extended_of u) + 3) 4;
+      dlc = levels_at-lt u (rtr_place (extended_of u) + 3) 4;
       count = length-bytes_from n rest;
       small = bytes_from-small n rest;
     }
@@ -54,18 +53,6 @@ IsHeard-heard_of u acked last = record {
   srr = λ standard. cond-false (extended_of u) (level_at u 12) Recessive standard;
   r1 = λ standard. cond-false (extended_of u) (level_at u 33) Dominant standard;
 }
-
-level_from-told : (x : Level) → level_from (is_recessive x) ≡ x
-level_from-told Dominant = refl
-level_from-told Recessive = refl
-
-dominant_from : (x : Level) → is_recessive x ≡ false → x ≡ Dominant
-dominant_from Dominant h = refl
-dominant_from Recessive h = cc
-
-recessive_from : (x : Level) → is_recessive x ≡ true → x ≡ Recessive
-recessive_from Dominant h = cc
-recessive_from Recessive h = refl
 
 -- the data length code and the data, where the code stands at place p
 data_at : List Level → (p count : ℕ) → List Level
@@ -95,7 +82,7 @@ control_written u r count size =
     let third = next_level u (r + 2) (r + 3) (omega arith) (omega arith) in
     let rest = data_written u (r + 3) count (omega arith) in
     rtr
-    ∙ ap (λ t. t ∷ drop (r + 1) u) (sym (level_from-told (level_at u r)))
+    ∙ ap (λ t. t ∷ drop (r + 1) u) (sym (level_told (level_at u r)))
     ∙ ap (λ t. level_from (is_recessive (level_at u r)) ∷ t) (second ∙ ap (λ t. level_at u (r + 1) ∷ t) (third ∙ ap (λ t. level_at u (r + 2) ∷ t) rest))
 
 -- a standard frame's levels
@@ -138,14 +125,14 @@ unfolding heard_head heard_of frame_of frame_len data_at
 standard_written u acked last is standard =
     let count = byte_count (is_recessive (level_at u 12)) (number_from 0 (levels_at u 15 4)) in
     let size : 12 + 22 + 8 * count ≡ length u = omega (arith, rw standard at is.whole) in
-    rw standard (standard_levels u count is.start (dominant_from (level_at u 13) standard) size)
+    rw standard (standard_levels u count is.start (level_dominant (level_at u 13) standard) size)
 
 extended_written : (u : List Level) (acked : Bool) (last : Level) → IsComplete u → extended_of u ≡ true → u ≡ heard_head (heard_of u acked last) ++ check_of u
 unfolding heard_head heard_of frame_of frame_len data_at
 extended_written u acked last is extended =
     let count = byte_count (is_recessive (level_at u 32)) (number_from 0 (levels_at u 35 4)) in
     let size : 32 + 22 + 8 * count ≡ length u = omega (arith, rw extended at is.whole) in
-    rw extended (extended_levels u count is.start (recessive_from (level_at u 13) extended) size)
+    rw extended (extended_levels u count is.start (level_recessive (level_at u 13) extended) size)
 
 -- complete levels are the head of what they tell, and then their check sequence
 pub heard_head-heard_of : (u : List Level) (acked : Bool) (last : Level) → IsComplete u → u ≡ heard_head (heard_of u acked last) ++ check_of u

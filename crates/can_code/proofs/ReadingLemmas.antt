@@ -17,12 +17,7 @@ pub data_behind_ide : (extended : Bool) → 19 ≤ data_place extended
 data_behind_ide true = omega arith
 data_behind_ide false = omega arith
 
--- the check sequence stands behind them
-pub data_before_end : (u : List Level) → data_place (extended_of u) + 15 ≤ frame_len u
-unfolding frame_len
-data_before_end u = omega arith
-
--- so whole levels have all of their data
+-- whole levels have all of their data
 pub IsComplete-HasData : (u : List Level) → IsComplete u → HasData u
 unfolding frame_len
 IsComplete-HasData u complete = omega (arith, complete.whole)

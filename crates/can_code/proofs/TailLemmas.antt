@@ -21,17 +21,17 @@ tail_at a l (suc (suc (suc (suc (suc (suc (suc (suc zero)))))))) h p q = refl
 tail_at a l (suc (suc (suc (suc (suc (suc (suc (suc (suc zero))))))))) h p q = absurd (q refl)
 tail_at a l (suc (suc (suc (suc (suc (suc (suc (suc (suc (suc k)))))))))) h p q = absurd (omega arith)
 
+pub ack_slot-told : (x : Level) → ack_slot (not (is_recessive x)) ≡ x
+ack_slot-told Dominant = refl
+ack_slot-told Recessive = refl
+
 -- the first k levels of a tail, and x
 module _ (k : ℕ) (acked : Bool) (x : Level) where
   abbrev ten : List Level
   ten = tail (ack_slot acked) Recessive
 
   pub ack_slot_heard : k ≡ 1 → take (k + 1) (tail (ack_slot (not (is_recessive x))) Recessive) ≡ take k ten ++ x ∷ []
-  ack_slot_heard slot = subst (λ n. take (n + 1) (tail (ack_slot (not (is_recessive x))) Recessive) ≡ take n ten ++ x ∷ []) (sym slot) (ap (λ y. Recessive ∷ y ∷ []) (of_level x))
-    where
-      of_level : (x : Level) → ack_slot (not (is_recessive x)) ≡ x
-      of_level Dominant = refl
-      of_level Recessive = refl
+  ack_slot_heard slot = subst (λ n. take (n + 1) (tail (ack_slot (not (is_recessive x))) Recessive) ≡ take n ten ++ x ∷ []) (sym slot) (ap (λ y. Recessive ∷ y ∷ []) (ack_slot-told x))
 
   module _ (few : k < 10) (no_slot : k ≢ 1) (no_last : k ≢ 9) where
     pub recessive_heard : is_recessive x ≡ true → take (k + 1) ten ≡ take k ten ++ x ∷ []

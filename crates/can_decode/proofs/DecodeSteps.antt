@@ -16,11 +16,10 @@ use Rattle.can_stream.specs.declared.fault.TraceFault.TheVariants.{BadByte, Read
 use Rattle.can_decode.specs.declared.finding.Finding.{Finding}
 use Rattle.can_decode.specs.declared.trace.Trace.{Trace}
 use Rattle.can_stream.proofs.Elements.{AllByRecursion-append}
+use Rattle.can_stream.proofs.PutParts.{TakesFront-longer}
+use Rattle.can_stream.proofs.Turns.{PassesOn-none}
 
 -- ---- through the buffer
-
-pub PassesOn-none : (held : Option (List ℕ)) (waiting : List ℕ) → PassesOn held held waiting waiting []
-PassesOn-none held waiting = record { taken = []; appends = Appends-nil held; same = append-nil waiting }
 
 pub PassesOn-then : (held between holds : Option (List ℕ)) (old mid new put more : List ℕ) → PassesOn held between old mid put → PassesOn between holds mid new more
     → PassesOn held holds old new (put ++ more)
@@ -40,14 +39,6 @@ TakesFront-then held between holds old mid put more first front = record {
   appends = Appends-trans held between holds first.taken front.taken first.appends front.appends;
   split = sym (append_assoc old put more) ∙ ap (λ t. t ++ more) first.same ∙ append_assoc first.taken mid more ∙ ap (λ t. first.taken ++ t) front.split
       ∙ sym (append_assoc first.taken front.taken front.left);
-}
-
-pub TakesFront-more : (held holds : Option (List ℕ)) (old more : List ℕ) → TakesFront held holds old → TakesFront held holds (old ++ more)
-TakesFront-more held holds old more front = record {
-  taken = front.taken;
-  left = front.left ++ more;
-  appends = front.appends;
-  split = ap (λ t. t ++ more) front.split ∙ append_assoc front.taken front.left more;
 }
 
 -- ---- levels
@@ -173,7 +164,7 @@ module _ (old new : Trace) (byte : ℕ) (level : Level) (is : (is_trace_byte byt
         found = finding ∷ [];
         is_text = (is.0, tt);
         hears = one_heard (finding ∷ []) hears;
-        takes = TakesFront-more held holds waiting (flat_map finding_line (finding ∷ [])) front;
+        takes = TakesFront-longer held holds waiting (flat_map finding_line (finding ∷ [])) front;
       } in
       subst (λ x. StopsHearing x old new start (byte ∷ []) held holds waiting waiting_now) (sym is_write) (fails, none)
 

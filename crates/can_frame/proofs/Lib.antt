@@ -1,6 +1,7 @@
 -- For crates above.
 -- the levels of a number, and the number of levels
 pub mod LevelLemmas
+pub mod LevelTests
 -- which of two lists is before the other
 pub mod BeforeLemmas
 -- arbitration fields: how two are ranked, that none begins another, and what one tells

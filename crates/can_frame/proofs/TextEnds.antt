@@ -16,6 +16,7 @@ use Rattle.can_frame.proofs.Decimals.{decimal_one, decimal_two}
 use Rattle.can_frame.proofs.TextFronts.{Refuses, Past, Past-step, Past-stop, goes_behind, trails}
 use Rattle.can_frame.proofs.TextStages.{after_direction, before_size, four_before, in_data}
 use Rattle.can_frame.proofs.PartsTold.{dlc_part_is, dlc_told, data_told}
+use Rattle.can_frame.proofs.TextLengths.{length-decimal_digits}
 
 -- the bytes up to this place are the frame's text, and no frame's text goes on with the next byte
 pub record Ended (text : List ℕ) (end : ℕ) (f : Parts) : Type 0 where
@@ -123,12 +124,6 @@ digits_some d = elim (cases_lt d 10) [
   | inr two ↦ omega (arith, ap length (decimal_two d two))
 ]
 
-digits_few : (d : ℕ) → length (decimal_digits d) ≤ 2
-digits_few d = elim (cases_lt d 10) [
-  | inl one ↦ omega (arith, ap length (decimal_one d one))
-  | inr two ↦ omega (arith, ap length (decimal_two d two))
-]
-
 module _ (text : List ℕ) (place : ℕ) (id : Ident) (ident : IsIdent id) (d : ℕ) (few : d < 16)
     (past : Past text place (λ f. (f.id ≡ id) × (f.remote ≡ true)) after_direction)
     (end : ℕ) (spelt : StandsAt (dlc_spelling true d) text place end) (most : MostDigits d (drop place text)) where
@@ -150,7 +145,7 @@ module _ (text : List ℕ) (place : ℕ) (id : Ident) (ident : IsIdent id) (d : 
         ap length same,
         length-take (n + 1) digits,
         length-take-le (n + 1) after long,
-        digits_few g.dlc,
+        length-decimal_digits g.dlc,
         digits_some d,
       ) in
       let front : after ≡ digits ++ drop (n + 1) after =

@@ -7,7 +7,7 @@ use Rattle.can_frame.specs.Stored.{byte_count_le}
 use Rattle.can_frame.specs.Text.{frame_text, hex_digits, decimal_digits, identifier_digits, letter_part, identifier_part, direction_part, dlc_part, data_part, blank_before, blank}
 use Rattle.can_frame.proofs.HexDigits.{length-hex_digits}
 
-length-decimal_digits : (n : ℕ) → length (decimal_digits n) ≤ 2
+pub length-decimal_digits : (n : ℕ) → length (decimal_digits n) ≤ 2
 length-decimal_digits n = by_size (nat_lt n 10)
   where
     by_size : (b : Bool) → length (cond b ((48 + n) ∷ []) ((48 + n / 10) ∷ (48 + n % 10) ∷ [])) ≤ 2

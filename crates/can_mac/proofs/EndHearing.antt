@@ -16,6 +16,7 @@ use Rattle.can_mac.specs.declared.phase.Role.TheVariants.{Receiver, Sender}
 use Rattle.can_mac.specs.declared.phase.Reading.{Reading}
 use Rattle.can_mac.proofs.PartEnds.{agrees-Decides}
 use Rattle.can_mac.proofs.Hearing.{EndsIn, EndsIn-more, HeardPart, HeardSlot, to_end, EndsSpelled}
+use Rattle.can_code.proofs.TailLemmas.{ack_slot-told}
 
 -- one level more behind the stuffed part
 pub HeardPart-more : (role : Role) (r : Reading) (behind levels : List Level) (x : Level) → HeardPart role r behind levels → HeardPart role r (behind ++ x ∷ []) (levels ++ x ∷ [])
@@ -58,10 +59,6 @@ unfolding heard_of
 frame_of-heard_of u acked last = refl
 
 -- the ACK slot tells whether anyone has acknowledged
-ack_slot-told : (ack : Level) → ack_slot (not (is_recessive ack)) ≡ ack
-ack_slot-told Dominant = refl
-ack_slot-told Recessive = refl
-
 -- at the last but one level of the end of frame a receiver has heard a frame
 pub EndsSpelled-received : (r : Reading) (levels : List Level) → r.agrees ≡ true → HeardSlot Receiver r (to_end 6) levels → EndsSpelled r.frame levels
 EndsSpelled-received r levels agreed h =

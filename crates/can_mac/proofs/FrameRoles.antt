@@ -21,9 +21,9 @@ use Rattle.can_mac.specs.State.{IsFrameOrNone}
 use Rattle.can_mac.specs.Machine.{part_drives}
 use Rattle.can_mac.specs.Moves.{in_arbitration}
 use Rattle.can_mac.specs.Frames.{with_intermission, role_at, GoesBehind, PartsAt}
-use Rattle.can_mac.proofs.PartEnds.{same-Decides}
 use Rattle.can_mac.proofs.FrameEnds.{end_levels}
 use Rattle.can_mac.proofs.FrameParts.{Takes, line-parts, line-early}
+use Rattle.can_frame.proofs.LevelTests.{same-Decides}
 
 -- a sender of g loses arbitration against f with the level behind the first o
 pub record Loses (f g : Parts) (o : ℕ) : Type 0 where

@@ -17,6 +17,7 @@ use Rattle.can_code.proofs.DivisionLemmas.{IsCrc-crc_of, IsCrc-only}
 use Rattle.can_mac.specs.declared.phase.Reading.{Reading}
 use Rattle.can_mac.specs.declared.phase.Phase.TheVariants.{StuffedPart, CrcDelimiter}
 use Rattle.can_mac.specs.Moves.{agrees, ends_part, part_phase, reading_of}
+use Rattle.can_frame.proofs.LevelTests.{same-Decides}
 
 -- the stuffed part has ended exactly where the next place is the CRC delimiter
 module _ (f : FrontParts) where
@@ -36,12 +37,6 @@ module _ (f : FrontParts) where
       by_tests true false h = refl
       by_tests false true h = absurd (h refl)
       by_tests false false h = refl
-
-pub same-Decides : (x y : Level) → Decides (same x y) (x ≡ y)
-same-Decides Dominant Dominant = (λ e. refl, λ e. refl)
-same-Decides Recessive Recessive = (λ e. refl, λ e. refl)
-same-Decides Dominant Recessive = (λ e. cc, λ e. cc)
-same-Decides Recessive Dominant = (λ e. cc, λ e. cc)
 
 -- there is one check sequence, so it is told by being it
 pub agrees-Decides : (u : List Level) → Decides (agrees u) (IsCrc (head_of u) (check_of u))

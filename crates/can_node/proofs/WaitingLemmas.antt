@@ -13,7 +13,7 @@ use Rattle.can_node.specs.Ports.{is_less, is_equal, goes_before, same_field, ear
 
 -- ---- the tests of two frames, and the order of their arbitration fields
 
-is_less-Less : (o : Ordering) → is_less o ≡ true → o ≡ Less
+pub is_less-Less : (o : Ordering) → is_less o ≡ true → o ≡ Less
 is_less-Less Less e = refl
 is_less-Less Equal e = cc
 is_less-Less Greater e = cc
