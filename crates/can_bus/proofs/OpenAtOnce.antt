@@ -20,7 +20,7 @@ use Rattle.can_bus.proofs.Members.{filter-stands, map-stands, stands-map, stands
 use Rattle.can_bus.proofs.OfferLemmas.{none_made}
 use Rattle.can_bus.proofs.OfferTimes.{at-now, offered_at}
 use Rattle.can_bus.proofs.OpenStart.{rooms}
-use Rattle.can_bus.proofs.PlayedRuns.{all-taken, all_offered, arriving}
+use Rattle.can_bus.proofs.PlayedRuns.{all-taken, all_arrived, arriving}
 use Rattle.can_bus.proofs.PortOffers.{offers-by-port, port_offers}
 use Rattle.can_bus.proofs.RunLemmas.{levels_joined, runs_joined}
 use Rattle.can_bus.proofs.Schedules.{no-other-schedule, one-schedule}
@@ -37,7 +37,7 @@ at_once-now (x ∷ own) all =
     at-now x own 0 (all x (stands-here x own)) ∙ ap (λ fs. x.frame ∷ fs) (at_once-now own (λ y there. all y (stands-later x own y there)))
 
 -- the number of ports stays, and each has what is offered to it
-length-offered : (offers : List Offer) (node : ℕ) (ports : List PortState) → length (all_offered offers 0 node ports) ≡ length ports
+length-offered : (offers : List Offer) (node : ℕ) (ports : List PortState) → length (all_arrived offers 0 node ports) ≡ length ports
 length-offered offers node [] = refl
 length-offered offers node (p ∷ ports) = ap suc (length-offered offers (node + 1) ports)
 
@@ -46,7 +46,7 @@ record IsOfferedPort (offers : List Offer) (node : ℕ) (ports : List PortState)
   stands : slice_get ports n ≡ Some before
   gained : q ≡ gains (arriving offers (node + n) 0) before
 
-offered-port : (offers : List Offer) (node : ℕ) (ports : List PortState) (n : ℕ) (q : PortState) → slice_get (all_offered offers 0 node ports) n ≡ Some q → IsOfferedPort offers node ports n q
+offered-port : (offers : List Offer) (node : ℕ) (ports : List PortState) (n : ℕ) (q : PortState) → slice_get (all_arrived offers 0 node ports) n ≡ Some q → IsOfferedPort offers node ports n q
 offered-port offers node [] n q there = absurd (let h : None ≡ Some q = there in cc)
 offered-port offers node (p ∷ ports) zero q there =
     let is : gains (arriving offers node 0) p ≡ q = (let h : Some (gains (arriving offers node 0) p) ≡ Some q = there in cc) in
@@ -58,7 +58,7 @@ offered-port offers node (p ∷ ports) (suc n) q there =
     record { before = rest.before; stands = rest.stands; gained = rest.gained ∙ ap (λ k. gains (arriving offers k 0) rest.before) more }
 
 port-offered : (offers : List Offer) (node : ℕ) (ports : List PortState) (n : ℕ) (p : PortState) → slice_get ports n ≡ Some p →
-    slice_get (all_offered offers 0 node ports) n ≡ Some (gains (arriving offers (node + n) 0) p)
+    slice_get (all_arrived offers 0 node ports) n ≡ Some (gains (arriving offers (node + n) 0) p)
 port-offered offers node [] n p there = absurd (let h : None ≡ Some p = there in cc)
 port-offered offers node (x ∷ ports) zero p there =
     let is : x ≡ p = (let h : Some x ≡ Some p = there in cc) in
@@ -91,22 +91,22 @@ module _ (offers : List Offer) (first : AreAtOnce (map timed offers)) where
   own-frames : (node : ℕ) (p : PortState) → (gains (arriving offers node 0) p).queue ≡ frames_of (own_offers offers node p)
   own-frames node p = ap (λ fs. p.queue ++ fs) (at_once-now (offered_to node offers) (to-at_once node)) ∙ sym (first-frames p.queue (offered_to node offers))
 
-  port-frames : (node : ℕ) (ports : List PortState) → queued (all_offered offers 0 node ports) ≡ frames_of (port_offers offers node ports)
+  port-frames : (node : ℕ) (ports : List PortState) → queued (all_arrived offers 0 node ports) ≡ frames_of (port_offers offers node ports)
   port-frames node [] = refl
   port-frames node (p ∷ ports) =
-      ap (λ fs. fs ++ queued (all_offered offers 0 (node + 1) ports)) (own-frames node p)
+      ap (λ fs. fs ++ queued (all_arrived offers 0 (node + 1) ports)) (own-frames node p)
       ∙ ap (λ fs. frames_of (own_offers offers node p) ++ fs) (port-frames (node + 1) ports)
       ∙ sym (map-append (λ (x : Timed). x.frame) (own_offers offers node p) (port_offers offers (node + 1) ports))
 
   -- all frames wait
-  all-wait : (ports : List PortState) → AreOffered (length ports) offers → IsPermutation (queued (all_offered offers 0 0 ports)) (frames_of (all_offers offers ports))
+  all-wait : (ports : List PortState) → AreOffered (length ports) offers → IsPermutation (queued (all_arrived offers 0 0 ports)) (frames_of (all_offers offers ports))
   all-wait ports offered =
       subst (λ fs. IsPermutation fs (frames_of (all_offers offers ports))) (sym (port-frames 0 ports))
       (IsPermutation-map (λ (x : Timed). x.frame) (port_offers offers 0 ports) (all_offers offers ports) (offers-by-port offers ports offered))
 
-  all-size : (ports : List PortState) → AreOffered (length ports) offers → length (queued (all_offered offers 0 0 ports)) ≡ length (all_offers offers ports)
+  all-size : (ports : List PortState) → AreOffered (length ports) offers → length (queued (all_arrived offers 0 0 ports)) ≡ length (all_offers offers ports)
   all-size ports offered =
-      sym (length_permutation (queued (all_offered offers 0 0 ports)) (frames_of (all_offers offers ports)) (all-wait ports offered))
+      sym (length_permutation (queued (all_arrived offers 0 0 ports)) (frames_of (all_offers offers ports)) (all-wait ports offered))
       ∙ length-map (all_offers offers ports) (λ (x : Timed). x.frame)
 
   module _ (ports : List PortState) (room : QueuesHaveRoom offers ports) where
@@ -114,7 +114,7 @@ module _ (offers : List Offer) (first : AreAtOnce (map timed offers)) where
     all = all_offers offers ports
 
     abbrev waiting_ports : List PortState
-    waiting_ports = all_offered offers 0 0 ports
+    waiting_ports = all_arrived offers 0 0 ports
 
     taken : all_made offers 0 ports ≡ waiting_ports
     taken = all-taken offers 0 ports (rooms offers ports room).0

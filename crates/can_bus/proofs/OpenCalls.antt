@@ -16,7 +16,7 @@ use Rattle.can_bus.proofs.OpenBus.{Each, Follows, follows, wire_later, wire_with
 use Rattle.can_bus.proofs.OpenLogs.{Becomes}
 use Rattle.can_bus.proofs.OpenPorts.{OpenPort}
 use Rattle.can_bus.proofs.OpenStart.{OfFrames, all_open, open_port, call-order, call-round, call-wire}
-use Rattle.can_bus.proofs.PlayedRuns.{all_offered, all-taken, open_bus, open-now, played-level, played-refused, played-wire}
+use Rattle.can_bus.proofs.PlayedRuns.{all_arrived, all-taken, open_bus, open-now, played-level, played-refused, played-wire}
 use Rattle.can_bus.proofs.WireRuns.{Wire}
 
 length-open : (offers : List Offer) (node : ℕ) (ports : List PortState) → length (all_open offers node ports) ≡ length ports
@@ -25,7 +25,7 @@ length-open offers node (p ∷ ports) = ap suc (length-open offers (node + 1) po
 
 -- what is offered behind the last bit time has no part in what has become of a port
 each-before : (starts : List Timed) (until : ℕ) (offers : List Offer) (t node : ℕ) (os : List OpenPort) (ports : List PortState) →
-    Each (Becomes starts until) os (all_offered offers t node ports) → Each (Becomes starts until) os ports
+    Each (Becomes starts until) os (all_arrived offers t node ports) → Each (Becomes starts until) os ports
 each-before starts until offers t node [] [] each = tt
 each-before starts until offers t node [] (p ∷ ports) each = each
 each-before starts until offers t node (o ∷ os) [] each = each
@@ -75,7 +75,7 @@ module _ (offers : List Offer) (starts : List Timed) (bus : BusState) (valid : A
   each-port : (n : ℕ) → Each (Becomes starts n) os (played offers n bus).ports
   each-port n =
       let ran = played-wire offers (call-order offers starts bus valid framed call) n bus w (call-wire offers starts bus valid framed call) in
-      let made : ports_of (wire_later n w).machines ≡ all_offered offers n 0 (played offers n bus).ports =
+      let made : ports_of (wire_later n w).machines ≡ all_arrived offers n 0 (played offers n bus).ports =
       ap (λ (v : Wire GainingPort). ports_of v.machines) ran.wire ∙ open-now offers n 0 (open_bus offers n bus).ports ∙ all-taken offers n (played offers n bus).ports ran.have in
       each-before starts n offers n 0 os (played offers n bus).ports (subst (Each (Becomes starts n) os) made (follows-call n).each)
 

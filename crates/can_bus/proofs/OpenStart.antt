@@ -26,7 +26,7 @@ use Rattle.can_bus.proofs.OpenBus.{wire_with}
 use Rattle.can_bus.proofs.OpenPorts.{OpenPort, IsOpenPort, calm-gains, frames-offered}
 use Rattle.can_bus.proofs.OpenRounds.{OpenRound, held, machines_of}
 use Rattle.can_bus.proofs.PortOffers.{offers-by-port, port_offers}
-use Rattle.can_bus.proofs.PlayedRuns.{AreRoomy, HaveRoomNow, IsOpen, all-taken, all_offered, arriving, open_ports, to-here, to-other}
+use Rattle.can_bus.proofs.PlayedRuns.{AreRoomy, HaveRoomNow, IsOpen, all-taken, all_arrived, arriving, open_ports, to-here, to-other}
 use Rattle.can_bus.proofs.QuietStart.{calm-port}
 use Rattle.can_bus.proofs.WireRuns.{Wire}
 
@@ -57,7 +57,7 @@ held-open : (offers : List Offer) (node : ℕ) (ports : List PortState) → held
 held-open offers node [] = refl
 held-open offers node (p ∷ ports) = ap (λ l. own_offers offers node p ++ l) (held-open offers (node + 1) ports)
 
-machines-open : (offers : List Offer) (node : ℕ) (ports : List PortState) → machines_of (all_open offers node ports) ≡ open_ports offers 0 node (all_offered offers 0 node ports)
+machines-open : (offers : List Offer) (node : ℕ) (ports : List PortState) → machines_of (all_open offers node ports) ≡ open_ports offers 0 node (all_arrived offers 0 node ports)
 machines-open offers node [] = refl
 machines-open offers node (p ∷ ports) = ap (λ gs. gaining (gains (arriving offers node 0) p) (arriving offers node) ∷ gs) (machines-open offers (node + 1) ports)
 
@@ -66,7 +66,7 @@ abbrev HasRoom : List Offer → ℕ → PortState → Type 0
 HasRoom offers node p = length (own_offers offers node p) ≤ p.queue_room
 
 room-start : (offers : List Offer) (node : ℕ) (ports : List PortState) → EachFrom (HasRoom offers) node ports →
-    HaveRoomNow offers 0 node ports × AreRoomy offers 0 node (all_offered offers 0 node ports)
+    HaveRoomNow offers 0 node ports × AreRoomy offers 0 node (all_arrived offers 0 node ports)
 room-start offers node [] each = (tt, tt)
 room-start offers node (p ∷ ports) each =
     let own = offered_to node offers in
@@ -78,7 +78,7 @@ room-start offers node (p ∷ ports) each =
       (omega (arith, each.0, both, waits, now, length-append p.queue (arriving offers node 0)), rest.1),
     )
 
-pub rooms : (offers : List Offer) (ports : List PortState) → QueuesHaveRoom offers ports → HaveRoomNow offers 0 0 ports × AreRoomy offers 0 0 (all_offered offers 0 0 ports)
+pub rooms : (offers : List Offer) (ports : List PortState) → QueuesHaveRoom offers ports → HaveRoomNow offers 0 0 ports × AreRoomy offers 0 0 (all_arrived offers 0 0 ports)
 rooms offers ports room =
     room-start offers 0 ports (each-from (HasRoom offers) 0 ports (λ n p at. subst (λ k. HasRoom offers k p) (let e : n ≡ 0 + n = omega arith in e) (room n p at)))
 
@@ -179,7 +179,7 @@ module _ (offers : List Offer) (starts : List Timed) (bus : BusState) (valid : A
   unfolding played
   call-wire =
       let room = rooms offers bus.ports call.room in
-      let made : all_made offers 0 bus.ports ≡ all_offered offers 0 0 bus.ports = all-taken offers 0 bus.ports room.0 in
+      let made : all_made offers 0 bus.ports ≡ all_arrived offers 0 0 bus.ports = all-taken offers 0 bus.ports room.0 in
       record {
         wire =
             ap (λ gs. let w : Wire GainingPort = record { machines = gs; rest = bus.rest } in w)

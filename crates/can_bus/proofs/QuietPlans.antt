@@ -1,5 +1,5 @@
 -- Ports that are made idle and offered their frames are a quiet bus.
-use Rattle.std.specs.Prelude.{fold, slice_get}
+use Rattle.std.specs.Prelude.{slice_get}
 use Rattle.std.proofs.Common.{◌≡◌, ℕ, zero, suc, ◌≤◌, Some, None, List, [], ◌∷◌, ◌++◌, All, length, map, refl, sym, ◌∙◌, ap, subst, arith, append_assoc}
 use Rattle.std.proofs.lemmas.List.{append-nil, length-map}
 use Rattle.std.proofs.lemmas.List.Elements.{All-tail}
@@ -7,22 +7,18 @@ use Rattle.std.proofs.lemmas.Option.{slice_get_within, get_or_from_slice_get}
 use Rattle.can_frame.specs.Parts.{Parts, IsFrame}
 use Rattle.can_mac.specs.State.{idle}
 use Rattle.can_mac.proofs.Kept.{IsMac-idle}
-use Rattle.can_node.specs.Ports.{PortState, IsPort, fresh_port, port_offered}
+use Rattle.can_node.specs.Ports.{PortState, IsPort, fresh_port}
 use Rattle.can_bus.specs.Quiet.{AreDifferent, IsQuiet, IsQuietPort, queued}
 use Rattle.can_bus.specs.Run.{BusState}
 use Rattle.can_bus.specs.Plans.{PlannedPort, FitsQueue, IsQuietPlan, planned, ready_port}
-
--- frames that are offered one after another wait behind those that waited
-pub all-port_offered : (frames : List Parts) (p : PortState) → fold (λ q f. port_offered f q) p frames ≡ record p { queue = p.queue ++ frames }
-all-port_offered [] p = ap (λ queue. record p { queue = queue }) (sym (append-nil p.queue))
-all-port_offered (f ∷ frames) p = all-port_offered frames (port_offered f p) ∙ ap (λ queue. record p { queue = queue }) (append_assoc p.queue (f ∷ []) frames)
+use Rattle.can_node.proofs.Arrivals.{offered-gains}
 
 -- the port as its parts
 abbrev pub filled_port : PlannedPort → PortState
 filled_port plan = record (fresh_port idle plan.queue_room plan.log_room) { queue = plan.frames }
 
 pub ready-filled : (plan : PlannedPort) → ready_port plan ≡ filled_port plan
-ready-filled plan = all-port_offered plan.frames (fresh_port idle plan.queue_room plan.log_room)
+ready-filled plan = offered-gains plan.frames (fresh_port idle plan.queue_room plan.log_room)
 
 pub ready-queued : (plans : List PlannedPort) → queued (map ready_port plans) ≡ planned plans
 ready-queued [] = refl

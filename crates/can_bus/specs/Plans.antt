@@ -1,9 +1,9 @@
 -- How a quiet bus is made. (docs/BUS.md, "A quiet bus")
-use Rattle.std.specs.Prelude.{ℕ, ◌≤◌, List, All, fold, length}
+use Rattle.std.specs.Prelude.{ℕ, ◌≤◌, List, All, length}
 use Rattle.std.specs.List.{flat_map}
 use Rattle.can_frame.specs.Parts.{Parts, IsFrame}
 use Rattle.can_mac.specs.State.{idle}
-use Rattle.can_node.specs.Ports.{PortState, fresh_port, port_offered}
+use Rattle.can_node.specs.Ports.{PortState, fresh_port, all_offered}
 use Rattle.can_bus.specs.Quiet.{AreDifferent}
 
 -- what a port is made with: its rooms, and the frames that it is offered, one after another
@@ -14,7 +14,7 @@ pub record PlannedPort : Type 0 where
 
 -- the port as it is made, idle, and then offered its frames
 abbrev pub ready_port : PlannedPort → PortState
-ready_port plan = fold (λ p f. port_offered f p) (fresh_port idle plan.queue_room plan.log_room) plan.frames
+ready_port plan = all_offered plan.frames (fresh_port idle plan.queue_room plan.log_room)
 
 -- the frames of all ports
 abbrev pub planned : List PlannedPort → List Parts

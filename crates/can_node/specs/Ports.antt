@@ -93,6 +93,11 @@ port_step p seen = port_noting (port_event p seen) (record p { mac = (mac_step p
 abbrev pub port_offered : Parts → PortState → PortState
 port_offered f p = record p { queue = p.queue ++ f ∷ [] }
 
+-- the frames of a list are offered, one after another
+abbrev pub all_offered : List Parts → PortState → PortState
+all_offered [] p = p
+all_offered (f ∷ frames) p = all_offered frames (port_offered f p)
+
 -- n overload frames of the port's own are asked for
 abbrev pub port_holding : ℕ → PortState → PortState
 port_holding n p = record p { mac = holding n p.mac }

@@ -3,7 +3,6 @@ use Rattle.std.specs.Prelude.{slice_get, All}
 use Rattle.std.proofs.Common.{◌≡◌, ℕ, zero, suc, ◌+◌, ◌<◌, Some, List, [], ◌∷◌, ◌++◌, length, map, refl, sym, ap, subst, ◌∙◌, arith}
 use Rattle.can_frame.specs.Parts.{Parts}
 use Rattle.can_node.specs.Ports.{PortState}
-use Rattle.can_node.proofs.Arrivals.{gains, gains-none, gains-twice}
 use Rattle.can_bus.specs.declared.hit.Hit.{Hit}
 use Rattle.can_bus.specs.declared.offer.Offer.{Offer}
 use Rattle.can_bus.specs.Offers.{all_made, played, played_level}
@@ -13,23 +12,20 @@ use Rattle.can_bus.proofs.Members.{Stands, stands-here, stands-later}
 use Rattle.can_bus.proofs.OfferTimes.{at-now, offered_at}
 use Rattle.can_bus.proofs.OpenAtOnce.{at_once-level, at_once-run}
 use Rattle.can_bus.proofs.OpenStart.{rooms}
-use Rattle.can_bus.proofs.PlayedRuns.{all-taken, all_offered as all_arrived, arriving}
+use Rattle.can_bus.proofs.PlayedRuns.{all-taken, all_arrived, arriving}
 use Rattle.can_scenario.specs.declared.scenario.Scenario.{Scenario}
 use Rattle.can_scenario.specs.declared.scenario.PortPlan.{PortPlan}
 use Rattle.can_scenario.specs.declared.scenario.TimedFrame.{TimedFrame}
 use Rattle.can_scenario.specs.QuietReport.{AreFirst}
-use Rattle.can_scenario.specs.Report.{PortReport, all_offered, ended_by, frames_of_queue, level_by, levels_until, made_bus, made_port, new_bus, report, report_text, reported, waiting_bus, waiting_port, waiting_report}
+use Rattle.can_scenario.specs.Report.{PortReport, ended_by, frames_of_queue, level_by, levels_until, made_bus, made_port, new_bus, report, report_text, reported, waiting_bus, waiting_port, waiting_report}
 use Rattle.can_scenario.specs.ScenarioOffers.{in_time, offer_to, offers_from, scenario_offers}
 use Rattle.can_scenario.proofs.OfferOrder.{in_time-first}
 use Rattle.can_scenario.proofs.OpenReports.{levels-same, planned-room}
 use Rattle.can_scenario.proofs.PlannedOffers.{own-is, queue-frames}
 use Rattle.can_scenario.proofs.QuietReports.{all-at, first-offers, offers-at_once}
+use Rattle.can_node.proofs.Arrivals.{offered-gains}
 
 -- ---- the ports
-
-offered-gains : (frames : List Parts) (p : PortState) → all_offered frames p ≡ gains frames p
-offered-gains [] p = sym (gains-none p)
-offered-gains (f ∷ frames) p = offered-gains frames (gains (f ∷ []) p) ∙ gains-twice (f ∷ []) frames p
 
 -- what waits is not told
 told-alike : (plans : List PortPlan) → map reported (map made_port plans) ≡ map reported (map waiting_port plans)

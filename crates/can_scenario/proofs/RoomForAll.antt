@@ -12,7 +12,7 @@ use Rattle.can_bus.specs.Schedule.{Timed}
 use Rattle.can_bus.proofs.Members.{Stands, filter-stands, map-stands, stands-cases, stands-none}
 use Rattle.can_bus.proofs.OfferTimes.{AreInOrder}
 use Rattle.can_bus.proofs.OpenStart.{rooms}
-use Rattle.can_bus.proofs.PlayedRuns.{AreRoomy, IsOpen, all-taken, all_offered, open_bus, open_ports, played-refused, to-here, to-other}
+use Rattle.can_bus.proofs.PlayedRuns.{AreRoomy, IsOpen, all-taken, all_arrived, open_bus, open_ports, played-refused, to-here, to-other}
 use Rattle.can_bus.proofs.WireRuns.{Wire}
 use Rattle.can_scenario.specs.declared.scenario.Scenario.{Scenario}
 use Rattle.can_scenario.specs.Report.{made_bus, made_port}
@@ -53,7 +53,7 @@ module _ (s : Scenario) where
   unfolding played
   has-room =
       let room = rooms offers (map made_port s.ports.items) (planned-room s.ports.items) in
-      let made : all_made offers 0 (map made_port s.ports.items) ≡ all_offered offers 0 0 (map made_port s.ports.items) = all-taken offers 0 (map made_port s.ports.items) room.0 in
+      let made : all_made offers 0 (map made_port s.ports.items) ≡ all_arrived offers 0 0 (map made_port s.ports.items) = all-taken offers 0 (map made_port s.ports.items) room.0 in
       record { wire = refl; room = subst (AreRoomy offers 0 0) (sym made) room.1; have = room.0 }
 
   pub none-refused : (n : ℕ) → refused (scenario_offers s) n (made_bus s) ≡ 0

@@ -11,7 +11,7 @@ use Rattle.can_fault.specs.declared.state.State.TheVariants.{Active, Passive, Bu
 use Rattle.can_fault.specs.Counters.{state_of}
 use Rattle.can_mac.specs.State.{idle, joining}
 use Rattle.can_node.specs.declared.entry.Entry.{Entry}
-use Rattle.can_node.specs.Ports.{PortState, fresh_port, port_offered, port_holding}
+use Rattle.can_node.specs.Ports.{PortState, fresh_port, port_holding, all_offered}
 use Rattle.can_bus.specs.declared.hit.Hit.{Hit}
 use Rattle.can_bus.specs.Offers.{played, played_level}
 use Rattle.can_bus.specs.Run.{BusState, bus_level, bus_run}
@@ -32,11 +32,6 @@ new_bus ports = record { ports = ports; rest = idle_row }
 
 abbrev pub made_bus : Scenario → BusState
 made_bus s = new_bus (map made_port s.ports.items)
-
--- the frames of a list are offered, one after another
-abbrev pub all_offered : List Parts → PortState → PortState
-all_offered [] p = p
-all_offered (f ∷ frames) p = all_offered frames (port_offered f p)
 
 -- the frames that a port is offered, in the order of its queue
 abbrev pub frames_of_queue : PortPlan → List Parts

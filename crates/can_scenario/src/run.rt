@@ -6,7 +6,8 @@ ghost use Rattle.can_bus.specs.Quiet.{span};
 ghost use Rattle.can_scenario.specs.OpenReport.{IsOpenScenario, all_frames, open_report, queues, scenario_starts};
 ghost use Rattle.can_stream.specs.Outbox.{TakesFront};
 ghost use Rattle.can_scenario.specs.QuietReport.{IsQuietScenario, quiet_report};
-ghost use Rattle.can_scenario.specs.Report.{all_offered, ended_bus, made_port as made_port_of, recorded_levels, report, waiting_port};
+ghost use Rattle.can_node.specs.Ports.{all_offered};
+ghost use Rattle.can_scenario.specs.Report.{ended_bus, made_port as made_port_of, recorded_levels, report, waiting_port};
 
 use crate::offers::offers_in_time;
 use crate::report::write_report;

@@ -1,5 +1,5 @@
 use Rattle.std.proofs.Common.{◌≡◌, ◌+◌, ◌≤◌, length, map, drop}
-use Rattle.can_scenario.specs.Report.{all_offered}
+use Rattle.can_node.specs.Ports.{all_offered}
 use Rattle.can_scenario.specs.declared.scenario.TimedFrame.{TimedFrame}
 use Rattle.can_scenario.proofs.run.offer_all.Given as goal
 
