@@ -23,7 +23,7 @@ use Rattle.can_scenario.proofs.OfferOrder.{in_time-first}
 use Rattle.can_scenario.proofs.OpenReports.{levels-same, planned-room}
 use Rattle.can_scenario.proofs.PlannedOffers.{own-is, queue-frames}
 use Rattle.can_scenario.proofs.QuietReports.{all-at, first-offers, offers-at_once}
-use Rattle.can_node.proofs.Arrivals.{offered-gains}
+use Rattle.can_node.proofs.Arrivals.{gains, offered-gains}
 
 -- ---- the ports
 
