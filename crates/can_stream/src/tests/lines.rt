@@ -31,7 +31,8 @@ fn what_waits_is_written_before_a_read(rt: HostRuntime) -> Result<(), Fail> {
     let mut reader = reader_of(b"abc", 8192, Stop::Fails(ErrorKind::Interrupted));
     let mut writer = writer_of(rt.alloc(), ROOM, ROOM, Stop::Nothing);
     let mut out = Outbox::new();
-    out.put(&mut writer, b"known")?;
+    out.put(&mut writer, b"kn")?;
+    out.put(&mut writer, b"own")?;
     let mut inbox = Inbox::new();
     assert_eq!(rt;
         inbox.flush_and_fill(&mut reader, &mut writer, &mut out)?,
