@@ -1,0 +1,4 @@
+pub mod Standings
+pub mod Runs
+pub mod Transcripts
+pub mod Verdicts
