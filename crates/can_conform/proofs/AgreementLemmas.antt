@@ -17,10 +17,11 @@ use Rattle.can_conform.specs.declared.transcript.Counters.{Counters}
 use Rattle.can_conform.specs.declared.transcript.Transcript.{Transcript}
 use Rattle.can_node.specs.Ports.{PortState}
 use Rattle.can_mac.specs.declared.event.Event.{Event}
-use Rattle.can_conform.specs.Runs.{before, counters_of, moment_at, rule_before, standing_before, started, Stands}
+use Rattle.can_conform.specs.Runs.{before, counters_of, moment_at, rule_before, standing_before, started}
 use Rattle.can_conform.specs.Standings.{part_of, phase_name}
 use Rattle.can_conform.specs.Transcripts.{no_counts, told_at, told_before, AgreesAt, EndBefore}
-use Rattle.can_conform.specs.Verdicts.{HasReached, IsDifference, IsDifferenceAt}
+use Rattle.can_conform.specs.Verdicts.{IsDifference}
+use Rattle.can_conform.specs.Walks.{HasReached, IsDifferenceAt, Stands}
 use Rattle.can_conform.proofs.RunLemmas.{before-first, before-past, event-past, level-past, rule-past, since-past}
 use Rattle.can_conform.proofs.TimedLemmas.{reached-first, told_at-past, told_before-first, told_before-past}
 
@@ -112,14 +113,14 @@ stands-past s t p now since past stands = record {
 }
 
 -- where it stands, by its parts
-pub standing-is : (s : Script) (t : ℕ) (p : PortState) (now : Rule) (since : Option (Timed Event)) (st : Standing) → Stands s t p now since → st.phase ≡ phase_name p.mac.phase →
+pub standing-is : (s : Script) (t : ℕ) (p : PortState) (now : Rule) (since : Option (Timed Event)) (st : Standing) → Stands s t p now since → st.phase ≡ phase_name p.mac →
     st.part ≡ part_of p.mac.role → st.rule ≡ now → st.since ≡ since → st ≡ standing_before s t
 standing-is s t p now since st stands phase part decides last =
     let q = before s t in
-    ap (λ x. let r : Standing = record { phase = x; part = st.part; rule = st.rule; since = st.since } in r) (phase ∙ ap (λ (r : PortState). phase_name r.mac.phase) stands.port)
-    ∙ ap (λ x. let r : Standing = record { phase = phase_name q.mac.phase; part = x; rule = st.rule; since = st.since } in r) (part ∙ ap (λ (r : PortState). part_of r.mac.role) stands.port)
-    ∙ ap (λ x. let r : Standing = record { phase = phase_name q.mac.phase; part = part_of q.mac.role; rule = x; since = st.since } in r) (decides ∙ stands.decides)
-    ∙ ap (λ x. let r : Standing = record { phase = phase_name q.mac.phase; part = part_of q.mac.role; rule = rule_before s t; since = x } in r) (last ∙ stands.last)
+    ap (λ x. let r : Standing = record { phase = x; part = st.part; rule = st.rule; since = st.since } in r) (phase ∙ ap (λ (r : PortState). phase_name r.mac) stands.port)
+    ∙ ap (λ x. let r : Standing = record { phase = phase_name q.mac; part = x; rule = st.rule; since = st.since } in r) (part ∙ ap (λ (r : PortState). part_of r.mac.role) stands.port)
+    ∙ ap (λ x. let r : Standing = record { phase = phase_name q.mac; part = part_of q.mac.role; rule = x; since = st.since } in r) (decides ∙ stands.decides)
+    ∙ ap (λ x. let r : Standing = record { phase = phase_name q.mac; part = part_of q.mac.role; rule = rule_before s t; since = x } in r) (last ∙ stands.last)
 
 -- ---- differences
 

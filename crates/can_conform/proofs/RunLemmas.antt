@@ -14,8 +14,9 @@ use Rattle.can_conform.specs.declared.standing.Rule.{Rule}
 use Rattle.can_conform.specs.declared.timed.Timed.{Timed}
 use Rattle.can_conform.specs.declared.transcript.Counters.{Counters}
 use Rattle.can_conform.specs.Transcripts.{changed_in, same_counters}
-use Rattle.can_conform.specs.Runs.{before, behind, counters_of, event_of, handed, last_event, level_of, met, moment_at, next_rule, rule_before, since_before, started, told_of, Stands}
+use Rattle.can_conform.specs.Runs.{before, behind, counters_of, event_of, handed, last_event, level_of, met, moment_at, next_rule, rule_before, since_before, started, told_of}
 use Rattle.can_conform.specs.Standings.{phase_rule}
+use Rattle.can_conform.specs.Walks.{Stands}
 
 -- ---- the first bit time
 

@@ -5,7 +5,8 @@ use Rattle.std.proofs.lemmas.Bool.{cases_order}
 use Rattle.std.proofs.lemmas.Bool.Decides.{nat_tests}
 use Rattle.std.proofs.lemmas.Option.{slice_get_within, slice_get-get_or}
 use Rattle.can_conform.specs.declared.timed.Timed.{Timed}
-use Rattle.can_conform.specs.Transcripts.{told_at, told_before, AreRising, EndBefore, IsReached}
+use Rattle.can_conform.specs.Transcripts.{told_at, told_before, AreRising, EndBefore}
+use Rattle.can_conform.specs.Walks.{IsReached}
 
 -- ---- what is told at a time
 

@@ -129,7 +129,7 @@ since_before s (suc t) = last_event (moment_at s t).event t (since_before s t)
 -- the rule behind a bit time
 abbrev pub next_rule : Option TesterLevel → Script → ℕ → PortState → Rule → Rule
 next_rule None s t p now = now
-next_rule (Some x) s t p now = rule_behind (told_of x (handed s t p)) (phase_name p.mac.phase) (sees x (handed s t p)) (met x (handed s t p)).mac
+next_rule (Some x) s t p now = rule_behind (told_of x (handed s t p)) (phase_name p.mac) (sees x (handed s t p)) (met x (handed s t p)).mac
 
 -- the rule that decides in bit time t
 unfoldable pub rule_before : Script → ℕ → Rule
@@ -139,14 +139,8 @@ rule_before s (suc t) = next_rule (slice_get s.tester.items t) s t (before s t) 
 -- where the reference stands before bit time t
 abbrev pub standing_before : Script → ℕ → Standing
 standing_before s t = record {
-  phase = phase_name (before s t).mac.phase;
+  phase = phase_name (before s t).mac;
   part = part_of (before s t).mac.role;
   rule = rule_before s t;
   since = since_before s t;
 }
-
--- a port, the rule and the last event are those before bit time t
-pub record Stands (s : Script) (t : ℕ) (p : PortState) (now : Rule) (since : Option (Timed Event)) : Type 0 where
-  pub port : p ≡ before s t
-  pub decides : now ≡ rule_before s t
-  pub last : since ≡ since_before s t

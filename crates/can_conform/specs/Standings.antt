@@ -20,23 +20,27 @@ use Rattle.can_conform.specs.declared.standing.Part.TheVariants as part
 use Rattle.can_conform.specs.declared.standing.Rule.{Rule}
 use Rattle.can_conform.specs.declared.standing.Rule.TheVariants as rule
 
--- the phase, and how many of its levels have come
-abbrev pub phase_name : MacPhase → PhaseName
-phase_name (Joining row) = name.Joining row
-phase_name Idle = name.Idle
-phase_name (StuffedPart front) = name.Stuffed (length front.unstuffed)
-phase_name (CrcDelimiter r) = name.CrcDelimiter
-phase_name (AckSlot r) = name.AckSlot
-phase_name (AckDelimiter r) = name.AckDelimiter
-phase_name (EndOfFrame r place) = name.EndOfFrame place
-phase_name (ErrorFlag place) = name.ActiveFlag place
-phase_name (PassiveFlag last run unacknowledged) = name.PassiveFlag run
-phase_name (OverloadFlag place) = name.OverloadFlag place
-phase_name (AfterFlag first dominant) = name.BehindFlag dominant
-phase_name (Delimiter place) = name.Delimiter place
-phase_name (Intermission place) = name.Intermission place
-phase_name (Suspend place) = name.Suspend place
-phase_name BusOff = name.BusOff
+-- the phase, and how many of its levels have come; of bus off, which lasts for 128 rows of eleven recessive levels,
+-- how many of these rows
+abbrev pub phase_named : MacPhase → ℕ → PhaseName
+phase_named (Joining row) rows = name.Joining row
+phase_named Idle rows = name.Idle
+phase_named (StuffedPart front) rows = name.Stuffed (length front.unstuffed)
+phase_named (CrcDelimiter r) rows = name.CrcDelimiter
+phase_named (AckSlot r) rows = name.AckSlot
+phase_named (AckDelimiter r) rows = name.AckDelimiter
+phase_named (EndOfFrame r place) rows = name.EndOfFrame place
+phase_named (ErrorFlag place) rows = name.ActiveFlag place
+phase_named (PassiveFlag last run unacknowledged) rows = name.PassiveFlag run
+phase_named (OverloadFlag place) rows = name.OverloadFlag place
+phase_named (AfterFlag first dominant) rows = name.BehindFlag dominant
+phase_named (Delimiter place) rows = name.Delimiter place
+phase_named (Intermission place) rows = name.Intermission place
+phase_named (Suspend place) rows = name.Suspend place
+phase_named BusOff rows = name.BusOff rows
+
+abbrev pub phase_name : MacState → PhaseName
+phase_name m = phase_named m.phase m.counters.occurrences
 
 abbrev pub part_of : Role → Part
 part_of Receiver = part.Receiver
@@ -83,9 +87,10 @@ ack_delimiter_rule Crc = rule.RefusedCheckSequence
 ack_delimiter_rule Form = rule.FixedForm
 ack_delimiter_rule Ack = rule.FixedForm
 
--- the rule by which an error in this phase starts a flag
+-- the rule by which an error in this phase starts a flag. In a passive flag and behind a flag, between frames and
+-- off the bus there is no error.
 abbrev pub error_rule : PhaseName → ErrorKind → Rule
-error_rule (name.Joining row) kind = rule.FixedForm
+error_rule (name.Joining row) kind = rule.Joining
 error_rule name.Idle kind = rule.StartOfFrame
 error_rule (name.Stuffed n) kind = stuffed_error_rule kind
 error_rule name.CrcDelimiter kind = rule.FixedForm
@@ -93,13 +98,13 @@ error_rule name.AckSlot kind = rule.Acknowledgement
 error_rule name.AckDelimiter kind = ack_delimiter_rule kind
 error_rule (name.EndOfFrame place) kind = rule.FixedForm
 error_rule (name.ActiveFlag place) kind = rule.ErrorInAnOwnFlag
-error_rule (name.PassiveFlag run) kind = rule.FixedForm
+error_rule (name.PassiveFlag run) kind = rule.ErrorFlags
 error_rule (name.OverloadFlag place) kind = rule.ErrorInAnOwnFlag
-error_rule (name.BehindFlag dominant) kind = rule.FixedForm
+error_rule (name.BehindFlag dominant) kind = rule.BehindAFlag
 error_rule (name.Delimiter place) kind = rule.Delimiter
-error_rule (name.Intermission place) kind = rule.FixedForm
-error_rule (name.Suspend place) kind = rule.FixedForm
-error_rule name.BusOff kind = rule.FixedForm
+error_rule (name.Intermission place) kind = rule.Intermission
+error_rule (name.Suspend place) kind = rule.SuspendTransmission
+error_rule (name.BusOff rows) kind = rule.BusOff
 
 -- what starts an overload flag at the end of a frame or of a delimiter: a dominant last level, or a wish of
 -- the controller's own
@@ -107,23 +112,24 @@ abbrev pub last_level_rule : Rule → Level → Rule
 last_level_rule last Dominant = last
 last_level_rule last Recessive = rule.OwnOverloadFrames
 
--- the rule by which a level in this phase starts an overload flag
+-- the rule by which a level in this phase starts an overload flag, which it does at the end of a frame, at that of
+-- a delimiter, and in intermission alone
 abbrev pub overload_rule : PhaseName → Level → Rule
 overload_rule (name.EndOfFrame place) x = last_level_rule rule.DominantLastLevel x
 overload_rule (name.Delimiter place) x = last_level_rule rule.Delimiter x
 overload_rule (name.Intermission place) x = rule.Intermission
-overload_rule (name.Joining row) x = rule.OwnOverloadFrames
-overload_rule name.Idle x = rule.OwnOverloadFrames
-overload_rule (name.Stuffed n) x = rule.OwnOverloadFrames
-overload_rule name.CrcDelimiter x = rule.OwnOverloadFrames
-overload_rule name.AckSlot x = rule.OwnOverloadFrames
-overload_rule name.AckDelimiter x = rule.OwnOverloadFrames
-overload_rule (name.ActiveFlag place) x = rule.OwnOverloadFrames
-overload_rule (name.PassiveFlag run) x = rule.OwnOverloadFrames
-overload_rule (name.OverloadFlag place) x = rule.OwnOverloadFrames
-overload_rule (name.BehindFlag dominant) x = rule.OwnOverloadFrames
-overload_rule (name.Suspend place) x = rule.OwnOverloadFrames
-overload_rule name.BusOff x = rule.OwnOverloadFrames
+overload_rule (name.Joining row) x = rule.OverloadFlags
+overload_rule name.Idle x = rule.OverloadFlags
+overload_rule (name.Stuffed n) x = rule.OverloadFlags
+overload_rule name.CrcDelimiter x = rule.OverloadFlags
+overload_rule name.AckSlot x = rule.OverloadFlags
+overload_rule name.AckDelimiter x = rule.OverloadFlags
+overload_rule (name.ActiveFlag place) x = rule.OverloadFlags
+overload_rule (name.PassiveFlag run) x = rule.OverloadFlags
+overload_rule (name.OverloadFlag place) x = rule.OverloadFlags
+overload_rule (name.BehindFlag dominant) x = rule.OverloadFlags
+overload_rule (name.Suspend place) x = rule.OverloadFlags
+overload_rule (name.BusOff rows) x = rule.OverloadFlags
 
 -- the rule for the bit time behind one that had this event, where the controller was in the first phase as the
 -- level was seen, and is in the state that follows: for the first level of a flag the rule that started it

@@ -1,5 +1,7 @@
 -- Transcripts: what a controller did in a case, told by bit time, and the transcript of a run.
-use Rattle.std.specs.Prelude.{ℕ, ◌≡◌, ◌+◌, ◌<◌, ◌≤◌, ◌^◌, ◌-◌, length, ◌==◌, nat_lt, Bool, ◌&&◌, if◌then◌else◌, List, [], ◌∷◌, Option, Some, None, IfSome, IsSomeAnd, slice_get}
+use Rattle.std.specs.Prelude.{ℕ, zero, suc, ◌≡◌, ◌+◌, ◌<◌, ◌^◌, ◌-◌, length, ◌==◌, nat_lt, Bool, ◌&&◌, if◌then◌else◌, List, [], ◌∷◌, ◌++◌, Option, Some, None, IfSome, IsSomeAnd, option_to_list, slice_get}
+use Rattle.can_frame.specs.declared.level.Level.{Level}
+use Rattle.can_mac.specs.declared.event.Event.{Event}
 use Rattle.can_conform.specs.declared.moment.Moment.{Moment}
 use Rattle.can_conform.specs.declared.script.Script.{Script}
 use Rattle.can_conform.specs.declared.timed.Timed.{Timed}
@@ -27,11 +29,6 @@ timed t (Some x) = record { time = t; told = x } ∷ []
 -- their times rise
 abbrev pub AreRising : {A : Type 0} → List (Timed A) → Type 0
 AreRising {A} xs = (m n : ℕ) (x y : Timed A) → m < n → slice_get xs m ≡ Some x → slice_get xs n ≡ Some y → x.time < y.time
-
--- the walk along them stands at this time: each before this place is earlier, and no other is
-pub record IsReached {A : Type 0} (xs : List (Timed A)) (place time : ℕ) : Type 0 where
-  pub passed : (n : ℕ) (x : Timed A) → n < place → slice_get xs n ≡ Some x → x.time < time
-  pub ahead : (n : ℕ) (x : Timed A) → place ≤ n → slice_get xs n ≡ Some x → time ≤ x.time
 
 -- all of them come before time t
 abbrev pub EndBefore : {A : Type 0} → List (Timed A) → ℕ → Type 0
@@ -78,9 +75,36 @@ pub record Tells {A : Type 0} (at : ℕ → Option A) (xs : List (Timed A)) : Ty
   pub rising : AreRising xs
   pub each : (t : ℕ) → told_at xs t ≡ at t
 
--- all levels, events, changes of a counter, and the end
+-- the levels, events and changes of a counter of the run
+pub record TellsRun (s : Script) (levels : List Level) (events : List (Timed Event)) (changes : List (Timed Counters)) : Type 0 where
+  pub levels : (t : ℕ) → slice_get levels t ≡ (moment_at s t).drove
+  pub events : Tells (λ t. (moment_at s t).event) events
+  pub changes : Tells (changed_in s) changes
+
+-- a transcript that has all of them, and the end
 pub record IsTranscript (s : Script) (told : Transcript) : Type 0 where
   pub levels : (t : ℕ) → slice_get told.drove.items t ≡ (moment_at s t).drove
   pub events : IsSomeAnd told.events (λ events. Tells (λ t. (moment_at s t).event) events.items)
   pub counters : IsSomeAnd told.counters (λ counters. Tells (changed_in s) counters.items)
   pub end : told.end ≡ Some (end_of s)
+
+-- ---- the same, one bit time behind another
+
+-- what comes before bit time n
+unfoldable pub told_upto : {A : Type 0} → (ℕ → Option A) → ℕ → List (Timed A)
+told_upto at zero = []
+told_upto at (suc n) = told_upto at n ++ timed n (at n)
+
+-- the levels that are driven before bit time n
+unfoldable pub driven_upto : Script → ℕ → List Level
+driven_upto s zero = []
+driven_upto s (suc n) = driven_upto s n ++ option_to_list (moment_at s n).drove
+
+abbrev pub levels_of : Script → List Level
+levels_of s = driven_upto s (length s.tester.items)
+
+abbrev pub events_of : Script → List (Timed Event)
+events_of s = told_upto (λ t. (moment_at s t).event) (length s.tester.items)
+
+abbrev pub changes_of : Script → List (Timed Counters)
+changes_of s = told_upto (changed_in s) (length s.tester.items)

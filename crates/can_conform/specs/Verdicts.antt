@@ -8,14 +8,13 @@ use Rattle.can_conform.specs.declared.script.Script.{Script}
 use Rattle.can_conform.specs.declared.judging.Difference.{Difference}
 use Rattle.can_conform.specs.declared.judging.Difference.TheVariants as difference
 use Rattle.can_conform.specs.declared.judging.Failure.{Failure}
-use Rattle.can_conform.specs.declared.judging.Progress.{Progress}
 use Rattle.can_conform.specs.declared.judging.Verdict.{Verdict}
 use Rattle.can_conform.specs.declared.judging.Verdict.TheVariants.{Pass, Fail}
 use Rattle.can_conform.specs.declared.transcript.Counters.{Counters}
 use Rattle.can_conform.specs.declared.transcript.Ending.{Ending}
 use Rattle.can_conform.specs.declared.transcript.Transcript.{Transcript}
 use Rattle.can_conform.specs.Runs.{end_of, moment_at, standing_before}
-use Rattle.can_conform.specs.Transcripts.{Agrees, AgreesAt, IsReached, no_counts, told_at, told_before}
+use Rattle.can_conform.specs.Transcripts.{Agrees, AgreesAt, no_counts, told_at, told_before}
 
 -- another level is told, or one too many, or none where there ought to be one
 pub record IsLevel (told : Transcript) (t : ℕ) (m : Moment) (one other : Option Level) : Type 0 where
@@ -46,13 +45,6 @@ pub record IsEnd (s : Script) (told : Transcript) (t : ℕ) (one other : Ending)
   pub ought : end_of s ≡ other
   pub differs : one ≢ other
 
--- the difference of bit time t, in which the reference does this
-abbrev pub IsDifferenceAt : Transcript → ℕ → Moment → Difference → Type 0
-IsDifferenceAt told t m (difference.Level one other) = IsLevel told t m one other
-IsDifferenceAt told t m (difference.Event one other) = IsEvent told t m one other
-IsDifferenceAt told t m (difference.Counters one other) = AreCounters told t m one other
-IsDifferenceAt told t m (difference.End one other) = ⊥
-
 -- the difference of bit time t, or that of the end
 abbrev pub IsDifference : Script → Transcript → ℕ → Difference → Type 0
 IsDifference s told t (difference.Level one other) = IsLevel told t (moment_at s t) one other
@@ -70,9 +62,3 @@ pub record IsFirst (s : Script) (told : Transcript) (f : Failure) : Type 0 where
 abbrev pub IsVerdict : Script → Transcript → Verdict → Type 0
 IsVerdict s told Pass = Agrees s told
 IsVerdict s told (Fail failure) = IsFirst s told failure
-
--- the walk along a transcript stands at this time
-pub record HasReached (told : Transcript) (p : Progress) (t : ℕ) : Type 0 where
-  pub events : IfSome told.events (λ events. IsReached events.items p.event t)
-  pub counters : IfSome told.counters (λ counters. IsReached counters.items p.counter t)
-  pub held : IfSome told.counters (λ counters. p.held ≡ told_before no_counts counters.items t)

@@ -2,7 +2,8 @@
 ghost use Rattle.std.specs.Prelude.{◌≡◌, ◌<◌, ◌^◌, ◌-◌, ◌++◌, if◌then◌else◌, length, option_to_list, IfOk, None, OnOk, Some};
 ghost use Rattle.can_conform.specs.Transcripts.{same_counters, timed, IsTranscript};
 
-use crate::bench::{Bench, ending_at};
+use crate::bench::Bench;
+use crate::meeting::ending_of;
 use crate::script::Script;
 use crate::timed::Timed;
 use crate::transcript::{Counters, Transcript};
@@ -31,7 +32,7 @@ pub fn expect(alloc: Global, script: &Script) -> Result<Transcript, AllocError>
         drove,
         events: Some(events),
         counters: Some(counters),
-        end: Some(ending_at(&bench.node)),
+        end: Some(ending_of(&bench.node)),
     })
 }
 

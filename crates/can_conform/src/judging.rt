@@ -1,10 +1,12 @@
 //! The judge: whether a transcript tells what the reference does.
 ghost use Rattle.std.specs.Prelude.{ℕ, ◌≡◌, ◌≢◌, ◌≤◌, ◌<◌, ◌^◌, ◌-◌, ◌+◌, length, IfOk, IfSome, IsNone, IsSome, IsSomeAnd, slice_get};
-ghost use Rattle.can_conform.specs.Runs.{moment_at, Stands};
-ghost use Rattle.can_conform.specs.Transcripts.{no_counts, told_at, told_before, AgreesAt, AreRising, EndBefore, IsReached, IsTold};
-ghost use Rattle.can_conform.specs.Verdicts.{HasReached, IsDifferenceAt, IsVerdict};
+ghost use Rattle.can_conform.specs.Runs.{moment_at};
+ghost use Rattle.can_conform.specs.Transcripts.{no_counts, told_at, told_before, AgreesAt, AreRising, EndBefore, IsTold};
+ghost use Rattle.can_conform.specs.Verdicts.{IsVerdict};
+ghost use Rattle.can_conform.specs.Walks.{HasReached, IsDifferenceAt, IsReached, Stands};
 
-use crate::bench::{Bench, ending_at};
+use crate::bench::Bench;
+use crate::meeting::ending_of;
 use crate::moment::Moment;
 use crate::script::Script;
 use crate::standing::Standing;
@@ -101,7 +103,7 @@ fn concluded(script: &Script, transcript: &Transcript, bench: &Bench) -> Verdict
     requires stands { Stands script.now (length script.now.tester.items) (⟦<PackedNode as Port>⟧.port bench.now.node) bench.now.rule bench.now.since }
     ensures { IsVerdict script.now transcript.now result }
 {
-    let ought = ending_at(&bench.node);
+    let ought = ending_of(&bench.node);
     match transcript.end {
         Some(told) if told != ought => Verdict::Fail(Failure {
             time: script.tester.len() as u32,

@@ -1,11 +1,10 @@
 //! Where the reference stands before a bit time: its phase, its part in the frame, and the rule of
 //! docs/ACCESS.md that decides there.
 ghost use Rattle.std.specs.Prelude.{◌≡◌};
-ghost use Rattle.can_conform.specs.Standings.{error_rule as error_rule_of, overload_rule as overload_rule_of, part_of, phase_name as phase_name_of, phase_rule as phase_rule_of, rule_behind as rule_behind_of, stuffed_rule as stuffed_rule_of};
-ghost use Rattle.can_code.specs.Layout.{rtr_place as rtr_place_of};
+ghost use Rattle.can_conform.specs.Standings.{error_rule as error_rule_of, overload_rule as overload_rule_of, part_of, phase_name as phase_name_of, phase_named as phase_named_of, phase_rule as phase_rule_of, rule_behind as rule_behind_of, stuffed_rule as stuffed_rule_of};
 
 use crate::timed::Timed;
-use can_code::{FrameBits, Front, Place, Sending};
+use can_code::{FrameBits, Front, Place, rtr_place};
 use can_frame::Level;
 use can_mac::{ErrorKind, Event, MediumAccess, Phase, Role};
 
@@ -36,7 +35,8 @@ pub enum PhaseName {
     Intermission(u8),
     /// 0 to 7.
     Suspend(u8),
-    BusOff,
+    /// So many rows of eleven recessive levels, 0 to 127.
+    BusOff(u8),
 }
 
 /// What the reference is to the frame on the bus.
@@ -79,9 +79,16 @@ pub struct Standing {
     pub since: Option<Timed<Event>>,
 }
 
-/// The name of a phase.
-pub(crate) fn phase_name<B: FrameBits>(phase: &Phase<Front<B>>) -> PhaseName
-    ensures { result ≡ phase_name_of phase.now }
+/// The name of the phase in which a controller is.
+pub(crate) fn phase_name<B: FrameBits>(access: &MediumAccess<B>) -> PhaseName
+    ensures { result ≡ phase_name_of access.now }
+{
+    phase_named(access.phase(), access.confine().occurrences())
+}
+
+/// The name of a phase, where so many rows of eleven recessive levels have come off the bus.
+fn phase_named<B: FrameBits>(phase: &Phase<Front<B>>, rows: u8) -> PhaseName
+    ensures { result ≡ phase_named_of phase.now rows }
 {
     match phase {
         Phase::Joining { row } => PhaseName::Joining(*row),
@@ -98,7 +105,7 @@ pub(crate) fn phase_name<B: FrameBits>(phase: &Phase<Front<B>>) -> PhaseName
         Phase::Delimiter { place } => PhaseName::Delimiter(*place),
         Phase::Intermission { place } => PhaseName::Intermission(*place),
         Phase::Suspend { place } => PhaseName::Suspend(*place),
-        Phase::BusOff => PhaseName::BusOff,
+        Phase::BusOff => PhaseName::BusOff(rows),
     }
 }
 
@@ -142,19 +149,10 @@ fn stuffed_rule<B: FrameBits>(front: &Front<B>, role: &Role) -> Rule
     match role {
         Role::Receiver => Rule::StuffPlaces,
         Role::Sender(_) if front.next_place() == Place::StuffBit => Rule::StuffPlaces,
-        Role::Sender(sending) if front.len() <= rtr_place(sending) => Rule::Arbitration,
+        Role::Sender(sending) if front.len() <= rtr_place(sending.frame().is_extended()) => {
+            Rule::Arbitration
+        }
         Role::Sender(_) => Rule::KeptFrame,
-    }
-}
-
-/// Where the RTR bit of a frame stands among its unstuffed levels.
-fn rtr_place(sending: &Sending) -> usize
-    ensures { result ≡ rtr_place_of sending.now.id.extended }
-{
-    if sending.frame().is_extended() {
-        32
-    } else {
-        12
     }
 }
 
@@ -162,15 +160,23 @@ fn rtr_place(sending: &Sending) -> usize
 fn error_rule(phase: PhaseName, kind: ErrorKind) -> Rule
     ensures { result ≡ error_rule_of phase kind }
 {
-    match (phase, kind) {
-        (PhaseName::Idle, _) => Rule::StartOfFrame,
-        (PhaseName::Stuffed(_), ErrorKind::Stuff) => Rule::StuffPlaces,
-        (PhaseName::Stuffed(_), _) => Rule::Arbitration,
-        (PhaseName::AckSlot, _) => Rule::Acknowledgement,
-        (PhaseName::AckDelimiter, ErrorKind::Crc) => Rule::RefusedCheckSequence,
-        (PhaseName::Delimiter(_), _) => Rule::Delimiter,
-        (PhaseName::ActiveFlag(_) | PhaseName::OverloadFlag(_), _) => Rule::ErrorInAnOwnFlag,
-        _ => Rule::FixedForm,
+    match phase {
+        PhaseName::Joining(_) => Rule::Joining,
+        PhaseName::Idle => Rule::StartOfFrame,
+        PhaseName::Stuffed(_) if kind == ErrorKind::Stuff => Rule::StuffPlaces,
+        PhaseName::Stuffed(_) => Rule::Arbitration,
+        PhaseName::AckSlot => Rule::Acknowledgement,
+        PhaseName::AckDelimiter if kind == ErrorKind::Crc => Rule::RefusedCheckSequence,
+        PhaseName::CrcDelimiter | PhaseName::AckDelimiter | PhaseName::EndOfFrame(_) => {
+            Rule::FixedForm
+        }
+        PhaseName::ActiveFlag(_) | PhaseName::OverloadFlag(_) => Rule::ErrorInAnOwnFlag,
+        PhaseName::PassiveFlag(_) => Rule::ErrorFlags,
+        PhaseName::BehindFlag(_) => Rule::BehindAFlag,
+        PhaseName::Delimiter(_) => Rule::Delimiter,
+        PhaseName::Intermission(_) => Rule::Intermission,
+        PhaseName::Suspend(_) => Rule::SuspendTransmission,
+        PhaseName::BusOff(_) => Rule::BusOff,
     }
 }
 
@@ -181,8 +187,11 @@ fn overload_rule(phase: PhaseName, seen: Level) -> Rule
     match (phase, seen) {
         (PhaseName::EndOfFrame(_), Level::Dominant) => Rule::DominantLastLevel,
         (PhaseName::Delimiter(_), Level::Dominant) => Rule::Delimiter,
+        (PhaseName::EndOfFrame(_) | PhaseName::Delimiter(_), Level::Recessive) => {
+            Rule::OwnOverloadFrames
+        }
         (PhaseName::Intermission(_), _) => Rule::Intermission,
-        _ => Rule::OwnOverloadFrames,
+        _ => Rule::OverloadFlags,
     }
 }
 

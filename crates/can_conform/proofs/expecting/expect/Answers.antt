@@ -3,8 +3,9 @@ use Rattle.std.proofs.Common.{◌≡◌, ℕ, ◌+◌, ◌<◌, ◌≤◌, List,
 use Rattle.can_frame.specs.declared.level.Level.{Level}
 use Rattle.can_conform.specs.declared.moment.Moment.{Moment}
 use Rattle.can_conform.specs.declared.transcript.Counters.{Counters}
-use Rattle.can_conform.specs.Runs.{before, counters_of, ending_of, moment_at, Stands}
+use Rattle.can_conform.specs.Runs.{before, counters_of, ending_of, moment_at}
 use Rattle.can_conform.specs.Transcripts.{changed_in, same_counters}
+use Rattle.can_conform.specs.Walks.{Stands}
 use Rattle.can_conform.proofs.AgreementLemmas.{counters-start}
 use Rattle.can_conform.proofs.Drives.{AreDriven, driven-all, driven-next, driven-none}
 use Rattle.can_conform.proofs.Growing.{IsToldUpTo, told-all, told-next, told-none}
@@ -57,5 +58,5 @@ returns c =
       levels = driven-all s c.loop-time.drove.items n size c.loop-time.invariant.drove;
       events = told-all (λ t. (moment_at s t).event) c.loop-time.events.items n (λ t late. event-past s t (omega (arith, size, late))) c.loop-time.invariant.events;
       counters = told-all (changed_in s) c.loop-time.counters.items n (λ t late. changed-past s t (omega (arith, size, late))) c.loop-time.invariant.counters;
-      end = ap (λ e. Some e) (c.ending_at.ensures ∙ ap ending_of (c.loop-time.invariant.stands.port ∙ ap (before s) (sym size)));
+      end = ap (λ e. Some e) (c.ending_of.ensures ∙ ap ending_of (c.loop-time.invariant.stands.port ∙ ap (before s) (sym size)));
     }

@@ -1,6 +1,7 @@
 use Rattle.std.proofs.Common.{◌≡◌}
-use Rattle.can_conform.specs.Runs.{before, counters_of, moment_at, Stands}
+use Rattle.can_conform.specs.Runs.{before, counters_of, moment_at}
 use Rattle.can_conform.specs.Transcripts.{changed_in}
+use Rattle.can_conform.specs.Walks.{Stands}
 use Rattle.can_conform.proofs.Drives.{AreDriven}
 use Rattle.can_conform.proofs.Growing.{IsToldUpTo}
 use Rattle.can_conform.proofs.NodePort.{node_port}

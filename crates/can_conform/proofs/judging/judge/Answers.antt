@@ -1,6 +1,7 @@
 use Rattle.std.proofs.Common.{◌≡◌, ℕ, ◌+◌, ◌<◌, length, refl, subst, ap, ◌∙◌, arith}
-use Rattle.can_conform.specs.Runs.{moment_at, Stands}
+use Rattle.can_conform.specs.Runs.{moment_at}
 use Rattle.can_conform.specs.Transcripts.{AgreesAt}
+use Rattle.can_conform.specs.Walks.{Stands}
 use Rattle.can_conform.proofs.AgreementLemmas.{agrees-all, agrees-more, reached-start, stands-past}
 use Rattle.can_conform.proofs.NodePort.{node_port}
 use Rattle.can_conform.proofs.judging.judge.Goals as goal

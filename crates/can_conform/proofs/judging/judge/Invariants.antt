@@ -1,7 +1,7 @@
 use Rattle.std.proofs.Common.{◌≡◌, ℕ, ◌<◌}
-use Rattle.can_conform.specs.Runs.{moment_at, Stands}
+use Rattle.can_conform.specs.Runs.{moment_at}
 use Rattle.can_conform.specs.Transcripts.{AgreesAt}
-use Rattle.can_conform.specs.Verdicts.{HasReached}
+use Rattle.can_conform.specs.Walks.{HasReached, Stands}
 use Rattle.can_conform.proofs.NodePort.{node_port}
 use Rattle.can_conform.proofs.judging.judge.Given as goal
 
