@@ -5,3 +5,5 @@ pub mod Drives
 pub mod NodePort
 pub mod Handing
 pub mod AgreementLemmas
+pub mod TranscriptLemmas
+pub mod VerdictLemmas

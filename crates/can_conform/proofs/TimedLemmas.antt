@@ -36,10 +36,10 @@ told_at-past xs end t ends past = told_at-none xs t (λ n x at. let h : x.time <
 
 -- ---- rising times
 
-rising-rest : {A : Type 0} (x : Timed A) (xs : List (Timed A)) → AreRising (x ∷ xs) → AreRising xs
+pub rising-rest : {A : Type 0} (x : Timed A) (xs : List (Timed A)) → AreRising (x ∷ xs) → AreRising xs
 rising-rest x xs rising = λ m n a b h at to. rising (suc m) (suc n) a b (omega arith) at to
 
-rising-first : {A : Type 0} (x : Timed A) (xs : List (Timed A)) → AreRising (x ∷ xs) → (n : ℕ) (y : Timed A) → slice_get xs n ≡ Some y → x.time < y.time
+pub rising-first : {A : Type 0} (x : Timed A) (xs : List (Timed A)) → AreRising (x ∷ xs) → (n : ℕ) (y : Timed A) → slice_get xs n ≡ Some y → x.time < y.time
 rising-first x xs rising n y at = rising 0 (suc n) x y (omega arith) refl at
 
 pub rising-ahead : {A : Type 0} (xs : List (Timed A)) → AreRising xs → (m n : ℕ) (x y : Timed A) → m ≤ n → slice_get xs m ≡ Some x → slice_get xs n ≡ Some y → x.time ≤ y.time
