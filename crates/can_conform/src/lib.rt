@@ -8,8 +8,8 @@
 //! What a program calls:
 //!
 //! - [`expect`] answers what the reference does in a case, a [`Transcript`].
-//! - [`judge`] holds the transcript of another controller against it, and tells the first difference: a
-//!   [`Failure`] with the phase in which the reference is before that bit time and the rule of docs/ACCESS.md
+//! - [`judge`] holds the transcript of another controller against it, if it [is told](Transcript::is_told) by rising
+//!   times, and tells the first difference: a [`Failure`] with the phase in which the reference is before that bit time and the rule of docs/ACCESS.md
 //!   that decides there.
 //! - [`new_reference`] is the reference by itself, to be played as a case comes: frames are handed to it by
 //!   `offer` and wishes by `hold`, as to any port, [`meet`] is one bit time with the tester, and [`ending_of`]
@@ -23,7 +23,7 @@
 //! | `moment.rt` | [`Moment`], what the reference does in a bit time | `specs/Runs.antt` |
 //! | `bench.rt` | the reference, played through a case | `specs/Runs.antt` |
 //! | `standing.rt` | [`Standing`]: phase, part and rule by name | `specs/Standings.antt` |
-//! | `transcript.rt` | [`Transcript`], what a controller did | `specs/Transcripts.antt` |
+//! | `transcript.rt` | [`Transcript`], what a controller did, and whether its times rise | `specs/Transcripts.antt` |
 //! | `expecting.rt` | [`expect`] | `specs/Transcripts.antt` |
 //! | `judging.rt` | [`judge`], [`Verdict`] | `specs/Verdicts.antt` |
 //! | `laws.rt` | that a case has one transcript, which passes, and a transcript one verdict | `specs/Transcripts.antt`, `specs/Verdicts.antt` |

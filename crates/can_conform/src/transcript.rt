@@ -1,3 +1,7 @@
+//! Transcripts: what a controller did in a case.
+ghost use Rattle.std.specs.Prelude.{◌^◌, ◌-◌, ◌↔◌, IfSome, IsTrue};
+ghost use Rattle.can_conform.specs.Transcripts.{AreRising, EndBefore, IsTold};
+
 use crate::timed::Timed;
 use can_fault::State;
 use can_frame::Level;
@@ -37,4 +41,42 @@ pub struct Transcript {
     /// Its counters behind each bit time that changed one, by rising times.
     pub counters: Option<Vec<Timed<Counters>>>,
     pub end: Option<Ending>,
+}
+
+impl Transcript {
+    /// Whether its times rise, and there are no more than 2^32 - 2 levels, and no time above that: what
+    /// [`judge`](crate::judge) asks for.
+    pub fn is_told(&self) -> bool
+        ensures { IsTrue result ↔ IsTold self.now }
+    {
+        self.drove.len() < u32::MAX as usize && are_told(&self.events) && are_told(&self.counters)
+    }
+}
+
+/// Whether times rise, where they are told.
+fn are_told<T>(list: &Option<Vec<Timed<T>>>) -> bool
+    ensures rising { IsTrue result → IfSome list.now (λ list. AreRising list.items) }
+    ensures end { IsTrue result → IfSome list.now (λ list. EndBefore list.items (2 ^ 32 - 1)) }
+    ensures only { IfSome list.now (λ list. AreRising list.items) → IfSome list.now (λ list. EndBefore list.items (2 ^ 32 - 1)) → IsTrue result }
+{
+    match list {
+        Some(list) => are_rising(list),
+        None => true,
+    }
+}
+
+/// Whether times rise, none of them the highest number.
+fn are_rising<T>(list: &[Timed<T>]) -> bool
+    ensures rising { IsTrue result → AreRising list.now }
+    ensures end { IsTrue result → EndBefore list.now (2 ^ 32 - 1) }
+    ensures only { AreRising list.now → EndBefore list.now (2 ^ 32 - 1) → IsTrue result }
+{
+    let mut least = 0;
+    for told in list {
+        if told.time < least || told.time == u32::MAX {
+            return false;
+        }
+        least = told.time + 1;
+    }
+    true
 }
