@@ -25,6 +25,7 @@ fn counters(transmit: u16, receive: u16) -> Counters {
 
 /// A row: what the tester does, the levels that the reference drives, its events, the changes of a counter, and
 /// its end.
+#[derive(Clone, Copy)]
 struct Row<'a> {
     case: &'a Script,
     drove: &'a [(&'a str, usize)],

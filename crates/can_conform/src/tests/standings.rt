@@ -168,7 +168,7 @@ fn joining_and_lost_arbitration(rt: HostRuntime) -> Result<(), Fail> {
     hold(&rt, rt.alloc(), &case, &rows)?;
     // an extended frame, which loses at SRR, the 13th unstuffed level, behind two stuff bits
     let mut case = script(rt.alloc(), Start::Idle, &[PART, REST, ("1", 4)])?;
-    let told = Frame::from_text(b"X 00000000 D 0")?;
+    let told = Frame::from_text(b"E 00000000 D 0")?;
     case.offers.push(Timed { time: 0, told })?;
     let rows = [
         (14, PhaseName::Stuffed(12), Sender, Rule::Arbitration),
