@@ -5,7 +5,7 @@ ghost use Rattle.can_conform.specs.Runs.{all_handed, given, handed, last_event a
 ghost use Rattle.can_conform.specs.Standings.{part_of, phase_name as phase_name_of};
 ghost use Rattle.can_conform.specs.Walks.{Stands};
 
-use crate::meeting::{Meeting, counters_of, meet, new_reference};
+use crate::meeting::{Meeting, counters_of, meet, started_node};
 use crate::moment::Moment;
 use crate::script::{Script, TesterLevel};
 use crate::standing::{Rule, Standing, part_in, phase_name, phase_rule, rule_behind};
@@ -66,7 +66,7 @@ impl Bench {
         ensures stands { IfOk result (λ b. Stands script.now 0 (⟦<PackedNode as Port>⟧.port b.node) b.rule b.since) }
         ensures time { IfOk result (λ b. b.time ≡ 0) }
     {
-        let node = new_reference(alloc, script.start)?;
+        let node = started_node(alloc, script.start)?;
         let rule = phase_rule(node.access().phase(), node.access().role());
         Ok(Bench {
             node,

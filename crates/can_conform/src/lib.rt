@@ -11,7 +11,7 @@
 //! - [`judge`] holds the transcript of another controller against it, if it [is told](Transcript::is_told) by rising
 //!   times, and tells the first difference: a [`Failure`] with the phase in which the reference is before that bit time and the rule of docs/ACCESS.md
 //!   that decides there.
-//! - [`new_reference`] is the reference by itself, to be played as a case comes: frames are handed to it by
+//! - [`started_node`] is the reference by itself, to be played as a case comes: frames are handed to it by
 //!   `offer` and wishes by `hold`, as to any port, [`meet`] is one bit time with the tester, and [`ending_of`]
 //!   tells what it has come to.
 //!
@@ -19,7 +19,7 @@
 //! |---|---|---|
 //! | `script.rt` | [`Script`], a case as it is played | `specs/Runs.antt` |
 //! | `timed.rt` | [`Timed`], something with its bit time | |
-//! | `meeting.rt` | [`new_reference`], and [`meet`], one bit time of a port with the tester | `specs/Runs.antt` |
+//! | `meeting.rt` | [`started_node`], and [`meet`], one bit time of a port with the tester | `specs/Runs.antt` |
 //! | `moment.rt` | [`Moment`], what the reference does in a bit time | `specs/Runs.antt` |
 //! | `bench.rt` | the reference, played through a case | `specs/Runs.antt` |
 //! | `standing.rt` | [`Standing`]: phase, part and rule by name | `specs/Standings.antt` |
@@ -45,7 +45,7 @@ mod transcript;
 pub use expecting::expect;
 pub use judging::{Difference, Failure, Verdict, judge};
 pub use laws::{one_transcript, one_verdict};
-pub use meeting::{Meeting, counters_of, ending_of, meet, new_reference};
+pub use meeting::{Meeting, counters_of, ending_of, meet, started_node};
 pub use moment::Moment;
 pub use script::{Script, Start, TesterLevel};
 pub use standing::{Part, PhaseName, Rule, Standing};

@@ -40,7 +40,7 @@ impl TesterLevel {
 
 /// The reference before bit time 0: a new port, with room for 256 frames. It fails only where an allocation
 /// does.
-pub fn new_reference(alloc: Global, start: Start) -> Result<PackedNode, AllocError>
+pub fn started_node(alloc: Global, start: Start) -> Result<PackedNode, AllocError>
     ensures { IfOk result (λ node. ⟦<PackedNode as Port>⟧.port node ≡ started start) }
 {
     match start {

@@ -2,7 +2,7 @@
 use crate::tests::{expected, frame, levels, offering, script};
 use crate::{
     Counters, Ending, Script, Start, TesterLevel, Timed, Transcript, ending_of, meet,
-    new_reference,
+    started_node,
 };
 use can_fault::State;
 use can_frame::Level;
@@ -163,7 +163,7 @@ fn an_overload_frame_is_asked_for_in_time(rt: HostRuntime) -> Result<(), Fail> {
 
 #[test]
 fn the_reference_is_played_by_itself(rt: HostRuntime) -> Result<(), Fail> {
-    let mut port = new_reference(rt.alloc(), Start::Idle)?;
+    let mut port = started_node(rt.alloc(), Start::Idle)?;
     assert!(rt; port.offer(frame()?).is_ok());
     let start = meet(&mut port, TesterLevel::Forced);
     assert_eq!(rt; start.drove, Level::Dominant);
