@@ -1,4 +1,5 @@
 pub mod TimedLemmas
+pub mod RisingLemmas
 pub mod Growing
 pub mod RunLemmas
 pub mod Drives
@@ -7,3 +8,5 @@ pub mod Handing
 pub mod AgreementLemmas
 pub mod TranscriptLemmas
 pub mod VerdictLemmas
+pub mod Deciding
+pub mod FirstDifferences

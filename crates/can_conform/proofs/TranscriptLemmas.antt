@@ -103,9 +103,9 @@ same-told : {A : Type 0} (xs ys : List (Timed A)) → AreRising xs → AreRising
 same-told [] [] one other same = refl
 same-told [] (y ∷ ys) one other same = let e : None ≡ Some y.told = same y.time ∙ told-first y ys in absurd (let k : ⊥ = cc in k)
 same-told (x ∷ xs) [] one other same = let e : Some x.told ≡ None = sym (told-first x xs) ∙ same x.time in absurd (let k : ⊥ = cc in k)
-same-told (x ∷ xs) (y ∷ ys) one other same =
+same-told {A} (x ∷ xs) (y ∷ ys) one other same =
     let head : x ≡ y = same-first x y xs ys one other same in
-    let time : x.time ≡ y.time = ap (λ (z : Timed _). z.time) head in
+    let time : x.time ≡ y.time = ap (λ (z : Timed A). z.time) head in
     ap (λ z. z ∷ xs) head
     ∙ ap (λ zs. y ∷ zs) (same-told xs ys (rising-rest x xs one) (rising-rest y ys other) (same-rest x y xs ys one other time same))
 

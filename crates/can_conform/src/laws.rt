@@ -4,7 +4,7 @@ ghost use Rattle.can_conform.specs.declared.judging.Failure.{Failure as FirstDif
 ghost use Rattle.can_conform.specs.declared.judging.Verdict.{Verdict as Judgement};
 ghost use Rattle.can_conform.specs.declared.script.Script.{Script as Case};
 ghost use Rattle.can_conform.specs.declared.transcript.Transcript.{Transcript as Record};
-ghost use Rattle.can_conform.specs.Transcripts.{changes_of, events_of, levels_of, Agrees, IsTranscript, TellsRun};
+ghost use Rattle.can_conform.specs.Transcripts.{changes_of, events_of, levels_of, Agrees, IsTold, IsTranscript, TellsRun};
 ghost use Rattle.can_conform.specs.Verdicts.{IsFirst, IsVerdict};
 
 /// A case has exactly one transcript: there are levels, events and changes of a counter that are those of its run,
@@ -17,9 +17,10 @@ pub fn one_transcript()
     ensures agrees { (s : Case) (told : Record) → IsTranscript s told → Agrees s told }
 {}
 
-/// A transcript has one verdict: it doesn't both agree with the run and differ from it, and it has one first
-/// difference at most.
+/// A transcript has exactly one verdict: it agrees with the run or has a first difference, never both, and no
+/// other first difference.
 pub fn one_verdict()
+    ensures some { (s : Case) (told : Record) → IsTold told → (verdict : Judgement) × IsVerdict s told verdict }
     ensures apart { (s : Case) (told : Record) (failure : FirstDifference) → Agrees s told → IsFirst s told failure → ⊥ }
     ensures first { (s : Case) (told : Record) (one other : FirstDifference) → IsFirst s told one → IsFirst s told other → one ≡ other }
     ensures one { (s : Case) (told : Record) (one other : Judgement) → IsVerdict s told one → IsVerdict s told other → one ≡ other }
