@@ -152,6 +152,20 @@ impl<B: FrameBits> MediumAccess<B> {
         &self.confine
     }
 
+    /// Its phase, before the next level.
+    pub fn phase(&self) -> &Phase<Front<B>>
+        ensures { result.now ≡ self.now.phase }
+    {
+        &self.phase
+    }
+
+    /// What it is to the frame on the bus.
+    pub fn role(&self) -> &Role
+        ensures { result.now ≡ self.now.role }
+    {
+        &self.role
+    }
+
     /// Off the bus each level counts for recovery.
     fn wait_for_recovery(&mut self, seen: Level) -> Option<Event>
         requires { is_off_phase self.old.phase ≡ true }
