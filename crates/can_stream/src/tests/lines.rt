@@ -16,13 +16,10 @@ fn lines_of_pieces(rt: HostRuntime) -> Result<(), Fail> {
         assert_eq!(rt; lines.place(), 0);
         assert!(rt; lines.next_line(&mut reader, &mut writer, &mut out)?);
         assert_eq!(rt; lines.line(), b"ab".as_slice());
-        assert_eq!(rt; lines.place(), 3);
         assert!(rt; lines.next_line(&mut reader, &mut writer, &mut out)?);
         assert_eq!(rt; lines.line(), b"long".as_slice());
-        assert_eq!(rt; lines.place(), 10);
         assert!(rt; !lines.next_line(&mut reader, &mut writer, &mut out)?);
         assert_eq!(rt; lines.line(), b"c".as_slice());
-        assert_eq!(rt; lines.place(), 11);
         assert!(rt; reader.ended());
     }
     Ok(())
