@@ -21,12 +21,12 @@ pub data OrNot (P : Type 0) : Type 0 where
 
 or-not-both : {P Q : Type 0} → OrNot P → OrNot Q → OrNot (P × Q)
 or-not-both (holds p) (holds q) = holds (p, q)
-or-not-both (holds p) (fails no) = fails (λ both. no both.1)
-or-not-both (fails no) other = fails (λ both. no both.0)
+or-not-both (holds p) (fails never) = fails (λ both. never both.1)
+or-not-both (fails never) other = fails (λ both. never both.0)
 
 or-not-as : {P Q : Type 0} → (P → Q) → (Q → P) → OrNot P → OrNot Q
 or-not-as to from (holds p) = holds (to p)
-or-not-as to from (fails no) = fails (λ q. no (from q))
+or-not-as to from (fails never) = fails (λ q. never (from q))
 
 -- told by something that leads back
 told-by : {A B : Type 0} (code : A → B) (back : B → A) → ((a : A) → back (code a) ≡ a) → ((x y : B) → OrNot (x ≡ y)) → (a b : A) → OrNot (a ≡ b)
