@@ -1,6 +1,5 @@
 -- Whether two levels, events, counters or ends are the same.
-use Rattle.std.specs.Prelude.{◌⊎◌}
-use Rattle.std.proofs.Common.{◌≡◌, ℕ, zero, suc, Bool, true, false, List, [], ◌∷◌, Option, Some, None, refl, sym, ap, ◌∙◌, inl, inr}
+use Rattle.std.proofs.Common.{◌≡◌, ℕ, zero, suc, ◌+◌, Bool, true, false, List, [], ◌∷◌, Option, Some, None, refl, sym, ap, ◌∙◌, inl, inr}
 use Rattle.std.proofs.lemmas.Bool.{cases_eq}
 use Rattle.can_frame.specs.declared.level.Level.{Level}
 use Rattle.can_frame.specs.declared.level.Level.TheVariants.{Dominant, Recessive}
@@ -16,27 +15,25 @@ use Rattle.can_conform.specs.declared.transcript.Counters.{Counters}
 use Rattle.can_conform.specs.declared.transcript.Ending.{Ending}
 
 -- it holds or it doesn't
-abbrev pub OrNot : Type 0 → Type 0
-OrNot P = P ⊎ (P → ⊥)
+pub data OrNot (P : Type 0) : Type 0 where
+  holds : P → OrNot P
+  fails : (P → ⊥) → OrNot P
 
 or-not-both : {P Q : Type 0} → OrNot P → OrNot Q → OrNot (P × Q)
-or-not-both p q = elim p [
-  | inl yes ↦ elim q [
-    | inl also ↦ inl (yes, also)
-    | inr no ↦ inr (λ h. no h.1)
-  ]
-  | inr no ↦ inr (λ h. no h.0)
-]
+or-not-both (holds p) (holds q) = holds (p, q)
+or-not-both (holds p) (fails never) = fails (λ both. never both.1)
+or-not-both (fails never) other = fails (λ both. never both.0)
 
 or-not-as : {P Q : Type 0} → (P → Q) → (Q → P) → OrNot P → OrNot Q
-or-not-as to from p = elim p [ inl yes ↦ inl (to yes) | inr no ↦ inr (λ q. no (from q)) ]
+or-not-as to from (holds p) = holds (to p)
+or-not-as to from (fails never) = fails (λ q. never (from q))
 
 -- told by something that leads back
 told-by : {A B : Type 0} (code : A → B) (back : B → A) → ((a : A) → back (code a) ≡ a) → ((x y : B) → OrNot (x ≡ y)) → (a b : A) → OrNot (a ≡ b)
 told-by code back round decides a b = or-not-as (λ e. sym (round a) ∙ ap back e ∙ round b) (λ e. ap code e) (decides (code a) (code b))
 
 same-number : (m n : ℕ) → OrNot (m ≡ n)
-same-number m n = cases_eq m n
+same-number m n = elim (cases_eq m n) [ inl same ↦ holds same | inr apart ↦ fails apart ]
 
 abbrev bool-code : Bool → ℕ
 bool-code true = 1
@@ -54,17 +51,17 @@ same-bool : (a b : Bool) → OrNot (a ≡ b)
 same-bool a b = told-by bool-code bool-back bool-round same-number a b
 
 same-list : {A : Type 0} → ((x y : A) → OrNot (x ≡ y)) → (xs ys : List A) → OrNot (xs ≡ ys)
-same-list decides [] [] = inl refl
-same-list decides [] (y ∷ ys) = inr (λ e. let k : ⊥ = cc in k)
-same-list decides (x ∷ xs) [] = inr (λ e. let k : ⊥ = cc in k)
+same-list decides [] [] = holds refl
+same-list decides [] (y ∷ ys) = fails (λ e. cc)
+same-list decides (x ∷ xs) [] = fails (λ e. cc)
 same-list decides (x ∷ xs) (y ∷ ys) =
     or-not-as (λ h. ap (λ z. z ∷ xs) h.0 ∙ ap (λ zs. y ∷ zs) h.1) (λ e. ((let k : x ≡ y = cc in k), (let k : xs ≡ ys = cc in k)))
     (or-not-both (decides x y) (same-list decides xs ys))
 
 pub same-option : {A : Type 0} → ((x y : A) → OrNot (x ≡ y)) → (o p : Option A) → OrNot (o ≡ p)
-same-option decides None None = inl refl
-same-option decides None (Some y) = inr (λ e. let k : ⊥ = cc in k)
-same-option decides (Some x) None = inr (λ e. let k : ⊥ = cc in k)
+same-option decides None None = holds refl
+same-option decides None (Some y) = fails (λ e. cc)
+same-option decides (Some x) None = fails (λ e. cc)
 same-option decides (Some x) (Some y) = or-not-as (λ e. ap (λ z. Some z) e) (λ e. let k : x ≡ y = cc in k) (decides x y)
 
 -- ---- levels

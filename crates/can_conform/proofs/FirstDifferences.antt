@@ -19,22 +19,22 @@ use Rattle.can_conform.specs.Transcripts.{no_counts, told_at, told_before, Agree
 use Rattle.can_conform.specs.Verdicts.{IsDifference, IsFirst, IsVerdict}
 use Rattle.can_conform.specs.Walks.{IsDifferenceAt}
 use Rattle.can_conform.proofs.AgreementLemmas.{agrees-all, agrees-more, difference-is, some-map}
-use Rattle.can_conform.proofs.Deciding.{OrNot, same-counts, same-ending, same-event, same-level, same-option}
+use Rattle.can_conform.proofs.Deciding.{OrNot, holds, fails, same-counts, same-ending, same-event, same-level, same-option}
 
 -- what is told, if it is told, is this, or something else
 is-or-differs : {A B : Type 0} → ((x y : B) → OrNot (x ≡ y)) → (o : Option A) (f : A → B) (b : B) →
     IfSome o (λ x. f x ≡ b) ⊎ ((c : B) × IsSomeAnd o (λ x. f x ≡ c) × (c ≢ b))
 is-or-differs decides None f b = inl tt
 is-or-differs decides (Some x) f b = elim (decides (f x) b) [
-  | inl same ↦ inl same
-  | inr other ↦ inr (f x, refl, other)
+  | holds same ↦ inl same
+  | fails other ↦ inr (f x, refl, other)
 ]
 
 -- a bit time agrees, or has a difference
 at-time : (told : Transcript) (t : ℕ) (m : Moment) → AgreesAt told t m ⊎ ((d : Difference) × IsDifferenceAt told t m d)
 at-time told t m = elim (same-option same-level (slice_get told.drove.items t) m.drove) [
-  | inr other ↦ inr (difference.Level (slice_get told.drove.items t) m.drove, record { is_told = refl; ought = refl; differs = other })
-  | inl level ↦ elim (is-or-differs (same-option same-event) told.events (λ events. told_at events.items t) m.event) [
+  | fails other ↦ inr (difference.Level (slice_get told.drove.items t) m.drove, record { is_told = refl; ought = refl; differs = other })
+  | holds level ↦ elim (is-or-differs (same-option same-event) told.events (λ events. told_at events.items t) m.event) [
     | inr other ↦ inr (difference.Event other.0 m.event, record { level = level; is_told = other.1; ought = refl; differs = other.2 })
     | inl event ↦ elim (is-or-differs same-counts told.counters (λ counters. told_before no_counts counters.items (t + 1)) m.counters) [
       | inr other ↦ inr (difference.Counters other.0 m.counters, record { level = level; event = event; is_told = other.1; ought = refl; differs = other.2 })
@@ -72,8 +72,8 @@ all-times s told limit levels events counters = elim (before-time s told (length
 end-or-differs : (o : Option Ending) (b : Ending) → IfSome o (λ x. x ≡ b) ⊎ ((c : Ending) × (o ≡ Some c) × (c ≢ b))
 end-or-differs None b = inl tt
 end-or-differs (Some x) b = elim (same-ending x b) [
-  | inl same ↦ inl same
-  | inr other ↦ inr (x, refl, other)
+  | holds same ↦ inl same
+  | fails other ↦ inr (x, refl, other)
 ]
 
 pub some-verdict : (s : Script) (told : Transcript) → IsTold told → (v : Verdict) × IsVerdict s told v

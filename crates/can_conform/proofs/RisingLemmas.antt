@@ -66,11 +66,10 @@ there P (Some x) p = (x, refl, p)
 
 -- one that comes before the least does not rise
 pub upto-not : {A : Type 0} (xs : List (Timed A)) (limit n least : ℕ) (x : Timed A) → AreUpTo xs limit n least → slice_get xs n ≡ Some x → x.time < least → AreRising xs → ⊥
-upto-not xs limit n least x upto here early rising = elim upto.last [
-  | inl none ↦ omega arith
+upto-not {A} xs limit n least x upto here early rising = elim upto.last [
+  | inl none ↦ omega (arith, none, early)
   | inr last ↦
-      let y = there _ _ last.2 in
+      let y : (z : Timed A) × (slice_get xs last.0 ≡ Some z) × (least ≡ z.time + 1) = there _ _ last.2 in
       let less : y.0.time < x.time = rising last.0 n y.0 x last.1 y.1 here in
-      let is : least ≡ y.0.time + 1 = y.2 in
-      omega arith
+      omega (arith, less, y.2, early)
 ]

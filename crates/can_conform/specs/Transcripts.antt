@@ -76,10 +76,10 @@ pub record Tells {A : Type 0} (at : ℕ → Option A) (xs : List (Timed A)) : Ty
   pub each : (t : ℕ) → told_at xs t ≡ at t
 
 -- the levels, events and changes of a counter of the run
-pub record TellsRun (s : Script) (levels : List Level) (events : List (Timed Event)) (changes : List (Timed Counters)) : Type 0 where
-  pub levels : (t : ℕ) → slice_get levels t ≡ (moment_at s t).drove
-  pub events : Tells (λ t. (moment_at s t).event) events
-  pub changes : Tells (changed_in s) changes
+pub record TellsRun (s : Script) (drove : List Level) (told : List (Timed Event)) (changed : List (Timed Counters)) : Type 0 where
+  pub levels : (t : ℕ) → slice_get drove t ≡ (moment_at s t).drove
+  pub events : Tells (λ t. (moment_at s t).event) told
+  pub changes : Tells (changed_in s) changed
 
 -- a transcript that has all of them, and the end
 pub record IsTranscript (s : Script) (told : Transcript) : Type 0 where
