@@ -70,6 +70,7 @@ pub mod PlainLemmas
 pub mod PackedLemmas
 pub mod SoundLemmas
 pub mod DecodingLemmas
+pub mod UnstuffingLemmas
 pub mod TailLemmas
 -- arbitration, level by level
 pub mod UnstuffedOrder

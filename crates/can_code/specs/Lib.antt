@@ -8,5 +8,7 @@ pub mod Front
 pub mod Sending
 pub mod CodeFaults
 pub mod Decoder
+pub mod Digits
+pub mod Unstuffing
 -- For proofs and for models only
 pub mod Reading
