@@ -2,6 +2,7 @@
 use Rattle.std.proofs.Common.{◌≡◌, ℕ, Bool, true, false, suc, ◌+◌, ◌-◌, ◌*◌, ◌/◌, ◌%◌, ◌^◌, ◌<◌, ◌≤◌, [], ◌∷◌, ◌++◌, ◌⊎◌, inl, inr, nat_eq, refl, sym, ◌∙◌, ap, subst, arith, add-zero}
 use Rattle.std.specs.Prelude.{bit_and}
 use Rattle.std.specs.Int.{bit_at}
+use Rattle.std.proofs.Math.Nat.{mod-le}
 use Rattle.std.proofs.Math.Pow.{mod-mod-pow, mod-pow-add, pow-add}
 use Rattle.std.proofs.lemmas.List.{drop_at}
 use Rattle.std.proofs.lemmas.Bool.{cases_lt}
@@ -62,32 +63,38 @@ next-fits n x small few = elim (cases_lt (n + 1) 32) [
   | inr last ↦ (let all : n + 1 ≡ 32 = omega arith in omega (arith, ap (λ m. 2 ^ m) all, pow-add 2 n 1))
 ]
 
--- what is left of a register of 128 bits that moves up by k places
-moved-up : (k x : ℕ) → k ≤ 128 → x * 2 ^ k % 2 ^ 128 ≡ x % 2 ^ (128 - k) * 2 ^ k
-moved-up k x fits =
-    let j = 128 - k in
+-- what is left of a register of w bits that moves up by k places
+moved-up : (w k x : ℕ) → k ≤ w → x * 2 ^ k % 2 ^ w ≡ x % 2 ^ (w - k) * 2 ^ k
+moved-up w k x fits =
+    let j = w - k in
     let h = x % 2 ^ j in
-    let width : 128 ≡ j + k = omega arith in
+    let width : w ≡ j + k = omega arith in
     let nothing : x * 2 ^ k % 2 ^ k ≡ 0 = ap (λ t. t % 2 ^ k) (sym (add-zero (x * 2 ^ k))) ∙ mod_low x k 0 (pow_pos k) in
-    ap (λ w. x * 2 ^ k % 2 ^ w) width ∙ mod-pow-add (x * 2 ^ k) j k ∙ ap (λ a. a % 2 ^ j * 2 ^ k + x * 2 ^ k % 2 ^ k) (shl-shr x k) ∙ ap (λ r. h * 2 ^ k + r) nothing ∙ add-zero (h * 2 ^ k)
+    ap (λ n. x * 2 ^ k % 2 ^ n) width ∙ mod-pow-add (x * 2 ^ k) j k ∙ ap (λ a. a % 2 ^ j * 2 ^ k + x * 2 ^ k % 2 ^ k) (shl-shr x k) ∙ ap (λ r. h * 2 ^ k + r) nothing ∙ add-zero (h * 2 ^ k)
 
 -- there is room for a number of k bits below it
-pub moved-fits : (k x y : ℕ) → k ≤ 128 → y < 2 ^ k → x * 2 ^ k % 2 ^ 128 + y < 2 ^ 128
-moved-fits k x y fits small =
-    let j = 128 - k in
-    let width : k + j ≡ 128 = omega arith in
-    subst (λ m. m + y < 2 ^ 128) (sym (moved-up k x fits))
-    (subst (λ m. x % 2 ^ j * 2 ^ k + y < m) (sym (pow-add 2 k j) ∙ ap (λ w. 2 ^ w) width) (mul-add-lt (x % 2 ^ j) (2 ^ k) y (2 ^ j) (mod_below x (2 ^ j) (pow_pos j)) small))
+pub moved-fits : (w k x y : ℕ) → k ≤ w → y < 2 ^ k → x * 2 ^ k % 2 ^ w + y < 2 ^ w
+moved-fits w k x y fits small =
+    let j = w - k in
+    let width : k + j ≡ w = omega arith in
+    subst (λ m. m + y < 2 ^ w) (sym (moved-up w k x fits))
+    (subst (λ m. x % 2 ^ j * 2 ^ k + y < m) (sym (pow-add 2 k j) ∙ ap (λ n. 2 ^ n) width) (mul-add-lt (x % 2 ^ j) (2 ^ k) y (2 ^ j) (mod_below x (2 ^ j) (pow_pos j)) small))
 
 -- and it takes the levels of that number behind those that it has
-pub bits_of-moved : (n k x y : ℕ) → n + k ≤ 128 → y < 2 ^ k → bits_of (n + k) (x * 2 ^ k % 2 ^ 128 + y) ≡ bits_of n x ++ bits_of k y
-bits_of-moved n k x y fits small =
-    let j = 128 - k in
+pub bits_of-moved : (w n k x y : ℕ) → n + k ≤ w → y < 2 ^ k → bits_of (n + k) (x * 2 ^ k % 2 ^ w + y) ≡ bits_of n x ++ bits_of k y
+bits_of-moved w n k x y fits small =
+    let j = w - k in
     let h = x % 2 ^ j in
     let z = h * 2 ^ k + y in
     let low : bits_of k z ≡ bits_of k y = sym (bits_of-mod k k z (omega arith)) ∙ ap (bits_of k) (mod_low h k y small) in
-    ap (λ m. bits_of (n + k) (m + y)) (moved-up k x (omega arith)) ∙ bits_of-append n k z ∙ ap (λ t. bits_of n t ++ bits_of k z) (shr_high h k y small)
+    ap (λ m. bits_of (n + k) (m + y)) (moved-up w k x (omega arith)) ∙ bits_of-append n k z ∙ ap (λ t. bits_of n t ++ bits_of k z) (shr_high h k y small)
     ∙ ap (λ t. t ++ bits_of k z) (bits_of-mod n j x (omega arith)) ∙ ap (λ t. bits_of n x ++ t) low
+
+-- numbers of n and of k bits, one behind the other, are one of n + k
+pub joined-small : (w n k x y : ℕ) → x < 2 ^ n → y < 2 ^ k → n + k ≤ w → x * 2 ^ k % 2 ^ w + y < 2 ^ (n + k)
+joined-small w n k x y few small fits =
+    let all : x * 2 ^ k + y < 2 ^ (n + k) = subst (λ m. x * 2 ^ k + y < m) (sym (pow-add 2 k n) ∙ (let turned : k + n ≡ n + k = omega arith in ap (λ e. 2 ^ e) turned)) (mul-add-lt x (2 ^ k) y (2 ^ n) few small) in
+    omega (arith, all, mod-le (x * 2 ^ k) (2 ^ w))
 
 -- a number's lowest bit as levels
 pub bits_of-one : (x : ℕ) → bits_of 1 x ≡ level_of (x % 2) ∷ []

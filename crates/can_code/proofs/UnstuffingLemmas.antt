@@ -42,11 +42,11 @@ module _ (u : List Level) where
       let before : data_place (extended_of u) ≤ length u = told.0 in
       omega (arith, length-append u v, told.1, frame_len-append u v before)
 
-  pub HasRoom-standard : (r : ℕ) → r ≤ 19 - length u → length u < 19 → HasRoom u r
-  HasRoom-standard r fits few v short = omega (arith, length-append u v, frame_len_ge (u ++ v))
+  pub HasRoom-standard : (r : ℕ) → 0 < r → r ≤ 33 - length u → HasRoom u r
+  HasRoom-standard r some fits v short = omega (arith, length-append u v, frame_len_ge (u ++ v))
 
-  pub HasRoom-extended : (r : ℕ) → 19 ≤ length u → TellsLength u None → r ≤ 39 - length u → HasRoom u r
-  HasRoom-extended r long untold fits v short =
+  pub HasRoom-extended : (r : ℕ) → 0 < r → 19 ≤ length u → TellsLength u None → r ≤ 53 - length u → HasRoom u r
+  HasRoom-extended r some long untold fits v short =
       let few : length u < data_place (extended_of u) = untold in
       let place : data_place (extended_of u) ≡ 39 = extended_place (extended_of u) (omega arith) in
       let kept : data_place (extended_of (u ++ v)) ≡ data_place (extended_of u) = ap (λ t. data_place (is_recessive t)) (level_at-append u v 13 (omega arith)) in

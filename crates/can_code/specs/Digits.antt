@@ -1,7 +1,8 @@
 -- Levels as digits, and what a front and a decoder have heard of them.
-use Rattle.std.specs.Prelude.{ℕ, ◌≡◌, Bool, Some, List, ◌++◌, map, take}
+use Rattle.std.specs.Prelude.{ℕ, zero, suc, ◌≡◌, ◌/◌, ◌%◌, Bool, Some, List, [], ◌∷◌, ◌++◌, map, take}
 use Rattle.can_frame.specs.declared.level.Level.{Level}
 use Rattle.can_frame.specs.declared.level.Level.TheVariants.{Dominant, Recessive}
+use Rattle.can_frame.specs.Levels.{level_of}
 use Rattle.can_code.specs.Wire.{tail}
 use Rattle.can_code.specs.Heard.{ack_slot}
 use Rattle.can_code.specs.Front.{FrontParts, heard_levels}
@@ -11,6 +12,16 @@ use Rattle.can_code.specs.Decoder.{DecoderParts, HasHeard}
 abbrev pub digit_of : Level → ℕ
 digit_of Dominant = 48
 digit_of Recessive = 49
+
+-- a level as a bit
+abbrev pub bit_of : Level → ℕ
+bit_of Dominant = 0
+bit_of Recessive = 1
+
+-- the n lowest bits of a number, the lowest first
+abbrev pub levels_up : ℕ → ℕ → List Level
+levels_up zero x = []
+levels_up (suc n) x = level_of (x % 2) ∷ levels_up n (x / 2)
 
 -- these are the digits of levels, which lead from the one front to the other
 pub record HearsDigits (f g : FrontParts) (digits : List ℕ) : Type 0 where

@@ -10,5 +10,6 @@ pub mod CodeFaults
 pub mod Decoder
 pub mod Digits
 pub mod Unstuffing
+pub mod Steps
 -- For proofs and for models only
 pub mod Reading

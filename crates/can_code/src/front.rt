@@ -114,6 +114,25 @@ impl<B: FrameBits> Front<B> {
         ensures heard { HearsDigits self.old self.new (take result digits.now) }
         ensures going { next_place_of self.new ≢ Place.CrcDelimiter }
     {
+        let mut taken = 0;
+        while taken < digits.len() {
+            let more = self.hear_part(&digits[taken..]);
+            if more == 0 {
+                return taken;
+            }
+            taken += more;
+        }
+        taken
+    }
+
+    /// The same, as many as have room in one number of their unstuffed levels.
+    #[inline]
+    fn hear_part(&mut self, digits: &[u8]) -> usize
+        requires { next_place_of self.old ≢ Place.CrcDelimiter }
+        ensures within { result ≤ length digits.now }
+        ensures heard { HearsDigits self.old self.new (take result digits.now) }
+        ensures going { next_place_of self.new ≢ Place.CrcDelimiter }
+    {
         let room = room_behind(self.bits.len(), self.length);
         if room == 0 {
             return 0;

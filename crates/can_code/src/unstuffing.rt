@@ -1,21 +1,21 @@
-ghost use Rattle.std.specs.Prelude.{◌≡◌, ℕ, ◌+◌, ◌^◌, ◌<◌, ◌≤◌, ◌++◌, List, Option, length, take};
+ghost use Rattle.std.specs.Prelude.{◌≡◌, ◌<◌, ◌≤◌, List, length};
 ghost use Rattle.can_frame.specs.declared.level.Level.{Level as Bit};
-ghost use Rattle.can_frame.specs.Levels.{bits_of};
-ghost use Rattle.can_code.specs.Layout.{frame_len};
 ghost use Rattle.can_code.specs.Reading.{TellsLength};
-ghost use Rattle.can_code.specs.Front.{FrontParts};
-ghost use Rattle.can_code.specs.Digits.{HearsDigits};
-ghost use Rattle.can_code.specs.Unstuffing.{HasRoom};
+ghost use Rattle.can_code.specs.Unstuffing.{HasRoom, Unstuffs};
 
-use crate::digits::level_of;
+use crate::digits::{BLOCK, level_of, levels_of};
+use crate::steps::{STEP_LEVELS, take_step};
 use crate::stuffing::{LONGEST_RUN, run_after};
 use can_frame::Level;
 
 /// How many unstuffed levels tell the length of a standard frame: all that stand before its data.
 const STANDARD_HEADER: usize = 19;
 
+/// How many unstuffed levels a frame has at least.
+const SHORTEST: usize = 34;
+
 /// The same for an extended frame.
-const EXTENDED_HEADER: usize = 39;
+const SHORTEST_EXTENDED: usize = 54;
 
 /// How many unstuffed levels are gathered in a number at once.
 const NUMBER_BITS: usize = 32;
@@ -35,8 +35,24 @@ pub(crate) struct UnstuffedRun {
     pub(crate) taken: usize,
 }
 
-/// How many unstuffed levels may come behind `len` of them before anything is to be looked at: what tells
-/// the frame's length, or the end of its check sequence.
+impl UnstuffedRun {
+    /// None so far, behind a run of this level and length.
+    #[inline]
+    fn begin(last: Level, run: u8) -> UnstuffedRun
+        ensures { result ≡ record { number = 0; len = 0; last = last; run = run; taken = 0 } }
+    {
+        UnstuffedRun {
+            number: 0,
+            len: 0,
+            last,
+            run,
+            taken: 0,
+        }
+    }
+}
+
+/// How many unstuffed levels may come behind `len` of them before the check sequence can be whole, as far
+/// as they tell the frame's length. Where they do not tell it, and are many, the frame is extended.
 #[inline]
 pub(crate) fn room_behind(len: usize, told: Option<usize>) -> usize
     ensures bound { result ≤ 32 }
@@ -44,36 +60,67 @@ pub(crate) fn room_behind(len: usize, told: Option<usize>) -> usize
 {
     let end = match told {
         Some(length) => length.saturating_sub(1),
-        None if len < STANDARD_HEADER => STANDARD_HEADER,
-        None => EXTENDED_HEADER,
+        None if len < STANDARD_HEADER => SHORTEST - 1,
+        None => SHORTEST_EXTENDED - 1,
     };
     end.saturating_sub(len).min(NUMBER_BITS)
 }
 
 /// Takes levels from the front of these digits behind a run of this level and length, until there are
-/// `room` unstuffed ones, or a byte is no digit, or a stuff place repeats the level before it.
+/// `room` unstuffed ones, or a byte is no digit, or a stuff place repeats the level before it. It may stop
+/// sooner, but takes some where it can.
 #[inline]
 pub(crate) fn unstuff(digits: &[u8], room: usize, last: Level, run: u8) -> UnstuffedRun
     requires wide { room ≤ 32 }
     requires some { 1 ≤ run }
     requires short { run ≤ 5 }
-    ensures within { result.taken ≤ length digits.now }
-    ensures room { result.len ≤ room }
-    ensures small { result.number < 2 ^ result.len }
-    ensures some { 1 ≤ result.run }
-    ensures short { result.run ≤ 5 }
-    ensures heard { (u : List Bit) → HasRoom u room →
-        HearsDigits (record { unstuffed = u; last = last; run = run })
-            (record { unstuffed = u ++ bits_of result.len result.number; last = result.last; run = result.run })
-            (take result.taken digits.now) }
+    ensures { Unstuffs digits.now room last run result }
 {
-    let mut now = UnstuffedRun {
-        number: 0,
-        len: 0,
-        last,
-        run,
-        taken: 0,
-    };
+    let quick = unstuff_steps(digits, room, last, run);
+    if quick.taken > 0 {
+        quick
+    } else {
+        unstuff_levels(digits, room, last, run)
+    }
+}
+
+/// The same, up to eight levels in a step. It stops where a block of digits is not whole.
+#[inline]
+fn unstuff_steps(digits: &[u8], room: usize, last: Level, run: u8) -> UnstuffedRun
+    requires wide { room ≤ 32 }
+    requires some { 1 ≤ run }
+    requires short { run ≤ 5 }
+    ensures { Unstuffs digits.now room last run result }
+{
+    let mut now = UnstuffedRun::begin(last, run);
+    while now.len < room {
+        let Some(block) = digits[now.taken..].first_chunk::<BLOCK>() else {
+            return now;
+        };
+        let Some(levels) = levels_of(block) else {
+            return now;
+        };
+        let count = (room - now.len).min(STEP_LEVELS);
+        let Some(step) = take_step(now.last, now.run, levels, count) else {
+            return now;
+        };
+        now.number = (now.number << step.len) + u32::from(step.number);
+        now.len += usize::from(step.len);
+        now.last = step.last;
+        now.run = step.run;
+        now.taken += count;
+    }
+    now
+}
+
+/// The same, level by level.
+fn unstuff_levels(digits: &[u8], room: usize, last: Level, run: u8) -> UnstuffedRun
+    requires wide { room ≤ 32 }
+    requires some { 1 ≤ run }
+    requires short { run ≤ 5 }
+    ensures { Unstuffs digits.now room last run result }
+{
+    let mut now = UnstuffedRun::begin(last, run);
     while now.len < room && now.taken < digits.len() {
         let Some(level) = level_of(digits[now.taken]) else {
             return now;

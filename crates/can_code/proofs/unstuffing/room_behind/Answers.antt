@@ -11,8 +11,8 @@ returns-clause-room c =
           HasRoom-told u w.in-Some.length c.min.result (subst (TellsLength u) w.in-Some.is told) some
           (omega (arith, c.min.ensures, c.saturating_sub.ensures, w.end-is, w.saturating_sub-end.ensures, len_is)) v short
       | in-None w ↦
-          HasRoom-standard u c.min.result (omega (arith, c.min.ensures, c.saturating_sub.ensures, w.end-is, len_is)) (omega (arith, len_is, w.if-len-lt-STANDARD_HEADER.true)) v short
+          HasRoom-standard u c.min.result some (omega (arith, c.min.ensures, c.saturating_sub.ensures, w.end-is, len_is)) v short
       | in-None-2 w ↦
-          HasRoom-extended u c.min.result (omega (arith, len_is, w.if-len-lt-STANDARD_HEADER.false)) (subst (TellsLength u) w.in-None.is told)
+          HasRoom-extended u c.min.result some (omega (arith, len_is, w.if-len-lt-STANDARD_HEADER.false)) (subst (TellsLength u) w.in-None.is told)
           (omega (arith, c.min.ensures, c.saturating_sub.ensures, w.end-is, len_is)) v short
     ]
