@@ -49,7 +49,7 @@ step_on-some s t x taken = of (eqb s.run 5) (same x s.last) refl refl taken
   where
     of : (due wrong : Bool) → eqb s.run 5 ≡ due → same x s.last ≡ wrong
         → cond due (cond wrong None (Some (record { number = s.number; len = s.len; last = x; run = 1 })))
-            (Some (record { number = 2 * s.number + bit_of x; len = s.len + 1; last = x; run = run_after s.last s.run x })) ≡ Some t
+        (Some (record { number = 2 * s.number + bit_of x; len = s.len + 1; last = x; run = run_after s.last s.run x })) ≡ Some t
         → Stuffed s x t ⊎ Unstuffed s x t
     of true true is_due is_wrong h = cc
     of true false is_due is_right h = inl (eqb-true s.run 5 is_due, is_right, cc)
@@ -110,8 +110,8 @@ steps_on-bounds [] s t n h taken =
     subst (λ m. StepBounds t m) (sym none) (subst (λ u. StepBounds u n) one h)
 steps_on-bounds (x ∷ xs) s t n h taken =
     option_and_then_some (λ m. steps_on m xs) (step_on s x) t taken (λ m first rest.
-      let more : n + 1 + length xs ≡ n + length (x ∷ xs) = omega arith in
-      subst (λ k. StepBounds t k) more (steps_on-bounds xs m t (n + 1) (step_on-bounds s m x n h first) rest))
+    let more : n + 1 + length xs ≡ n + length (x ∷ xs) = omega arith in
+    subst (λ k. StepBounds t k) more (steps_on-bounds xs m t (n + 1) (step_on-bounds s m x n h first) rest))
 
 pub begun-bounds : (last : Level) (run : ℕ) → 1 ≤ run → run ≤ 5 → StepBounds (begun last run) 0
 begun-bounds last run some short = record { small = omega arith; few = omega arith; some = some; short = short }
@@ -136,10 +136,10 @@ pub steps_on-heard : (xs : List Level) (u : List Level) (s t : Step) → HasRoom
 steps_on-heard [] u s t room taken = let one : s ≡ t = cc in ap (λ y. Some (front_of u y)) one
 steps_on-heard (x ∷ xs) u s t room taken =
     option_and_then_some (λ m. steps_on m xs) (step_on s x) t taken (λ m first rest.
-      let here : length (u ++ bits_of s.len s.number) < frame_len (u ++ bits_of s.len s.number) =
-      room (bits_of s.len s.number) (omega (arith, length-bits_of s.len s.number)) in
-      let left : HasRoom u (m.len + length xs) = (λ v short. room v (omega (arith, short, step_on-few s m x first))) in
-      ap (option_and_then (λ g. heard_levels g xs)) (step_on-heard u s m x here first) ∙ steps_on-heard xs u m t left rest)
+    let here : length (u ++ bits_of s.len s.number) < frame_len (u ++ bits_of s.len s.number) =
+    room (bits_of s.len s.number) (omega (arith, length-bits_of s.len s.number)) in
+    let left : HasRoom u (m.len + length xs) = (λ v short. room v (omega (arith, short, step_on-few s m x first))) in
+    ap (option_and_then (λ g. heard_levels g xs)) (step_on-heard u s m x here first) ∙ steps_on-heard xs u m t left rest)
 
 -- ---- levels of a block of digits
 
@@ -233,8 +233,8 @@ module _ (digits block : List ℕ) (room : ℕ) (last : Level) (run : ℕ) (r : 
         heard = λ u has.
             let v = u ++ bits_of r.len r.number in
             let left : HasRoom v (0 + length (levels_up count levels)) = (λ w short.
-              subst (λ l. length l < frame_len l) (sym (append_assoc u (bits_of r.len r.number) w))
-              (has (bits_of r.len r.number ++ w) (omega (arith, short, fits, length-levels_up count levels, length-bits_of r.len r.number, length-append (bits_of r.len r.number) w)))) in
+            subst (λ l. length l < frame_len l) (sym (append_assoc u (bits_of r.len r.number) w))
+            (has (bits_of r.len r.number ++ w) (omega (arith, short, fits, length-levels_up count levels, length-bits_of r.len r.number, length-append (bits_of r.len r.number) w)))) in
             let begins : v ++ bits_of 0 0 ≡ v = ap (λ l. v ++ l) (bits_of-zero 0) ∙ append-nil v in
             let ends : v ++ bits_of s.len s.number ≡ u ++ bits_of (r.len + s.len) (r.number * 2 ^ s.len % 2 ^ 32 + s.number) =
             append_assoc u (bits_of r.len r.number) (bits_of s.len s.number) ∙ ap (λ l. u ++ l) (sym (bits_of-moved 32 r.len s.len r.number s.number (omega (arith, fits, h.few)) h.small)) in

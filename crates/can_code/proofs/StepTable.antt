@@ -68,13 +68,14 @@ entry_is last run m k place some short few at bit =
     let high : place / 512 ≡ row = omega (arith, at, column) in
     let top : place / 2560 ≡ row / 5 = omega (arith, at, column) in
     let run_is : place / 512 % 5 + 1 ≡ run = omega (arith, high) in
-    let last_is : level_of (place / 2560) ≡ last = ap level_of top ∙ level_of-row last (run - 1) (omega arith) in
-    (within,
+    let last_is : level_of (place / 2560) ≡ last = ap level_of top ∙ level_of-row last (run - 1) (omega arith) in (
+      within,
       ap (λ t. get_or t place 0) table_is ∙ get_or-map-range_with_len entry_at 0 5120 place place 0 within (omega arith)
-      ∙ ap (λ x. entry_of (steps_on (begun x (place / 512 % 5 + 1)) (levels_below 8 (place % 512)))) last_is
-      ∙ ap (λ r. entry_of (steps_on (begun last r) (levels_below 8 (place % 512)))) run_is
-      ∙ ap (λ j. entry_of (steps_on (begun last run) (levels_below 8 j))) low
-      ∙ ap (λ l. entry_of (steps_on (begun last run) l)) (levels_below-up 8 k m few))
+          ∙ ap (λ x. entry_of (steps_on (begun x (place / 512 % 5 + 1)) (levels_below 8 (place % 512)))) last_is
+          ∙ ap (λ r. entry_of (steps_on (begun last r) (levels_below 8 (place % 512)))) run_is
+          ∙ ap (λ j. entry_of (steps_on (begun last run) (levels_below 8 j))) low
+          ∙ ap (λ l. entry_of (steps_on (begun last run) l)) (levels_below-up 8 k m few),
+    )
 
 -- ---- what code reads of an entry
 

@@ -127,8 +127,14 @@ fn hears_runs<B: FrameBits>(rt: &impl Abort) -> Result<(), Fail> {
             (WIRE_001, (46, Ok(sent))),
             ("000000", (5, Err(CodeFaultKind::Stuff))),
             // the last level of the check sequence, and the ACK delimiter
-            ("0000010000010100000100010001000010010", (36, Err(CodeFaultKind::Crc))),
-            ("0000010000010100000100010001000010011100", (39, Err(CodeFaultKind::Form))),
+            (
+                "0000010000010100000100010001000010010",
+                (36, Err(CodeFaultKind::Crc)),
+            ),
+            (
+                "0000010000010100000100010001000010011100",
+                (39, Err(CodeFaultKind::Form)),
+            ),
         ] {
             assert!(rt; first_word_of_runs::<B>(text.as_bytes(), most) == Some(word));
         }
@@ -162,6 +168,8 @@ fn runs_as_levels(rt: HostRuntime) {
             }
         }
         let most = (state % 40) as usize;
-        assert!(rt; first_word_of_runs::<PackedBits>(&digits, most) == first_word::<PlainBits>(&levels));
+        assert!(rt;
+            first_word_of_runs::<PackedBits>(&digits, most) == first_word::<PlainBits>(&levels)
+        );
     }
 }

@@ -14,11 +14,11 @@ loop-now-preserved c =
     let go_on = HearsTail-level k c.args.acked n before c.args.digits.now c.loop-now.invariant.tail c.loop-now-test.true x c.in-Some.ensures in
     elim c.if-behind-now-eq-ACK_SLOT.branch [
       | then-behind-now-eq-ACK_SLOT w ↦ rw (w.now-is, w.is_recessive.ensures) (
-        record {
-          within = omega (arith, c.loop-now-test.true);
-          few = omega (arith, c.if-behind-now-lt-LAST_LEVEL.true);
-          tail = go_on (not (is_recessive x)) (ack_slot_heard (k + n) before x w.if-behind-now-eq-ACK_SLOT.true);
-        })
+          record {
+            within = omega (arith, c.loop-now-test.true);
+            few = omega (arith, c.if-behind-now-lt-LAST_LEVEL.true);
+            tail = go_on (not (is_recessive x)) (ack_slot_heard (k + n) before x w.if-behind-now-eq-ACK_SLOT.true);
+          })
       | else-behind-now-eq-ACK_SLOT+else-not-is_recessive w ↦
           let no_last : k + n ≢ 9 = λ e. omega (arith, c.if-behind-now-lt-LAST_LEVEL.true) in
           let recessive = sym w.is_recessive-else-behind-now-eq-ACK_SLOT.ensures ∙ w.if-not-is_recessive.false in

@@ -16,8 +16,12 @@ overflow_mul-now c = omega (arith, next-fits c.loop-now.now.len c.loop-now.now.n
 
 pub overflow_add-now : goal.overflow_add-now
 overflow_add-now c =
-    omega (arith, c.from.ensures, bool_small c.is_recessive.result,
-    next-fits c.loop-now.now.len c.loop-now.now.number c.loop-now.invariant.small (omega (arith, c.loop-now-test.true, c.requires.wide)))
+    omega (
+      arith,
+      c.from.ensures,
+      bool_small c.is_recessive.result,
+      next-fits c.loop-now.now.len c.loop-now.now.number c.loop-now.invariant.small (omega (arith, c.loop-now-test.true, c.requires.wide)),
+    )
 
 pub run_after-requires : goal.run_after-requires
 run_after-requires c =
@@ -33,16 +37,16 @@ loop-now-preserved c =
     let few : length bits ≤ c.args.room = omega (arith, inv.few, length-bits_of s.len s.number) in
     elim c.if-now-eq-LONGEST_RUN.branch [
       | then-now-eq-LONGEST_RUN+else-eq w ↦ rw w.now-is (
-        record {
-          within = omega (arith, c.if-now-digits.true);
-          few = inv.few;
-          small = inv.small;
-          some = omega arith;
-          short = omega arith;
-          heard = λ u room.
-              HearsDigits-stuff_bit (record { unstuffed = u; last = c.args.last; run = c.args.run }) (u ++ bits) s.last s.run c.args.digits.now s.taken x
-              c.if-now-digits.true c.in-Some.ensures (room bits few) (inv.heard u room) w.if-now-eq-LONGEST_RUN.true (other_level x s.last (sym w.eq.ensures ∙ w.if-eq.false));
-        })
+          record {
+            within = omega (arith, c.if-now-digits.true);
+            few = inv.few;
+            small = inv.small;
+            some = omega arith;
+            short = omega arith;
+            heard = λ u room.
+                HearsDigits-stuff_bit (record { unstuffed = u; last = c.args.last; run = c.args.run }) (u ++ bits) s.last s.run c.args.digits.now s.taken x
+                c.if-now-digits.true c.in-Some.ensures (room bits few) (inv.heard u room) w.if-now-eq-LONGEST_RUN.true (other_level x s.last (sym w.eq.ensures ∙ w.if-eq.false));
+          })
       | else-now-eq-LONGEST_RUN w ↦
           let not_due : s.run ≢ 5 = w.if-now-eq-LONGEST_RUN.false in
           rw (w.now-is, w.from.ensures, w.is_recessive.ensures, w.run_after.ensures) (
