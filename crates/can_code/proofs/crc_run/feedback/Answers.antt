@@ -1,4 +1,4 @@
-use Rattle.std.proofs.Common.{◌≡◌, ◌<◌, ◌/◌, ◌^◌, ◌∷◌, [], ap, ◌∙◌, arith}
+use Rattle.std.proofs.Common.{◌≡◌, ◌<◌, ◌/◌, ◌^◌, ap, ◌∙◌, arith}
 use mir.Val.{bool_byte}
 use Rattle.std.proofs.lemmas.Nat.{xor_lt}
 use Rattle.can_frame.specs.Levels.{bits_of, is_recessive}
