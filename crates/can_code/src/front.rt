@@ -6,6 +6,7 @@ ghost use Rattle.can_code.specs.Front.{IsFront, first_front, heard_level, is_stu
 
 use crate::frame_bits::FrameBits;
 use crate::heard::Heard;
+use crate::places::ends_dlc;
 use crate::reading::{frame, frame_len, heard, is_extended};
 use crate::stuffing::{LONGEST_RUN, run_after};
 use crate::unstuffing::{room_behind, unstuff};
@@ -66,7 +67,7 @@ impl<B: FrameBits> Front<B> {
 
     /// What the next level is. The stuffed part has ended where the unstuffed levels have their
     /// whole CRC sequence and no stuff bit is due.
-    #[inline]
+    #[inline(always)]
     pub fn next_place(&self) -> Place
         ensures place { result ≡ next_place_of self.now }
         ensures whole { IsFront self.now }
@@ -81,7 +82,7 @@ impl<B: FrameBits> Front<B> {
     }
 
     /// Takes one level of the stuffed part.
-    #[inline]
+    #[inline(always)]
     pub fn hear(&mut self, level: Level) -> Result<(), StuffError>
         requires { next_place_of self.old ≢ Place.CrcDelimiter }
         ensures error { IsErr result ↔ IsTrue (is_stuff_error self.old level) }
@@ -96,7 +97,7 @@ impl<B: FrameBits> Front<B> {
         } else {
             self.bits.push(level);
             self.run = run_after(self.last, self.run, level);
-            if self.length.is_none() {
+            if self.length.is_none() && ends_dlc(self.bits.len()) {
                 self.length = frame_len(&self.bits);
             }
         }

@@ -121,7 +121,7 @@ impl<B: FrameBits> MediumAccess<B> {
     /// nothing is told. It answers whether the level is one; else nothing changes, and [`MediumAccess::sample`]
     /// takes it. A caller that asks this first spares itself the event.
     #[tactic(auto, unfolding(crate::specs::Machine::mac_step))]
-    #[inline]
+    #[inline(always)]
     pub fn passes(&mut self, waiting: Option<&Frame>, seen: Level) -> bool
         ensures taken { IsTrue result → mac_step self.old (option_copied waiting.entry) seen ≡ (self.new, None) }
         ensures unchanged { IsFalse result → self.new ≡ self.old }

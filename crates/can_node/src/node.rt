@@ -126,7 +126,7 @@ impl<B: FrameBits> Port for Node<B> {
     }
 
     #[tactic(auto, unfolding(crate::specs::Ports::port_step))]
-    #[inline]
+    #[inline(always)]
     fn sample(&mut self, seen: Level) -> Option<Event> {
         // most levels tell nothing, and then no event is made
         if self.mac.passes(self.queue.waiting(), seen) {
