@@ -23,8 +23,8 @@ use mir.Val.{bool_byte}
 use Rattle.can_code.proofs.LevelLemmas.{bits_of-zero}
 use Rattle.can_code.proofs.PackedLemmas.{bits_of-next}
 use Rattle.can_code.proofs.LayoutPlaces.{level_at-append}
-use Rattle.can_code.proofs.LayoutLengths.{frame_len_ge, frame_len_le, frame_len-append}
-use Rattle.can_code.proofs.ReadingLemmas.{data_before_end, data_behind_ide}
+use Rattle.can_code.proofs.LayoutLengths.{frame_len_ge, frame_len_le, frame_len-append, frame_len_least}
+use Rattle.can_code.proofs.ReadingLemmas.{data_behind_ide}
 use Rattle.can_code.proofs.FrontLemmas.{next_place-ended}
 use Rattle.can_code.proofs.HeardLevels.{hear_at-going}
 use Rattle.can_code.proofs.DecoderLemmas.{heard_levels-append, HasHeard-run, HasHeard-tail}
@@ -50,7 +50,7 @@ module _ (u : List Level) where
       let few : length u < data_place (extended_of u) = untold in
       let place : data_place (extended_of u) ≡ 39 = extended_place (extended_of u) (omega arith) in
       let kept : data_place (extended_of (u ++ v)) ≡ data_place (extended_of u) = ap (λ t. data_place (is_recessive t)) (level_at-append u v 13 (omega arith)) in
-      omega (arith, length-append u v, place, kept, data_before_end (u ++ v))
+      omega (arith, length-append u v, place, kept, frame_len_least (u ++ v))
 
   -- a length that is told stays
   pub TellsLength-append : (v : List Level) (n : ℕ) → TellsLength u (Some n) → TellsLength (u ++ v) (Some n)
