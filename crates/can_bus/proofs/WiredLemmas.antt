@@ -179,4 +179,3 @@ pub lanes_wired : (levels : List Level) (bits : List ℕ) (n : ℕ) → bits ≡
     eqb (mask_l (map (top (hbits w8)) (zip2 (λ a b. cond (eqb a b) (2 ^ width_bits w8 - 1) 0) bits (replicate n 0))) % 2 ^ 64) 0 ≡ is_recessive (wired levels)
 lanes_wired levels bits n e long short =
     ap (λ m. eqb m 0) (bitmask_splat w8 eqb bits n 0 long short) ∙ ap (λ b. eqb (mask_l (map (λ x. eqb x 0) b)) 0) e ∙ mask_wired levels
-

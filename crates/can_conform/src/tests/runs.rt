@@ -1,8 +1,7 @@
 //! What the reference does in a case: cases worked out by hand from docs/ACCESS.md and docs/FRAMES.md.
 use crate::tests::{expected, frame, levels, offering, script};
 use crate::{
-    Counters, Ending, Script, Start, TesterLevel, Timed, Transcript, ending_of, meet,
-    started_node,
+    Counters, Ending, Script, Start, TesterLevel, Timed, Transcript, ending_of, meet, started_node,
 };
 use can_fault::State;
 use can_frame::Level;
@@ -142,11 +141,7 @@ fn a_forced_level_hides_the_start_of_frame(rt: HostRuntime) -> Result<(), Fail> 
 #[test]
 fn an_overload_frame_is_asked_for_in_time(rt: HostRuntime) -> Result<(), Fail> {
     for (time, drove, events) in [
-        (
-            49,
-            [("1", 41), ("0", 1), ("1", 8), ("0", 6), ("1", 4)],
-            2,
-        ),
+        (49, [("1", 41), ("0", 1), ("1", 8), ("0", 6), ("1", 4)], 2),
         (50, [("1", 41), ("0", 1), ("1", 8), ("1", 6), ("1", 4)], 1),
     ] {
         let texts = [("000001", 6), ("0000", 1), ("1", 20)];
@@ -154,7 +149,11 @@ fn an_overload_frame_is_asked_for_in_time(rt: HostRuntime) -> Result<(), Fail> {
         case.holds.push(Timed { time, told: 1 })?;
         let told = expected(&rt, rt.alloc(), &case)?;
         let levels = levels(rt.alloc(), &drove)?;
-        assert_eq!(rt; told.drove.as_slice(), levels.as_slice(), "asked for at {time}");
+        assert_eq!(rt;
+            told.drove.as_slice(),
+            levels.as_slice(),
+            "asked for at {time}"
+        );
         let told = told.events.ok_or("no events")?;
         assert_eq!(rt; told.len(), events, "asked for at {time}");
     }

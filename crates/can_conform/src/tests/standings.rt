@@ -2,19 +2,19 @@
 //! hand from docs/ACCESS.md and docs/CONFORMANCE.md.
 use crate::tests::{expected, failure, offering, script};
 use crate::{Part, PhaseName, Rule, Script, Start, Timed};
+use Part::{Receiver, Sender};
 use can_frame::{Frame, Level};
 use can_mac::{ErrorKind, Event};
 use std::alloc::Global;
 use std::process::Abort;
 use std::test::Fail;
 
-use Part::{Receiver, Sender};
-
 /// A bit time, and where the reference stands before it.
 type Row = (u32, PhaseName, Part, Rule);
 
 /// The standard data frame 000 without data from its start on, as its sender drives it up to the CRC delimiter.
 const PART: (&str, usize) = ("000001", 6);
+
 const REST: (&str, usize) = ("00001", 1);
 
 /// A level that is turned in the transcript of the run is the first difference, and the verdict tells where the
@@ -92,26 +92,86 @@ fn flags_by_the_rule_that_started_them(rt: HostRuntime) -> Result<(), Fail> {
     let overload = PhaseName::OverloadFlag(0);
     for (texts, time, phase, rule) in [
         // six dominant levels
-        ([("0", 6), ("1", 2), ("1", 0), ("1", 0), ("1", 0)], 6, flag, Rule::StuffPlaces),
+        (
+            [("0", 6), ("1", 2), ("1", 0), ("1", 0), ("1", 0)],
+            6,
+            flag,
+            Rule::StuffPlaces,
+        ),
         // the CRC delimiter
-        ([PART, ("0000", 1), ("0", 1), ("1", 2), ("1", 0)], 41, flag, Rule::FixedForm),
+        (
+            [PART, ("0000", 1), ("0", 1), ("1", 2), ("1", 0)],
+            41,
+            flag,
+            Rule::FixedForm,
+        ),
         // the ACK slot, in which it doesn't see its own acknowledgement
-        ([PART, REST, ("f", 1), ("1", 2), ("1", 0)], 42, flag, Rule::Acknowledgement),
+        (
+            [PART, REST, ("f", 1), ("1", 2), ("1", 0)],
+            42,
+            flag,
+            Rule::Acknowledgement,
+        ),
         // the ACK delimiter
-        ([PART, REST, ("1", 1), ("0", 1), ("1", 2)], 43, flag, Rule::FixedForm),
+        (
+            [PART, REST, ("1", 1), ("0", 1), ("1", 2)],
+            43,
+            flag,
+            Rule::FixedForm,
+        ),
         // the last level of the check sequence is wrong
-        ([PART, ("00011", 1), ("0", 1), ("1", 2), ("1", 0)], 43, flag, Rule::RefusedCheckSequence),
+        (
+            [PART, ("00011", 1), ("0", 1), ("1", 2), ("1", 0)],
+            43,
+            flag,
+            Rule::RefusedCheckSequence,
+        ),
         // the sixth level of the end of frame, and the seventh
-        ([PART, REST, ("1", 7), ("0", 1), ("1", 2)], 49, flag, Rule::FixedForm),
-        ([PART, REST, ("1", 8), ("0", 1), ("1", 2)], 50, overload, Rule::DominantLastLevel),
+        (
+            [PART, REST, ("1", 7), ("0", 1), ("1", 2)],
+            49,
+            flag,
+            Rule::FixedForm,
+        ),
+        (
+            [PART, REST, ("1", 8), ("0", 1), ("1", 2)],
+            50,
+            overload,
+            Rule::DominantLastLevel,
+        ),
         // intermission, its first two levels
-        ([PART, REST, ("1", 9), ("0", 1), ("1", 2)], 51, overload, Rule::Intermission),
-        ([PART, REST, ("1", 10), ("0", 1), ("1", 2)], 52, overload, Rule::Intermission),
+        (
+            [PART, REST, ("1", 9), ("0", 1), ("1", 2)],
+            51,
+            overload,
+            Rule::Intermission,
+        ),
+        (
+            [PART, REST, ("1", 10), ("0", 1), ("1", 2)],
+            52,
+            overload,
+            Rule::Intermission,
+        ),
         // its own flag
-        ([("0", 6), ("1", 2), ("f", 1), ("1", 2), ("1", 0)], 9, flag, Rule::ErrorInAnOwnFlag),
+        (
+            [("0", 6), ("1", 2), ("f", 1), ("1", 2), ("1", 0)],
+            9,
+            flag,
+            Rule::ErrorInAnOwnFlag,
+        ),
         // its delimiter, from 12 on: the seventh level, and the eighth
-        ([("0", 6), ("1", 6), ("1", 6), ("0", 1), ("1", 2)], 19, flag, Rule::Delimiter),
-        ([("0", 6), ("1", 6), ("1", 7), ("0", 1), ("1", 2)], 20, overload, Rule::Delimiter),
+        (
+            [("0", 6), ("1", 6), ("1", 6), ("0", 1), ("1", 2)],
+            19,
+            flag,
+            Rule::Delimiter,
+        ),
+        (
+            [("0", 6), ("1", 6), ("1", 7), ("0", 1), ("1", 2)],
+            20,
+            overload,
+            Rule::Delimiter,
+        ),
     ] {
         let case = script(rt.alloc(), Start::Idle, &texts)?;
         hold(&rt, rt.alloc(), &case, &[(time, phase, Receiver, rule)])?;
@@ -142,7 +202,12 @@ fn flags_of_senders_and_own_overload_frames(rt: HostRuntime) -> Result<(), Fail>
             Receiver,
             Rule::OwnOverloadFrames,
         ),
-        (51, PhaseName::OverloadFlag(1), Receiver, Rule::OverloadFlags),
+        (
+            51,
+            PhaseName::OverloadFlag(1),
+            Receiver,
+            Rule::OverloadFlags,
+        ),
         (56, PhaseName::BehindFlag(0), Receiver, Rule::BehindAFlag),
         (63, PhaseName::Delimiter(7), Receiver, Rule::Delimiter),
         (
@@ -188,12 +253,27 @@ fn a_passive_sender_suspends(rt: HostRuntime) -> Result<(), Fail> {
         (51, PhaseName::BehindFlag(3), Sender, Rule::BehindAFlag),
         (168, PhaseName::BehindFlag(0), Sender, Rule::BehindAFlag),
         (176, PhaseName::Intermission(0), Sender, Rule::Intermission),
-        (179, PhaseName::Suspend(0), Sender, Rule::SuspendTransmission),
-        (186, PhaseName::Suspend(7), Sender, Rule::SuspendTransmission),
+        (
+            179,
+            PhaseName::Suspend(0),
+            Sender,
+            Rule::SuspendTransmission,
+        ),
+        (
+            186,
+            PhaseName::Suspend(7),
+            Sender,
+            Rule::SuspendTransmission,
+        ),
         (187, PhaseName::Idle, Receiver, Rule::StartOfFrame),
         // the next frame, from 187 on, isn't acknowledged either
         (228, PhaseName::AckSlot, Sender, Rule::Acknowledgement),
-        (229, PhaseName::PassiveFlag(0), Sender, Rule::Acknowledgement),
+        (
+            229,
+            PhaseName::PassiveFlag(0),
+            Sender,
+            Rule::Acknowledgement,
+        ),
         (230, PhaseName::PassiveFlag(1), Sender, Rule::ErrorFlags),
         (234, PhaseName::PassiveFlag(5), Sender, Rule::ErrorFlags),
         (235, PhaseName::BehindFlag(0), Sender, Rule::BehindAFlag),

@@ -157,7 +157,11 @@ fn events_differ(rt: HostRuntime) -> Result<(), Fail> {
         ([(46, form)].as_slice(), 45, (None, Some(form))),
         ([(44, form)].as_slice(), 44, (Some(form), None)),
         ([(45, form), (46, form)].as_slice(), 46, (Some(form), None)),
-        ([(45, form), (70, Event::Lost)].as_slice(), 70, (Some(Event::Lost), None)),
+        (
+            [(45, form), (70, Event::Lost)].as_slice(),
+            70,
+            (Some(Event::Lost), None),
+        ),
     ] {
         let transcript = telling(rt.alloc(), rows)?;
         let failure = failure(&rt, rt.alloc(), &case(rt.alloc())?, &transcript)?;
@@ -172,9 +176,21 @@ fn events_differ(rt: HostRuntime) -> Result<(), Fail> {
 fn counters_differ(rt: HostRuntime) -> Result<(), Fail> {
     for (rows, time, told) in [
         ([].as_slice(), 45, (counters(0, 0), counters(0, 1))),
-        ([(45, counters(0, 2))].as_slice(), 45, (counters(0, 2), counters(0, 1))),
-        ([(45, counters(8, 1))].as_slice(), 45, (counters(8, 1), counters(0, 1))),
-        ([(46, counters(0, 1))].as_slice(), 45, (counters(0, 0), counters(0, 1))),
+        (
+            [(45, counters(0, 2))].as_slice(),
+            45,
+            (counters(0, 2), counters(0, 1)),
+        ),
+        (
+            [(45, counters(8, 1))].as_slice(),
+            45,
+            (counters(8, 1), counters(0, 1)),
+        ),
+        (
+            [(46, counters(0, 1))].as_slice(),
+            45,
+            (counters(0, 0), counters(0, 1)),
+        ),
         (
             [(45, counters(0, 1)), (60, counters(0, 0))].as_slice(),
             60,
@@ -215,9 +231,7 @@ fn the_end_differs_behind_all_else(rt: HostRuntime) -> Result<(), Fail> {
 }
 
 #[test]
-fn a_level_comes_before_an_event_and_an_event_before_counters(
-    rt: HostRuntime,
-) -> Result<(), Fail> {
+fn a_level_comes_before_an_event_and_an_event_before_counters(rt: HostRuntime) -> Result<(), Fail> {
     let mut told = driving(rt.alloc(), &[("1", 45), ("0", 7), ("1", 14)])?;
     told.events = Some(Vec::new(rt.alloc()));
     told.counters = Some(Vec::new(rt.alloc()));
@@ -245,9 +259,17 @@ fn times_that_do_not_rise_are_no_transcript(rt: HostRuntime) -> Result<(), Fail>
         ([1, u32::MAX], false),
     ] {
         let rows = [(times[0], Event::Lost), (times[1], Event::Lost)];
-        assert_eq!(rt; telling(rt.alloc(), &rows)?.is_told(), is_told, "at {times:?}");
+        assert_eq!(rt;
+            telling(rt.alloc(), &rows)?.is_told(),
+            is_told,
+            "at {times:?}"
+        );
         let rows = [(times[0], counters(0, 1)), (times[1], counters(0, 2))];
-        assert_eq!(rt; counting(rt.alloc(), &rows)?.is_told(), is_told, "at {times:?}");
+        assert_eq!(rt;
+            counting(rt.alloc(), &rows)?.is_told(),
+            is_told,
+            "at {times:?}"
+        );
     }
     Ok(())
 }

@@ -36,7 +36,7 @@ invariant_of-self g c =
                   let waits : is_some inside.length ≡ false = w.is_none.ensures ∙ ap not v.if-is_none.true in
                   let size : v.len.result ≡ length (front.unstuffed ++ c.args.level ∷ []) = v.len.ensures ∙ ap length w.push.ensures in
                   let no_end : ((length (front.unstuffed ++ c.args.level ∷ []) ≡ data_place false) ⊎ (length (front.unstuffed ++ c.args.level ∷ []) ≡ data_place true)) → ⊥
-                          = λ e. (let ends : v.ends_dlc.result ≡ true = v.ends_dlc.ensures.1 (rw size e) in cc (v.if-ends_dlc.false)) in
+                  = λ e. (let ends : v.ends_dlc.result ≡ true = v.ends_dlc.ensures.1 (rw size e) in cc (v.if-ends_dlc.false)) in
                   rw w.push.ensures (TellsLength-wait front.unstuffed c.args.level inside.length waits c.self.invariant.1 no_end)
             ],
           )
