@@ -72,6 +72,31 @@ pub fn expected(rt: &impl Abort, alloc: Global, script: &Script) -> Result<Trans
     expect(alloc, script)
 }
 
+/// What the judge says.
+fn judged(
+    rt: &impl Abort,
+    alloc: Global,
+    script: &Script,
+    transcript: &Transcript,
+) -> Result<Verdict, AllocError> {
+    assert!(rt; script.tester.len() < 10_000);
+    assert!(rt; transcript.is_told());
+    judge(alloc, script, transcript)
+}
+
+/// Whether the judge lets a transcript pass.
+pub fn passes(
+    rt: &impl Abort,
+    alloc: Global,
+    script: &Script,
+    transcript: &Transcript,
+) -> Result<bool, AllocError> {
+    Ok(match judged(rt, alloc, script, transcript)? {
+        Verdict::Pass => true,
+        Verdict::Fail(_) => false,
+    })
+}
+
 /// The judge's failure, if it finds one.
 pub fn failure(
     rt: &impl Abort,
@@ -79,9 +104,7 @@ pub fn failure(
     script: &Script,
     transcript: &Transcript,
 ) -> Result<Option<Failure>, AllocError> {
-    assert!(rt; script.tester.len() < 10_000);
-    assert!(rt; transcript.is_told());
-    Ok(match judge(alloc, script, transcript)? {
+    Ok(match judged(rt, alloc, script, transcript)? {
         Verdict::Pass => None,
         Verdict::Fail(failure) => Some(failure),
     })

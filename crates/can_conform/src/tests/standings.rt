@@ -281,7 +281,7 @@ fn a_passive_sender_suspends(rt: HostRuntime) -> Result<(), Fail> {
     hold(&rt, rt.alloc(), &case, &rows)?;
     // a frame that begins too early: the event behind which it is
     let mut told = expected(&rt, rt.alloc(), &case)?;
-    told.drove[186] = Level::Dominant;
+    *told.drove.get_mut(186).ok_or("a level")? = Level::Dominant;
     let failure = failure(&rt, rt.alloc(), &case, &told)?.ok_or("it passed")?;
     let since = failure.standing.since.ok_or("no event")?;
     assert_eq!(rt; since.time, 41);
