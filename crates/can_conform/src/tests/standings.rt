@@ -86,95 +86,97 @@ fn a_sender_from_idle_to_its_flag(rt: HostRuntime) -> Result<(), Fail> {
 }
 
 /// What starts a flag of a receiver.
+/// What the tester does to an idle receiver, each text so many times; the time at which a flag begins; the flag, and
+/// the rule that started it.
+const STARTED_FLAGS: &[(&[(&str, usize)], u32, PhaseName, Rule)] = &[
+    // six dominant levels
+    (
+        &[("0", 6), ("1", 2), ("1", 0), ("1", 0), ("1", 0)],
+        6,
+        PhaseName::ActiveFlag(0),
+        Rule::StuffPlaces,
+    ),
+    // the CRC delimiter
+    (
+        &[PART, ("0000", 1), ("0", 1), ("1", 2), ("1", 0)],
+        41,
+        PhaseName::ActiveFlag(0),
+        Rule::FixedForm,
+    ),
+    // the ACK slot, in which it doesn't see its own acknowledgement
+    (
+        &[PART, REST, ("f", 1), ("1", 2), ("1", 0)],
+        42,
+        PhaseName::ActiveFlag(0),
+        Rule::Acknowledgement,
+    ),
+    // the ACK delimiter
+    (
+        &[PART, REST, ("1", 1), ("0", 1), ("1", 2)],
+        43,
+        PhaseName::ActiveFlag(0),
+        Rule::FixedForm,
+    ),
+    // the last level of the check sequence is wrong
+    (
+        &[PART, ("00011", 1), ("0", 1), ("1", 2), ("1", 0)],
+        43,
+        PhaseName::ActiveFlag(0),
+        Rule::RefusedCheckSequence,
+    ),
+    // the sixth level of the end of frame, and the seventh
+    (
+        &[PART, REST, ("1", 7), ("0", 1), ("1", 2)],
+        49,
+        PhaseName::ActiveFlag(0),
+        Rule::FixedForm,
+    ),
+    (
+        &[PART, REST, ("1", 8), ("0", 1), ("1", 2)],
+        50,
+        PhaseName::OverloadFlag(0),
+        Rule::DominantLastLevel,
+    ),
+    // intermission, its first two levels
+    (
+        &[PART, REST, ("1", 9), ("0", 1), ("1", 2)],
+        51,
+        PhaseName::OverloadFlag(0),
+        Rule::Intermission,
+    ),
+    (
+        &[PART, REST, ("1", 10), ("0", 1), ("1", 2)],
+        52,
+        PhaseName::OverloadFlag(0),
+        Rule::Intermission,
+    ),
+    // its own flag
+    (
+        &[("0", 6), ("1", 2), ("f", 1), ("1", 2), ("1", 0)],
+        9,
+        PhaseName::ActiveFlag(0),
+        Rule::ErrorInAnOwnFlag,
+    ),
+    // its delimiter, from 12 on: the seventh level, and the eighth
+    (
+        &[("0", 6), ("1", 6), ("1", 6), ("0", 1), ("1", 2)],
+        19,
+        PhaseName::ActiveFlag(0),
+        Rule::Delimiter,
+    ),
+    (
+        &[("0", 6), ("1", 6), ("1", 7), ("0", 1), ("1", 2)],
+        20,
+        PhaseName::OverloadFlag(0),
+        Rule::Delimiter,
+    ),
+];
+
 #[test]
 fn flags_by_the_rule_that_started_them(rt: HostRuntime) -> Result<(), Fail> {
-    let flag = PhaseName::ActiveFlag(0);
-    let overload = PhaseName::OverloadFlag(0);
-    for (texts, time, phase, rule) in [
-        // six dominant levels
-        (
-            [("0", 6), ("1", 2), ("1", 0), ("1", 0), ("1", 0)],
-            6,
-            flag,
-            Rule::StuffPlaces,
-        ),
-        // the CRC delimiter
-        (
-            [PART, ("0000", 1), ("0", 1), ("1", 2), ("1", 0)],
-            41,
-            flag,
-            Rule::FixedForm,
-        ),
-        // the ACK slot, in which it doesn't see its own acknowledgement
-        (
-            [PART, REST, ("f", 1), ("1", 2), ("1", 0)],
-            42,
-            flag,
-            Rule::Acknowledgement,
-        ),
-        // the ACK delimiter
-        (
-            [PART, REST, ("1", 1), ("0", 1), ("1", 2)],
-            43,
-            flag,
-            Rule::FixedForm,
-        ),
-        // the last level of the check sequence is wrong
-        (
-            [PART, ("00011", 1), ("0", 1), ("1", 2), ("1", 0)],
-            43,
-            flag,
-            Rule::RefusedCheckSequence,
-        ),
-        // the sixth level of the end of frame, and the seventh
-        (
-            [PART, REST, ("1", 7), ("0", 1), ("1", 2)],
-            49,
-            flag,
-            Rule::FixedForm,
-        ),
-        (
-            [PART, REST, ("1", 8), ("0", 1), ("1", 2)],
-            50,
-            overload,
-            Rule::DominantLastLevel,
-        ),
-        // intermission, its first two levels
-        (
-            [PART, REST, ("1", 9), ("0", 1), ("1", 2)],
-            51,
-            overload,
-            Rule::Intermission,
-        ),
-        (
-            [PART, REST, ("1", 10), ("0", 1), ("1", 2)],
-            52,
-            overload,
-            Rule::Intermission,
-        ),
-        // its own flag
-        (
-            [("0", 6), ("1", 2), ("f", 1), ("1", 2), ("1", 0)],
-            9,
-            flag,
-            Rule::ErrorInAnOwnFlag,
-        ),
-        // its delimiter, from 12 on: the seventh level, and the eighth
-        (
-            [("0", 6), ("1", 6), ("1", 6), ("0", 1), ("1", 2)],
-            19,
-            flag,
-            Rule::Delimiter,
-        ),
-        (
-            [("0", 6), ("1", 6), ("1", 7), ("0", 1), ("1", 2)],
-            20,
-            overload,
-            Rule::Delimiter,
-        ),
-    ] {
-        let case = script(rt.alloc(), Start::Idle, &texts)?;
-        hold(&rt, rt.alloc(), &case, &[(time, phase, Receiver, rule)])?;
+    for (texts, time, phase, rule) in STARTED_FLAGS {
+        let case = script(rt.alloc(), Start::Idle, *texts)?;
+        hold(&rt, rt.alloc(), &case, &[(*time, *phase, Receiver, *rule)])?;
     }
     Ok(())
 }

@@ -60,13 +60,13 @@ fn transcript(alloc: Global) -> Result<Transcript, AllocError> {
 }
 
 /// The same with these events alone.
-fn telling(alloc: Global, rows: &[(u32, Event)]) -> Result<Transcript, AllocError> {
+fn telling(alloc: Global, rows: &[(u32, Seen)]) -> Result<Transcript, AllocError> {
     let mut transcript = transcript(alloc)?;
     let mut events = Vec::new(alloc);
     for (time, told) in rows {
         events.push(Timed {
             time: *time,
-            told: *told,
+            told: event(*told),
         })?;
     }
     transcript.events = Some(events);
@@ -147,27 +147,63 @@ fn levels_differ(rt: HostRuntime) -> Result<(), Fail> {
     Ok(())
 }
 
+/// An event of a row.
+#[derive(Clone, Copy)]
+enum Seen {
+    Form,
+    Stuff,
+    Lost,
+}
+
+fn event(seen: Seen) -> Event {
+    match seen {
+        Seen::Form => Event::Error(ErrorKind::Form),
+        Seen::Stuff => Event::Error(ErrorKind::Stuff),
+        Seen::Lost => Event::Lost,
+    }
+}
+
+fn event_or_none(seen: Option<Seen>) -> Option<Event> {
+    match seen {
+        Some(seen) => Some(event(seen)),
+        None => None,
+    }
+}
+
+/// Events that a transcript tells, the time of the first that differs, what is told then and what ought to be.
+const EVENTS: &[(&[(u32, Seen)], u32, Option<Seen>, Option<Seen>)] = &[
+    (&[], 45, None, Some(Seen::Form)),
+    (
+        &[(45, Seen::Stuff)],
+        45,
+        Some(Seen::Stuff),
+        Some(Seen::Form),
+    ),
+    (&[(46, Seen::Form)], 45, None, Some(Seen::Form)),
+    (&[(44, Seen::Form)], 44, Some(Seen::Form), None),
+    (
+        &[(45, Seen::Form), (46, Seen::Form)],
+        46,
+        Some(Seen::Form),
+        None,
+    ),
+    (
+        &[(45, Seen::Form), (70, Seen::Lost)],
+        70,
+        Some(Seen::Lost),
+        None,
+    ),
+];
+
 #[test]
 fn events_differ(rt: HostRuntime) -> Result<(), Fail> {
-    let form = Event::Error(ErrorKind::Form);
-    let stuff = Event::Error(ErrorKind::Stuff);
-    for (rows, time, told) in [
-        ([].as_slice(), 45, (None, Some(form))),
-        ([(45, stuff)].as_slice(), 45, (Some(stuff), Some(form))),
-        ([(46, form)].as_slice(), 45, (None, Some(form))),
-        ([(44, form)].as_slice(), 44, (Some(form), None)),
-        ([(45, form), (46, form)].as_slice(), 46, (Some(form), None)),
-        (
-            [(45, form), (70, Event::Lost)].as_slice(),
-            70,
-            (Some(Event::Lost), None),
-        ),
-    ] {
-        let transcript = telling(rt.alloc(), rows)?;
+    for (rows, time, told, ought) in EVENTS {
+        let transcript = telling(rt.alloc(), *rows)?;
         let failure = failure(&rt, rt.alloc(), &case(rt.alloc())?, &transcript)?;
         let failure = failure.ok_or("it passed")?;
-        assert_eq!(rt; failure.time, time);
-        assert_eq!(rt; events_told(&failure), Some(told), "at {time}");
+        assert_eq!(rt; failure.time, *time);
+        let events = (event_or_none(*told), event_or_none(*ought));
+        assert_eq!(rt; events_told(&failure), Some(events), "at {time}");
     }
     Ok(())
 }
@@ -258,7 +294,7 @@ fn times_that_do_not_rise_are_no_transcript(rt: HostRuntime) -> Result<(), Fail>
         ([1, u32::MAX - 1], true),
         ([1, u32::MAX], false),
     ] {
-        let rows = [(times[0], Event::Lost), (times[1], Event::Lost)];
+        let rows = [(times[0], Seen::Lost), (times[1], Seen::Lost)];
         assert_eq!(rt;
             telling(rt.alloc(), &rows)?.is_told(),
             is_told,
