@@ -40,3 +40,10 @@ front_at_all hits time x k zero [] h = refl
 front_at_all hits time x k (suc i) [] h = refl
 front_at_all hits time x k zero (p ∷ ps) h = absurd (omega arith)
 front_at_all hits time x k (suc i) (p ∷ ps) h = ap (λ qs. sampled hits time x k p ∷ qs) (front_at_all hits time x (k + 1) i ps (omega arith))
+
+-- the same change of all of them
+pub front_at_each : {A : Type 0} (f : A → A) (k i : ℕ) (xs : List A) → length xs ≤ i → front_at (λ n x. f x) k i xs ≡ map f xs
+front_at_each f k zero [] h = refl
+front_at_each f k (suc i) [] h = refl
+front_at_each f k zero (x ∷ xs) h = absurd (omega arith)
+front_at_each f k (suc i) (x ∷ xs) h = ap (λ ys. f x ∷ ys) (front_at_each f (k + 1) i xs (omega arith))

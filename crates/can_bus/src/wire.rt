@@ -78,6 +78,7 @@ fn wired_vector<P: Port>(ports: &[P]) -> Level
 }
 
 /// What the ports drive together, one after another. For fewer ports than a full vector this is quicker.
+#[inline(always)]
 fn wired_one_by_one<P: Port>(ports: &[P]) -> Level
     ensures { result ≡ wired_of (map port_drives (map P.port ports.now)) }
 {
@@ -90,6 +91,7 @@ fn wired_one_by_one<P: Port>(ports: &[P]) -> Level
 }
 
 /// What the ports drive together.
+#[inline(always)]
 pub(crate) fn wired_level<P: Port>(ports: &[P]) -> Level
     ensures { result ≡ wired_of (map port_drives (map P.port ports.now)) }
 {

@@ -1,5 +1,5 @@
 -- A check sequence that grows level by level, and what it is of levels that end with a check sequence.
-use Rattle.std.proofs.Common.{◌≡◌, ℕ, suc, zero, ◌+◌, ◌-◌, ◌<◌, ◌≤◌, ◌^◌, List, [], ◌∷◌, ◌++◌, length, drop, refl, sym, ◌∙◌, ap, subst, arith, length-append}
+use Rattle.std.proofs.Common.{◌≡◌, ℕ, suc, zero, ◌+◌, ◌-◌, ◌/◌, ◌<◌, ◌≤◌, ◌^◌, List, [], ◌∷◌, ◌++◌, length, drop, refl, sym, ◌∙◌, ap, subst, arith, append_assoc, length-append}
 use Rattle.std.proofs.lemmas.List.{append_cancel_right, drop_at, length-drop, take-append-drop}
 use Rattle.can_frame.specs.declared.level.Level.{Level}
 use Rattle.can_frame.specs.declared.level.Level.TheVariants.{Dominant, Recessive}
@@ -7,7 +7,7 @@ use Rattle.can_frame.specs.Levels.{bits_of, number_from}
 use Rattle.can_code.specs.Crc.{xor, lower_terms, reduced, IsCrc, crc_of}
 use Rattle.can_code.specs.Layout.{check_of, head_of, level_at}
 use Rattle.can_code.proofs.LayoutNumbers.{number_from-whole}
-use Rattle.can_code.proofs.LevelLemmas.{bits_of-none}
+use Rattle.can_code.proofs.LevelLemmas.{bits_of-further, bits_of-none}
 use Rattle.can_code.proofs.XorLemmas.{xor_comm, xor_assoc, xor_zeros, xor_zeros_longer, xor_self, xor_twice, length-xor}
 use Rattle.can_code.proofs.DivisionLemmas.{none, length-reduced, length-crc_of, IsCrc-crc_of, IsCrc-only}
 use Rattle.can_code.proofs.Register.{register, register-nil, register-append, register-crc_of}
@@ -24,6 +24,18 @@ IsCrc-on r next levels more step is =
     let next_is : bits_of 15 next ≡ crc_of (levels ++ more) =
     step ∙ ap (λ t. register t more) start ∙ sym (register-append (none 15) levels more) ∙ register-crc_of (levels ++ more) in
     subst (IsCrc (levels ++ more)) (sym next_is) (IsCrc-crc_of (levels ++ more))
+
+-- the check sequence of levels and of those of a number but for the `left` lowest, and of the next w of them
+pub IsCrc-further : (levels : List Level) (count left w number r : ℕ) → w ≤ left → left ≤ count
+    → IsCrc ((levels ++ bits_of (count - left) (number / 2 ^ left)) ++ bits_of w (number / 2 ^ (left - w))) (bits_of 15 r)
+    → IsCrc (levels ++ bits_of (count - (left - w)) (number / 2 ^ (left - w))) (bits_of 15 r)
+IsCrc-further levels count left w number r some within is =
+    let y = number / 2 ^ (left - w) in
+    let size : count - (left - w) ≡ (count - left) + w = omega arith in
+    let back : (left - w) + w ≡ left = omega arith in
+    let parts : bits_of (count - (left - w)) y ≡ bits_of (count - left) (number / 2 ^ left) ++ bits_of w y =
+    ap (λ n. bits_of n y) size ∙ bits_of-further (count - left) w (left - w) number ∙ ap (λ m. bits_of (count - left) (number / 2 ^ m) ++ bits_of w y) back in
+    IsCrc-same (append_assoc levels (bits_of (count - left) (number / 2 ^ left)) (bits_of w y) ∙ ap (λ t. levels ++ t) (sym parts)) is
 
 -- The generator's constant term is 1, so a register that a dominant level clears was clear before it.
 cleared-level : (r : List Level) → length r ≡ 15 → register r (Dominant ∷ []) ≡ none 15 → r ≡ none 15

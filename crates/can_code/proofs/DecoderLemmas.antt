@@ -66,6 +66,18 @@ module _ (d : DecoderParts) (l : List Level) (h : HasHeard d l) where
         let parts = and_parts (eqb d.front.run 5) (same x d.front.last) error in
         IsCodeFault-stuff l d.front x rest front_of_all (eqb-true d.front.run 5 parts.0) parts.1
 
+    -- levels that leave the stuffed part unended
+    pub HasHeard-run : (xs : List Level) (e : DecoderParts) → heard_levels d.front xs ≡ Some e.front → next_place e.front ≢ CrcDelimiter → e.behind ≡ d.behind → HasHeard e (l ++ xs)
+    HasHeard-run xs e next going_on same_behind =
+        let nothing : e.behind ≡ [] = same_behind ∙ h.none going in
+        record {
+          part = h.part ++ xs;
+          whole = ap (λ t. t ++ xs) all_part ∙ ap (λ t. Dominant ∷ t) (sym (append-nil (h.part ++ xs))) ∙ ap (λ t. Dominant ∷ ((h.part ++ xs) ++ t)) (sym nothing);
+          front = heard_levels-append h.part xs first_front d.front h.front ∙ next;
+          behind = λ ended. absurd (going_on ended);
+          none = λ _. nothing;
+        }
+
     -- another level
     module _ (x : Level) (no_error : is_stuff_error d.front x ≡ false) where
       longer : IsFrontOf (l ++ x ∷ []) (heard_level d.front x)
@@ -124,14 +136,14 @@ module _ (d : DecoderParts) (l : List Level) (h : HasHeard d l) where
         subst (λ t. IsCodeFault (t ++ x ∷ rest) (record { kind = Form; place = length t })) (sym h.whole)
         (IsCodeFault-form d.front.unstuffed part_of_all part_is stands.agrees stands.acked stands.last d.behind stands.more x rest few stands.begins wrong)
 
-    -- another level
-    pub HasHeard-behind : (e : DecoderParts) (x : Level) (k : ℕ) (acked : Bool) → k < 10 → e.front ≡ d.front → e.behind ≡ d.behind ++ x ∷ [] → e.behind ≡ take k (tail (ack_slot acked) Recessive) → HasHeard e (l ++ x ∷ [])
-    HasHeard-behind e x k acked within same_front longer is_tail =
+    -- more levels
+    pub HasHeard-tail : (e : DecoderParts) (xs : List Level) (k : ℕ) (acked : Bool) → k < 10 → e.front ≡ d.front → e.behind ≡ d.behind ++ xs → e.behind ≡ take k (tail (ack_slot acked) Recessive) → HasHeard e (l ++ xs)
+    HasHeard-tail e xs k acked within same_front longer is_tail =
         let ten = tail (ack_slot acked) Recessive in
         let place : next_place e.front ≡ CrcDelimiter = ap next_place same_front ∙ ended in
         record {
           part = h.part;
-          whole = ap (λ t. t ++ x ∷ []) h.whole ∙ ap (λ t. Dominant ∷ t) (append_assoc h.part d.behind (x ∷ [])) ∙ ap (λ t. Dominant ∷ (h.part ++ t)) (sym longer);
+          whole = ap (λ t. t ++ xs) h.whole ∙ ap (λ t. Dominant ∷ t) (append_assoc h.part d.behind xs) ∙ ap (λ t. Dominant ∷ (h.part ++ t)) (sym longer);
           front = h.front ∙ ap Some (sym same_front);
           behind = λ _. record {
             agrees = subst (λ f. IsCrc (head_of f.unstuffed) (check_of f.unstuffed)) (sym same_front) stands.agrees;
@@ -143,6 +155,10 @@ module _ (d : DecoderParts) (l : List Level) (h : HasHeard d l) where
           };
           none = λ going. absurd (going place);
         }
+
+    -- another level
+    pub HasHeard-behind : (e : DecoderParts) (x : Level) (k : ℕ) (acked : Bool) → k < 10 → e.front ≡ d.front → e.behind ≡ d.behind ++ x ∷ [] → e.behind ≡ take k (tail (ack_slot acked) Recessive) → HasHeard e (l ++ x ∷ [])
+    HasHeard-behind e x k acked within same_front longer is_tail = HasHeard-tail e (x ∷ []) k acked within same_front longer is_tail
 
     -- the last level
     pub HasHeard-last : (x : Level) (acked : Bool) → d.behind ≡ take 9 (tail (ack_slot acked) Recessive) → Spells (heard_of d.front.unstuffed acked x) (l ++ x ∷ [])

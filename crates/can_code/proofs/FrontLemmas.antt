@@ -1,7 +1,7 @@
 -- A front stays one with each level that is heard, and its levels tell how long it gets.
-use Rattle.std.proofs.Common.{◌≡◌, ◌≢◌, ℕ, ◌+◌, ◌<◌, ◌≤◌, Bool, true, false, Option, Some, None, List, [], ◌∷◌, ◌++◌, length, take, refl, sym, ◌∙◌, ap, arith, length-append, cond}
+use Rattle.std.proofs.Common.{◌≡◌, ◌≢◌, ℕ, ◌+◌, ◌<◌, ◌≤◌, Bool, true, false, Option, Some, None, List, [], ◌∷◌, ◌++◌, length, take, refl, sym, ◌∙◌, ap, arith, length-append, cond, ◌⊎◌, inl, inr}
 use Rattle.std.proofs.Math.Dec.{eqb}
-use Rattle.std.proofs.lemmas.Bool.{cond-true, eq-eqb, ne_eqb, eqb-true, eqb-false, cond-false}
+use Rattle.std.proofs.lemmas.Bool.{cases_lt, cond-true, eq-eqb, ne_eqb, eqb-true, eqb-false, cond-false}
 use Rattle.std.specs.Option.{is_some, option_eq}
 use Rattle.can_frame.specs.declared.level.Level.{Level}
 use Rattle.can_frame.specs.declared.level.Level.TheVariants.{Dominant}
@@ -30,6 +30,27 @@ TellsLength-push u x (Some n) some h =
     let place : data_place (extended_of (u ++ x ∷ [])) ≡ data_place (extended_of u) =
     ap (λ t. data_place (is_recessive t)) (level_at-append u (x ∷ []) 13 (omega (arith, data_behind_ide (extended_of u)))) in
     (omega arith, h.1 ∙ sym (frame_len-append u (x ∷ []) told))
+
+data_place_or : (extended : Bool) → (data_place extended ≡ data_place false) ⊎ (data_place extended ≡ data_place true)
+data_place_or true = inr refl
+data_place_or false = inl refl
+
+-- a length that is not told is not told by one level more, where no data length code ends with it
+pub TellsLength-wait : (u : List Level) (x : Level) (told : Option ℕ) → is_some told ≡ false → TellsLength u told
+    → (((length (u ++ x ∷ []) ≡ data_place false) ⊎ (length (u ++ x ∷ []) ≡ data_place true)) → ⊥) → TellsLength (u ++ x ∷ []) told
+TellsLength-wait u x (Some n) none h no_end = cc
+TellsLength-wait u x None none h no_end =
+    let size : length (u ++ x ∷ []) ≡ length u + 1 = length-append u (x ∷ []) in
+    let before : length u < data_place (extended_of u) = h in
+    elim (cases_lt 13 (length u)) [
+      | inl behind ↦
+          let place : data_place (extended_of (u ++ x ∷ [])) ≡ data_place (extended_of u) = ap (λ t. data_place (is_recessive t)) (level_at-append u (x ∷ []) 13 behind) in
+          elim (data_place_or (extended_of u)) [
+            | inl e ↦ let other : length (u ++ x ∷ []) ≢ data_place (extended_of u) = λ q. no_end (inl (q ∙ e)) in omega arith
+            | inr e ↦ let other : length (u ++ x ∷ []) ≢ data_place (extended_of u) = λ q. no_end (inr (q ∙ e)) in omega arith
+          ]
+      | inr few ↦ omega (arith, data_behind_ide (extended_of (u ++ x ∷ [])))
+    ]
 
 pub IsFront-first_front : IsFront first_front
 IsFront-first_front = record { start = refl; within = omega (arith, frame_len_ge (Dominant ∷ [])); some = omega arith; short = omega arith }

@@ -70,6 +70,9 @@ pub mod PlainLemmas
 pub mod PackedLemmas
 pub mod SoundLemmas
 pub mod DecodingLemmas
+pub mod UnstuffingLemmas
+pub mod StepLemmas
+pub mod StepTable
 pub mod TailLemmas
 -- arbitration, level by level
 pub mod UnstuffedOrder

@@ -1,18 +1,13 @@
 -- The register as a number of fifteen bits, and its steps as code takes them.
-use Rattle.std.proofs.Common.{◌≡◌, ℕ, ◌+◌, ◌*◌, ◌/◌, ◌%◌, ◌^◌, ◌<◌, ◌≤◌, Bool, true, false, List, [], ◌∷◌, ◌++◌, length, refl, sym, ◌∙◌, ap, arith, inl, inr}
-use Rattle.std.specs.Prelude.{bit_and, bit_xor, not}
-use mathlib.Core.Bool.{beq}
-use Rattle.std.proofs.Math.Dec.{leb}
-use borrow.Author.Tests.{leb-true, leb-false}
-use Rattle.std.proofs.lemmas.Bool.{cases_Bool}
+use Rattle.std.proofs.Common.{◌≡◌, ℕ, zero, suc, ◌+◌, ◌*◌, ◌/◌, ◌%◌, ◌^◌, ◌<◌, ◌≤◌, List, [], ◌∷◌, ◌++◌, length, refl, sym, ◌∙◌, ap, arith}
+use Rattle.std.specs.Prelude.{bit_and, bit_xor}
+use mir.Val.{bool_byte}
 use Rattle.std.proofs.lemmas.Nat.{and_mask}
-use Rattle.std.proofs.lemmas.Nat.Bits.{bit_at_lowest}
 use Rattle.can_frame.specs.declared.level.Level.{Level}
 use Rattle.can_frame.specs.declared.level.Level.TheVariants.{Dominant, Recessive}
-use Rattle.can_frame.specs.Levels.{is_recessive, level_from, level_of, bits_of}
+use Rattle.can_frame.specs.Levels.{is_recessive, bits_of}
 use Rattle.can_code.specs.Crc.{xor, crc_of}
-use Rattle.can_code.proofs.XorLemmas.{xor_zeros}
-use Rattle.can_code.proofs.LevelLemmas.{length-bits_of, bits_of-zero, bits_of-suc, bits_of-append, bits_of-mod, bits_of-shl, bits_of-xor}
+use Rattle.can_code.proofs.LevelLemmas.{length-bits_of, bits_of-append, bits_of-mod, bits_of-shl, bits_of-xor}
 use Rattle.can_code.proofs.DivisionLemmas.{none}
 use Rattle.can_code.proofs.Register.{register, register-top}
 
@@ -47,38 +42,22 @@ register-entry n k r entry levels h size e =
 
 -- The step by one level.
 
-highest : (r : ℕ) → r < 2 ^ 15 → bits_of 1 (r / 2 ^ 14) ≡ level_from (leb 16384 r) ∷ []
-highest r h =
-    let top = r / 2 ^ 14 in
-    bits_of-suc 0 top ∙ ap (λ b. level_of b ∷ bits_of 0 top) (bit_at_lowest top) ∙ ap (λ t. level_of (top % 2) ∷ t) (bits_of-zero top)
-    ∙ ap (λ l. l ∷ []) (elim (cases_Bool (leb 16384 r)) [
-      | inl large ↦ let e : top % 2 ≡ 1 = omega (arith, leb-true 16384 r large) in ap level_of e ∙ sym (ap level_from large)
-      | inr small ↦ let e : top % 2 ≡ 0 = omega (arith, leb-false 16384 r small) in ap level_of e ∙ sym (ap level_from small)
-    ])
+-- a level is the bit that code takes it for
+pub level_bits : (x : Level) → bits_of 1 (bool_byte (is_recessive x)) ≡ x ∷ []
+unfolding bits_of
+level_bits Dominant = refl
+level_bits Recessive = refl
 
-level_sum : (b : Bool) (x : Level) → xor (level_from b ∷ []) (x ∷ []) ≡ level_from (not (beq b (is_recessive x))) ∷ []
-level_sum true Dominant = refl
-level_sum true Recessive = refl
-level_sum false Dominant = refl
-level_sum false Recessive = refl
+pub level_byte-lt : (x : Level) → bool_byte (is_recessive x) < 2 ^ 1
+level_byte-lt Dominant = omega arith
+level_byte-lt Recessive = omega arith
 
--- the sum of the highest bit and a level
-highest_sum : (r : ℕ) (x : Level) (agree : Bool) → r < 2 ^ 15 → beq (leb 16384 r) (is_recessive x) ≡ agree → xor (bits_of 1 (r / 2 ^ 14)) (x ∷ []) ≡ level_from (not agree) ∷ []
-highest_sum r x agree h e = ap (λ t. xor t (x ∷ [])) (highest r h) ∙ level_sum (leb 16384 r) x ∙ ap (λ b. level_from (not b) ∷ []) e
-
-crc_of-dominant : crc_of (Dominant ∷ []) ≡ none 15
-unfolding crc_of
-crc_of-dominant = refl
-
-crc_of-recessive : crc_of (Recessive ∷ []) ≡ bits_of 15 0x4599
+-- the check sequence of one bit
+crc_of-bit : (bit : ℕ) → bit ≤ 1 → bits_of 15 (bit * 0x4599) ≡ crc_of (bits_of 1 bit)
 unfolding crc_of bits_of
-crc_of-recessive = refl
+crc_of-bit zero h = refl
+crc_of-bit (suc zero) h = refl
+crc_of-bit (suc (suc n)) h = absurd (omega arith)
 
-pub register-agreed : (r : ℕ) (x : Level) → r < 2 ^ 15 → beq (leb 16384 r) (is_recessive x) ≡ true → bits_of 15 (moved 1 r) ≡ register (bits_of 15 r) (x ∷ [])
-register-agreed r x h e =
-    let long : 15 ≤ length (bits_of 15 (moved 1 r)) = omega (arith, length-bits_of 15 (moved 1 r)) in
-    sym (xor_zeros (bits_of 15 (moved 1 r)) 15 long) ∙ ap (xor (bits_of 15 (moved 1 r))) (sym (ap crc_of (highest_sum r x true h e) ∙ crc_of-dominant))
-    ∙ sym (register-moved 14 1 r (x ∷ []) refl refl)
-
-pub register-differed : (r : ℕ) (x : Level) → r < 2 ^ 15 → beq (leb 16384 r) (is_recessive x) ≡ false → bits_of 15 (bit_xor (moved 1 r) 0x4599) ≡ register (bits_of 15 r) (x ∷ [])
-register-differed r x h e = register-entry 14 1 r 0x4599 (x ∷ []) refl refl (sym (ap crc_of (highest_sum r x false h e) ∙ crc_of-recessive))
+pub register-fed : (r bit : ℕ) (x : Level) → bit ≤ 1 → bits_of 1 bit ≡ xor (bits_of 1 (r / 2 ^ 14)) (x ∷ []) → bits_of 15 (bit_xor (moved 1 r) (bit * 0x4599)) ≡ register (bits_of 15 r) (x ∷ [])
+register-fed r bit x h e = register-entry 14 1 r (bit * 0x4599) (x ∷ []) refl refl (crc_of-bit bit h ∙ ap crc_of e)

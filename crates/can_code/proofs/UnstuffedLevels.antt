@@ -1,5 +1,5 @@
 -- The unstuffed levels of a frame that is sent: they are complete, and they give the frame back.
-use Rattle.std.proofs.Common.{◌≡◌, ◌+◌, ◌*◌, ◌++◌, ◌≤◌, length, ◌∙◌, arith}
+use Rattle.std.proofs.Common.{◌≡◌, ◌≤◌, length, arith}
 use Rattle.can_frame.specs.Parts.{Parts, IsFrame}
 use Rattle.can_code.specs.Crc.{IsCrc, crc_of}
 use Rattle.can_code.specs.Wire.{head, unstuffed, stuffed_part}

@@ -8,5 +8,8 @@ pub mod Front
 pub mod Sending
 pub mod CodeFaults
 pub mod Decoder
+pub mod Digits
+pub mod Unstuffing
+pub mod Steps
 -- For proofs and for models only
 pub mod Reading

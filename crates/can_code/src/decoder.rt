@@ -1,10 +1,13 @@
-ghost use Rattle.std.specs.Prelude.{◌≡◌, ◌∷◌, ◌++◌, [], Option, Some, None, Result, Ok, List, length, IfErr};
+ghost use Rattle.std.specs.Prelude.{◌≡◌, ◌+◌, ◌<◌, ◌≤◌, ◌∷◌, ◌++◌, [], Option, Some, None, Result, Ok, List, length, take, IfErr};
 ghost use Rattle.can_frame.specs.declared.level.Level.{Level as Bit};
 ghost use Rattle.can_frame.specs.declared.level.Level.TheVariants.{Dominant};
 ghost use Rattle.can_code.specs.Heard.{HeardParts, Spells};
 ghost use Rattle.can_code.specs.CodeFaults.{IsCodeFault};
 ghost use Rattle.can_code.specs.Decoder.{HasHeard};
+ghost use Rattle.can_code.specs.Digits.{DecodesDigits, HearsTail};
+ghost use Rattle.can_code.specs.Front.{next_place};
 
+use crate::digits::level_of;
 use crate::fault::CodeFaultKind;
 use crate::frame_bits::FrameBits;
 use crate::front::{Front, Place};
@@ -85,4 +88,63 @@ impl<B: FrameBits> Decoder<B> {
         self.behind += 1;
         Ok(None)
     }
+
+    /// Hears levels from the front of these digits, as many as it likes, and answers how many: the same as
+    /// [`hear`](Decoder::hear) of each of them, where the frame goes on. It stops before a level that ends
+    /// the frame, or its stuffed part, or shows a fault, and at a byte that is no digit.
+    #[inline]
+    pub fn hear_run(&mut self, digits: &[u8]) -> usize
+        ensures within { result ≤ length digits.now }
+        ensures heard { DecodesDigits self.old self.new (take result digits.now) }
+    {
+        if self.front.next_place() == Place::CrcDelimiter {
+            self.hear_behind(digits)
+        } else {
+            self.front.hear_run(digits)
+        }
+    }
+
+    /// The same behind the stuffed part.
+    fn hear_behind(&mut self, digits: &[u8]) -> usize
+        requires { next_place self.old.front ≡ Place.CrcDelimiter }
+        ensures within { result ≤ length digits.now }
+        ensures heard { DecodesDigits self.old self.new (take result digits.now) }
+    {
+        let heard = tail_of(digits, self.behind, self.acked);
+        self.behind += heard.taken;
+        self.acked = heard.acked;
+        heard.taken
+    }
+}
+
+/// Levels of a tail.
+#[derive(Clone, Copy)]
+struct TailRun {
+    /// How many they are.
+    taken: usize,
+    /// Whether the ACK slot, which may be one of them or stand before them, was dominant.
+    acked: bool,
+}
+
+/// Takes levels of a tail but for its last one from the front of these digits, where `behind` of its levels
+/// stand before them.
+fn tail_of(digits: &[u8], behind: usize, acked: bool) -> TailRun
+    requires { behind < 10 }
+    ensures within { result.taken ≤ length digits.now }
+    ensures few { behind + result.taken < 10 }
+    ensures tail { HearsTail behind acked (behind + result.taken) result.acked (take result.taken digits.now) }
+{
+    let mut now = TailRun { taken: 0, acked };
+    while now.taken < digits.len() && behind + now.taken < LAST_LEVEL {
+        let Some(level) = level_of(digits[now.taken]) else {
+            return now;
+        };
+        if behind + now.taken == ACK_SLOT {
+            now.acked = !level.is_recessive();
+        } else if !level.is_recessive() {
+            return now;
+        }
+        now.taken += 1;
+    }
+    now
 }

@@ -1,7 +1,7 @@
-ghost use Rattle.std.specs.Prelude.{◌≡◌, ◌+◌, ◌<◌, ◌≤◌, ◌++◌, ◌∷◌, [], ◌↔◌, List, length, IsTrue};
+ghost use Rattle.std.specs.Prelude.{◌≡◌, ◌+◌, ◌^◌, ◌<◌, ◌≤◌, ◌++◌, ◌∷◌, [], ◌↔◌, List, length, IsTrue};
 ghost use Rattle.can_frame.specs.declared.level.Level.{Level as Bit};
 ghost use Rattle.can_frame.specs.declared.level.Level.TheVariants.{Dominant};
-ghost use Rattle.can_frame.specs.Levels.{number_from};
+ghost use Rattle.can_frame.specs.Levels.{bits_of, number_from};
 ghost use Rattle.can_code.specs.Crc.{IsCrc};
 ghost use Rattle.can_code.specs.Layout.{level_at, levels_at, check_of, head_of};
 
@@ -20,6 +20,13 @@ pub trait FrameBits: Drop {
     fn push(&mut self, level: Level)
         requires { length (levels self.old) < 118 }
         ensures { levels self.new ≡ levels self.old ++ level ∷ [] };
+
+    /// Appends the levels of the `count` lowest bits of a number that has no others, the highest first.
+    fn append(&mut self, number: u32, count: usize)
+        requires room { length (levels self.old) + count ≤ 118 }
+        requires width { count ≤ 32 }
+        requires small { number < 2 ^ count }
+        ensures { levels self.new ≡ levels self.old ++ bits_of count number };
 
     /// How many levels there are.
     fn len(&self) -> usize

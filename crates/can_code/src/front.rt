@@ -1,12 +1,15 @@
-ghost use Rattle.std.specs.Prelude.{◌≡◌, ◌≢◌, ◌<◌, ◌↔◌, length, IsTrue, IsErr, OnOk, OnErr};
+ghost use Rattle.std.specs.Prelude.{◌≡◌, ◌≢◌, ◌<◌, ◌≤◌, ◌↔◌, length, take, IsTrue, IsErr, OnOk, OnErr};
 ghost use Rattle.can_code.specs.Crc.{IsCrc};
 ghost use Rattle.can_code.specs.Layout.{check_of, extended_of, frame_of, head_of, heard_of};
+ghost use Rattle.can_code.specs.Digits.{HearsDigits};
 ghost use Rattle.can_code.specs.Front.{IsFront, first_front, heard_level, is_stuff_error, next_place as next_place_of};
 
 use crate::frame_bits::FrameBits;
 use crate::heard::Heard;
+use crate::places::ends_dlc;
 use crate::reading::{frame, frame_len, heard, is_extended};
 use crate::stuffing::{LONGEST_RUN, run_after};
+use crate::unstuffing::{room_behind, unstuff};
 use can_frame::{Frame, Level};
 use std::marker::Model;
 use thiserror::Error;
@@ -64,7 +67,7 @@ impl<B: FrameBits> Front<B> {
 
     /// What the next level is. The stuffed part has ended where the unstuffed levels have their
     /// whole CRC sequence and no stuff bit is due.
-    #[inline]
+    #[inline(always)]
     pub fn next_place(&self) -> Place
         ensures place { result ≡ next_place_of self.now }
         ensures whole { IsFront self.now }
@@ -79,7 +82,7 @@ impl<B: FrameBits> Front<B> {
     }
 
     /// Takes one level of the stuffed part.
-    #[inline]
+    #[inline(always)]
     pub fn hear(&mut self, level: Level) -> Result<(), StuffError>
         requires { next_place_of self.old ≢ Place.CrcDelimiter }
         ensures error { IsErr result ↔ IsTrue (is_stuff_error self.old level) }
@@ -94,12 +97,55 @@ impl<B: FrameBits> Front<B> {
         } else {
             self.bits.push(level);
             self.run = run_after(self.last, self.run, level);
-            if self.length.is_none() {
+            if self.length.is_none() && ends_dlc(self.bits.len()) {
                 self.length = frame_len(&self.bits);
             }
         }
         self.last = level;
         Ok(())
+    }
+
+    /// Hears levels from the front of these digits, and answers how many: the same as [`hear`](Front::hear)
+    /// of each of them. It stops before the last level of the stuffed part, at a stuff place that repeats
+    /// the level before it, and at a byte that is no digit, and may stop sooner.
+    #[inline]
+    pub fn hear_run(&mut self, digits: &[u8]) -> usize
+        requires { next_place_of self.old ≢ Place.CrcDelimiter }
+        ensures within { result ≤ length digits.now }
+        ensures heard { HearsDigits self.old self.new (take result digits.now) }
+        ensures going { next_place_of self.new ≢ Place.CrcDelimiter }
+    {
+        let mut taken = 0;
+        while taken < digits.len() {
+            let more = self.hear_part(&digits[taken..]);
+            if more == 0 {
+                return taken;
+            }
+            taken += more;
+        }
+        taken
+    }
+
+    /// The same, as many as have room in one number of their unstuffed levels.
+    #[inline]
+    fn hear_part(&mut self, digits: &[u8]) -> usize
+        requires { next_place_of self.old ≢ Place.CrcDelimiter }
+        ensures within { result ≤ length digits.now }
+        ensures heard { HearsDigits self.old self.new (take result digits.now) }
+        ensures going { next_place_of self.new ≢ Place.CrcDelimiter }
+    {
+        let room = room_behind(self.bits.len(), self.length);
+        if room == 0 {
+            return 0;
+        }
+        let heard = unstuff(digits, room, self.last, self.run);
+        self.bits.append(heard.number, heard.len);
+        self.last = heard.last;
+        self.run = heard.run;
+        if self.length.is_none() {
+            self.length = frame_len(&self.bits);
+        }
+        heard.taken
     }
 
     /// How many unstuffed levels have been heard.

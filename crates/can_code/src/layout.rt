@@ -109,7 +109,7 @@ fn push_bytes(levels: &mut Unstuffed, bytes: &[u8])
 }
 
 /// Appends the lowest bits of a number, the highest first.
-fn push_bits(levels: &mut Unstuffed, value: u32, count: u32)
+pub(crate) fn push_bits(levels: &mut Unstuffed, value: u32, count: u32)
     requires room { array_vec_len levels.old + count ≤ 118 }
     requires width { count ≤ 32 }
     ensures items { levels.new.items ≡ levels.old.items ++ bits_of count value }

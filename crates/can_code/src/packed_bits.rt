@@ -48,6 +48,14 @@ impl FrameBits for PackedBits {
     }
 
     #[inline]
+    fn append(&mut self, number: u32, count: usize) {
+        let moved = self.register.number() << count;
+        self.register = TwoWords::new(moved + u128::from(number));
+        self.count += count as u8;
+        self.check.push_number(number, count);
+    }
+
+    #[inline]
     fn len(&self) -> usize {
         usize::from(self.count)
     }

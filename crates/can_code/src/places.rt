@@ -1,7 +1,7 @@
 //! Where the unstuffed levels of a frame stand, counted from its start of frame. (Bosch CAN 2.0
 //! part B, section 3.2.1)
-ghost use Rattle.std.specs.Prelude.{◌≡◌};
-ghost use Rattle.can_code.specs.Layout.{rtr_place as rtr_place_of};
+ghost use Rattle.std.specs.Prelude.{◌≡◌, ◌⊎◌, ◌↔◌, IsTrue, false, true};
+ghost use Rattle.can_code.specs.Layout.{data_place, rtr_place as rtr_place_of};
 
 /// Where the start of frame stands.
 pub(crate) const SOF_PLACE: usize = 0;
@@ -48,6 +48,12 @@ pub(crate) const EXTENDED_DLC_PLACE: usize = 35;
 /// How far the data stand behind the RTR bit.
 pub(crate) const RTR_TO_DATA: usize = 7;
 
+/// Where the data of a standard frame stand.
+const STANDARD_DATA_PLACE: usize = STANDARD_RTR_PLACE + RTR_TO_DATA;
+
+/// Where the data of an extended frame stand.
+const EXTENDED_DATA_PLACE: usize = EXTENDED_RTR_PLACE + RTR_TO_DATA;
+
 /// How many bits the data length code has.
 pub(crate) const DLC_BITS: usize = 4;
 
@@ -64,4 +70,13 @@ pub fn rtr_place(extended: bool) -> usize
     } else {
         STANDARD_RTR_PLACE
     }
+}
+
+/// Whether so many levels end with a data length code, of one format or the other. Those that do are the first
+/// that may tell how long their frame is.
+#[inline]
+pub(crate) fn ends_dlc(count: usize) -> bool
+    ensures { IsTrue result ↔ ((count ≡ data_place false) ⊎ (count ≡ data_place true)) }
+{
+    count == STANDARD_DATA_PLACE || count == EXTENDED_DATA_PLACE
 }

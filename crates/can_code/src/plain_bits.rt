@@ -3,7 +3,7 @@ ghost use Rattle.can_frame.specs.Levels.{number_from};
 
 use crate::crc::crc15;
 use crate::frame_bits::FrameBits;
-use crate::layout::Unstuffed;
+use crate::layout::{Unstuffed, push_bits};
 use arrayvec::ArrayVec;
 use can_frame::Level;
 use std::marker::Model;
@@ -34,6 +34,10 @@ impl FrameBits for PlainBits {
 
     fn push(&mut self, level: Level) {
         self.levels.push(level);
+    }
+
+    fn append(&mut self, number: u32, count: usize) {
+        push_bits(&mut self.levels, number, count as u32);
     }
 
     fn len(&self) -> usize {

@@ -13,7 +13,9 @@ use crate::places::{
 use arrayvec::ArrayVec;
 use can_frame::{Frame, Id, Level};
 
-/// How many unstuffed levels the frame has that begins with these, if they tell it.
+/// How many unstuffed levels the frame has that begins with these, if they tell it. It stands apart, as it is
+/// asked once or twice a frame.
+#[inline(never)]
 pub(crate) fn frame_len<B: FrameBits>(bits: &B) -> Option<usize>
     ensures { TellsLength (B.levels bits.now) result }
 {

@@ -1,5 +1,5 @@
 -- The steps of hearing bytes: their levels are heard, and the lines of what is found go through the buffer to the writer.
-use Rattle.std.proofs.Common.{◌≡◌, ℕ, ◌+◌, ◌≤◌, ◌<◌, nat_eq, cond, Bool, true, false, List, [], ◌∷◌, ◌++◌, length, replicate, zero, suc, take, drop, get_or, Option, refl, sym, ap, subst, ◌∙◌, append_assoc, arith, length-append}
+use Rattle.std.proofs.Common.{◌≡◌, ℕ, ◌+◌, ◌≤◌, ◌<◌, nat_eq, cond, Bool, true, false, List, [], ◌∷◌, ◌++◌, length, map, replicate, zero, suc, take, drop, get_or, Option, refl, sym, ap, subst, ◌∙◌, append_assoc, arith, length-append}
 use Rattle.std.proofs.lemmas.List.{append-nil, take_more, take-append-drop, length-take}
 use Rattle.std.proofs.Math.Seq.{take-add}
 use Rattle.std.proofs.lemmas.Grind.{flat_map-append}
@@ -8,6 +8,7 @@ use Rattle.std.specs.List.{flat_map}
 use Rattle.can_frame.specs.declared.level.Level.{Level}
 use Rattle.can_frame.specs.declared.level.Level.TheVariants.{Dominant, Recessive}
 use Rattle.can_stream.specs.Outbox.{PassesOn, TakesFront}
+use Rattle.can_code.specs.Digits.{digit_of}
 use Rattle.can_decode.specs.TraceText.{IsTraceText, is_trace_byte, levels_in, levels_of_byte}
 use Rattle.can_decode.specs.Decoded.{finding_line}
 use Rattle.can_decode.specs.Decoding.{Hearing, Hears, HearsText, FailsToTell, MeetsBadByte, StopsHearing}
@@ -73,6 +74,21 @@ levels_in-row (suc n) = ap (λ l. Recessive ∷ l) (levels_in-row n)
 pub IsTraceText-row : (n : ℕ) → IsTraceText (replicate n 49)
 IsTraceText-row zero = tt
 IsTraceText-row (suc n) = (refl, IsTraceText-row n)
+
+-- the digits of levels
+pub levels_in-digits : (levels : List Level) → levels_in (map digit_of levels) ≡ levels
+levels_in-digits [] = refl
+levels_in-digits (Dominant ∷ levels) = ap (λ l. Dominant ∷ l) (levels_in-digits levels)
+levels_in-digits (Recessive ∷ levels) = ap (λ l. Recessive ∷ l) (levels_in-digits levels)
+
+pub IsTraceText-digits : (levels : List Level) → IsTraceText (map digit_of levels)
+IsTraceText-digits [] = tt
+IsTraceText-digits (Dominant ∷ levels) = (refl, IsTraceText-digits levels)
+IsTraceText-digits (Recessive ∷ levels) = (refl, IsTraceText-digits levels)
+
+pub length-digits : (levels : List Level) → length (map digit_of levels) ≡ length levels
+length-digits [] = refl
+length-digits (x ∷ levels) = ap suc (length-digits levels)
 
 pub HearsText-none : (trace : Trace) (held : Option (List ℕ)) (waiting : List ℕ) → HearsText trace trace [] held held waiting waiting
 HearsText-none trace held waiting = record { found = []; is_text = tt; hears = Hears-none trace; passes = PassesOn-none held waiting }

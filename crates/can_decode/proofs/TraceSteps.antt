@@ -160,6 +160,22 @@ module _ (old new : Trace) (levels : List Level) (told : List Finding) (hearing 
       Hearing-now old new levels (row n) told [] hearing (omega (arith, place, length-row n))
       (none_more new.state (levels ++ row n) told (subst (λ s. Stands s (levels ++ row n) told) (sym is) (GoesOn-row n levels told on))) tt
 
+  -- levels within a frame
+  pub Hearing-run : (more : List Level) → new.place ≡ old.place + length more → (start : ℕ) (decoder decoder_now : DecoderParts) → old.state ≡ InFrame start decoder → new.state ≡ InFrame start decoder_now
+      → ((l : List Level) → HasHeard decoder l → HasHeard decoder_now (l ++ more)) → Hearing new (levels ++ more) (told ++ [])
+  Hearing-run more place start decoder decoder_now was now goes_on =
+      let before : IsInFrame start decoder levels told = subst (λ s. Stands s levels told) was hearing.stands in
+      let still : IsInFrame start decoder_now (levels ++ more) told =
+      record {
+        done = before.done;
+        others = before.others ++ more;
+        heard = goes_on (Dominant ∷ before.others) before.heard;
+        levels_are = ap (λ l. l ++ more) before.levels_are ∙ append_assoc before.done (Dominant ∷ before.others) more;
+        start_is = before.start_is;
+        goes_on = before.goes_on;
+      } in
+      Hearing-now old new levels more told [] hearing place (none_more new.state (levels ++ more) told (subst (λ s. Stands s (levels ++ more) told) (sym now) still)) tt
+
   module _ (level : Level) (place : new.place ≡ old.place + 1) where
     -- a recessive level between frames
     pub Hearing-recessive : old.state ≡ Idle → new.state ≡ Idle → is_recessive level ≡ true → Hearing new (levels ++ level ∷ []) (told ++ [])
@@ -197,17 +213,7 @@ module _ (old new : Trace) (levels : List Level) (told : List Finding) (hearing 
       -- a level within a frame
       pub Hearing-more : (decoder_now : DecoderParts) → new.state ≡ InFrame start decoder_now → ((l : List Level) → HasHeard decoder l → HasHeard decoder_now (l ++ level ∷ []))
           → Hearing new (levels ++ level ∷ []) (told ++ [])
-      Hearing-more decoder_now now more =
-          let still : IsInFrame start decoder_now (levels ++ level ∷ []) told =
-          record {
-            done = in_frame.done;
-            others = in_frame.others ++ level ∷ [];
-            heard = more (Dominant ∷ in_frame.others) in_frame.heard;
-            levels_are = all_are;
-            start_is = in_frame.start_is;
-            goes_on = in_frame.goes_on;
-          } in
-          Hearing-now old new levels (level ∷ []) told [] hearing place (none_more new.state (levels ++ level ∷ []) told (subst (λ s. Stands s (levels ++ level ∷ []) told) (sym now) still)) tt
+      Hearing-more decoder_now now more = Hearing-run (level ∷ []) place start decoder decoder_now was now more
 
       -- the last level of a frame
       pub Hearing-frame : (h : HeardParts) → new.state ≡ Idle → ((l : List Level) → HasHeard decoder l → Spells h (l ++ level ∷ []))

@@ -123,13 +123,28 @@ fn hear_bytes<W: Sink>(
 {
     let mut index = 0;
     while index < bytes.len() {
-        index += skip_row(&bytes[index..], trace);
+        index += hear_run(&bytes[index..], trace);
         if index < bytes.len() {
             hear_byte(bytes[index], place + index as u64, trace, w, out)?;
             index += 1;
         }
     }
     Ok(())
+}
+
+/// Hears levels at the front of the bytes of which nothing is told, as many as it likes, and answers how many.
+fn hear_run(bytes: &[u8], trace: &mut Trace) -> usize
+    requires { trace.old.place + length bytes.now < 2 ^ 64 }
+    ensures within { result ≤ length bytes.now }
+    ensures text { IsTraceText (take result bytes.now) }
+    ensures hears { Hears trace.old trace.new (levels_in (take result bytes.now)) [] }
+    ensures place { trace.new.place ≤ trace.old.place + result }
+{
+    if trace.is_idle() {
+        skip_row(bytes, trace)
+    } else {
+        trace.hear_run(bytes)
+    }
 }
 
 /// Skips the recessive levels at the front of the bytes, if they stand between frames, and answers how many

@@ -1,12 +1,13 @@
 //! A trace as it is heard, level by level.
-ghost use Rattle.std.specs.Prelude.{◌≡◌, ◌+◌, ◌^◌, ◌<◌, ◌∷◌, ◌++◌, [], replicate, List, IsTrue};
+ghost use Rattle.std.specs.Prelude.{◌≡◌, ◌+◌, ◌^◌, ◌<◌, ◌≤◌, ◌∷◌, ◌++◌, [], length, take, replicate, List, IsTrue};
+ghost use Rattle.can_decode.specs.TraceText.{IsTraceText, levels_in};
 ghost use Rattle.can_frame.specs.declared.level.Level.{Level as Bit};
 ghost use Rattle.can_frame.specs.declared.level.Level.TheVariants.{Recessive};
 ghost use Rattle.can_decode.specs.declared.finding.Finding.{Finding as Findings};
 ghost use Rattle.can_decode.specs.Decoding.{EndsWith, Hearing, Hears, SearchesOn, Stands, told_of};
 
 use crate::finding::Finding;
-use can_code::{CodeFaultKind, Decoder, PlainBits};
+use can_code::{CodeFaultKind, Decoder, PackedBits};
 use can_frame::{IDLE_ROW, Level};
 
 /// How many recessive levels may stand in a row behind a fault before an idle row ends the search.
@@ -20,7 +21,7 @@ enum State {
     /// In the frame that began at this place.
     InFrame {
         start: u64,
-        decoder: Decoder<PlainBits>,
+        decoder: Decoder<PackedBits>,
     },
     /// Behind a fault, and behind so many recessive levels in a row.
     Lost {
@@ -108,6 +109,24 @@ impl Trace {
                 None
             }
         }
+    }
+
+    /// Hears levels from the front of these digits within a frame, as many as it likes, and answers how many.
+    /// Nothing is told of them.
+    #[inline]
+    pub(crate) fn hear_run(&mut self, digits: &[u8]) -> usize
+        requires { self.old.place + length digits.now < 2 ^ 64 }
+        ensures within { result ≤ length digits.now }
+        ensures text { IsTraceText (take result digits.now) }
+        ensures hears { Hears self.old self.new (levels_in (take result digits.now)) [] }
+        ensures place { self.new.place ≡ self.old.place + result }
+    {
+        let State::InFrame { decoder, .. } = &mut self.state else {
+            return 0;
+        };
+        let heard = decoder.hear_run(digits);
+        self.place += heard as u64;
+        heard
     }
 
     /// What is told of the frame in which the trace stands, if no level comes any more.

@@ -72,6 +72,15 @@ impl Confine {
         self.rec
     }
 
+    /// How many occurrences of eleven recessive levels it has seen since it became bus off, 0 to 127; 0 in any
+    /// other state.
+    pub fn occurrences(&self) -> u8
+        ensures value { result ≡ self.now.occurrences }
+        ensures range { result < 128 }
+    {
+        self.occurrences
+    }
+
     /// The state that the counters make.
     pub fn state(&self) -> State
         ensures value { result ≡ state_of self.now }

@@ -144,7 +144,11 @@ fn recovery_level_by_level(rt: HostRuntime) {
     let mut interrupted = bus_off();
     assert_eq!(rt; recessive_levels(&mut interrupted, 10), None);
     assert!(rt; !interrupted.recover(Level::Dominant));
-    assert_eq!(rt; recessive_levels(&mut interrupted, 1408), Some(1408));
+    assert_eq!(rt; interrupted.occurrences(), 0);
+    assert_eq!(rt; recessive_levels(&mut interrupted, 32), None);
+    assert_eq!(rt; interrupted.occurrences(), 2);
+    assert!(rt; !interrupted.recover(Level::Dominant));
+    assert_eq!(rt; recessive_levels(&mut interrupted, 1408), Some(1386));
     assert!(rt; interrupted == Confine::new());
 }
 

@@ -121,7 +121,7 @@ impl<B: FrameBits> MediumAccess<B> {
     /// nothing is told. It answers whether the level is one; else nothing changes, and [`MediumAccess::sample`]
     /// takes it. A caller that asks this first spares itself the event.
     #[tactic(auto, unfolding(crate::specs::Machine::mac_step))]
-    #[inline]
+    #[inline(always)]
     pub fn passes(&mut self, waiting: Option<&Frame>, seen: Level) -> bool
         ensures taken { IsTrue result → mac_step self.old (option_copied waiting.entry) seen ≡ (self.new, None) }
         ensures unchanged { IsFalse result → self.new ≡ self.old }
@@ -150,6 +150,20 @@ impl<B: FrameBits> MediumAccess<B> {
         ensures { result.now ≡ self.now.counters }
     {
         &self.confine
+    }
+
+    /// Its phase, before the next level.
+    pub fn phase(&self) -> &Phase<Front<B>>
+        ensures { result.now ≡ self.now.phase }
+    {
+        &self.phase
+    }
+
+    /// What it is to the frame on the bus.
+    pub fn role(&self) -> &Role
+        ensures { result.now ≡ self.now.role }
+    {
+        &self.role
     }
 
     /// Off the bus each level counts for recovery.

@@ -243,7 +243,7 @@ impl Phase<NewFrame> {
 
 /// Takes a level with which the controller just goes on, which most are: nothing but its phase changes, in
 /// place. It answers whether the level is one; else nothing changes.
-#[inline]
+#[inline(always)]
 pub(crate) fn goes_on<B: FrameBits>(
     role: &Role,
     phase: &mut Phase<Front<B>>,

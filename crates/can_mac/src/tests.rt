@@ -1,6 +1,6 @@
 mod rules;
 
-use crate::{ErrorKind, Event, Mac, PackedMac};
+use crate::{ErrorKind, Event, Mac, PackedMac, Phase, Role};
 use can_fault::Confine;
 use can_frame::{Frame, Id, Level};
 use std::mem::size_of;
@@ -181,6 +181,18 @@ fn joining(rt: HostRuntime) -> Result<(), Fail> {
     assert_eq!(rt; port.drives(&rt, Some(&frame)), Level::Recessive);
     port.sees(&rt, Some(&frame), "1", &[]);
     assert_eq!(rt; port.drives(&rt, Some(&frame)), Level::Dominant);
+    Ok(())
+}
+
+#[test]
+fn phase_and_role_are_told(rt: HostRuntime) -> Result<(), Fail> {
+    let frame = empty_frame(0)?;
+    let mut port = Mac::idle();
+    assert!(rt; matches!(port.phase(), Phase::Idle));
+    assert!(rt; matches!(port.role(), Role::Receiver));
+    port.sample(Some(&frame), Level::Dominant);
+    assert!(rt; matches!(port.phase(), Phase::StuffedPart(_)));
+    assert!(rt; matches!(port.role(), Role::Sender(_)));
     Ok(())
 }
 

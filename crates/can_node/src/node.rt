@@ -83,6 +83,13 @@ impl<B: FrameBits> Node<B> {
         event
     }
 
+    /// The medium access of its controller.
+    pub fn access(&self) -> &MediumAccess<B>
+        ensures { result.now ≡ (⟦<Node<B> as Port>⟧.port self.now).mac }
+    {
+        &self.mac
+    }
+
     /// What an event makes of queue and log.
     #[tactic(auto, using(crate::proofs::PortLemmas::port_logging_is))]
     fn note(&mut self, event: &Option<Event>)
@@ -119,7 +126,7 @@ impl<B: FrameBits> Port for Node<B> {
     }
 
     #[tactic(auto, unfolding(crate::specs::Ports::port_step))]
-    #[inline]
+    #[inline(always)]
     fn sample(&mut self, seen: Level) -> Option<Event> {
         // most levels tell nothing, and then no event is made
         if self.mac.passes(self.queue.waiting(), seen) {

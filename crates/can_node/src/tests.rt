@@ -4,7 +4,7 @@ mod kinds;
 use crate::{EitherNode, Entry, PackedNode, PlainNode, Port, listen};
 use can_fault::State;
 use can_frame::{Frame, Level};
-use can_mac::Event;
+use can_mac::{Event, Phase};
 use std::alloc::{AllocError, Global};
 use std::test::Fail;
 
@@ -97,6 +97,15 @@ fn a_full_log_misses_entries(rt: HostRuntime) -> Result<(), Fail> {
         assert_eq!(rt; port.missed(), 1);
         assert_eq!(rt; port.counters(), (0, 0));
     }
+    Ok(())
+}
+
+#[test]
+fn the_medium_access_of_a_port(rt: HostRuntime) -> Result<(), Fail> {
+    let mut port = PackedNode::joining(rt.alloc(), 0, 0)?;
+    assert!(rt; matches!(port.access().phase(), Phase::Joining { row: 0 }));
+    port.sample(Level::Recessive);
+    assert!(rt; matches!(port.access().phase(), Phase::Joining { row: 1 }));
     Ok(())
 }
 

@@ -1,5 +1,6 @@
 use super::{Levels, levels_of, longest_frames, standard};
 use crate::{CodeFaultKind, Decoder, FrameBits, Heard, PackedBits, PlainBits, encode};
+use arrayvec::ArrayVec;
 use can_frame::{Frame, Level};
 use std::process::Abort;
 use std::test::Fail;
@@ -94,4 +95,81 @@ fn hears_either_value<B: FrameBits>(rt: &impl Abort) -> Result<(), Fail> {
 fn levels_at_either_value(rt: HostRuntime) -> Result<(), Fail> {
     hears_either_value::<PlainBits>(&rt)?;
     hears_either_value::<PackedBits>(&rt)
+}
+
+/// The same as `first_word` of the levels that these are the digits of, heard in runs of at most `most` of them,
+/// with one level by itself behind each run.
+fn first_word_of_runs<B: FrameBits>(
+    digits: &[u8],
+    most: usize,
+) -> Option<(usize, Result<Heard, CodeFaultKind>)> {
+    let mut decoder = Decoder::<B>::begin();
+    let (_, mut rest) = digits.split_first()?;
+    for _ in 0..digits.len() {
+        let taken = decoder.hear_run(&rest[..most.min(rest.len())]);
+        rest = &rest[taken..];
+        let (digit, behind) = rest.split_first()?;
+        let place = digits.len().saturating_sub(rest.len());
+        match decoder.hear(Level::from_bool(*digit == b'1')) {
+            Ok(None) => {}
+            Ok(Some(heard)) => return Some((place, Ok(heard))),
+            Err(kind) => return Some((place, Err(kind))),
+        }
+        rest = behind;
+    }
+    None
+}
+
+fn hears_runs<B: FrameBits>(rt: &impl Abort) -> Result<(), Fail> {
+    let sent = Heard::sent(Frame::data(standard(0x001)?, 0, &[])?);
+    for most in [0usize, 1, 5, 31, 200] {
+        for (text, word) in [
+            (WIRE_001, (46, Ok(sent))),
+            ("000000", (5, Err(CodeFaultKind::Stuff))),
+            // the last level of the check sequence, and the ACK delimiter
+            (
+                "0000010000010100000100010001000010010",
+                (36, Err(CodeFaultKind::Crc)),
+            ),
+            (
+                "0000010000010100000100010001000010011100",
+                (39, Err(CodeFaultKind::Form)),
+            ),
+        ] {
+            assert!(rt; first_word_of_runs::<B>(text.as_bytes(), most) == Some(word));
+        }
+    }
+    Ok(())
+}
+
+#[test]
+fn runs(rt: HostRuntime) -> Result<(), Fail> {
+    hears_runs::<PlainBits>(&rt)?;
+    hears_runs::<PackedBits>(&rt)
+}
+
+/// Runs and single levels say the same of many lists that nearly are frames: those of a known one with a level
+/// exchanged here and there.
+#[test]
+fn runs_as_levels(rt: HostRuntime) {
+    let mut state = 1u32;
+    for _ in 0..2000 {
+        let mut digits = ArrayVec::<u8, 200>::new();
+        for digit in WIRE_000.bytes() {
+            state = state.wrapping_mul(1_664_525).wrapping_add(1_013_904_223);
+            if !digits.is_full() {
+                digits.push(if state >> 24 < 3 { b'0' } else { digit });
+            }
+        }
+        let mut levels = Levels::new();
+        for digit in &digits {
+            if !levels.is_full() {
+                levels.push(Level::from_bool(*digit == b'1'));
+            }
+        }
+        let most = (state % 40) as usize;
+        assert!(rt;
+            first_word_of_runs::<PackedBits>(&digits, most) == first_word::<PlainBits>(&levels)
+        );
+    }
 }

@@ -32,7 +32,7 @@ pub(crate) fn stuffed_part<B: FrameBits>(
 }
 
 /// Whether a level of the stuffed part is no error and loses no arbitration, so that it is only heard.
-#[inline]
+#[inline(always)]
 pub(crate) fn is_in_order<B: FrameBits>(role: &Role, front: &Front<B>, seen: Level) -> bool
     requires { next_place_of front.now ≢ Place.CrcDelimiter }
     ensures heard { IsTrue result → (s : Standing) → s.role ≡ role.now → stuffed_part_move s front.now seen ≡ hears s front.now seen }

@@ -2,7 +2,7 @@ use Rattle.std.proofs.Common.{◌≡◌, map}
 use Rattle.can_bus.specs.declared.hit.Hit.TheVariants.{View}
 use Rattle.can_bus.specs.Walks.{AreBelow}
 use Rattle.can_bus.proofs.PortLoops.{front_at, sampled}
-use Rattle.can_bus.proofs.bus.sample_all.Given as goal
+use Rattle.can_bus.proofs.bus.sample_each.Given as goal
 
 abbrev pub invariant-loop-node : goal.invariant-loop-node
 invariant-loop-node g l = record {

@@ -1,0 +1,6 @@
+use Rattle.std.proofs.Common.{eqb, ap, ◌∙◌, arith, w8}
+use Rattle.std.proofs.lemmas.Simd.{bitmask_splat}
+use Rattle.can_code.proofs.digits.places_of.Goals as goal
+
+pub returns : goal.returns
+returns c = bitmask_splat w8 eqb c.args.block.now 16 c.args.byte (omega arith) (omega arith)

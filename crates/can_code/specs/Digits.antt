@@ -1,0 +1,42 @@
+-- Levels as digits, and what a front and a decoder have heard of them.
+use Rattle.std.specs.Prelude.{ℕ, zero, suc, ◌≡◌, ◌/◌, ◌%◌, Bool, Some, List, [], ◌∷◌, ◌++◌, map, take}
+use Rattle.can_frame.specs.declared.level.Level.{Level}
+use Rattle.can_frame.specs.declared.level.Level.TheVariants.{Dominant, Recessive}
+use Rattle.can_frame.specs.Levels.{level_of}
+use Rattle.can_code.specs.Wire.{tail}
+use Rattle.can_code.specs.Heard.{ack_slot}
+use Rattle.can_code.specs.Front.{FrontParts, heard_levels}
+use Rattle.can_code.specs.Decoder.{DecoderParts, HasHeard}
+
+-- a level as a digit, `0` or `1`
+abbrev pub digit_of : Level → ℕ
+digit_of Dominant = 48
+digit_of Recessive = 49
+
+-- a level as a bit
+abbrev pub bit_of : Level → ℕ
+bit_of Dominant = 0
+bit_of Recessive = 1
+
+-- the n lowest bits of a number, the lowest first
+abbrev pub levels_up : ℕ → ℕ → List Level
+levels_up zero x = []
+levels_up (suc n) x = level_of (x % 2) ∷ levels_up n (x / 2)
+
+-- these are the digits of levels, which lead from the one front to the other
+pub record HearsDigits (f g : FrontParts) (digits : List ℕ) : Type 0 where
+  pub levels : List Level
+  pub digits_are : digits ≡ map digit_of levels
+  pub heard : heard_levels f levels ≡ Some g
+
+-- these are the digits of levels that lead from the first k levels of a tail to the first n of one
+pub record HearsTail (k : ℕ) (acked : Bool) (n : ℕ) (acked_now : Bool) (digits : List ℕ) : Type 0 where
+  pub levels : List Level
+  pub digits_are : digits ≡ map digit_of levels
+  pub follow : take n (tail (ack_slot acked_now) Recessive) ≡ take k (tail (ack_slot acked) Recessive) ++ levels
+
+-- these are the digits of levels, and what the one decoder has heard the other has heard with these behind it
+pub record DecodesDigits (d e : DecoderParts) (digits : List ℕ) : Type 0 where
+  pub levels : List Level
+  pub digits_are : digits ≡ map digit_of levels
+  pub heard : (before : List Level) → HasHeard d before → HasHeard e (before ++ levels)

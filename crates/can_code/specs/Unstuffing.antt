@@ -1,0 +1,23 @@
+-- How much room a frame has for levels before its check sequence is whole, and what levels are without
+-- their stuff bits.
+use Rattle.std.specs.Prelude.{ℕ, ◌^◌, ◌≤◌, ◌<◌, List, ◌++◌, length, take}
+use Rattle.can_frame.specs.declared.level.Level.{Level}
+use Rattle.can_frame.specs.Levels.{bits_of}
+use Rattle.can_code.specs.Layout.{frame_len}
+use Rattle.can_code.specs.Digits.{HearsDigits}
+use Rattle.can_code.specs.declared.unstuffing.UnstuffedRun.{UnstuffedRun}
+
+-- with up to n unstuffed levels more, whichever they are, the check sequence is not whole yet
+abbrev pub HasRoom : List Level → ℕ → Type 0
+HasRoom u n = (v : List Level) → length v ≤ n → length (u ++ v) < frame_len (u ++ v)
+
+-- What a front has heard that has this room, a last level and a run of such, where levels at the front of
+-- these digits were taken
+pub record Unstuffs (digits : List ℕ) (room : ℕ) (last : Level) (run : ℕ) (taken : UnstuffedRun) : Type 0 where
+  pub within : taken.taken ≤ length digits
+  pub few : taken.len ≤ room
+  pub small : taken.number < 2 ^ taken.len
+  pub some : 1 ≤ taken.run
+  pub short : taken.run ≤ 5
+  pub heard : (u : List Level) → HasRoom u room → HearsDigits (record { unstuffed = u; last = last; run = run })
+      (record { unstuffed = u ++ bits_of taken.len taken.number; last = taken.last; run = taken.run }) (take taken.taken digits)

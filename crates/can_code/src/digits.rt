@@ -1,0 +1,47 @@
+ghost use Rattle.std.specs.Prelude.{◌≡◌, ◌==◌, IfSome, map};
+ghost use lib.Lanes.{mask_l};
+ghost use Rattle.can_code.specs.Digits.{digit_of, levels_up};
+
+use can_frame::Level;
+use std::simd::prelude::*;
+
+/// How many digits are read at once.
+pub(crate) const BLOCK: usize = 16;
+
+/// The level whose digit the byte is, if it is one.
+#[inline]
+pub(crate) fn level_of(byte: u8) -> Option<Level>
+    ensures { IfSome result (λ level. byte ≡ digit_of level) }
+{
+    // no branch on which level it is, since none could be foretold
+    let bit = byte.wrapping_sub(b'0');
+    if bit <= 1 {
+        Some(Level::from_bool(bit == 1))
+    } else {
+        None
+    }
+}
+
+/// The levels whose digits these bytes are, if they all are digits, as the bits of a number. The first
+/// level is the lowest bit.
+#[inline]
+pub(crate) fn levels_of(block: &[u8; BLOCK]) -> Option<u64>
+    ensures { IfSome result (λ levels. block.now ≡ map digit_of (levels_up 16 levels)) }
+{
+    let recessive = places_of(block, b'1');
+    if places_of(block, b'0') + recessive == (1 << BLOCK) - 1 {
+        Some(recessive)
+    } else {
+        None
+    }
+}
+
+/// Where this byte stands in the block, as the bits of a number. The first place is the lowest bit.
+#[inline]
+fn places_of(block: &[u8; BLOCK], byte: u8) -> u64
+    ensures { result ≡ mask_l (map (λ x. x == byte) block.now) }
+{
+    u8x16::from_array(*block)
+        .simd_eq(u8x16::splat(byte))
+        .to_bitmask()
+}

@@ -1,0 +1,142 @@
+ghost use Rattle.std.specs.Prelude.{◌≡◌, ◌<◌, ◌≤◌, List, length};
+ghost use Rattle.can_frame.specs.declared.level.Level.{Level as Bit};
+ghost use Rattle.can_code.specs.Reading.{TellsLength};
+ghost use Rattle.can_code.specs.Unstuffing.{HasRoom, Unstuffs};
+
+use crate::digits::{BLOCK, level_of, levels_of};
+use crate::steps::{STEP_LEVELS, take_step};
+use crate::stuffing::{LONGEST_RUN, run_after};
+use can_frame::Level;
+
+/// How many unstuffed levels tell the length of a standard frame: all that stand before its data.
+const STANDARD_HEADER: usize = 19;
+
+/// How many unstuffed levels a frame has at least.
+const SHORTEST: usize = 34;
+
+/// The same for an extended frame.
+const SHORTEST_EXTENDED: usize = 54;
+
+/// How many unstuffed levels are gathered in a number at once.
+const NUMBER_BITS: usize = 32;
+
+/// Levels of a stuffed part, without their stuff bits.
+#[derive(Clone, Copy)]
+pub(crate) struct UnstuffedRun {
+    /// The unstuffed levels, as a number whose bits they are, the first of them the highest.
+    pub(crate) number: u32,
+    /// How many they are.
+    pub(crate) len: usize,
+    /// The last level, which may be a stuff bit.
+    pub(crate) last: Level,
+    /// How many levels up to it, in a row, equal it.
+    pub(crate) run: u8,
+    /// How many levels were taken, stuff bits among them.
+    pub(crate) taken: usize,
+}
+
+impl UnstuffedRun {
+    /// None so far, behind a run of this level and length.
+    #[inline]
+    fn begin(last: Level, run: u8) -> UnstuffedRun
+        ensures { result ≡ record { number = 0; len = 0; last = last; run = run; taken = 0 } }
+    {
+        UnstuffedRun {
+            number: 0,
+            len: 0,
+            last,
+            run,
+            taken: 0,
+        }
+    }
+}
+
+/// How many unstuffed levels may come behind `len` of them before the check sequence can be whole, as far
+/// as they tell the frame's length. Where they do not tell it, and are many, the frame is extended.
+#[inline]
+pub(crate) fn room_behind(len: usize, told: Option<usize>) -> usize
+    ensures bound { result ≤ 32 }
+    ensures room { (u : List Bit) → len ≡ length u → TellsLength u told → 0 < result → HasRoom u result }
+{
+    let end = match told {
+        Some(length) => length.saturating_sub(1),
+        None if len < STANDARD_HEADER => SHORTEST - 1,
+        None => SHORTEST_EXTENDED - 1,
+    };
+    end.saturating_sub(len).min(NUMBER_BITS)
+}
+
+/// Takes levels from the front of these digits behind a run of this level and length, until there are
+/// `room` unstuffed ones, or a byte is no digit, or a stuff place repeats the level before it. It may stop
+/// sooner, but takes some where it can.
+#[inline]
+pub(crate) fn unstuff(digits: &[u8], room: usize, last: Level, run: u8) -> UnstuffedRun
+    requires wide { room ≤ 32 }
+    requires some { 1 ≤ run }
+    requires short { run ≤ 5 }
+    ensures { Unstuffs digits.now room last run result }
+{
+    let quick = unstuff_steps(digits, room, last, run);
+    if quick.taken > 0 {
+        quick
+    } else {
+        unstuff_levels(digits, room, last, run)
+    }
+}
+
+/// The same, up to eight levels in a step. It stops where a block of digits is not whole.
+#[inline]
+fn unstuff_steps(digits: &[u8], room: usize, last: Level, run: u8) -> UnstuffedRun
+    requires wide { room ≤ 32 }
+    requires some { 1 ≤ run }
+    requires short { run ≤ 5 }
+    ensures { Unstuffs digits.now room last run result }
+{
+    let mut now = UnstuffedRun::begin(last, run);
+    while now.len < room {
+        let Some(block) = digits[now.taken..].first_chunk::<BLOCK>() else {
+            return now;
+        };
+        let Some(levels) = levels_of(block) else {
+            return now;
+        };
+        let count = (room - now.len).min(STEP_LEVELS);
+        let Some(step) = take_step(now.last, now.run, levels, count) else {
+            return now;
+        };
+        now.number = (now.number << step.len) + u32::from(step.number);
+        now.len += usize::from(step.len);
+        now.last = step.last;
+        now.run = step.run;
+        now.taken += count;
+    }
+    now
+}
+
+/// The same, level by level.
+fn unstuff_levels(digits: &[u8], room: usize, last: Level, run: u8) -> UnstuffedRun
+    requires wide { room ≤ 32 }
+    requires some { 1 ≤ run }
+    requires short { run ≤ 5 }
+    ensures { Unstuffs digits.now room last run result }
+{
+    let mut now = UnstuffedRun::begin(last, run);
+    while now.len < room && now.taken < digits.len() {
+        let Some(level) = level_of(digits[now.taken]) else {
+            return now;
+        };
+        if now.run == LONGEST_RUN {
+            if level == now.last {
+                return now;
+            }
+            now.run = 1;
+        } else {
+            now.number = 2 * now.number + u32::from(level.is_recessive());
+            now.len += 1;
+            now.run = run_after(now.last, now.run, level);
+        }
+        now.last = level;
+        now.taken += 1;
+    }
+    now
+}

@@ -1,0 +1,163 @@
+-- What is compared of a transcript, bit time by bit time.
+use Rattle.std.specs.Prelude.{slice_get, IfSome, IsSomeAnd}
+use Rattle.std.proofs.Common.{◌≡◌, ◌≢◌, ℕ, zero, suc, ◌+◌, ◌-◌, ◌<◌, ◌≤◌, List, Option, Some, None, length, refl, sym, ap, ◌∙◌, subst, inl, inr, arith}
+use Rattle.std.proofs.lemmas.Bool.{cases_order}
+use Rattle.std.proofs.lemmas.Option.{slice_get_past}
+use Rattle.can_conform.specs.declared.judging.Difference.{Difference}
+use Rattle.can_conform.specs.declared.judging.Difference.TheVariants as difference
+use Rattle.can_conform.specs.declared.judging.Progress.{Progress}
+use Rattle.can_conform.specs.declared.moment.Moment.{Moment}
+use Rattle.can_conform.specs.declared.script.Script.{Script}
+use Rattle.can_conform.specs.declared.script.Start.{Start}
+use Rattle.can_conform.specs.declared.script.Start.TheVariants as start
+use Rattle.can_conform.specs.declared.standing.Rule.{Rule}
+use Rattle.can_conform.specs.declared.standing.Standing.{Standing}
+use Rattle.can_conform.specs.declared.timed.Timed.{Timed}
+use Rattle.can_conform.specs.declared.transcript.Counters.{Counters}
+use Rattle.can_conform.specs.declared.transcript.Transcript.{Transcript}
+use Rattle.can_node.specs.Ports.{PortState}
+use Rattle.can_mac.specs.declared.event.Event.{Event}
+use Rattle.can_conform.specs.Runs.{before, counters_of, moment_at, rule_before, standing_before, started}
+use Rattle.can_conform.specs.Standings.{part_of, phase_name}
+use Rattle.can_conform.specs.Transcripts.{no_counts, told_at, told_before, AgreesAt, EndBefore}
+use Rattle.can_conform.specs.Verdicts.{IsDifference}
+use Rattle.can_conform.specs.Walks.{HasReached, IsDifferenceAt, Stands}
+use Rattle.can_conform.proofs.RunLemmas.{before-first, before-past, event-past, level-past, rule-past, since-past}
+use Rattle.can_conform.proofs.TimedLemmas.{reached-first, told_at-past, told_before-first, told_before-past}
+
+-- ---- what may be left out
+
+pub some-each : {A : Type 0} (P : A → Type 0) (o : Option A) → ((x : A) → P x) → IfSome o P
+some-each P None each = tt
+some-each P (Some x) each = each x
+
+pub some-map : {A : Type 0} (P Q : A → Type 0) (o : Option A) → ((x : A) → P x → Q x) → IfSome o P → IfSome o Q
+some-map P Q None each p = tt
+some-map P Q (Some x) each p = each x p
+
+pub some-both : {A : Type 0} (P Q R : A → Type 0) (o : Option A) → ((x : A) → P x → Q x → R x) → IfSome o P → IfSome o Q → IfSome o R
+some-both P Q R None each p q = tt
+some-both P Q R (Some x) each p q = each x p q
+
+-- what is there, taken out
+pub some-out : {A : Type 0} (P : A → Type 0) (B : Type 0) (o : Option A) → ((x : A) → P x → B) → IsSomeAnd o P → B
+some-out P B None take p = absurd p
+some-out P B (Some x) take p = take x p
+
+pub some-there : {A : Type 0} (P Q R : A → Type 0) (o : Option A) → ((x : A) → P x → Q x → R x) → IsSomeAnd o P → IfSome o Q → IsSomeAnd o R
+some-there P Q R None each p q = absurd p
+some-there P Q R (Some x) each p q = each x p q
+
+-- ---- the walk
+
+pub reached-start : (told : Transcript) (p : Progress) → p.event ≡ 0 → p.counter ≡ 0 → p.held ≡ no_counts → HasReached told p 0
+reached-start told p event counter held = record {
+  events = some-each _ told.events (λ events. rw event (reached-first events.items));
+  counters = some-each _ told.counters (λ counters. rw counter (reached-first counters.items));
+  held = some-each _ told.counters (λ counters. held ∙ sym (told_before-first no_counts counters.items));
+}
+
+-- ---- behind all that is told
+
+pub counters-start : (begin : Start) → no_counts ≡ counters_of (started begin)
+counters-start start.Idle = refl
+counters-start start.Joining = refl
+
+-- the counters told before this time are those of the run, where they agree at each time before
+counters-agree : (s : Script) (told : Transcript) (h : ℕ) → ((t : ℕ) → t < h → AgreesAt told t (moment_at s t)) →
+    IfSome told.counters (λ counters. told_before no_counts counters.items h ≡ counters_of (before s h))
+counters-agree s told zero agrees =
+    some-each _ told.counters (λ counters. told_before-first no_counts counters.items ∙ counters-start s.start ∙ sym (ap counters_of (before-first s)))
+counters-agree s told (suc h) agrees =
+    let last = agrees h (omega arith) in
+    let P : ℕ → Type 0 = λ n. IfSome told.counters (λ counters. told_before no_counts counters.items n ≡ counters_of (before s n)) in
+    subst P (let e : h + 1 ≡ suc h = omega arith in e) last.counters
+
+-- all agrees before the next bit time
+pub agrees-more : (s : Script) (told : Transcript) (n : ℕ) → ((t : ℕ) → t < n → AgreesAt told t (moment_at s t)) → AgreesAt told n (moment_at s n) →
+    (t : ℕ) → t < n + 1 → AgreesAt told t (moment_at s t)
+agrees-more s told n before here t h = elim (cases_order t n) [
+  | inl same ↦ subst (λ k. AgreesAt told k (moment_at s k)) (sym same) here
+  | inr apart ↦ elim apart [
+    | inl less ↦ before t less
+    | inr more ↦ absurd (omega arith)
+  ]
+]
+
+pub agrees-all : (s : Script) (told : Transcript) (h : ℕ) → length s.tester.items ≤ h → length told.drove.items ≤ h →
+    IfSome told.events (λ events. EndBefore events.items h) → IfSome told.counters (λ counters. EndBefore counters.items h) →
+    ((t : ℕ) → t < h → AgreesAt told t (moment_at s t)) → (t : ℕ) → AgreesAt told t (moment_at s t)
+agrees-all s told h bits levels events counters agrees t = elim (cases_order t h) [
+  | inl same ↦ past (omega arith)
+  | inr apart ↦ elim apart [
+    | inl less ↦ agrees t less
+    | inr more ↦ past (omega arith)
+  ]
+]
+  where
+    past : h ≤ t → AgreesAt told t (moment_at s t)
+    past late = record {
+      level = slice_get_past told.drove.items t (omega arith) ∙ sym (level-past s t (omega arith));
+      event = some-map _ _ told.events (λ events ends. told_at-past events.items h t ends late ∙ sym (event-past s t (omega arith))) events;
+      counters = some-both _ _ _ told.counters
+          (λ counters ends held. told_before-past no_counts counters.items h (t + 1) ends (omega arith) ∙ held
+          ∙ ap counters_of (before-past s h bits ∙ sym (before-past s (t + 1) (omega arith)))) counters (counters-agree s told h agrees);
+    }
+
+-- a port stands where it stood as the case ended
+pub stands-past : (s : Script) (t : ℕ) (p : PortState) (now : Rule) (since : Option (Timed Event)) → length s.tester.items ≤ t → Stands s t p now since → Stands s (length s.tester.items) p now since
+stands-past s t p now since past stands = record {
+  port = stands.port ∙ before-past s t past;
+  decides = stands.decides ∙ rule-past s t past;
+  last = stands.last ∙ since-past s t past;
+}
+
+-- where it stands, by its parts
+pub standing-is : (s : Script) (t : ℕ) (p : PortState) (now : Rule) (since : Option (Timed Event)) (st : Standing) → Stands s t p now since → st.phase ≡ phase_name p.mac →
+    st.part ≡ part_of p.mac.role → st.rule ≡ now → st.since ≡ since → st ≡ standing_before s t
+standing-is s t p now since st stands phase part decides last =
+    let q = before s t in
+    ap (λ x. let r : Standing = record { phase = x; part = st.part; rule = st.rule; since = st.since } in r) (phase ∙ ap (λ (r : PortState). phase_name r.mac) stands.port)
+    ∙ ap (λ x. let r : Standing = record { phase = phase_name q.mac; part = x; rule = st.rule; since = st.since } in r) (part ∙ ap (λ (r : PortState). part_of r.mac.role) stands.port)
+    ∙ ap (λ x. let r : Standing = record { phase = phase_name q.mac; part = part_of q.mac.role; rule = x; since = st.since } in r) (decides ∙ stands.decides)
+    ∙ ap (λ x. let r : Standing = record { phase = phase_name q.mac; part = part_of q.mac.role; rule = rule_before s t; since = x } in r) (last ∙ stands.last)
+
+-- ---- differences
+
+pub level-differs : (told : Transcript) (t : ℕ) (m : Moment) (d : Difference) → d ≡ difference.Level (slice_get told.drove.items t) m.drove → slice_get told.drove.items t ≢ m.drove →
+    IsDifferenceAt told t m d
+level-differs told t m d is apart = rw is (record { is_told = refl; ought = refl; differs = apart })
+
+pub event-differs : (told : Transcript) (t : ℕ) (m : Moment) (d : Difference) → slice_get told.drove.items t ≡ m.drove →
+    IsSomeAnd told.events (λ events. d ≡ difference.Event (told_at events.items t) m.event) → IfSome told.events (λ events. told_at events.items t ≢ m.event) → IsDifferenceAt told t m d
+event-differs told t m (difference.Event one other) level is apart = record {
+  level = level;
+  is_told = some-there _ _ _ told.events (λ events e n. let k : told_at events.items t ≡ one = cc in k) is apart;
+  ought = some-out _ _ told.events (λ events e. let k : m.event ≡ other = cc in k) is;
+  differs = λ same. some-out _ _ told.events (λ events p. p) (some-there _ _ _ told.events (λ events e n. let k : told_at events.items t ≡ m.event = cc in n k) is apart);
+}
+event-differs told t m (difference.Level one other) level is apart = absurd (some-out _ _ told.events (λ events e. let k : ⊥ = cc in k) is)
+event-differs told t m (difference.Counters one other) level is apart = absurd (some-out _ _ told.events (λ events e. let k : ⊥ = cc in k) is)
+event-differs told t m (difference.End one other) level is apart = some-out _ _ told.events (λ events e. let k : ⊥ = cc in k) is
+
+pub counters-differ : (told : Transcript) (t : ℕ) (m : Moment) (d : Difference) → slice_get told.drove.items t ≡ m.drove → IfSome told.events (λ events. told_at events.items t ≡ m.event) →
+    IsSomeAnd told.counters (λ counters. d ≡ difference.Counters (told_before no_counts counters.items (t + 1)) m.counters) →
+    IfSome told.counters (λ counters. told_before no_counts counters.items (t + 1) ≢ m.counters) → IsDifferenceAt told t m d
+counters-differ told t m (difference.Counters one other) level event is apart = record {
+  level = level;
+  event = event;
+  is_told = some-there _ _ _ told.counters (λ counters e n. let k : told_before no_counts counters.items (t + 1) ≡ one = cc in k) is apart;
+  ought = some-out _ _ told.counters (λ counters e. let k : m.counters ≡ other = cc in k) is;
+  differs = λ same. some-out _ _ told.counters (λ counters p. p)
+      (some-there _ _ _ told.counters (λ counters e n. let k : told_before no_counts counters.items (t + 1) ≡ m.counters = cc in n k) is apart);
+}
+counters-differ told t m (difference.Level one other) level event is apart = absurd (some-out _ _ told.counters (λ counters e. let k : ⊥ = cc in k) is)
+counters-differ told t m (difference.Event one other) level event is apart = absurd (some-out _ _ told.counters (λ counters e. let k : ⊥ = cc in k) is)
+counters-differ told t m (difference.End one other) level event is apart = some-out _ _ told.counters (λ counters e. let k : ⊥ = cc in k) is
+
+-- a difference from a moment is one from the run
+pub difference-is : (s : Script) (told : Transcript) (t : ℕ) (m : Moment) (d : Difference) → m ≡ moment_at s t → IsDifferenceAt told t m d → IsDifference s told t d
+difference-is s told t m (difference.Level one other) is h = subst (λ n. IsDifferenceAt told t n (difference.Level one other)) is h
+difference-is s told t m (difference.Event one other) is h = subst (λ n. IsDifferenceAt told t n (difference.Event one other)) is h
+difference-is s told t m (difference.Counters one other) is h = subst (λ n. IsDifferenceAt told t n (difference.Counters one other)) is h
+difference-is s told t m (difference.End one other) is h = absurd h

@@ -1,0 +1,12 @@
+pub mod TimedLemmas
+pub mod RisingLemmas
+pub mod Growing
+pub mod RunLemmas
+pub mod Drives
+pub mod NodePort
+pub mod Handing
+pub mod AgreementLemmas
+pub mod TranscriptLemmas
+pub mod VerdictLemmas
+pub mod Deciding
+pub mod FirstDifferences

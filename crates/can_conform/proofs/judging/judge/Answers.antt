@@ -1,0 +1,40 @@
+use Rattle.std.proofs.Common.{◌≡◌, ℕ, ◌+◌, ◌<◌, length, refl, subst, ap, ◌∙◌, arith}
+use Rattle.can_conform.specs.Runs.{moment_at}
+use Rattle.can_conform.specs.Transcripts.{AgreesAt}
+use Rattle.can_conform.specs.Walks.{Stands}
+use Rattle.can_conform.proofs.AgreementLemmas.{agrees-all, agrees-more, reached-start, stands-past}
+use Rattle.can_conform.proofs.NodePort.{node_port}
+use Rattle.can_conform.proofs.judging.judge.Goals as goal
+
+pub loop-time-init : goal.loop-time-init
+loop-time-init c = record {
+  stands = c.in_ok-bench.ensures.stands;
+  time = c.in_ok-bench.ensures.time;
+  agrees = λ t h. absurd (omega arith);
+  reached = reached-start c.args.transcript.now _ refl refl refl;
+}
+
+pub loop-time-preserved : goal.loop-time-preserved
+loop-time-preserved c =
+    let s = c.args.script.now in
+    let told = c.args.transcript.now in
+    let t = c.loop-time.time in
+    let moment : c.step-moment.result ≡ moment_at c.args.script.now c.loop-time.time = c.step-moment.ensures.moment ∙ ap (moment_at s) c.loop-time.invariant.time in
+    record {
+      stands = subst (λ k. Stands s (k + 1) (node_port c.step-moment.new.self.node) c.step-moment.new.self.rule c.step-moment.new.self.since) c.loop-time.invariant.time c.step-moment.ensures.stands;
+      time = c.step-moment.ensures.time ∙ ap (λ k. k + 1) c.loop-time.invariant.time;
+      agrees = agrees-more s told t c.loop-time.invariant.agrees (subst (λ m. AgreesAt told t m) moment (c.in_default.ensures.none refl));
+      reached = c.in_default.ensures.reached refl;
+    }
+
+pub concluded-requires-clause-agrees : goal.concluded-requires-clause-agrees
+concluded-requires-clause-agrees c =
+    let end = c.horizon-time-end.ensures in
+    let same : c.horizon-time-end.result ≡ c.loop-time.time = omega arith in
+    agrees-all c.args.script.now c.args.transcript.now c.horizon-time-end.result end.bits end.levels end.events end.counters
+    (λ t less. c.loop-time.invariant.agrees t (omega (arith, same, less)))
+
+pub concluded-requires-clause-stands : goal.concluded-requires-clause-stands
+concluded-requires-clause-stands c =
+    let same : c.horizon-time-end.result ≡ c.loop-time.time = omega arith in
+    stands-past c.args.script.now c.loop-time.time (node_port c.loop-time.bench.node) c.loop-time.bench.rule c.loop-time.bench.since (omega (arith, same, c.horizon-time-end.ensures.bits)) c.loop-time.invariant.stands

@@ -1,0 +1,146 @@
+-- The run of a case: one port that shares the wire with the tester, bit time by bit time. (Bosch CAN 2.0 part B,
+-- section 2; docs/CONFORMANCE.md)
+use Rattle.std.specs.Prelude.{ℕ, zero, suc, ◌≡◌, ◌+◌, ◌==◌, nat_le, nat_lt, Bool, if◌then◌else◌, List, [], ◌∷◌, length, Option, Some, None, slice_get}
+use Rattle.can_frame.specs.declared.level.Level.{Level}
+use Rattle.can_frame.specs.declared.level.Level.TheVariants.{Dominant, Recessive}
+use Rattle.can_frame.specs.Parts.{Parts}
+use Rattle.can_mac.specs.declared.event.Event.{Event}
+use Rattle.can_mac.specs.State.{MacState, idle, joining}
+use Rattle.can_fault.specs.Counters.{state_of}
+use Rattle.can_node.specs.Ports.{PortState, fresh_port, port_offered, port_drives, port_event, port_holding, port_step}
+use Rattle.can_conform.specs.declared.moment.Moment.{Moment}
+use Rattle.can_conform.specs.declared.script.Script.{Script}
+use Rattle.can_conform.specs.declared.script.Start.{Start}
+use Rattle.can_conform.specs.declared.script.Start.TheVariants as start
+use Rattle.can_conform.specs.declared.script.TesterLevel.{TesterLevel}
+use Rattle.can_conform.specs.declared.script.TesterLevel.TheVariants as tester
+use Rattle.can_conform.specs.declared.standing.Standing.{Standing}
+use Rattle.can_conform.specs.declared.standing.Rule.{Rule}
+use Rattle.can_conform.specs.declared.timed.Timed.{Timed}
+use Rattle.can_conform.specs.declared.transcript.Counters.{Counters}
+use Rattle.can_conform.specs.declared.transcript.Ending.{Ending}
+use Rattle.can_conform.specs.Standings.{part_of, phase_name, phase_rule, rule_behind}
+
+-- ---- one bit time
+
+-- what a controller sees that drives the second level: the bus is dominant where one of the two drives dominant,
+-- and in a forced bit time it sees a recessive level whatever it drives
+abbrev pub seen_by : TesterLevel → Level → Level
+seen_by tester.Dominant drives = Dominant
+seen_by tester.Recessive drives = drives
+seen_by tester.Forced drives = Recessive
+
+-- what it sees of this tester
+abbrev pub sees : TesterLevel → PortState → Level
+sees x p = seen_by x (port_drives p)
+
+-- the port behind a bit time with this tester
+abbrev pub met : TesterLevel → PortState → PortState
+met x p = port_step p (sees x p)
+
+-- what it tells of it
+abbrev pub told_of : TesterLevel → PortState → Option Event
+told_of x p = port_event p (sees x p)
+
+-- a frame is offered: it waits behind the others, if there is room
+abbrev pub given : Parts → PortState → PortState
+given f p = if nat_lt (length p.queue) p.queue_room then port_offered f p else p
+
+-- n overload frames are asked for, at most two, in place of what was asked for before
+abbrev pub wished : ℕ → PortState → PortState
+wished n p = if nat_le n 2 then port_holding n p else p
+
+-- all of these that come at time t are handed to the port, in their order
+abbrev pub all_handed : {A : Type 0} → (A → PortState → PortState) → List (Timed A) → ℕ → PortState → PortState
+all_handed hand [] t p = p
+all_handed hand (x ∷ xs) t p = all_handed hand xs t (if x.time == t then hand x.told p else p)
+
+-- the port in bit time t, once frames and wishes of that time were handed to it
+abbrev pub handed : Script → ℕ → PortState → PortState
+handed s t p = all_handed wished s.holds.items t (all_handed given s.offers.items t p)
+
+-- ---- the run
+
+-- the frames that may wait
+abbrev pub queue_room : ℕ
+queue_room = 256
+
+abbrev pub starting : Start → MacState
+starting start.Idle = idle
+starting start.Joining = joining
+
+-- the port before bit time 0: a new one
+abbrev pub started : Start → PortState
+started begin = fresh_port (starting begin) queue_room 0
+
+-- the port before bit time t; behind the last bit time nothing happens
+abbrev pub behind : Option TesterLevel → Script → ℕ → PortState → PortState
+behind None s t p = p
+behind (Some x) s t p = met x (handed s t p)
+
+unfoldable pub before : Script → ℕ → PortState
+before s zero = started s.start
+before s (suc t) = behind (slice_get s.tester.items t) s t (before s t)
+
+-- ---- what is done in a bit time
+
+-- a port's counters
+abbrev pub counters_of : PortState → Counters
+counters_of p = record { transmit = p.mac.counters.tec; receive = p.mac.counters.rec }
+
+-- the level that the port drives in it
+abbrev pub level_of : Option TesterLevel → Script → ℕ → PortState → Option Level
+level_of None s t p = None
+level_of (Some x) s t p = Some (port_drives (handed s t p))
+
+-- its event
+abbrev pub event_of : Option TesterLevel → Script → ℕ → PortState → Option Event
+event_of None s t p = None
+event_of (Some x) s t p = told_of x (handed s t p)
+
+-- level and event of bit time t, and the counters behind it
+abbrev pub moment_at : Script → ℕ → Moment
+moment_at s t = record {
+  drove = level_of (slice_get s.tester.items t) s t (before s t);
+  event = event_of (slice_get s.tester.items t) s t (before s t);
+  counters = counters_of (before s (t + 1));
+}
+
+-- what a port has come to
+abbrev pub ending_of : PortState → Ending
+ending_of p = record { state = state_of p.mac.counters; counters = counters_of p }
+
+-- what the run has come to behind its last bit time
+abbrev pub end_of : Script → Ending
+end_of s = ending_of (before s (length s.tester.items))
+
+-- ---- where the reference stands
+
+-- the last event, where this one came at time t
+abbrev pub last_event : Option Event → ℕ → Option (Timed Event) → Option (Timed Event)
+last_event None t since = since
+last_event (Some event) t since = Some (record { time = t; told = event })
+
+-- its last event before bit time t
+unfoldable pub since_before : Script → ℕ → Option (Timed Event)
+since_before s zero = None
+since_before s (suc t) = last_event (moment_at s t).event t (since_before s t)
+
+-- the rule behind a bit time
+abbrev pub next_rule : Option TesterLevel → Script → ℕ → PortState → Rule → Rule
+next_rule None s t p now = now
+next_rule (Some x) s t p now = rule_behind (told_of x (handed s t p)) (phase_name p.mac) (sees x (handed s t p)) (met x (handed s t p)).mac
+
+-- the rule that decides in bit time t
+unfoldable pub rule_before : Script → ℕ → Rule
+rule_before s zero = phase_rule (started s.start).mac.phase (started s.start).mac.role
+rule_before s (suc t) = next_rule (slice_get s.tester.items t) s t (before s t) (rule_before s t)
+
+-- where the reference stands before bit time t
+abbrev pub standing_before : Script → ℕ → Standing
+standing_before s t = record {
+  phase = phase_name (before s t).mac;
+  part = part_of (before s t).mac.role;
+  rule = rule_before s t;
+  since = since_before s t;
+}

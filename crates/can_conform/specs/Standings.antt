@@ -1,0 +1,144 @@
+-- Where a controller stands before a bit time: its phase by name, its part in the frame, and the rule of
+-- docs/ACCESS.md that decides there. (Bosch CAN 2.0 part B, sections 3.2 and 7)
+use Rattle.std.specs.Prelude.{ℕ, ◌==◌, nat_le, Bool, if◌then◌else◌, length, Option, Some, None}
+use Rattle.can_frame.specs.declared.level.Level.{Level}
+use Rattle.can_frame.specs.declared.level.Level.TheVariants.{Dominant, Recessive}
+use Rattle.can_code.specs.Front.{FrontParts}
+use Rattle.can_mac.specs.declared.event.Event.{Event}
+use Rattle.can_mac.specs.declared.event.Event.TheVariants.{Sent, Received, Lost, Error, Overload, WentOff, Recovered}
+use Rattle.can_mac.specs.declared.event.ErrorKind.{ErrorKind}
+use Rattle.can_mac.specs.declared.event.ErrorKind.TheVariants.{Bit, Stuff, Crc, Form, Ack}
+use Rattle.can_mac.specs.declared.phase.Role.{Role}
+use Rattle.can_mac.specs.declared.phase.Role.TheVariants.{Receiver, Sender}
+use Rattle.can_mac.specs.declared.phase.Phase.TheVariants.{Joining, Idle, StuffedPart, CrcDelimiter, AckSlot, AckDelimiter, EndOfFrame, ErrorFlag, PassiveFlag, OverloadFlag, AfterFlag, Delimiter, Intermission, Suspend, BusOff}
+use Rattle.can_mac.specs.State.{MacPhase, MacState}
+use Rattle.can_mac.specs.Moves.{in_arbitration}
+use Rattle.can_conform.specs.declared.standing.PhaseName.{PhaseName}
+use Rattle.can_conform.specs.declared.standing.PhaseName.TheVariants as name
+use Rattle.can_conform.specs.declared.standing.Part.{Part}
+use Rattle.can_conform.specs.declared.standing.Part.TheVariants as part
+use Rattle.can_conform.specs.declared.standing.Rule.{Rule}
+use Rattle.can_conform.specs.declared.standing.Rule.TheVariants as rule
+
+-- the phase, and how many of its levels have come; of bus off, which lasts for 128 rows of eleven recessive levels,
+-- how many of these rows
+abbrev pub phase_named : MacPhase → ℕ → PhaseName
+phase_named (Joining row) rows = name.Joining row
+phase_named Idle rows = name.Idle
+phase_named (StuffedPart front) rows = name.Stuffed (length front.unstuffed)
+phase_named (CrcDelimiter r) rows = name.CrcDelimiter
+phase_named (AckSlot r) rows = name.AckSlot
+phase_named (AckDelimiter r) rows = name.AckDelimiter
+phase_named (EndOfFrame r place) rows = name.EndOfFrame place
+phase_named (ErrorFlag place) rows = name.ActiveFlag place
+phase_named (PassiveFlag last run unacknowledged) rows = name.PassiveFlag run
+phase_named (OverloadFlag place) rows = name.OverloadFlag place
+phase_named (AfterFlag first dominant) rows = name.BehindFlag dominant
+phase_named (Delimiter place) rows = name.Delimiter place
+phase_named (Intermission place) rows = name.Intermission place
+phase_named (Suspend place) rows = name.Suspend place
+phase_named BusOff rows = name.BusOff rows
+
+abbrev pub phase_name : MacState → PhaseName
+phase_name m = phase_named m.phase m.counters.occurrences
+
+abbrev pub part_of : Role → Part
+part_of Receiver = part.Receiver
+part_of (Sender f) = part.Sender
+
+-- in the stuffed part: at a stuff place and for a receiver, up to the sender's RTR bit, and behind it
+abbrev pub stuffed_rule : FrontParts → Role → Rule
+stuffed_rule front Receiver = rule.StuffPlaces
+stuffed_rule front (Sender f) =
+    if front.run == 5 then rule.StuffPlaces
+    else if in_arbitration f front.unstuffed then rule.Arbitration else rule.KeptFrame
+
+-- the rule that decides in a phase
+abbrev pub phase_rule : MacPhase → Role → Rule
+phase_rule (Joining row) role = rule.Joining
+phase_rule Idle role = rule.StartOfFrame
+phase_rule (StuffedPart front) role = stuffed_rule front role
+phase_rule (CrcDelimiter r) role = rule.FixedForm
+phase_rule (AckSlot r) role = rule.Acknowledgement
+phase_rule (AckDelimiter r) role = rule.FixedForm
+phase_rule (EndOfFrame r place) role = rule.FixedForm
+phase_rule (ErrorFlag place) role = rule.ErrorFlags
+phase_rule (PassiveFlag last run unacknowledged) role = rule.ErrorFlags
+phase_rule (OverloadFlag place) role = rule.OverloadFlags
+phase_rule (AfterFlag first dominant) role = rule.BehindAFlag
+phase_rule (Delimiter place) role = rule.Delimiter
+phase_rule (Intermission place) role = rule.Intermission
+phase_rule (Suspend place) role = rule.SuspendTransmission
+phase_rule BusOff role = rule.BusOff
+
+-- an error of the stuffed part
+abbrev pub stuffed_error_rule : ErrorKind → Rule
+stuffed_error_rule Bit = rule.Arbitration
+stuffed_error_rule Stuff = rule.StuffPlaces
+stuffed_error_rule Crc = rule.Arbitration
+stuffed_error_rule Form = rule.Arbitration
+stuffed_error_rule Ack = rule.Arbitration
+
+-- an error at the ACK delimiter
+abbrev pub ack_delimiter_rule : ErrorKind → Rule
+ack_delimiter_rule Bit = rule.FixedForm
+ack_delimiter_rule Stuff = rule.FixedForm
+ack_delimiter_rule Crc = rule.RefusedCheckSequence
+ack_delimiter_rule Form = rule.FixedForm
+ack_delimiter_rule Ack = rule.FixedForm
+
+-- the rule by which an error in this phase starts a flag. In a passive flag and behind a flag, between frames and
+-- off the bus there is no error.
+abbrev pub error_rule : PhaseName → ErrorKind → Rule
+error_rule (name.Joining row) kind = rule.Joining
+error_rule name.Idle kind = rule.StartOfFrame
+error_rule (name.Stuffed n) kind = stuffed_error_rule kind
+error_rule name.CrcDelimiter kind = rule.FixedForm
+error_rule name.AckSlot kind = rule.Acknowledgement
+error_rule name.AckDelimiter kind = ack_delimiter_rule kind
+error_rule (name.EndOfFrame place) kind = rule.FixedForm
+error_rule (name.ActiveFlag place) kind = rule.ErrorInAnOwnFlag
+error_rule (name.PassiveFlag run) kind = rule.ErrorFlags
+error_rule (name.OverloadFlag place) kind = rule.ErrorInAnOwnFlag
+error_rule (name.BehindFlag dominant) kind = rule.BehindAFlag
+error_rule (name.Delimiter place) kind = rule.Delimiter
+error_rule (name.Intermission place) kind = rule.Intermission
+error_rule (name.Suspend place) kind = rule.SuspendTransmission
+error_rule (name.BusOff rows) kind = rule.BusOff
+
+-- what starts an overload flag at the end of a frame or of a delimiter: a dominant last level, or a wish of
+-- the controller's own
+abbrev pub last_level_rule : Rule → Level → Rule
+last_level_rule last Dominant = last
+last_level_rule last Recessive = rule.OwnOverloadFrames
+
+-- the rule by which a level in this phase starts an overload flag, which it does at the end of a frame, at that of
+-- a delimiter, and in intermission alone
+abbrev pub overload_rule : PhaseName → Level → Rule
+overload_rule (name.EndOfFrame place) x = last_level_rule rule.DominantLastLevel x
+overload_rule (name.Delimiter place) x = last_level_rule rule.Delimiter x
+overload_rule (name.Intermission place) x = rule.Intermission
+overload_rule (name.Joining row) x = rule.OverloadFlags
+overload_rule name.Idle x = rule.OverloadFlags
+overload_rule (name.Stuffed n) x = rule.OverloadFlags
+overload_rule name.CrcDelimiter x = rule.OverloadFlags
+overload_rule name.AckSlot x = rule.OverloadFlags
+overload_rule name.AckDelimiter x = rule.OverloadFlags
+overload_rule (name.ActiveFlag place) x = rule.OverloadFlags
+overload_rule (name.PassiveFlag run) x = rule.OverloadFlags
+overload_rule (name.OverloadFlag place) x = rule.OverloadFlags
+overload_rule (name.BehindFlag dominant) x = rule.OverloadFlags
+overload_rule (name.Suspend place) x = rule.OverloadFlags
+overload_rule (name.BusOff rows) x = rule.OverloadFlags
+
+-- the rule for the bit time behind one that had this event, where the controller was in the first phase as the
+-- level was seen, and is in the state that follows: for the first level of a flag the rule that started it
+abbrev pub rule_behind : Option Event → PhaseName → Level → MacState → Rule
+rule_behind None phase x next = phase_rule next.phase next.role
+rule_behind (Some (Sent f)) phase x next = phase_rule next.phase next.role
+rule_behind (Some (Received f)) phase x next = phase_rule next.phase next.role
+rule_behind (Some Lost) phase x next = phase_rule next.phase next.role
+rule_behind (Some (Error kind)) phase x next = error_rule phase kind
+rule_behind (Some Overload) phase x next = overload_rule phase x
+rule_behind (Some WentOff) phase x next = phase_rule next.phase next.role
+rule_behind (Some Recovered) phase x next = phase_rule next.phase next.role

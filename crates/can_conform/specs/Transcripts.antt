@@ -1,0 +1,110 @@
+-- Transcripts: what a controller did in a case, told by bit time, and the transcript of a run.
+use Rattle.std.specs.Prelude.{ℕ, zero, suc, ◌≡◌, ◌+◌, ◌<◌, ◌^◌, ◌-◌, length, ◌==◌, nat_lt, Bool, ◌&&◌, if◌then◌else◌, List, [], ◌∷◌, ◌++◌, Option, Some, None, IfSome, IsSomeAnd, option_to_list, slice_get}
+use Rattle.can_frame.specs.declared.level.Level.{Level}
+use Rattle.can_mac.specs.declared.event.Event.{Event}
+use Rattle.can_conform.specs.declared.moment.Moment.{Moment}
+use Rattle.can_conform.specs.declared.script.Script.{Script}
+use Rattle.can_conform.specs.declared.timed.Timed.{Timed}
+use Rattle.can_conform.specs.declared.transcript.Counters.{Counters}
+use Rattle.can_conform.specs.declared.transcript.Transcript.{Transcript}
+use Rattle.can_conform.specs.Runs.{before, counters_of, end_of, moment_at}
+
+-- ---- what lists of timed things tell
+
+-- what is told at time t
+abbrev pub told_at : {A : Type 0} → List (Timed A) → ℕ → Option A
+told_at [] t = None
+told_at (x ∷ xs) t = if x.time == t then Some x.told else told_at xs t
+
+-- what was told last before time t, or this where nothing was
+abbrev pub told_before : {A : Type 0} → A → List (Timed A) → ℕ → A
+told_before held [] t = held
+told_before held (x ∷ xs) t = if nat_lt x.time t then told_before x.told xs t else held
+
+-- what comes at time t, if something does
+abbrev pub timed : {A : Type 0} → ℕ → Option A → List (Timed A)
+timed t None = []
+timed t (Some x) = record { time = t; told = x } ∷ []
+
+-- their times rise
+abbrev pub AreRising : {A : Type 0} → List (Timed A) → Type 0
+AreRising {A} xs = (m n : ℕ) (x y : Timed A) → m < n → slice_get xs m ≡ Some x → slice_get xs n ≡ Some y → x.time < y.time
+
+-- all of them come before time t
+abbrev pub EndBefore : {A : Type 0} → List (Timed A) → ℕ → Type 0
+EndBefore {A} xs t = (n : ℕ) (x : Timed A) → slice_get xs n ≡ Some x → x.time < t
+
+-- a new controller's counters
+abbrev pub no_counts : Counters
+no_counts = record { transmit = 0; receive = 0 }
+
+-- what holds of each transcript: its times rise, and times and levels are fewer than a number of 32 bits tells
+pub record IsTold (told : Transcript) : Type 0 where
+  pub levels : length told.drove.items < 2 ^ 32 - 1
+  pub events : IfSome told.events (λ events. AreRising events.items)
+  pub counters : IfSome told.counters (λ counters. AreRising counters.items)
+  pub events_end : IfSome told.events (λ events. EndBefore events.items (2 ^ 32 - 1))
+  pub counters_end : IfSome told.counters (λ counters. EndBefore counters.items (2 ^ 32 - 1))
+
+-- ---- what a transcript tells is that of the run
+
+-- what it tells of bit time t is this: the level; the event, where events are told; the counters behind it, where
+-- counters are told
+pub record AgreesAt (told : Transcript) (t : ℕ) (m : Moment) : Type 0 where
+  pub level : slice_get told.drove.items t ≡ m.drove
+  pub event : IfSome told.events (λ events. told_at events.items t ≡ m.event)
+  pub counters : IfSome told.counters (λ counters. told_before no_counts counters.items (t + 1) ≡ m.counters)
+
+-- all that it tells is that of the run
+pub record Agrees (s : Script) (told : Transcript) : Type 0 where
+  pub each : (t : ℕ) → AgreesAt told t (moment_at s t)
+  pub end : IfSome told.end (λ end. end ≡ end_of s)
+
+-- ---- the transcript of the run
+
+abbrev pub same_counters : Counters → Counters → Bool
+same_counters c d = (c.transmit == d.transmit) && (c.receive == d.receive)
+
+-- the counters behind bit time t, where it changed one
+abbrev pub changed_in : Script → ℕ → Option Counters
+changed_in s t =
+    if same_counters (counters_of (before s (t + 1))) (counters_of (before s t)) then None else Some (counters_of (before s (t + 1)))
+
+-- each of these times is told, and no other
+pub record Tells {A : Type 0} (at : ℕ → Option A) (xs : List (Timed A)) : Type 0 where
+  pub rising : AreRising xs
+  pub each : (t : ℕ) → told_at xs t ≡ at t
+
+-- the levels, events and changes of a counter of the run
+pub record TellsRun (s : Script) (drove : List Level) (told : List (Timed Event)) (changed : List (Timed Counters)) : Type 0 where
+  pub levels : (t : ℕ) → slice_get drove t ≡ (moment_at s t).drove
+  pub events : Tells (λ t. (moment_at s t).event) told
+  pub changes : Tells (changed_in s) changed
+
+-- a transcript that has all of them, and the end
+pub record IsTranscript (s : Script) (told : Transcript) : Type 0 where
+  pub levels : (t : ℕ) → slice_get told.drove.items t ≡ (moment_at s t).drove
+  pub events : IsSomeAnd told.events (λ events. Tells (λ t. (moment_at s t).event) events.items)
+  pub counters : IsSomeAnd told.counters (λ counters. Tells (changed_in s) counters.items)
+  pub end : told.end ≡ Some (end_of s)
+
+-- ---- the same, one bit time behind another
+
+-- what comes before bit time n
+unfoldable pub told_upto : {A : Type 0} → (ℕ → Option A) → ℕ → List (Timed A)
+told_upto at zero = []
+told_upto at (suc n) = told_upto at n ++ timed n (at n)
+
+-- the levels that are driven before bit time n
+unfoldable pub driven_upto : Script → ℕ → List Level
+driven_upto s zero = []
+driven_upto s (suc n) = driven_upto s n ++ option_to_list (moment_at s n).drove
+
+abbrev pub levels_of : Script → List Level
+levels_of s = driven_upto s (length s.tester.items)
+
+abbrev pub events_of : Script → List (Timed Event)
+events_of s = told_upto (λ t. (moment_at s t).event) (length s.tester.items)
+
+abbrev pub changes_of : Script → List (Timed Counters)
+changes_of s = told_upto (changed_in s) (length s.tester.items)

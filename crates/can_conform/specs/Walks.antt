@@ -1,0 +1,39 @@
+-- How far the judge has come along a run and a transcript: words of private contracts and of proofs.
+use Rattle.std.specs.Prelude.{ℕ, ◌≡◌, ◌<◌, ◌≤◌, List, Option, Some, IfSome, slice_get}
+use Rattle.can_mac.specs.declared.event.Event.{Event}
+use Rattle.can_node.specs.Ports.{PortState}
+use Rattle.can_conform.specs.declared.judging.Difference.{Difference}
+use Rattle.can_conform.specs.declared.judging.Difference.TheVariants as difference
+use Rattle.can_conform.specs.declared.judging.Progress.{Progress}
+use Rattle.can_conform.specs.declared.moment.Moment.{Moment}
+use Rattle.can_conform.specs.declared.script.Script.{Script}
+use Rattle.can_conform.specs.declared.standing.Rule.{Rule}
+use Rattle.can_conform.specs.declared.timed.Timed.{Timed}
+use Rattle.can_conform.specs.declared.transcript.Transcript.{Transcript}
+use Rattle.can_conform.specs.Runs.{before, rule_before, since_before}
+use Rattle.can_conform.specs.Transcripts.{no_counts, told_before}
+use Rattle.can_conform.specs.Verdicts.{AreCounters, IsEvent, IsLevel}
+
+-- a port, the rule and the last event are those before bit time t
+pub record Stands (s : Script) (t : ℕ) (p : PortState) (now : Rule) (since : Option (Timed Event)) : Type 0 where
+  pub port : p ≡ before s t
+  pub decides : now ≡ rule_before s t
+  pub last : since ≡ since_before s t
+
+-- the walk along them stands at this time: each before this place is earlier, and no other is
+pub record IsReached {A : Type 0} (xs : List (Timed A)) (place time : ℕ) : Type 0 where
+  pub passed : (n : ℕ) (x : Timed A) → n < place → slice_get xs n ≡ Some x → x.time < time
+  pub ahead : (n : ℕ) (x : Timed A) → place ≤ n → slice_get xs n ≡ Some x → time ≤ x.time
+
+-- the walk along a transcript stands at this time
+pub record HasReached (told : Transcript) (p : Progress) (t : ℕ) : Type 0 where
+  pub events : IfSome told.events (λ events. IsReached events.items p.event t)
+  pub counters : IfSome told.counters (λ counters. IsReached counters.items p.counter t)
+  pub held : IfSome told.counters (λ counters. p.held ≡ told_before no_counts counters.items t)
+
+-- the difference of bit time t, in which the reference does this
+abbrev pub IsDifferenceAt : Transcript → ℕ → Moment → Difference → Type 0
+IsDifferenceAt told t m (difference.Level one other) = IsLevel told t m one other
+IsDifferenceAt told t m (difference.Event one other) = IsEvent told t m one other
+IsDifferenceAt told t m (difference.Counters one other) = AreCounters told t m one other
+IsDifferenceAt told t m (difference.End one other) = ⊥

@@ -1,0 +1,278 @@
+//! The judge: whether a transcript tells what the reference does.
+ghost use Rattle.std.specs.Prelude.{ℕ, ◌≡◌, ◌≢◌, ◌≤◌, ◌<◌, ◌^◌, ◌-◌, ◌+◌, length, IfOk, IfSome, IsNone, IsSome, IsSomeAnd, slice_get};
+ghost use Rattle.can_conform.specs.Runs.{moment_at};
+ghost use Rattle.can_conform.specs.Transcripts.{no_counts, told_at, told_before, AgreesAt, AreRising, EndBefore, IsTold};
+ghost use Rattle.can_conform.specs.Verdicts.{IsVerdict};
+ghost use Rattle.can_conform.specs.Walks.{HasReached, IsDifferenceAt, IsReached, Stands};
+
+use crate::bench::Bench;
+use crate::meeting::ending_of;
+use crate::moment::Moment;
+use crate::script::Script;
+use crate::standing::Standing;
+use crate::timed::Timed;
+use crate::transcript::{Counters, Ending, Transcript};
+use can_frame::Level;
+use can_mac::Event;
+use can_node::{PackedNode, Port};
+use std::alloc::{AllocError, Global};
+
+/// How a transcript differs from the run of the reference: what it tells, and what it ought to tell.
+#[derive(Clone, Copy, Debug)]
+pub enum Difference {
+    /// A level: none is told where there are too few, and none ought to be where there are too many.
+    Level {
+        told: Option<Level>,
+        ought: Option<Level>,
+    },
+    /// An event.
+    Event {
+        told: Option<Event>,
+        ought: Option<Event>,
+    },
+    /// The counters behind the bit time.
+    Counters {
+        told: Counters,
+        ought: Counters,
+    },
+    /// What the controller has come to behind the last bit time.
+    End {
+        told: Ending,
+        ought: Ending,
+    },
+}
+
+/// The first difference, at its bit time, and where the reference stands before it.
+#[derive(Clone, Copy, Debug)]
+pub struct Failure {
+    pub time: u32,
+    pub difference: Difference,
+    pub standing: Standing,
+}
+
+/// What is said of a transcript.
+#[derive(Clone, Copy, Debug)]
+pub enum Verdict {
+    /// All that it tells is what the reference does.
+    Pass,
+    Fail(Failure),
+}
+
+/// How far a transcript has been compared: the places of its next event and of its next counters, and the
+/// counters that it told last.
+#[derive(Clone, Copy)]
+pub(crate) struct Progress {
+    pub(crate) event: usize,
+    pub(crate) counter: usize,
+    pub(crate) held: Counters,
+}
+
+/// Holds a transcript against the run of the reference, and answers whether all that it tells is that of
+/// the run, or the first difference. In one bit time a level comes before an event, and an event before
+/// counters; the end is last. Behind the first difference nothing is judged. It fails only where an
+/// allocation does.
+pub fn judge(alloc: Global, script: &Script, transcript: &Transcript) -> Result<Verdict, AllocError>
+    requires short { length script.now.tester.items < 2 ^ 32 - 1 }
+    requires told { IsTold transcript.now }
+    ensures { IfOk result (IsVerdict script.now transcript.now) }
+{
+    let mut bench = Bench::begin(alloc, script)?;
+    let mut progress = Progress {
+        event: 0,
+        counter: 0,
+        held: Counters::NONE,
+    };
+    for time in 0..horizon(script, transcript) {
+        let standing = bench.standing();
+        let moment = bench.step(script);
+        if let Some(difference) = difference_at(transcript, &mut progress, &moment, time) {
+            return Ok(Verdict::Fail(Failure {
+                time,
+                difference,
+                standing,
+            }));
+        }
+    }
+    Ok(concluded(script, transcript, &bench))
+}
+
+/// What is said where all bit times agree.
+fn concluded(script: &Script, transcript: &Transcript, bench: &Bench) -> Verdict
+    requires short { length script.now.tester.items < 2 ^ 32 - 1 }
+    requires agrees { (t : ℕ) → AgreesAt transcript.now t (moment_at script.now t) }
+    requires stands { Stands script.now (length script.now.tester.items) (⟦<PackedNode as Port>⟧.port bench.now.node) bench.now.rule bench.now.since }
+    ensures { IsVerdict script.now transcript.now result }
+{
+    let ought = ending_of(&bench.node);
+    match transcript.end {
+        Some(told) if told != ought => Verdict::Fail(Failure {
+            time: script.tester.len() as u32,
+            difference: Difference::End { told, ought },
+            standing: bench.standing(),
+        }),
+        _ => Verdict::Pass,
+    }
+}
+
+/// The difference in this bit time, if there is one.
+fn difference_at(
+    transcript: &Transcript,
+    progress: &mut Progress,
+    moment: &Moment,
+    time: u32,
+) -> Option<Difference>
+    requires told { IsTold transcript.now }
+    requires reached { HasReached transcript.now progress.old time }
+    ensures none { IsNone result → AgreesAt transcript.now time moment.now }
+    ensures some { IfSome result (IsDifferenceAt transcript.now time moment.now) }
+    ensures reached { IsNone result → HasReached transcript.now progress.new (time + 1) }
+{
+    if let Some(difference) = level_difference(&transcript.drove, moment.drove, time) {
+        return Some(difference);
+    }
+    if let Some(difference) = event_difference(&transcript.events, progress, moment.event, time) {
+        return Some(difference);
+    }
+    counters_difference(&transcript.counters, progress, moment.counters, time)
+}
+
+/// Where the level that is told is not the one that ought to be.
+fn level_difference(levels: &[Level], ought: Option<Level>, time: u32) -> Option<Difference>
+    ensures none { IsNone result → slice_get levels.now time ≡ ought }
+    ensures some { IfSome result (λ d. d ≡ Difference.Level (slice_get levels.now time) ought) }
+    ensures differs { IsSome result → slice_get levels.now time ≢ ought }
+{
+    let told = levels.get(time as usize).copied();
+    if told == ought {
+        return None;
+    }
+    Some(Difference::Level { told, ought })
+}
+
+/// Where events are told, and this is not the one that ought to be.
+fn event_difference(
+    events: &Option<Vec<Timed<Event>>>,
+    progress: &mut Progress,
+    ought: Option<Event>,
+    time: u32,
+) -> Option<Difference>
+    requires rising { IfSome events.now (λ events. AreRising events.items) }
+    requires reached { IfSome events.now (λ events. IsReached events.items progress.old.event time) }
+    ensures none { IsNone result → IfSome events.now (λ events. told_at events.items time ≡ ought) }
+    ensures some { IfSome result (λ d. IsSomeAnd events.now (λ events. d ≡ Difference.Event (told_at events.items time) ought)) }
+    ensures differs { IsSome result → IfSome events.now (λ events. told_at events.items time ≢ ought) }
+    ensures reached { IfSome events.now (λ events. IsReached events.items progress.new.event (time + 1)) }
+    ensures counter { progress.new.counter ≡ progress.old.counter }
+    ensures held { progress.new.held ≡ progress.old.held }
+{
+    let Some(events) = events else {
+        return None;
+    };
+    let told = next_at(events, &mut progress.event, time);
+    if told == ought {
+        return None;
+    }
+    Some(Difference::Event { told, ought })
+}
+
+/// Where counters are told, and they are not those that ought to be.
+fn counters_difference(
+    counters: &Option<Vec<Timed<Counters>>>,
+    progress: &mut Progress,
+    ought: Counters,
+    time: u32,
+) -> Option<Difference>
+    requires rising { IfSome counters.now (λ counters. AreRising counters.items) }
+    requires reached { IfSome counters.now (λ counters. IsReached counters.items progress.old.counter time) }
+    requires held { IfSome counters.now (λ counters. progress.old.held ≡ told_before no_counts counters.items time) }
+    ensures none { IsNone result → IfSome counters.now (λ counters. told_before no_counts counters.items (time + 1) ≡ ought) }
+    ensures some { IfSome result (λ d. IsSomeAnd counters.now (λ counters. d ≡ Difference.Counters (told_before no_counts counters.items (time + 1)) ought)) }
+    ensures differs { IsSome result → IfSome counters.now (λ counters. told_before no_counts counters.items (time + 1) ≢ ought) }
+    ensures reached { IfSome counters.now (λ counters. IsReached counters.items progress.new.counter (time + 1)) }
+    ensures held { IfSome counters.now (λ counters. progress.new.held ≡ told_before no_counts counters.items (time + 1)) }
+    ensures event { progress.new.event ≡ progress.old.event }
+{
+    let Some(counters) = counters else {
+        return None;
+    };
+    let told = counters_told(counters, progress, time);
+    if told == ought {
+        return None;
+    }
+    Some(Difference::Counters { told, ought })
+}
+
+/// The counters that are told behind this bit time.
+#[tactic(auto, using(crate::proofs::TimedLemmas::told_before_more))]
+fn counters_told(counters: &[Timed<Counters>], progress: &mut Progress, time: u32) -> Counters
+    requires rising { AreRising counters.now }
+    requires reached { IsReached counters.now progress.old.counter time }
+    requires held { progress.old.held ≡ told_before no_counts counters.now time }
+    ensures told { result ≡ told_before no_counts counters.now (time + 1) }
+    ensures held { progress.new.held ≡ told_before no_counts counters.now (time + 1) }
+    ensures reached { IsReached counters.now progress.new.counter (time + 1) }
+    ensures event { progress.new.event ≡ progress.old.event }
+{
+    let next = next_at(counters, &mut progress.counter, time);
+    let told = next.unwrap_or(progress.held);
+    progress.held = told;
+    told
+}
+
+/// What is told at this time, which the walk has reached.
+fn next_at<T: Copy>(list: &[Timed<T>], place: &mut usize, time: u32) -> Option<T>
+    requires rising { AreRising list.now }
+    requires reached { IsReached list.now place.old time }
+    ensures told { result ≡ told_at list.now time }
+    ensures reached { IsReached list.now place.new (time + 1) }
+{
+    match list.get(*place) {
+        Some(next) if next.time == time => {
+            *place += 1;
+            Some(next.told)
+        }
+        _ => None,
+    }
+}
+
+/// The first bit time behind the case and all that a transcript tells.
+fn horizon(script: &Script, transcript: &Transcript) -> u32
+    requires told { IsTold transcript.now }
+    requires short { length script.now.tester.items < 2 ^ 32 - 1 }
+    ensures bits { length script.now.tester.items ≤ result }
+    ensures levels { length transcript.now.drove.items ≤ result }
+    ensures events { IfSome transcript.now.events (λ events. EndBefore events.items result) }
+    ensures counters { IfSome transcript.now.counters (λ counters. EndBefore counters.items result) }
+    ensures limit { result ≤ 2 ^ 32 - 1 }
+{
+    let levels = script.tester.len().max(transcript.drove.len()) as u32;
+    let events = end_of_some(&transcript.events);
+    let counters = end_of_some(&transcript.counters);
+    levels.max(events).max(counters)
+}
+
+/// The first time behind all of a list, if it is there.
+fn end_of_some<T>(list: &Option<Vec<Timed<T>>>) -> u32
+    requires rising { IfSome list.now (λ list. AreRising list.items) }
+    requires limit { IfSome list.now (λ list. EndBefore list.items (2 ^ 32 - 1)) }
+    ensures end { IfSome list.now (λ list. EndBefore list.items result) }
+    ensures limit { result ≤ 2 ^ 32 - 1 }
+{
+    match list {
+        Some(list) => end_of_times(list),
+        None => 0,
+    }
+}
+
+/// The first time behind all of a list.
+fn end_of_times<T>(list: &[Timed<T>]) -> u32
+    requires rising { AreRising list.now }
+    requires limit { EndBefore list.now (2 ^ 32 - 1) }
+    ensures end { EndBefore list.now result }
+    ensures limit { result ≤ 2 ^ 32 - 1 }
+{
+    match list.last() {
+        Some(last) => last.time + 1,
+        None => 0,
+    }
+}

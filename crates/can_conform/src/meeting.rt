@@ -1,0 +1,81 @@
+//! The reference, and one bit time of a controller that shares the wire with the tester.
+ghost use Rattle.std.specs.Prelude.{◌≡◌, IfOk};
+ghost use Rattle.can_node.specs.Ports.{port_drives};
+ghost use Rattle.can_conform.specs.Runs.{counters_of as counters_of_port, ending_of as ending_of_port, met, seen_by, sees, started, told_of};
+
+use crate::script::{Start, TesterLevel};
+use crate::transcript::{Counters, Ending};
+use can_frame::Level;
+use can_mac::Event;
+use can_node::{PackedNode, Port};
+use std::alloc::{AllocError, Global};
+
+/// How many frames may wait at the reference: as many as a case offers.
+const QUEUE_ROOM: usize = 256;
+
+/// What a controller makes of one bit time.
+#[derive(Clone, Copy, Debug)]
+pub struct Meeting {
+    /// The level that it drove.
+    pub drove: Level,
+    /// The level that it saw.
+    pub seen: Level,
+    /// What the bit time brought.
+    pub event: Option<Event>,
+}
+
+impl TesterLevel {
+    /// What a controller sees that drives this level: the bus is dominant where it or the tester drives
+    /// dominant, and forced it sees a recessive level.
+    pub fn seen_by(self, drives: Level) -> Level
+        ensures { result ≡ seen_by self drives }
+    {
+        match self {
+            TesterLevel::Dominant => Level::Dominant,
+            TesterLevel::Recessive => drives,
+            TesterLevel::Forced => Level::Recessive,
+        }
+    }
+}
+
+/// The reference before bit time 0: a new port, with room for 256 frames. It fails only where an allocation
+/// does.
+pub fn started_node(alloc: Global, start: Start) -> Result<PackedNode, AllocError>
+    ensures { IfOk result (λ node. ⟦<PackedNode as Port>⟧.port node ≡ started start) }
+{
+    match start {
+        Start::Idle => PackedNode::new(alloc, QUEUE_ROOM, 0),
+        Start::Joining => PackedNode::joining(alloc, QUEUE_ROOM, 0),
+    }
+}
+
+/// One bit time of a port with this tester, behind the frames and wishes of that time.
+pub fn meet<P: Port>(port: &mut P, tester: TesterLevel) -> Meeting
+    ensures port { P.port port.new ≡ met tester (P.port port.old) }
+    ensures drove { result.drove ≡ port_drives (P.port port.old) }
+    ensures seen { result.seen ≡ sees tester (P.port port.old) }
+    ensures event { result.event ≡ told_of tester (P.port port.old) }
+{
+    let drove = port.drive();
+    let seen = tester.seen_by(drove);
+    let event = port.sample(seen);
+    Meeting { drove, seen, event }
+}
+
+/// A port's error counters.
+pub fn counters_of<P: Port>(port: &P) -> Counters
+    ensures { result ≡ counters_of_port (P.port port.now) }
+{
+    let (transmit, receive) = port.counters();
+    Counters { transmit, receive }
+}
+
+/// What a port has come to.
+pub fn ending_of<P: Port>(port: &P) -> Ending
+    ensures { result ≡ ending_of_port (P.port port.now) }
+{
+    Ending {
+        state: port.state(),
+        counters: counters_of(port),
+    }
+}

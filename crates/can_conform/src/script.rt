@@ -1,0 +1,32 @@
+use crate::timed::Timed;
+use can_frame::Frame;
+
+/// What the bus was before bit time 0.
+#[derive(Clone, Copy, Debug, PartialEq, Eq)]
+pub enum Start {
+    /// The controller has seen at least eleven recessive levels.
+    Idle,
+    /// The first level that it sees is that of bit time 0.
+    Joining,
+}
+
+/// What the tester does in a bit time.
+#[derive(Clone, Copy, Debug, PartialEq, Eq)]
+pub enum TesterLevel {
+    /// It drives dominant.
+    Dominant,
+    /// It drives recessive.
+    Recessive,
+    /// It drives recessive, and the controller sees a recessive level whatever it drives itself.
+    Forced,
+}
+
+/// A case as it is played: what the tester does in each bit time, the frames that the controller is offered
+/// and how many overload frames of its own it is asked for, each at the beginning of its bit time.
+#[derive(Debug, Drop)]
+pub struct Script {
+    pub start: Start,
+    pub tester: Vec<TesterLevel>,
+    pub offers: Vec<Timed<Frame>>,
+    pub holds: Vec<Timed<u8>>,
+}

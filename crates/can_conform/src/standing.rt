@@ -1,0 +1,213 @@
+//! Where the reference stands before a bit time: its phase, its part in the frame, and the rule of
+//! docs/ACCESS.md that decides there.
+ghost use Rattle.std.specs.Prelude.{◌≡◌};
+ghost use Rattle.can_conform.specs.Standings.{error_rule as error_rule_of, overload_rule as overload_rule_of, part_of, phase_name as phase_name_of, phase_named as phase_named_of, phase_rule as phase_rule_of, rule_behind as rule_behind_of, stuffed_rule as stuffed_rule_of};
+
+use crate::timed::Timed;
+use can_code::{FrameBits, Front, Place, rtr_place};
+use can_frame::Level;
+use can_mac::{ErrorKind, Event, MediumAccess, Phase, Role};
+
+/// Where a verdict says that the reference is: how far it is in a phase is how many of its levels have come.
+#[derive(Clone, Copy, Debug, PartialEq, Eq)]
+pub enum PhaseName {
+    /// So many recessive levels in a row, 0 to 10.
+    Joining(u8),
+    Idle,
+    /// So many unstuffed levels of a frame, its start of frame among them.
+    Stuffed(usize),
+    CrcDelimiter,
+    AckSlot,
+    AckDelimiter,
+    /// 0 to 6.
+    EndOfFrame(u8),
+    /// An active error flag, 0 to 5.
+    ActiveFlag(u8),
+    /// A passive error flag: the last so many levels are equal, 0 to 5.
+    PassiveFlag(u8),
+    /// 0 to 5.
+    OverloadFlag(u8),
+    /// Behind a flag, so many dominant levels, modulo eight.
+    BehindFlag(u8),
+    /// The delimiter behind a flag, 1 to 7.
+    Delimiter(u8),
+    /// 0 to 2.
+    Intermission(u8),
+    /// 0 to 7.
+    Suspend(u8),
+    /// So many rows of eleven recessive levels, 0 to 127.
+    BusOff(u8),
+}
+
+/// What the reference is to the frame on the bus.
+#[derive(Clone, Copy, Debug, PartialEq, Eq)]
+pub enum Part {
+    Receiver,
+    Sender,
+}
+
+/// A rule of docs/ACCESS.md.
+#[derive(Clone, Copy, Debug, PartialEq, Eq)]
+pub enum Rule {
+    Joining,
+    StartOfFrame,
+    KeptFrame,
+    Intermission,
+    SuspendTransmission,
+    BusOff,
+    Arbitration,
+    StuffPlaces,
+    FixedForm,
+    Acknowledgement,
+    RefusedCheckSequence,
+    DominantLastLevel,
+    ErrorFlags,
+    ErrorInAnOwnFlag,
+    BehindAFlag,
+    Delimiter,
+    OverloadFlags,
+    OwnOverloadFrames,
+}
+
+/// Where the reference stands before a bit time.
+#[derive(Clone, Copy, Debug)]
+pub struct Standing {
+    pub phase: PhaseName,
+    pub part: Part,
+    pub rule: Rule,
+    /// Its last event before, if there was one.
+    pub since: Option<Timed<Event>>,
+}
+
+/// The name of the phase in which a controller is.
+pub(crate) fn phase_name<B: FrameBits>(access: &MediumAccess<B>) -> PhaseName
+    ensures { result ≡ phase_name_of access.now }
+{
+    phase_named(access.phase(), access.confine().occurrences())
+}
+
+/// The name of a phase, where so many rows of eleven recessive levels have come off the bus.
+fn phase_named<B: FrameBits>(phase: &Phase<Front<B>>, rows: u8) -> PhaseName
+    ensures { result ≡ phase_named_of phase.now rows }
+{
+    match phase {
+        Phase::Joining { row } => PhaseName::Joining(*row),
+        Phase::Idle => PhaseName::Idle,
+        Phase::StuffedPart(front) => PhaseName::Stuffed(front.len()),
+        Phase::CrcDelimiter(_) => PhaseName::CrcDelimiter,
+        Phase::AckSlot(_) => PhaseName::AckSlot,
+        Phase::AckDelimiter(_) => PhaseName::AckDelimiter,
+        Phase::EndOfFrame { place, .. } => PhaseName::EndOfFrame(*place),
+        Phase::ErrorFlag { place } => PhaseName::ActiveFlag(*place),
+        Phase::PassiveFlag { run, .. } => PhaseName::PassiveFlag(*run),
+        Phase::OverloadFlag { place } => PhaseName::OverloadFlag(*place),
+        Phase::AfterFlag { dominant, .. } => PhaseName::BehindFlag(*dominant),
+        Phase::Delimiter { place } => PhaseName::Delimiter(*place),
+        Phase::Intermission { place } => PhaseName::Intermission(*place),
+        Phase::Suspend { place } => PhaseName::Suspend(*place),
+        Phase::BusOff => PhaseName::BusOff(rows),
+    }
+}
+
+/// What a controller is to the frame on the bus.
+pub(crate) fn part_in(role: &Role) -> Part
+    ensures { result ≡ part_of role.now }
+{
+    match role {
+        Role::Receiver => Part::Receiver,
+        Role::Sender(_) => Part::Sender,
+    }
+}
+
+/// The rule that decides in a phase.
+pub(crate) fn phase_rule<B: FrameBits>(phase: &Phase<Front<B>>, role: &Role) -> Rule
+    ensures { result ≡ phase_rule_of phase.now role.now }
+{
+    match phase {
+        Phase::Joining { .. } => Rule::Joining,
+        Phase::Idle => Rule::StartOfFrame,
+        Phase::StuffedPart(front) => stuffed_rule(front, role),
+        Phase::AckSlot(_) => Rule::Acknowledgement,
+        Phase::CrcDelimiter(_) | Phase::AckDelimiter(_) | Phase::EndOfFrame { .. } => {
+            Rule::FixedForm
+        }
+        Phase::ErrorFlag { .. } | Phase::PassiveFlag { .. } => Rule::ErrorFlags,
+        Phase::OverloadFlag { .. } => Rule::OverloadFlags,
+        Phase::AfterFlag { .. } => Rule::BehindAFlag,
+        Phase::Delimiter { .. } => Rule::Delimiter,
+        Phase::Intermission { .. } => Rule::Intermission,
+        Phase::Suspend { .. } => Rule::SuspendTransmission,
+        Phase::BusOff => Rule::BusOff,
+    }
+}
+
+/// The rule in the stuffed part of a frame: at a stuff place and for a receiver that of stuff places; for a
+/// sender up to its RTR bit arbitration, and behind it the frame that it keeps.
+fn stuffed_rule<B: FrameBits>(front: &Front<B>, role: &Role) -> Rule
+    ensures { result ≡ stuffed_rule_of front.now role.now }
+{
+    match role {
+        Role::Receiver => Rule::StuffPlaces,
+        Role::Sender(_) if front.next_place() == Place::StuffBit => Rule::StuffPlaces,
+        Role::Sender(sending) if front.len() <= rtr_place(sending.frame().is_extended()) => {
+            Rule::Arbitration
+        }
+        Role::Sender(_) => Rule::KeptFrame,
+    }
+}
+
+/// The rule by which an error flag starts behind a bit time in this phase.
+fn error_rule(phase: PhaseName, kind: ErrorKind) -> Rule
+    ensures { result ≡ error_rule_of phase kind }
+{
+    match phase {
+        PhaseName::Joining(_) => Rule::Joining,
+        PhaseName::Idle => Rule::StartOfFrame,
+        PhaseName::Stuffed(_) if kind == ErrorKind::Stuff => Rule::StuffPlaces,
+        PhaseName::Stuffed(_) => Rule::Arbitration,
+        PhaseName::AckSlot => Rule::Acknowledgement,
+        PhaseName::AckDelimiter if kind == ErrorKind::Crc => Rule::RefusedCheckSequence,
+        PhaseName::CrcDelimiter | PhaseName::AckDelimiter | PhaseName::EndOfFrame(_) => {
+            Rule::FixedForm
+        }
+        PhaseName::ActiveFlag(_) | PhaseName::OverloadFlag(_) => Rule::ErrorInAnOwnFlag,
+        PhaseName::PassiveFlag(_) => Rule::ErrorFlags,
+        PhaseName::BehindFlag(_) => Rule::BehindAFlag,
+        PhaseName::Delimiter(_) => Rule::Delimiter,
+        PhaseName::Intermission(_) => Rule::Intermission,
+        PhaseName::Suspend(_) => Rule::SuspendTransmission,
+        PhaseName::BusOff(_) => Rule::BusOff,
+    }
+}
+
+/// The rule by which an overload flag starts behind a bit time in this phase with this level.
+fn overload_rule(phase: PhaseName, seen: Level) -> Rule
+    ensures { result ≡ overload_rule_of phase seen }
+{
+    match (phase, seen) {
+        (PhaseName::EndOfFrame(_), Level::Dominant) => Rule::DominantLastLevel,
+        (PhaseName::Delimiter(_), Level::Dominant) => Rule::Delimiter,
+        (PhaseName::EndOfFrame(_) | PhaseName::Delimiter(_), Level::Recessive) => {
+            Rule::OwnOverloadFrames
+        }
+        (PhaseName::Intermission(_), _) => Rule::Intermission,
+        _ => Rule::OverloadFlags,
+    }
+}
+
+/// The rule for the next bit time of a controller that had this event: for the first level of a flag the rule
+/// that started it. It was in this phase before, and saw this level.
+pub(crate) fn rule_behind<B: FrameBits>(
+    event: &Option<Event>,
+    phase: PhaseName,
+    seen: Level,
+    next: &MediumAccess<B>,
+) -> Rule
+    ensures { result ≡ rule_behind_of event.now phase seen next.now }
+{
+    match event {
+        Some(Event::Error(kind)) => error_rule(phase, *kind),
+        Some(Event::Overload) => overload_rule(phase, seen),
+        _ => phase_rule(next.phase(), next.role()),
+    }
+}
