@@ -17,7 +17,7 @@ use Rattle.can_code.specs.CodeFaults.{IsCodeFault}
 use Rattle.can_code.proofs.StuffedParts.{IsPart-length}
 use Rattle.can_code.proofs.FrontsOf.{IsFrontOf, IsFrontOf-part, IsFrontOf-heard_level}
 use Rattle.can_code.proofs.CodeFaultLemmas.{IsCodeFault-stuff, IsCodeFault-form, IsCodeFault-crc}
-use Rattle.can_code.proofs.SentLevels.{level_at-behind}
+use Rattle.can_code.proofs.LayoutPlaces.{level_at-behind}
 use Rattle.can_code.proofs.UnstuffedLevels.{stuffed_part-part, unstuffed-agrees}
 use Rattle.can_code.proofs.WireFronts.{front_at, front_at-front, front_at-going}
 use Rattle.can_mac.specs.State.{MacPhase}

@@ -6,7 +6,7 @@ use Rattle.can_frame.specs.declared.level.Level.TheVariants.{Dominant, Recessive
 use Rattle.can_frame.specs.Levels.{bits_of, number_from}
 use Rattle.can_code.specs.Crc.{xor, lower_terms, reduced, IsCrc, crc_of}
 use Rattle.can_code.specs.Layout.{check_of, head_of, level_at}
-use Rattle.can_code.proofs.LayoutNumbers.{number_from-whole}
+use Rattle.can_code.proofs.LayoutNumbers.{bits_of-number_from, number_from-whole}
 use Rattle.can_code.proofs.LevelLemmas.{bits_of-further, bits_of-none}
 use Rattle.can_code.proofs.XorLemmas.{xor_comm, xor_assoc, xor_zeros, xor_zeros_longer, xor_self, xor_twice, length-xor}
 use Rattle.can_code.proofs.DivisionLemmas.{none, length-reduced, length-crc_of, IsCrc-crc_of, IsCrc-only}
@@ -15,6 +15,15 @@ use Rattle.can_code.proofs.Register.{register, register-nil, register-append, re
 -- the check sequence of the same levels
 pub IsCrc-same : {a b c : List Level} → a ≡ b → IsCrc a c → IsCrc b c
 IsCrc-same {c = c} same is = subst (λ l. IsCrc l c) same is
+
+-- a register of fifteen bits that holds the check sequence is the number of the check sequence that is computed
+pub check_number : (levels : List Level) (r : ℕ) → r < 2 ^ 15 → IsCrc levels (bits_of 15 r) → number_from 0 (crc_of levels) ≡ r
+check_number levels r small is = ap (number_from 0) (sym (IsCrc-only levels (bits_of 15 r) is)) ∙ number_from-whole 15 r small
+
+pub IsCrc-check_number : (levels : List Level) (r : ℕ) → number_from 0 (crc_of levels) ≡ r → IsCrc levels (bits_of 15 r)
+IsCrc-check_number levels r e =
+    let same : crc_of levels ≡ bits_of 15 r = sym (bits_of-number_from 15 0 (crc_of levels) (length-crc_of levels)) ∙ ap (bits_of 15) e in
+    subst (IsCrc levels) same (IsCrc-crc_of levels)
 
 -- where a register holds the check sequence of some levels, its step over more levels makes it that of them all
 pub IsCrc-on : (r next : ℕ) (levels more : List Level) → bits_of 15 next ≡ register (bits_of 15 r) more → IsCrc levels (bits_of 15 r)

@@ -1,5 +1,6 @@
 -- The levels at the places of a list, and what more levels behind it change.
-use Rattle.std.proofs.Common.{◌≡◌, ℕ, suc, zero, ◌+◌, ◌<◌, ◌≤◌, List, [], ◌∷◌, ◌++◌, length, drop, replicate, refl, ◌∙◌, ap, arith}
+use Rattle.std.proofs.Common.{◌≡◌, ℕ, suc, zero, ◌+◌, ◌-◌, ◌<◌, ◌≤◌, List, [], ◌∷◌, ◌++◌, length, drop, replicate, refl, ◌∙◌, ap, arith}
+use Rattle.std.proofs.Math.Seq.{get_or-append_right}
 use Rattle.std.proofs.lemmas.List.{get_or_append_left, drop_more, drop-drop, drop-append-le, length-drop}
 use Rattle.can_frame.specs.declared.level.Level.{Level}
 use Rattle.can_frame.specs.declared.level.Level.TheVariants.{Dominant}
@@ -60,7 +61,11 @@ level_at-dominant (x ∷ u) k (suc p) = level_at-dominant u k p
 pub level_at-append : (u w : List Level) (p : ℕ) → p < length u → level_at (u ++ w) p ≡ level_at u p
 level_at-append u w p h = get_or_append_left u w Dominant p h
 
--- the same of n levels
+-- behind the end of a list stand the levels that come behind it
+pub level_at-behind : (a b : List Level) (p : ℕ) → length a ≤ p → level_at (a ++ b) p ≡ level_at b (p - length a)
+level_at-behind a b p h = get_or-append_right a b p Dominant h
+
+-- the same of n levels, none of which they change
 pub levels_at-append : (u w : List Level) (p n : ℕ) → p + n ≤ length u → levels_at (u ++ w) p n ≡ levels_at u p n
 levels_at-append u w p n h =
     let size : n ≤ length (drop p u) = omega (arith, length-drop p u) in

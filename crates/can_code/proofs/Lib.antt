@@ -13,8 +13,6 @@ pub mod LayoutPlaces
 pub mod LayoutLengths
 -- complete unstuffed levels are the levels of what they tell
 pub mod LayoutWrite
--- the levels at the places of a frame's unstuffed levels
-pub mod SentLevels
 -- the unstuffed levels of a frame that is sent are complete, and give it back
 pub mod UnstuffedLevels
 -- a list of levels has one spelling; how long that of a frame is

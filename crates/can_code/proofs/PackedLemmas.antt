@@ -1,5 +1,5 @@
 -- The levels of a register: one more behind them, one at a place, and the number that some spell.
-use Rattle.std.proofs.Common.{◌≡◌, ℕ, Bool, true, false, suc, ◌+◌, ◌-◌, ◌*◌, ◌/◌, ◌%◌, ◌^◌, ◌<◌, ◌≤◌, [], ◌∷◌, ◌++◌, ◌⊎◌, inl, inr, nat_eq, refl, sym, ◌∙◌, ap, subst, arith, add-zero}
+use Rattle.std.proofs.Common.{◌≡◌, ℕ, Bool, true, false, suc, zero, ◌+◌, ◌-◌, ◌*◌, ◌/◌, ◌%◌, ◌^◌, ◌<◌, ◌≤◌, [], ◌∷◌, ◌++◌, ◌⊎◌, inl, inr, nat_eq, refl, sym, ◌∙◌, ap, subst, arith, add-zero}
 use Rattle.std.specs.Prelude.{bit_and}
 use Rattle.std.specs.Int.{bit_at}
 use Rattle.std.proofs.Math.Nat.{mod-le}
@@ -12,7 +12,7 @@ use Rattle.can_frame.specs.declared.level.Level.{Level}
 use Rattle.can_frame.specs.declared.level.Level.TheVariants.{Dominant, Recessive}
 use Rattle.can_frame.specs.Levels.{bits_of, is_recessive, level_from, level_of, number_from}
 use Rattle.can_frame.proofs.LevelLemmas.{bits_of-last}
-use Rattle.can_code.specs.Layout.{filled, levels_at}
+use Rattle.can_code.specs.Layout.{filled, level_at, levels_at}
 use Rattle.can_code.proofs.LayoutNumbers.{number_from-bits_of}
 use Rattle.can_code.proofs.LayoutPlaces.{filled_whole}
 use Rattle.can_code.proofs.LevelLemmas.{bit_cases, length-bits_of, bits_of-append, bits_of-mod, bits_of-zero}
@@ -107,6 +107,13 @@ level_from-bit x i = of (bit_at x i) (bit_cases x i)
     of : (b : ℕ) → (b ≡ 0) ⊎ (b ≡ 1) → level_from (nat_eq b 1) ≡ level_of b
     of b (inl e) = rw e refl
     of b (inr e) = rw e refl
+
+-- the highest bit of a number stands first
+pub level_at-bits_of : (n x p : ℕ) → p < n → level_at (bits_of n x) p ≡ level_of (bit_at x (n - 1 - p))
+unfolding bits_of
+level_at-bits_of zero x p h = absurd (omega arith)
+level_at-bits_of (suc n) x zero h = ap (λ k. level_of (bit_at x k)) (let e : n ≡ suc n - 1 - 0 = omega arith in e)
+level_at-bits_of (suc n) x (suc p) h = level_at-bits_of n x p (omega arith) ∙ ap (λ k. level_of (bit_at x k)) (let e : n - 1 - p ≡ suc n - 1 - suc p = omega arith in e)
 
 -- the number that k levels from place p on spell, of which b levels are behind
 pub number_at-bits_of : (n x p k b : ℕ) → n ≡ p + (k + b) → number_from 0 (levels_at (bits_of n x) p k) ≡ x / 2 ^ b % 2 ^ k

@@ -2,10 +2,13 @@ ghost use Rattle.std.specs.Prelude.{◌≡◌, ◌+◌, ◌^◌, ◌<◌, ◌≤
 ghost use Rattle.can_frame.specs.declared.level.Level.{Level as Bit};
 ghost use Rattle.can_frame.specs.declared.level.Level.TheVariants.{Dominant};
 ghost use Rattle.can_frame.specs.Levels.{bits_of, number_from};
-ghost use Rattle.can_code.specs.Crc.{IsCrc};
+ghost use Rattle.can_code.specs.Crc.{IsCrc, crc_of};
 ghost use Rattle.can_code.specs.Layout.{level_at, levels_at, check_of, head_of};
 
 use can_frame::Level;
+
+/// The start of frame (SOF).
+pub(crate) const START_OF_FRAME: Level = Level::Dominant;
 
 /// The unstuffed levels of a frame that have been heard so far, the start of frame first.
 pub trait FrameBits: Drop {
@@ -42,6 +45,11 @@ pub trait FrameBits: Drop {
         requires within { place + count ≤ length (levels self.now) }
         requires width { count ≤ 32 }
         ensures { result ≡ number_from 0 (levels_at (levels self.now) place count) };
+
+    /// Their CRC sequence, as a number of fifteen bits. Bit 14 is sent first.
+    fn check(&self) -> u16
+        ensures range { result < 2 ^ 15 }
+        ensures computed { bits_of 15 result ≡ crc_of (levels self.now) };
 
     /// Whether the last fifteen levels are the CRC sequence of those before them.
     fn check_agrees(&self) -> bool

@@ -1,48 +1,40 @@
-ghost use Rattle.std.specs.Prelude.{◌≡◌, ◌+◌, ◌*◌, ◌/◌, ◌%◌, ◌^◌, ◌<◌, ◌≤◌, [], ◌∷◌, ◌++◌, length};
+ghost use Rattle.std.specs.Prelude.{◌≡◌, ◌+◌, ◌*◌, ◌/◌, ◌^◌, ◌<◌, ◌≤◌, [], ◌∷◌, ◌++◌, length};
 ghost use Rattle.std.specs.List.{flat_map};
-ghost use Rattle.arrayvec.specs.ArrayVec.{array_vec_len};
 ghost use Rattle.can_frame.specs.declared.level.Level.TheVariants.{Dominant, Recessive};
-ghost use Rattle.can_frame.specs.Levels.{level_from, level_of, bits_of};
+ghost use Rattle.can_frame.specs.Levels.{level_from, bits_of};
 ghost use Rattle.can_code.specs.Crc.{crc_of};
 ghost use Rattle.can_code.specs.Heard.{IsHeard, heard_head, data_field};
 
-use crate::crc::crc15;
+use crate::frame_bits::FrameBits;
 use crate::heard::Heard;
-use arrayvec::ArrayVec;
+use crate::places::{CHECK_BITS, DLC_BITS, EXTENSION_BITS, IDENTIFIER_BITS};
 use can_frame::{Frame, Level};
 
-/// The start of frame (SOF).
-pub(crate) const START_OF_FRAME: Level = Level::Dominant;
-
 /// The IDE bit of a standard frame.
-pub(crate) const STANDARD_FORMAT: Level = Level::Dominant;
+const STANDARD_FORMAT: Level = Level::Dominant;
 
 /// The IDE bit of an extended frame.
-pub(crate) const EXTENDED_FORMAT: Level = Level::Recessive;
-
-/// Room for the unstuffed levels of the longest frame, up to the end of its CRC sequence.
-pub(crate) type Unstuffed = ArrayVec<Level, 118>;
+const EXTENDED_FORMAT: Level = Level::Recessive;
 
 /// The unstuffed levels of what is heard, from the start of frame to the end of the CRC sequence.
-pub(crate) fn head_and_crc(heard: &Heard) -> Unstuffed
-    ensures items { result.items ≡ heard_head heard.now ++ crc_of (heard_head heard.now) }
+pub(crate) fn head_and_crc<B: FrameBits>(heard: &Heard) -> B
+    ensures levels { B.levels result ≡ heard_head heard.now ++ crc_of (heard_head heard.now) }
     ensures whole { IsHeard heard.now }
 {
-    let mut levels = head(heard);
-    let check = crc15(&levels);
-    push_bits(&mut levels, u32::from(check), 15);
+    let mut levels: B = head(heard);
+    let check = levels.check();
+    push_bits(&mut levels, u32::from(check), CHECK_BITS);
     levels
 }
 
 /// The unstuffed levels of what is heard, from the start of frame to the end of the data.
-pub(crate) fn head(heard: &Heard) -> Unstuffed
-    ensures items { result.items ≡ heard_head heard.now }
-    ensures room { array_vec_len result ≤ 103 }
+pub(crate) fn head<B: FrameBits>(heard: &Heard) -> B
+    ensures levels { B.levels result ≡ heard_head heard.now }
+    ensures room { length (B.levels result) ≤ 103 }
     ensures whole { IsHeard heard.now }
 {
     let frame = heard.frame();
-    let mut levels = ArrayVec::new();
-    levels.push(START_OF_FRAME);
+    let mut levels = B::start();
     if frame.is_extended() {
         push_extended_format(&mut levels, heard);
     } else {
@@ -56,52 +48,59 @@ pub(crate) fn head(heard: &Heard) -> Unstuffed
 
 /// Appends what stands between the start of frame and r0 in a standard frame: identifier, RTR and
 /// IDE.
-fn push_standard_format(levels: &mut Unstuffed, heard: &Heard)
-    requires { array_vec_len levels.old ≤ 1 }
-    ensures items { let frame = heard.now.frame in
-        levels.new.items ≡ levels.old.items ++ (bits_of 11 frame.id.raw ++ level_from frame.remote ∷ Dominant ∷ []) }
-    ensures room { array_vec_len levels.new ≤ 34 }
+fn push_standard_format<B: FrameBits>(levels: &mut B, heard: &Heard)
+    requires { length (B.levels levels.old) ≤ 1 }
+    ensures levels { let frame = heard.now.frame in
+        B.levels levels.new ≡ B.levels levels.old ++ (bits_of 11 frame.id.raw ++ level_from frame.remote ∷ Dominant ∷ []) }
+    ensures room { length (B.levels levels.new) ≤ 34 }
 {
     let frame = heard.frame();
-    push_bits(levels, frame.id().raw(), 11);
-    levels.push(Level::from_bool(frame.is_remote()));
+    push_bits(levels, frame.id().raw(), IDENTIFIER_BITS);
+    levels.push(remote_request(&frame));
     levels.push(STANDARD_FORMAT);
 }
 
 /// The same in an extended frame: the identifier with SRR and IDE behind its eleven highest bits,
 /// RTR and r1.
-fn push_extended_format(levels: &mut Unstuffed, heard: &Heard)
-    requires { array_vec_len levels.old ≤ 1 }
-    ensures items { let frame = heard.now.frame in
-        levels.new.items ≡ levels.old.items
+fn push_extended_format<B: FrameBits>(levels: &mut B, heard: &Heard)
+    requires { length (B.levels levels.old) ≤ 1 }
+    ensures levels { let frame = heard.now.frame in
+        B.levels levels.new ≡ B.levels levels.old
         ++ (bits_of 11 (frame.id.raw / 2 ^ 18) ++ heard.now.srr ∷ Recessive ∷ (bits_of 18 frame.id.raw ++ level_from frame.remote ∷ heard.now.r1 ∷ [])) }
-    ensures room { array_vec_len levels.new ≤ 34 }
+    ensures room { length (B.levels levels.new) ≤ 34 }
 {
     let frame = heard.frame();
     let number = frame.id().raw();
-    push_bits(levels, number >> 18, 11);
+    push_bits(levels, number >> EXTENSION_BITS, IDENTIFIER_BITS);
     levels.push(heard.srr());
     levels.push(EXTENDED_FORMAT);
-    push_bits(levels, number, 18);
-    levels.push(Level::from_bool(frame.is_remote()));
+    push_bits(levels, number, EXTENSION_BITS);
+    levels.push(remote_request(&frame));
     levels.push(heard.r1());
 }
 
-/// Appends the DLC and the data bytes.
-fn push_data_field(levels: &mut Unstuffed, frame: &Frame)
-    requires { array_vec_len levels.old ≤ 35 }
-    ensures items { levels.new.items ≡ levels.old.items ++ data_field frame.now }
-    ensures room { array_vec_len levels.new ≤ 103 }
+/// The RTR bit: recessive in a remote frame.
+fn remote_request(frame: &Frame) -> Level
+    ensures { result ≡ level_from frame.now.remote }
 {
-    push_bits(levels, u32::from(frame.dlc()), 4);
+    Level::from_bool(frame.is_remote())
+}
+
+/// Appends the DLC and the data bytes.
+fn push_data_field<B: FrameBits>(levels: &mut B, frame: &Frame)
+    requires { length (B.levels levels.old) ≤ 35 }
+    ensures levels { B.levels levels.new ≡ B.levels levels.old ++ data_field frame.now }
+    ensures room { length (B.levels levels.new) ≤ 103 }
+{
+    push_bits(levels, u32::from(frame.dlc()), DLC_BITS);
     push_bytes(levels, frame.bytes());
 }
 
 /// Appends the bits of each byte, the highest first.
-fn push_bytes(levels: &mut Unstuffed, bytes: &[u8])
-    requires { array_vec_len levels.old + 8 * length bytes.now ≤ 118 }
-    ensures items { levels.new.items ≡ levels.old.items ++ flat_map (bits_of 8) bytes.now }
-    ensures len { array_vec_len levels.new ≡ array_vec_len levels.old + 8 * length bytes.now }
+fn push_bytes<B: FrameBits>(levels: &mut B, bytes: &[u8])
+    requires { length (B.levels levels.old) + 8 * length bytes.now ≤ 118 }
+    ensures levels { B.levels levels.new ≡ B.levels levels.old ++ flat_map (bits_of 8) bytes.now }
+    ensures len { length (B.levels levels.new) ≡ length (B.levels levels.old) + 8 * length bytes.now }
 {
     for byte in bytes {
         push_bits(levels, u32::from(*byte), 8);
@@ -109,21 +108,11 @@ fn push_bytes(levels: &mut Unstuffed, bytes: &[u8])
 }
 
 /// Appends the lowest bits of a number, the highest first.
-pub(crate) fn push_bits(levels: &mut Unstuffed, value: u32, count: u32)
-    requires room { array_vec_len levels.old + count ≤ 118 }
-    requires width { count ≤ 32 }
-    ensures items { levels.new.items ≡ levels.old.items ++ bits_of count value }
-    ensures len { array_vec_len levels.new ≡ array_vec_len levels.old + count }
+fn push_bits<B: FrameBits>(levels: &mut B, value: u32, count: usize)
+    requires room { length (B.levels levels.old) + count ≤ 118 }
+    requires width { count < 32 }
+    ensures levels { B.levels levels.new ≡ B.levels levels.old ++ bits_of count value }
+    ensures len { length (B.levels levels.new) ≡ length (B.levels levels.old) + count }
 {
-    for place in (0..count).rev() {
-        levels.push(bit(value, place));
-    }
-}
-
-/// One bit of a number. Bit 0 is the lowest.
-pub(crate) fn bit(value: u32, place: u32) -> Level
-    requires { place < 32 }
-    ensures { result ≡ level_of (value / 2 ^ place % 2) }
-{
-    Level::from_bool((value >> place) & 1 == 1)
+    levels.append(value % (1 << count), count);
 }

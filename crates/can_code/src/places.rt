@@ -3,13 +3,8 @@
 ghost use Rattle.std.specs.Prelude.{◌≡◌, ◌⊎◌, ◌↔◌, IsTrue, false, true};
 ghost use Rattle.can_code.specs.Layout.{data_place, rtr_place as rtr_place_of};
 
-/// Where the start of frame stands.
-pub(crate) const SOF_PLACE: usize = 0;
-
-/// Where the identifier stands: all of a standard one, the eleven highest bits of an extended one.
-pub(crate) const IDENTIFIER_PLACE: usize = 1;
-
-/// How many bits of the identifier stand there.
+/// How many bits of the identifier stand behind the start of frame: all of a standard one, the eleven
+/// highest of an extended one.
 pub(crate) const IDENTIFIER_BITS: usize = 11;
 
 /// Where the RTR bit of a standard frame stands.
@@ -20,12 +15,6 @@ pub(crate) const SRR_PLACE: usize = 12;
 
 /// Where the IDE bit stands.
 pub(crate) const IDE_PLACE: usize = 13;
-
-/// Where the reserved bit r0 of a standard frame stands.
-pub(crate) const STANDARD_R0_PLACE: usize = 14;
-
-/// Where the data length code of a standard frame stands.
-pub(crate) const STANDARD_DLC_PLACE: usize = 15;
 
 /// Where the rest of an extended identifier stands, behind the IDE bit.
 pub(crate) const EXTENSION_PLACE: usize = 14;
@@ -38,12 +27,6 @@ pub(crate) const EXTENDED_RTR_PLACE: usize = 32;
 
 /// Where the reserved bit r1 of an extended frame stands.
 pub(crate) const R1_PLACE: usize = 33;
-
-/// Where the reserved bit r0 of an extended frame stands.
-pub(crate) const EXTENDED_R0_PLACE: usize = 34;
-
-/// Where the data length code of an extended frame stands.
-pub(crate) const EXTENDED_DLC_PLACE: usize = 35;
 
 /// How far the data stand behind the RTR bit.
 pub(crate) const RTR_TO_DATA: usize = 7;

@@ -6,6 +6,7 @@ ghost use Rattle.can_code.specs.Heard.{ack_slot, Spells, spelling};
 
 use crate::heard::{END_OF_FRAME, Heard};
 use crate::layout::head_and_crc;
+use crate::plain_bits::PlainBits;
 use crate::stuffing::stuff_onto;
 use arrayvec::ArrayVec;
 use can_frame::Level;
@@ -22,9 +23,9 @@ pub fn respell(heard: &Heard) -> ArrayVec<Level, 157>
     ensures computed { result.items ≡ spelling heard.now }
     ensures bound { array_vec_len result ≤ (if heard.now.frame.id.extended then 157 else 132) }
 {
-    let unstuffed = head_and_crc(heard);
+    let unstuffed: PlainBits = head_and_crc(heard);
     let mut levels = ArrayVec::new();
-    stuff_onto(&mut levels, &unstuffed);
+    stuff_onto(&mut levels, unstuffed.as_slice());
     push_tail(&mut levels, heard);
     levels
 }

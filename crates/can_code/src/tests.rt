@@ -1,5 +1,5 @@
 use crate::layout::head;
-use crate::{CrcRun, Heard, crc15, encode, respell, rtr_place, stuff};
+use crate::{CrcRun, FrameBits, Heard, PlainBits, crc15, encode, respell, rtr_place, stuff};
 use arrayvec::ArrayVec;
 use can_frame::{Frame, Id, Level};
 use std::test::Fail;
@@ -133,8 +133,9 @@ fn frames(rt: HostRuntime) -> Result<(), Fail> {
     for (frame, (check, stuffed, len)) in known_frames()?.iter().zip(&KNOWN_WIRES) {
         let levels = encode(frame);
         let sent = Heard::sent(*frame);
-        assert_eq!(rt; crc15(&head(&sent)), *check);
-        assert_eq!(rt; running_check(&head(&sent)), *check);
+        let unstuffed: PlainBits = head(&sent);
+        assert_eq!(rt; crc15(unstuffed.as_slice()), *check);
+        assert_eq!(rt; running_check(unstuffed.as_slice()), *check);
         assert_eq!(rt; levels.len(), *len);
         assert!(rt; levels.as_slice() == spelled(*stuffed, "1111111111").as_slice());
         assert!(rt; respell(&sent).as_slice() == spelled(*stuffed, "1011111111").as_slice());
@@ -146,7 +147,7 @@ fn frames(rt: HostRuntime) -> Result<(), Fail> {
 fn data_length_codes(rt: HostRuntime) -> Result<(), Fail> {
     for (dlc, bits) in [(12, "1100"), (8, "1000")] {
         let frame = Frame::data(standard(0x000)?, dlc, &[0; 8])?;
-        let levels = head(&Heard::sent(frame));
+        let levels: PlainBits = head(&Heard::sent(frame));
         let code = levels.as_slice().get(15..19).ok_or("four levels")?;
         assert!(rt; code == levels_of(bits).as_slice());
     }

@@ -4,18 +4,28 @@ use std::marker::Model;
 
 /// A number of 128 bits as two words. It is aligned to eight bytes, where a `u128` is to sixteen, so
 /// what holds it stays small.
-#[derive(Debug, Drop)]
+#[derive(Clone, Copy, Debug)]
 pub(crate) struct TwoWords {
     high: u64,
     low: u64,
 }
 
 impl Model for TwoWords {
-    ghost use Rattle.std.specs.Prelude.{ℕ, ◌+◌, ◌*◌, ◌^◌};
+    ghost use Rattle.std.specs.Prelude.{ℕ, ◌+◌, ◌*◌, ◌/◌, ◌%◌, ◌^◌, ◌<◌};
+    ghost use Rattle.std.proofs.Common.{ap, ◌∙◌};
+    ghost use Rattle.std.proofs.lemmas.Nat.{mod_low, shr_high};
 
     ghost Value = { ℕ };
 
     ghost view = { λ a. a.high * 2 ^ 64 + a.low };
+
+    ghost invariant = { λ a. a.low < 2 ^ 64 };
+
+    ghost inverse = { λ n. record { high = n / 2 ^ 64; low = n % 2 ^ 64 } };
+
+    ghost inverse_ok = { λ a small.
+        ap (λ h. record { high = h; low = (a.high * 2 ^ 64 + a.low) % 2 ^ 64 }) (shr_high a.high 64 a.low small)
+        ∙ ap (λ l. record { high = a.high; low = l }) (mod_low a.high 64 a.low small) };
 }
 
 impl TwoWords {

@@ -8,8 +8,7 @@ use Rattle.can_frame.specs.Parts.{Parts, IsFrame}
 use Rattle.can_code.specs.Stuffing.{stuffed}
 use Rattle.can_code.specs.Wire.{head, unstuffed, stuffed_part, tail}
 use Rattle.can_code.specs.Layout.{level_at}
-use Rattle.can_code.proofs.LayoutPlaces.{level_at-append}
-use Rattle.can_code.proofs.SentLevels.{level_at-behind}
+use Rattle.can_code.proofs.LayoutPlaces.{level_at-append, level_at-behind}
 use Rattle.can_code.proofs.WireFronts.{front_at}
 use Rattle.can_fault.specs.Counters.{ConfineParts}
 use Rattle.can_mac.specs.declared.phase.Role.{Role}

@@ -1,7 +1,7 @@
-use super::{Levels, known_frames, standard};
-use crate::{Sending, encode};
-use arrayvec::ArrayVec;
+use super::{known_frames, levels_of, levels_of_bytes, standard};
+use crate::Sending;
 use can_frame::{Frame, Id, Level};
+use std::process::Abort;
 use std::test::Fail;
 
 /// The unstuffed levels of each known frame: start of frame, arbitration field with IDE, reserved
@@ -30,40 +30,23 @@ fn known_levels(rt: HostRuntime) -> Result<(), Fail> {
     Ok(())
 }
 
-/// The levels without the stuff bits, each of which follows five equal levels.
-fn without_stuff_bits(levels: &[Level]) -> Levels {
-    let mut rest = ArrayVec::new();
-    let mut last = Level::Dominant;
-    let mut run = 0u8;
-    for level in levels {
-        let is_stuff_bit = run == 5;
-        run = if *level == last {
-            run.saturating_add(1)
-        } else {
-            1
-        };
-        last = *level;
-        if !is_stuff_bit && !rest.is_full() {
-            rest.push(last);
-        }
+/// The sender of a frame with these data tells the levels of its head, and then those of each byte, the
+/// highest bit first.
+fn sends_data(rt: &impl Abort, id: Id, head: &str) -> Result<(), Fail> {
+    let bytes = [0x00, 0xff, 0x80, 0x01, 0xaa, 0x55, 0xfe, 0x7f];
+    let frame = Frame::data(id, 8, &bytes)?;
+    let sending = Sending::new(&frame);
+    assert!(rt; sending.frame() == frame);
+    let (head, data) = (levels_of(head), levels_of_bytes(&bytes));
+    for (place, level) in head.iter().chain(data.iter()).enumerate() {
+        assert!(rt; sending.level_at(place) == *level);
     }
-    rest
+    Ok(())
 }
 
 #[test]
 fn data_bytes(rt: HostRuntime) -> Result<(), Fail> {
     let extended = Id::extended(0x1234_5678).ok_or("an identifier of 29 bits")?;
-    let bytes = [0x00, 0xff, 0x80, 0x01, 0xaa, 0x55, 0xfe, 0x7f];
-    for id in [standard(0x5a5)?, extended] {
-        let frame = Frame::data(id, 8, &bytes)?;
-        let sending = Sending::new(&frame);
-        let driven = encode(&frame);
-        let stuffed = driven.as_slice().get(..driven.len().saturating_sub(10));
-        let unstuffed = without_stuff_bits(stuffed.ok_or("a stuffed part")?);
-        assert!(rt; unstuffed.len() >= 98);
-        for (place, level) in unstuffed.iter().enumerate() {
-            assert!(rt; sending.level_at(place) == *level);
-        }
-    }
-    Ok(())
+    sends_data(&rt, standard(0x5a5)?, "0101101001010001000")?;
+    sends_data(&rt, extended, "010010001101110001010110011110000001000")
 }

@@ -10,7 +10,7 @@ use Rattle.can_code.proofs.crc.crc15.Goals as goal
 use Rattle.can_code.proofs.crc.crc15.Goals.{After-value}
 
 pub loop-octet-init : goal.loop-octet-init
-loop-octet-init c = record { so_far = c.new-run.ensures }
+loop-octet-init c = record { so_far = c.new-run.ensures.check }
 
 pub loop-octet-preserved : goal.loop-octet-preserved
 loop-octet-preserved c =
@@ -18,7 +18,7 @@ loop-octet-preserved c =
     let i = c.loop-octet.octet-index in
     let within : i < length levels / 8 = omega (arith, c.as_chunks.ensures.front_len) in
     let more = take-octet i _ levels c.as_chunks.result.0.now _ c.as_chunks.ensures.front within in
-    record { so_far = IsCrc-same more (c.push_octet.ensures (take (8 * i) levels) c.loop-octet.invariant.so_far) }
+    record { so_far = IsCrc-same more (c.push_octet.ensures.check (take (8 * i) levels) c.loop-octet.invariant.so_far) }
 
 pub loop-level-init : goal.loop-level-init
 loop-level-init c =
@@ -36,7 +36,7 @@ loop-level-preserved c =
     let level = get_or rest i Dominant in
     let more : (front ++ take i rest) ++ level ∷ [] ≡ front ++ take (i + 1) rest =
     append_assoc front (take i rest) (level ∷ []) ∙ ap (λ l. front ++ l) (sym (take_more rest i Dominant c.loop-level-test.true)) in
-    record { so_far = IsCrc-same more (c.push.ensures (front ++ take i rest) c.loop-level.invariant.so_far) }
+    record { so_far = IsCrc-same more (c.push.ensures.check (front ++ take i rest) c.loop-level.invariant.so_far) }
 
 is : (c : After-value) → IsCrc c.args.levels.now (bits_of 15 c.value.result)
 is c =

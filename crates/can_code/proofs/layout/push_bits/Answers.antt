@@ -1,21 +1,17 @@
-use Rattle.std.proofs.Common.{◌≡◌, ◌++◌, ◌-◌, [], ◌∷◌, ap, sym, ◌∙◌, arith}
-use Rattle.std.proofs.lemmas.List.{append-nil}
+use Rattle.std.proofs.Common.{◌*◌, ◌%◌, ◌^◌, ◌++◌, length, ap, ◌∙◌, arith, length-append}
+use Rattle.std.proofs.lemmas.Nat.{one_shl}
 use Rattle.can_frame.specs.Levels.{bits_of}
-use Rattle.can_code.proofs.LevelLemmas.{bits_of-zero, bits_of-pushed}
+use Rattle.can_code.proofs.LevelLemmas.{bits_of-mod, length-bits_of}
 use Rattle.can_code.proofs.layout.push_bits.Goals as goal
 
-pub loop-place-preserved : goal.loop-place-preserved
-loop-place-preserved c =
-    let items = c.loop-place.levels.items in
-    let pushed = c.push.ensures.items ∙ ap (λ t. items ++ t ∷ []) c.bit.ensures in record {
-      items = ap (λ t. t ++ bits_of (c.loop-place.place - 1) c.args.value) pushed
-          ∙ bits_of-pushed items c.loop-place.place c.args.value (omega arith) ∙ c.loop-place.invariant.items;
-      len = omega (arith, c.push.ensures.len, c.loop-place.invariant.len);
-    }
+pub returns-clause-levels : goal.returns-clause-levels
+returns-clause-levels g c =
+    let n = c.args.count in
+    let x = c.args.value in
+    c.append.ensures ∙ ap (λ t. g.B.FrameBits.levels c.args.levels.now ++ t) (ap (λ m. bits_of n (x % m)) (one_shl n 32 c.requires.width) ∙ bits_of-mod n n x (omega arith))
 
-pub returns-clause-items : goal.returns-clause-items
-returns-clause-items c =
-    let items = c.loop-place.levels.items in
-    let none : c.loop-place.place ≡ 0 = omega arith in
-    sym (append-nil items) ∙ ap (λ t. items ++ t) (sym (bits_of-zero c.args.value))
-    ∙ ap (λ k. items ++ bits_of k c.args.value) (sym none) ∙ c.loop-place.invariant.items
+pub returns-clause-len : goal.returns-clause-len
+returns-clause-len g c =
+    let n = c.args.count in
+    let y = c.args.value % (1 * 2 ^ n % 2 ^ 32) in
+    omega (arith, ap length c.append.ensures, length-append (g.B.FrameBits.levels c.args.levels.now) (bits_of n y), length-bits_of n y)

@@ -4,7 +4,7 @@ use Rattle.can_frame.specs.Levels.{bits_of}
 use Rattle.can_code.proofs.layout.push_bytes.Given as goal
 
 abbrev pub invariant-loop-byte : goal.invariant-loop-byte
-invariant-loop-byte l = record {
-  items : l.levels.items ≡ l.fn.levels.items ++ flat_map (bits_of 8) (take l.byte-index l.bytes);
-  len : length l.levels.items ≡ length l.fn.levels.items + 8 * l.byte-index;
+invariant-loop-byte g l = record {
+  levels : g.B.FrameBits.levels l.levels ≡ g.B.FrameBits.levels l.fn.levels ++ flat_map (bits_of 8) (take l.byte-index l.bytes);
+  len : length (g.B.FrameBits.levels l.levels) ≡ length (g.B.FrameBits.levels l.fn.levels) + 8 * l.byte-index;
 }

@@ -9,15 +9,15 @@ use Rattle.can_code.proofs.spelling.respell.Goals.{After-stuff_onto, After-push_
 
 pub stuff_onto-requires : goal.stuff_onto-requires
 stuff_onto-requires c =
-    let unstuffed = c.deref.ensures.0 ∙ c.head_and_crc-unstuffed.ensures.items in
+    let unstuffed = c.as_slice.ensures ∙ c.head_and_crc-unstuffed.ensures.levels in
     let most = length-stuffed-le c.args.heard.now c.head_and_crc-unstuffed.ensures.whole in
     (omega arith, omega (arith, most, ap (λ u. length (stuffed u)) unstuffed, ap length c.new-levels.ensures))
 
 -- what stands before the tail
 part : (c : After-stuff_onto) → c.stuff_onto.new.stuffed.items ≡ stuffed_with_check (heard_head c.args.heard.now)
 part c =
-    let unstuffed = c.deref.ensures.0 ∙ c.head_and_crc-unstuffed.ensures.items in
-    c.stuff_onto.ensures ∙ ap (λ t. t ++ stuffed c.deref.result.now) c.new-levels.ensures ∙ ap stuffed unstuffed
+    let unstuffed = c.as_slice.ensures ∙ c.head_and_crc-unstuffed.ensures.levels in
+    c.stuff_onto.ensures ∙ ap (λ t. t ++ stuffed c.as_slice.result.now) c.new-levels.ensures ∙ ap stuffed unstuffed
 
 pub push_tail-requires : goal.push_tail-requires
 push_tail-requires c =

@@ -1,4 +1,4 @@
-use Rattle.std.proofs.Common.{◌≡◌, ◌-◌, ◌/◌, ◌^◌, [], ◌∷◌, ◌++◌, subst, sym, ap, ◌∙◌, arith}
+use Rattle.std.proofs.Common.{◌≡◌, ◌<◌, ◌-◌, ◌/◌, ◌^◌, [], ◌∷◌, ◌++◌, subst, sym, ap, ◌∙◌, arith}
 use Rattle.std.proofs.lemmas.List.{append-nil}
 use Rattle.can_frame.specs.Levels.{bits_of}
 use Rattle.can_code.specs.Crc.{IsCrc}
@@ -14,6 +14,7 @@ loop-left-init c =
     let none : count - count ≡ 0 = omega arith in
     record {
       within = omega arith;
+      range = subst (λ r. r < 2 ^ 15) c.value.ensures.value c.value.ensures.range;
       check = λ levels is. IsCrc-same (sym (append-nil levels) ∙ ap (λ t. levels ++ t) (sym (ap (λ n. bits_of n y) none ∙ bits_of-zero y))) is;
     }
 
@@ -24,10 +25,11 @@ loop-left-preserved c =
     let y = c.args.number / 2 ^ (left - 8) in
     record {
       within = omega (arith, c.loop-left.invariant.within);
+      range = c.push_byte.ensures.range;
       check = λ levels is.
           let before = levels ++ bits_of (count - left) (c.args.number / 2 ^ left) in
           IsCrc-further levels count left 8 c.args.number c.push_byte.new.self (omega arith) c.loop-left.invariant.within
-          (subst (λ l. IsCrc (before ++ l) (bits_of 15 c.push_byte.new.self)) (bits_of-mod 8 8 y (omega arith)) (c.push_byte.ensures before (c.loop-left.invariant.check levels is)));
+          (subst (λ l. IsCrc (before ++ l) (bits_of 15 c.push_byte.new.self)) (bits_of-mod 8 8 y (omega arith)) (c.push_byte.ensures.check before (c.loop-left.invariant.check levels is)));
     }
 
 pub loop-left-2-preserved : goal.loop-left-2-preserved
@@ -38,8 +40,9 @@ loop-left-2-preserved c =
     let one : c.from_bool.result ∷ [] ≡ bits_of 1 y = ap (λ x. x ∷ []) (c.from_bool.ensures ∙ level_from-bit c.args.number (left - 1)) ∙ sym (bits_of-one y) in
     record {
       within = omega (arith, c.loop-left-2.invariant.within);
+      range = c.push.ensures.range;
       check = λ levels is.
           let before = levels ++ bits_of (count - left) (c.args.number / 2 ^ left) in
           IsCrc-further levels count left 1 c.args.number c.push.new.self (omega (arith, c.loop-left-2-test.true)) c.loop-left-2.invariant.within
-          (subst (λ l. IsCrc (before ++ l) (bits_of 15 c.push.new.self)) one (c.push.ensures before (c.loop-left-2.invariant.check levels is)));
+          (subst (λ l. IsCrc (before ++ l) (bits_of 15 c.push.new.self)) one (c.push.ensures.check before (c.loop-left-2.invariant.check levels is)));
     }

@@ -4,7 +4,7 @@ use Rattle.can_code.proofs.CheckRuns.{IsCrc-on}
 use Rattle.can_code.proofs.Register.{register}
 use Rattle.can_code.proofs.crc_run.CrcRun.push_octet.Goals as goal
 
-pub returns : goal.returns
-returns c = λ levels is.
+pub returns-clause-check : goal.returns-clause-check
+returns-clause-check c = λ levels is.
     let step = c.shift_in_octet-self-inside.ensures.step ∙ ap (λ r. register (bits_of 15 r) c.args.octet.now) c.self.view_is in
     IsCrc-on _ _ levels c.args.octet.now step is

@@ -2,8 +2,7 @@ use Rattle.std.proofs.Common.{◌≡◌, ◌<◌, ◌-◌, ◌/◌, ◌%◌, ◌
 use Rattle.can_frame.specs.Levels.{level_from}
 use Rattle.can_code.specs.Layout.{level_at}
 use Rattle.can_code.proofs.LevelLemmas.{length-bits_of}
-use Rattle.can_code.proofs.PackedLemmas.{level_from-bit}
-use Rattle.can_code.proofs.SentLevels.{level_at-bits_of}
+use Rattle.can_code.proofs.PackedLemmas.{level_at-bits_of, level_from-bit}
 use Rattle.can_code.proofs.packed_bits.PackedBitsFrameBits.level_at.Goals as goal
 
 pub overflow_sub-behind : goal.overflow_sub-behind

@@ -1,13 +1,25 @@
-use Rattle.std.proofs.Common.{◌≡◌, ap, sym, ◌∙◌}
-use Rattle.can_frame.specs.Levels.{number_from}
+use Rattle.std.proofs.Common.{◌≡◌, ◌++◌, ap, subst, sym, ◌∙◌}
+use Rattle.can_frame.specs.Parts.{IsFrame}
 use Rattle.can_code.specs.Crc.{crc_of}
 use Rattle.can_code.specs.Heard.{heard_head}
-use Rattle.can_code.specs.Wire.{head}
-use Rattle.can_code.proofs.LayoutHead.{heard_head-sent}
-use Rattle.can_code.proofs.LayoutNumbers.{number_from-whole}
+use Rattle.can_code.specs.Layout.{frame_of}
+use Rattle.can_code.specs.Wire.{unstuffed}
+use Rattle.can_code.proofs.UnstuffedLevels.{frame_of-unstuffed, unstuffed-sent}
 use Rattle.can_code.proofs.sending.Sending.new.Goals as goal
+use Rattle.can_code.proofs.sending.Sending.new.Goals.{After-head_and_crc}
+
+whole : (c : After-head_and_crc) → IsFrame c.args.frame.now
+whole c = subst (λ h. IsFrame h.frame) c.sent.ensures c.head_and_crc.ensures.whole.frame
+
+levels : (c : After-head_and_crc) → c.head_and_crc.result ≡ unstuffed c.args.frame.now
+levels c = c.head_and_crc.ensures.levels ∙ ap (λ h. heard_head h ++ crc_of (heard_head h)) c.sent.ensures ∙ unstuffed-sent c.args.frame.now
+
+-- the levels give the frame back
+back : (c : After-head_and_crc) → frame_of c.head_and_crc.result ≡ c.args.frame.now
+back c = ap frame_of (levels c) ∙ frame_of-unstuffed c.args.frame.now (whole c)
 
 pub invariant_of-result : goal.invariant_of-result
-invariant_of-result c =
-    let levels : c.deref.result.now ≡ head c.args.frame.now = c.deref.ensures.0 ∙ c.head.ensures.items ∙ ap heard_head c.sent.ensures ∙ heard_head-sent c.args.frame.now in
-    sym (number_from-whole 15 c.crc15.result c.crc15.ensures.range) ∙ ap (number_from 0) (c.crc15.ensures.computed ∙ ap crc_of levels)
+invariant_of-result c = (subst IsFrame (sym (back c)) (whole c), ap unstuffed (back c) ∙ sym (levels c))
+
+pub returns : goal.returns
+returns c = back c

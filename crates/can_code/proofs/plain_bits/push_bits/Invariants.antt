@@ -1,6 +1,6 @@
 use Rattle.std.proofs.Common.{◌≡◌, ◌++◌, ◌+◌, length}
 use Rattle.can_frame.specs.Levels.{bits_of}
-use Rattle.can_code.proofs.layout.push_bits.Given as goal
+use Rattle.can_code.proofs.plain_bits.push_bits.Given as goal
 
 -- the bits that are missing complete the number
 abbrev pub invariant-loop-place : goal.invariant-loop-place
