@@ -8,7 +8,7 @@ use Rattle.can_frame.specs.declared.level.Level.{Level}
 use Rattle.can_frame.specs.declared.level.Level.TheVariants.{Recessive}
 use Rattle.can_frame.specs.Parts.{Parts}
 use Rattle.can_frame.specs.Arbitration.{arbitration_field, Before}
-use Rattle.can_code.specs.Wire.{wire}
+use Rattle.can_wire.specs.Wire.{wire}
 use Rattle.can_bus.specs.Quiet.{AreDifferent, IsRising, ascending, line_at}
 use Rattle.can_bus.specs.Schedule.{Timed, busy_time, frames_of, Lists, AreAtOnce, IsNextStart, AreOthers, IsSchedule, over, next, schedule, track_at}
 use Rattle.can_bus.proofs.Ascending.{ascending_only}

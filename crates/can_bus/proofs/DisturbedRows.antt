@@ -9,9 +9,9 @@ use Rattle.can_frame.specs.declared.level.Level.{Level}
 use Rattle.can_frame.specs.Levels.{level_of, bits_of, opposite}
 use Rattle.can_frame.specs.Arbitration.{arbitration_field}
 use Rattle.can_frame.specs.Parts.{Parts}
-use Rattle.can_code.specs.Crc.{crc_of}
-use Rattle.can_code.specs.Wire.{head, unstuffed}
-use Rattle.can_code.specs.Layout.{frame_of, frame_len}
+use Rattle.can_wire.specs.Crc.{crc_of}
+use Rattle.can_wire.specs.Wire.{head, unstuffed}
+use Rattle.can_wire.specs.Layout.{frame_of, frame_len}
 use Rattle.can_mac.specs.State.{idle}
 use Rattle.can_mac.specs.Moves.{agrees}
 use Rattle.can_mac.specs.Machine.{mac_drives, mac_step}

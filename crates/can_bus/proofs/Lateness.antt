@@ -10,14 +10,14 @@ use Rattle.can_frame.specs.declared.level.Level.TheVariants.{Dominant, Recessive
 use Rattle.can_frame.specs.Levels.{same, opposite}
 use Rattle.can_frame.specs.Parts.{Parts, IsFrame}
 use Rattle.can_code.specs.declared.front.Place.TheVariants.{StuffBit, CrcDelimiter as delimiter_next}
-use Rattle.can_code.specs.Wire.{stuffed_part, wire, tail}
-use Rattle.can_code.specs.Layout.{level_at}
-use Rattle.can_code.specs.Stuffing.{is_stuff_place, run_after}
+use Rattle.can_wire.specs.Wire.{stuffed_part, wire, tail}
+use Rattle.can_wire.specs.Layout.{level_at}
+use Rattle.can_wire.specs.Stuffing.{is_stuff_place, run_after}
 use Rattle.can_code.specs.Front.{FrontParts, first_front, next_place, is_stuff_error, heard_level, hear_at, heard_levels}
-use Rattle.can_code.proofs.LayoutPlaces.{level_at-append}
+use Rattle.can_wire.proofs.LayoutPlaces.{level_at-append}
 use Rattle.can_code.proofs.HeardLevels.{hear_at-going, ended_or_going}
-use Rattle.can_code.proofs.StuffPlaces.{is_due-reverse}
-use Rattle.can_code.proofs.Runs.{run_after-le, run_after-ge, is_due-short, is_due-long}
+use Rattle.can_wire.proofs.StuffPlaces.{is_due-reverse}
+use Rattle.can_wire.proofs.Runs.{run_after-le, run_after-ge, is_due-short, is_due-long}
 use Rattle.can_code.proofs.WireFronts.{front_at, front_at-front, front_at-heard, front_at-going, front_at-ended, sent_stuff_bit}
 use Rattle.can_mac.specs.declared.phase.Phase.TheVariants.{StuffedPart, CrcDelimiter}
 use Rattle.can_mac.specs.declared.phase.Reading.{Reading}

@@ -9,15 +9,15 @@ use Rattle.can_frame.specs.Levels.{same, opposite}
 use Rattle.can_frame.specs.Parts.{Parts, IsFrame}
 use Rattle.can_code.specs.declared.fault.CodeFaultKind.TheVariants.{Stuff, Crc, Form}
 use Rattle.can_code.specs.declared.fault.CodeFault.{CodeFault}
-use Rattle.can_code.specs.Crc.{IsCrc}
-use Rattle.can_code.specs.Wire.{stuffed_part, tail, unstuffed}
-use Rattle.can_code.specs.Layout.{level_at, check_of, head_of, IsPart}
+use Rattle.can_wire.specs.Crc.{IsCrc}
+use Rattle.can_wire.specs.Wire.{stuffed_part, tail, unstuffed}
+use Rattle.can_wire.specs.Layout.{level_at, check_of, head_of, IsPart}
 use Rattle.can_code.specs.Front.{FrontParts, is_stuff_error, heard_level}
 use Rattle.can_code.specs.CodeFaults.{IsCodeFault}
 use Rattle.can_code.proofs.StuffedParts.{IsPart-length}
 use Rattle.can_code.proofs.FrontsOf.{IsFrontOf, IsFrontOf-part, IsFrontOf-heard_level}
 use Rattle.can_code.proofs.CodeFaultLemmas.{IsCodeFault-stuff, IsCodeFault-form, IsCodeFault-crc}
-use Rattle.can_code.proofs.LayoutPlaces.{level_at-behind}
+use Rattle.can_wire.proofs.LayoutPlaces.{level_at-behind}
 use Rattle.can_code.proofs.UnstuffedLevels.{stuffed_part-part, unstuffed-agrees}
 use Rattle.can_code.proofs.WireFronts.{front_at, front_at-front, front_at-going}
 use Rattle.can_mac.specs.State.{MacPhase}

@@ -6,7 +6,7 @@ use Rattle.std.proofs.lemmas.Bool.{cases_lt}
 use Rattle.std.proofs.lemmas.List.{get_or_past, length-append, length-map}
 use Rattle.can_frame.specs.declared.level.Level.TheVariants.{Recessive}
 use Rattle.can_frame.specs.Parts.{Parts}
-use Rattle.can_code.specs.Wire.{wire}
+use Rattle.can_wire.specs.Wire.{wire}
 use Rattle.can_mac.specs.Frames.{with_intermission}
 use Rattle.can_node.specs.Ports.{PortState, port_drives}
 use Rattle.can_node.proofs.Arrivals.{GainingPort, gaining_drives, gaining_run}

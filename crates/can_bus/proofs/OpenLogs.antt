@@ -3,7 +3,7 @@ use Rattle.std.proofs.Common.{◌≡◌, ℕ, ◌+◌, ◌<◌, ◌≤◌, ◌�
 use Rattle.std.proofs.lemmas.Bool.{cases_lt}
 use Rattle.std.proofs.lemmas.List.{append-nil}
 use Rattle.can_frame.specs.Parts.{Parts}
-use Rattle.can_code.specs.Wire.{wire, stuffed_part}
+use Rattle.can_wire.specs.Wire.{wire, stuffed_part}
 use Rattle.can_mac.specs.Frames.{with_intermission}
 use Rattle.can_mac.proofs.FrameParts.{length-wire}
 use Rattle.can_node.specs.declared.entry.Entry.{Entry}

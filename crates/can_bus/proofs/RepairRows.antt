@@ -7,10 +7,10 @@ use Rattle.can_frame.specs.declared.level.Level.TheVariants.{Dominant, Recessive
 use Rattle.can_frame.specs.Levels.{level_of, bits_of}
 use Rattle.can_frame.specs.Arbitration.{arbitration_field}
 use Rattle.can_frame.specs.Parts.{Parts}
-use Rattle.can_code.specs.Crc.{crc_of}
-use Rattle.can_code.specs.Stuffing.{stuffed}
-use Rattle.can_code.specs.Wire.{head, unstuffed, stuffed_part}
-use Rattle.can_code.specs.Layout.{frame_len}
+use Rattle.can_wire.specs.Crc.{crc_of}
+use Rattle.can_wire.specs.Stuffing.{stuffed}
+use Rattle.can_wire.specs.Wire.{head, unstuffed, stuffed_part}
+use Rattle.can_wire.specs.Layout.{frame_len}
 use Rattle.can_bus.specs.declared.hit.Hit.TheVariants.{In}
 use Rattle.can_bus.specs.RepairedLine.{lateness, first_attempts}
 

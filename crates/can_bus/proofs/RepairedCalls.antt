@@ -8,10 +8,10 @@ use Rattle.std.specs.List.{flat_map}
 use Rattle.can_frame.specs.Levels.{bits_of}
 use Rattle.can_frame.specs.Parts.{Parts}
 use Rattle.can_frame.specs.Arbitration.{arbitration_field}
-use Rattle.can_code.specs.Crc.{crc_of}
-use Rattle.can_code.specs.Stuffing.{kept}
-use Rattle.can_code.specs.Wire.{reserved, head, unstuffed, stuffed_part, wire}
-use Rattle.can_code.proofs.StuffingLemmas.{Stuffs-stuffed}
+use Rattle.can_wire.specs.Crc.{crc_of}
+use Rattle.can_wire.specs.Stuffing.{kept}
+use Rattle.can_wire.specs.Wire.{reserved, head, unstuffed, stuffed_part, wire}
+use Rattle.can_wire.proofs.StuffingLemmas.{Stuffs-stuffed}
 use Rattle.can_mac.proofs.FrameParts.{length-wire}
 use Rattle.can_bus.specs.declared.hit.Hit.{Hit}
 use Rattle.can_bus.specs.declared.hit.Hit.TheVariants.{At, In, View}

@@ -8,8 +8,8 @@ use Rattle.can_frame.specs.declared.level.Level.{Level}
 use Rattle.can_frame.specs.declared.level.Level.TheVariants.{Dominant, Recessive}
 use Rattle.can_frame.specs.Levels.{opposite}
 use Rattle.can_frame.specs.Parts.{Parts, IsFrame}
-use Rattle.can_code.specs.Wire.{wire}
-use Rattle.can_code.specs.Layout.{level_at}
+use Rattle.can_wire.specs.Wire.{wire}
+use Rattle.can_wire.specs.Layout.{level_at}
 use Rattle.can_mac.specs.Frames.{with_intermission}
 use Rattle.can_mac.proofs.FrameParts.{length-wire}
 use Rattle.can_mac.proofs.ErrorFrames.{in_flag, at_rest}

@@ -8,9 +8,9 @@ use Rattle.can_frame.specs.Levels.{bits_of}
 use Rattle.can_frame.specs.Arbitration.{arbitration_field, Before}
 use Rattle.can_frame.proofs.BeforeLemmas.{Before-differs}
 use Rattle.can_frame.specs.Parts.{Parts}
-use Rattle.can_code.specs.Crc.{crc_of}
-use Rattle.can_code.specs.Stuffing.{stuffed}
-use Rattle.can_code.specs.Wire.{head, unstuffed, stuffed_part}
+use Rattle.can_wire.specs.Crc.{crc_of}
+use Rattle.can_wire.specs.Stuffing.{stuffed}
+use Rattle.can_wire.specs.Wire.{head, unstuffed, stuffed_part}
 use Rattle.can_node.specs.Ports.{waiting}
 use Rattle.can_bus.specs.Schedule.{Timed, StartsAt, schedule, track_at}
 use Rattle.can_bus.specs.Waiting.{left_at, starts_between, ahead_of, busy_times, FindsFree}

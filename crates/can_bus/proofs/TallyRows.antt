@@ -3,9 +3,9 @@ use Rattle.std.proofs.Common.{◌≡◌, ℕ, zero, suc, ◌+◌, false, List, [
 use Rattle.can_frame.specs.Levels.{bits_of}
 use Rattle.can_frame.specs.Arbitration.{arbitration_field}
 use Rattle.can_frame.specs.Parts.{Parts}
-use Rattle.can_code.specs.Crc.{crc_of}
-use Rattle.can_code.specs.Stuffing.{stuffed}
-use Rattle.can_code.specs.Wire.{head, unstuffed, stuffed_part, wire}
+use Rattle.can_wire.specs.Crc.{crc_of}
+use Rattle.can_wire.specs.Stuffing.{stuffed}
+use Rattle.can_wire.specs.Wire.{head, unstuffed, stuffed_part, wire}
 use Rattle.can_bus.specs.declared.hit.Hit.{Hit}
 use Rattle.can_bus.specs.declared.hit.Hit.TheVariants.{In}
 use Rattle.can_bus.specs.Quiet.{span}

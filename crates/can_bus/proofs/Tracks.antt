@@ -4,7 +4,7 @@ use Rattle.std.specs.Prelude.{slice_index_or, nat_lt, nat_le, ◌&&◌}
 use Rattle.std.proofs.lemmas.Bool.{cond-true, cond-false, cases_Bool, le-leb, leb-true, leb-false, lt-leb, lt-ltb, le-ltb}
 use Rattle.can_frame.specs.declared.level.Level.{Level}
 use Rattle.can_frame.specs.declared.level.Level.TheVariants.{Recessive}
-use Rattle.can_code.specs.Wire.{wire}
+use Rattle.can_wire.specs.Wire.{wire}
 use Rattle.can_bus.specs.Schedule.{Timed, Lists, IsSchedule, over, next, track_at}
 use Rattle.can_bus.proofs.Members.{stands-none, stands-here, stands-later, stands-cases}
 use Rattle.can_bus.proofs.Schedules.{starts-free}

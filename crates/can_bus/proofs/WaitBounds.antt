@@ -8,7 +8,7 @@ use Rattle.std.proofs.lemmas.List.Sums.{sum_by-cons, sum_by-append, sum_by-le}
 use Rattle.std.proofs.lemmas.Option.{slice_get-get_or}
 use Rattle.can_frame.specs.Parts.{Parts, IsFrame}
 use Rattle.can_frame.specs.Arbitration.{arbitration_field, Before}
-use Rattle.can_code.proofs.WireLemmas.{length-wire-le}
+use Rattle.can_wire.proofs.WireLemmas.{length-wire-le}
 use Rattle.can_node.specs.Ports.{goes_before}
 use Rattle.can_node.proofs.WaitingLemmas.{Wins-goes_before}
 use Rattle.can_bus.specs.Schedule.{Timed, busy_time, Lists, AreOthers, IsSchedule, over, next, IsScheduleOf, StartsAt}

@@ -3,7 +3,7 @@ use Rattle.std.specs.Prelude.{slice_index_or}
 use Rattle.std.proofs.Common.{◌≡◌, ℕ, zero, suc, ◌+◌, ◌<◌, ◌≤◌, List, [], ◌∷◌, length, map, take, refl, ap, sym, ◌∙◌, subst, arith}
 use Rattle.std.proofs.lemmas.List.{length-take-le}
 use Rattle.can_frame.specs.declared.level.Level.{Level}
-use Rattle.can_code.specs.Layout.{level_at}
+use Rattle.can_wire.specs.Layout.{level_at}
 use Rattle.can_bus.specs.Wired.{over, wired}
 use Rattle.can_bus.specs.Run.{rest_after}
 use Rattle.can_bus.proofs.Reduction.{Gives, Leads, Joins}

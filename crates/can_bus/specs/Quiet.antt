@@ -7,7 +7,7 @@ use Rattle.can_frame.specs.declared.level.Level.{Level}
 use Rattle.can_frame.specs.declared.level.Level.TheVariants.{Recessive}
 use Rattle.can_frame.specs.Parts.{Parts}
 use Rattle.can_frame.specs.Arbitration.{arbitration_field, Before}
-use Rattle.can_code.specs.Wire.{wire}
+use Rattle.can_wire.specs.Wire.{wire}
 use Rattle.can_mac.specs.declared.phase.Phase.TheVariants.{Idle}
 use Rattle.can_mac.specs.Frames.{with_intermission}
 use Rattle.can_node.specs.declared.entry.Entry.{Entry}

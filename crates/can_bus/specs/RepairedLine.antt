@@ -8,8 +8,8 @@ use Rattle.can_frame.specs.Parts.{Parts}
 use Rattle.can_frame.specs.IdleRow.{idle_row}
 use Rattle.can_code.specs.declared.fault.CodeFaultKind.{CodeFaultKind}
 use Rattle.can_code.specs.declared.fault.CodeFaultKind.TheVariants.{Crc}
-use Rattle.can_code.specs.Wire.{wire}
-use Rattle.can_code.specs.Layout.{level_at}
+use Rattle.can_wire.specs.Wire.{wire}
+use Rattle.can_wire.specs.Layout.{level_at}
 use Rattle.can_code.specs.Front.{FrontParts, first_front, next_place, hear_at, heard_levels}
 use Rattle.can_bus.specs.declared.hit.Hit.{Hit}
 use Rattle.can_bus.specs.Repair.{frame_of_attempt, hit_of}

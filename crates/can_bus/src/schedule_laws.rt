@@ -4,7 +4,7 @@ ghost use Rattle.std.specs.List.Sorted.{IsPermutation};
 ghost use Rattle.can_frame.specs.declared.level.Level.TheVariants.{Recessive};
 ghost use Rattle.can_frame.specs.Arbitration.{Before, arbitration_field};
 ghost use Rattle.can_frame.specs.Parts.{IsFrame};
-ghost use Rattle.can_code.specs.Wire.{wire};
+ghost use Rattle.can_wire.specs.Wire.{wire};
 ghost use Rattle.can_bus.specs.Quiet.{AreDifferent, ascending, line_at};
 ghost use Rattle.can_bus.specs.Schedule.{AreAtOnce, IsScheduleOf, Lists, StartsAt, Timed, busy_time, frames_of, schedule, track_at};
 ghost use Rattle.can_bus.specs.Waiting.{FindsFree, ahead_of, busy_times, left_at, starts_between};

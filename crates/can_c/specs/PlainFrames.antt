@@ -3,7 +3,7 @@
 use Rattle.std.specs.Prelude.{ℕ, ◌-◌, ◌==◌, nat_lt, if◌then◌else◌, Option, Some, None, ◌++◌, length, take, replicate}
 use Rattle.can_frame.specs.Ident.{Ident, ident_count}
 use Rattle.can_frame.specs.Parts.{Parts, byte_count}
-use Rattle.can_code.specs.Heard.{HeardParts}
+use Rattle.can_wire.specs.Heard.{HeardParts}
 use Rattle.can_c.specs.declared.plain.PlainFrame.{PlainFrame}
 use Rattle.can_c.specs.declared.plain.PlainHeard.{PlainHeard}
 use Rattle.can_c.specs.declared.status.Status.{Status}

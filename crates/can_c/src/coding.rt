@@ -2,8 +2,8 @@ ghost use Rattle.std.specs.Prelude.{◌≡◌, ◌≢◌, ◌≤◌, ◌++◌, t
 ghost use Rattle.can_frame.specs.declared.level.Level.{Level as Bit};
 ghost use Rattle.can_code.specs.CodeFaults.{IsCodeFault};
 ghost use Rattle.can_code.specs.declared.fault.CodeFault.{CodeFault as Fault};
-ghost use Rattle.can_code.specs.Heard.{HeardParts, Spells};
-ghost use Rattle.can_code.specs.Wire.{driven};
+ghost use Rattle.can_wire.specs.Heard.{HeardParts, Spells};
+ghost use Rattle.can_wire.specs.Wire.{driven};
 ghost use Rattle.can_c.specs.Calls.{encode_status};
 ghost use Rattle.can_c.specs.Codes.{are_levels as are_levels_of, level_code as level_code_of, levels_of_codes};
 ghost use Rattle.can_c.specs.PlainFrames.{frame_in, plain_heard, refusal};

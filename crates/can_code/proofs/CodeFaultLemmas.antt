@@ -7,10 +7,10 @@ use Rattle.can_frame.specs.declared.level.Level.TheVariants.{Dominant, Recessive
 use Rattle.can_frame.specs.Levels.{same}
 use Rattle.can_code.specs.declared.fault.CodeFaultKind.TheVariants.{Short, NoStartOfFrame, Stuff, Crc, Form}
 use Rattle.can_code.specs.declared.front.Place.TheVariants.{CrcDelimiter}
-use Rattle.can_code.specs.Crc.{IsCrc}
-use Rattle.can_code.specs.Wire.{tail}
-use Rattle.can_code.specs.Heard.{HeardParts, ack_slot, heard_head, Spells, IsStuffedPart, IsShape, BeginsShape, IsSound}
-use Rattle.can_code.specs.Layout.{heard_of, check_of, head_of, IsPart}
+use Rattle.can_wire.specs.Crc.{IsCrc}
+use Rattle.can_wire.specs.Wire.{tail}
+use Rattle.can_wire.specs.Heard.{HeardParts, ack_slot, heard_head, Spells, IsStuffedPart, IsShape, BeginsShape, IsSound}
+use Rattle.can_wire.specs.Layout.{heard_of, check_of, head_of, IsPart}
 use Rattle.can_code.specs.CodeFaults.{IsLongestSound, IsCodeFault}
 use Rattle.can_code.specs.Front.{FrontParts, first_front, next_place}
 use Rattle.can_code.proofs.FrontLemmas.{next_place-ended, next_place-first_front}

@@ -12,11 +12,11 @@ use Rattle.can_code.specs.declared.fault.CodeFaultKind.TheVariants.{Short, Stuff
 use Rattle.can_code.specs.contracts.front.Place.{the_type}
 use Rattle.can_code.specs.declared.front.Place.{Place}
 use Rattle.can_code.specs.declared.front.Place.TheVariants.{StuffBit, Bit, CrcDelimiter}
-use Rattle.can_code.specs.Crc.{IsCrc}
-use Rattle.can_code.specs.Stuffing.{Stuffs}
-use Rattle.can_code.specs.Wire.{tail}
-use Rattle.can_code.specs.Heard.{HeardParts, ack_slot, Spells}
-use Rattle.can_code.specs.Layout.{heard_of, check_of, head_of, IsPart}
+use Rattle.can_wire.specs.Crc.{IsCrc}
+use Rattle.can_wire.specs.Stuffing.{Stuffs}
+use Rattle.can_wire.specs.Wire.{tail}
+use Rattle.can_wire.specs.Heard.{HeardParts, ack_slot, Spells}
+use Rattle.can_wire.specs.Layout.{heard_of, check_of, head_of, IsPart}
 use Rattle.can_code.specs.CodeFaults.{IsCodeFault}
 use Rattle.can_code.specs.Front.{FrontParts, first_front, next_place, is_stuff_error, heard_level, hear_at, heard_levels}
 use Rattle.can_code.specs.Decoder.{DecoderParts, StandsBehind, HasHeard}

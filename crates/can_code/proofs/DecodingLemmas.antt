@@ -7,9 +7,9 @@ use Rattle.can_frame.specs.Levels.{is_recessive}
 use Rattle.can_code.specs.declared.fault.CodeFaultKind.{CodeFaultKind}
 use Rattle.can_code.specs.declared.fault.CodeFaultKind.TheVariants.{Short, NoStartOfFrame}
 use Rattle.can_code.specs.declared.fault.CodeFault.{CodeFault}
-use Rattle.can_code.specs.Heard.{HeardParts, Spells}
+use Rattle.can_wire.specs.Heard.{HeardParts, Spells}
 use Rattle.can_code.specs.CodeFaults.{IsCodeFault}
-use Rattle.can_code.proofs.SpellingFronts.{Spells-apart}
+use Rattle.can_wire.proofs.SpellingFronts.{Spells-apart}
 use Rattle.can_code.proofs.CodeFaultLemmas.{IsCodeFault-none, IsCodeFault-no_start}
 
 -- there is no first level

@@ -9,14 +9,14 @@ use Rattle.can_frame.specs.Levels.{is_recessive}
 use Rattle.can_code.specs.declared.fault.CodeFaultKind.{CodeFaultKind}
 use Rattle.can_code.specs.declared.fault.CodeFaultKind.TheVariants.{Short, Stuff, Crc, Form}
 use Rattle.can_code.specs.declared.front.Place.TheVariants.{CrcDelimiter}
-use Rattle.can_code.specs.Crc.{IsCrc, crc_of}
-use Rattle.can_code.specs.Wire.{tail}
-use Rattle.can_code.specs.Heard.{HeardParts, ack_slot, Spells}
-use Rattle.can_code.specs.Layout.{check_of, head_of, heard_of}
+use Rattle.can_wire.specs.Crc.{IsCrc, crc_of}
+use Rattle.can_wire.specs.Wire.{tail}
+use Rattle.can_wire.specs.Heard.{HeardParts, ack_slot, Spells}
+use Rattle.can_wire.specs.Layout.{check_of, head_of, heard_of}
 use Rattle.can_code.specs.CodeFaults.{IsCodeFault}
 use Rattle.can_code.specs.Front.{FrontParts, first_front, next_place, is_stuff_error, heard_level}
 use Rattle.can_code.specs.Decoder.{DecoderParts, HasHeard, StandsBehind}
-use Rattle.can_code.proofs.DivisionLemmas.{IsCrc-crc_of, IsCrc-only}
+use Rattle.can_wire.proofs.DivisionLemmas.{IsCrc-crc_of, IsCrc-only}
 use Rattle.can_code.proofs.HeardLevels.{ended_or_going}
 use Rattle.can_code.proofs.TailLemmas.{ack_slot_heard, recessive_heard, dominant_breaks}
 use Rattle.can_code.proofs.DecoderLemmas.{HasHeard-begin, HasHeard-stuff, HasHeard-crc, HasHeard-level, HasHeard-form, HasHeard-behind, HasHeard-last, HasHeard-short}

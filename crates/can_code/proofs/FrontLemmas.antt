@@ -7,14 +7,14 @@ use Rattle.can_frame.specs.declared.level.Level.{Level}
 use Rattle.can_frame.specs.declared.level.Level.TheVariants.{Dominant}
 use Rattle.can_frame.specs.Levels.{is_recessive}
 use Rattle.can_code.specs.declared.front.Place.TheVariants.{StuffBit, Bit, CrcDelimiter}
-use Rattle.can_code.specs.Stuffing.{run_after}
-use Rattle.can_code.specs.Layout.{level_at, extended_of, data_place, frame_len, IsComplete}
+use Rattle.can_wire.specs.Stuffing.{run_after}
+use Rattle.can_wire.specs.Layout.{level_at, extended_of, data_place, frame_len, IsComplete}
 use Rattle.can_code.specs.Reading.{TellsLength}
 use Rattle.can_code.specs.Front.{FrontParts, first_front, has_check, next_place, IsFront}
-use Rattle.can_code.proofs.LayoutPlaces.{level_at-append}
-use Rattle.can_code.proofs.LayoutLengths.{frame_len_le, frame_len_ge, frame_len-grows, frame_len-append, frame_len_least}
+use Rattle.can_wire.proofs.LayoutPlaces.{level_at-append}
+use Rattle.can_wire.proofs.LayoutLengths.{frame_len_le, frame_len_ge, frame_len-grows, frame_len-append, frame_len_least}
 use Rattle.can_code.proofs.ReadingLemmas.{data_behind_ide}
-use Rattle.can_code.proofs.Runs.{run_after-le, run_after-ge}
+use Rattle.can_wire.proofs.Runs.{run_after-le, run_after-ge}
 
 -- the length that levels tell decides whether they have their whole check sequence
 pub has_check-told : (u : List Level) (told : Option ℕ) → TellsLength u told → has_check u ≡ option_eq eqb told (Some (length u))

@@ -7,13 +7,13 @@ use Rattle.can_frame.specs.declared.level.Level.{Level}
 use Rattle.can_frame.specs.declared.level.Level.TheVariants.{Dominant, Recessive}
 use Rattle.can_frame.specs.Levels.{same, opposite}
 use Rattle.can_code.specs.declared.front.Place.TheVariants.{CrcDelimiter}
-use Rattle.can_code.specs.Stuffing.{is_stuff_place, run_after, stuffed_from, Stuffs}
-use Rattle.can_code.specs.Layout.{frame_len, IsComplete, IsPart}
+use Rattle.can_wire.specs.Stuffing.{is_stuff_place, run_after, stuffed_from, Stuffs}
+use Rattle.can_wire.specs.Layout.{frame_len, IsComplete, IsPart}
 use Rattle.can_code.specs.Front.{FrontParts, first_front, has_check, next_place, is_stuff_error, heard_level, IsFront}
-use Rattle.can_code.proofs.StuffPlaces.{is_due, is_stuff_place-append, Inserts, Inserts-nil, Inserts-plain, Inserts-stuffed, Stuffs-from, nonempty_from_due}
-use Rattle.can_code.proofs.Runs.{EndsInRun, EndsInRun-nil, EndsInRun-push, is_due-short, is_due-long, last_before, run_after-le, same_opposite}
-use Rattle.can_code.proofs.StuffingLemmas.{Stuffed, Stuffed-more}
-use Rattle.can_code.proofs.LayoutLengths.{IsComplete-completed}
+use Rattle.can_wire.proofs.StuffPlaces.{is_due, is_stuff_place-append, Inserts, Inserts-nil, Inserts-plain, Inserts-stuffed, Stuffs-from, nonempty_from_due}
+use Rattle.can_wire.proofs.Runs.{EndsInRun, EndsInRun-nil, EndsInRun-push, is_due-short, is_due-long, last_before, run_after-le, same_opposite}
+use Rattle.can_wire.proofs.StuffingLemmas.{Stuffed, Stuffed-more}
+use Rattle.can_wire.proofs.LayoutLengths.{IsComplete-completed}
 use Rattle.can_code.proofs.FrontLemmas.{IsFront-first_front, IsFront-start, IsFront-complete, IsFront-stuff_bit, IsFront-bit, next_place-ended, next_place-partial, next_place-complete}
 use Rattle.can_code.proofs.StuffedParts.{IsPart-once, front_of}
 use Rattle.can_frame.proofs.LevelTests.{same-Decides}

@@ -11,7 +11,7 @@ use Rattle.can_code.specs.declared.front.Place.TheVariants.{StuffBit, Bit, CrcDe
 use Rattle.can_code.specs.Front.{FrontParts, has_check, next_place, is_stuff_error, heard_level, hear_at, heard_levels}
 use Rattle.can_code.proofs.StuffedParts.{IsPart-once}
 use Rattle.can_code.proofs.FrontsOf.{IsFrontOf, IsFrontOf-part, IsFrontOf-heard_level, IsFrontOf-no_part, IsFrontOf-no_part_repeated}
-use Rattle.can_code.specs.Layout.{IsPart}
+use Rattle.can_wire.specs.Layout.{IsPart}
 
 -- a level that is no wrong stuff bit, where the stuffed part has not ended
 pub hear_at-going : (f : FrontParts) (x : Level) (p : Place) → p ≢ CrcDelimiter → is_stuff_error f x ≡ false → hear_at p f x ≡ Some (heard_level f x)

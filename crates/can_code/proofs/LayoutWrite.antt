@@ -8,13 +8,13 @@ use Rattle.can_frame.specs.declared.level.Level.TheVariants.{Dominant, Recessive
 use Rattle.can_frame.specs.Levels.{is_recessive, level_from, bits_of, number_from}
 use Rattle.can_frame.specs.Ident.{IsIdent}
 use Rattle.can_frame.specs.Parts.{IsFrame, byte_count}
-use Rattle.can_code.specs.Heard.{IsHeard, heard_head}
-use Rattle.can_code.specs.Layout.{level_at, levels_at, extended_of, rtr_place, data_place, remote_of, dlc_of, frame_len, IsComplete, identifier_of, bytes_from, frame_of, heard_of, check_of, head_of}
-use Rattle.can_code.proofs.LayoutNumbers.{number_from-lt, number_from-append, number_from-upper, bits_of-number_from}
-use Rattle.can_code.proofs.LayoutPlaces.{length-filled, next_level, next_levels}
-use Rattle.can_code.proofs.LayoutBytes.{length-bytes_from, bytes_from-small, levels-bytes_from}
-use Rattle.can_code.proofs.LayoutLengths.{frame_len_ge}
-use Rattle.can_code.proofs.LayoutRead.{head_of-append}
+use Rattle.can_wire.specs.Heard.{IsHeard, heard_head}
+use Rattle.can_wire.specs.Layout.{level_at, levels_at, extended_of, rtr_place, data_place, remote_of, dlc_of, frame_len, IsComplete, identifier_of, bytes_from, frame_of, heard_of, check_of, head_of}
+use Rattle.can_wire.proofs.LayoutNumbers.{number_from-lt, number_from-append, number_from-upper, bits_of-number_from}
+use Rattle.can_wire.proofs.LayoutPlaces.{length-filled, next_level, next_levels}
+use Rattle.can_wire.proofs.LayoutBytes.{length-bytes_from, bytes_from-small, levels-bytes_from}
+use Rattle.can_wire.proofs.LayoutLengths.{frame_len_ge}
+use Rattle.can_wire.proofs.LayoutRead.{head_of-append}
 use Rattle.can_frame.proofs.LevelTests.{level_told, level_dominant, level_recessive}
 use Rattle.can_code.proofs.ReadingLemmas.{levels_at-lt}
 

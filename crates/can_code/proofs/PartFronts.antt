@@ -7,12 +7,12 @@ use Rattle.can_frame.specs.declared.level.Level.{Level}
 use Rattle.can_frame.specs.declared.level.Level.TheVariants.{Dominant, Recessive}
 use Rattle.can_frame.specs.Levels.{same, opposite}
 use Rattle.can_code.specs.declared.front.Place.TheVariants.{CrcDelimiter}
-use Rattle.can_code.specs.Stuffing.{kept, Stuffs}
-use Rattle.can_code.specs.Layout.{level_at, IsComplete, IsPart}
+use Rattle.can_wire.specs.Stuffing.{kept, Stuffs}
+use Rattle.can_wire.specs.Layout.{level_at, IsComplete, IsPart}
 use Rattle.can_code.specs.Front.{FrontParts, first_front, next_place, is_stuff_error, heard_level, heard_levels}
-use Rattle.can_code.proofs.StuffPlaces.{is_due, Inserts, kept-within, kept-append}
-use Rattle.can_code.proofs.Runs.{is_due-long}
-use Rattle.can_code.proofs.StuffedFronts.{Stuffs-goes_on}
+use Rattle.can_wire.proofs.StuffPlaces.{is_due, Inserts, kept-within, kept-append}
+use Rattle.can_wire.proofs.Runs.{is_due-long}
+use Rattle.can_wire.proofs.StuffedFronts.{Stuffs-goes_on}
 use Rattle.can_code.proofs.StuffedParts.{IsPart-length, IsPart-start}
 use Rattle.can_code.proofs.FrontLemmas.{next_place-complete}
 use Rattle.can_code.proofs.FrontsOf.{IsFrontOf, IsFrontOf-first_front, IsFrontOf-stuffs, IsFrontOf-heard_level}

@@ -7,10 +7,10 @@ use Rattle.can_frame.specs.declared.level.Level.{Level}
 use Rattle.can_frame.specs.Levels.{number_from}
 use Rattle.can_frame.specs.Parts.{byte_count}
 use Rattle.can_frame.specs.Ident.{Ident}
-use Rattle.can_code.specs.Layout.{levels_at, extended_of, remote_of, dlc_of, data_place, frame_len, IsComplete, identifier_of, bytes_from}
+use Rattle.can_wire.specs.Layout.{levels_at, extended_of, remote_of, dlc_of, data_place, frame_len, IsComplete, identifier_of, bytes_from}
 use Rattle.can_code.specs.Reading.{HasData, bytes_of}
-use Rattle.can_code.proofs.LayoutNumbers.{number_from-lt, number_from-append, number_from-split}
-use Rattle.can_code.proofs.LayoutPlaces.{length-filled}
+use Rattle.can_wire.proofs.LayoutNumbers.{number_from-lt, number_from-append, number_from-split}
+use Rattle.can_wire.proofs.LayoutPlaces.{length-filled}
 
 -- the IDE bit stands before the data
 pub data_behind_ide : (extended : Bool) → 19 ≤ data_place extended

@@ -4,14 +4,14 @@ use Rattle.std.proofs.lemmas.List.{append-nil, take-append-drop, take-take, take
 use Rattle.can_frame.specs.declared.level.Level.{Level}
 use Rattle.can_frame.specs.declared.level.Level.TheVariants.{Recessive}
 use Rattle.can_code.specs.declared.front.Place.TheVariants.{CrcDelimiter}
-use Rattle.can_code.specs.Crc.{IsCrc}
-use Rattle.can_code.specs.Wire.{tail}
-use Rattle.can_code.specs.Heard.{HeardParts, ack_slot, heard_head, IsStuffedPart, IsShape, IsSound}
-use Rattle.can_code.specs.Layout.{heard_of, check_of, head_of, IsPart}
+use Rattle.can_wire.specs.Crc.{IsCrc}
+use Rattle.can_wire.specs.Wire.{tail}
+use Rattle.can_wire.specs.Heard.{HeardParts, ack_slot, heard_head, IsStuffedPart, IsShape, IsSound}
+use Rattle.can_wire.specs.Layout.{heard_of, check_of, head_of, IsPart}
 use Rattle.can_code.specs.CodeFaults.{IsLongestSound}
 use Rattle.can_code.specs.Front.{FrontParts, next_place}
 use Rattle.can_code.proofs.StuffedParts.{IsPart-from, IsStuffedPart-from, IsPart-once, IsPart-length}
-use Rattle.can_code.proofs.LayoutRead.{check_of-append, head_of-append}
+use Rattle.can_wire.proofs.LayoutRead.{check_of-append, head_of-append}
 use Rattle.can_code.proofs.FrontsOf.{IsFrontOf, IsFrontOf-completes, IsFrontOf-no_part}
 
 -- a front of a sound list is sound

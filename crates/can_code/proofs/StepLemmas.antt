@@ -12,17 +12,17 @@ use mir.Val.{bool_byte}
 use Rattle.can_frame.specs.declared.level.Level.{Level}
 use Rattle.can_frame.specs.declared.level.Level.TheVariants.{Dominant, Recessive}
 use Rattle.can_frame.specs.Levels.{bits_of, is_recessive, level_of, same}
-use Rattle.can_code.specs.Stuffing.{run_after}
-use Rattle.can_code.specs.Layout.{frame_len}
+use Rattle.can_wire.specs.Stuffing.{run_after}
+use Rattle.can_wire.specs.Layout.{frame_len}
 use Rattle.can_code.specs.Front.{FrontParts, next_place, is_stuff_error, heard_level, hear_at, heard_levels}
 use Rattle.can_code.specs.Digits.{HearsDigits, bit_of, digit_of, levels_up}
 use Rattle.can_code.specs.Steps.{begun, step_on, steps_on}
 use Rattle.can_code.specs.Unstuffing.{HasRoom, Unstuffs}
 use Rattle.can_code.specs.declared.steps.Step.{Step}
 use Rattle.can_code.specs.declared.unstuffing.UnstuffedRun.{UnstuffedRun}
-use Rattle.can_code.proofs.LevelLemmas.{bits_of-zero, length-bits_of}
-use Rattle.can_code.proofs.PackedLemmas.{bits_of-next, bits_of-moved, joined-small, next-small}
-use Rattle.can_code.proofs.Runs.{run_after-le, run_after-ge}
+use Rattle.can_wire.proofs.LevelLemmas.{bits_of-zero, length-bits_of}
+use Rattle.can_wire.proofs.PackedLemmas.{bits_of-next, bits_of-moved, joined-small, next-small}
+use Rattle.can_wire.proofs.Runs.{run_after-le, run_after-ge}
 use Rattle.can_code.proofs.HeardLevels.{hear_at-going}
 use Rattle.can_code.proofs.DecoderLemmas.{heard_levels-append}
 use Rattle.can_code.proofs.UnstuffingLemmas.{HearsDigits-begin, next_place-room}

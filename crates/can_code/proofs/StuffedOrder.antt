@@ -7,7 +7,7 @@ use Rattle.can_frame.specs.declared.level.Level.TheVariants.{Dominant, Recessive
 use Rattle.can_frame.specs.Levels.{opposite}
 use Rattle.can_frame.specs.Arbitration.{Before}
 use Rattle.can_frame.proofs.BeforeLemmas.{Before-cons}
-use Rattle.can_code.specs.Stuffing.{run_after, stuffed_from, stuffed}
+use Rattle.can_wire.specs.Stuffing.{run_after, stuffed_from, stuffed}
 
 -- the first levels differ, whether stuff bits follow them or not
 first_differs : (p q : Bool) (a b c d : List Level) → Before (cond p (Dominant ∷ a) (Dominant ∷ b)) (cond q (Recessive ∷ c) (Recessive ∷ d))

@@ -3,14 +3,14 @@ use Rattle.std.proofs.Common.{◌≡◌, ℕ, suc, ◌+◌, ◌≤◌, Bool, tru
 use Rattle.std.proofs.lemmas.List.{take-append-le, take-append-drop, take_at}
 use Rattle.can_frame.specs.declared.level.Level.{Level}
 use Rattle.can_frame.specs.declared.level.Level.TheVariants.{Recessive}
-use Rattle.can_code.specs.Crc.{IsCrc}
-use Rattle.can_code.specs.Stuffing.{is_stuff_place, kept, Stuffs}
-use Rattle.can_code.specs.Wire.{tail}
-use Rattle.can_code.specs.Heard.{HeardParts, ack_slot, heard_head, Spells, IsStuffedPart}
-use Rattle.can_code.specs.Layout.{level_at, heard_of, check_of, IsPart}
-use Rattle.can_code.proofs.LayoutLengths.{frame_len_ge}
-use Rattle.can_code.proofs.StuffedFronts.{Stuffs-once}
-use Rattle.can_code.proofs.LayoutRead.{heard_head-complete}
+use Rattle.can_wire.specs.Crc.{IsCrc}
+use Rattle.can_wire.specs.Stuffing.{is_stuff_place, kept, Stuffs}
+use Rattle.can_wire.specs.Wire.{tail}
+use Rattle.can_wire.specs.Heard.{HeardParts, ack_slot, heard_head, Spells, IsStuffedPart}
+use Rattle.can_wire.specs.Layout.{level_at, heard_of, check_of, IsPart}
+use Rattle.can_wire.proofs.LayoutLengths.{frame_len_ge}
+use Rattle.can_wire.proofs.StuffedFronts.{Stuffs-once}
+use Rattle.can_wire.proofs.LayoutRead.{heard_head-complete}
 use Rattle.can_code.proofs.LayoutWrite.{IsHeard-heard_of, heard_head-heard_of, length-check_of}
 
 length-kept-le : (b : List Level) (p : ℕ) (xs : List Level) → length (kept b p xs) ≤ length xs

@@ -4,8 +4,8 @@ use Rattle.std.proofs.lemmas.List.{take_more, length-take-le, get_or_at}
 use Rattle.can_frame.specs.declared.level.Level.{Level}
 use Rattle.can_frame.specs.declared.level.Level.TheVariants.{Dominant, Recessive}
 use Rattle.can_frame.specs.Levels.{is_recessive}
-use Rattle.can_code.specs.Wire.{tail}
-use Rattle.can_code.specs.Heard.{HeardParts, ack_slot}
+use Rattle.can_wire.specs.Wire.{tail}
+use Rattle.can_wire.specs.Heard.{HeardParts, ack_slot}
 
 -- each level of a tail but the ACK slot and the last is recessive
 tail_at : (a l : Level) (k : ℕ) → k < 10 → k ≢ 1 → k ≢ 9 → get_or (tail a l) k Dominant ≡ Recessive

@@ -1,15 +1,15 @@
 -- The unstuffed levels of a frame that is sent: they are complete, and they give the frame back.
 use Rattle.std.proofs.Common.{◌≡◌, ◌≤◌, ◌++◌, ap, length, arith}
 use Rattle.can_frame.specs.Parts.{Parts, IsFrame}
-use Rattle.can_code.specs.Crc.{IsCrc, crc_of}
-use Rattle.can_code.specs.Heard.{heard_head, sent}
-use Rattle.can_code.specs.Wire.{head, unstuffed, stuffed_part}
-use Rattle.can_code.specs.Layout.{IsComplete, frame_of, check_of, head_of, IsPart}
-use Rattle.can_code.proofs.DivisionLemmas.{length-crc_of, IsCrc-crc_of}
-use Rattle.can_code.proofs.StuffingLemmas.{Stuffs-stuffed}
-use Rattle.can_code.proofs.LayoutHead.{heard_head-sent}
-use Rattle.can_code.proofs.LayoutLengths.{frame_len_ge}
-use Rattle.can_code.proofs.LayoutRead.{frame_of-head, head-complete, check_of-append, head_of-append}
+use Rattle.can_wire.specs.Crc.{IsCrc, crc_of}
+use Rattle.can_wire.specs.Heard.{heard_head, sent}
+use Rattle.can_wire.specs.Wire.{head, unstuffed, stuffed_part}
+use Rattle.can_wire.specs.Layout.{IsComplete, frame_of, check_of, head_of, IsPart}
+use Rattle.can_wire.proofs.DivisionLemmas.{length-crc_of, IsCrc-crc_of}
+use Rattle.can_wire.proofs.StuffingLemmas.{Stuffs-stuffed}
+use Rattle.can_wire.proofs.LayoutHead.{heard_head-sent}
+use Rattle.can_wire.proofs.LayoutLengths.{frame_len_ge}
+use Rattle.can_wire.proofs.LayoutRead.{frame_of-head, head-complete, check_of-append, head_of-append}
 
 module _ (f : Parts) where
   -- they are those of what is heard where all is sent as it should be

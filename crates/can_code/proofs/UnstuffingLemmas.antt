@@ -10,20 +10,20 @@ use Rattle.can_frame.specs.declared.level.Level.{Level}
 use Rattle.can_frame.specs.declared.level.Level.TheVariants.{Dominant, Recessive}
 use Rattle.can_frame.specs.Levels.{bits_of, is_recessive, same}
 use Rattle.can_code.specs.declared.front.Place.TheVariants.{CrcDelimiter}
-use Rattle.can_code.specs.Stuffing.{run_after}
-use Rattle.can_code.specs.Wire.{tail}
-use Rattle.can_code.specs.Heard.{ack_slot}
-use Rattle.can_code.specs.Layout.{extended_of, data_place, frame_len}
+use Rattle.can_wire.specs.Stuffing.{run_after}
+use Rattle.can_wire.specs.Wire.{tail}
+use Rattle.can_wire.specs.Heard.{ack_slot}
+use Rattle.can_wire.specs.Layout.{extended_of, data_place, frame_len}
 use Rattle.can_code.specs.Reading.{TellsLength}
 use Rattle.can_code.specs.Front.{FrontParts, IsFront, next_place, is_stuff_error, heard_level, heard_levels}
 use Rattle.can_code.specs.Decoder.{DecoderParts, HasHeard}
 use Rattle.can_code.specs.Digits.{DecodesDigits, HearsDigits, HearsTail, digit_of}
 use Rattle.can_code.specs.Unstuffing.{HasRoom}
 use mir.Val.{bool_byte}
-use Rattle.can_code.proofs.LevelLemmas.{bits_of-zero}
-use Rattle.can_code.proofs.PackedLemmas.{bits_of-next}
-use Rattle.can_code.proofs.LayoutPlaces.{level_at-append}
-use Rattle.can_code.proofs.LayoutLengths.{frame_len_ge, frame_len_le, frame_len-append, frame_len_least}
+use Rattle.can_wire.proofs.LevelLemmas.{bits_of-zero}
+use Rattle.can_wire.proofs.PackedLemmas.{bits_of-next}
+use Rattle.can_wire.proofs.LayoutPlaces.{level_at-append}
+use Rattle.can_wire.proofs.LayoutLengths.{frame_len_ge, frame_len_le, frame_len-append, frame_len_least}
 use Rattle.can_code.proofs.ReadingLemmas.{data_behind_ide}
 use Rattle.can_code.proofs.FrontLemmas.{next_place-ended}
 use Rattle.can_code.proofs.HeardLevels.{hear_at-going}

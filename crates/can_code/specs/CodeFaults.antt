@@ -4,7 +4,7 @@ use Rattle.can_frame.specs.declared.level.Level.{Level}
 use Rattle.can_code.specs.declared.fault.CodeFaultKind.{CodeFaultKind}
 use Rattle.can_code.specs.declared.fault.CodeFaultKind.TheVariants.{Short, NoStartOfFrame, Stuff, Crc, Form}
 use Rattle.can_code.specs.declared.fault.CodeFault.{CodeFault}
-use Rattle.can_code.specs.Heard.{HeardParts, Spells, IsStuffedPart, BeginsShape, IsSound}
+use Rattle.can_wire.specs.Heard.{HeardParts, Spells, IsStuffedPart, BeginsShape, IsSound}
 
 -- p is the length of the longest front of the levels that is sound
 pub record IsLongestSound (levels : List Level) (p : ℕ) : Type 0 where

@@ -3,10 +3,10 @@ use Rattle.std.specs.Prelude.{◌≡◌, ◌≢◌, ◌<◌, Bool, Some, List, [
 use Rattle.can_frame.specs.declared.level.Level.{Level}
 use Rattle.can_frame.specs.declared.level.Level.TheVariants.{Dominant}
 use Rattle.can_code.specs.declared.front.Place.TheVariants.{CrcDelimiter}
-use Rattle.can_code.specs.Crc.{IsCrc}
-use Rattle.can_code.specs.Wire.{tail}
-use Rattle.can_code.specs.Heard.{ack_slot}
-use Rattle.can_code.specs.Layout.{check_of, head_of}
+use Rattle.can_wire.specs.Crc.{IsCrc}
+use Rattle.can_wire.specs.Wire.{tail}
+use Rattle.can_wire.specs.Heard.{ack_slot}
+use Rattle.can_wire.specs.Layout.{check_of, head_of}
 use Rattle.can_code.specs.Front.{FrontParts, first_front, next_place, heard_levels}
 
 -- the front of the frame, and the levels that came behind its stuffed part

@@ -3,8 +3,8 @@ use Rattle.std.specs.Prelude.{ℕ, zero, suc, ◌≡◌, ◌/◌, ◌%◌, Bool,
 use Rattle.can_frame.specs.declared.level.Level.{Level}
 use Rattle.can_frame.specs.declared.level.Level.TheVariants.{Dominant, Recessive}
 use Rattle.can_frame.specs.Levels.{level_of}
-use Rattle.can_code.specs.Wire.{tail}
-use Rattle.can_code.specs.Heard.{ack_slot}
+use Rattle.can_wire.specs.Wire.{tail}
+use Rattle.can_wire.specs.Heard.{ack_slot}
 use Rattle.can_code.specs.Front.{FrontParts, heard_levels}
 use Rattle.can_code.specs.Decoder.{DecoderParts, HasHeard}
 

@@ -6,8 +6,8 @@ use Rattle.can_frame.specs.declared.level.Level.TheVariants.{Dominant}
 use Rattle.can_frame.specs.Levels.{same}
 use Rattle.can_code.specs.declared.front.Place.{Place}
 use Rattle.can_code.specs.declared.front.Place.TheVariants.{StuffBit, Bit, CrcDelimiter}
-use Rattle.can_code.specs.Stuffing.{run_after}
-use Rattle.can_code.specs.Layout.{frame_len}
+use Rattle.can_wire.specs.Stuffing.{run_after}
+use Rattle.can_wire.specs.Layout.{frame_len}
 
 -- what has been heard of a frame: its unstuffed levels, the start of frame first; the last level, stuff
 -- bits among them; and how many levels up to it, in a row, equal it

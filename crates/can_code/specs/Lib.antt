@@ -1,9 +1,9 @@
 -- To believe: what public calls and laws promise is said in these words
-pub mod Crc
-pub mod Stuffing
-pub mod Wire
-pub mod Heard
-pub mod Layout
+pub use Rattle.can_wire.specs.Crc
+pub use Rattle.can_wire.specs.Stuffing
+pub use Rattle.can_wire.specs.Wire
+pub use Rattle.can_wire.specs.Heard
+pub use Rattle.can_wire.specs.Layout
 pub mod Front
 pub mod Sending
 pub mod CodeFaults

@@ -2,7 +2,7 @@
 use Rattle.std.specs.Prelude.{ℕ, ◌≡◌, ◌+◌, ◌*◌, ◌<◌, ◌≤◌, Option, Some, None, List, length, drop}
 use Rattle.can_frame.specs.declared.level.Level.{Level}
 use Rattle.can_frame.specs.Parts.{byte_count}
-use Rattle.can_code.specs.Layout.{extended_of, remote_of, dlc_of, data_place, bytes_from, frame_len}
+use Rattle.can_wire.specs.Layout.{extended_of, remote_of, dlc_of, data_place, bytes_from, frame_len}
 
 -- everything before the data
 abbrev pub HasControl : List Level → Type 0

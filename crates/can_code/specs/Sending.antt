@@ -2,8 +2,8 @@
 use Rattle.std.specs.Prelude.{ℕ}
 use Rattle.can_frame.specs.declared.level.Level.{Level}
 use Rattle.can_frame.specs.Parts.{Parts}
-use Rattle.can_code.specs.Layout.{level_at}
-pub use Rattle.can_code.specs.Wire.{unstuffed}
+use Rattle.can_wire.specs.Layout.{level_at}
+pub use Rattle.can_wire.specs.Wire.{unstuffed}
 
 -- the unstuffed level at a place; places past the end count as dominant
 abbrev pub sent_level : Parts → ℕ → Level

@@ -2,7 +2,7 @@
 use Rattle.std.specs.Prelude.{ℕ, ◌+◌, ◌-◌, ◌*◌, ◌==◌, Option, Some, None, option_and_then, if◌then◌else◌, List, [], ◌∷◌}
 use Rattle.can_frame.specs.declared.level.Level.{Level}
 use Rattle.can_frame.specs.Levels.{same}
-use Rattle.can_code.specs.Stuffing.{run_after}
+use Rattle.can_wire.specs.Stuffing.{run_after}
 use Rattle.can_code.specs.Digits.{bit_of}
 use Rattle.can_code.specs.declared.steps.Step.{Step}
 

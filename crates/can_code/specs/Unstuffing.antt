@@ -3,7 +3,7 @@
 use Rattle.std.specs.Prelude.{ℕ, ◌^◌, ◌≤◌, ◌<◌, List, ◌++◌, length, take}
 use Rattle.can_frame.specs.declared.level.Level.{Level}
 use Rattle.can_frame.specs.Levels.{bits_of}
-use Rattle.can_code.specs.Layout.{frame_len}
+use Rattle.can_wire.specs.Layout.{frame_len}
 use Rattle.can_code.specs.Digits.{HearsDigits}
 use Rattle.can_code.specs.declared.unstuffing.UnstuffedRun.{UnstuffedRun}
 

@@ -1,7 +1,7 @@
 ghost use Rattle.std.specs.Prelude.{◌≡◌, ◌+◌, ◌<◌, ◌≤◌, ◌∷◌, ◌++◌, [], Option, Some, None, Result, Ok, List, length, take, IfErr};
 ghost use Rattle.can_frame.specs.declared.level.Level.{Level as Bit};
 ghost use Rattle.can_frame.specs.declared.level.Level.TheVariants.{Dominant};
-ghost use Rattle.can_code.specs.Heard.{HeardParts, Spells};
+ghost use Rattle.can_wire.specs.Heard.{HeardParts, Spells};
 ghost use Rattle.can_code.specs.CodeFaults.{IsCodeFault};
 ghost use Rattle.can_code.specs.Decoder.{HasHeard};
 ghost use Rattle.can_code.specs.Digits.{DecodesDigits, HearsTail};
@@ -9,10 +9,9 @@ ghost use Rattle.can_code.specs.Front.{next_place};
 
 use crate::digits::level_of;
 use crate::fault::CodeFaultKind;
-use crate::frame_bits::FrameBits;
 use crate::front::{Front, Place};
-use crate::heard::Heard;
 use can_frame::Level;
+use can_wire::{FrameBits, Heard};
 use std::marker::Model;
 
 /// Where the ACK slot stands in the ten levels behind the stuffed part: behind the CRC delimiter.
@@ -38,8 +37,8 @@ pub struct Decoder<B: FrameBits> {
 impl<B: FrameBits> Model for Decoder<B> {
     ghost use Rattle.std.specs.Prelude.{◌<◌, take};
     ghost use Rattle.can_frame.specs.declared.level.Level.TheVariants.{Recessive};
-    ghost use Rattle.can_code.specs.Wire.{tail};
-    ghost use Rattle.can_code.specs.Heard.{ack_slot};
+    ghost use Rattle.can_wire.specs.Wire.{tail};
+    ghost use Rattle.can_wire.specs.Heard.{ack_slot};
     ghost use Rattle.can_code.specs.Decoder.{DecoderParts};
 
     ghost Value = { DecoderParts };

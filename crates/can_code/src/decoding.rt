@@ -1,13 +1,12 @@
 ghost use Rattle.std.specs.Prelude.{◌≡◌, ◌≤◌, ◌++◌, List, length, take, IfOk, IfErr};
 ghost use Rattle.can_frame.specs.declared.level.Level.{Level as Bit};
-ghost use Rattle.can_code.specs.Heard.{HeardParts, Spells};
+ghost use Rattle.can_wire.specs.Heard.{HeardParts, Spells};
 ghost use Rattle.can_code.specs.CodeFaults.{IsCodeFault};
 
 use crate::decoder::Decoder;
 use crate::fault::{CodeFault, CodeFaultKind};
-use crate::heard::Heard;
-use crate::packed_bits::PackedBits;
 use can_frame::Level;
+use can_wire::{Heard, PackedBits};
 
 /// The frame at the front of the levels as it is heard, and how many levels it has. (Bosch CAN 2.0
 /// part B, sections 3.2.1 and 6)

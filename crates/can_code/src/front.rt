@@ -1,16 +1,14 @@
 ghost use Rattle.std.specs.Prelude.{◌≡◌, ◌≢◌, ◌<◌, ◌≤◌, ◌↔◌, length, take, IsTrue, IsErr, OnOk, OnErr};
-ghost use Rattle.can_code.specs.Crc.{IsCrc};
-ghost use Rattle.can_code.specs.Layout.{check_of, extended_of, frame_of, head_of, heard_of};
+ghost use Rattle.can_wire.specs.Crc.{IsCrc};
+ghost use Rattle.can_wire.specs.Layout.{check_of, extended_of, frame_of, head_of, heard_of};
 ghost use Rattle.can_code.specs.Digits.{HearsDigits};
 ghost use Rattle.can_code.specs.Front.{IsFront, first_front, heard_level, is_stuff_error, next_place as next_place_of};
 
-use crate::frame_bits::FrameBits;
-use crate::heard::Heard;
-use crate::places::ends_dlc;
 use crate::reading::{frame, frame_len, heard, is_extended};
-use crate::stuffing::{LONGEST_RUN, run_after};
 use crate::unstuffing::{room_behind, unstuff};
 use can_frame::{Frame, Level};
+use can_wire::places::ends_dlc;
+use can_wire::{FrameBits, Heard, LONGEST_RUN, run_after};
 use std::marker::Model;
 use thiserror::Error;
 

@@ -2,16 +2,15 @@ ghost use Rattle.std.specs.Prelude.{◌≡◌, ◌+◌, ◌<◌, ◌≤◌, leng
 ghost use Rattle.can_frame.specs.declared.level.Level.TheVariants.{Dominant, Recessive};
 ghost use Rattle.can_frame.specs.Levels.{number_from};
 ghost use Rattle.can_frame.specs.Parts.{byte_count as byte_count_of};
-ghost use Rattle.can_code.specs.Layout.{dlc_of, extended_of, frame_of, heard_of, identifier_of, level_at, remote_of};
+ghost use Rattle.can_wire.specs.Layout.{dlc_of, extended_of, frame_of, heard_of, identifier_of, level_at, remote_of};
 ghost use Rattle.can_code.specs.Reading.{HasControl, HasData, TellsLength, bytes_of};
 
-use crate::frame_bits::FrameBits;
-use crate::heard::Heard;
-use crate::places::{
-    EXTENSION_BITS, EXTENSION_PLACE, IDE_PLACE, R1_PLACE, RTR_TO_DATA, SRR_PLACE, rtr_place,
-};
 use arrayvec::ArrayVec;
 use can_frame::{Frame, Id, Level};
+use can_wire::places::{
+    EXTENSION_BITS, EXTENSION_PLACE, IDE_PLACE, R1_PLACE, RTR_TO_DATA, SRR_PLACE, rtr_place,
+};
+use can_wire::{FrameBits, Heard};
 
 /// How many unstuffed levels the frame has that begins with these, if they tell it. It stands apart, as it is
 /// asked once or twice a frame.

@@ -2,12 +2,9 @@ ghost use Rattle.std.specs.Prelude.{◌≡◌};
 ghost use Rattle.can_frame.specs.Parts.{IsFrame};
 ghost use Rattle.can_code.specs.Sending.{sent_level};
 
-use crate::frame_bits::FrameBits;
-use crate::heard::Heard;
-use crate::layout::head_and_crc;
-use crate::packed_bits::PackedBits;
 use crate::reading::frame;
 use can_frame::{Frame, Level};
+use can_wire::{FrameBits, Heard, PackedBits, head_and_crc};
 use std::marker::Model;
 
 /// A frame that is being sent: it tells each of its unstuffed levels by place. They are worked out once, and
@@ -21,8 +18,8 @@ impl Model for Sending {
     ghost use Rattle.std.specs.Prelude.{◌≡◌};
     ghost use Rattle.std.proofs.Common.{ap, sym};
     ghost use Rattle.can_frame.specs.Parts.{Parts, IsFrame};
-    ghost use Rattle.can_code.specs.Layout.{frame_of};
-    ghost use Rattle.can_code.specs.Wire.{unstuffed};
+    ghost use Rattle.can_wire.specs.Layout.{frame_of};
+    ghost use Rattle.can_wire.specs.Wire.{unstuffed};
 
     ghost Value = { Parts };
 

@@ -5,8 +5,8 @@ ghost use Rattle.can_code.specs.Unstuffing.{HasRoom, Unstuffs};
 
 use crate::digits::{BLOCK, level_of, levels_of};
 use crate::steps::{STEP_LEVELS, take_step};
-use crate::stuffing::{LONGEST_RUN, run_after};
 use can_frame::Level;
+use can_wire::{LONGEST_RUN, run_after};
 
 /// How many unstuffed levels tell the length of a standard frame: all that stand before its data.
 const STANDARD_HEADER: usize = 19;

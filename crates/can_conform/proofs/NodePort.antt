@@ -1,6 +1,6 @@
 -- What a contract sees of the reference's port.
-use Rattle.can_code.specs.declared.packed_bits.PackedBits.{PackedBits}
-use Rattle.can_code.specs.contracts.packed_bits.PackedBitsFrameBits.TheImpl as packed_bits
+use Rattle.can_wire.specs.declared.packed_bits.PackedBits.{PackedBits}
+use Rattle.can_wire.specs.contracts.packed_bits.PackedBitsFrameBits.TheImpl as packed_bits
 use Rattle.can_node.specs.declared.node.Node.{Node}
 use Rattle.can_node.specs.Ports.{PortState}
 

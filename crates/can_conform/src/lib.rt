@@ -37,8 +37,6 @@ mod meeting;
 mod moment;
 mod script;
 mod standing;
-#[cfg(test)]
-mod tests;
 mod timed;
 mod transcript;
 

@@ -5,11 +5,11 @@ use Rattle.can_frame.specs.declared.level.Level.{Level}
 use Rattle.can_frame.specs.declared.level.Level.TheVariants.{Dominant, Recessive}
 use Rattle.can_code.specs.declared.fault.CodeFault.{CodeFault}
 use Rattle.can_code.specs.declared.fault.CodeFaultKind.{CodeFaultKind}
-use Rattle.can_code.specs.Heard.{HeardParts, heard_head, ack_slot, Spells}
-use Rattle.can_code.specs.Wire.{tail}
+use Rattle.can_wire.specs.Heard.{HeardParts, heard_head, ack_slot, Spells}
+use Rattle.can_wire.specs.Wire.{tail}
 use Rattle.can_code.specs.CodeFaults.{IsCodeFault}
 use Rattle.can_code.proofs.StuffedParts.{Spells-part, IsPart-from, IsPart-start}
-use Rattle.can_code.proofs.SpellingFronts.{Spells-apart}
+use Rattle.can_wire.proofs.SpellingFronts.{Spells-apart}
 use Rattle.can_code.proofs.OneCodeFault.{IsCodeFault-one}
 use Rattle.can_code.proofs.FrameOrFault.{frame_or_fault}
 use Rattle.can_decode.specs.Decoded.{Finds, SkipsToIdle}

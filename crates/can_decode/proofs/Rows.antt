@@ -8,12 +8,12 @@ use Rattle.std.proofs.lemmas.Bool.{and_parts}
 use Rattle.std.proofs.lemmas.Fmt.{decimal_digit}
 use Rattle.std.proofs.lemmas.List.{append-nil}
 use Rattle.can_code.specs.declared.fault.CodeFaultKind.TheVariants.{Stuff}
-use Rattle.can_code.specs.Crc.{crc_of}
-use Rattle.can_code.specs.Stuffing.{stuffed}
-use Rattle.can_code.specs.Heard.{HeardParts, Spells, heard_head, sent, spelling}
-use Rattle.can_code.specs.Layout.{frame_len}
+use Rattle.can_wire.specs.Crc.{crc_of}
+use Rattle.can_wire.specs.Stuffing.{stuffed}
+use Rattle.can_wire.specs.Heard.{HeardParts, Spells, heard_head, sent, spelling}
+use Rattle.can_wire.specs.Layout.{frame_len}
 use Rattle.can_code.specs.Decoder.{HasHeard}
-use Rattle.can_code.proofs.SpellingLemmas.{Spells-spelling}
+use Rattle.can_wire.proofs.SpellingLemmas.{Spells-spelling}
 use Rattle.can_code.proofs.DecoderLemmas.{HasHeard-stuff}
 use Rattle.can_stream.proofs.KnownFrame.{frame_001, frame_001-whole, text_001}
 use Rattle.can_decode.specs.TraceText.{IsTraceText, is_trace_byte, levels_in}

@@ -7,7 +7,7 @@ use Rattle.can_frame.specs.Levels.{is_recessive}
 use Rattle.std.specs.List.{AllByRecursion}
 use Rattle.can_code.specs.declared.fault.CodeFaultKind.{CodeFaultKind}
 use Rattle.can_code.specs.declared.fault.CodeFaultKind.TheVariants.{Short, NoStartOfFrame, Stuff, Crc, Form}
-use Rattle.can_code.specs.Heard.{HeardParts, Spells}
+use Rattle.can_wire.specs.Heard.{HeardParts, Spells}
 use Rattle.can_code.specs.CodeFaults.{IsCodeFault}
 use Rattle.can_code.specs.Decoder.{DecoderParts, HasHeard}
 use Rattle.can_decode.specs.Decoded.{Finds, SkipsToIdle, is_closed}

@@ -9,7 +9,7 @@ use Rattle.can_frame.specs.Levels.{is_recessive}
 use Rattle.can_frame.specs.Text.{frame_text}
 use Rattle.can_code.specs.declared.fault.CodeFaultKind.{CodeFaultKind}
 use Rattle.can_code.specs.declared.fault.CodeFaultKind.TheVariants.{Short, NoStartOfFrame, Stuff, Crc, Form}
-use Rattle.can_code.specs.Heard.{HeardParts, Spells}
+use Rattle.can_wire.specs.Heard.{HeardParts, Spells}
 use Rattle.can_code.specs.CodeFaults.{IsCodeFault}
 use Rattle.can_decode.specs.TraceText.{IsTraceText, IsFirstBadTraceByte, levels_in}
 use Rattle.can_decode.specs.declared.finding.Finding.{Finding}

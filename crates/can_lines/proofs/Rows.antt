@@ -3,9 +3,9 @@ use Rattle.std.proofs.Common.{◌++◌, refl, sym, ap, arith}
 use Rattle.std.specs.Prelude.{codes}
 use Rattle.can_frame.specs.Levels.{bits_of}
 use Rattle.can_frame.specs.Arbitration.{arbitration_field}
-use Rattle.can_code.specs.Crc.{crc_of}
-use Rattle.can_code.specs.Stuffing.{stuffed}
-use Rattle.can_code.specs.Wire.{head, unstuffed, stuffed_part, driven}
+use Rattle.can_wire.specs.Crc.{crc_of}
+use Rattle.can_wire.specs.Stuffing.{stuffed}
+use Rattle.can_wire.specs.Wire.{head, unstuffed, stuffed_part, driven}
 use Rattle.can_stream.proofs.KnownFrame.{frame_001, frame_001-whole, text_001}
 use Rattle.can_lines.specs.Checked.{IsVerdict, mark}
 use Rattle.can_lines.specs.declared.vector.Verdict.TheVariants.{Agrees}

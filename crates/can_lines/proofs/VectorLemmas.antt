@@ -9,7 +9,7 @@ use Rattle.can_frame.specs.declared.level.Level.{Level}
 use Rattle.can_frame.specs.Parts.{Parts, IsFrame}
 use Rattle.can_frame.specs.Text.{frame_text}
 use Rattle.can_frame.specs.declared.text.TextFault.{TextFault}
-use Rattle.can_code.specs.Wire.{driven}
+use Rattle.can_wire.specs.Wire.{driven}
 use Rattle.can_lines.specs.Checked.{mark, Compares, IsBadLevelByte, IsBadVectorLine, IsFirstBadDigit, IsFramePart, IsLevels, IsMarked, IsVerdict}
 use Rattle.can_lines.specs.declared.vector.Verdict.{Verdict}
 use Rattle.can_lines.proofs.DigitLemmas.{IsFirstBadDigit-only, IsLevels-good}

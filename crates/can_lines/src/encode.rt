@@ -8,7 +8,7 @@ ghost use Rattle.can_lines.specs.Coded.{coded_line, EncodesAll, EncodesEnded, En
 ghost use Rattle.can_lines.specs.Answering.{Answers, FailsToAnswer, Encodes};
 ghost use Rattle.can_stream.specs.Faults.{is_err_by, is_read, is_write};
 
-use can_code::encode;
+use can_wire::encode;
 use can_frame::Frame;
 use can_stream::{LineReader, Outbox, Sink, Source, TraceFault, write_digits};
 

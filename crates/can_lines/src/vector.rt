@@ -7,7 +7,7 @@ ghost use Rattle.can_stream.specs.Digits.{digit_of};
 ghost use Rattle.can_lines.specs.Checked.{mark, pass, Compares, IsBadAs, IsBadLevelByte, IsBadVectorLine, IsCommonFront, IsFirstBadDigit, IsFramePart, IsLevels, IsVerdict};
 
 use arrayvec::ArrayVec;
-use can_code::encode;
+use can_wire::encode;
 use can_frame::{Frame, Level, TextFault, TextFaultKind};
 
 /// What a line of a frame's text and levels comes to.

@@ -6,10 +6,10 @@ use Rattle.std.proofs.lemmas.List.{length-drop, take-append-drop}
 use Rattle.can_frame.specs.declared.level.Level.{Level}
 use Rattle.can_frame.specs.declared.level.Level.TheVariants.{Dominant}
 use Rattle.can_frame.specs.Parts.{Parts}
-use Rattle.can_code.specs.Crc.{Multiple}
-use Rattle.can_code.specs.Layout.{level_at, frame_len, head_of, check_of, IsPart}
+use Rattle.can_wire.specs.Crc.{Multiple}
+use Rattle.can_wire.specs.Layout.{level_at, frame_len, head_of, check_of, IsPart}
 use Rattle.can_code.specs.Front.{FrontParts, first_front}
-use Rattle.can_code.proofs.LayoutLengths.{frame_len_ge}
+use Rattle.can_wire.proofs.LayoutLengths.{frame_len_ge}
 use Rattle.can_code.proofs.PartFronts.{front_made, part-going, part-no_error, part-next, part-ended, part-unstuffed}
 use Rattle.can_code.proofs.StuffedParts.{IsPart-length}
 use Rattle.can_mac.specs.declared.phase.Overloads.{Overloads}

@@ -3,7 +3,7 @@ use Rattle.std.proofs.Common.{◌≡◌, ℕ, ◌+◌, ◌<◌, ◌≤◌, Optio
 use Rattle.std.proofs.Math.Dec.{ltb}
 use Rattle.std.proofs.lemmas.Bool.{cond_both}
 use Rattle.can_frame.specs.Parts.{Parts}
-use Rattle.can_code.specs.Layout.{level_at}
+use Rattle.can_wire.specs.Layout.{level_at}
 use Rattle.can_mac.specs.declared.event.Event.TheVariants.{Lost}
 use Rattle.can_mac.specs.declared.phase.Role.TheVariants.{Receiver, Sender}
 use Rattle.can_mac.specs.State.{MacState}

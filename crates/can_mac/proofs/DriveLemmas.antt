@@ -1,7 +1,7 @@
 -- How much of a frame a controller holds.
 use Rattle.std.proofs.Common.{◌≡◌, ◌≤◌, length, subst, arith}
 use Rattle.can_code.specs.Front.{FrontParts}
-use Rattle.can_code.proofs.LayoutLengths.{frame_len_le}
+use Rattle.can_wire.proofs.LayoutLengths.{frame_len_le}
 use Rattle.can_mac.specs.declared.phase.Phase.TheVariants.{StuffedPart}
 use Rattle.can_mac.specs.State.{MacState, IsMac, IsOpen, IsPhase}
 

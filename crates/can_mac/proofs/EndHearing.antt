@@ -5,11 +5,11 @@ use Rattle.can_frame.specs.declared.level.Level.{Level}
 use Rattle.can_frame.specs.declared.level.Level.TheVariants.{Dominant, Recessive}
 use Rattle.can_frame.specs.Levels.{is_recessive}
 use Rattle.can_frame.specs.Parts.{Parts}
-use Rattle.can_code.specs.Crc.{IsCrc}
-use Rattle.can_code.specs.Stuffing.{Stuffs}
-use Rattle.can_code.specs.Wire.{wire, tail}
-use Rattle.can_code.specs.Heard.{ack_slot, Spells}
-use Rattle.can_code.specs.Layout.{frame_of, heard_of, check_of, head_of, IsPart}
+use Rattle.can_wire.specs.Crc.{IsCrc}
+use Rattle.can_wire.specs.Stuffing.{Stuffs}
+use Rattle.can_wire.specs.Wire.{wire, tail}
+use Rattle.can_wire.specs.Heard.{ack_slot, Spells}
+use Rattle.can_wire.specs.Layout.{frame_of, heard_of, check_of, head_of, IsPart}
 use Rattle.can_code.proofs.LayoutWrite.{IsHeard-heard_of, heard_head-heard_of, head_of-heard_head}
 use Rattle.can_mac.specs.declared.phase.Role.{Role}
 use Rattle.can_mac.specs.declared.phase.Role.TheVariants.{Receiver, Sender}

@@ -5,10 +5,10 @@ use Rattle.std.proofs.lemmas.Bool.{cond-true, cond-false, eq-eqb, ne_eqb, cases_
 use Rattle.can_frame.specs.declared.level.Level.{Level}
 use Rattle.can_frame.specs.declared.level.Level.TheVariants.{Dominant, Recessive}
 use Rattle.can_frame.specs.Parts.{Parts, IsFrame}
-use Rattle.can_code.specs.Stuffing.{stuffed}
-use Rattle.can_code.specs.Wire.{head, unstuffed, stuffed_part, tail}
-use Rattle.can_code.specs.Layout.{level_at}
-use Rattle.can_code.proofs.LayoutPlaces.{level_at-append, level_at-behind}
+use Rattle.can_wire.specs.Stuffing.{stuffed}
+use Rattle.can_wire.specs.Wire.{head, unstuffed, stuffed_part, tail}
+use Rattle.can_wire.specs.Layout.{level_at}
+use Rattle.can_wire.proofs.LayoutPlaces.{level_at-append, level_at-behind}
 use Rattle.can_code.proofs.WireFronts.{front_at}
 use Rattle.can_fault.specs.Counters.{ConfineParts}
 use Rattle.can_mac.specs.declared.phase.Role.{Role}

@@ -6,8 +6,8 @@ use Rattle.std.specs.Prelude.{slice_index_or}
 use Rattle.can_frame.specs.declared.level.Level.{Level}
 use Rattle.can_frame.specs.declared.level.Level.TheVariants.{Dominant, Recessive}
 use Rattle.can_frame.specs.Parts.{Parts}
-use Rattle.can_code.specs.Wire.{tail}
-use Rattle.can_code.specs.Layout.{level_at}
+use Rattle.can_wire.specs.Wire.{tail}
+use Rattle.can_wire.specs.Layout.{level_at}
 use Rattle.can_fault.specs.declared.cause.Cause.{Cause}
 use Rattle.can_fault.specs.declared.cause.Cause.TheVariants.{FrameSent, FrameReceived}
 use Rattle.can_fault.specs.Counters.{ConfineParts, changed, counted, is_bus_off, is_passive, rec_after_reception}

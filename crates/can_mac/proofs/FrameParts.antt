@@ -7,11 +7,11 @@ use Rattle.can_frame.specs.declared.level.Level.{Level}
 use Rattle.can_frame.specs.declared.level.Level.TheVariants.{Dominant, Recessive}
 use Rattle.can_frame.specs.Levels.{same}
 use Rattle.can_frame.specs.Parts.{Parts, IsFrame}
-use Rattle.can_code.specs.Wire.{stuffed_part, wire, tail, unstuffed}
-use Rattle.can_code.specs.Layout.{level_at, rtr_place}
+use Rattle.can_wire.specs.Wire.{stuffed_part, wire, tail, unstuffed}
+use Rattle.can_wire.specs.Layout.{level_at, rtr_place}
 use Rattle.can_code.specs.Sending.{sent_level}
 use Rattle.can_code.specs.Front.{FrontParts, first_front, is_stuff_error, heard_level}
-use Rattle.can_code.proofs.LayoutPlaces.{level_at-append, level_at-behind}
+use Rattle.can_wire.proofs.LayoutPlaces.{level_at-append, level_at-behind}
 use Rattle.can_code.proofs.UnstuffedLevels.{unstuffed-agrees, frame_of-unstuffed}
 use Rattle.can_code.proofs.WireFronts.{front_at, front_at-heard, front_at-going, front_at-ended, front_at-unstuffed}
 use Rattle.can_fault.specs.Counters.{ConfineParts}

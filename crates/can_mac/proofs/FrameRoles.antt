@@ -8,9 +8,9 @@ use Rattle.can_frame.specs.declared.level.Level.TheVariants.{Dominant, Recessive
 use Rattle.can_frame.specs.Levels.{same}
 use Rattle.can_frame.specs.Arbitration.{arbitration_field, Before}
 use Rattle.can_frame.specs.Parts.{Parts, IsFrame}
-use Rattle.can_code.specs.Stuffing.{stuffed}
-use Rattle.can_code.specs.Wire.{head, unstuffed, stuffed_part}
-use Rattle.can_code.specs.Layout.{level_at, rtr_place}
+use Rattle.can_wire.specs.Stuffing.{stuffed}
+use Rattle.can_wire.specs.Wire.{head, unstuffed, stuffed_part}
+use Rattle.can_wire.specs.Layout.{level_at, rtr_place}
 use Rattle.can_code.specs.Sending.{sent_level}
 use Rattle.can_code.specs.Front.{first_front}
 use Rattle.can_code.proofs.WireFronts.{front_at, front_at-heard, front_at-same, sent_next, sent_bit}

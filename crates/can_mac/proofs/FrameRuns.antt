@@ -2,8 +2,8 @@
 use Rattle.std.proofs.Common.{◌≡◌, ℕ, zero, suc, ◌+◌, ◌<◌, ◌≤◌, Option, Some, None, length, refl, sym, ◌∙◌, ap, arith}
 use Rattle.can_frame.specs.declared.level.Level.TheVariants.{Dominant}
 use Rattle.can_frame.specs.Parts.{Parts, IsFrame}
-use Rattle.can_code.specs.Wire.{stuffed_part, wire}
-use Rattle.can_code.specs.Layout.{level_at}
+use Rattle.can_wire.specs.Wire.{stuffed_part, wire}
+use Rattle.can_wire.specs.Layout.{level_at}
 use Rattle.can_code.specs.Front.{first_front}
 use Rattle.can_code.proofs.WireFronts.{front_at-first}
 use Rattle.can_fault.specs.Counters.{ConfineParts}

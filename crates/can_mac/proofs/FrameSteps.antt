@@ -5,8 +5,8 @@ use Rattle.std.proofs.Math.Dec.{ltb}
 use Rattle.std.proofs.lemmas.Bool.{cond-true, cond-false, lt-ltb, le-ltb, cases_lt}
 use Rattle.can_frame.specs.declared.level.Level.{Level}
 use Rattle.can_frame.specs.Parts.{Parts, IsFrame}
-use Rattle.can_code.specs.Wire.{stuffed_part, wire, unstuffed}
-use Rattle.can_code.specs.Layout.{level_at}
+use Rattle.can_wire.specs.Wire.{stuffed_part, wire, unstuffed}
+use Rattle.can_wire.specs.Layout.{level_at}
 use Rattle.can_code.specs.Front.{FrontParts, heard_level}
 use Rattle.can_code.proofs.StuffedParts.{IsPart-length}
 use Rattle.can_code.proofs.UnstuffedLevels.{stuffed_part-part}

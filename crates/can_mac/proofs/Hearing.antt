@@ -5,8 +5,8 @@ use Rattle.can_frame.specs.declared.level.Level.{Level}
 use Rattle.can_frame.specs.declared.level.Level.TheVariants.{Dominant, Recessive}
 use Rattle.can_frame.specs.Parts.{Parts, IsFrame}
 use Rattle.can_code.specs.declared.front.Place.TheVariants.{CrcDelimiter as ended}
-use Rattle.can_code.specs.Wire.{unstuffed, stuffed_part, wire}
-use Rattle.can_code.specs.Heard.{HeardParts, Spells}
+use Rattle.can_wire.specs.Wire.{unstuffed, stuffed_part, wire}
+use Rattle.can_wire.specs.Heard.{HeardParts, Spells}
 use Rattle.can_code.specs.Front.{FrontParts, next_place}
 use Rattle.can_code.proofs.FrontsOf.{IsFrontOf}
 use Rattle.can_code.proofs.WireFronts.{front_at}
@@ -18,7 +18,7 @@ use Rattle.can_mac.specs.declared.phase.Reading.{Reading}
 use Rattle.can_mac.specs.declared.phase.Phase.TheVariants.{Joining, Idle, StuffedPart, CrcDelimiter, AckSlot, AckDelimiter, EndOfFrame, ErrorFlag, PassiveFlag, OverloadFlag, AfterFlag, Delimiter, Intermission, Suspend, BusOff}
 use Rattle.can_mac.specs.State.{MacPhase}
 use Rattle.can_mac.specs.Moves.{MacMove, reading_of}
-use Rattle.can_code.specs.Layout.{IsPart}
+use Rattle.can_wire.specs.Layout.{IsPart}
 
 -- the levels end in this stretch
 abbrev pub EndsIn : List Level → List Level → Type 0

@@ -22,7 +22,7 @@ use Rattle.can_mac.specs.Moves.{MacMove, flag, errs_by, begins_frame, in_arbitra
 use Rattle.can_mac.proofs.Hearing.{IsOwnFront, HearsPart, HeardPart, HeardSlot, HeardEnd, Accepts, to_slot, to_end, Knows, KnowsAfter}
 use Rattle.can_mac.proofs.PartHearing.{OwnFront-first, OwnFront-stuff_bit, OwnFront-bit, HearsPart-first, HearsPart-more}
 use Rattle.can_mac.proofs.EndHearing.{HeardPart-more, HeardSlot-more, EndsSpelled-received, EndsIn-sent}
-use Rattle.can_code.specs.Stuffing.{run_after}
+use Rattle.can_wire.specs.Stuffing.{run_after}
 
 -- either of two moves
 either : {v w : MacMove} {levels : List Level} (b : Bool) → KnowsAfter v levels → KnowsAfter w levels → KnowsAfter (cond b v w) levels

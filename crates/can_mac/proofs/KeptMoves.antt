@@ -7,7 +7,7 @@ use Rattle.can_frame.specs.declared.level.Level.{Level}
 use Rattle.can_frame.specs.declared.level.Level.TheVariants.{Dominant, Recessive}
 use Rattle.can_frame.specs.Levels.{same, is_recessive}
 use Rattle.can_frame.specs.Parts.{Parts, IsFrame}
-use Rattle.can_code.specs.Stuffing.{run_after}
+use Rattle.can_wire.specs.Stuffing.{run_after}
 use Rattle.can_code.specs.Front.{FrontParts, IsFront, first_front, has_check, heard_level}
 use Rattle.can_code.specs.Sending.{sent_level}
 use Rattle.can_code.proofs.LayoutWrite.{IsFrame-frame_of}

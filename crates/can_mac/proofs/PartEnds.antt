@@ -10,10 +10,10 @@ use Rattle.can_frame.specs.declared.level.Level.TheVariants.{Dominant, Recessive
 use Rattle.can_frame.specs.Levels.{same}
 use Rattle.can_frame.specs.Parts.{Parts}
 use Rattle.can_code.specs.declared.front.Place.TheVariants.{StuffBit, Bit, CrcDelimiter as ended}
-use Rattle.can_code.specs.Crc.{IsCrc, crc_of}
-use Rattle.can_code.specs.Layout.{check_of, frame_of, head_of}
+use Rattle.can_wire.specs.Crc.{IsCrc, crc_of}
+use Rattle.can_wire.specs.Layout.{check_of, frame_of, head_of}
 use Rattle.can_code.specs.Front.{FrontParts, has_check, next_place}
-use Rattle.can_code.proofs.DivisionLemmas.{IsCrc-crc_of, IsCrc-only}
+use Rattle.can_wire.proofs.DivisionLemmas.{IsCrc-crc_of, IsCrc-only}
 use Rattle.can_mac.specs.declared.phase.Reading.{Reading}
 use Rattle.can_mac.specs.declared.phase.Phase.TheVariants.{StuffedPart, CrcDelimiter}
 use Rattle.can_mac.specs.Moves.{agrees, ends_part, part_phase, reading_of}

@@ -8,9 +8,9 @@ use Rattle.can_frame.specs.declared.level.Level.TheVariants.{Dominant}
 use Rattle.can_frame.specs.Levels.{same, opposite}
 use Rattle.can_frame.specs.Parts.{Parts, IsFrame}
 use Rattle.can_code.specs.declared.front.Place.TheVariants.{StuffBit, Bit, CrcDelimiter as ended}
-use Rattle.can_code.specs.Stuffing.{stuffed}
-use Rattle.can_code.specs.Wire.{head, unstuffed, stuffed_part}
-use Rattle.can_code.specs.Layout.{level_at}
+use Rattle.can_wire.specs.Stuffing.{stuffed}
+use Rattle.can_wire.specs.Wire.{head, unstuffed, stuffed_part}
+use Rattle.can_wire.specs.Layout.{level_at}
 use Rattle.can_code.specs.Sending.{sent_level}
 use Rattle.can_code.specs.Front.{FrontParts, first_front, has_check, next_place, is_stuff_error, heard_level}
 use Rattle.can_code.proofs.StuffedParts.{IsPart-length}

@@ -5,9 +5,9 @@ use Rattle.std.specs.Prelude.{codes}
 use Rattle.can_frame.specs.declared.level.Level.TheVariants.{Dominant, Recessive}
 use Rattle.can_frame.specs.Levels.{bits_of}
 use Rattle.can_frame.specs.Arbitration.{arbitration_field}
-use Rattle.can_code.specs.Crc.{crc_of}
-use Rattle.can_code.specs.Wire.{head, unstuffed}
-use Rattle.can_code.specs.Layout.{frame_of, frame_len}
+use Rattle.can_wire.specs.Crc.{crc_of}
+use Rattle.can_wire.specs.Wire.{head, unstuffed}
+use Rattle.can_wire.specs.Layout.{frame_of, frame_len}
 use Rattle.can_mac.specs.declared.event.Event.TheVariants.{Sent, Received, Error, Overload}
 use Rattle.can_mac.specs.declared.event.ErrorKind.TheVariants.{Bit, Crc, Form, Ack}
 use Rattle.can_mac.specs.declared.phase.Phase.TheVariants.{CrcDelimiter, AckSlot, AckDelimiter, EndOfFrame, ErrorFlag, PassiveFlag, OverloadFlag, AfterFlag, Intermission}

@@ -7,8 +7,8 @@ use Rattle.can_frame.specs.declared.level.Level.TheVariants.{Dominant, Recessive
 use Rattle.can_frame.specs.Levels.{same}
 use Rattle.can_frame.specs.Arbitration.{arbitration_field, Before}
 use Rattle.can_frame.specs.Parts.{Parts, IsFrame}
-use Rattle.can_code.specs.Wire.{stuffed_part, wire, driven}
-use Rattle.can_code.specs.Layout.{level_at}
+use Rattle.can_wire.specs.Wire.{stuffed_part, wire, driven}
+use Rattle.can_wire.specs.Layout.{level_at}
 use Rattle.can_code.specs.Front.{FrontParts, first_front, heard_levels}
 use Rattle.can_fault.specs.declared.cause.Cause.TheVariants.{FrameSent, FrameReceived}
 use Rattle.can_fault.specs.Counters.{ConfineParts, counted}

@@ -7,10 +7,10 @@ use Rattle.can_frame.specs.declared.level.Level.TheVariants.{Dominant, Recessive
 use Rattle.can_frame.specs.Levels.{same, is_recessive}
 use Rattle.can_frame.specs.Parts.{Parts}
 use Rattle.can_frame.specs.IdleRow.{idle_row}
-use Rattle.can_code.specs.Crc.{crc_of}
-use Rattle.can_code.specs.Stuffing.{run_after}
+use Rattle.can_wire.specs.Crc.{crc_of}
+use Rattle.can_wire.specs.Stuffing.{run_after}
 use Rattle.can_code.specs.Sending.{sent_level}
-use Rattle.can_code.specs.Layout.{frame_of, head_of, check_of, rtr_place}
+use Rattle.can_wire.specs.Layout.{frame_of, head_of, check_of, rtr_place}
 use Rattle.can_code.specs.Front.{FrontParts, first_front, has_check, heard_level}
 use Rattle.can_fault.specs.declared.cause.Cause.{Cause}
 use Rattle.can_fault.specs.declared.cause.Cause.TheVariants.{ReceiverError, ReceiverFlagBit, ReceiverFirstDominant, ReceiverDominantRun, SenderError, SenderFlagBit, SenderDominantRun, PassiveUnacknowledged, FrameSent, FrameReceived}

@@ -33,8 +33,6 @@ mod laws;
 mod machine;
 mod moves;
 mod phase;
-#[cfg(test)]
-mod tests;
 
 pub use event::{ErrorKind, Event};
 pub use laws::{

@@ -6,9 +6,9 @@ use Rattle.can_frame.specs.declared.level.Level.TheVariants.{Dominant, Recessive
 use Rattle.can_frame.specs.Levels.{level_of, bits_of}
 use Rattle.can_frame.specs.Arbitration.{arbitration_field}
 use Rattle.can_frame.specs.Parts.{Parts}
-use Rattle.can_code.specs.Crc.{crc_of}
-use Rattle.can_code.specs.Wire.{head, unstuffed}
-use Rattle.can_code.specs.Layout.{frame_of, frame_len}
+use Rattle.can_wire.specs.Crc.{crc_of}
+use Rattle.can_wire.specs.Wire.{head, unstuffed}
+use Rattle.can_wire.specs.Layout.{frame_of, frame_len}
 use Rattle.can_mac.specs.declared.event.Event.TheVariants.{Sent, Received, Lost, Error, Overload, WentOff, Recovered}
 use Rattle.can_mac.specs.declared.event.ErrorKind.TheVariants.{Ack}
 use Rattle.can_mac.specs.declared.phase.Phase.TheVariants.{BusOff}

@@ -19,7 +19,7 @@ use Rattle.can_mac.specs.Moves.{MacMove, errs_by, passive_phase, enters_intermis
 use Rattle.can_node.specs.Listening.{is_of_frame}
 use Rattle.can_node.proofs.Rests.{EndsInRest, HasRested, EndsInRest-more, EndsInRest-fewer, HasRested-ends}
 use Rattle.can_node.proofs.RestingMoves.{WaitsAt, flag-waits}
-use Rattle.can_code.specs.Stuffing.{run_after}
+use Rattle.can_wire.specs.Stuffing.{run_after}
 
 -- a move that keeps waiting with these levels, and tells of no frame
 pub record KeepsWait (v : MacMove) (levels : List Level) : Type 0 where

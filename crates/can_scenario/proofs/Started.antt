@@ -5,8 +5,8 @@ use Rattle.std.proofs.lemmas.List.{append-nil, drop_all, nil_from_length, get_or
 use Rattle.std.proofs.lemmas.Option.{slice_get-get_or, get_or_from_slice_get}
 use Rattle.can_frame.specs.declared.level.Level.{Level}
 use Rattle.can_frame.specs.declared.level.Level.TheVariants.{Recessive}
-use Rattle.can_code.specs.declared.packed_bits.PackedBits.{PackedBits}
-use Rattle.can_code.specs.contracts.packed_bits.PackedBitsFrameBits.TheImpl as packed_bits
+use Rattle.can_wire.specs.declared.packed_bits.PackedBits.{PackedBits}
+use Rattle.can_wire.specs.contracts.packed_bits.PackedBitsFrameBits.TheImpl as packed_bits
 use Rattle.can_node.specs.declared.node.Node.{Node}
 use Rattle.can_node.specs.Ports.{PortState, IsPort}
 use Rattle.can_bus.specs.declared.hit.Hit.{Hit}

@@ -5,7 +5,7 @@
 //!     53 S 000 D 0
 //!     ..
 //!
-//! `bit_times` is the pattern. Its contract speaks of the frame's wire, the definition of can_code that `encode`
+//! `bit_times` is the pattern. Its contract speaks of the frame's wire, the definition of can_wire that `encode`
 //! promises, so that the number is right because `encode` is, whatever the code of `encode`.
 #![tactic(auto)]
 

@@ -1,7 +1,7 @@
 ghost use Rattle.std.specs.Prelude.{◌≡◌, ◌≤◌, ◌+◌, length};
-ghost use Rattle.can_code.specs.Wire.{wire};
+ghost use Rattle.can_wire.specs.Wire.{wire};
 
-use can_code::encode;
+use can_wire::encode;
 use can_frame::Frame;
 
 /// How many levels of intermission stand behind a frame. (Bosch CAN 2.0 part B, section 3.2.5)

@@ -1,6 +1,6 @@
 use Rattle.std.proofs.Common.{◌+◌, ◌≤◌, ◌∷◌, Ok, length, take, drop, get_or, refl, sym, ap, subst, arith}
 use Rattle.can_frame.specs.declared.level.Level.TheVariants.{Dominant}
-use Rattle.can_code.specs.Heard.{Spells}
+use Rattle.can_wire.specs.Heard.{Spells}
 use Rattle.can_code.specs.CodeFaults.{IsCodeFault}
 use Rattle.can_code.specs.Decoder.{HasHeard}
 use Rattle.can_code.proofs.DecoderLemmas.{HasHeard-short}

@@ -1,5 +1,5 @@
 use Rattle.std.proofs.Common.{◌+◌, ◌*◌, ◌∙◌, ap, arith}
-use Rattle.can_code.specs.Layout.{rtr_place}
+use Rattle.can_wire.specs.Layout.{rtr_place}
 use Rattle.can_code.proofs.ReadingLemmas.{levels_at-lt, bytes_pushed, bytes_whole}
 use Rattle.can_code.proofs.reading.data.Goals as goal
 

@@ -1,5 +1,5 @@
 use Rattle.std.proofs.Common.{◌≡◌, ◌++◌, ◌+◌, ◌*◌, ◌-◌, drop, length}
-use Rattle.can_code.specs.Layout.{bytes_from}
+use Rattle.can_wire.specs.Layout.{bytes_from}
 use Rattle.can_code.proofs.reading.data.Given as goal
 
 -- the bytes that are missing complete the data

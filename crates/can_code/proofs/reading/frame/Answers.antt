@@ -1,8 +1,8 @@
 use Rattle.std.proofs.Common.{◌≡◌, true, false, [], length, drop, min, sym, ◌∙◌, ap, arith}
 use Rattle.can_frame.specs.Parts.{byte_count}
-use Rattle.can_code.specs.Layout.{bytes_from, data_place, extended_of, remote_of, dlc_of, frame_of}
+use Rattle.can_wire.specs.Layout.{bytes_from, data_place, extended_of, remote_of, dlc_of, frame_of}
 use Rattle.can_code.specs.Reading.{bytes_of}
-use Rattle.can_code.proofs.LayoutBytes.{length-bytes_from}
+use Rattle.can_wire.proofs.LayoutBytes.{length-bytes_from}
 use Rattle.can_code.proofs.reading.frame.Goals as goal
 
 pub unwrap-requires-else-is_remote : goal.unwrap-requires-else-is_remote

@@ -1,5 +1,5 @@
 use Rattle.std.proofs.Common.{◌≡◌, arith, ap, ◌∙◌}
-use Rattle.can_code.specs.Layout.{rtr_place, frame_len, extended_of}
+use Rattle.can_wire.specs.Layout.{rtr_place, frame_len, extended_of}
 use Rattle.can_code.proofs.reading.frame_len.Goals as goal
 
 pub returns : goal.returns

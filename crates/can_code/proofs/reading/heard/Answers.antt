@@ -1,7 +1,7 @@
 use Rattle.std.proofs.Common.{sym, ◌∙◌, ap, inl, inr}
 use Rattle.std.proofs.lemmas.Bool.{true_from_ne_false}
 use Rattle.std.specs.Option.{is_some}
-use Rattle.can_code.specs.Layout.{heard_of}
+use Rattle.can_wire.specs.Layout.{heard_of}
 use Rattle.can_code.proofs.LayoutWrite.{IsHeard-heard_of}
 use Rattle.can_code.proofs.reading.heard.Goals as goal
 

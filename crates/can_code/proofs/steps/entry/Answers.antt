@@ -2,7 +2,7 @@ use Rattle.std.proofs.Common.{◌≡◌, ◌≤◌, ◌+◌, ◌-◌, ◌*◌, �
 use Rattle.std.proofs.lemmas.Nat.{one_shl}
 use mir.Val.{bool_byte}
 use Rattle.can_frame.specs.Levels.{is_recessive}
-use Rattle.can_code.proofs.PackedLemmas.{bool_small}
+use Rattle.can_wire.proofs.PackedLemmas.{bool_small}
 use Rattle.can_code.proofs.StepTable.{entry_is}
 use Rattle.can_code.proofs.steps.entry.Goals as goal
 

@@ -1,8 +1,8 @@
 use Rattle.std.proofs.Common.{◌≡◌, ◌≢◌, ◌≤◌, ◌++◌, length, sym, ◌∙◌, arith}
 use Rattle.can_frame.specs.Levels.{bits_of}
-use Rattle.can_code.proofs.LevelLemmas.{length-bits_of}
-use Rattle.can_code.proofs.Runs.{run_after-le, run_after-ge}
-use Rattle.can_code.proofs.PackedLemmas.{bool_small, next-fits, next-small}
+use Rattle.can_wire.proofs.LevelLemmas.{length-bits_of}
+use Rattle.can_wire.proofs.Runs.{run_after-le, run_after-ge}
+use Rattle.can_wire.proofs.PackedLemmas.{bool_small, next-fits, next-small}
 use Rattle.can_code.proofs.StepLemmas.{Unstuffs-begin}
 use Rattle.can_code.proofs.UnstuffingLemmas.{HearsDigits-number, HearsDigits-stuff_bit, other_level}
 use Rattle.can_code.proofs.unstuffing.unstuff_levels.Goals as goal

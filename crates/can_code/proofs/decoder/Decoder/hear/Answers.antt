@@ -4,10 +4,10 @@ use Rattle.std.specs.Result.{is_err, OnOk}
 use Rattle.can_frame.specs.declared.level.Level.TheVariants.{Recessive}
 use Rattle.can_frame.specs.Levels.{is_recessive}
 use Rattle.can_code.specs.declared.front.Place.TheVariants.{CrcDelimiter}
-use Rattle.can_code.specs.Crc.{IsCrc}
-use Rattle.can_code.specs.Wire.{tail}
-use Rattle.can_code.specs.Heard.{ack_slot, Spells}
-use Rattle.can_code.specs.Layout.{check_of, head_of, heard_of}
+use Rattle.can_wire.specs.Crc.{IsCrc}
+use Rattle.can_wire.specs.Wire.{tail}
+use Rattle.can_wire.specs.Heard.{ack_slot, Spells}
+use Rattle.can_wire.specs.Layout.{check_of, head_of, heard_of}
 use Rattle.can_code.specs.Front.{next_place, is_stuff_error, heard_level}
 use Rattle.can_code.proofs.TailLemmas.{ack_slot_heard, recessive_heard, dominant_breaks}
 use Rattle.can_code.proofs.DecoderLemmas.{is_ended, is_going, HasHeard-stuff, HasHeard-crc, HasHeard-level, HasHeard-form, HasHeard-behind, HasHeard-last}

@@ -1,6 +1,6 @@
 use Rattle.std.proofs.Common.{◌≡◌, ◌++◌, ◌∷◌, [], ◌⊎◌, true, false, not, length, ap, ◌∙◌, sym}
 use Rattle.std.specs.Option.{is_some}
-use Rattle.can_code.specs.Layout.{data_place}
+use Rattle.can_wire.specs.Layout.{data_place}
 use Rattle.can_code.specs.Front.{FrontParts, next_place}
 use Rattle.can_code.proofs.FrontLemmas.{IsFront-room, IsFront-bit, IsFront-stuff_bit, next_place-partial, TellsLength-push, TellsLength-wait}
 use Rattle.can_code.proofs.front.Front.hear.Goals as goal

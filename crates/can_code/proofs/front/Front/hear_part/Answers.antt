@@ -1,10 +1,10 @@
 use Rattle.std.proofs.Common.{◌≡◌, ◌≢◌, ◌<◌, ◌≤◌, ◌++◌, length, sym, subst, arith, length-append}
 use Rattle.can_frame.specs.Levels.{bits_of}
-use Rattle.can_code.specs.Layout.{frame_len}
+use Rattle.can_wire.specs.Layout.{frame_len}
 use Rattle.can_code.specs.Front.{FrontParts}
 use Rattle.can_code.specs.Unstuffing.{HasRoom}
-use Rattle.can_code.proofs.LayoutLengths.{frame_len_le}
-use Rattle.can_code.proofs.LevelLemmas.{length-bits_of}
+use Rattle.can_wire.proofs.LayoutLengths.{frame_len_le}
+use Rattle.can_wire.proofs.LevelLemmas.{length-bits_of}
 use Rattle.can_code.proofs.UnstuffingLemmas.{IsFront-run, TellsLength-more, next_place-room}
 use Rattle.can_code.proofs.front.Front.hear_part.Goals as goal
 

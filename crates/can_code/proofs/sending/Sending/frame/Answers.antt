@@ -1,6 +1,6 @@
 use Rattle.std.proofs.Common.{subst}
 use Rattle.can_frame.specs.Parts.{IsFrame}
-use Rattle.can_code.specs.Layout.{frame_of, IsComplete}
+use Rattle.can_wire.specs.Layout.{frame_of, IsComplete}
 use Rattle.can_code.proofs.ReadingLemmas.{IsComplete-HasData}
 use Rattle.can_code.proofs.UnstuffedLevels.{unstuffed-complete}
 use Rattle.can_code.proofs.sending.Sending.frame.Goals as goal

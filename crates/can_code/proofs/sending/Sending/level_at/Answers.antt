@@ -1,8 +1,8 @@
 use Rattle.std.proofs.Common.{◌≤◌, ap, sym, ◌∙◌, arith, length}
 use Rattle.std.proofs.lemmas.List.{get_or_past}
 use Rattle.can_frame.specs.declared.level.Level.TheVariants.{Dominant}
-use Rattle.can_code.specs.Layout.{level_at}
-use Rattle.can_code.specs.Wire.{unstuffed}
+use Rattle.can_wire.specs.Layout.{level_at}
+use Rattle.can_wire.specs.Wire.{unstuffed}
 use Rattle.can_code.proofs.sending.Sending.level_at.Goals as goal
 
 pub returns-then-place-len : goal.returns-then-place-len

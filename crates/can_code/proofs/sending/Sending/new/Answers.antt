@@ -1,9 +1,9 @@
 use Rattle.std.proofs.Common.{◌≡◌, ◌++◌, ap, subst, sym, ◌∙◌}
 use Rattle.can_frame.specs.Parts.{IsFrame}
-use Rattle.can_code.specs.Crc.{crc_of}
-use Rattle.can_code.specs.Heard.{heard_head}
-use Rattle.can_code.specs.Layout.{frame_of}
-use Rattle.can_code.specs.Wire.{unstuffed}
+use Rattle.can_wire.specs.Crc.{crc_of}
+use Rattle.can_wire.specs.Heard.{heard_head}
+use Rattle.can_wire.specs.Layout.{frame_of}
+use Rattle.can_wire.specs.Wire.{unstuffed}
 use Rattle.can_code.proofs.UnstuffedLevels.{frame_of-unstuffed, unstuffed-sent}
 use Rattle.can_code.proofs.sending.Sending.new.Goals as goal
 use Rattle.can_code.proofs.sending.Sending.new.Goals.{After-head_and_crc}

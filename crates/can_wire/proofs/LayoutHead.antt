@@ -1,0 +1,118 @@
+-- The head of a frame as it is heard: how long it is, and what it is where all is heard as it is sent.
+use Rattle.std.proofs.Common.{◌≡◌, ℕ, ◌+◌, ◌*◌, ◌≤◌, ◌/◌, ◌^◌, Bool, true, false, cond, List, [], ◌∷◌, ◌++◌, length, refl, sym, ◌∙◌, ap, arith, append_assoc, length-append}
+use Rattle.std.specs.List.{flat_map}
+use Rattle.std.proofs.lemmas.Bool.{cond-true, cond-false}
+use Rattle.can_frame.specs.declared.level.Level.{Level}
+use Rattle.can_frame.specs.declared.level.Level.TheVariants.{Dominant, Recessive}
+use Rattle.can_frame.specs.Levels.{bits_of, level_from}
+use Rattle.can_frame.specs.Parts.{Parts, IsFrame}
+use Rattle.can_frame.specs.Stored.{byte_count_le}
+use Rattle.can_frame.specs.Arbitration.{arbitration_field}
+use Rattle.can_wire.specs.Wire.{head}
+use Rattle.can_wire.specs.Heard.{HeardParts, IsHeard, sent, data_field, heard_head}
+use Rattle.can_wire.specs.Layout.{level_at, data_place}
+use Rattle.can_wire.proofs.LayoutNumbers.{length-bits_of}
+use Rattle.can_wire.proofs.LayoutBytes.{length-bytes}
+
+-- a frame of either kind
+frame_from : ℕ → Bool → Bool → ℕ → List ℕ → Parts
+frame_from raw extended remote dlc bytes = record { id = record { raw = raw; extended = extended }; remote = remote; dlc = dlc; bytes = bytes }
+
+-- what stands between the SOF and r0 in a standard frame
+abbrev standard_format : HeardParts → List Level
+standard_format h = bits_of 11 h.frame.id.raw ++ level_from h.frame.remote ∷ Dominant ∷ []
+
+-- the same in an extended frame
+abbrev extended_format : HeardParts → List Level
+extended_format h = bits_of 11 (h.frame.id.raw / 2 ^ 18) ++ h.srr ∷ Recessive ∷ (bits_of 18 h.frame.id.raw ++ level_from h.frame.remote ∷ h.r1 ∷ [])
+
+-- a head, in the pieces of which it is built
+module _ (h : HeardParts) where
+  abbrev behind : List Level
+  behind = h.r0 ∷ data_field h.frame
+
+  pub heard_head-standard : h.frame.id.extended ≡ false → heard_head h ≡ Dominant ∷ (standard_format h ++ h.r0 ∷ data_field h.frame)
+  unfolding heard_head
+  heard_head-standard kind =
+      cond-false h.frame.id.extended _ _ kind
+      ∙ ap (λ t. Dominant ∷ t) (sym (append_assoc (bits_of 11 h.frame.id.raw) (level_from h.frame.remote ∷ Dominant ∷ []) behind))
+
+  pub heard_head-extended : h.frame.id.extended ≡ true → heard_head h ≡ Dominant ∷ (extended_format h ++ h.r0 ∷ data_field h.frame)
+  unfolding heard_head
+  heard_head-extended kind =
+      let upper = bits_of 11 (h.frame.id.raw / 2 ^ 18) in
+      let lower = bits_of 18 h.frame.id.raw in
+      let last = level_from h.frame.remote ∷ h.r1 ∷ [] in
+      cond-true h.frame.id.extended _ _ kind
+      ∙ ap (λ t. Dominant ∷ (upper ++ h.srr ∷ Recessive ∷ t)) (sym (append_assoc lower last behind))
+      ∙ ap (λ t. Dominant ∷ t) (sym (append_assoc upper (h.srr ∷ Recessive ∷ (lower ++ last)) behind))
+
+-- where SRR and reserved bits are heard as they are sent, the head is the one that is sent
+pub heard_head-sent : (f : Parts) → heard_head (sent f) ≡ head f
+unfolding heard_head head arbitration_field frame_from
+heard_head-sent f = by_kind f.id.extended
+  where
+    by_kind : (extended : Bool) → heard_head (sent (frame_from f.id.raw extended f.remote f.dlc f.bytes)) ≡ head (frame_from f.id.raw extended f.remote f.dlc f.bytes)
+    by_kind false = ap (λ t. Dominant ∷ t) (sym (append_assoc (bits_of 11 f.id.raw) (level_from f.remote ∷ Dominant ∷ []) (Dominant ∷ data_field f)))
+    by_kind true =
+        let lower = bits_of 18 f.id.raw in
+        let last = level_from f.remote ∷ [] in
+        let rest = Dominant ∷ Dominant ∷ data_field f in
+        ap (λ t. Dominant ∷ t) (
+        ap (λ t. bits_of 11 (f.id.raw / 2 ^ 18) ++ Recessive ∷ Recessive ∷ t) (sym (append_assoc lower last rest))
+        ∙ sym (append_assoc (bits_of 11 (f.id.raw / 2 ^ 18)) (Recessive ∷ Recessive ∷ (lower ++ last)) rest)
+        )
+
+-- a frame is heard as it is sent
+pub IsHeard-sent : (f : Parts) → IsFrame f → IsHeard (sent f)
+IsHeard-sent f is = record { frame = is; srr = λ standard. refl; r1 = λ standard. refl }
+
+-- the SOF is dominant
+pub heard_head-start : (h : HeardParts) (c : List Level) → level_at (heard_head h ++ c) 0 ≡ Dominant
+unfolding heard_head
+heard_head-start h c = first h.frame.id.extended _ _
+  where
+    first : (extended : Bool) (a b : List Level) → level_at (cond extended (Dominant ∷ a) (Dominant ∷ b) ++ c) 0 ≡ Dominant
+    first true a b = refl
+    first false a b = refl
+
+length-data_field : (f : Parts) → length (data_field f) ≡ 4 + 8 * length f.bytes
+length-data_field f = omega (arith, length-append (bits_of 4 f.dlc) (flat_map (bits_of 8) f.bytes), length-bits_of 4 f.dlc, length-bytes f.bytes)
+
+-- the length of a head, from the start of frame to the end of the data
+pub length-heard_head : (h : HeardParts) → length (heard_head h) ≡ data_place h.frame.id.extended + 8 * length h.frame.bytes
+unfolding heard_head
+length-heard_head h = by_kind h.frame.id.extended
+  where
+    f : Parts
+    f = h.frame
+
+    by_kind : (extended : Bool)
+        → length (
+        cond extended
+        (Dominant ∷ (bits_of 11 (f.id.raw / 2 ^ 18) ++ h.srr ∷ Recessive ∷ (bits_of 18 f.id.raw ++ level_from f.remote ∷ h.r1 ∷ h.r0 ∷ data_field f)))
+        (Dominant ∷ (bits_of 11 f.id.raw ++ level_from f.remote ∷ Dominant ∷ h.r0 ∷ data_field f))
+        ) ≡ data_place extended + 8 * length f.bytes
+    by_kind true =
+        let last = level_from f.remote ∷ h.r1 ∷ h.r0 ∷ data_field f in
+        omega (
+          arith,
+          length-append (bits_of 11 (f.id.raw / 2 ^ 18)) (h.srr ∷ Recessive ∷ (bits_of 18 f.id.raw ++ last)),
+          length-bits_of 11 (f.id.raw / 2 ^ 18),
+          length-append (bits_of 18 f.id.raw) last,
+          length-bits_of 18 f.id.raw,
+          length-data_field f,
+        )
+    by_kind false =
+        let last = level_from f.remote ∷ Dominant ∷ h.r0 ∷ data_field f in
+        omega (arith, length-append (bits_of 11 f.id.raw) last, length-bits_of 11 f.id.raw, length-data_field f)
+
+-- no head is longer than one with eight bytes of data
+pub length-heard_head-le : (h : HeardParts) → IsFrame h.frame → length (heard_head h) ≤ cond h.frame.id.extended 103 83
+length-heard_head-le h is =
+    let few : length h.frame.bytes ≤ 8 = omega (arith, is.count, byte_count_le h.frame.remote h.frame.dlc) in
+    by_kind h.frame.id.extended (length-heard_head h) few
+  where
+    by_kind : (extended : Bool) → length (heard_head h) ≡ data_place extended + 8 * length h.frame.bytes → length h.frame.bytes ≤ 8 → length (heard_head h) ≤ cond extended 103 83
+    by_kind true size few = omega arith
+    by_kind false size few = omega arith

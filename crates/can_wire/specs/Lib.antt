@@ -1,0 +1,6 @@
+-- To believe: what public calls and laws promise is said in these words
+pub mod Crc
+pub mod Stuffing
+pub mod Wire
+pub mod Heard
+pub mod Layout

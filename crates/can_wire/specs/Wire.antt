@@ -1,0 +1,47 @@
+-- The levels of a frame on the wire. (Bosch CAN 2.0 part B, section 3.2)
+use Rattle.std.specs.Prelude.{◌≡◌, if◌then◌else◌, List, [], ◌∷◌, ◌++◌}
+use Rattle.std.specs.List.{flat_map}
+use Rattle.can_frame.specs.declared.level.Level.{Level}
+use Rattle.can_frame.specs.declared.level.Level.TheVariants.{Dominant, Recessive}
+use Rattle.can_frame.specs.Levels.{bits_of}
+use Rattle.can_frame.specs.Parts.{Parts}
+use Rattle.can_frame.specs.Arbitration.{arbitration_field}
+use Rattle.can_wire.specs.Crc.{IsCrc, crc_of}
+use Rattle.can_wire.specs.Stuffing.{Stuffs, stuffed}
+
+-- the reserved bits as they are sent: r0, or r1 and r0
+abbrev pub reserved : Parts → List Level
+reserved f = if f.id.extended then Dominant ∷ Dominant ∷ [] else Dominant ∷ []
+
+-- the unstuffed levels from the start of frame to the end of the data: SOF, the arbitration field with
+-- the IDE bit, the reserved bits, the data length code and the data bytes, each highest bit first
+unfoldable pub head : Parts → List Level
+head f = Dominant ∷ (arbitration_field f ++ (reserved f ++ (bits_of 4 f.dlc ++ flat_map (bits_of 8) f.bytes)))
+
+-- CRC delimiter, ACK slot, ACK delimiter, and seven levels of end of frame
+abbrev pub tail : Level → Level → List Level
+tail ack last = Recessive ∷ ack ∷ Recessive ∷ Recessive ∷ Recessive ∷ Recessive ∷ Recessive ∷ Recessive ∷ Recessive ∷ last ∷ []
+
+-- w is u with its check sequence, stuffed, and then a tail
+pub record IsSpelling (u : List Level) (ack last : Level) (w : List Level) : Type 0 where
+  pub check : List Level
+  pub is_check : IsCrc u check
+  pub stuffed : List Level
+  pub is_stuffed : Stuffs (u ++ check) stuffed
+  pub whole : w ≡ stuffed ++ tail ack last
+
+-- the unstuffed levels of a frame, from the start of frame to the end of the check sequence
+unfoldable pub unstuffed : Parts → List Level
+unstuffed f = head f ++ crc_of (head f)
+
+-- the part of a frame that is stuffed
+unfoldable pub stuffed_part : Parts → List Level
+stuffed_part f = stuffed (unstuffed f)
+
+-- the levels of a frame that is acknowledged
+abbrev pub wire : Parts → List Level
+wire f = stuffed_part f ++ tail Dominant Recessive
+
+-- the levels of a frame as its sender drives them: the ACK slot is recessive
+abbrev pub driven : Parts → List Level
+driven f = stuffed_part f ++ tail Recessive Recessive

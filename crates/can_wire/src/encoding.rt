@@ -1,0 +1,24 @@
+ghost use Rattle.std.specs.Prelude.{◌≡◌, ◌≤◌, if◌then◌else◌, List, length};
+ghost use Rattle.can_frame.specs.declared.level.Level.{Level as Bit};
+ghost use Rattle.can_frame.specs.declared.level.Level.TheVariants.{Recessive};
+ghost use Rattle.can_wire.specs.Wire.{head, driven, stuffed_part, wire, IsSpelling};
+
+use crate::heard::Heard;
+use crate::spelling::respell;
+use arrayvec::ArrayVec;
+use can_frame::{Frame, Level};
+
+/// The levels of a frame as its sender drives them, one for each bit time, from the start of
+/// frame to the end of frame. (Bosch CAN 2.0 part B, section 3.2.1)
+pub fn encode(frame: &Frame) -> ArrayVec<Level, 157>
+    ensures levels { result.items ≡ driven frame.now }
+    ensures spelled { IsSpelling (head frame.now) Recessive Recessive result.items }
+    ensures only { (w : List Bit) → IsSpelling (head frame.now) Recessive Recessive w → w ≡ result.items }
+
+    // How long the parts can get.
+    ensures head_bound { length (head frame.now) ≤ (if frame.now.id.extended then 103 else 83) }
+    ensures stuffed_bound { length (stuffed_part frame.now) ≤ (if frame.now.id.extended then 147 else 122) }
+    ensures wire_bound { length (wire frame.now) ≤ (if frame.now.id.extended then 157 else 132) }
+{
+    respell(&Heard::unacknowledged(*frame))
+}

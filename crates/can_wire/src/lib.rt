@@ -1,0 +1,57 @@
+//! What stands on the wire of a frame: its levels as its sender drives them, and what spells a frame as it is heard.
+//!
+//! A frame's `head` (start of frame, identifier, control field, data) is followed by its CRC
+//! sequence; the two are bit stuffed, and a tail of ten levels that is never stuffed ends the
+//! frame. (Bosch CAN 2.0 part B, sections 3.2.1 and 6) A receiver takes a few of these levels at
+//! either value: with them the frame is [`Heard`].
+//!
+//! | File | What it has | Defined in |
+//! |---|---|---|
+//! | `crc.rt` | [`crc15`], the CRC sequence | `specs/Crc.antt` |
+//! | `crc_run.rt` | [`CrcRun`], the CRC sequence of levels that come one by one | `specs/Crc.antt` |
+//! | `stuffing.rt` | [`stuff`], the stuff bits, and [`run_after`], the run that a level ends | `specs/Stuffing.antt` |
+//! | `heard.rt` | [`Heard`], a frame as it is heard | `specs/Heard.antt` |
+//! | `frame_bits.rt` | [`FrameBits`], the unstuffed levels of a frame, whatever holds them | |
+//! | `plain_bits.rt` | [`PlainBits`], these levels one by one | |
+//! | `packed_bits.rt`, `two_words.rt` | [`PackedBits`], these levels in a register, with their CRC sequence so far | |
+//! | `layout.rt` | the head and the CRC sequence of what is heard, unstuffed | `specs/Heard.antt` |
+//! | `spelling.rt` | [`respell`], the levels that spell what is heard | `specs/Heard.antt` |
+//! | `encoding.rt` | [`encode`], the levels that the sender of a frame drives | `specs/Wire.antt` |
+//! | `places.rt` | where the unstuffed levels of a frame stand, [`rtr_place`] among them | `specs/Layout.antt` |
+//! | `laws.rt` | that a CRC sequence, a stuffed list, a frame's wire and a spelling are unique, and that no spelling begins another | |
+//!
+//! Each is defined twice: by a relation that says what it is (the generator divides it, a stuff
+//! bit stands behind five equal levels), and by a function that computes it. The calls promise
+//! that the two agree. How the levels are driven and heard one by one is `can_code`'s, which names these calls too.
+//!
+//! Crates above find lemmas in `proofs/`, which `proofs/Lib.antt` lists with what each file has.
+#![tactic(auto)]
+
+mod crc;
+mod crc_run;
+mod encoding;
+mod frame_bits;
+mod heard;
+mod laws;
+mod layout;
+mod packed_bits;
+pub mod places;
+mod plain_bits;
+mod spelling;
+mod stuffing;
+mod two_words;
+
+pub use crc::crc15;
+pub use crc_run::CrcRun;
+pub use encoding::encode;
+pub use frame_bits::FrameBits;
+pub use heard::Heard;
+pub use laws::{
+    no_spelling_begins_another, one_check_sequence, one_heard, one_spelling, one_stuffing, one_wire,
+};
+pub use layout::{head, head_and_crc};
+pub use packed_bits::PackedBits;
+pub use places::rtr_place;
+pub use plain_bits::PlainBits;
+pub use spelling::respell;
+pub use stuffing::{LONGEST_RUN, run_after, stuff};

@@ -1,0 +1,50 @@
+ghost use Rattle.std.specs.Prelude.{◌≡◌, ◌+◌, ◌<◌, ◌≤◌, ◌++◌, List, length};
+ghost use Rattle.arrayvec.specs.ArrayVec.{array_vec_len};
+ghost use Rattle.can_frame.specs.declared.level.Level.{Level as Bit};
+ghost use Rattle.can_wire.specs.Stuffing.{Stuffs, stuffed as stuffed_of, run_after as run_after_of};
+
+use arrayvec::ArrayVec;
+use can_frame::Level;
+
+/// How many equal levels in a row are followed by a stuff bit.
+pub const LONGEST_RUN: u8 = 5;
+
+/// The levels with their stuff bits: behind five equal levels, stuff bits counted among them,
+/// stands one of the other level. (Bosch CAN 2.0 part B, section 6)
+pub fn stuff(levels: &[Level]) -> ArrayVec<Level, 147>
+    requires { length levels.now ≤ 118 }
+    ensures stuffs { Stuffs levels.now result.items }
+    ensures only { (b : List Bit) → Stuffs levels.now b → b ≡ result.items }
+    ensures computed { result.items ≡ stuffed_of levels.now }
+{
+    let mut stuffed = ArrayVec::new();
+    stuff_onto(&mut stuffed, levels);
+    stuffed
+}
+
+/// Appends the levels with their stuff bits. What stands there already begins no run.
+pub(crate) fn stuff_onto<const N: usize>(stuffed: &mut ArrayVec<Level, N>, levels: &[Level])
+    requires { array_vec_len stuffed.old + length (stuffed_of levels.now) ≤ N }
+    ensures { stuffed.new.items ≡ stuffed.old.items ++ stuffed_of levels.now }
+{
+    let mut last = Level::Dominant;
+    let mut run = 0;
+    for level in levels {
+        run = run_after(last, run, *level);
+        last = *level;
+        stuffed.push(last);
+        if run == LONGEST_RUN {
+            last = last.opposite();
+            run = 1;
+            stuffed.push(last);
+        }
+    }
+}
+
+/// The length of the run that `level` ends, behind a run of `last`.
+pub fn run_after(last: Level, run: u8, level: Level) -> u8
+    requires { run < 5 }
+    ensures { result ≡ run_after_of last run level }
+{
+    if level == last { run + 1 } else { 1 }
+}
