@@ -3,7 +3,6 @@ ghost use Rattle.can_node.specs.Ports.{PortState};
 ghost use Rattle.can_handle.specs.Owned.{handle_owns, port_coded};
 
 use crate::controller::Controller;
-use crate::parts::Parts;
 use std::alloc::Global;
 use std::marker::Model;
 use std::mem;
@@ -38,16 +37,19 @@ impl Handle {
     pub fn of(controller: Box<Controller>) -> Handle
         ensures { result.held ≡ Some controller.value }
     {
-        Handle::of_parts(Parts::of(controller))
+        let at = Box::into_raw(controller) as *mut u8;
+        Handle { at, live: true }
     }
 
     /// Its controller, if it has one.
     pub fn into_box(self, alloc: Global) -> Option<Box<Controller>>
         ensures { MatchOption result (self.held ≡ None) (λ b. self.held ≡ Some b.value) }
     {
-        match self.into_parts(alloc) {
-            None => None,
-            Some(parts) => Some(parts.into_box()),
+        let Handle { at, live } = self;
+        if live {
+            Some(unsafe { Box::from_raw(alloc, at as *mut Controller) })
+        } else {
+            None
         }
     }
 
@@ -64,29 +66,5 @@ impl Handle {
         ensures { self.new.held ≡ Some controller.value }
     {
         drop(mem::replace(self, Handle::of(controller)).into_box(alloc));
-    }
-
-    fn of_parts(parts: Parts<Controller, Global>) -> Handle
-        ensures { result.held ≡ Some parts.value }
-    {
-        let Parts { ptr, alloc: _ } = parts;
-        Handle {
-            at: ptr as *mut u8,
-            live: true,
-        }
-    }
-
-    fn into_parts(self, alloc: Global) -> Option<Parts<Controller, Global>>
-        ensures { MatchOption result (self.held ≡ None) (λ p. self.held ≡ Some p.value) }
-    {
-        let Handle { at, live } = self;
-        if live {
-            Some(Parts {
-                ptr: at as *mut Controller,
-                alloc,
-            })
-        } else {
-            None
-        }
     }
 }

@@ -5,7 +5,6 @@
 //! |---|---|---|
 //! | `controller.rt` | [`Controller`], a port as one value | can_node's `specs/Ports.antt` |
 //! | `handle.rt` | [`Handle`], a controller on the heap, or none | `specs/Owned.antt` |
-//! | `parts.rt` | a `Box` whose pointer and allocator are in sight | |
 //!
 //! A handle that is all bytes 0 holds none. Which controller it holds is told by its ghost field `held`,
 //! as the `PortState` that can_node's contracts speak of.
@@ -13,7 +12,6 @@
 
 mod controller;
 mod handle;
-mod parts;
 #[cfg(test)]
 mod tests;
 

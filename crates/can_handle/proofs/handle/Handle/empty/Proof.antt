@@ -22,7 +22,7 @@ use denote.Steps.{nothing}
 use denote.Triple.Spec.{triple_of}
 use denote.Triple.Table.{entered}
 use denote.Triple.Walked.{says, Stays, walk_of, ends_at, walk_Meets}
-use Rattle.can_handle.proofs.Values.{word, held, handle_in}
+use Rattle.can_handle.proofs.HandleValues.{word, held, handle_in}
 use Rattle.std.specs.Prelude.{None}
 use Rattle.can_handle.specs.contracts.handle.Handle.empty as F
 use Rattle.can_handle.specs.contracts.handle.Handle.empty.Key.{name as #self}

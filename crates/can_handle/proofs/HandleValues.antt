@@ -6,7 +6,7 @@ use seplogic.Ra.Ura.{Ura}
 use mir.Val.{Val, vbool, vstruct, vcons, vnil, of_list}
 use types.Logic.{Logic}
 use types.Kit.{Item, Goal, Seq, Step, step, ‵, ◌$◌, drop, fsplit, fjoin, fpick, fpack, feq_i, feq_l}
-use denote.RattleType.{Valss}
+use denote.RattleType.{RattleType, Valss}
 use denote.Builtin.{RawPtr, bool}
 use denote.RawPtr.{Ptr, ptr_val}
 use denote.Steps.{nothing}
@@ -16,7 +16,9 @@ use Rattle.can_handle.specs.contracts.handle.Handle as handle
 use Rattle.can_handle.specs.contracts.controller.Controller as port
 use Rattle.std.specs.Prelude.{Option}
 use Rattle.can_handle.specs.Owned.{handle_owns}
-use Rattle.can_handle.proofs.AsBox.{Handle}
+
+abbrev pub Handle : RattleType
+Handle = handle.the_row
 
 abbrev pub word : Ptr → Bool → Val
 word p t = vstruct (vcons (ptr_val p) (vcons (vbool t) vnil))
