@@ -14,8 +14,8 @@ pub fn write_digits(levels: &[Level], digits: &mut [u8])
     }
 }
 
-/// The digit of a level.
-fn digit(level: Level) -> u8
+/// The digit of a level: `0` for dominant and `1` for recessive.
+pub fn digit(level: Level) -> u8
     ensures { result ≡ digit_of level }
 {
     match level {

@@ -14,7 +14,7 @@
 //! | `lines.rt` | [`LineReader`], the lines of a source, one after another | `specs/Lines.antt`, `specs/LineReader.antt` |
 //! | `whole.rt` | [`read_whole`], all that a source tells | |
 //! | `line.rt` | a line that is put together | |
-//! | `digits.rt` | [`write_digits`], levels as digits | `specs/Digits.antt` |
+//! | `digits.rt` | [`digit`] and [`write_digits`], levels as digits | `specs/Digits.antt` |
 //! | `pieces.rt` | readers and writers that give and take in pieces, to test streams with | |
 //! | `fault.rt` | [`TraceFault`], why an answer is not whole | `specs/Faults.antt` |
 //! | `field.rt` | [`Field`], what is wrong in a scenario | |
@@ -38,7 +38,7 @@ mod source;
 mod tests;
 mod whole;
 
-pub use digits::write_digits;
+pub use digits::{digit, write_digits};
 pub use fault::TraceFault;
 pub use field::{Field, HitList, PortField};
 pub use inbox::Inbox;

@@ -1,5 +1,7 @@
 //! Streams as the crates above use them, over readers and writers of pieces.
-use crate::{Field, FromRead, HitList, PortField, Sink, Source, ToWrite, TraceFault, write_digits};
+use crate::{
+    Field, FromRead, HitList, PortField, Sink, Source, ToWrite, TraceFault, digit, write_digits,
+};
 use can_frame::{Level, TextFault, TextFaultKind};
 use std::io;
 use std::test::Fail;
@@ -69,4 +71,5 @@ fn digits_of_levels(rt: HostRuntime) {
         &mut digits,
     );
     assert_eq!(rt; &digits, b"010");
+    assert_eq!(rt; digit(Level::Recessive), b'1');
 }

@@ -1,0 +1,4 @@
+mod CommandLines
+mod Playing
+mod Running
+mod Conversations

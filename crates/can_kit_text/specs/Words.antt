@@ -1,0 +1,33 @@
+-- The words for events and states, in documents and in the line protocol. (docs/CONFORMANCE.md)
+use Rattle.std.specs.Prelude.{ℕ, List, ◌++◌, codes}
+use Rattle.can_frame.specs.Text.{frame_text}
+use Rattle.can_fault.specs.declared.state.State.{State}
+use Rattle.can_fault.specs.declared.state.State.TheVariants.{Active, Passive, BusOff}
+use Rattle.can_mac.specs.declared.event.Event.{Event}
+use Rattle.can_mac.specs.declared.event.Event.TheVariants.{Sent, Received, Lost, Error, Overload, WentOff, Recovered}
+use Rattle.can_mac.specs.declared.event.ErrorKind.{ErrorKind}
+use Rattle.can_mac.specs.declared.event.ErrorKind.TheVariants.{Bit, Stuff, Crc, Form, Ack}
+
+-- the word for a kind of error
+abbrev pub kind_word : ErrorKind → List ℕ
+kind_word Bit = codes "bit"
+kind_word Stuff = codes "stuff"
+kind_word Crc = codes "crc"
+kind_word Form = codes "form"
+kind_word Ack = codes "ack"
+
+-- an event as text
+abbrev pub event_text : Event → List ℕ
+event_text (Sent f) = codes "sent " ++ frame_text f
+event_text (Received f) = codes "received " ++ frame_text f
+event_text Lost = codes "lost"
+event_text (Error kind) = codes "error " ++ kind_word kind
+event_text Overload = codes "overload"
+event_text WentOff = codes "off"
+event_text Recovered = codes "recovered"
+
+-- the word for a state
+abbrev pub state_word : State → List ℕ
+state_word Active = codes "active"
+state_word Passive = codes "passive"
+state_word BusOff = codes "off"

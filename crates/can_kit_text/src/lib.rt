@@ -1,0 +1,17 @@
+//! The words of the conformance kit: levels, events, states and counters as text, appended to a buffer.
+//!
+//! An append fails only where an allocation does, and then the buffer holds a beginning of the text.
+//!
+//! | File | What it has | Defined in |
+//! |---|---|---|
+//! | `words.rt` | [`push_text`], [`push_number`], [`push_event`], [`push_state`] | `specs/Words.antt` |
+//! | `levels.rt` | [`push_levels`], levels as tokens | `specs/LevelTokens.antt` |
+#![tactic(auto)]
+
+mod levels;
+#[cfg(test)]
+mod tests;
+mod words;
+
+pub use levels::push_levels;
+pub use words::{push_event, push_number, push_state, push_text};

@@ -1,0 +1,75 @@
+//! The words as a document has them.
+use crate::{push_event, push_levels, push_number, push_state, push_text};
+use can_fault::State;
+use can_frame::{Frame, Level};
+use can_mac::{ErrorKind, Event};
+use std::alloc::{AllocError, Global};
+use std::test::Fail;
+
+/// These levels as tokens.
+fn tokens(alloc: Global, digits: &str) -> Result<Vec<u8>, AllocError> {
+    let levels: Vec<Level> = digits
+        .bytes()
+        .map(|byte| Level::from_bool(byte == b'1'))
+        .collect(alloc)?;
+    let mut out = Vec::new(alloc);
+    push_levels(&mut out, &levels)?;
+    Ok(out)
+}
+
+#[test]
+fn runs_of_eight_and_more_are_counted(rt: HostRuntime) -> Result<(), Fail> {
+    for (digits, text) in [
+        ("", ""),
+        ("0", "0"),
+        ("1111111", "1111111"),
+        ("11111111", "1*8"),
+        ("0000000011111111", "0*8 1*8"),
+        ("01111111100", "0 1*8 00"),
+        ("1111111110101", "1*9 0101"),
+        ("00000001111111000000000", "00000001111111 0*9"),
+    ] {
+        assert_eq!(rt; tokens(rt.alloc(), digits)?.as_slice(), text.as_bytes());
+    }
+    Ok(())
+}
+
+#[test]
+fn words_of_events(rt: HostRuntime) -> Result<(), Fail> {
+    let frame = Frame::from_text(b"S 123 D 1 c3")?;
+    for (event, text) in [
+        (Event::Sent(frame), "sent S 123 D 1 c3"),
+        (Event::Received(frame), "received S 123 D 1 c3"),
+        (Event::Lost, "lost"),
+        (Event::Error(ErrorKind::Stuff), "error stuff"),
+        (Event::Error(ErrorKind::Bit), "error bit"),
+        (Event::Error(ErrorKind::Form), "error form"),
+        (Event::Error(ErrorKind::Crc), "error crc"),
+        (Event::Error(ErrorKind::Ack), "error ack"),
+        (Event::Overload, "overload"),
+        (Event::WentOff, "off"),
+        (Event::Recovered, "recovered"),
+    ] {
+        let mut out = Vec::new(rt.alloc());
+        push_event(&mut out, &event)?;
+        assert_eq!(rt; out.as_slice(), text.as_bytes());
+    }
+    Ok(())
+}
+
+#[test]
+fn a_state_and_its_counters(rt: HostRuntime) -> Result<(), Fail> {
+    let mut out = Vec::new(rt.alloc());
+    for (state, count) in [
+        (State::Active, 0),
+        (State::Passive, 128),
+        (State::BusOff, 256),
+    ] {
+        push_state(&mut out, state)?;
+        push_text(&mut out, b" ")?;
+        push_number(&mut out, count)?;
+        push_text(&mut out, b";")?;
+    }
+    assert_eq!(rt; out.as_slice(), b"active 0;passive 128;off 256;".as_slice());
+    Ok(())
+}
