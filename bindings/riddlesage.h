@@ -197,8 +197,8 @@ riddlesage_status riddlesage_port_entry(riddlesage_port *port, size_t number, ri
 riddlesage_status riddlesage_encode(const riddlesage_frame *frame, uint8_t *levels, size_t room, size_t *count);
 
 /*
- * Finds the frame at the front of `count` levels. Writes what is heard of it, and to `place` how many levels it has. Of
- * the levels it reads the first RIDDLESAGE_MOST_LEVELS at most.
+ * Finds the frame at the front of `count` levels. Writes what is heard of it, and to `place` how many levels it has.
+ * The first RIDDLESAGE_MOST_LEVELS are read at most: what stands behind these changes nothing.
  * NULL_POINTER, BAD_LEVEL; and, where no frame stands there, the fault, with its place written to `place`: how many
  * levels stand before the first one that is wrong. SHORT, NO_START, STUFF, CRC, FORM.
  */

@@ -410,7 +410,10 @@ def encode(frame: Frame) -> bytes:
 
 
 def decode(levels: bytes) -> Heard:
-    """What is heard of the frame at the front of the levels; or a Fault, with its name and place."""
+    """What is heard of the frame at the front of the levels; or a Fault, with its name and place.
+
+    As many levels are read as the longest frame has, 157: what stands behind these changes nothing.
+    """
     heard, place = _Heard(), ctypes.c_size_t()
     status = _lib.riddlesage_decode(bytes(levels[:_MOST_LEVELS]), min(len(levels), _MOST_LEVELS), heard, place)
     if status >= Status.SHORT:

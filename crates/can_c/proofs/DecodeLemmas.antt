@@ -1,16 +1,13 @@
--- The levels at the front of a list, and what is found there.
-use Rattle.std.proofs.Common.{◌≡◌, ℕ, ◌+◌, ◌≤◌, List, ◌++◌, Result, Ok, length, take, drop, map, sym, ◌∙◌, ap, arith}
-use Rattle.std.proofs.lemmas.List.{length-append, length-map, take-append-drop}
+-- The levels that a decoding looks at, and what it found there.
+use Rattle.std.proofs.Common.{◌≡◌, ℕ, List, Result, Ok, take, sym, ◌∙◌, ap}
+use Rattle.std.proofs.lemmas.List.{take-map}
 use Rattle.can_frame.specs.declared.level.Level.{Level}
 use Rattle.can_frame.specs.Levels.{level_of}
 use Rattle.can_c.specs.Codes.{levels_of_codes}
 
--- a place in the front is one in the list
-pub front_within : (found : List Level) (n : ℕ) (codes : List ℕ) (place : ℕ) → found ≡ levels_of_codes (take n codes) → place ≤ length found → place ≤ length codes
-front_within found n codes place is h =
-    let front : length found ≡ length (take n codes) = ap length is ∙ length-map (take n codes) level_of in
-    let whole : length codes ≡ length (take n codes) + length (drop n codes) = ap length (sym (take-append-drop n codes)) ∙ length-append (take n codes) (drop n codes) in
-    omega (arith, front, whole, h)
+-- they are the first 157
+pub first_levels : (codes front : List ℕ) (levels looked_at : List Level) → front ≡ take 157 codes → levels ≡ levels_of_codes front → looked_at ≡ levels → looked_at ≡ take 157 (levels_of_codes codes)
+first_levels codes front levels looked_at is_front are_levels same = same ∙ are_levels ∙ ap levels_of_codes is_front ∙ sym (take-map level_of 157 codes)
 
 -- what was found is one
 pub one_found : {A E : Type 0} (r : Result A E) (x y : A) → r ≡ Ok x → r ≡ Ok y → x ≡ y

@@ -2,4 +2,5 @@ mod StatusLemmas
 mod CodeLemmas
 mod FrameLemmas
 mod RunLemmas
+mod LongestFrame
 mod DecodeLemmas

@@ -1,5 +1,5 @@
 -- One status alone has the number of a call that has done what it says.
-use Rattle.std.proofs.Common.{◌≡◌, ◌≢◌, refl, ◌∙◌, ap}
+use Rattle.std.proofs.Common.{◌≡◌, ◌≢◌, refl, ap}
 use Rattle.can_code.specs.declared.fault.CodeFaultKind.{CodeFaultKind}
 use Rattle.can_code.specs.declared.fault.CodeFaultKind.TheVariants.{Short, NoStartOfFrame, Stuff, Crc, Form}
 use Rattle.can_c.specs.declared.status.Status.{Status}

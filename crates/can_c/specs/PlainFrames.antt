@@ -1,6 +1,6 @@
 -- Frames and what is heard of them as plain fields, as they cross to C: eight data bytes always, of which a
 -- frame has the first ones; flags and levels as 0 and 1. (Bosch CAN 2.0 part B, section 3.2.1)
-use Rattle.std.specs.Prelude.{ℕ, ◌-◌, ◌==◌, nat_lt, if◌then◌else◌, Option, Some, None, ◌++◌, length, take, replicate}
+use Rattle.std.specs.Prelude.{◌-◌, ◌==◌, nat_lt, if◌then◌else◌, Option, Some, None, ◌++◌, length, take, replicate}
 use Rattle.can_frame.specs.Ident.{Ident, ident_count}
 use Rattle.can_frame.specs.Parts.{Parts, byte_count}
 use Rattle.can_wire.specs.Heard.{HeardParts}

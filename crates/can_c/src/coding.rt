@@ -56,16 +56,17 @@ fn write(wire: &[Level], levels: &mut [u8])
 }
 
 /// Finds the frame at the front of the levels, and writes what is heard of it and how many levels it has; or else
-/// where the fault is that the status tells. It looks at the first 157 levels alone, as no frame has more: a number
-/// among these that is no level's is refused, and then nothing is written.
+/// where the fault is that the status tells. It reads the first 157 levels alone: no frame has more, and what
+/// stands behind them changes neither the frame nor the fault. A number among these that is no level's is refused,
+/// and then nothing is written.
 #[tactic(auto, using(crate::proofs::StatusLemmas::fault_not_done))]
 #[unsafe(no_mangle)]
 pub extern "C" fn can_c_decode(levels: &[u8], heard: &mut PlainHeard, place: &mut usize) -> u8
     ensures bad { are_levels_of (take 157 levels.now) ≡ false → result ≡ status_code Status.BadLevel }
-    ensures found { result ≡ done → (h : HeardParts) × (Spells h (take place.new (levels_of_codes (take 157 levels.now))) × (heard.new ≡ plain_heard h)) }
+    ensures found { result ≡ done → (h : HeardParts) × (Spells h (take place.new (levels_of_codes levels.now)) × (heard.new ≡ plain_heard h)) }
     ensures within { result ≡ done → place.new ≤ length levels.now }
-    ensures only { are_levels_of (take 157 levels.now) ≡ true → (h : HeardParts) (w rest : List Bit) → Spells h w → w ++ rest ≡ levels_of_codes (take 157 levels.now) → (result ≡ done) × (heard.new ≡ plain_heard h) × (place.new ≡ length w) }
-    ensures fault { are_levels_of (take 157 levels.now) ≡ true → result ≢ done → (f : Fault) × (IsCodeFault (levels_of_codes (take 157 levels.now)) f × (result ≡ status_code (fault_status f.kind)) × (place.new ≡ f.place)) }
+    ensures only { are_levels_of (take 157 levels.now) ≡ true → (h : HeardParts) (w rest : List Bit) → Spells h w → w ++ rest ≡ levels_of_codes levels.now → (result ≡ done) × (heard.new ≡ plain_heard h) × (place.new ≡ length w) }
+    ensures fault { are_levels_of (take 157 levels.now) ≡ true → result ≢ done → (f : Fault) × (IsCodeFault (levels_of_codes levels.now) f × (result ≡ status_code (fault_status f.kind)) × (place.new ≡ f.place)) }
     ensures unheard { result ≢ done → heard.new ≡ heard.old }
     ensures unplaced { are_levels_of (take 157 levels.now) ≡ false → place.new ≡ place.old }
 {

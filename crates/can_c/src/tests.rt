@@ -124,6 +124,29 @@ fn levels_are_decoded(rt: HostRuntime) -> Result<(), Fail> {
 }
 
 #[test]
+fn as_many_levels_are_read_as_the_longest_frame_has(rt: HostRuntime) -> Result<(), Fail> {
+    let mut place = 9;
+    let mut heard = PlainHeard {
+        frame: other_frame(),
+        acknowledged: 9,
+        srr: 9,
+        r1: 9,
+        r0: 9,
+        last: 9,
+    };
+    let mut levels = [7; 200];
+    levels[..157].fill(0);
+    assert_eq!(rt; can_c_decode(&levels, &mut heard, &mut place), 16);
+    assert_eq!(rt; place, 5);
+    levels[..47].copy_from_slice(&levels_of(WIRE_001));
+    assert_eq!(rt; can_c_decode(&levels, &mut heard, &mut place), 0);
+    assert_eq!(rt; place, 47);
+    levels[156] = 7;
+    assert_eq!(rt; can_c_decode(&levels, &mut heard, &mut place), 10);
+    Ok(())
+}
+
+#[test]
 fn a_port_receives(rt: HostRuntime) -> Result<(), Fail> {
     let mut handle = Handle::empty();
     let mut drives = [9; 47];
