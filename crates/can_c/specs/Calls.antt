@@ -1,12 +1,7 @@
 -- What the calls answer: the first refusal that fits, in the order in which they stand here.
 -- (bindings/README.md, "What is refused")
 use Rattle.std.specs.Prelude.{ℕ, ◌==◌, nat_lt, nat_le, if◌then◌else◌, Option, Some, None, unwrap_or, List, length}
-<<<<<<< HEAD
-use Rattle.can_frame.specs.Parts.{Parts}
 use Rattle.can_wire.specs.Wire.{driven}
-=======
-use Rattle.can_wire.specs.Wire.{driven}
->>>>>>> cport
 use Rattle.can_node.specs.Ports.{PortState}
 use Rattle.can_c.specs.declared.plain.PlainFrame.{PlainFrame}
 use Rattle.can_c.specs.declared.status.Status.{Status}
