@@ -1,7 +1,7 @@
 use super::{Levels, levels_of, longest_frames, standard};
-use can_code::{CodeFaultKind, Decoder, FrameBits, Heard, PackedBits, PlainBits, encode};
 use arrayvec::ArrayVec;
-use can_frame::{Frame, Level};
+use can_code::{CodeFaultKind, Decoder, FrameBits, Heard, PackedBits, PlainBits, encode};
+use can_frame::{Frame, Id, Level};
 use std::process::Abort;
 use std::test::Fail;
 
@@ -148,28 +148,86 @@ fn runs(rt: HostRuntime) -> Result<(), Fail> {
     hears_runs::<PackedBits>(&rt)
 }
 
-/// Runs and single levels say the same of many lists that nearly are frames: those of a known one with a level
-/// exchanged here and there.
+/// The next of a row of numbers of 24 bits without order.
+fn next(state: &mut u32) -> u32 {
+    *state = state.wrapping_mul(1_664_525).wrapping_add(1_013_904_223);
+    *state >> 8
+}
+
+/// A frame of such numbers, with runs of equal levels among its data.
+fn some_frame(state: &mut u32) -> Result<Frame, Fail> {
+    let id = match next(state) % 2 {
+        0 => Id::standard((next(state) % 2048) as u16),
+        _ => Id::extended(next(state) << 5),
+    };
+    let mut bytes = ArrayVec::<u8, 8>::new();
+    for _ in 0..next(state) % 9 {
+        let byte = match next(state) % 4 {
+            0 => 0x00,
+            1 => 0xff,
+            2 => 0x0f,
+            _ => (next(state) % 256) as u8,
+        };
+        if !bytes.is_full() {
+            bytes.push(byte);
+        }
+    }
+    let dlc = bytes.len().min(8) as u8;
+    Ok(Frame::data(id.ok_or("an identifier")?, dlc, &bytes)?)
+}
+
+/// The levels of a frame, of which one or another is exchanged, and idle ones behind.
+fn nearly(frame: &Frame, state: &mut u32) -> Levels {
+    let mut levels = Levels::new();
+    for level in &encode(frame) {
+        if !levels.is_full() {
+            levels.push(if next(state) % 100 == 0 {
+                level.opposite()
+            } else {
+                *level
+            });
+        }
+    }
+    for _ in 0..30 {
+        if !levels.is_full() {
+            levels.push(Level::Recessive);
+        }
+    }
+    levels
+}
+
+/// Runs and single levels say the same of many lists that nearly are frames.
 #[test]
-fn runs_as_levels(rt: HostRuntime) {
-    let mut state = 1u32;
+fn runs_as_levels(rt: HostRuntime) -> Result<(), Fail> {
+    let mut state = 1;
     for _ in 0..2000 {
+        let levels = nearly(&some_frame(&mut state)?, &mut state);
         let mut digits = ArrayVec::<u8, 200>::new();
-        for digit in WIRE_000.bytes() {
-            state = state.wrapping_mul(1_664_525).wrapping_add(1_013_904_223);
+        for level in &levels {
             if !digits.is_full() {
-                digits.push(if state >> 24 < 3 { b'0' } else { digit });
+                digits.push(if level.is_recessive() { b'1' } else { b'0' });
             }
         }
-        let mut levels = Levels::new();
-        for digit in &digits {
-            if !levels.is_full() {
-                levels.push(Level::from_bool(*digit == b'1'));
-            }
-        }
-        let most = (state % 40) as usize;
+        let most = [5usize, 12, 20, 31, 200][(next(&mut state) % 5) as usize];
         assert!(rt;
             first_word_of_runs::<PackedBits>(&digits, most) == first_word::<PlainBits>(&levels)
         );
     }
+    Ok(())
+}
+
+// Of the levels behind the start of frame, the byte at each place in turn is no digit.
+#[test]
+fn no_other_byte_is_taken(rt: HostRuntime) -> Result<(), Fail> {
+    let (_, rest) = WIRE_001.as_bytes().split_first().ok_or("levels")?;
+    for place in 0..30usize {
+        let mut bytes = ArrayVec::<u8, 200>::new();
+        for (at, digit) in rest.iter().enumerate() {
+            if !bytes.is_full() {
+                bytes.push(if at == place { b'x' } else { *digit });
+            }
+        }
+        assert!(rt; Decoder::<PackedBits>::begin().hear_run(&bytes) <= place);
+    }
+    Ok(())
 }
