@@ -4,7 +4,6 @@ use std::test::Fail;
 
 mod decoder;
 mod decoding;
-mod frame_bits;
 mod sending;
 
 /// A list of levels that can be longer than any frame's.

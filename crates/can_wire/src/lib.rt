@@ -11,7 +11,7 @@
 //! | `crc_run.rt` | [`CrcRun`], the CRC sequence of levels that come one by one | `specs/Crc.antt` |
 //! | `stuffing.rt` | [`stuff`], the stuff bits, and [`run_after`], the run that a level ends | `specs/Stuffing.antt` |
 //! | `heard.rt` | [`Heard`], a frame as it is heard | `specs/Heard.antt` |
-//! | `frame_bits.rt` | [`FrameBits`], the unstuffed levels of a frame, whatever holds them | |
+//! | `frame_bits.rt` | [`FrameBits`], the unstuffed levels of a frame that have been heard or laid out | |
 //! | `plain_bits.rt` | [`PlainBits`], these levels one by one | |
 //! | `packed_bits.rt`, `two_words.rt` | [`PackedBits`], these levels in a register, with their CRC sequence so far | |
 //! | `layout.rt` | the head and the CRC sequence of what is heard, unstuffed | `specs/Heard.antt` |

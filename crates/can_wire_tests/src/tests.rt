@@ -1,11 +1,12 @@
+use arrayvec::ArrayVec;
+use can_frame::{Frame, Id, Level};
 use can_wire::places::ends_dlc;
 use can_wire::{
     CrcRun, Heard, PlainBits, crc15, encode, head, respell, rtr_place, run_after, stuff,
 };
-use arrayvec::ArrayVec;
-use can_frame::{Frame, Id, Level};
 use std::test::Fail;
 
+mod frame_bits;
 mod heard;
 
 /// A list of levels that can be longer than any frame's.

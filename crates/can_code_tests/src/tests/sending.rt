@@ -6,7 +6,7 @@ use std::test::Fail;
 
 /// The unstuffed levels of each known frame: start of frame, arbitration field with IDE, reserved
 /// bits, data length code and CRC sequence.
-pub const KNOWN_LEVELS: [&str; 7] = [
+const KNOWN_LEVELS: [&str; 7] = [
     "0000000000000000000000000000000000",
     "0000000000010000000010001000010011",
     "0000000010010000000111110000100000",

@@ -1,6 +1,6 @@
 use super::{spelled, standard};
-use can_wire::{Heard, respell};
 use can_frame::{Frame, Id, Level};
+use can_wire::{Heard, respell};
 use std::test::Fail;
 
 fn extended(raw: u32) -> Result<Id, Fail> {
