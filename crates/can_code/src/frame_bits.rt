@@ -10,7 +10,7 @@ use can_frame::Level;
 /// The start of frame (SOF).
 pub(crate) const START_OF_FRAME: Level = Level::Dominant;
 
-/// The unstuffed levels of a frame that have been heard so far, the start of frame first.
+/// The unstuffed levels of a frame that have been heard or laid out so far, the start of frame first.
 pub trait FrameBits: Drop {
     /// The levels.
     ghost levels: { Self → List Bit };

@@ -5,7 +5,8 @@ use can_frame::Level;
 use std::marker::Model;
 
 /// The unstuffed levels of a frame in a register, the last of them its lowest bit, with their CRC
-/// sequence so far. Nothing is worked out anew from all of them.
+/// sequence so far. Nothing is worked out anew from all of them. The register has no bits above them, so
+/// that equal levels have equal registers.
 #[derive(Clone, Copy, Debug)]
 pub struct PackedBits {
     register: TwoWords,

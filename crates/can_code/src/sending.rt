@@ -19,7 +19,7 @@ pub struct Sending {
 
 impl Model for Sending {
     ghost use Rattle.std.specs.Prelude.{◌≡◌};
-    ghost use Rattle.std.proofs.Common.{ap, sym};
+    ghost use Rattle.std.proofs.Common.{ap};
     ghost use Rattle.can_frame.specs.Parts.{Parts, IsFrame};
     ghost use Rattle.can_code.specs.Layout.{frame_of};
     ghost use Rattle.can_code.specs.Wire.{unstuffed};
