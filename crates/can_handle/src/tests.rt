@@ -27,6 +27,34 @@ fn a_controller_receives(rt: HostRuntime) -> Result<(), Fail> {
 }
 
 #[test]
+fn an_entry_without_room_is_missed(rt: HostRuntime) -> Result<(), Fail> {
+    let mut port = Controller::idle(rt.alloc(), 0, 0)?;
+    for byte in WIRE_001.bytes() {
+        port.sample(Level::from_bool(byte == b'1'));
+    }
+    assert_eq!(rt; port.log().len(), 0);
+    assert_eq!(rt; port.missed(), 1);
+    Ok(())
+}
+
+/// Its start of frame, and then each level of its error flags, comes back recessive: 8 to its transmit error
+/// counter each time. From 128 on it is error passive. (Bosch CAN 2.0 part B, section 8)
+#[test]
+fn a_controller_counts_its_errors(rt: HostRuntime) -> Result<(), Fail> {
+    let mut port = Controller::idle(rt.alloc(), 1, 0)?;
+    assert!(rt; port.offer(frame()?).is_ok());
+    for errors in 1..16 {
+        port.sample(Level::Recessive);
+        assert_eq!(rt; port.counters(), (8 * errors, 0));
+        assert_eq!(rt; port.state(), State::Active);
+    }
+    port.sample(Level::Recessive);
+    assert_eq!(rt; port.counters(), (128, 0));
+    assert_eq!(rt; port.state(), State::Passive);
+    Ok(())
+}
+
+#[test]
 fn a_controller_sends_what_it_is_offered(rt: HostRuntime) -> Result<(), Fail> {
     let mut port = Controller::idle(rt.alloc(), 1, 0)?;
     assert_eq!(rt; port.drive(), Level::Recessive);
