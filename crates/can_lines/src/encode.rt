@@ -8,9 +8,9 @@ ghost use Rattle.can_lines.specs.Coded.{coded_line, EncodesAll, EncodesEnded, En
 ghost use Rattle.can_lines.specs.Answering.{Answers, FailsToAnswer, Encodes};
 ghost use Rattle.can_stream.specs.Faults.{is_err_by, is_read, is_write};
 
-use can_wire::encode;
 use can_frame::Frame;
 use can_stream::{LineReader, Outbox, Sink, Source, TraceFault, write_digits};
+use can_wire::encode;
 
 /// How many bytes of a line are kept: one more than the longest frame text has.
 const KEPT: usize = 33;

@@ -7,8 +7,8 @@ ghost use Rattle.can_stream.specs.Digits.{digit_of};
 ghost use Rattle.can_lines.specs.Checked.{mark, pass, Compares, IsBadAs, IsBadLevelByte, IsBadVectorLine, IsCommonFront, IsFirstBadDigit, IsFramePart, IsLevels, IsVerdict};
 
 use arrayvec::ArrayVec;
-use can_wire::encode;
 use can_frame::{Frame, Level, TextFault, TextFaultKind};
+use can_wire::encode;
 
 /// What a line of a frame's text and levels comes to.
 #[derive(Clone, Copy, Debug, PartialEq, Eq)]

@@ -1,8 +1,8 @@
 mod rules;
 
-use can_mac::{ErrorKind, Event, Mac, PackedMac, Phase, Role};
 use can_fault::Confine;
 use can_frame::{Frame, Id, Level};
+use can_mac::{ErrorKind, Event, Mac, PackedMac, Phase, Role};
 use std::mem::size_of;
 use std::process::Abort;
 use std::test::Fail;

@@ -1,8 +1,8 @@
 ghost use Rattle.std.specs.Prelude.{◌≡◌, ◌≤◌, ◌+◌, length};
 ghost use Rattle.can_wire.specs.Wire.{wire};
 
-use can_wire::encode;
 use can_frame::Frame;
+use can_wire::encode;
 
 /// How many levels of intermission stand behind a frame. (Bosch CAN 2.0 part B, section 3.2.5)
 const INTERMISSION: usize = 3;

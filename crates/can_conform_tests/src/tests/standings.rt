@@ -1,8 +1,8 @@
 //! Where the reference stands at the bit times of some cases: phase, part, rule and last event, each worked out by
 //! hand from docs/ACCESS.md and docs/CONFORMANCE.md.
 use crate::tests::{expected, failure, offering, script};
-use can_conform::{Part, PhaseName, Rule, Script, Start, Timed};
 use Part::{Receiver, Sender};
+use can_conform::{Part, PhaseName, Rule, Script, Start, Timed};
 use can_frame::{Frame, Level};
 use can_mac::{ErrorKind, Event};
 use std::alloc::Global;

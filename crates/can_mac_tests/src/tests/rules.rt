@@ -10,9 +10,9 @@ mod flags;
 mod frame_ends;
 mod own_overloads;
 
-use can_mac::{ErrorKind, Event, MediumAccess};
 use can_code::{FrameBits, PackedBits, PlainBits};
 use can_frame::{Frame, Level};
+use can_mac::{ErrorKind, Event, MediumAccess};
 use std::alloc::Global;
 use std::process::Abort;
 use std::test::Fail;
