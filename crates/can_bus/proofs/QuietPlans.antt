@@ -1,10 +1,10 @@
 -- Ports that are made idle and offered their frames are a quiet bus.
 use Rattle.std.specs.Prelude.{slice_get}
-use Rattle.std.proofs.Common.{◌≡◌, ℕ, zero, suc, ◌≤◌, Some, None, List, [], ◌∷◌, ◌++◌, All, length, map, refl, sym, ◌∙◌, ap, subst, arith, append_assoc}
-use Rattle.std.proofs.lemmas.List.{append-nil, length-map}
+use Rattle.std.proofs.Common.{◌≡◌, ℕ, zero, suc, ◌≤◌, Some, None, List, [], ◌∷◌, ◌++◌, All, length, map, refl, sym, ◌∙◌, ap, subst, arith}
+use Rattle.std.proofs.lemmas.List.{length-map}
 use Rattle.std.proofs.lemmas.List.Elements.{All-tail}
 use Rattle.std.proofs.lemmas.Option.{slice_get_within, get_or_from_slice_get}
-use Rattle.can_frame.specs.Parts.{Parts, IsFrame}
+use Rattle.can_frame.specs.Parts.{IsFrame}
 use Rattle.can_mac.specs.State.{idle}
 use Rattle.can_mac.proofs.Kept.{IsMac-idle}
 use Rattle.can_node.specs.Ports.{PortState, IsPort, fresh_port}

@@ -9,7 +9,7 @@ use mir.Val.{bits as width_bits, hbits}
 use Rattle.std.proofs.lemmas.Simd.{chunk-drop, bitmask_splat}
 use Rattle.can_frame.specs.declared.level.Level.{Level}
 use Rattle.can_frame.specs.declared.level.Level.TheVariants.{Dominant, Recessive}
-use Rattle.can_frame.specs.Levels.{is_recessive, level_from}
+use Rattle.can_frame.specs.Levels.{is_recessive}
 use Rattle.can_bus.specs.Wired.{over, wired, level_bit}
 use Rattle.can_frame.proofs.LevelTests.{level_dominant, level_recessive}
 

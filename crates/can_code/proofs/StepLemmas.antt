@@ -1,5 +1,5 @@
 -- Levels of a stuffed part that are taken at once, and what a front has heard with them.
-use Rattle.std.proofs.Common.{◌≡◌, ◌≢◌, ℕ, zero, suc, ◌+◌, ◌-◌, ◌*◌, ◌/◌, ◌%◌, ◌^◌, ◌<◌, ◌≤◌, Bool, true, false, ◌&&◌, cond, ◌⊎◌, inl, inr, Option, Some, None, List, [], ◌∷◌, ◌++◌, length, take, drop, map, refl, sym, ◌∙◌, ap, subst, arith, length-append, append_assoc}
+use Rattle.std.proofs.Common.{◌≡◌, ◌≢◌, ℕ, zero, suc, ◌+◌, ◌*◌, ◌/◌, ◌%◌, ◌^◌, ◌<◌, ◌≤◌, Bool, true, false, cond, ◌⊎◌, inl, inr, Some, None, List, [], ◌∷◌, ◌++◌, length, take, drop, map, refl, sym, ◌∙◌, ap, subst, arith, length-append, append_assoc}
 use Rattle.std.specs.Option.{option_and_then}
 use Rattle.std.proofs.Math.Dec.{eqb}
 use Rattle.std.proofs.Math.Pow.{pow-add}
@@ -14,7 +14,7 @@ use Rattle.can_frame.specs.declared.level.Level.TheVariants.{Dominant, Recessive
 use Rattle.can_frame.specs.Levels.{bits_of, is_recessive, level_of, same}
 use Rattle.can_wire.specs.Stuffing.{run_after}
 use Rattle.can_wire.specs.Layout.{frame_len}
-use Rattle.can_code.specs.Front.{FrontParts, next_place, is_stuff_error, heard_level, hear_at, heard_levels}
+use Rattle.can_code.specs.Front.{FrontParts, next_place, heard_level, hear_at, heard_levels}
 use Rattle.can_code.specs.Digits.{HearsDigits, bit_of, digit_of, levels_up}
 use Rattle.can_code.specs.Steps.{begun, step_on, steps_on}
 use Rattle.can_code.specs.Unstuffing.{HasRoom, Unstuffs}

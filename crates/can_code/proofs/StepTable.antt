@@ -1,5 +1,5 @@
 -- The table of steps, by computing each of its entries, and what code reads of an entry.
-use Rattle.std.proofs.Common.{◌≡◌, ◌≢◌, ℕ, zero, suc, ◌+◌, ◌-◌, ◌*◌, ◌/◌, ◌%◌, ◌^◌, ◌<◌, ◌≤◌, ltb, cond, Option, Some, None, List, [], ◌∷◌, map, get_or, refl, sym, ◌∙◌, ap, arith}
+use Rattle.std.proofs.Common.{◌≡◌, ◌≢◌, ℕ, zero, suc, ◌+◌, ◌-◌, ◌*◌, ◌/◌, ◌%◌, ◌^◌, ◌<◌, ◌≤◌, ltb, cond, Option, Some, None, List, [], ◌∷◌, map, get_or, refl, ◌∙◌, ap, arith}
 use Rattle.std.specs.List.{range_with_len}
 use Rattle.std.proofs.Math.Dec.{eqb}
 use Rattle.std.proofs.Math.Pow.{pow-add, pow_mono, mod-pow-add}
@@ -14,7 +14,7 @@ use Rattle.can_code.specs.Digits.{bit_of, levels_up}
 use Rattle.can_code.specs.Steps.{begun, entry_of, steps_on}
 use Rattle.can_code.specs.declared.steps.Step.{Step}
 use Rattle.can_code.specs.declared.steps.TheConstants.{STEPS}
-use Rattle.can_code.proofs.StepLemmas.{StepBounds, bit_small, steps_on-bounds}
+use Rattle.can_code.proofs.StepLemmas.{StepBounds, bit_small}
 
 -- the levels below the highest bit of a number, at most n of them, the lowest first
 abbrev pub levels_below : ℕ → ℕ → List Level

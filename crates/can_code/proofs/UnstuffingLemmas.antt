@@ -1,5 +1,5 @@
 -- A run of levels that are taken from their digits at once.
-use Rattle.std.proofs.Common.{◌≡◌, ◌≢◌, ℕ, ◌+◌, ◌-◌, ◌*◌, ◌<◌, ◌≤◌, Bool, true, false, ◌&&◌, Option, Some, None, List, [], ◌∷◌, ◌++◌, length, take, map, get_or, refl, sym, ◌∙◌, ap, subst, arith, length-append, append_assoc}
+use Rattle.std.proofs.Common.{◌≡◌, ◌≢◌, ℕ, ◌+◌, ◌-◌, ◌*◌, ◌<◌, ◌≤◌, Bool, true, false, Option, Some, None, List, [], ◌∷◌, ◌++◌, length, take, get_or, refl, sym, ◌∙◌, ap, subst, arith, length-append, append_assoc}
 use Rattle.std.specs.Option.{option_and_then, is_some}
 use denote.Enum.Bare.{sameb}
 use Rattle.can_frame.specs.contracts.level.Level.{the_type}
@@ -16,14 +16,14 @@ use Rattle.can_wire.specs.Heard.{ack_slot}
 use Rattle.can_wire.specs.Layout.{extended_of, data_place, frame_len}
 use Rattle.can_code.specs.Reading.{TellsLength}
 use Rattle.can_code.specs.Front.{FrontParts, IsFront, next_place, is_stuff_error, heard_level, heard_levels}
-use Rattle.can_code.specs.Decoder.{DecoderParts, HasHeard}
+use Rattle.can_code.specs.Decoder.{DecoderParts}
 use Rattle.can_code.specs.Digits.{DecodesDigits, HearsDigits, HearsTail, digit_of}
 use Rattle.can_code.specs.Unstuffing.{HasRoom}
 use mir.Val.{bool_byte}
 use Rattle.can_wire.proofs.LevelLemmas.{bits_of-zero}
 use Rattle.can_wire.proofs.PackedLemmas.{bits_of-next}
 use Rattle.can_wire.proofs.LayoutPlaces.{level_at-append}
-use Rattle.can_wire.proofs.LayoutLengths.{frame_len_ge, frame_len_le, frame_len-append, frame_len_least}
+use Rattle.can_wire.proofs.LayoutLengths.{frame_len_ge, frame_len-append, frame_len_least}
 use Rattle.can_code.proofs.ReadingLemmas.{data_behind_ide}
 use Rattle.can_code.proofs.FrontLemmas.{next_place-ended}
 use Rattle.can_code.proofs.HeardLevels.{hear_at-going}

@@ -1,6 +1,6 @@
 -- What is compared of a transcript, bit time by bit time.
 use Rattle.std.specs.Prelude.{slice_get, IfSome, IsSomeAnd}
-use Rattle.std.proofs.Common.{◌≡◌, ◌≢◌, ℕ, zero, suc, ◌+◌, ◌-◌, ◌<◌, ◌≤◌, List, Option, Some, None, length, refl, sym, ap, ◌∙◌, subst, inl, inr, arith}
+use Rattle.std.proofs.Common.{◌≡◌, ◌≢◌, ℕ, zero, suc, ◌+◌, ◌<◌, ◌≤◌, Option, Some, None, length, refl, sym, ap, ◌∙◌, subst, inl, inr, arith}
 use Rattle.std.proofs.lemmas.Bool.{cases_order}
 use Rattle.std.proofs.lemmas.Option.{slice_get_past}
 use Rattle.can_conform.specs.declared.judging.Difference.{Difference}
@@ -13,7 +13,6 @@ use Rattle.can_conform.specs.declared.script.Start.TheVariants as start
 use Rattle.can_conform.specs.declared.standing.Rule.{Rule}
 use Rattle.can_conform.specs.declared.standing.Standing.{Standing}
 use Rattle.can_conform.specs.declared.timed.Timed.{Timed}
-use Rattle.can_conform.specs.declared.transcript.Counters.{Counters}
 use Rattle.can_conform.specs.declared.transcript.Transcript.{Transcript}
 use Rattle.can_node.specs.Ports.{PortState}
 use Rattle.can_mac.specs.declared.event.Event.{Event}

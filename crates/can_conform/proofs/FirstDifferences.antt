@@ -1,8 +1,6 @@
 -- Each transcript has a verdict.
 use Rattle.std.specs.Prelude.{slice_get, ◌⊎◌, ◌^◌, IfSome, IsSomeAnd}
 use Rattle.std.proofs.Common.{◌≡◌, ◌≢◌, ℕ, zero, suc, ◌+◌, ◌-◌, ◌<◌, ◌≤◌, List, Option, Some, None, length, refl, inl, inr, arith}
-use Rattle.can_frame.specs.declared.level.Level.{Level}
-use Rattle.can_mac.specs.declared.event.Event.{Event}
 use Rattle.can_conform.specs.declared.judging.Difference.{Difference}
 use Rattle.can_conform.specs.declared.judging.Difference.TheVariants as difference
 use Rattle.can_conform.specs.declared.judging.Failure.{Failure}
@@ -11,12 +9,11 @@ use Rattle.can_conform.specs.declared.judging.Verdict.TheVariants.{Pass, Fail}
 use Rattle.can_conform.specs.declared.moment.Moment.{Moment}
 use Rattle.can_conform.specs.declared.script.Script.{Script}
 use Rattle.can_conform.specs.declared.timed.Timed.{Timed}
-use Rattle.can_conform.specs.declared.transcript.Counters.{Counters}
 use Rattle.can_conform.specs.declared.transcript.Ending.{Ending}
 use Rattle.can_conform.specs.declared.transcript.Transcript.{Transcript}
 use Rattle.can_conform.specs.Runs.{end_of, moment_at, standing_before}
 use Rattle.can_conform.specs.Transcripts.{no_counts, told_at, told_before, Agrees, AgreesAt, EndBefore, IsTold}
-use Rattle.can_conform.specs.Verdicts.{IsDifference, IsFirst, IsVerdict}
+use Rattle.can_conform.specs.Verdicts.{IsFirst, IsVerdict}
 use Rattle.can_conform.specs.Walks.{IsDifferenceAt}
 use Rattle.can_conform.proofs.AgreementLemmas.{agrees-all, agrees-more, difference-is, some-map}
 use Rattle.can_conform.proofs.Deciding.{OrNot, holds, fails, same-counts, same-ending, same-event, same-level, same-option}

@@ -1,6 +1,6 @@
 -- Where a controller stands before a bit time: its phase by name, its part in the frame, and the rule of
 -- docs/ACCESS.md that decides there. (Bosch CAN 2.0 part B, sections 3.2 and 7)
-use Rattle.std.specs.Prelude.{ℕ, ◌==◌, nat_le, Bool, if◌then◌else◌, length, Option, Some, None}
+use Rattle.std.specs.Prelude.{ℕ, ◌==◌, if◌then◌else◌, length, Option, Some, None}
 use Rattle.can_frame.specs.declared.level.Level.{Level}
 use Rattle.can_frame.specs.declared.level.Level.TheVariants.{Dominant, Recessive}
 use Rattle.can_code.specs.Front.{FrontParts}

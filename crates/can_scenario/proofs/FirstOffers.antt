@@ -1,8 +1,6 @@
 -- A scenario all frames of which have time 0 runs as a bus at which they wait.
 use Rattle.std.specs.Prelude.{slice_get, All}
-use Rattle.std.proofs.Common.{◌≡◌, ℕ, zero, suc, ◌+◌, ◌<◌, Some, List, [], ◌∷◌, ◌++◌, length, map, refl, sym, ap, subst, ◌∙◌, arith}
-use Rattle.can_frame.specs.Parts.{Parts}
-use Rattle.can_node.specs.Ports.{PortState}
+use Rattle.std.proofs.Common.{◌≡◌, ℕ, zero, suc, ◌+◌, Some, List, [], ◌∷◌, map, refl, sym, ap, subst, ◌∙◌, arith}
 use Rattle.can_bus.specs.declared.hit.Hit.{Hit}
 use Rattle.can_bus.specs.declared.offer.Offer.{Offer}
 use Rattle.can_bus.specs.Offers.{all_made, played, played_level}
@@ -21,7 +19,7 @@ use Rattle.can_scenario.specs.Report.{PortReport, ended_by, frames_of_queue, lev
 use Rattle.can_scenario.specs.ScenarioOffers.{in_time, offer_to, offers_from, scenario_offers}
 use Rattle.can_scenario.proofs.OfferOrder.{in_time-first}
 use Rattle.can_scenario.proofs.OpenReports.{levels-same, planned-room}
-use Rattle.can_scenario.proofs.PlannedOffers.{own-is, queue-frames}
+use Rattle.can_scenario.proofs.PlannedOffers.{own-is}
 use Rattle.can_scenario.proofs.QuietReports.{all-at, first-offers, offers-at_once}
 use Rattle.can_node.proofs.Arrivals.{gains, offered-gains}
 

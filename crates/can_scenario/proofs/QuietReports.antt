@@ -1,20 +1,17 @@
 -- The report of a quiet scenario: the line of its frames, and at each port all of them.
-use Rattle.std.specs.Prelude.{slice_get, All}
+use Rattle.std.specs.Prelude.{All}
 use Rattle.std.specs.List.Sorted.{IsPermutation}
-use Rattle.std.proofs.Common.{◌≡◌, ℕ, zero, suc, ◌+◌, ◌<◌, ◌≤◌, Some, List, [], ◌∷◌, ◌++◌, length, map, get_or, refl, sym, ap, subst, ◌∙◌, arith, inl, inr}
+use Rattle.std.proofs.Common.{◌≡◌, ℕ, ◌+◌, ◌≤◌, List, ◌∷◌, length, map, sym, ap, subst, ◌∙◌, arith, inl, inr}
 use Rattle.std.proofs.lemmas.List.Elements.{All-get_or}
 use Rattle.std.proofs.lemmas.List.Sums.{sum_by-cons}
 use Rattle.std.proofs.lemmas.Option.{get_or_from_slice_get, slice_get_within}
 use Rattle.std.proofs.lemmas.List.Sorted.{IsPermutation-sym}
-use Rattle.can_frame.specs.declared.level.Level.{Level}
-use Rattle.can_frame.specs.Parts.{Parts, IsFrame}
+use Rattle.can_frame.specs.Parts.{Parts}
 use Rattle.can_wire.specs.Wire.{wire}
-use Rattle.can_node.specs.Ports.{PortState, IsPort}
 use Rattle.can_bus.specs.declared.offer.Offer.{Offer}
-use Rattle.can_bus.specs.Offers.{played}
 use Rattle.can_bus.specs.OpenBus.{AreOver, timed}
 use Rattle.can_bus.specs.Quiet.{AreDifferent, ascending, line_at, span}
-use Rattle.can_bus.specs.Schedule.{AreAtOnce, IsSchedule, Lists, Timed, busy_time, frames_of, next, over, schedule, track_at}
+use Rattle.can_bus.specs.Schedule.{AreAtOnce, IsSchedule, Lists, Timed, frames_of, next, over, track_at}
 use Rattle.can_bus.proofs.Ascending.{ascending_permuted, different_permuted}
 use Rattle.can_bus.proofs.AtOnce.{at_once-frames, at_once-line}
 use Rattle.can_bus.proofs.Members.{Stands, map-stands, stands-cases, stands-none, stands-permuted}
@@ -24,9 +21,9 @@ use Rattle.can_bus.proofs.Schedules.{one-schedule, schedule-frames}
 use Rattle.can_scenario.specs.declared.scenario.Scenario.{Scenario}
 use Rattle.can_scenario.specs.declared.scenario.PortPlan.{PortPlan}
 use Rattle.can_scenario.specs.declared.scenario.TimedFrame.{TimedFrame}
-use Rattle.can_scenario.specs.OpenReport.{IsOpenScenario, all_frames, open_report, queues, quiet_port, scenario_starts}
+use Rattle.can_scenario.specs.OpenReport.{all_frames, open_report, queues, quiet_port, scenario_starts}
 use Rattle.can_scenario.specs.QuietReport.{AreFirst, IsQuietScenario, quiet_report}
-use Rattle.can_scenario.specs.Report.{PortReport, levels_until, report_text}
+use Rattle.can_scenario.specs.Report.{levels_until, report_text}
 use Rattle.can_scenario.specs.ScenarioOffers.{offers_from, scenario_offers}
 use Rattle.can_scenario.proofs.OfferOrder.{in_time-permuted}
 use Rattle.can_scenario.proofs.OpenReports.{levels-same}

@@ -1,13 +1,12 @@
 -- No offer of a scenario finds a full queue.
 use Rattle.std.specs.Prelude.{filter}
-use Rattle.std.proofs.Common.{◌≡◌, ℕ, ◌≤◌, List, [], ◌∷◌, map, refl, sym, ap, subst, ◌∙◌, arith, inl, inr}
+use Rattle.std.proofs.Common.{◌≡◌, ℕ, ◌≤◌, List, [], ◌∷◌, map, refl, sym, ap, subst, inl, inr}
 use Rattle.std.proofs.Math.Dec.{eqb}
 use Rattle.std.proofs.lemmas.Bool.{cases_eq}
 use Rattle.can_node.proofs.Arrivals.{GainingPort}
 use Rattle.can_bus.specs.declared.offer.Offer.{Offer}
 use Rattle.can_bus.specs.Offers.{all_made, played, refused}
 use Rattle.can_bus.specs.OpenBus.{offered_to, timed}
-use Rattle.can_bus.specs.Run.{BusState}
 use Rattle.can_bus.specs.Schedule.{Timed}
 use Rattle.can_bus.proofs.Members.{Stands, filter-stands, map-stands, stands-cases, stands-none}
 use Rattle.can_bus.proofs.OfferTimes.{AreInOrder}
@@ -16,7 +15,7 @@ use Rattle.can_bus.proofs.PlayedRuns.{AreRoomy, IsOpen, all-taken, all_arrived, 
 use Rattle.can_bus.proofs.WireRuns.{Wire}
 use Rattle.can_scenario.specs.declared.scenario.Scenario.{Scenario}
 use Rattle.can_scenario.specs.Report.{made_bus, made_port}
-use Rattle.can_scenario.specs.ScenarioOffers.{in_time, offers_from, scenario_offers}
+use Rattle.can_scenario.specs.ScenarioOffers.{offers_from, scenario_offers}
 use Rattle.can_scenario.proofs.OfferOrder.{AreFrom, Rise, in_time-rise}
 use Rattle.can_scenario.proofs.OpenReports.{planned-room}
 

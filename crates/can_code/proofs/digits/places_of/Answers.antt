@@ -1,4 +1,4 @@
-use Rattle.std.proofs.Common.{eqb, ap, ◌∙◌, arith, w8}
+use Rattle.std.proofs.Common.{eqb, arith, w8}
 use Rattle.std.proofs.lemmas.Simd.{bitmask_splat}
 use Rattle.can_code.proofs.digits.places_of.Goals as goal
 

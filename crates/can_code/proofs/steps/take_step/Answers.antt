@@ -1,4 +1,4 @@
-use Rattle.std.proofs.Common.{◌≡◌, ◌≢◌, ap, sym, ◌∙◌, arith}
+use Rattle.std.proofs.Common.{◌≢◌, ◌∙◌, arith}
 use Rattle.can_code.specs.Digits.{levels_up}
 use Rattle.can_code.specs.Steps.{begun, steps_on}
 use Rattle.can_code.proofs.StepLemmas.{taken-bounds}

@@ -1,4 +1,4 @@
-use Rattle.std.proofs.Common.{◌≡◌, ◌≢◌, ◌≤◌, ◌++◌, length, sym, ◌∙◌, arith}
+use Rattle.std.proofs.Common.{◌≢◌, ◌≤◌, ◌++◌, length, sym, ◌∙◌, arith}
 use Rattle.can_frame.specs.Levels.{bits_of}
 use Rattle.can_wire.proofs.LevelLemmas.{length-bits_of}
 use Rattle.can_wire.proofs.Runs.{run_after-le, run_after-ge}

@@ -1,7 +1,5 @@
-use Rattle.std.proofs.Common.{◌≡◌, ◌+◌, ◌≤◌, ◌*◌, ◌%◌, ◌^◌, length, ap, subst, sym, ◌∙◌, arith, length-drop}
+use Rattle.std.proofs.Common.{sym, arith, length-drop}
 use Rattle.std.proofs.lemmas.List.{take_rest}
-use Rattle.can_code.specs.Unstuffing.{Unstuffs}
-use Rattle.can_code.specs.declared.unstuffing.UnstuffedRun.{UnstuffedRun}
 use Rattle.can_wire.proofs.PackedLemmas.{moved-fits}
 use Rattle.can_code.proofs.StepLemmas.{StepBounds, Unstuffs-begin, Unstuffs-step, taken-bounds}
 use Rattle.can_code.proofs.unstuffing.unstuff_steps.Goals as goal

@@ -1,6 +1,5 @@
-use Rattle.std.specs.Prelude.{if◌then◌else◌, option_to_list}
-use Rattle.std.proofs.Common.{◌≡◌, ℕ, ◌+◌, ◌<◌, ◌≤◌, List, [], ◌++◌, Option, Some, None, length, refl, sym, subst, ap, ◌∙◌, arith, rules}
-use Rattle.can_frame.specs.declared.level.Level.{Level}
+use Rattle.std.specs.Prelude.{if◌then◌else◌}
+use Rattle.std.proofs.Common.{◌≡◌, ◌+◌, ◌<◌, Option, Some, None, length, sym, subst, ap, ◌∙◌, arith, rules}
 use Rattle.can_conform.specs.declared.moment.Moment.{Moment}
 use Rattle.can_conform.specs.declared.transcript.Counters.{Counters}
 use Rattle.can_conform.specs.Runs.{before, counters_of, ending_of, moment_at}

@@ -1,4 +1,4 @@
-use Rattle.std.proofs.Common.{◌≡◌, ℕ, ◌+◌, ◌<◌, length, refl, subst, ap, ◌∙◌, arith}
+use Rattle.std.proofs.Common.{◌≡◌, ◌+◌, refl, subst, ap, ◌∙◌, arith}
 use Rattle.can_conform.specs.Runs.{moment_at}
 use Rattle.can_conform.specs.Transcripts.{AgreesAt}
 use Rattle.can_conform.specs.Walks.{Stands}

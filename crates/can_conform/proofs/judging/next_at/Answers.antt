@@ -1,4 +1,4 @@
-use Rattle.std.proofs.Common.{◌≡◌, length, refl, sym, arith}
+use Rattle.std.proofs.Common.{length, refl, sym, arith}
 use Rattle.std.proofs.lemmas.Option.{slice_get_read}
 use Rattle.can_conform.proofs.TimedLemmas.{reached-here, reached-later, reached-none}
 use Rattle.can_conform.proofs.judging.next_at.Goals as goal

@@ -1,4 +1,4 @@
-use Rattle.std.proofs.Common.{◌≡◌, ◌+◌, ◌<◌, ◌≤◌, length, map, get_or, sym, ap, subst, ◌∙◌, arith, add-one}
+use Rattle.std.proofs.Common.{◌≡◌, ◌+◌, ◌≤◌, length, map, get_or, sym, ap, subst, ◌∙◌, arith, add-one}
 use Rattle.can_node.specs.Ports.{PortState, all_offered}
 use Rattle.can_scenario.specs.declared.scenario.PortPlan.{PortPlan}
 use Rattle.can_scenario.specs.declared.scenario.TimedFrame.{TimedFrame}

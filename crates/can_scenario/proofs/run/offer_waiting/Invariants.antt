@@ -1,4 +1,4 @@
-use Rattle.std.proofs.Common.{◌≡◌, map, length}
+use Rattle.std.proofs.Common.{◌≡◌, map}
 use Rattle.can_scenario.proofs.Started.{node_port, partly_waiting}
 use Rattle.can_scenario.proofs.run.offer_waiting.Given as goal
 

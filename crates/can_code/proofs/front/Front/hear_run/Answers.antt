@@ -1,4 +1,4 @@
-use Rattle.std.proofs.Common.{◌≡◌, arith, length-drop}
+use Rattle.std.proofs.Common.{arith, length-drop}
 use Rattle.std.proofs.lemmas.List.{take_rest}
 use Rattle.can_code.proofs.UnstuffingLemmas.{HearsDigits-none}
 use Rattle.can_code.proofs.StepLemmas.{HearsDigits-join}
