@@ -8,7 +8,9 @@ from typing import Dict, Iterable, List, Tuple
 
 from kit.documents import Case, DocumentFault, Transcript, read_document
 
-FOLDER = os.path.join(os.path.dirname(os.path.dirname(os.path.realpath(__file__))), "cases")
+_TOP = os.path.dirname(os.path.dirname(os.path.realpath(__file__)))
+FOLDER = os.path.join(_TOP, "cases")
+TRANSCRIPTS = os.path.join(_TOP, "transcripts")
 
 
 def _files(path: str) -> List[str]:

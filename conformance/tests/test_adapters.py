@@ -103,6 +103,17 @@ class InVerilog(Answers):
         cls.command = ["vvp", "-n", program]
 
 
+@unittest.skipUnless(shutil.which("rt"), "rt is not there")
+class Proved(Answers):
+    """The proved reference. Its first call proves it, which takes minutes."""
+
+    @classmethod
+    def setUpClass(cls) -> None:
+        super().setUpClass()
+        cls.command = [os.path.join(os.path.dirname(TOP), "canhold"), "play"]
+        subprocess.run([cls.command[0], "help"], stdout=subprocess.DEVNULL, check=True)
+
+
 class Skeleton(unittest.TestCase):
     def test_its_answers_are_those_of_the_protocol(self) -> None:
         cases = read_library([os.path.join(FOLDER, "overload-own.toml")])[0]
