@@ -253,6 +253,29 @@ port 1 active tec 0 rec 0 missed 0
     reports(&rt, alloc, &two, &levels, ports)
 }
 
+/// With a disturbance, here in an attempt that never comes, all frames of all ports wait as the run begins.
+#[test]
+fn frames_beside_a_disturbance(rt: HostRuntime) -> Result<(), Fail> {
+    let alloc = rt.alloc();
+    let queues: [&[&str]; 2] = [&["S 001 D 0", "S 000 D 0"], &["S 009 D 0"]];
+    let never = Hit::In {
+        attempt: 9,
+        offset: 16,
+    };
+    let report = report_of(alloc, &of_queues(alloc, 155, &queues, &[never])?)?;
+    let ports = "\nport 0 active tec 0 rec 0 missed 0
+  sent S 000 D 0
+  sent S 001 D 0
+  took S 009 D 0
+port 1 active tec 0 rec 0 missed 0
+  took S 000 D 0
+  took S 001 D 0
+  sent S 009 D 0
+";
+    assert!(rt; report.ends_with(ports.as_bytes()));
+    Ok(())
+}
+
 /// The first frame of a queue goes out first where two have one arbitration field.
 #[test]
 fn frames_in_their_order(rt: HostRuntime) -> Result<(), Fail> {
