@@ -149,7 +149,7 @@ fn a_turned_level_is_told(rt: HostRuntime) -> Result<(), Fail> {
         let mut heard = other_heard();
         let mut told = 9;
         let mut levels = levels_of(WIRE_001);
-        levels[turned] = 1 - levels[turned];
+        levels[turned] ^= 1;
         assert_eq!(rt; can_c_decode(&levels, &mut heard, &mut told), status);
         assert_eq!(rt; told, place);
         assert_eq!(rt; heard.acknowledged, if status == 0 { 0 } else { 9 });
