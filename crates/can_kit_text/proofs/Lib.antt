@@ -1,0 +1,2 @@
+pub mod ReadPieces
+pub mod ReadTexts

@@ -6,12 +6,15 @@
 //! |---|---|---|
 //! | `words.rt` | [`push_text`], [`push_number`], [`push_event`], [`push_state`] | `specs/Words.antt` |
 //! | `levels.rt` | [`push_levels`], levels as tokens | `specs/LevelTokens.antt` |
+//! | `reading.rt` | [`read_levels`], the levels that tokens say | `specs/LevelTexts.antt` |
 #![tactic(auto)]
 
 mod levels;
+mod reading;
 #[cfg(test)]
 mod tests;
 mod words;
 
 pub use levels::push_levels;
+pub use reading::read_levels;
 pub use words::{push_event, push_number, push_state, push_text};

@@ -1,5 +1,5 @@
 //! The words as a document has them.
-use crate::{push_event, push_levels, push_number, push_state, push_text};
+use crate::{push_event, push_levels, push_number, push_state, push_text, read_levels};
 use can_fault::State;
 use can_frame::{Frame, Level};
 use can_mac::{ErrorKind, Event};
@@ -71,5 +71,61 @@ fn a_state_and_its_counters(rt: HostRuntime) -> Result<(), Fail> {
         push_text(&mut out, b";")?;
     }
     assert_eq!(rt; out.as_slice(), b"active 0;passive 128;off 256;".as_slice());
+    Ok(())
+}
+
+/// The digits of the levels that a text says; nothing where it says none.
+fn read(alloc: Global, text: &str) -> Result<Option<Vec<u8>>, AllocError> {
+    let mut levels = Vec::new(alloc);
+    if !read_levels(&mut levels, text)? {
+        return Ok(None);
+    }
+    let digits = levels
+        .iter()
+        .map(|level| if level.is_recessive() { b'1' } else { b'0' })
+        .collect(alloc)?;
+    Ok(Some(digits))
+}
+
+#[test]
+fn texts_that_say_levels(rt: HostRuntime) -> Result<(), Fail> {
+    for (text, digits) in [
+        ("0", "0"),
+        ("110", "110"),
+        ("0 1*17", "011111111111111111"),
+        ("1*3 000000 1*2", "11100000011"),
+        ("  01  0*1 ", "010"),
+    ] {
+        let read = read(rt.alloc(), text)?.ok_or("no levels")?;
+        assert_eq!(rt; read.as_slice(), digits.as_bytes());
+    }
+    let most = read(rt.alloc(), "1*100000")?.ok_or("no levels")?;
+    assert_eq!(rt; most.len(), 100_000);
+    Ok(())
+}
+
+#[test]
+fn texts_that_say_none(rt: HostRuntime) -> Result<(), Fail> {
+    for text in [
+        "",
+        " ",
+        "2",
+        "0 2",
+        "1*",
+        "*3",
+        "1*0",
+        "1*03",
+        "1*+3",
+        "1*-3",
+        "1*100001",
+        "2*3",
+        "11*3",
+        "1*3*3",
+        "1 *3",
+        "1\t0",
+        "1*4294967297",
+    ] {
+        assert!(rt; read(rt.alloc(), text)?.is_none(), "{text}");
+    }
     Ok(())
 }

@@ -14,26 +14,10 @@ use Rattle.can_stream.specs.declared.field.Field.{Field}
 use Rattle.can_stream.specs.declared.field.Field.TheVariants as field
 use Rattle.can_stream.specs.declared.field.HitList.{HitList}
 use Rattle.can_stream.specs.declared.field.HitList.TheVariants.{At, In, View}
-use Rattle.can_scenario.specs.Scenarios.{AddsHits, AllMet, ArePaired, IsArray, IsFirstUnmet, IsOptional, IsPair, IsSoundHit, SaysHit, SaysHits, elements_in, hit_demands, hit_in, list_demands, list_name, named}
-use Rattle.can_scenario.proofs.DemandLemmas.{elements-view}
-
--- ---- arrays
-
-two_items : (values : List Value) (a b : Data) → items_view values ≡ item a (item b no_items) → length values ≡ 2
-two_items [] a b e = absurd (let no : no_items ≡ item a (item b no_items) = e in cc)
-two_items (v ∷ []) a b e = absurd (let no : item (view v) no_items ≡ item a (item b no_items) = e in cc)
-two_items (v ∷ w ∷ []) a b e = refl
-two_items (v ∷ w ∷ x ∷ values) a b e = absurd (let no : item (view v) (item (view w) (item (view x) (items_view values))) ≡ item a (item b no_items) = e in cc)
-
--- the elements of an array of two are two
-pub two_elements : (values elements : List Value) (d a b : Data) → elements ≡ values → Some (items_view values) ≡ as_array d → d ≡ array (item a (item b no_items)) → length elements ≡ 2
-two_elements values elements d a b same e is =
-    let pair : Some (items_view values) ≡ Some (item a (item b no_items)) = e ∙ ap as_array is in
-    ap length same ∙ two_items values a b (cc)
-
--- those of an array of two numbers, too
-pub pair_has_two : (values elements : List Value) (d : Data) (a b : ℕ) → elements ≡ values → Some (items_view values) ≡ as_array d → IsPair a b d → length elements ≡ 2
-pair_has_two values elements d a b same e is = two_elements values elements d (integer (pos a)) (integer (pos b)) same e is
+use Rattle.can_toml.specs.Demands.{AllMet, IsFirstUnmet}
+use Rattle.can_toml.specs.Values.{ArePaired, IsArray, IsOptional, elements_in, named}
+use Rattle.can_scenario.specs.Scenarios.{AddsHits, IsSoundHit, SaysHit, SaysHits, hit_demands, hit_in, list_demands, list_name}
+use Rattle.can_toml.proofs.DemandLemmas.{elements-view}
 
 -- ---- the elements of a list
 

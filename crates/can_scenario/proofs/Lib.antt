@@ -1,11 +1,7 @@
-pub mod DemandLemmas
-pub mod ReadValues
-pub mod ReadLists
 pub mod ScenarioParts
 pub mod ScenarioRows
 pub mod OfferRows
 pub mod HitLemmas
-pub mod TimedValues
 pub mod ReportLines
 pub mod Started
 pub mod OfferOrder

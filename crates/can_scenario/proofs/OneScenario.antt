@@ -1,11 +1,8 @@
 -- Bytes say one scenario, or have one field that is told.
 use Rattle.std.specs.Prelude.{codes}
-use Rattle.std.proofs.Common.{◌≡◌, ℕ, pos, Bool, Option, Some, None, List, [], ◌∷◌, ◌++◌, refl, sym, ap, ◌∙◌, subst, inl, inr}
-use Rattle.toml.specs.Data.{Data, string, integer, boolean, array, table, Members, item, no_items}
-use Rattle.toml.specs.Parse.{parse_document}
+use Rattle.std.proofs.Common.{◌≡◌, ℕ, pos, Some, List, ◌++◌, sym, ap, ◌∙◌, subst, inl, inr}
+use Rattle.toml.specs.Data.{Data, integer, array, item, no_items}
 use Rattle.can_frame.specs.Parts.{Parts}
-use Rattle.can_frame.specs.Text.{frame_text}
-use Rattle.can_frame.proofs.OneText.{same_frame}
 use Rattle.can_bus.specs.declared.hit.Hit.{Hit}
 use Rattle.can_scenario.specs.declared.scenario.Scenario.{Scenario}
 use Rattle.can_scenario.specs.declared.scenario.PortPlan.{PortPlan}
@@ -15,53 +12,13 @@ use Rattle.can_scenario.specs.declared.scenario.version.Version.TheVariants.{One
 use Rattle.can_stream.specs.declared.field.Field.{Field}
 use Rattle.can_stream.specs.declared.field.HitList.{HitList}
 use Rattle.can_stream.specs.declared.field.HitList.TheVariants.{At, In, View}
-use Rattle.can_scenario.specs.Scenarios.{Demands, no_demands, demand, AllMet, IsFirstUnmet, ArePaired, IsDocument, IsRequired, IsNumber, SaysNumber, SaysWhether, SaysFrame, SaysTimedFrame, SaysQueueElement, version_of, SaysHit, SaysPort, SaysHits, SaysScenario, IsScenarioText, IsFirstWrong, AreSamePorts, AreSame, elements_in, named, ports_in, scenario_demands}
-
--- ---- demands
-
--- where all are met, none is the first that isn't
-met-unmet : (wrong : Field) (demands : Demands) → AllMet demands → IsFirstUnmet wrong demands → ⊥
-met-unmet wrong no_demands all u = u
-met-unmet wrong (demand told met rest) all (inl here) = here.1 all.0
-met-unmet wrong (demand told met rest) all (inr behind) = met-unmet wrong rest all.1 behind.1
-
--- the first that isn't met is one
-one-unmet : (wrong other : Field) (demands : Demands) → IsFirstUnmet wrong demands → IsFirstUnmet other demands → wrong ≡ other
-one-unmet wrong other no_demands u v = absurd u
-one-unmet wrong other (demand told met rest) (inl a) (inl b) = sym a.0 ∙ b.0
-one-unmet wrong other (demand told met rest) (inl a) (inr b) = absurd (a.1 b.0)
-one-unmet wrong other (demand told met rest) (inr a) (inl b) = absurd (b.1 a.0)
-one-unmet wrong other (demand told met rest) (inr a) (inr b) = one-unmet wrong other rest a.1 b.1
-
--- ---- documents
-
-one-members : (bytes : List ℕ) (a b : Members) → parse_document bytes ≡ Some a → parse_document bytes ≡ Some b → a ≡ b
-one-members bytes a b e f = let h : Some a ≡ Some b = sym e ∙ f in cc
-
-one-document : (bytes : List ℕ) (a b : Data) → IsDocument bytes a → IsDocument bytes b → a ≡ b
-one-document bytes a b is are = is.is_table ∙ ap table (one-members bytes is.members are.members is.parsed are.parsed) ∙ sym are.is_table
+use Rattle.can_toml.specs.Demands.{IsFirstUnmet}
+use Rattle.can_toml.specs.Values.{SaysFrame, elements_in, named}
+use Rattle.can_scenario.specs.Scenarios.{SaysTimedFrame, SaysQueueElement, version_of, SaysHit, SaysPort, SaysHits, SaysScenario, IsScenarioText, IsFirstWrong, AreSamePorts, AreSame, ports_in, scenario_demands}
+use Rattle.can_toml.proofs.DemandLemmas.{met-unmet, one-unmet}
+use Rattle.can_toml.proofs.OneReading.{one-document, required-number, said-number, said-whether, said-frame, paired-each, one-list}
 
 -- ---- values
-
-one-number : (m n : ℕ) (d : Data) → IsNumber m d → IsNumber n d → m ≡ n
-one-number m n d e f = let h : integer (pos m) ≡ integer (pos n) = sym e ∙ f in cc
-
-required-number : (m n : ℕ) (o : Option Data) → IsRequired (IsNumber m) o → IsRequired (IsNumber n) o → m ≡ n
-required-number m n None e f = absurd e
-required-number m n (Some d) e f = one-number m n d e f
-
-said-number : (usual m n : ℕ) (o : Option Data) → SaysNumber usual o m → SaysNumber usual o n → m ≡ n
-said-number usual m n None e f = e ∙ sym f
-said-number usual m n (Some d) e f = one-number m n d e f
-
-said-whether : (a b : Bool) (o : Option Data) → SaysWhether o a → SaysWhether o b → a ≡ b
-said-whether a b None e f = e ∙ sym f
-said-whether a b (Some d) e f = let h : boolean a ≡ boolean b = sym e ∙ f in cc
-
-said-frame : (d : Data) (f g : Parts) → SaysFrame d f → SaysFrame d g → f ≡ g
-said-frame d f g a b =
-    let texts : frame_text f ≡ frame_text g = (let h : string (frame_text f) ≡ string (frame_text g) = sym a.1 ∙ b.1 in cc) in
-    same_frame f g a.0 b.0 texts
 
 same-timed : (f g : TimedFrame) → f.time ≡ g.time → f.frame ≡ g.frame → f ≡ g
 same-timed f g times frames =
@@ -88,27 +45,6 @@ said-element Two d f g a b = said-timed d f g a b
 
 said-hit : (list : HitList) (d : Data) (a b : Hit) → SaysHit list d a → SaysHit list d b → a ≡ b
 said-hit list d a b e f = let h : Some a ≡ Some b = sym e ∙ f in cc
-
--- ---- lists
-
--- elements that each say one thing say one list
-module _ {A B : Type 0} (R : A → B → Type 0) (S : B → B → Type 0) (one : (x : A) (y z : B) → R x y → R x z → S y z) where
-  paired-each : (xs : List A) (ys zs : List B) → ArePaired R xs ys → ArePaired R xs zs → ArePaired S ys zs
-  paired-each [] [] [] a b = tt
-  paired-each [] [] (z ∷ zs) a b = absurd b
-  paired-each [] (y ∷ ys) zs a b = absurd a
-  paired-each (x ∷ xs) [] zs a b = absurd a
-  paired-each (x ∷ xs) (y ∷ ys) [] a b = absurd b
-  paired-each (x ∷ xs) (y ∷ ys) (z ∷ zs) a b = (one x y z a.0 b.0, paired-each xs ys zs a.1 b.1)
-
-paired-same : {B : Type 0} (ys zs : List B) → ArePaired (λ y z. y ≡ z) ys zs → ys ≡ zs
-paired-same [] [] a = refl
-paired-same [] (z ∷ zs) a = absurd a
-paired-same (y ∷ ys) [] a = absurd a
-paired-same (y ∷ ys) (z ∷ zs) a = ap (λ x. x ∷ ys) a.0 ∙ ap (λ rest. z ∷ rest) (paired-same ys zs a.1)
-
-one-list : {A B : Type 0} (R : A → B → Type 0) → ((x : A) (y z : B) → R x y → R x z → y ≡ z) → (xs : List A) (ys zs : List B) → ArePaired R xs ys → ArePaired R xs zs → ys ≡ zs
-one-list R one xs ys zs a b = paired-same ys zs (paired-each R (λ y z. y ≡ z) one xs ys zs a b)
 
 -- ---- scenarios
 

@@ -6,8 +6,10 @@ use Rattle.can_scenario.specs.declared.scenario.PortPlan.{PortPlan}
 use Rattle.can_scenario.specs.declared.scenario.TimedFrame.{TimedFrame}
 use Rattle.can_scenario.specs.declared.scenario.version.Version.{Version}
 use Rattle.can_stream.specs.declared.field.Field.{Field}
-use Rattle.can_scenario.specs.Scenarios.{AllMet, IsFirstUnmet, IsRequired, IsPortArray, ArePaired, are_known, elements_in, port_demands, port_fields, ports_demands, ports_in, named, queue_demands, room_demands, hits_demands, scenario_demands, top_demands, usual_log_room, version_of, SaysNumber, SaysPort, SaysQueueElement, SaysWhether}
-use Rattle.can_scenario.proofs.DemandLemmas.{met-followed, unmet-first, unmet-later}
+use Rattle.can_toml.specs.Demands.{AllMet, IsFirstUnmet}
+use Rattle.can_toml.specs.Values.{IsRequired, ArePaired, are_known, elements_in, named, SaysNumber, SaysWhether}
+use Rattle.can_scenario.specs.Scenarios.{IsPortArray, port_demands, port_fields, ports_demands, ports_in, queue_demands, room_demands, hits_demands, scenario_demands, top_demands, usual_log_room, version_of, SaysPort, SaysQueueElement}
+use Rattle.can_toml.proofs.DemandLemmas.{met-followed, unmet-first, unmet-later}
 
 -- ---- a port
 

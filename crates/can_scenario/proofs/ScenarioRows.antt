@@ -8,7 +8,9 @@ use Rattle.toml.specs.Parse.{parse_document}
 use Rattle.can_stream.proofs.KnownFrame.{frame_001, frame_001-whole, text_001}
 use Rattle.can_stream.specs.declared.field.Field.TheVariants as field
 use Rattle.can_stream.specs.declared.field.PortField.TheVariants as of_port
-use Rattle.can_scenario.specs.Scenarios.{AllMet, IsDocument, IsFirstUnmet, IsFirstWrong, IsTimedFrameValue, members_in, scenario_demands}
+use Rattle.can_toml.specs.Demands.{AllMet, IsFirstUnmet}
+use Rattle.can_toml.specs.Values.{IsDocument, members_in}
+use Rattle.can_scenario.specs.Scenarios.{IsFirstWrong, IsTimedFrameValue, scenario_demands}
 
 -- a document of one port
 abbrev one_port : List ℕ

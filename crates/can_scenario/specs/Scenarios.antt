@@ -1,11 +1,9 @@
 -- Scenarios: what a document has to meet, in the order in which it is tested, and which scenario it says.
 -- (docs/FORMATS.md, "`canbit run`")
-use Rattle.std.specs.Prelude.{◌≡◌, ◌⊎◌, ℕ, ◌+◌, ◌==◌, ◌≤◌, pos, Bool, true, false, ◌&&◌, if◌then◌else◌, List, [], ◌∷◌, ◌++◌, length, Option, Some, None, IsSome, unwrap_or, codes, IsUtf8}
-use Rattle.std.specs.List.{list_any}
-use Rattle.toml.specs.Data.{Data, string, integer, boolean, array, table, Items, no_items, item, Members, no_members, member, get_member, same_key}
-use Rattle.toml.specs.Parse.{parse_document}
-use Rattle.can_frame.specs.Parts.{Parts, IsFrame}
-use Rattle.can_frame.specs.Text.{frame_text, IsFrameText}
+use Rattle.std.specs.Prelude.{◌≡◌, ◌⊎◌, ℕ, ◌+◌, ◌==◌, ◌≤◌, pos, true, if◌then◌else◌, List, [], ◌∷◌, ◌++◌, length, Option, Some, None, IsSome, unwrap_or, codes}
+use Rattle.toml.specs.Data.{Data, integer, array, no_items, item}
+use Rattle.can_toml.specs.Demands.{Demands, no_demands, demand, followed, demands_on_each, AllMet, IsFirstUnmet}
+use Rattle.can_toml.specs.Values.{are_known, elements, elements_in, members_in, named, two, ArePaired, IsArray, IsDocument, IsFrameValue, IsNumber, IsOptional, IsRequired, IsTable, IsTruthValue, IsUpTo, SaysFrame, SaysNumber, SaysWhether}
 use Rattle.can_bus.specs.declared.hit.Hit.{Hit}
 use Rattle.can_bus.specs.declared.hit.Hit.TheVariants as hit
 use Rattle.can_bus.specs.Hits.{is_above, hit_names_port}
@@ -21,90 +19,6 @@ use Rattle.can_stream.specs.declared.field.Field.TheVariants as field
 use Rattle.can_stream.specs.declared.field.PortField.TheVariants as of_port
 use Rattle.can_stream.specs.declared.field.HitList.{HitList}
 use Rattle.can_stream.specs.declared.field.HitList.TheVariants.{At, In, View}
-
--- ---- demands
-
--- what is to be met, in the order in which it is tested, each with the field that is told where it isn't
-pub data Demands : Type 1 where
-  no_demands : Demands
-  demand : Field → Type 0 → Demands → Demands
-
--- these, and then those
-abbrev pub followed : Demands → Demands → Demands
-followed no_demands later = later
-followed (demand told met rest) later = demand told met (followed rest later)
-
--- what is demanded of each element, one after another, the first of which has this place
-abbrev pub demands_on_each : (ℕ → Data → Demands) → ℕ → List Data → Demands
-demands_on_each one place [] = no_demands
-demands_on_each one place (d ∷ ds) = followed (one place d) (demands_on_each one (place + 1) ds)
-
--- all are met
-abbrev pub AllMet : Demands → Type 0
-AllMet no_demands = Unit {0}
-AllMet (demand told met rest) = met × AllMet rest
-
--- the first that isn't met tells this field
-abbrev pub IsFirstUnmet : Field → Demands → Type 0
-IsFirstUnmet wrong no_demands = ⊥
-IsFirstUnmet wrong (demand told met rest) = ((told ≡ wrong) × ¬ met) ⊎ (met × IsFirstUnmet wrong rest)
-
--- ---- values of a document
-
--- a field that may be left out
-abbrev pub IsOptional : (Data → Type 0) → Option Data → Type 0
-IsOptional P None = Unit {0}
-IsOptional P (Some d) = P d
-
--- one that has to be there
-abbrev pub IsRequired : (Data → Type 0) → Option Data → Type 0
-IsRequired P None = ⊥
-IsRequired P (Some d) = P d
-
--- this whole number
-abbrev pub IsNumber : ℕ → Data → Type 0
-IsNumber n d = d ≡ integer (pos n)
-
--- a whole number from 0 to the limit
-abbrev pub IsUpTo : ℕ → Data → Type 0
-IsUpTo limit d = (n : ℕ) × IsNumber n d × (n ≤ limit)
-
-abbrev pub IsTruthValue : Data → Type 0
-IsTruthValue d = (b : Bool) × (d ≡ boolean b)
-
-abbrev pub IsArray : Data → Type 0
-IsArray d = (items : Items) × (d ≡ array items)
-
-abbrev pub IsTable : Data → Type 0
-IsTable d = (members : Members) × (d ≡ table members)
-
-abbrev pub elements_of : Items → List Data
-elements_of no_items = []
-elements_of (item d ds) = d ∷ elements_of ds
-
--- the elements of an array
-abbrev pub elements : Data → List Data
-elements (array items) = elements_of items
-elements _ = []
-
--- the elements of a field, none where it is left out
-abbrev pub elements_in : Option Data → List Data
-elements_in None = []
-elements_in (Some d) = elements d
-
--- the fields of a table
-abbrev pub members_in : Data → Members
-members_in (table members) = members
-members_in _ = no_members
-
--- each field of the table has one of these names
-abbrev pub are_known : List (List ℕ) → Members → Bool
-are_known names no_members = true
-are_known names (member key d rest) = list_any (same_key key) names && are_known names rest
-
--- the field of this name
-abbrev pub named : List ℕ → Data → Option Data
-named name d = get_member name (members_in d)
 
 -- ---- the version
 
@@ -132,10 +46,6 @@ most_log_room = 65536
 abbrev pub usual_log_room : ℕ
 usual_log_room = 64
 
--- the text of a frame
-abbrev pub IsFrameValue : Data → Type 0
-IsFrameValue d = (text : List ℕ) × (d ≡ string text) × IsFrameText text
-
 -- before which bit time a frame may be offered at most
 abbrev pub most_time : ℕ
 most_time = 1000000
@@ -144,7 +54,7 @@ most_time = 1000000
 pub record IsTimedFrameValue (d : Data) : Type 0 where
   pub time : ℕ
   pub frame : Data
-  pub pair : d ≡ array (item (integer (pos time)) (item frame no_items))
+  pub pair : d ≡ two (integer (pos time)) frame
   pub in_range : time ≤ most_time
   pub text : IsFrameValue frame
 
@@ -153,17 +63,17 @@ abbrev pub IsQueueElement : Version → Data → Type 0
 IsQueueElement One d = IsFrameValue d
 IsQueueElement Two d = IsTimedFrameValue d
 
-abbrev pub frame_demands : Version → ℕ → ℕ → Data → Demands
+abbrev pub frame_demands : Version → ℕ → ℕ → Data → Demands Field
 frame_demands version number place d = demand (field.Port number (of_port.Frame place)) (IsQueueElement version d) no_demands
 
 -- a queue and its elements
-abbrev pub queue_demands : Version → ℕ → Data → Demands
+abbrev pub queue_demands : Version → ℕ → Data → Demands Field
 queue_demands version number d =
     demand (field.Port number of_port.Queue) (IsOptional IsArray (named (codes "queue") d))
     (demands_on_each (frame_demands version number) 0 (elements_in (named (codes "queue") d)))
 
 -- the fields of a port's table behind its queue
-abbrev pub room_demands : ℕ → Data → Demands
+abbrev pub room_demands : ℕ → Data → Demands Field
 room_demands number d =
     demand (field.Port number of_port.Log) (IsOptional (IsUpTo most_log_room) (named (codes "log") d))
     (demand (field.Port number of_port.Join) (IsOptional IsTruthValue (named (codes "join") d))
@@ -171,7 +81,7 @@ room_demands number d =
     no_demands))
 
 -- a port's table
-abbrev pub port_demands : Version → ℕ → Data → Demands
+abbrev pub port_demands : Version → ℕ → Data → Demands Field
 port_demands version number d =
     demand (field.Port number of_port.Table) (IsTable d)
     (demand (field.Port number of_port.Unknown) (are_known port_fields (members_in d) ≡ true)
@@ -179,7 +89,7 @@ port_demands version number d =
     (room_demands number d)))
 
 -- the tables of all ports, the first of which has this number
-abbrev pub ports_demands : Version → ℕ → List Data → Demands
+abbrev pub ports_demands : Version → ℕ → List Data → Demands Field
 ports_demands version = demands_on_each (port_demands version)
 
 -- ---- disturbances
@@ -194,7 +104,7 @@ hit_in _ _ = None
 
 -- an array of these two whole numbers
 abbrev pub IsPair : ℕ → ℕ → Data → Type 0
-IsPair first second d = d ≡ array (item (integer (pos first)) (item (integer (pos second)) no_items))
+IsPair first second d = d ≡ two (integer (pos first)) (integer (pos second))
 
 -- it is above the one before it, if there is one
 abbrev pub IsAboveBefore : Option Hit → Hit → Type 0
@@ -207,7 +117,7 @@ IsSoundHit ports before None = ⊥
 IsSoundHit ports before (Some hit) = (hit_names_port ports hit ≡ true) × IsAboveBefore before hit
 
 -- each element of a list is a disturbance above the one before it
-abbrev pub hit_demands : HitList → ℕ → ℕ → Option Hit → List Data → Demands
+abbrev pub hit_demands : HitList → ℕ → ℕ → Option Hit → List Data → Demands Field
 hit_demands list ports place before [] = no_demands
 hit_demands list ports place before (d ∷ ds) =
     demand (field.Hit list place) (IsSoundHit ports before (hit_in list d)) (hit_demands list ports (place + 1) (hit_in list d) ds)
@@ -218,7 +128,7 @@ list_name In = codes "in"
 list_name View = codes "view"
 
 -- a list of disturbances
-abbrev pub list_demands : HitList → ℕ → Data → Demands
+abbrev pub list_demands : HitList → ℕ → Data → Demands Field
 list_demands list ports document =
     demand (field.Hits list) (IsOptional IsArray (named (list_name list) document))
     (hit_demands list ports 0 None (elements_in (named (list_name list) document)))
@@ -242,12 +152,12 @@ abbrev pub ports_in : Data → List Data
 ports_in document = elements_in (named (codes "port") document)
 
 -- all three lists of disturbances
-abbrev pub hits_demands : ℕ → Data → Demands
+abbrev pub hits_demands : ℕ → Data → Demands Field
 hits_demands ports document =
     followed (list_demands At ports document) (followed (list_demands In ports document) (list_demands View ports document))
 
 -- the fields at the top, but for the disturbances
-abbrev pub top_demands : Data → Demands
+abbrev pub top_demands : Data → Demands Field
 top_demands document =
     demand field.Unknown (are_known (top_fields (version_of document)) (members_in document) ≡ true)
     (demand field.Version (IsSome (version_in document))
@@ -256,7 +166,7 @@ top_demands document =
     no_demands)))
 
 -- what a document has to meet
-abbrev pub scenario_demands : Data → Demands
+abbrev pub scenario_demands : Data → Demands Field
 scenario_demands document =
     followed (top_demands document)
     (followed (ports_demands (version_of document) 0 (ports_in document))
@@ -264,31 +174,10 @@ scenario_demands document =
 
 -- ---- which scenario it says
 
--- the elements of two lists, pair by pair
-abbrev pub ArePaired : {A B : Type 0} → (A → B → Type 0) → List A → List B → Type 0
-ArePaired R [] [] = Unit {0}
-ArePaired R [] (y ∷ ys) = ⊥
-ArePaired R (x ∷ xs) [] = ⊥
-ArePaired R (x ∷ xs) (y ∷ ys) = R x y × ArePaired R xs ys
-
--- the number that a field says, or this one where it is left out
-abbrev pub SaysNumber : ℕ → Option Data → ℕ → Type 0
-SaysNumber usual None n = n ≡ usual
-SaysNumber usual (Some d) n = IsNumber n d
-
--- whether a field says so; where it is left out, it doesn't
-abbrev pub SaysWhether : Option Data → Bool → Type 0
-SaysWhether None b = b ≡ false
-SaysWhether (Some d) b = d ≡ boolean b
-
--- the text of this frame
-abbrev pub SaysFrame : Data → Parts → Type 0
-SaysFrame d f = IsFrame f × (d ≡ string (frame_text f))
-
 -- an array of this time and the text of this frame
 pub record SaysTimedFrame (d : Data) (timed : TimedFrame) : Type 0 where
   pub frame : Data
-  pub pair : d ≡ array (item (integer (pos timed.time)) (item frame no_items))
+  pub pair : d ≡ two (integer (pos timed.time)) frame
   pub text : SaysFrame frame timed.frame
 
 -- the element of a queue says this frame and its time, in version 1 time 0
@@ -329,13 +218,6 @@ pub record SaysScenario (document : Data) (s : Scenario) : Type 0 where
   pub bits : IsRequired (IsNumber s.bits) (named (codes "bits") document)
   pub ports : ArePaired (SaysPort (version_of document)) (ports_in document) s.ports.items
   pub hits : SaysHits document s.hits.items
-
--- the bytes are this document
-pub record IsDocument (bytes : List ℕ) (document : Data) : Type 0 where
-  pub utf8 : IsUtf8 bytes
-  pub members : Members
-  pub parsed : parse_document bytes ≡ Some members
-  pub is_table : document ≡ table members
 
 -- the bytes are a document that says this scenario
 abbrev pub IsScenarioText : List ℕ → Scenario → Type 0

@@ -10,15 +10,14 @@
 //! | `scenario/document.rt` | the document, and its fields at the top | `specs/Scenarios.antt` |
 //! | `scenario/ports.rt` | its ports | `specs/Scenarios.antt` |
 //! | `scenario/hits.rt` | its disturbances | `specs/Scenarios.antt` |
-//! | `scenario/values.rt` | the readers of values | `specs/Scenarios.antt` |
+//! | `scenario/values.rt` | the elements of a queue; the readers of values are those of can_toml | `specs/Scenarios.antt` |
 //! | `scenario/version.rt` | the versions of the format | |
 //! | `offers.rt` | the offers of a scenario, in the order in which they are made | `specs/ScenarioOffers.antt` |
 //! | `run.rt` | [`run_scenario`] | `specs/Report.antt`, `specs/OpenReport.antt`, `specs/QuietReport.antt` |
 //! | `report.rt` | the report of a run, put line by line | `specs/Report.antt` |
 //! | `laws.rt` | that documents have one reading, offers one order, none of them finds a full queue, frames of time 0 wait, and quiet scenarios have one report, however each port was offered its frames | `specs/Scenarios.antt`, `specs/ScenarioOffers.antt`, `specs/Report.antt`, `specs/QuietReport.antt` |
 //!
-//! Of the lemmas, `DemandLemmas` has demands one behind another, `ReadValues` the values of a document,
-//! `ReadLists` its arrays, `HitLemmas` its disturbances, `ScenarioParts` what a port and a document come to;
+//! Of the lemmas, `HitLemmas` has the disturbances of a document, `ScenarioParts` what a port and a document come to;
 //! `ScenarioRows` has a few documents, and `OneScenario` that a document says at most one scenario. Of
 //! offers, `OfferOrder` has their order, `PlannedOffers` what each port is offered, and `RoomForAll` that no
 //! queue is full. Of reports, `ReportLines` has the lines, `Started` how a run begins and which levels it

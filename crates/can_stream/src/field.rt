@@ -1,7 +1,8 @@
-//! The fields of a scenario, as a refusal names them.
+//! The fields of a document, as a refusal names them.
+use crate::kit_field::KitField;
 use thiserror::Error;
 
-/// What is wrong in a scenario: the document, or one of its fields. Ports and elements are counted
+/// What is wrong in a scenario: the document, or one of its fields; or in a kit document. Ports and elements are counted
 /// from 0.
 #[derive(Clone, Copy, Debug, PartialEq, Eq, Error)]
 pub enum Field {
@@ -29,6 +30,9 @@ pub enum Field {
     /// An element of such a list.
     #[error("{list}[{place}]")]
     Hit { list: HitList, place: usize },
+    /// A field of a document of the conformance kit.
+    #[error("{0}")]
+    Kit(KitField),
 }
 
 /// What is wrong in a port's table.

@@ -1,6 +1,7 @@
 //! Streams as the crates above use them, over readers and writers of pieces.
 use crate::{
-    Field, FromRead, HitList, PortField, Sink, Source, ToWrite, TraceFault, digit, write_digits,
+    CaseField, Field, FromRead, HitList, KitField, PortField, Sink, Source, ToWrite, TraceFault,
+    TranscriptField, digit, write_digits,
 };
 use can_frame::{Level, TextFault, TextFaultKind};
 use std::io;
@@ -23,7 +24,23 @@ fn printed_faults(rt: HostRuntime) -> Result<(), Fail> {
         list: HitList::View,
         place: 2,
     };
+    let levels = KitField::Case {
+        number: 3,
+        part: CaseField::Levels(1),
+    };
+    let told = KitField::Transcript {
+        number: 0,
+        part: TranscriptField::Event(12),
+    };
     for (fault, text) in [
+        (
+            TraceFault::ScenarioField(Field::Kit(levels)),
+            "P2 case[3].tester[1]",
+        ),
+        (
+            TraceFault::ScenarioField(Field::Kit(told)),
+            "P2 transcript[0].events[12]",
+        ),
         (TraceFault::BadByte { place: 3 }, "P1 byte 3"),
         (TraceFault::ScenarioField(log), "P2 port[0].log"),
         (TraceFault::ScenarioField(hit), "P2 view[2]"),

@@ -3,12 +3,14 @@ ghost use Rattle.std.specs.Prelude.{◌≡◌, codes, map, IfErr, IfNone, IfOk, 
 ghost use Rattle.toml.specs.Data.{table};
 ghost use Rattle.toml.specs.View.{view, table_view};
 ghost use Rattle.can_stream.specs.declared.field.Field.{Field as Wrong};
-ghost use Rattle.can_scenario.specs.Scenarios.{are_known, named, ports_in, top_demands, top_fields, version_in, version_of as version_of_document, AllMet, IsDocument, IsFieldOrMemory, IsFirstUnmet, IsNumber, IsPortArray, IsRequired, TellsDocument};
+ghost use Rattle.can_toml.specs.Demands.{AllMet, IsFirstUnmet};
+ghost use Rattle.can_toml.specs.Values.{are_known, named, IsDocument, IsNumber, IsRequired};
+ghost use Rattle.can_scenario.specs.Scenarios.{ports_in, top_demands, top_fields, version_in, version_of as version_of_document, IsFieldOrMemory, IsPortArray, TellsDocument};
 
 use crate::scenario::Field;
-use crate::scenario::values::{elements_of, field, has_only, required_number};
 use crate::scenario::version::Version;
 use can_stream::TraceFault;
+use can_toml::{DocumentFault, elements_of, field, has_only, read_document, required_number};
 use std::alloc::Global;
 use toml::{Table, Value};
 
@@ -30,10 +32,10 @@ pub(crate) fn parse(alloc: Global, text: &[u8]) -> Result<Table, TraceFault>
     ensures unmet { (wrong : Wrong) → IsErrOf result (TraceFault.ScenarioField wrong) → TellsDocument wrong text.now }
     ensures other { IfErr result IsFieldOrMemory }
 {
-    match toml::table_from_slice(alloc, text) {
+    match read_document(alloc, text) {
         Ok(document) => Ok(document),
-        Err(error) if error.is_memory() => Err(TraceFault::Memory),
-        Err(_) => Err(TraceFault::ScenarioField(Field::Document)),
+        Err(DocumentFault::Memory) => Err(TraceFault::Memory),
+        Err(DocumentFault::NoDocument) => Err(TraceFault::ScenarioField(Field::Document)),
     }
 }
 

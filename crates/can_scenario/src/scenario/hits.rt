@@ -3,13 +3,15 @@ ghost use Rattle.std.specs.Prelude.{◌≡◌, ◌↔◌, ℕ, Option, Some, map
 ghost use Rattle.can_bus.specs.Hits.{AreTaken, hit_names_port as names_port_of};
 ghost use Rattle.toml.specs.Data.{table};
 ghost use Rattle.toml.specs.View.{view, table_view};
-ghost use Rattle.can_scenario.specs.Scenarios.{hit_in as hit_said, hit_demands, hits_demands, list_demands, list_name, elements_in, named, AddsHits, AllMet, IsAboveBefore, IsFieldOrMemory, IsFirstUnmet, IsNumber, IsPair, IsSoundHit, SaysHits};
+ghost use Rattle.can_toml.specs.Demands.{AllMet, IsFirstUnmet};
+ghost use Rattle.can_toml.specs.Values.{elements_in, named, IsNumber};
+ghost use Rattle.can_scenario.specs.Scenarios.{hit_in as hit_said, hit_demands, hits_demands, list_demands, list_name, AddsHits, IsAboveBefore, IsFieldOrMemory, IsPair, IsSoundHit, SaysHits};
 ghost use Rattle.can_stream.specs.declared.field.Field.{Field as Wrong};
 
-use crate::scenario::values::field;
 use crate::scenario::{Field, HitList};
 use can_bus::Hit;
 use can_stream::TraceFault;
+use can_toml::{field, two_of, whole_number};
 use std::alloc::Global;
 use toml::{Table, Value};
 
@@ -124,7 +126,7 @@ fn hit_in(list: HitList, value: &Value) -> Option<Hit>
     ensures { result ≡ hit_said list (view value.now) }
 {
     match list {
-        HitList::At => Some(Hit::At(number_in(value)?)),
+        HitList::At => Some(Hit::At(whole_number(value)?)),
         HitList::In => {
             let (attempt, offset) = pair_in(value)?;
             Some(Hit::In { attempt, offset })
@@ -139,20 +141,10 @@ fn hit_in(list: HitList, value: &Value) -> Option<Hit>
     }
 }
 
-/// The number, if it is a whole number of at least 0.
-fn number_in(value: &Value) -> Option<u64>
-    ensures { MatchOption result ((n : ℕ) → ¬ IsNumber n (view value.now)) (λ n. IsNumber n (view value.now)) }
-{
-    u64::try_from(value.as_integer()?).ok()
-}
-
 /// The two numbers of an array of two.
 fn pair_in(value: &Value) -> Option<(u64, u64)>
     ensures { MatchOption result ((a b : ℕ) → ¬ IsPair a b (view value.now)) (λ pair. IsPair pair.0 pair.1 (view value.now)) }
 {
-    let values = value.as_array()?;
-    match values.as_slice() {
-        [first, second] => Some((number_in(first)?, number_in(second)?)),
-        _ => None,
-    }
+    let (first, second) = two_of(value)?;
+    Some((whole_number(first)?, whole_number(second)?))
 }

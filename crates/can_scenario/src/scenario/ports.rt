@@ -3,12 +3,15 @@ ghost use Rattle.std.specs.Prelude.{◌≡◌, codes, map, IfErr, IfOk, IsErrOf,
 ghost use Rattle.toml.specs.Data.{table};
 ghost use Rattle.toml.specs.View.{view, table_view};
 ghost use Rattle.can_stream.specs.declared.field.Field.{Field as Wrong};
-ghost use Rattle.can_scenario.specs.Scenarios.{demands_on_each, elements_in, frame_demands, named, port_demands, ports_demands, queue_demands, room_demands, usual_log_room, AllMet, ArePaired, IsFieldOrMemory, IsFirstUnmet, SaysNumber, SaysPort, SaysQueueElement, SaysWhether};
+ghost use Rattle.can_toml.specs.Demands.{demands_on_each, AllMet, IsFirstUnmet};
+ghost use Rattle.can_toml.specs.Values.{elements_in, named, ArePaired, SaysNumber, SaysWhether};
+ghost use Rattle.can_scenario.specs.Scenarios.{frame_demands, port_demands, ports_demands, queue_demands, room_demands, usual_log_room, IsFieldOrMemory, SaysPort, SaysQueueElement};
 
-use crate::scenario::values::{elements_or_none, fields_of, has_only, number_or, queued, truth};
+use crate::scenario::values::queued;
 use crate::scenario::version::Version;
 use crate::scenario::{Field, PortField, PortPlan, TimedFrame};
 use can_stream::TraceFault;
+use can_toml::{elements_or_none, fields_of, has_only, number_or, truth};
 use std::alloc::Global;
 use toml::{Table, Value};
 

@@ -3,7 +3,9 @@ use Rattle.can_bus.specs.Hits.{AreTaken}
 use Rattle.toml.specs.Data.{Data, table}
 use Rattle.toml.specs.View.{view, table_view}
 use Rattle.can_scenario.specs.declared.scenario.version.Version.{Version}
-use Rattle.can_scenario.specs.Scenarios.{hits_demands, named, ports_demands, ports_in, top_demands, version_of, AllMet, ArePaired, IsFirstUnmet, IsNumber, IsRequired, SaysPort}
+use Rattle.can_toml.specs.Demands.{AllMet, IsFirstUnmet}
+use Rattle.can_toml.specs.Values.{named, ArePaired, IsNumber, IsRequired}
+use Rattle.can_scenario.specs.Scenarios.{hits_demands, ports_demands, ports_in, top_demands, version_of, SaysPort}
 use Rattle.can_scenario.proofs.ScenarioParts.{ports-unmet, hits-unmet, scenario-met, length-paired, port-count}
 use Rattle.can_scenario.proofs.scenario.Scenario.from_text.Goals as goal
 

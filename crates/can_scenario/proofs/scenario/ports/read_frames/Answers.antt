@@ -1,7 +1,8 @@
 use Rattle.std.proofs.Common.{rules, arith}
 use Rattle.toml.specs.View.{view}
-use Rattle.can_scenario.specs.Scenarios.{frame_demands, IsFirstUnmet, SaysQueueElement}
-use Rattle.can_scenario.proofs.ReadLists.{IsRead-more, unmet-next, met-all, said-all}
+use Rattle.can_toml.specs.Demands.{IsFirstUnmet}
+use Rattle.can_scenario.specs.Scenarios.{frame_demands, SaysQueueElement}
+use Rattle.can_toml.proofs.ReadLists.{IsRead-more, unmet-next, met-all, said-all}
 use Rattle.can_scenario.proofs.scenario.ports.read_frames.Goals as goal
 
 pub returns-in_default-clause-unmet : goal.returns-in_default-clause-unmet

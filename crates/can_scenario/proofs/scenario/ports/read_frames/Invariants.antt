@@ -1,5 +1,5 @@
 use Rattle.can_scenario.specs.Scenarios.{frame_demands, SaysQueueElement}
-use Rattle.can_scenario.proofs.ReadLists.{IsRead}
+use Rattle.can_toml.proofs.ReadLists.{IsRead}
 use Rattle.can_scenario.proofs.scenario.ports.read_frames.Given as goal
 
 abbrev pub invariant-loop-place : goal.invariant-loop-place

@@ -1,7 +1,9 @@
 use Rattle.std.proofs.Common.{◌≡◌, true, rules}
 use Rattle.toml.specs.Data.{Members, table}
 use Rattle.toml.specs.View.{view, table_view}
-use Rattle.can_scenario.specs.Scenarios.{are_known, port_fields, queue_demands, IsFirstUnmet}
+use Rattle.can_toml.specs.Demands.{IsFirstUnmet}
+use Rattle.can_toml.specs.Values.{are_known}
+use Rattle.can_scenario.specs.Scenarios.{port_fields, queue_demands}
 use Rattle.can_scenario.proofs.ScenarioParts.{queue-unmet, room-unmet, port-met-by, port-said-by}
 use Rattle.can_scenario.proofs.scenario.ports.read_port.Goals as goal
 

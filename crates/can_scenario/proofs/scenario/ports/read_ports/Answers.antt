@@ -1,7 +1,8 @@
 use Rattle.std.proofs.Common.{rules, arith}
 use Rattle.toml.specs.View.{view}
-use Rattle.can_scenario.specs.Scenarios.{port_demands, IsFirstUnmet, SaysPort}
-use Rattle.can_scenario.proofs.ReadLists.{IsRead-more, unmet-next, met-all, said-all}
+use Rattle.can_toml.specs.Demands.{IsFirstUnmet}
+use Rattle.can_scenario.specs.Scenarios.{port_demands, SaysPort}
+use Rattle.can_toml.proofs.ReadLists.{IsRead-more, unmet-next, met-all, said-all}
 use Rattle.can_scenario.proofs.scenario.ports.read_ports.Goals as goal
 
 pub returns-in_err-read_port-clause-unmet : goal.returns-in_err-read_port-clause-unmet

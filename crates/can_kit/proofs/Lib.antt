@@ -1,0 +1,4 @@
+pub mod InTime
+pub mod Strings
+pub mod WordLists
+pub mod TesterParts

@@ -1,0 +1,105 @@
+//! The levels that a text says.
+ghost use Rattle.std.specs.Prelude.{ℕ, ◌≡◌, ◌≢◌, ◌<◌, ◌≤◌, ◌^◌, List, decimal, false, map, replicate, true, IfOk, MatchOption};
+ghost use Rattle.can_frame.specs.declared.level.Level.{Level as LevelSaid};
+ghost use Rattle.can_stream.specs.Digits.{digit_of};
+ghost use Rattle.can_kit_text.specs.LevelTexts.{longest_run, AddsLevels, IsRun, SaysLevels, SaysPiece};
+
+use can_frame::Level;
+use itoa::Buffer;
+use std::alloc::AllocError;
+
+/// How many levels a token `L*N` has at most.
+const LONGEST_RUN: u32 = 100_000;
+
+/// Appends the levels that a text says, and answers whether it says some.
+pub fn read_levels(levels: &mut Vec<Level>, text: &str) -> Result<bool, AllocError>
+    ensures said { IfOk result (λ said. said ≡ true → AddsLevels (SaysLevels text.now) levels.old.items levels.new.items) }
+    ensures none { IfOk result (λ said. said ≡ false → (read : List LevelSaid) → ¬ SaysLevels text.now read) }
+{
+    let before = levels.len();
+    for piece in text.split(' ') {
+        if !read_piece(levels, piece)? {
+            return Ok(false);
+        }
+    }
+    Ok(before < levels.len())
+}
+
+/// Appends the levels that stand between two blanks, and answers whether these are levels.
+fn read_piece(levels: &mut Vec<Level>, piece: &str) -> Result<bool, AllocError>
+    ensures said { IfOk result (λ said. said ≡ true → AddsLevels (SaysPiece piece.now) levels.old.items levels.new.items) }
+    ensures none { IfOk result (λ said. said ≡ false → (read : List LevelSaid) → ¬ SaysPiece piece.now read) }
+{
+    let Some((level, count)) = run_in(piece) else {
+        return read_digits(levels, piece.as_bytes());
+    };
+    for _ in 0..count {
+        levels.push(level)?;
+    }
+    Ok(true)
+}
+
+/// Appends the levels whose digits these are, and answers whether they are digits of levels.
+fn read_digits(levels: &mut Vec<Level>, digits: &[u8]) -> Result<bool, AllocError>
+    ensures said { IfOk result (λ said. said ≡ true → AddsLevels (λ read. digits.now ≡ map digit_of read) levels.old.items levels.new.items) }
+    ensures none { IfOk result (λ said. said ≡ false → (read : List LevelSaid) → digits.now ≢ map digit_of read) }
+{
+    for digit in digits {
+        let Some(level) = level_of(*digit) else {
+            return Ok(false);
+        };
+        levels.push(level)?;
+    }
+    Ok(true)
+}
+
+/// The level of a digit.
+fn level_of(digit: u8) -> Option<Level>
+    ensures { MatchOption result ((level : LevelSaid) → digit_of level ≢ digit) (λ level. digit_of level ≡ digit) }
+{
+    match digit {
+        b'0' => Some(Level::Dominant),
+        b'1' => Some(Level::Recessive),
+        _ => None,
+    }
+}
+
+/// The level of a token `L*N`, and how many there are.
+fn run_in(piece: &str) -> Option<(Level, u32)>
+    ensures { MatchOption result ((levels : List LevelSaid) → ¬ IsRun piece.now levels) (λ run. IsRun piece.now (replicate run.1 run.0)) }
+{
+    let (digit, count) = piece.split_once('*')?;
+    match digit.as_bytes() {
+        [digit] => Some((level_of(*digit)?, count_in(count)?)),
+        _ => None,
+    }
+}
+
+/// The number of a token, from 1 to 100000.
+fn count_in(digits: &str) -> Option<u32>
+    ensures { MatchOption result ((n : ℕ) → 0 < n → n ≤ longest_run → digits.now ≢ decimal n) (λ n. (0 < n) × (n ≤ longest_run) × (digits.now ≡ decimal n)) }
+{
+    let count = number_in(digits)?;
+    if count == 0 {
+        return None;
+    }
+    if LONGEST_RUN < count {
+        return None;
+    }
+    Some(count)
+}
+
+/// The number of these digits, which has neither a sign nor a leading zero.
+fn number_in(digits: &str) -> Option<u32>
+    ensures { MatchOption result ((n : ℕ) → n < 2 ^ 32 → digits.now ≢ decimal n) (λ n. (n < 2 ^ 32) × (digits.now ≡ decimal n)) }
+{
+    match digits.parse::<u32>() {
+        Ok(number) => {
+            if Buffer::new().format(number) == digits {
+                return Some(number);
+            }
+            None
+        }
+        Err(_) => None,
+    }
+}

@@ -1,0 +1,5 @@
+pub mod DemandLemmas
+pub mod ReadLists
+pub mod ReadValues
+pub mod Pairs
+pub mod OneReading

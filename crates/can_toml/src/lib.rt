@@ -1,0 +1,25 @@
+//! Values of TOML documents. A reader answers what a field says, or nothing where the field isn't as it has to be.
+//!
+//! What a document has to meet is a list of demands in their order, each with the field that is told where it
+//! isn't met (`specs/Demands.antt`). Crates above state theirs, and read the values with these calls.
+//!
+//! | File | What it has | Defined in |
+//! |---|---|---|
+//! | `document.rt` | [`read_document`], the document that some bytes are | `specs/Values.antt` |
+//! | `values.rt` | fields, numbers, truth values, arrays and frames | `specs/Values.antt` |
+//!
+//! Of the lemmas, `DemandLemmas` has demands one behind another, `ReadLists` the elements of an array, read one
+//! after another, `ReadValues` what the readers answer, `Pairs` arrays of two, and `OneReading` that values and
+//! demands say one thing.
+#![tactic(auto)]
+
+mod document;
+#[cfg(test)]
+mod tests;
+mod values;
+
+pub use document::{DocumentFault, read_document};
+pub use values::{
+    elements_of, elements_or_none, field, fields_of, frame, has_only, number, number_or,
+    required_number, truth, two_of, whole_number,
+};

@@ -1,0 +1,107 @@
+//! Cases.
+ghost use Rattle.std.specs.Prelude.{◌≡◌, ◌≢◌, [], codes, map, IfOk, IsErrOf, MatchBool, OnOk};
+ghost use Rattle.toml.specs.Data.{table};
+ghost use Rattle.toml.specs.View.{table_view, view};
+ghost use Rattle.can_stream.specs.declared.kit_field.KitField.{KitField as Wrong};
+ghost use Rattle.can_toml.specs.Demands.{AllMet, IsFirstUnmet};
+ghost use Rattle.can_toml.specs.Values.{elements_in, named};
+ghost use Rattle.can_kit.specs.Cases.{case_demands, fields_demands, NeedsAll, SaysCase};
+ghost use Rattle.can_kit.specs.Words.{SaysNeeds};
+
+use crate::fault::KitFault;
+use crate::head::read_head;
+use crate::naming::read_name;
+use crate::tester::read_tester;
+use crate::timed::read_lists;
+use crate::words::{Choice, Needs};
+use can_conform::Script;
+use can_stream::CaseField;
+use can_toml::{elements_or_none, fields_of, has_only};
+use std::alloc::Global;
+use toml::{Table, Value};
+
+/// The fields that a case may have.
+const CASE_FIELDS: [&str; 12] = [
+    "version", "name", "family", "purpose", "start", "needs", "choices", "bits", "tester", "offers",
+    "holds", "forced",
+];
+
+/// A case of a document.
+#[derive(Debug, Drop)]
+pub struct Case {
+    pub name: String,
+    /// What a bench has to be able to do.
+    pub needs: Needs,
+    /// What the expectation rests on.
+    pub choices: Vec<Choice>,
+    pub script: Script,
+}
+
+/// Reads the case of this number, whose table this is, behind these cases.
+pub(crate) fn read_case(
+    alloc: Global,
+    earlier: &[Value],
+    number: usize,
+    value: &Value,
+) -> Result<Case, KitFault>
+    ensures said { IfOk result (SaysCase (view value.now)) }
+    ensures met { OnOk result (AllMet (case_demands (map view earlier.now) number (view value.now))) }
+    ensures unmet { (wrong : Wrong) → IsErrOf result (KitFault.Field wrong) → IsFirstUnmet wrong (case_demands (map view earlier.now) number (view value.now)) }
+{
+    let Some(fields) = fields_of(value) else {
+        return Err(KitFault::in_case(number, CaseField::Table));
+    };
+    read_fields(alloc, earlier, number, fields)
+}
+
+/// Reads the case of this number, with these fields, behind these cases.
+fn read_fields(
+    alloc: Global,
+    earlier: &[Value],
+    number: usize,
+    fields: &Table,
+) -> Result<Case, KitFault>
+    ensures said { IfOk result (SaysCase (table (table_view fields.now))) }
+    ensures met { OnOk result (AllMet (fields_demands (map view earlier.now) number (table (table_view fields.now)))) }
+    ensures unmet { (wrong : Wrong) → IsErrOf result (KitFault.Field wrong) → IsFirstUnmet wrong (fields_demands (map view earlier.now) number (table (table_view fields.now))) }
+{
+    if !has_only(fields, &CASE_FIELDS) {
+        return Err(KitFault::in_case(number, CaseField::Unknown));
+    }
+    let name = read_name(earlier, number, fields)?;
+    let head = read_head(alloc, number, fields)?;
+    let levels = read_tester(alloc, number, head.bits, fields)?;
+    let lists = read_lists(alloc, number, head.bits, &levels, fields)?;
+    if !has_all(head.needs, fields) {
+        return Err(KitFault::in_case(number, CaseField::Needs));
+    }
+    Ok(Case {
+        name: String::from_str(alloc, name)?,
+        needs: head.needs,
+        choices: head.choices,
+        script: Script {
+            start: head.start,
+            tester: lists.tester,
+            offers: lists.offers,
+            holds: lists.holds,
+        },
+    })
+}
+
+/// Whether what a case with these fields asks of a bench is among its needs.
+fn has_all(needs: Needs, fields: &Table) -> bool
+    requires { SaysNeeds (named (codes "needs") (table (table_view fields.now))) needs }
+    ensures { MatchBool result (NeedsAll (table (table_view fields.now)) needs) (¬ NeedsAll (table (table_view fields.now)) needs) }
+{
+    (needs.forced || is_left_empty(fields, "forced")) && (needs.hold || is_left_empty(fields, "holds"))
+}
+
+/// Whether a list of a case with these fields is empty or left out.
+fn is_left_empty(fields: &Table, name: &str) -> bool
+    ensures { MatchBool result (elements_in (named name.now (table (table_view fields.now))) ≡ []) (elements_in (named name.now (table (table_view fields.now))) ≢ []) }
+{
+    match elements_or_none(fields, name) {
+        Some(values) => values.is_empty(),
+        None => true,
+    }
+}
