@@ -125,15 +125,11 @@ fn first_field_is_told(rt: HostRuntime) -> Result<(), Fail> {
     for (sound, line, part) in [
         (0, "key = 1\n", CaseField::Unknown),
         (0, "", CaseField::Version),
+        (0, "version = 0\n", CaseField::Version),
         (0, "version = 2\n", CaseField::Version),
         (0, "version = \"1\"\n", CaseField::Version),
         (1, "", CaseField::Family),
         (1, "family = \"RX\"\n", CaseField::Family),
-        (
-            1,
-            "family = \"a1234567890123456789012345678901234567890\"\n",
-            CaseField::Family,
-        ),
         (2, "", CaseField::Name),
         (2, "name = \"rx-0\"\n", CaseField::Name),
         (2, "name = \"rx-1-a\"\n", CaseField::Name),
@@ -170,6 +166,90 @@ fn first_field_is_told(rt: HostRuntime) -> Result<(), Fail> {
         }
         text.push_str(line)?;
         assert_refused(&rt, rt.alloc(), &text, part)?;
+    }
+    Ok(())
+}
+
+/// A field may be as long as this, and no longer. What is told at the limit is another field.
+#[test]
+fn limits_of_length(rt: HostRuntime) -> Result<(), Fail> {
+    for (sound, front, piece, most, back, at_most, beyond) in [
+        (
+            1,
+            "family = \"",
+            "a",
+            40,
+            "\"",
+            CaseField::Name,
+            CaseField::Family,
+        ),
+        (
+            2,
+            "name = \"rx-0-",
+            "a",
+            75,
+            "\"",
+            CaseField::Start,
+            CaseField::Name,
+        ),
+        (
+            3,
+            "purpose = \"",
+            "a",
+            200,
+            "\"",
+            CaseField::Start,
+            CaseField::Purpose,
+        ),
+        (
+            8,
+            "tester = [",
+            "\"\", ",
+            4096,
+            "]",
+            CaseField::Levels(0),
+            CaseField::Tester,
+        ),
+        (
+            9,
+            "offers = [",
+            "0, ",
+            256,
+            "]",
+            CaseField::Offer(0),
+            CaseField::Offers,
+        ),
+        (
+            10,
+            "holds = [",
+            "0, ",
+            256,
+            "]",
+            CaseField::Hold(0),
+            CaseField::Holds,
+        ),
+        (
+            11,
+            "forced = [",
+            "1, ",
+            4096,
+            "]",
+            CaseField::ForcedTime(1),
+            CaseField::Forced,
+        ),
+    ] {
+        for (pieces, part) in [(most, at_most), (most + 1, beyond)] {
+            let mut text = String::from_str(rt.alloc(), "[[case]]\n")?;
+            for field in SOUND.iter().take(sound) {
+                text.push_str(field)?;
+            }
+            text.push_str(front)?;
+            for _ in 0..pieces {
+                text.push_str(piece)?;
+            }
+            text.push_str(back)?;
+            assert_refused(&rt, rt.alloc(), &text, part)?;
+        }
     }
     Ok(())
 }
@@ -229,5 +309,13 @@ fn cases_behind_cases(rt: HostRuntime) -> Result<(), Fail> {
     });
     assert_eq!(rt; read(alloc, &text)?.err().ok_or("taken")?, told);
     assert_eq!(rt; read(alloc, "")?.map_err(|_| "refused")?.len(), 0);
-    assert_refused(&rt, alloc, "case = [1]\n", CaseField::Table)
+    assert_refused(&rt, alloc, "case = [1]\n", CaseField::Table)?;
+    let no_table = KitFault::Field(KitField::Case {
+        number: 1,
+        part: CaseField::Table,
+    });
+    let text =
+        "case = [{ version = 1, family = \"a\", name = \"a-\", start = \"idle\", bits = 1, tester = [\"1\"] }, 1]";
+    assert_eq!(rt; read(alloc, text)?.err().ok_or("taken")?, no_table);
+    Ok(())
 }
