@@ -7,7 +7,7 @@ use std::alloc::{AllocError, AllocFailed};
 
 /// Why a document is not read: its first field that isn't as it has to be, or memory ran out.
 #[derive(Clone, Copy, Debug, PartialEq, Eq)]
-pub(crate) enum KitFault {
+pub enum KitFault {
     Field(KitField),
     Memory,
 }

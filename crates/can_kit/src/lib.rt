@@ -29,4 +29,8 @@ mod tests;
 mod words;
 
 pub use case::Case;
-pub use words::{Choice, Needs};
+pub use fault::KitFault;
+pub use lists::{Element, ElementFault, read_elements};
+pub use naming::is_of_version_one;
+pub use tester::read_strings;
+pub use words::{Choice, Needs, text_of};

@@ -85,7 +85,7 @@ impl CaseList {
 }
 
 /// What the elements of a list say.
-pub(crate) trait Element: Sized + Drop {
+pub trait Element: Sized + Drop {
     /// The element says this.
     ghost says: { Data → Self → Type 0 };
 
@@ -128,7 +128,7 @@ impl Element for u32 {
 
 /// Why elements are not read.
 #[derive(Clone, Copy, Debug, PartialEq, Eq)]
-pub(crate) enum ElementFault {
+pub enum ElementFault {
     /// The first element that isn't as it has to be.
     At(usize),
     Memory,
@@ -176,7 +176,7 @@ pub(crate) fn read_list<T: Element>(
 }
 
 /// Reads the elements of a list, whose times are below the end and so far apart at least.
-pub(crate) fn read_elements<T: Element>(
+pub fn read_elements<T: Element>(
     alloc: Global,
     values: &[Value],
     end: u32,
