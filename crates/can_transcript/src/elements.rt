@@ -5,6 +5,7 @@ ghost use Rattle.can_conform.specs.declared.transcript.Counters.{Counters as Cou
 ghost use Rattle.can_conform.specs.declared.transcript.Ending.{Ending as EndingSaid};
 ghost use Rattle.can_transcript.specs.Elements.{SayCounters, SaysChange, SaysEnd, SaysEventAt};
 
+use crate::lists::TranscriptList;
 use can_conform::{Counters, Ending, Timed};
 use can_kit::{Element, text_of};
 use can_kit_text::{read_event, read_state};
@@ -15,7 +16,7 @@ use toml::Value;
 /// The highest count that is told.
 const MOST_COUNTS: u64 = 65_535;
 
-impl Element for Timed<Event> {
+impl Element<TranscriptList> for Timed<Event> {
     ghost says = { SaysEventAt };
 
     fn in_value(value: &Value, time: u32) -> Option<Timed<Event>> {
@@ -26,7 +27,7 @@ impl Element for Timed<Event> {
     }
 }
 
-impl Element for Timed<Counters> {
+impl Element<TranscriptList> for Timed<Counters> {
     ghost says = { SaysChange };
 
     fn in_value(value: &Value, time: u32) -> Option<Timed<Counters>> {

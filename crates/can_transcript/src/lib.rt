@@ -20,6 +20,8 @@ mod elements;
 mod fault;
 mod lists;
 mod naming;
+#[cfg(test)]
+mod tests;
 mod told;
 
 pub use told::{Told, read_transcript, read_transcripts};

@@ -64,7 +64,7 @@ impl TranscriptList {
 }
 
 /// Reads a list of the transcript of this number, with these fields; nothing where it is left out.
-pub(crate) fn read_list<T: Element>(
+pub(crate) fn read_list<T: Element<TranscriptList>>(
     alloc: Global,
     list: TranscriptList,
     number: usize,
