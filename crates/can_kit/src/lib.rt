@@ -34,4 +34,7 @@ mod words;
 pub use case::{Case, read_case, read_cases};
 pub use fault::KitFault;
 pub use laws::one_case;
-pub use words::{Choice, Needs};
+pub use lists::{Element, ElementFault, read_elements};
+pub use naming::is_of_version_one;
+pub use tester::read_strings;
+pub use words::{Choice, Needs, text_of};

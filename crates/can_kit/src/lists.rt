@@ -84,8 +84,8 @@ impl CaseList {
     }
 }
 
-/// What the elements of a list say.
-pub(crate) trait Element: Sized + Drop {
+/// What the elements of a list say. `Lists` are the lists that it is an element of: a crate above has its own.
+pub trait Element<Lists>: Sized + Drop {
     /// The element says this.
     ghost says: { Data → Self → Type 0 };
 
@@ -95,7 +95,7 @@ pub(crate) trait Element: Sized + Drop {
         ensures { MatchOption result ((x : Self) → ¬ says (view value.now) x) (says (view value.now)) };
 }
 
-impl Element for Timed<Frame> {
+impl Element<CaseList> for Timed<Frame> {
     ghost says = { SaysOffer };
 
     fn in_value(value: &Value, time: u32) -> Option<Timed<Frame>> {
@@ -106,7 +106,7 @@ impl Element for Timed<Frame> {
     }
 }
 
-impl Element for Timed<u8> {
+impl Element<CaseList> for Timed<u8> {
     ghost says = { SaysHold };
 
     fn in_value(value: &Value, time: u32) -> Option<Timed<u8>> {
@@ -117,7 +117,7 @@ impl Element for Timed<u8> {
     }
 }
 
-impl Element for u32 {
+impl Element<CaseList> for u32 {
     ghost says = { SaysTime };
 
     fn in_value(value: &Value, time: u32) -> Option<u32> {
@@ -128,7 +128,7 @@ impl Element for u32 {
 
 /// Why elements are not read.
 #[derive(Clone, Copy, Debug, PartialEq, Eq)]
-pub(crate) enum ElementFault {
+pub enum ElementFault {
     /// The first element that isn't as it has to be.
     At(usize),
     Memory,
@@ -151,7 +151,7 @@ impl From<AllocError> for ElementFault {
 }
 
 /// Reads a list of the case of this number, which has so many bit times and these fields.
-pub(crate) fn read_list<T: Element>(
+pub(crate) fn read_list<T: Element<CaseList>>(
     alloc: Global,
     list: CaseList,
     number: usize,
@@ -176,7 +176,7 @@ pub(crate) fn read_list<T: Element>(
 }
 
 /// Reads the elements of a list, whose times are below the end and so far apart at least.
-pub(crate) fn read_elements<T: Element>(
+pub fn read_elements<Lists, T: Element<Lists>>(
     alloc: Global,
     values: &[Value],
     end: u32,

@@ -47,7 +47,7 @@ pub(crate) fn read_name<'a>(
 }
 
 /// Whether the fields of a case say version 1.
-fn is_of_version_one(fields: &Table) -> bool
+pub fn is_of_version_one(fields: &Table) -> bool
     ensures { MatchBool result (IsRequired (IsNumber 1) (named (codes "version") (table (table_view fields.now)))) (¬ IsRequired (IsNumber 1) (named (codes "version") (table (table_view fields.now)))) }
 {
     match required_number(fields, "version", 1) {

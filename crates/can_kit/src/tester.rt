@@ -65,7 +65,7 @@ fn strings_in(fields: &Table) -> Option<&[Value]>
 }
 
 /// Reads strings of levels, one after another.
-pub(crate) fn read_strings(alloc: Global, values: &[Value]) -> Result<Vec<Level>, ElementFault>
+pub fn read_strings(alloc: Global, values: &[Value]) -> Result<Vec<Level>, ElementFault>
     ensures said { IfOk result (λ levels. SayStrings (map view values.now) levels.items) }
     ensures met { (told : ℕ → Wrong) → OnOk result (AllMet (strings_demands told (map view values.now))) }
     ensures unmet { (told : ℕ → Wrong) (place : ℕ) → IsErrOf result (ElementFault.At place) → IsFirstUnmet (told place) (strings_demands told (map view values.now)) }

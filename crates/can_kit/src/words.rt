@@ -47,7 +47,7 @@ pub enum Choice {
 const LONGEST_PURPOSE: usize = 200;
 
 /// The text of a string.
-pub(crate) fn text_of(value: &Value) -> Option<&str>
+pub fn text_of(value: &Value) -> Option<&str>
     ensures { MatchOption result ((text : List ℕ) → view value.now ≢ string text) (λ text. view value.now ≡ string text.now) }
 {
     value.as_str()

@@ -1,2 +1,3 @@
 pub mod ReadPieces
 pub mod ReadTexts
+pub mod EventTexts

@@ -1,5 +1,6 @@
 -- The words for events and states, in documents and in the line protocol. (docs/CONFORMANCE.md)
-use Rattle.std.specs.Prelude.{ℕ, List, ◌++◌, codes}
+use Rattle.std.specs.Prelude.{ℕ, ◌≡◌, List, ◌++◌, codes, Option, Some, None, IfSome}
+use Rattle.can_frame.specs.Parts.{Parts, IsFrame}
 use Rattle.can_frame.specs.Text.{frame_text}
 use Rattle.can_fault.specs.declared.state.State.{State}
 use Rattle.can_fault.specs.declared.state.State.TheVariants.{Active, Passive, BusOff}
@@ -25,6 +26,17 @@ event_text (Error kind) = codes "error " ++ kind_word kind
 event_text Overload = codes "overload"
 event_text WentOff = codes "off"
 event_text Recovered = codes "recovered"
+
+-- the frame that an event tells of
+abbrev pub frame_in : Event → Option Parts
+frame_in (Sent f) = Some f
+frame_in (Received f) = Some f
+frame_in _ = None
+
+-- a text says an event: it is the event's, and a frame of which the event tells is one
+pub record SaysEvent (text : List ℕ) (event : Event) : Type 0 where
+  pub text_is : text ≡ event_text event
+  pub frame : IfSome (frame_in event) IsFrame
 
 -- the word for a state
 abbrev pub state_word : State → List ℕ

@@ -1,4 +1,4 @@
-//! The words of the conformance kit: levels, events, states and counters as text, appended to a buffer.
+//! The words of the conformance kit: levels, events, states and counters as text, appended to a buffer, and read.
 //!
 //! An append fails only where an allocation does, and then the buffer holds a beginning of the text.
 //!
@@ -7,14 +7,17 @@
 //! | `words.rt` | [`push_text`], [`push_number`], [`push_event`], [`push_state`] | `specs/Words.antt` |
 //! | `levels.rt` | [`push_levels`], levels as tokens | `specs/LevelTokens.antt` |
 //! | `reading.rt` | [`read_levels`], the levels that tokens say | `specs/LevelTexts.antt` |
+//! | `events.rt` | [`read_event`], [`read_state`] | `specs/Words.antt` |
 #![tactic(auto)]
 
+mod events;
 mod levels;
 mod reading;
 #[cfg(test)]
 mod tests;
 mod words;
 
+pub use events::{read_event, read_state};
 pub use levels::push_levels;
 pub use reading::read_levels;
 pub use words::{push_event, push_number, push_state, push_text};

@@ -1,5 +1,7 @@
 //! The words as a document has them.
-use crate::{push_event, push_levels, push_number, push_state, push_text, read_levels};
+use crate::{
+    push_event, push_levels, push_number, push_state, push_text, read_event, read_levels, read_state,
+};
 use can_fault::State;
 use can_frame::{Frame, Level};
 use can_mac::{ErrorKind, Event};
@@ -126,6 +128,73 @@ fn texts_that_say_none(rt: HostRuntime) -> Result<(), Fail> {
         "1*4294967297",
     ] {
         assert!(rt; read(rt.alloc(), text)?.is_none(), "{text}");
+    }
+    Ok(())
+}
+
+#[test]
+fn texts_of_events(rt: HostRuntime) -> Result<(), Fail> {
+    let standard = Frame::from_text(b"S 123 D 1 c3")?;
+    let extended = Frame::from_text(b"E 0a5a5a5a R 8")?;
+    let empty = Frame::from_text(b"S 7ff D 0")?;
+    for (text, event) in [
+        ("sent S 123 D 1 c3", Event::Sent(standard)),
+        ("received E 0a5a5a5a R 8", Event::Received(extended)),
+        ("received S 7ff D 0", Event::Received(empty)),
+        ("lost", Event::Lost),
+        ("error stuff", Event::Error(ErrorKind::Stuff)),
+        ("error bit", Event::Error(ErrorKind::Bit)),
+        ("error form", Event::Error(ErrorKind::Form)),
+        ("error crc", Event::Error(ErrorKind::Crc)),
+        ("error ack", Event::Error(ErrorKind::Ack)),
+        ("overload", Event::Overload),
+        ("off", Event::WentOff),
+        ("recovered", Event::Recovered),
+    ] {
+        assert_eq!(rt; read_event(text), Some(event), "{text}");
+    }
+    Ok(())
+}
+
+#[test]
+fn texts_of_no_event(rt: HostRuntime) -> Result<(), Fail> {
+    for text in [
+        "",
+        "sent",
+        "sent ",
+        "sent S 800 D 0",
+        "sent S 123 D 1 C3",
+        "sent  S 123 D 1 c3",
+        "sent S 123 D 1 c3 ",
+        "Sent S 123 D 1 c3",
+        "received lost",
+        "lost ",
+        " lost",
+        "error",
+        "error ",
+        "error stuffing",
+        "error overload",
+        "passive",
+        "recovered S 123 D 1 c3",
+    ] {
+        assert_eq!(rt; read_event(text), None, "{text}");
+    }
+    Ok(())
+}
+
+#[test]
+fn words_of_states(rt: HostRuntime) -> Result<(), Fail> {
+    for (word, state) in [
+        ("active", Some(State::Active)),
+        ("passive", Some(State::Passive)),
+        ("off", Some(State::BusOff)),
+        ("", None),
+        ("Active", None),
+        ("error active", None),
+        ("off ", None),
+        ("bus-off", None),
+    ] {
+        assert_eq!(rt; read_state(word), state, "{word}");
     }
     Ok(())
 }

@@ -1,20 +1,24 @@
--- Arrays of two values.
-use Rattle.std.proofs.Common.{◌≡◌, List, [], ◌∷◌, length, map, get_or, sym, ap, ◌∙◌, arith}
+-- Arrays of two values, and of three.
+use Rattle.std.proofs.Common.{◌≡◌, List, [], ◌∷◌, refl, length, map, get_or, sym, ap, ◌∙◌, arith}
 use Rattle.toml.specs.Data.{Data, Items, array, item, no_items}
 use Rattle.toml.specs.View.{view}
 use Rattle.toml.specs.declared.value.Value.{Value}
-use Rattle.can_toml.specs.Values.{IsArray, elements, elements_of, two}
+use Rattle.can_toml.specs.Values.{IsArray, elements, elements_of, three, two}
 use Rattle.std.proofs.lemmas.List.{length-map}
 
 -- such an array has two elements
 pub two-elements : (values : List Value) (d a b : Data) → map view values ≡ elements d → d ≡ two a b → length values ≡ 2
 two-elements values d a b are is = sym (length-map values view) ∙ ap length are ∙ ap (λ (e : Data). length (elements e)) is
 
-items-two : (items : Items) (a b : Data) → elements_of items ≡ a ∷ b ∷ [] → items ≡ item a (item b no_items)
-items-two no_items a b e = absurd (cc)
-items-two (item c no_items) a b e = absurd (cc)
-items-two (item c (item d no_items)) a b e = cc
-items-two (item c (item d (item f items))) a b e = absurd (cc)
+-- an array is told by its elements
+same-items : (xs ys : Items) → elements_of xs ≡ elements_of ys → xs ≡ ys
+same-items no_items no_items e = refl
+same-items no_items (item d ys) e = absurd (cc)
+same-items (item c xs) no_items e = absurd (cc)
+same-items (item c xs) (item d ys) e =
+    let firsts : c ≡ d = cc in
+    let rests : elements_of xs ≡ elements_of ys = cc in
+    ap (λ (f : Data). item f xs) firsts ∙ ap (λ (zs : Items). item d zs) (same-items xs ys rests)
 
 two-view : (values : List Value) (x y : Value) → length values ≡ 2 → x ≡ get_or values 0 x → y ≡ get_or values 1 y → map view values ≡ view x ∷ view y ∷ []
 two-view [] x y size first second = absurd (omega (arith, size))
@@ -27,8 +31,31 @@ pub two-values : (values : List Value) (d : Data) (x y : Value) → IsArray d �
     d ≡ two (view x) (view y)
 two-values values d x y is are size first second =
     let listed : elements_of is.0 ≡ view x ∷ view y ∷ [] = sym (are ∙ ap elements is.1) ∙ two-view values x y size first second in
-    is.1 ∙ ap array (items-two is.0 (view x) (view y) listed)
+    is.1 ∙ ap array (same-items is.0 (item (view x) (item (view y) no_items)) listed)
 
--- the values of such an array are its own
+three-view : (values : List Value) (x y z : Value) → length values ≡ 3 → x ≡ get_or values 0 x → y ≡ get_or values 1 y → z ≡ get_or values 2 z → map view values ≡ view x ∷ view y ∷ view z ∷ []
+three-view [] x y z size first second third = absurd (omega (arith, size))
+three-view (v ∷ []) x y z size first second third = absurd (omega (arith, size))
+three-view (v ∷ w ∷ []) x y z size first second third = absurd (omega (arith, size))
+three-view (v ∷ w ∷ u ∷ []) x y z size first second third =
+    ap (λ d. d ∷ view w ∷ view u ∷ []) (sym (ap view first)) ∙ ap (λ d. view x ∷ d ∷ view u ∷ []) (sym (ap view second)) ∙ ap (λ d. view x ∷ view y ∷ d ∷ []) (sym (ap view third))
+three-view (v ∷ w ∷ u ∷ t ∷ values) x y z size first second third = absurd (omega (arith, size))
+
+-- an array of these three values
+pub three-values : (values : List Value) (d : Data) (x y z : Value) → IsArray d → map view values ≡ elements d → length values ≡ 3 → x ≡ get_or values 0 x → y ≡ get_or values 1 y → z ≡ get_or values 2 z →
+    d ≡ three (view x) (view y) (view z)
+three-values values d x y z is are size first second third =
+    let listed : elements_of is.0 ≡ view x ∷ view y ∷ view z ∷ [] = sym (are ∙ ap elements is.1) ∙ three-view values x y z size first second third in
+    is.1 ∙ ap array (same-items is.0 (item (view x) (item (view y) (item (view z) no_items))) listed)
+
+-- such an array has three elements
+pub three-elements : (values : List Value) (d a b c : Data) → map view values ≡ elements d → d ≡ three a b c → length values ≡ 3
+three-elements values d a b c are is = sym (length-map values view) ∙ ap length are ∙ ap (λ (e : Data). length (elements e)) is
+
+-- the values of such arrays are their own
+pub same-three : (a b c x y z : Data) → three a b c ≡ three x y z → (a ≡ x) × (b ≡ y) × (c ≡ z)
+same-three a b c x y z e = (cc, cc, cc)
+
+-- the values of an array of two are its own
 pub same-two : (a b x y : Data) → two a b ≡ two x y → (a ≡ x) × (b ≡ y)
 same-two a b x y e = (cc, cc)

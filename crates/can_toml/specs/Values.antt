@@ -70,6 +70,10 @@ IsArray d = (items : Items) × (d ≡ array items)
 abbrev pub two : Data → Data → Data
 two a b = array (item a (item b no_items))
 
+-- an array of these three
+abbrev pub three : Data → Data → Data → Data
+three a b c = array (item a (item b (item c no_items)))
+
 abbrev pub elements_of : Items → List Data
 elements_of no_items = []
 elements_of (item d ds) = d ∷ elements_of ds

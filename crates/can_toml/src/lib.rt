@@ -9,7 +9,7 @@
 //! | `values.rt` | fields, numbers, truth values, arrays and frames | `specs/Values.antt` |
 //!
 //! Of the lemmas, `DemandLemmas` has demands one behind another, `ReadLists` the elements of an array, read one
-//! after another, `ReadValues` what the readers answer, `Pairs` arrays of two, and `OneReading` that values and
+//! after another, `ReadValues` what the readers answer, `Pairs` arrays of two and three, and `OneReading` that values and
 //! demands say one thing.
 #![tactic(auto)]
 
@@ -21,5 +21,5 @@ mod values;
 pub use document::{DocumentFault, read_document};
 pub use values::{
     elements_of, elements_or_none, field, fields_of, frame, has_only, number, number_or,
-    required_number, truth, two_of, whole_number,
+    required_number, three_of, truth, two_of, whole_number,
 };

@@ -1,7 +1,7 @@
 //! Values as they stand in documents.
 use crate::{
     DocumentFault, elements_of, elements_or_none, field, fields_of, frame, has_only, number,
-    number_or, read_document, required_number, truth, two_of, whole_number,
+    number_or, read_document, required_number, three_of, truth, two_of, whole_number,
 };
 use can_frame::Frame;
 use std::test::Fail;
@@ -82,6 +82,12 @@ fn arrays_and_frames(rt: HostRuntime) -> Result<(), Fail> {
     assert!(rt; frame(time).is_none());
     let three = field(&document, "three").ok_or("three")?;
     assert!(rt; two_of(three).is_none());
+    let (first, second, third) = three_of(three).ok_or("three")?;
+    for (value, number) in [(first, 1), (second, 2), (third, 3)] {
+        assert_eq!(rt; whole_number(value).ok_or("number")?, number);
+    }
+    assert!(rt; three_of(name).is_none());
+    assert!(rt; three_of(field(&document, "pair").ok_or("pair")?).is_none());
     assert_eq!(rt; elements_of(three).ok_or("array")?.len(), 3);
     assert!(rt; elements_of(name).is_none());
     assert_eq!(rt;

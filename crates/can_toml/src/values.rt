@@ -3,7 +3,7 @@ ghost use Rattle.std.specs.Prelude.{◌≡◌, ◌≤◌, ℕ, map, option_map, 
 ghost use Rattle.std.specs.List.{list_any};
 ghost use Rattle.toml.specs.Data.{Data, same_key, table};
 ghost use Rattle.toml.specs.View.{view, table_view};
-ghost use Rattle.can_toml.specs.Values.{are_known, elements_in, elements, named, two, IsArray, IsFrameValue, IsNumber, IsOptional, IsRequired, IsTable, IsTruthValue, IsUpTo, SaysFrame, SaysNumber, SaysWhether};
+ghost use Rattle.can_toml.specs.Values.{are_known, elements_in, elements, named, three, two, IsArray, IsFrameValue, IsNumber, IsOptional, IsRequired, IsTable, IsTruthValue, IsUpTo, SaysFrame, SaysNumber, SaysWhether};
 
 use can_frame::Frame;
 use toml::{Table, Value};
@@ -65,6 +65,17 @@ pub fn two_of(value: &Value) -> Option<(&Value, &Value)>
 {
     match elements_of(value)? {
         [first, second] => Some((first, second)),
+        _ => None,
+    }
+}
+
+/// The three values of an array of three.
+pub fn three_of(value: &Value) -> Option<(&Value, &Value, &Value)>
+    ensures said { IfSome result (λ all. view value.now ≡ three (view all.0.now) (view all.1.now) (view all.2.now)) }
+    ensures unmet { IfNone result ((a b c : Data) → ¬ (view value.now ≡ three a b c)) }
+{
+    match elements_of(value)? {
+        [first, second, third] => Some((first, second, third)),
         _ => None,
     }
 }

@@ -1,0 +1,4 @@
+pub mod Rising
+pub mod Places
+pub mod DroveParts
+pub mod TellingParts
