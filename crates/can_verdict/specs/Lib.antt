@@ -1,0 +1,4 @@
+pub mod Transcripts
+pub mod Standings
+pub mod Verdicts
+pub mod Counts

@@ -1,0 +1,49 @@
+//! How many cases have which verdict.
+ghost use Rattle.std.specs.Prelude.{◌≡◌, ◌++◌, decimal, OnOk};
+ghost use Rattle.can_verdict.specs.Counts.{cases_in, count_line};
+
+use can_kit_text::{push_number, push_text};
+use std::alloc::AllocError;
+
+/// How many cases of a run have which verdict.
+#[derive(Clone, Copy, Debug, PartialEq, Eq)]
+pub struct Tally {
+    pub passed: u32,
+    pub failed: u32,
+    /// A case could not be played to its end.
+    pub void: u32,
+    /// A case needs what the bench can't do.
+    pub skipped: u32,
+}
+
+impl Tally {
+    /// How many cases there are.
+    pub fn cases(self) -> u64
+        ensures { result ≡ cases_in self }
+    {
+        u64::from(self.passed)
+            + u64::from(self.failed)
+            + u64::from(self.void)
+            + u64::from(self.skipped)
+    }
+}
+
+/// Appends the line that counts the cases of a run: `passed 1 failed 1 void 0 skipped 0 of 2` and 0x0a.
+pub fn push_count(out: &mut Vec<u8>, tally: Tally) -> Result<(), AllocError>
+    ensures { OnOk result (out.new.items ≡ out.old.items ++ count_line tally) }
+{
+    push_number_behind(out, b"passed ", u64::from(tally.passed))?;
+    push_number_behind(out, b" failed ", u64::from(tally.failed))?;
+    push_number_behind(out, b" void ", u64::from(tally.void))?;
+    push_number_behind(out, b" skipped ", u64::from(tally.skipped))?;
+    push_number_behind(out, b" of ", tally.cases())?;
+    push_text(out, b"\n")
+}
+
+/// Appends a word and a number.
+fn push_number_behind(out: &mut Vec<u8>, word: &[u8], number: u64) -> Result<(), AllocError>
+    ensures { OnOk result (out.new.items ≡ out.old.items ++ (word.now ++ decimal number)) }
+{
+    push_text(out, word)?;
+    push_number(out, number)
+}
