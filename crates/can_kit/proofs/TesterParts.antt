@@ -1,6 +1,6 @@
 -- The tester's levels: they are one list, as long as the case says.
-use Rattle.std.proofs.Common.{◌≡◌, ◌≢◌, ℕ, pos, List, [], ◌∷◌, ◌++◌, length, codes, Option, Some, None, refl, sym, ap, subst, ◌∙◌, inl, inr}
-use Rattle.toml.specs.Data.{Data, string, integer}
+use Rattle.std.proofs.Common.{◌≡◌, ◌≢◌, ℕ, List, [], ◌∷◌, ◌++◌, length, codes, refl, sym, ap, subst, ◌∙◌, inl, inr}
+use Rattle.toml.specs.Data.{Data, string}
 use Rattle.can_frame.specs.declared.level.Level.{Level}
 use Rattle.can_stream.specs.declared.kit_field.KitField.{KitField}
 use Rattle.can_stream.specs.declared.kit_field.CaseField.TheVariants as of_case

@@ -1,16 +1,14 @@
 -- Cases: what a case's table has to meet, in the order in which it is tested, and which case it says.
 -- (docs/CONFORMANCE.md, "Documents")
-use Rattle.std.specs.Prelude.{ℕ, ◌≡◌, ◌⊎◌, ◌+◌, ◌==◌, ◌≤◌, ◌<◌, pos, Bool, true, false, List, [], ◌∷◌, ◌++◌, length, map, take, Option, Some, None, set, slice_get, codes}
+use Rattle.std.specs.Prelude.{ℕ, ◌≡◌, ◌⊎◌, ◌≤◌, ◌<◌, true, false, List, [], ◌∷◌, ◌++◌, length, map, take, Some, set, codes}
 use Rattle.std.specs.List.{list_any}
 use Rattle.std.specs.String.{string_bytes}
-use Rattle.toml.specs.Data.{Data, string, integer, same_key}
-use Rattle.can_frame.specs.Parts.{Parts}
+use Rattle.toml.specs.Data.{Data, string, same_key}
 use Rattle.can_frame.specs.declared.level.Level.{Level}
 use Rattle.can_frame.specs.declared.level.Level.TheVariants.{Dominant, Recessive}
 use Rattle.can_conform.specs.declared.script.Start.{Start}
 use Rattle.can_conform.specs.declared.script.TesterLevel.{TesterLevel}
 use Rattle.can_conform.specs.declared.script.TesterLevel.TheVariants as tester
-use Rattle.can_conform.specs.declared.timed.Timed.{Timed}
 use Rattle.can_stream.specs.declared.kit_field.KitField.{KitField}
 use Rattle.can_stream.specs.declared.kit_field.KitField.TheVariants as field
 use Rattle.can_stream.specs.declared.kit_field.CaseField.{CaseField}
@@ -20,7 +18,7 @@ use Rattle.can_toml.specs.Values.{are_known, elements_in, members_in, named, Are
 use Rattle.can_kit.specs.declared.case.Case.{Case}
 use Rattle.can_kit.specs.declared.words.Choice.{Choice}
 use Rattle.can_kit.specs.declared.words.Needs.{Needs}
-use Rattle.can_kit.specs.Words.{text_in, AreWords, IsName, IsPurpose, IsText, SaysChoices, SaysNeeds, SaysStart}
+use Rattle.can_kit.specs.Words.{text_in, IsName, IsPurpose, IsText, SaysChoices, SaysNeeds, SaysStart}
 use Rattle.can_kit.specs.declared.lists.CaseList.TheVariants.{Offers, Holds, Forced}
 use Rattle.can_kit.specs.Lists.{list_demands, number_in, time_in, strings_demands, AreRecessive, IsArrayOf, SaysHold, SaysOffer, SayStrings, SaysTime}
 
@@ -159,3 +157,13 @@ pub record SaysCase (d : Data) (c : Case) : Type 0 where
   pub tester : SaysTester d c.script.tester.items
   pub offers : ArePaired SaysOffer (elements_in (named (codes "offers") d)) c.script.offers.items
   pub holds : ArePaired SaysHold (elements_in (named (codes "holds") d)) c.script.holds.items
+
+-- the cases are the same
+pub record AreSame (a b : Case) : Type 0 where
+  pub name : string_bytes a.name ≡ string_bytes b.name
+  pub needs : a.needs ≡ b.needs
+  pub choices : a.choices.items ≡ b.choices.items
+  pub start : a.script.start ≡ b.script.start
+  pub tester : a.script.tester.items ≡ b.script.tester.items
+  pub offers : a.script.offers.items ≡ b.script.offers.items
+  pub holds : a.script.holds.items ≡ b.script.holds.items

@@ -1,6 +1,6 @@
 -- The lists of a case: levels in strings, and elements with their times. (docs/CONFORMANCE.md, "Documents")
-use Rattle.std.specs.Prelude.{ℕ, ◌≡◌, ◌+◌, ◌≤◌, ◌<◌, pos, codes, take, All, List, [], ◌∷◌, ◌++◌, length, Option, Some, None, slice_get}
-use Rattle.toml.specs.Data.{Data, string, integer, array, item, no_items}
+use Rattle.std.specs.Prelude.{ℕ, ◌≡◌, ◌+◌, ◌≤◌, ◌<◌, pos, codes, take, All, List, [], ◌∷◌, ◌++◌, length, Option, Some, slice_get}
+use Rattle.toml.specs.Data.{Data, string, integer, array, item}
 use Rattle.can_frame.specs.Parts.{Parts}
 use Rattle.can_frame.specs.declared.level.Level.{Level}
 use Rattle.can_frame.specs.declared.level.Level.TheVariants.{Recessive}

@@ -8,7 +8,9 @@ use std::alloc::{AllocError, AllocFailed};
 /// Why a document is not read: its first field that isn't as it has to be, or memory ran out.
 #[derive(Clone, Copy, Debug, PartialEq, Eq)]
 pub enum KitFault {
+    /// This field isn't as it has to be.
     Field(KitField),
+    /// Memory ran out.
     Memory,
 }
 

@@ -1,8 +1,5 @@
-//! Documents of the conformance kit: the parts of a case's table, and what each has to be.
+//! Documents of the conformance kit: the cases of a list, and what each has to be.
 //! (docs/CONFORMANCE.md, "Documents")
-//!
-//! The definitions are those of a whole case. Its head, its tester's levels and its lists are read; a case, and a
-//! document of cases, are not yet.
 //!
 //! | File | What it has | Defined in |
 //! |---|---|---|
@@ -11,25 +8,32 @@
 //! | `head.rt` | how a case starts, what it needs, and how long it is | `specs/Cases.antt` |
 //! | `tester.rt` | what the tester does: its levels, and forced bit times | `specs/Lists.antt`, `specs/Cases.antt` |
 //! | `lists.rt` | the lists of a case whose elements come at their times | `specs/Lists.antt` |
-//! | `case.rt` | [`Case`] | `specs/Cases.antt` |
-//! | `fault.rt` | why a document is not read | |
+//! | `timed.rt` | what comes at its time: offers, wishes and forced bit times | `specs/Cases.antt` |
+//! | `case.rt` | [`Case`], [`read_case`], and [`read_cases`], all cases of a list | `specs/Cases.antt` |
+//! | `laws.rt` | [`one_case`]: a table says at most one case | `specs/Cases.antt` |
+//! | `fault.rt` | [`KitFault`], why a document is not read | |
 //!
 //! Of the lemmas, `InTime` has elements with their times, `Strings` strings of levels, `TesterParts` that these say
-//! one list of levels, and `WordLists` needs, choices and names.
+//! one list of levels, `ForcedTimes` forced bit times, `WordLists` choices and names and needs, `OneNeeds` that
+//! words say needs in one way, `CaseParts` the parts of a case one after another, and `OneCase` that a table says
+//! one case.
 #![tactic(auto)]
 
 mod case;
 mod fault;
 mod head;
+mod laws;
 mod lists;
 mod naming;
 mod tester;
 #[cfg(test)]
 mod tests;
+mod timed;
 mod words;
 
-pub use case::Case;
+pub use case::{Case, read_case, read_cases};
 pub use fault::KitFault;
+pub use laws::one_case;
 pub use lists::{Element, ElementFault, read_elements};
 pub use naming::is_of_version_one;
 pub use tester::read_strings;

@@ -86,7 +86,9 @@ fn name_in<'a>(fields: &'a Table, family: &str, earlier: &[Value]) -> Option<&'a
 fn is_new_name(earlier: &[Value], family: &str, name: &str) -> bool
     ensures { IsTrue result ↔ IsNewName (map view earlier.now) family.now name.now }
 {
-    is_name(name, LONGEST_NAME) && begins_with(name.as_bytes(), family.as_bytes()) && !is_taken(earlier, name)
+    is_name(name, LONGEST_NAME)
+        && begins_with(name.as_bytes(), family.as_bytes())
+        && !is_taken(earlier, name)
 }
 
 /// Whether a name begins with the family and a hyphen.

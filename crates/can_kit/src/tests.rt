@@ -1,4 +1,6 @@
 //! The parts of cases, as they stand in documents.
+mod cases;
+
 use crate::fault::KitFault;
 use crate::lists::{CaseList, read_list};
 use crate::tester::{forced_tester, read_tester};

@@ -1,5 +1,5 @@
-use Rattle.std.proofs.Common.{◌≡◌, List, codes, inl, inr, rules}
-use Rattle.toml.specs.Data.{Data, table}
+use Rattle.std.proofs.Common.{◌≡◌, List, codes, inl, inr}
+use Rattle.toml.specs.Data.{table}
 use Rattle.toml.specs.View.{table_view}
 use Rattle.can_conform.specs.declared.script.Start.{Start}
 use Rattle.can_stream.specs.declared.kit_field.CaseField.TheVariants as of_case

@@ -1,4 +1,4 @@
-use Rattle.std.proofs.Common.{◌≡◌, ℕ, ◌+◌, List, [], ◌∷◌, ◌++◌, map, sym, subst, arith, rules}
+use Rattle.std.proofs.Common.{◌≡◌, ℕ, ◌+◌, [], ◌∷◌, ◌++◌, map, subst, arith}
 use Rattle.toml.specs.View.{view}
 use Rattle.can_stream.specs.declared.kit_field.KitField.TheVariants.{Document}
 use Rattle.can_toml.specs.Demands.{IsFirstUnmet}

@@ -1,10 +1,10 @@
-use Rattle.std.proofs.Common.{◌≡◌, ◌≢◌, ℕ, List, length, map, codes, refl, sym, subst, ◌∙◌, arith, rules}
+use Rattle.std.proofs.Common.{◌≡◌, ◌≢◌, ℕ, List, length, map, subst, arith, rules}
 use Rattle.toml.specs.Data.{Data, table}
 use Rattle.toml.specs.View.{table_view, view}
 use Rattle.can_stream.specs.declared.kit_field.KitField.{KitField}
 use Rattle.can_stream.specs.declared.kit_field.CaseField.TheVariants as of_case
 use Rattle.can_toml.specs.Demands.{AllMet, IsFirstUnmet}
-use Rattle.can_kit.specs.Cases.{strings_of, tester_demands, told}
+use Rattle.can_kit.specs.Cases.{tester_demands, told}
 use Rattle.can_kit.specs.Lists.{strings_demands, SayStrings}
 use Rattle.can_kit.proofs.TesterParts.{tester-long, tester-met, tester-strings}
 use Rattle.can_kit.proofs.tester.read_tester.Goals as goal

@@ -1,4 +1,4 @@
-use Rattle.std.proofs.Common.{◌<◌, List, [], length, map, ap, ◌∙◌, arith}
+use Rattle.std.proofs.Common.{◌<◌, length, map, ap, ◌∙◌, arith}
 use Rattle.std.proofs.lemmas.Bool.Decides.{nat_tests}
 use Rattle.std.proofs.lemmas.List.{length-map}
 use Rattle.toml.specs.View.{view}

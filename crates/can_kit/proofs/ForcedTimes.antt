@@ -1,5 +1,5 @@
 -- Forced bit times: they are within the case, and the tester is recessive at each, or there is a first at which it isn't.
-use Rattle.std.proofs.Common.{◌≡◌, ◌≢◌, ℕ, zero, suc, ◌+◌, ◌<◌, List, [], ◌∷◌, length, take, get_or, Some, All, refl, sym, ap, subst, ◌∙◌, inl, inr, arith}
+use Rattle.std.proofs.Common.{◌≡◌, ◌≢◌, ℕ, zero, suc, ◌+◌, ◌<◌, List, [], ◌∷◌, length, take, get_or, Some, All, sym, ap, subst, inl, inr, arith}
 use Rattle.std.specs.List.{slice_get}
 use Rattle.std.proofs.lemmas.List.Elements.{All-cons, All-head, All-nil, All-tail}
 use Rattle.toml.specs.Data.{Data}
@@ -31,9 +31,10 @@ module _ (number : ℕ) (strings : List Data) (levels : List Level) (said : SayS
   recessive-met from [] (time ∷ times) are pairs = absurd pairs
   recessive-met from (d ∷ ds) [] are pairs = absurd pairs
   recessive-met from (d ∷ ds) (time ∷ times) are pairs =
-      let same : time ≡ time_in d = sym (ap time_in pairs.0) in
-      ((levels, said, subst (λ (n : ℕ). slice_get levels n ≡ Some Recessive) same (All-head (λ time. slice_get levels time ≡ Some Recessive) time times are)),
-      recessive-met (from + 1) ds times (All-tail (λ time. slice_get levels time ≡ Some Recessive) time times are) pairs.1)
+      let same : time ≡ time_in d = sym (ap time_in pairs.0) in (
+        (levels, said, subst (λ (n : ℕ). slice_get levels n ≡ Some Recessive) same (All-head (λ time. slice_get levels time ≡ Some Recessive) time times are)),
+        recessive-met (from + 1) ds times (All-tail (λ time. slice_get levels time ≡ Some Recessive) time times are) pairs.1,
+      )
 
   pub recessive-unmet : (from : ℕ) (ds : List Data) (times : List ℕ) (place at : ℕ) → at ≡ from + place → place < length times → slice_get levels (get_or times place 0) ≢ Some Recessive
       → All (λ time. slice_get levels time ≡ Some Recessive) (take place times) → ArePaired SaysTime ds times → IsFirstUnmet (told number (of_case.ForcedTime at)) (demands_on_each (forced_demands number strings) from ds)
@@ -41,10 +42,15 @@ module _ (number : ℕ) (strings : List Data) (levels : List Level) (said : SayS
   recessive-unmet from [] (time ∷ times) place at is within other before pairs = absurd pairs
   recessive-unmet from (d ∷ ds) (time ∷ times) zero at is within other before pairs =
       let here : from ≡ at = omega (arith, is) in
-      inl (ap (λ (n : ℕ). told number (of_case.ForcedTime n)) here, λ met.
-        other (subst (λ (ls : List Level). slice_get ls time ≡ Some Recessive) (one-strings strings met.0 levels met.1 said)
-        (subst (λ (n : ℕ). slice_get met.0 n ≡ Some Recessive) (ap time_in pairs.0) met.2)))
+      inl (
+        ap (λ (n : ℕ). told number (of_case.ForcedTime n)) here,
+        λ met.
+            other (subst (λ (ls : List Level). slice_get ls time ≡ Some Recessive) (one-strings strings met.0 levels met.1 said)
+            (subst (λ (n : ℕ). slice_get met.0 n ≡ Some Recessive) (ap time_in pairs.0) met.2)),
+      )
   recessive-unmet from (d ∷ ds) (time ∷ times) (suc place) at is within other before pairs =
       let same : time ≡ time_in d = sym (ap time_in pairs.0) in
-      inr ((levels, said, subst (λ (n : ℕ). slice_get levels n ≡ Some Recessive) same (All-head (λ time. slice_get levels time ≡ Some Recessive) time (take place times) before)),
-      recessive-unmet (from + 1) ds times place at (omega (arith, is)) (omega (arith, within)) other (All-tail (λ time. slice_get levels time ≡ Some Recessive) time (take place times) before) pairs.1)
+      inr (
+        (levels, said, subst (λ (n : ℕ). slice_get levels n ≡ Some Recessive) same (All-head (λ time. slice_get levels time ≡ Some Recessive) time (take place times) before)),
+        recessive-unmet (from + 1) ds times place at (omega (arith, is)) (omega (arith, within)) other (All-tail (λ time. slice_get levels time ≡ Some Recessive) time (take place times) before) pairs.1,
+      )
