@@ -1,6 +1,7 @@
 -- Forced bit times: they are within the case, and the tester is recessive at each, or there is a first at which it isn't.
-use Rattle.std.proofs.Common.{◌≡◌, ◌≢◌, ℕ, zero, suc, ◌+◌, ◌<◌, List, [], ◌∷◌, length, take, get_or, Some, All, sym, ap, subst, inl, inr, arith}
+use Rattle.std.proofs.Common.{◌≡◌, ◌≢◌, ℕ, zero, suc, ◌+◌, ◌<◌, List, [], ◌∷◌, length, map, take, get_or, set, Some, All, refl, sym, ap, subst, inl, inr, ◌∙◌, arith}
 use Rattle.std.specs.List.{slice_get}
+use Rattle.std.proofs.lemmas.List.{length-map, length-set}
 use Rattle.std.proofs.lemmas.List.Elements.{All-cons, All-head, All-nil, All-tail}
 use Rattle.toml.specs.Data.{Data}
 use Rattle.can_frame.specs.declared.level.Level.{Level}
@@ -9,7 +10,9 @@ use Rattle.can_stream.specs.declared.kit_field.KitField.{KitField}
 use Rattle.can_stream.specs.declared.kit_field.CaseField.TheVariants as of_case
 use Rattle.can_toml.specs.Demands.{AllMet, IsFirstUnmet, demands_on_each}
 use Rattle.can_toml.specs.Values.{ArePaired}
-use Rattle.can_kit.specs.Cases.{forced_demands, told}
+use Rattle.can_conform.specs.declared.script.TesterLevel.{TesterLevel}
+use Rattle.can_conform.specs.declared.script.TesterLevel.TheVariants as tester
+use Rattle.can_kit.specs.Cases.{driven, forced_at, forced_demands, told}
 use Rattle.can_kit.specs.Lists.{element_demands, time_in, SaysTime, SayStrings}
 use Rattle.can_kit.proofs.TesterParts.{one-strings}
 
@@ -54,3 +57,11 @@ module _ (number : ℕ) (strings : List Data) (levels : List Level) (said : SayS
         (levels, said, subst (λ (n : ℕ). slice_get levels n ≡ Some Recessive) same (All-head (λ time. slice_get levels time ≡ Some Recessive) time (take place times) before)),
         recessive-unmet (from + 1) ds times place at (omega (arith, is)) (omega (arith, within)) other (All-tail (λ time. slice_get levels time ≡ Some Recessive) time (take place times) before) pairs.1,
       )
+
+-- the tester does something in as many bit times, whichever of them are forced
+pub length-forced : (times : List ℕ) (levels : List TesterLevel) → length (forced_at times levels) ≡ length levels
+length-forced [] levels = refl
+length-forced (time ∷ times) levels = length-forced times (set levels time tester.Forced) ∙ length-set levels time tester.Forced
+
+pub length-tester : (times : List ℕ) (levels : List Level) → length (forced_at times (map driven levels)) ≡ length levels
+length-tester times levels = length-forced times (map driven levels) ∙ length-map levels driven

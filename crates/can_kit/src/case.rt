@@ -1,11 +1,11 @@
 //! Cases, and the list of them that a document has.
-ghost use Rattle.std.specs.Prelude.{◌≡◌, ◌≢◌, [], codes, map, IfOk, IsErrOf, MatchBool, OnOk};
+ghost use Rattle.std.specs.Prelude.{◌≡◌, ◌≢◌, ◌≤◌, [], All, codes, length, map, IfOk, IsErrOf, MatchBool, OnOk};
 ghost use Rattle.toml.specs.Data.{table};
 ghost use Rattle.toml.specs.View.{table_view, view};
 ghost use Rattle.can_stream.specs.declared.kit_field.KitField.{KitField as Wrong};
 ghost use Rattle.can_toml.specs.Demands.{AllMet, IsFirstUnmet};
 ghost use Rattle.can_toml.specs.Values.{elements_in, named, ArePaired};
-ghost use Rattle.can_kit.specs.Cases.{case_demands, cases_demands, fields_demands, NeedsAll, SaysCase};
+ghost use Rattle.can_kit.specs.Cases.{case_demands, cases_demands, fields_demands, most_bits, NeedsAll, SaysCase};
 ghost use Rattle.can_kit.specs.Words.{SaysNeeds};
 
 use crate::fault::KitFault;
@@ -43,6 +43,7 @@ pub struct Case {
 /// `Field` names the first field that isn't as it has to be; `Memory` says that memory ran out.
 pub fn read_cases(alloc: Global, values: &[Value]) -> Result<Vec<Case>, KitFault>
     ensures said { IfOk result (λ cases. ArePaired SaysCase (map view values.now) cases.items) }
+    ensures short { IfOk result (λ cases. All (λ one. length one.script.tester.items ≤ most_bits) cases.items) }
     ensures met { OnOk result (AllMet (cases_demands (map view values.now))) }
     ensures unmet { (wrong : Wrong) → IsErrOf result (KitFault.Field wrong) → IsFirstUnmet wrong (cases_demands (map view values.now)) }
 {
@@ -71,6 +72,7 @@ pub fn read_case(
     value: &Value,
 ) -> Result<Case, KitFault>
     ensures said { IfOk result (SaysCase (view value.now)) }
+    ensures short { IfOk result (λ one. length one.script.tester.items ≤ most_bits) }
     ensures met { OnOk result (AllMet (case_demands (map view earlier.now) number (view value.now))) }
     ensures unmet { (wrong : Wrong) → IsErrOf result (KitFault.Field wrong) → IsFirstUnmet wrong (case_demands (map view earlier.now) number (view value.now)) }
 {
@@ -88,6 +90,7 @@ fn read_fields(
     fields: &Table,
 ) -> Result<Case, KitFault>
     ensures said { IfOk result (SaysCase (table (table_view fields.now))) }
+    ensures short { IfOk result (λ one. length one.script.tester.items ≤ most_bits) }
     ensures met { OnOk result (AllMet (fields_demands (map view earlier.now) number (table (table_view fields.now)))) }
     ensures unmet { (wrong : Wrong) → IsErrOf result (KitFault.Field wrong) → IsFirstUnmet wrong (fields_demands (map view earlier.now) number (table (table_view fields.now))) }
 {

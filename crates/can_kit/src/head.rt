@@ -7,7 +7,7 @@ ghost use Rattle.can_stream.specs.declared.kit_field.KitField.{KitField as Wrong
 ghost use Rattle.can_toml.specs.Demands.{AllMet, IsFirstUnmet};
 ghost use Rattle.can_toml.specs.Values.{named, IsNumber, IsRequired};
 ghost use Rattle.can_kit.specs.Words.{SaysChoices, SaysNeeds, SaysStart};
-ghost use Rattle.can_kit.specs.Cases.{head_demands, IsLength};
+ghost use Rattle.can_kit.specs.Cases.{head_demands, most_bits, IsLength};
 
 use crate::fault::KitFault;
 use crate::words::{Choice, Needs, choices_in, needs_in, start_in};
@@ -35,6 +35,7 @@ pub(crate) fn read_head(alloc: Global, number: usize, fields: &Table) -> Result<
     ensures needs { IfOk result (λ head. SaysNeeds (named (codes "needs") (table (table_view fields.now))) head.needs) }
     ensures choices { IfOk result (λ head. SaysChoices (named (codes "choices") (table (table_view fields.now))) head.choices.items) }
     ensures bits { IfOk result (λ head. IsRequired (IsNumber head.bits) (named (codes "bits") (table (table_view fields.now)))) }
+    ensures short { IfOk result (λ head. head.bits ≤ most_bits) }
     ensures met { OnOk result (AllMet (head_demands number (table (table_view fields.now)))) }
     ensures unmet { (wrong : Wrong) → IsErrOf result (KitFault.Field wrong) → IsFirstUnmet wrong (head_demands number (table (table_view fields.now))) }
 {
@@ -69,6 +70,7 @@ fn start_said(fields: &Table) -> Option<Start>
 /// How many bit times the fields of a case say.
 fn length_said(fields: &Table) -> Option<u32>
     ensures said { IfSome result (λ bits. IsRequired (IsNumber bits) (named (codes "bits") (table (table_view fields.now)))) }
+    ensures short { IfSome result (λ bits. bits ≤ most_bits) }
     ensures met { OnSome result (IsRequired IsLength (named (codes "bits") (table (table_view fields.now)))) }
     ensures unmet { IfNone result (¬ IsRequired IsLength (named (codes "bits") (table (table_view fields.now)))) }
 {

@@ -39,6 +39,7 @@ pub(crate) fn read_lists(
     requires long { length levels.now ≡ bits }
     ensures offers { IfOk result (λ lists. ArePaired SaysOffer (elements_in (named (codes "offers") (table (table_view fields.now)))) lists.offers.items) }
     ensures holds { IfOk result (λ lists. ArePaired SaysHold (elements_in (named (codes "holds") (table (table_view fields.now)))) lists.holds.items) }
+    ensures long { IfOk result (λ lists. length lists.tester.items ≡ bits) }
     ensures tester { IfOk result (λ lists. SaysTester (table (table_view fields.now)) lists.tester.items) }
     ensures met { OnOk result (AllMet (lists_demands number bits (table (table_view fields.now)))) }
     ensures unmet { (wrong : Wrong) → IsErrOf result (KitFault.Field wrong) → IsFirstUnmet wrong (lists_demands number bits (table (table_view fields.now))) }

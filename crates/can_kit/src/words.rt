@@ -43,6 +43,25 @@ pub enum Choice {
     Prompt,
 }
 
+impl Choice {
+    /// The word that names it.
+    pub fn word(self) -> &'static str
+        ensures { result.now ≡ choice_word self }
+    {
+        match self {
+            Choice::ReservedLevels => "reserved-levels",
+            Choice::StuffException => "stuff-exception",
+            Choice::OwnStart => "own-start",
+            Choice::FlagErrorOnce => "flag-error-once",
+            Choice::OwnOverload => "own-overload",
+            Choice::Rec127 => "rec-127",
+            Choice::RecoveryByItself => "recovery-by-itself",
+            Choice::RecoveryRows => "recovery-rows",
+            Choice::Prompt => "prompt",
+        }
+    }
+}
+
 /// How many bytes a purpose may have.
 const LONGEST_PURPOSE: usize = 200;
 

@@ -1,4 +1,4 @@
-use Rattle.std.proofs.Common.{ℕ, ◌<◌, All, List, codes, subst, sym, rules}
+use Rattle.std.proofs.Common.{ℕ, ◌<◌, All, List, ap, codes, length, subst, sym, ◌∙◌, rules}
 use Rattle.toml.specs.Data.{table}
 use Rattle.toml.specs.View.{table_view}
 use Rattle.can_stream.specs.declared.kit_field.CaseField.TheVariants as of_case
@@ -8,7 +8,7 @@ use Rattle.can_kit.specs.declared.lists.CaseList.TheVariants.{Offers, Holds, For
 use Rattle.can_kit.specs.Cases.{forced_demands, strings_of, told}
 use Rattle.can_kit.specs.Lists.{list_demands, SaysHold, SaysOffer, SaysTime}
 use Rattle.can_kit.proofs.CaseParts.{forced-unmet, holds-unmet, lists-met, offers-unmet, times-unmet}
-use Rattle.can_kit.proofs.ForcedTimes.{times-below}
+use Rattle.can_kit.proofs.ForcedTimes.{length-tester, times-below}
 use Rattle.can_kit.proofs.timed.read_lists.Goals as goal
 
 pub returns-in_err-offers-clause-unmet : goal.returns-in_err-offers-clause-unmet
@@ -44,6 +44,9 @@ returns-in_err-tester-clause-unmet c = λ wrong is.
     let pairs : ArePaired SaysTime ds c.deref.result.now = subst (ArePaired SaysTime ds) (sym c.deref.ensures.value) c.in_ok-times.ensures.said in
     let here : IsFirstUnmet wrong (demands_on_each (forced_demands c.args.number (strings_of d)) 0 ds) = c.in_err-tester.ensures.unmet (strings_of d) ds c.requires.strings pairs wrong (search rules) in
     forced-unmet c.args.number c.args.bits d wrong c.in_ok-offers.ensures.met c.in_ok-holds.ensures.met c.in_ok-times.ensures.met here
+
+pub returns-clause-long : goal.returns-clause-long
+returns-clause-long c = ap length c.in_ok-tester.ensures.does ∙ (length-tester c.deref.result.now c.args.levels.now ∙ c.requires.long)
 
 pub returns-clause-met : goal.returns-clause-met
 returns-clause-met c =
