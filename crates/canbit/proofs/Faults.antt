@@ -5,10 +5,10 @@ use Rattle.can_trace.specs.Checked.{ChecksAll}
 use Rattle.can_trace.specs.Told.{Told}
 use Rattle.can_stream.specs.declared.fault.TraceFault.{TraceFault}
 use Rattle.can_stream.specs.declared.fault.TraceFault.TheVariants.{BadByte, ScenarioField, Read, Write, Memory, Long, FrameLine}
-use Rattle.canbit.specs.declared.fault.RunFault.TheVariants.{Stream}
+use Rattle.can_program.specs.declared.fault.RunFault.TheVariants.{Stream}
 use Rattle.canbit.specs.declared.subcommands.Chosen.{Chosen}
 use Rattle.canbit.specs.Answers.{AnswersTooLong, HasBadByte, HasBadLine, HasWrongField, PassesAll, RefusesInput}
-use Rattle.canbit.specs.Status.{status_of}
+use Rattle.can_program.specs.Status.{status_of}
 
 module _ {R W : Type 0} (remaining : R → Option (List ℕ)) (before after : R) (contents : W → Option (List ℕ)) (held holds : W) where
   -- what was read and written is so related

@@ -2,4 +2,3 @@
 pub mod Subcommands
 pub mod Words
 pub mod Answers
-pub mod Status

@@ -3,21 +3,19 @@ ghost use Rattle.std.specs.Prelude.{◌≡◌, ◌≢◌, ◌⊎◌, ◌<◌, �
 ghost use Rattle.std.specs.Io.KnownBytes.{Appends, IsAtEnd};
 ghost use Rattle.can_trace.specs.Told.{Told};
 ghost use Rattle.canbit.specs.Answers.{AnswersAll, AnswersEnded, BeginsAnswering, HasBadByte, RefusesInput};
-ghost use Rattle.canbit.specs.Status.{exit_status, status_of};
+ghost use Rattle.can_program.specs.Status.{exit_status};
 ghost use Rattle.canbit.specs.Subcommands.{name_of};
 ghost use Rattle.canbit.specs.Words.{AsksFor, AsksForHelp, AsksForOne, IsMisuse, texts_of};
 
-use crate::fault::RunFault;
 use crate::run::run;
 use crate::subcommands::Chosen;
 use crate::words::{WordFault, chosen};
-use arrayvec::ArrayString;
-use can_trace::{Sink, Source, check_lines, decode_stream, encode_lines, write_all};
+use can_program::{RunFault, conclude, refuse, write_help};
+use can_trace::{Sink, Source, check_lines, decode_stream, encode_lines};
 use std::alloc::Global;
-use std::fmt::Write;
 
-/// The room for a fault's line, in bytes. The longest has two numbers of 20 digits, and 66 bytes.
-const LINE_ROOM: usize = 80;
+/// The program's name, before the line of a fault.
+pub const NAME: &str = "canbit";
 
 /// Does what the words ask, and answers the exit status. It reads the words first, of which the first
 /// is the program's name, and then `r`; the answer or the text of help goes to `w`, and the line of a
@@ -81,10 +79,10 @@ pub fn execute<R: Source, W: Sink, E: Sink>(
     ensures no_fault_line { result ≡ 0 → e.new ≡ e.old }
 {
     match chosen(alloc, words) {
-        Ok(chosen) => conclude(answer(alloc, chosen, r, w), e),
-        Err(WordFault::Help(text)) => conclude(help(text.as_str(), w), e),
-        Err(WordFault::Usage) => refuse(RunFault::Usage, e),
-        Err(WordFault::Memory) => refuse(RunFault::Memory, e),
+        Ok(chosen) => conclude(NAME, answer(alloc, chosen, r, w), e),
+        Err(WordFault::Help(text)) => conclude(NAME, write_help(text.as_str(), w), e),
+        Err(WordFault::Usage) => refuse(NAME, RunFault::Usage, e),
+        Err(WordFault::Memory) => refuse(NAME, RunFault::Memory, e),
     }
 }
 
@@ -129,37 +127,4 @@ fn answer<R: Source, W: Sink>(
             }
         }
     }
-}
-
-/// Writes the text of help.
-fn help<W: Sink>(text: &str, w: &mut W) -> Result<(), RunFault>
-    requires { W.has_failed w.old ≡ false }
-    ensures ok { OnOk result (Appends (W.contents w.old) (W.contents w.new) text.now) }
-    ensures failed { W.has_failed w.new ≡ is_err result }
-    ensures fault { IfErr result (λ e. status_of e ≡ 3) }
-{
-    Ok(write_all(w, text.as_bytes())?)
-}
-
-/// The exit status of this outcome, whose fault is told.
-fn conclude<E: Sink>(outcome: Result<(), RunFault>, e: &mut E) -> u8
-    ensures status { result ≡ exit_status outcome }
-    ensures silent { result ≡ 0 → e.new ≡ e.old }
-{
-    match outcome {
-        Ok(()) => 0,
-        Err(fault) => refuse(fault, e),
-    }
-}
-
-/// Tells a fault in a line on `e`, and answers its exit status. A line that `e` does not take changes
-/// nothing.
-pub fn refuse<E: Sink>(fault: RunFault, e: &mut E) -> u8
-    ensures { result ≡ status_of fault }
-{
-    let mut line = ArrayString::<LINE_ROOM>::new();
-    if !e.failed() && writeln!(line, "canbit: {fault}").is_ok() {
-        let _ = write_all(e, line.as_bytes());
-    }
-    fault.status()
 }

@@ -4,9 +4,9 @@ use Rattle.std.proofs.lemmas.Bool.{false≢true}
 use Rattle.can_stream.specs.Faults.{is_read, is_write}
 use Rattle.can_stream.specs.declared.fault.TraceFault.{TraceFault}
 use Rattle.can_stream.specs.declared.fault.TraceFault.TheVariants.{BadByte, Read, Write, Long, FrameLine, ScenarioField, Memory}
-use Rattle.canhold.specs.declared.fault.RunFault.{RunFault}
-use Rattle.canhold.specs.declared.fault.RunFault.TheVariants.{Stream}
-use Rattle.canhold.specs.Status.{status_of}
+use Rattle.can_program.specs.declared.fault.RunFault.{RunFault}
+use Rattle.can_program.specs.declared.fault.RunFault.TheVariants.{Stream}
+use Rattle.can_program.specs.Status.{status_of}
 
 -- a call's outcome as that of a run
 abbrev pub outcome : Result (Unit {0}) TraceFault → Result (Unit {0}) RunFault

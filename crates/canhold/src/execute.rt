@@ -4,20 +4,18 @@ ghost use Rattle.std.specs.Io.KnownBytes.{Appends};
 ghost use Rattle.can_stream.specs.Told.{Told};
 ghost use Rattle.can_stream.specs.Outbox.{TakesFront};
 ghost use Rattle.canhold.specs.Answers.{Does};
-ghost use Rattle.canhold.specs.Status.{exit_status, status_of};
+ghost use Rattle.can_program.specs.Status.{exit_status};
 ghost use Rattle.canhold.specs.Words.{AsksFor, asked_by, texts_of};
 
-use crate::fault::RunFault;
 use crate::help::HELP;
 use crate::words::{Asked, Chosen, read_words};
-use arrayvec::ArrayString;
 use can_adapter::play_lines;
-use can_stream::{Sink, Source, write_all};
+use can_program::{RunFault, conclude, refuse, write_help};
+use can_stream::{Sink, Source};
 use std::alloc::Global;
-use std::fmt::Write;
 
-/// The room for a fault's line, in bytes.
-const LINE_ROOM: usize = 80;
+/// The program's name, before the line of a fault.
+pub const NAME: &str = "canhold";
 
 /// Does what the words ask, and answers the exit status. The first of the words is the program's name. The
 /// subcommand reads `r` and writes its answer to `w`; the text of help goes to `w`, and the line of a fault
@@ -65,9 +63,9 @@ pub fn execute<R: Source, W: Sink, E: Sink>(
     ensures no_fault_line { result ≡ 0 → e.new ≡ e.old }
 {
     match read_words(words) {
-        Some(Asked::Run(chosen)) => conclude(answer(alloc, chosen, r, w), e),
-        Some(Asked::Help) => conclude(help(w), e),
-        None => refuse(RunFault::Usage, e),
+        Some(Asked::Run(chosen)) => conclude(NAME, answer(alloc, chosen, r, w), e),
+        Some(Asked::Help) => conclude(NAME, write_help(HELP, w), e),
+        None => refuse(NAME, RunFault::Usage, e),
     }
 }
 
@@ -90,37 +88,4 @@ fn answer<R: Source, W: Sink>(
     match chosen {
         Chosen::Play => Ok(play_lines(alloc, r, w)?),
     }
-}
-
-/// Writes the text of help.
-fn help<W: Sink>(w: &mut W) -> Result<(), RunFault>
-    requires { W.has_failed w.old ≡ false }
-    ensures ok { OnOk result (Appends (W.contents w.old) (W.contents w.new) HELP.now) }
-    ensures failed { W.has_failed w.new ≡ is_err result }
-    ensures fault { IfErr result (λ e. status_of e ≡ 3) }
-{
-    Ok(write_all(w, HELP.as_bytes())?)
-}
-
-/// The exit status of this outcome, whose fault is told.
-fn conclude<E: Sink>(outcome: Result<(), RunFault>, e: &mut E) -> u8
-    ensures status { result ≡ exit_status outcome }
-    ensures silent { result ≡ 0 → e.new ≡ e.old }
-{
-    match outcome {
-        Ok(()) => 0,
-        Err(fault) => refuse(fault, e),
-    }
-}
-
-/// Tells a fault in a line on `e`, and answers its exit status. A line that `e` does not take changes
-/// nothing.
-pub fn refuse<E: Sink>(fault: RunFault, e: &mut E) -> u8
-    ensures { result ≡ status_of fault }
-{
-    let mut line = ArrayString::<LINE_ROOM>::new();
-    if !e.failed() && writeln!(line, "canhold: {fault}").is_ok() {
-        let _ = write_all(e, line.as_bytes());
-    }
-    fault.status()
 }

@@ -4,27 +4,19 @@
 //! - `help.rt`: the help texts.
 //! - `execute.rt`: what a run does over any reader and writers, its fault line and its exit status. The
 //!   contract of `execute` says for each outcome what was read and written.
-//! - `fault.rt`: the faults, their texts and statuses.
 //!
 //! That `main` joins `execute` to the process's words and standard streams is only tested.
 #![tactic(auto)]
 
 mod execute;
-mod fault;
 mod help;
 #[cfg(test)]
 mod tests;
 mod words;
 
+use can_program::{RunFault, command_line, refuse};
 use can_stream::{FromRead, ToWrite};
-use fault::RunFault;
-use std::io;
 use std::process::ExitCode;
-
-/// The words of the command line, the program's name first.
-fn command_line(rt: &HostRuntime) -> io::Result<Vec<String>> {
-    Ok(std::env::args(rt)?.collect(rt.alloc())?)
-}
 
 fn main(rt: HostRuntime) -> ExitCode {
     let mut reader = FromRead::new(rt.stdin());
@@ -38,7 +30,7 @@ fn main(rt: HostRuntime) -> ExitCode {
             &mut writer,
             &mut errors,
         ),
-        Err(error) => execute::refuse(RunFault::of_words(&error), &mut errors),
+        Err(error) => refuse(execute::NAME, RunFault::of_words(&error), &mut errors),
     };
     ExitCode::from(status)
 }

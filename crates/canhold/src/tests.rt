@@ -1,11 +1,10 @@
 //! Runs over streams that give and take bytes as a test says.
 use crate::execute::execute;
-use crate::fault::RunFault;
 use crate::help::HELP;
 use can_stream::ToWrite;
 use can_stream::pieces::{ROOM, Stop, Taker, reader_of, writer_of};
 use std::alloc::{AllocError, Global};
-use std::io::{Error, ErrorKind};
+use std::io::ErrorKind;
 use std::test::Fail;
 
 /// What a run wrote, what it told of faults, and its status.
@@ -98,14 +97,4 @@ fn words_that_ask_for_help_or_nothing(rt: HostRuntime) -> Result<(), Fail> {
         assert_eq!(rt; outcome.told.as_slice(), b"canhold: usage\n".as_slice());
     }
     Ok(())
-}
-
-#[test]
-fn words_that_could_not_be_read(rt: HostRuntime) {
-    for (kind, fault) in [
-        (ErrorKind::InvalidData, RunFault::Usage),
-        (ErrorKind::OutOfMemory, RunFault::Memory),
-    ] {
-        assert_eq!(rt; RunFault::of_words(&Error::from(kind)), fault);
-    }
 }

@@ -42,6 +42,13 @@ const IDLE: Failure = Failure {
     },
 };
 
+/// The words of choices.
+const NONE: &[&str] = &[];
+
+const ONE: &[&str] = &["own-start"];
+
+const TWO: &[&str] = &["reserved-levels", "prompt"];
+
 fn line(
     alloc: Global,
     name: &str,
@@ -53,41 +60,43 @@ fn line(
     Ok(out)
 }
 
-/// The line of a failure in a case named a that rests on no choice, without `fail a at 4: ` before and 0x0a behind.
-fn text(alloc: Global, failure: Failure) -> Result<Vec<u8>, AllocError> {
-    let out = line(alloc, "a", &[], Verdict::Fail(failure))?;
-    let text = out
-        .strip_prefix(b"fail a at 4: ")
-        .and_then(|text| text.strip_suffix(b"\n"))
-        .unwrap_or(b"");
-    Vec::from_slice(alloc, text)
+/// The line of a failure in the case a, which rests on no choice.
+fn failed(alloc: Global, failure: Failure) -> Result<Vec<u8>, AllocError> {
+    line(alloc, "a", NONE, Verdict::Fail(failure))
+}
+
+/// The same worked out: these words, with what is before and behind them in the line.
+fn around(alloc: Global, before: &str, words: &str, behind: &str) -> Result<Vec<u8>, AllocError> {
+    let mut out = Vec::from_slice(alloc, before.as_bytes())?;
+    out.extend_from_slice(words.as_bytes())?;
+    out.extend_from_slice(behind.as_bytes())?;
+    Ok(out)
 }
 
 #[test]
 fn lines_of_cases(rt: HostRuntime) -> Result<(), Fail> {
-    let (one, two) = (["own-start"], ["reserved-levels", "prompt"]);
     for (name, choices, verdict, text) in [
         (
             "suspend-reception-at-4",
-            &two[..],
+            TWO,
             Verdict::Pass,
             "pass suspend-reception-at-4\n",
         ),
         (
             "suspend-behind-error",
-            &[],
+            NONE,
             Verdict::Fail(SUSPENDED),
             "fail suspend-behind-error at 230: drove 0 not 1; suspend 7, sender; Suspend transmission; since error bit at 85\n",
         ),
         (
             "start",
-            &one[..],
+            ONE,
             Verdict::Fail(IDLE),
             "fail start at 4: drove nothing; idle, receiver; Start of frame; choice own-start\n",
         ),
         (
             "a",
-            &two[..],
+            TWO,
             Verdict::Fail(IDLE),
             "fail a at 4: drove nothing; idle, receiver; Start of frame; choice reserved-levels; choice prompt\n",
         ),
@@ -119,11 +128,12 @@ fn words_of_phases(rt: HostRuntime) -> Result<(), Fail> {
     ] {
         let mut failure = IDLE;
         failure.standing.phase = phase;
-        let text = text(rt.alloc(), failure)?;
-        let told = text
-            .strip_prefix(b"drove nothing; ")
-            .and_then(|text| text.strip_suffix(b", receiver; Start of frame"));
-        assert_eq!(rt; told, Some(word.as_bytes()));
+        let (before, behind) = (
+            "fail a at 4: drove nothing; ",
+            ", receiver; Start of frame\n",
+        );
+        let out = around(rt.alloc(), before, word, behind)?;
+        assert_eq!(rt; failed(rt.alloc(), failure)?.as_slice(), out.as_slice());
     }
     Ok(())
 }
@@ -152,9 +162,9 @@ fn names_of_rules(rt: HostRuntime) -> Result<(), Fail> {
     ] {
         let mut failure = IDLE;
         failure.standing.rule = rule;
-        let text = text(rt.alloc(), failure)?;
-        let told = text.strip_prefix(b"drove nothing; idle, receiver; ");
-        assert_eq!(rt; told, Some(name.as_bytes()));
+        let before = "fail a at 4: drove nothing; idle, receiver; ";
+        let out = around(rt.alloc(), before, name, "\n")?;
+        assert_eq!(rt; failed(rt.alloc(), failure)?.as_slice(), out.as_slice());
     }
     Ok(())
 }
@@ -239,9 +249,9 @@ fn words_of_differences(rt: HostRuntime) -> Result<(), Fail> {
     ] {
         let mut failure = IDLE;
         failure.difference = difference;
-        let text = text(rt.alloc(), failure)?;
-        let told = text.strip_suffix(b"; idle, receiver; Start of frame");
-        assert_eq!(rt; told, Some(words.as_bytes()));
+        let behind = "; idle, receiver; Start of frame\n";
+        let out = around(rt.alloc(), "fail a at 4: ", words, behind)?;
+        assert_eq!(rt; failed(rt.alloc(), failure)?.as_slice(), out.as_slice());
     }
     Ok(())
 }

@@ -2,9 +2,6 @@
 use super::streams::{
     ALL, Script, Tape, executed, expect_failing, expect_run, expect_whatever_the_pieces,
 };
-use crate::execute::refuse;
-use crate::fault::RunFault;
-use can_trace::{Field, PortField, ToWrite, TraceFault};
 use std::test::Fail;
 
 const LINE_000: &str = "00000100000100000100000100000100000100001111111111\n";
@@ -169,37 +166,6 @@ fn a_lost_fault_line_changes_nothing(rt: HostRuntime) -> Result<(), Fail> {
         let tape = Tape::new(alloc, ALL, ALL);
         let run = executed(alloc, words, script, tape, Tape::new(alloc, ALL, 0))?;
         expect_run(&rt, &run, status, output, "");
-    }
-    Ok(())
-}
-
-#[test]
-fn each_fault_has_a_line_and_a_status(rt: HostRuntime) -> Result<(), Fail> {
-    let log = TraceFault::ScenarioField(Field::Port {
-        number: 0,
-        part: PortField::Log,
-    });
-    let rows = [
-        (RunFault::Stream(log), 1, "canbit: P2 port[0].log\n"),
-        (RunFault::Stream(TraceFault::Long), 1, "canbit: P6 long\n"),
-        (RunFault::VectorsDiffer, 1, "canbit: vectors differ\n"),
-        (RunFault::Usage, 2, "canbit: usage\n"),
-        (RunFault::Stream(TraceFault::Read), 3, "canbit: P3 read\n"),
-        (RunFault::Stream(TraceFault::Write), 3, "canbit: P4 write\n"),
-        (RunFault::Memory, 4, "canbit: P5 memory\n"),
-        (
-            RunFault::Stream(TraceFault::Memory),
-            4,
-            "canbit: P5 memory\n",
-        ),
-    ];
-    for (fault, status, line) in rows {
-        let mut errors = ToWrite::new(Tape::new(rt.alloc(), ALL, ALL));
-        assert_eq!(rt; refuse(fault, &mut errors), status, "{fault}");
-        assert_eq!(rt;
-            String::from_utf8(errors.into_inner().bytes)?.as_str(),
-            line
-        );
     }
     Ok(())
 }

@@ -1,8 +1,6 @@
 use super::command_line;
-use crate::fault::RunFault;
 use crate::words::{WordFault, chosen};
 use std::alloc::{AllocError, Global};
-use std::io::{Error, ErrorKind};
 use std::test::Fail;
 
 /// What the words come to, in a word.
@@ -42,17 +40,6 @@ fn words_name_a_subcommand_or_none(rt: HostRuntime) -> Result<(), Fail> {
         assert_eq!(rt; told, want, "at {words:?}");
     }
     Ok(())
-}
-
-/// Words that are not UTF-8 are no want of memory.
-#[test]
-fn unreadable_words_are_misuse(rt: HostRuntime) {
-    for (kind, fault) in [
-        (ErrorKind::InvalidData, RunFault::Usage),
-        (ErrorKind::OutOfMemory, RunFault::Memory),
-    ] {
-        assert_eq!(rt; RunFault::of_words(&Error::from(kind)), fault);
-    }
 }
 
 #[test]

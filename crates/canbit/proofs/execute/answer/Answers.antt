@@ -1,7 +1,7 @@
 use Rattle.std.proofs.Common.{◌≡◌, ap, rules, Err}
 use Rattle.canbit.proofs.Faults.{passes_all, read_told, refused, weaker}
 use Rattle.canbit.specs.Answers.{HasBadLine, HasWrongField}
-use Rattle.canbit.specs.declared.fault.RunFault.TheVariants.{Stream}
+use Rattle.can_program.specs.declared.fault.RunFault.TheVariants.{Stream}
 use Rattle.canbit.specs.declared.subcommands.Chosen.TheVariants.{Encode, Decode, Run, Check}
 use Rattle.canbit.proofs.execute.answer.Goals as goal
 

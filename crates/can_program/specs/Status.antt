@@ -1,8 +1,8 @@
--- What the exit status of a run says. (docs/FORMATS.md, "Faults and statuses of the program")
+-- What the exit status of a run says. (docs/CODES.md)
 use Rattle.std.specs.Prelude.{ℕ, Result, Ok, Err}
 use Rattle.can_stream.specs.declared.fault.TraceFault.TheVariants.{BadByte, ScenarioField, Read, Write, Memory as OutOfMemory, Long, FrameLine}
-use Rattle.canbit.specs.declared.fault.RunFault.{RunFault}
-use Rattle.canbit.specs.declared.fault.RunFault.TheVariants.{VectorsDiffer, Usage, Memory, Stream}
+use Rattle.can_program.specs.declared.fault.RunFault.{RunFault}
+use Rattle.can_program.specs.declared.fault.RunFault.TheVariants.{VectorsDiffer, Usage, Memory, Stream}
 
 -- 1: the input is refused. 2: the words are. 3: a stream failed. 4: memory ran out.
 abbrev pub status_of : RunFault → ℕ

@@ -1,6 +1,6 @@
 //! Why a run did not do all that it was asked.
 ghost use Rattle.std.specs.Prelude.{◌≡◌, ◌⊎◌, ◌↔◌};
-ghost use Rattle.canhold.specs.Status.{status_of};
+ghost use Rattle.can_program.specs.Status.{status_of};
 
 use can_stream::TraceFault;
 use std::io;
@@ -13,6 +13,9 @@ pub enum RunFault {
     /// The words are no use of the program.
     #[error("usage")]
     Usage,
+    /// Not all vectors have the levels of their frames.
+    #[error("vectors differ")]
+    VectorsDiffer,
     /// Memory ran out in reading the words.
     #[error("P5 memory")]
     Memory,
@@ -22,7 +25,7 @@ pub enum RunFault {
 }
 
 impl From<TraceFault> for RunFault {
-    ghost use Rattle.canhold.specs.declared.fault.RunFault.TheVariants.{Stream};
+    ghost use Rattle.can_program.specs.declared.fault.RunFault.TheVariants.{Stream};
 
     ghost from_gives = { λ fault run_fault. run_fault ≡ Stream fault };
 
@@ -51,7 +54,8 @@ impl RunFault {
         ensures { result ≡ status_of self }
     {
         match self {
-            RunFault::Stream(
+            RunFault::VectorsDiffer
+            | RunFault::Stream(
                 TraceFault::BadByte { .. }
                 | TraceFault::ScenarioField(_)
                 | TraceFault::Long
