@@ -75,7 +75,7 @@ one-choices field a b x y = same_choices a b (sym x.said ∙ y.said)
 
 -- ---- what comes at its time
 
-same-timed : {A : Type 0} (a b : Timed A) → a.time ≡ b.time → a.told ≡ b.told → a ≡ b
+pub same-timed : {A : Type 0} (a b : Timed A) → a.time ≡ b.time → a.told ≡ b.told → a ≡ b
 same-timed {A} a b times told =
     let at : ℕ → A → Timed A = λ time x. record { time = time; told = x } in
     ap (λ time. at time a.told) times ∙ ap (at b.time) told

@@ -13,6 +13,9 @@
 //! | `laws.rt` | [`one_case`]: a table says at most one case | `specs/Cases.antt` |
 //! | `fault.rt` | [`KitFault`], why a document is not read | |
 //!
+//! [`read_elements`] over the trait [`Element`], [`read_strings`], [`is_of_version_one`] and [`text_of`] are shared with
+//! the crate above that reads transcripts.
+//!
 //! Of the lemmas, `InTime` has elements with their times, `Strings` strings of levels, `TesterParts` that these say
 //! one list of levels, `ForcedTimes` forced bit times, `WordLists` choices and names and needs, `OneNeeds` that
 //! words say needs in one way, `CaseParts` the parts of a case one after another, and `OneCase` that a table says

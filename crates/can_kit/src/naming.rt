@@ -46,7 +46,7 @@ pub(crate) fn read_name<'a>(
     Ok(name)
 }
 
-/// Whether the fields of a case say version 1.
+/// Whether the fields of a table say version 1.
 pub fn is_of_version_one(fields: &Table) -> bool
     ensures { MatchBool result (IsRequired (IsNumber 1) (named (codes "version") (table (table_view fields.now)))) (¬ IsRequired (IsNumber 1) (named (codes "version") (table (table_view fields.now)))) }
 {

@@ -1,3 +1,4 @@
 pub mod ReadPieces
 pub mod ReadTexts
 pub mod EventTexts
+pub mod OneEvent

@@ -2,3 +2,4 @@ pub mod Rising
 pub mod Places
 pub mod DroveParts
 pub mod TellingParts
+pub mod OneTranscript

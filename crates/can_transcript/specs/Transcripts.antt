@@ -106,3 +106,18 @@ pub record SaysTelling (d : Data) (t : Transcript) : Type 0 where
 pub record SaysTranscript (cases : List Data) (d : Data) (t : Told) : Type 0 where
   pub case : IsRequired (IsText (λ name. place_where name_of name cases ≡ Some t.case)) (named (codes "case") d)
   pub telling : SaysTelling d t.transcript
+
+-- both are there and are the same, or neither is there
+abbrev pub AreBoth : {A : Type 0} → (A → A → Type 0) → Option A → Option A → Type 0
+AreBoth Same None None = Unit {0}
+AreBoth Same None (Some b) = ⊥
+AreBoth Same (Some a) None = ⊥
+AreBoth Same (Some a) (Some b) = Same a b
+
+-- the transcripts are the same
+pub record AreSame (a b : Told) : Type 0 where
+  pub case : a.case ≡ b.case
+  pub drove : a.transcript.drove.items ≡ b.transcript.drove.items
+  pub events : AreBoth (λ xs ys. xs.items ≡ ys.items) a.transcript.events b.transcript.events
+  pub counters : AreBoth (λ xs ys. xs.items ≡ ys.items) a.transcript.counters b.transcript.counters
+  pub end : AreBoth (λ e f. e ≡ f) a.transcript.end b.transcript.end

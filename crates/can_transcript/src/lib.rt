@@ -12,16 +12,23 @@
 //! | `drove.rt` | the levels that were driven | `specs/Transcripts.antt` |
 //! | `lists.rt` | the lists of a transcript, whose times rise | `specs/Elements.antt` |
 //! | `elements.rt` | events, counters and the end | `specs/Elements.antt` |
+//! | `laws.rt` | [`one_told`]: a table says at most one transcript | `specs/Transcripts.antt` |
 //! | `fault.rt` | the refusal of something of a transcript | |
+//!
+//! Of the lemmas, `Rising` has that times of elements in time rise, `Places` the first table that says a text,
+//! `DroveParts` and `TellingParts` the parts of a transcript one after another, and `OneTranscript` that a table says
+//! one transcript.
 #![tactic(auto)]
 
 mod drove;
 mod elements;
 mod fault;
+mod laws;
 mod lists;
 mod naming;
 #[cfg(test)]
 mod tests;
 mod told;
 
+pub use laws::one_told;
 pub use told::{Told, read_transcript, read_transcripts};

@@ -226,3 +226,36 @@ fn events_counters_and_the_end(rt: HostRuntime) -> Result<(), Fail> {
     }
     Ok(())
 }
+
+/// A list may be as long as this, and no longer. What is told at the limit is its first element.
+#[test]
+fn limits_of_length(rt: HostRuntime) -> Result<(), Fail> {
+    let alloc = rt.alloc();
+    for (front, piece, most, at_most, beyond) in [
+        (
+            "drove = [",
+            "\"\", ",
+            4096,
+            TranscriptField::Levels(0),
+            TranscriptField::Drove,
+        ),
+        (
+            "drove = []\nevents = [",
+            "0, ",
+            100_000,
+            TranscriptField::Event(0),
+            TranscriptField::Events,
+        ),
+    ] {
+        for (pieces, part) in [(most, at_most), (most + 1, beyond)] {
+            let mut text = String::from_str(alloc, "[[transcript]]\nversion = 1\ncase = \"one\"\n")?;
+            text.push_str(front)?;
+            for _ in 0..pieces {
+                text.push_str(piece)?;
+            }
+            text.push_str("]\n")?;
+            assert_eq!(rt; refusal(alloc, &text)?, refused(0, part));
+        }
+    }
+    Ok(())
+}
