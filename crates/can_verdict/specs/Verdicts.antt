@@ -10,6 +10,8 @@ use Rattle.can_conform.specs.declared.judging.Verdict.TheVariants.{Pass, Fail}
 use Rattle.can_conform.specs.declared.transcript.Counters.{Counters}
 use Rattle.can_conform.specs.declared.transcript.Ending.{Ending}
 use Rattle.can_stream.specs.Digits.{digit_of}
+use Rattle.can_kit.specs.declared.words.Choice.{Choice}
+use Rattle.can_kit.specs.Words.{choice_word}
 use Rattle.can_kit_text.specs.Words.{event_text, state_word}
 use Rattle.can_verdict.specs.Standings.{standing_text}
 
@@ -53,15 +55,15 @@ difference_text (difference.End told ought) = codes "end " ++ not_text ending_te
 abbrev pub failure_text : Failure → List ℕ
 failure_text f = codes " at " ++ (decimal f.time ++ (codes ": " ++ (difference_text f.difference ++ (codes "; " ++ standing_text f.standing))))
 
--- the words of the choices on which the case rests, in their order
-abbrev pub choices_text : List (List ℕ) → List ℕ
+-- the choices on which the case rests, in their order
+abbrev pub choices_text : List Choice → List ℕ
 choices_text [] = []
-choices_text (choice ∷ choices) = codes "; choice " ++ (choice ++ choices_text choices)
+choices_text (choice ∷ choices) = codes "; choice " ++ (choice_word choice ++ choices_text choices)
 
 -- what is said of the case of this name, which rests on these choices
-abbrev pub verdict_text : List ℕ → List (List ℕ) → Verdict → List ℕ
+abbrev pub verdict_text : List ℕ → List Choice → Verdict → List ℕ
 verdict_text name choices Pass = codes "pass " ++ name
 verdict_text name choices (Fail failure) = codes "fail " ++ (name ++ (failure_text failure ++ choices_text choices))
 
-abbrev pub verdict_line : List ℕ → List (List ℕ) → Verdict → List ℕ
+abbrev pub verdict_line : List ℕ → List Choice → Verdict → List ℕ
 verdict_line name choices verdict = verdict_text name choices verdict ++ codes "\n"

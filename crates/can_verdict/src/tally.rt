@@ -17,6 +17,14 @@ pub struct Tally {
 }
 
 impl Tally {
+    /// No case has a verdict.
+    pub const NONE: Tally = Tally {
+        passed: 0,
+        failed: 0,
+        void: 0,
+        skipped: 0,
+    };
+
     /// How many cases there are.
     pub fn cases(self) -> u64
         ensures { result ≡ cases_in self }

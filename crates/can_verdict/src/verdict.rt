@@ -1,23 +1,24 @@
 //! The line of a verdict.
-ghost use Rattle.std.specs.Prelude.{◌≡◌, ◌++◌, map, OnOk};
+ghost use Rattle.std.specs.Prelude.{◌≡◌, ◌++◌, OnOk};
 ghost use Rattle.can_verdict.specs.Verdicts.{choices_text, failure_text, verdict_line};
 
 use crate::difference::push_difference;
 use crate::standing::push_standing;
 use can_conform::{Failure, Verdict};
+use can_kit::Choice;
 use can_kit_text::{push_number, push_text};
 use std::alloc::AllocError;
 
-/// Appends what is said of the case of this name, which rests on choices with these words: `pass NAME`, or
+/// Appends what is said of the case of this name, which rests on these choices: `pass NAME`, or
 /// `fail NAME at` and the bit time, the first difference, where the reference stands before it, and the choices. The
 /// line ends with 0x0a.
 pub fn push_verdict(
     out: &mut Vec<u8>,
     name: &[u8],
-    choices: &[&str],
+    choices: &[Choice],
     verdict: &Verdict,
 ) -> Result<(), AllocError>
-    ensures { OnOk result (out.new.items ≡ out.old.items ++ verdict_line name.now (map (λ choice. choice.now) choices.now) verdict.now) }
+    ensures { OnOk result (out.new.items ≡ out.old.items ++ verdict_line name.now choices.now verdict.now) }
 {
     match verdict {
         Verdict::Pass => {
@@ -47,12 +48,12 @@ fn push_failure(out: &mut Vec<u8>, failure: &Failure) -> Result<(), AllocError>
 }
 
 /// Appends the choices, in their order.
-fn push_choices(out: &mut Vec<u8>, choices: &[&str]) -> Result<(), AllocError>
-    ensures { OnOk result (out.new.items ≡ out.old.items ++ choices_text (map (λ choice. choice.now) choices.now)) }
+fn push_choices(out: &mut Vec<u8>, choices: &[Choice]) -> Result<(), AllocError>
+    ensures { OnOk result (out.new.items ≡ out.old.items ++ choices_text choices.now) }
 {
     for choice in choices {
         push_text(out, b"; choice ")?;
-        push_text(out, choice.as_bytes())?;
+        push_text(out, choice.word().as_bytes())?;
     }
     Ok(())
 }

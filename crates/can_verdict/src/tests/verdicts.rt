@@ -4,6 +4,7 @@ use can_conform::{
     Counters, Difference, Ending, Failure, Part, PhaseName, Rule, Standing, Timed, Verdict,
 };
 use can_fault::State;
+use can_kit::Choice;
 use can_frame::{Frame, Level};
 use can_mac::{ErrorKind, Event};
 use std::alloc::{AllocError, Global};
@@ -42,17 +43,17 @@ const IDLE: Failure = Failure {
     },
 };
 
-/// The words of choices.
-const NONE: &[&str] = &[];
+/// The choices on which a case rests.
+const NONE: &[Choice] = &[];
 
-const ONE: &[&str] = &["own-start"];
+const ONE: &[Choice] = &[Choice::OwnStart];
 
-const TWO: &[&str] = &["reserved-levels", "prompt"];
+const TWO: &[Choice] = &[Choice::ReservedLevels, Choice::Prompt];
 
 fn line(
     alloc: Global,
     name: &str,
-    choices: &[&str],
+    choices: &[Choice],
     verdict: Verdict,
 ) -> Result<Vec<u8>, AllocError> {
     let mut out = Vec::new(alloc);

@@ -1,0 +1,58 @@
+-- What `canhold judge` writes: a line for each transcript of the document, and the count.
+-- (docs/CONFORMANCE.md, "What is judged")
+use Rattle.std.specs.Prelude.{ℕ, ◌≡◌, ◌+◌, List, [], ◌∷◌, ◌++◌, Some}
+use Rattle.std.specs.List.{slice_get}
+use Rattle.std.specs.String.{string_bytes}
+use Rattle.can_conform.specs.declared.judging.Verdict.{Verdict}
+use Rattle.can_conform.specs.declared.judging.Verdict.TheVariants.{Pass, Fail}
+use Rattle.can_conform.specs.Verdicts.{IsVerdict}
+use Rattle.can_kit.specs.declared.case.Case.{Case}
+use Rattle.can_transcript.specs.declared.told.Told.{Told}
+use Rattle.can_verdict.specs.declared.tally.Tally.{Tally}
+use Rattle.can_verdict.specs.Counts.{count_line}
+use Rattle.can_verdict.specs.Verdicts.{verdict_line}
+use Rattle.can_hold.specs.declared.document.Document.{Document}
+use Rattle.can_hold.specs.Documents.{IsKitText}
+
+-- ---- the count
+
+-- no transcript is counted
+abbrev pub no_cases : Tally
+no_cases = record { passed = 0; failed = 0; void = 0; skipped = 0 }
+
+-- one more has this verdict
+abbrev pub counted : Tally → Verdict → Tally
+counted tally Pass = record { passed = tally.passed + 1; failed = tally.failed; void = tally.void; skipped = tally.skipped }
+counted tally (Fail failure) = record { passed = tally.passed; failed = tally.failed + 1; void = tally.void; skipped = tally.skipped }
+
+-- ---- the lines
+
+-- what is written, and how many transcripts have which verdict
+pub record Lines : Type 0 where
+  pub text : List ℕ
+  pub tally : Tally
+
+abbrev pub lines_of : List ℕ → Tally → Lines
+lines_of text tally = record { text = text; tally = tally }
+
+-- behind these lines that of the verdict on a transcript of one of these cases, which is counted
+pub record AddsVerdict (cases : List Case) (told : Told) (before after : Lines) : Type 0 where
+  pub case : Case
+  pub is : slice_get cases told.case ≡ Some case
+  pub verdict : Verdict
+  pub judged : IsVerdict case.script told.transcript verdict
+  pub line : after.text ≡ before.text ++ verdict_line (string_bytes case.name) case.choices.items verdict
+  pub count : after.tally ≡ counted before.tally verdict
+
+-- behind these lines such a line for each transcript, one after another
+abbrev pub AddVerdicts : List Case → List Told → Lines → Lines → Type 0
+AddVerdicts cases [] before after = after ≡ before
+AddVerdicts cases (told ∷ transcripts) before after = (between : Lines) × AddsVerdict cases told before between × AddVerdicts cases transcripts between after
+
+-- the bytes are a kit document, and the answer is a line for each of its transcripts, and behind them this count
+pub record IsJudged (bytes answer : List ℕ) (tally : Tally) : Type 0 where
+  pub document : Document
+  pub read : IsKitText bytes document
+  pub lines : List ℕ
+  pub verdicts : AddVerdicts document.cases.items document.transcripts.items (lines_of [] no_cases) (lines_of lines tally)
+  pub all : answer ≡ lines ++ count_line tally

@@ -1,0 +1,81 @@
+//! Verdicts of the transcripts of a document.
+ghost use Rattle.std.specs.Prelude.{◌≡◌, ◌≤◌, ◌<◌, ◌+◌, All, [], length, IfErr, IfOk, IsErrOf, OnOk};
+ghost use Rattle.can_conform.specs.Transcripts.{IsTold};
+ghost use Rattle.can_stream.specs.declared.kit_field.KitField.{KitField as Wrong};
+ghost use Rattle.can_kit.specs.Cases.{most_bits};
+ghost use Rattle.can_hold.specs.Documents.{document_demands, IsFieldOrMemory, IsFirstWrong};
+ghost use Rattle.can_hold.specs.Judgements.{counted as counted_as, lines_of, no_cases, AddVerdicts, IsJudged};
+
+use crate::document::Document;
+use can_conform::{Verdict, judge};
+use can_kit::Case;
+use can_stream::TraceFault;
+use can_transcript::Told;
+use can_verdict::{Tally, push_count, push_verdict};
+use std::alloc::{AllocError, Global};
+
+/// What is said of the transcripts of a document.
+#[derive(Debug, Drop)]
+pub struct Judgement {
+    /// A line for each transcript, in their order, and behind them the count. Each ends with 0x0a.
+    pub lines: Vec<u8>,
+    /// How many transcripts have which verdict; none is void or skipped.
+    pub tally: Tally,
+}
+
+/// Judges each transcript of the kit document that the bytes are.
+///
+/// `ScenarioField` names the first field that isn't as it has to be, as [`Document::from_text`] does.
+/// `Memory` says that memory ran out. There is no other fault.
+pub fn judged(alloc: Global, text: &[u8]) -> Result<Judgement, TraceFault>
+    ensures found { IfOk result (λ judgement. IsJudged text.now judgement.lines.items judgement.tally) }
+    ensures wrong { (wrong : Wrong) → IsErrOf result (TraceFault.ScenarioField (Field.Kit wrong)) → IsFirstWrong document_demands wrong text.now }
+    ensures other { IfErr result IsFieldOrMemory }
+{
+    let document = Document::from_text(alloc, text)?;
+    let mut lines = Vec::new(alloc);
+    let tally = push_verdicts(alloc, &mut lines, &document.cases, &document.transcripts)?;
+    push_count(&mut lines, tally)?;
+    Ok(Judgement { lines, tally })
+}
+
+/// Appends a line for each transcript, of one of these cases, and counts the verdicts.
+fn push_verdicts(
+    alloc: Global,
+    out: &mut Vec<u8>,
+    cases: &[Case],
+    transcripts: &[Told],
+) -> Result<Tally, AllocError>
+    requires short { All (λ one. length one.script.tester.items ≤ most_bits) cases.now }
+    requires told { All (λ one. IsTold one.transcript) transcripts.now }
+    requires known { All (λ one. one.case < length cases.now) transcripts.now }
+    requires few { length transcripts.now ≤ 4096 }
+    ensures { IfOk result (λ tally. AddVerdicts cases.now transcripts.now (lines_of out.old.items no_cases) (lines_of out.new.items tally)) }
+{
+    let mut tally = Tally::NONE;
+    for told in transcripts {
+        let case = &cases[told.case];
+        let verdict = judge(alloc, &case.script, &told.transcript)?;
+        push_verdict(out, case.name.as_bytes(), &case.choices, &verdict)?;
+        tally = counted(tally, &verdict);
+    }
+    Ok(tally)
+}
+
+/// One more transcript has this verdict.
+fn counted(tally: Tally, verdict: &Verdict) -> Tally
+    requires passed { tally.passed ≤ 4095 }
+    requires failed { tally.failed ≤ 4095 }
+    ensures { result ≡ counted_as tally verdict.now }
+{
+    match verdict {
+        Verdict::Pass => Tally {
+            passed: tally.passed + 1,
+            ..tally
+        },
+        Verdict::Fail(_) => Tally {
+            failed: tally.failed + 1,
+            ..tally
+        },
+    }
+}
