@@ -49,10 +49,12 @@ abbrev pub AddVerdicts : List Case → List Told → Lines → Lines → Type 0
 AddVerdicts cases [] before after = after ≡ before
 AddVerdicts cases (told ∷ transcripts) before after = (between : Lines) × AddsVerdict cases told before between × AddVerdicts cases transcripts between after
 
--- the bytes are a kit document, and the answer is a line for each of its transcripts, and behind them this count
-pub record IsJudged (bytes answer : List ℕ) (tally : Tally) : Type 0 where
-  pub document : Document
-  pub read : IsKitText bytes document
+-- the answer is a line for each transcript of the document, and behind them this count
+pub record IsAnswer (document : Document) (answer : List ℕ) (tally : Tally) : Type 0 where
   pub lines : List ℕ
   pub verdicts : AddVerdicts document.cases.items document.transcripts.items (lines_of [] no_cases) (lines_of lines tally)
   pub all : answer ≡ lines ++ count_line tally
+
+-- the bytes are a kit document with this answer
+abbrev pub IsJudged : (bytes answer : List ℕ) (tally : Tally) → Type 0
+IsJudged bytes answer tally = (document : Document) × IsKitText bytes document × IsAnswer document answer tally

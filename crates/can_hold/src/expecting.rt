@@ -29,9 +29,19 @@ pub fn expected(alloc: Global, text: &[u8]) -> Result<Vec<u8>, TraceFault>
             KitField::Transcripts,
         )));
     }
-    let mut answer = Vec::new(alloc);
-    answer.extend_from_slice(text)?;
-    push_tables(alloc, &mut answer, &document.cases)?;
+    let Ok(answer) = with_tables(alloc, text, &document.cases) else {
+        return Err(TraceFault::Memory);
+    };
+    Ok(answer)
+}
+
+/// The bytes, and behind them the table of each case's transcript.
+fn with_tables(alloc: Global, text: &[u8], cases: &[Case]) -> Result<Vec<u8>, AllocError>
+    requires { All (λ one. length one.script.tester.items ≤ most_bits) cases.now }
+    ensures { IfOk result (λ answer. AddTables cases.now text.now answer.items) }
+{
+    let mut answer = Vec::from_slice(alloc, text)?;
+    push_tables(alloc, &mut answer, cases)?;
     Ok(answer)
 }
 

@@ -4,7 +4,7 @@ ghost use Rattle.can_conform.specs.Transcripts.{IsTold};
 ghost use Rattle.can_stream.specs.declared.kit_field.KitField.{KitField as Wrong};
 ghost use Rattle.can_kit.specs.Cases.{most_bits};
 ghost use Rattle.can_hold.specs.Documents.{document_demands, IsFieldOrMemory, IsFirstWrong};
-ghost use Rattle.can_hold.specs.Judgements.{counted as counted_as, lines_of, no_cases, AddVerdicts, IsJudged};
+ghost use Rattle.can_hold.specs.Judgements.{counted as counted_as, lines_of, no_cases, AddVerdicts, IsAnswer, IsJudged};
 
 use crate::document::Document;
 use can_conform::{Verdict, judge};
@@ -33,6 +33,20 @@ pub fn judged(alloc: Global, text: &[u8]) -> Result<Judgement, TraceFault>
     ensures other { IfErr result IsFieldOrMemory }
 {
     let document = Document::from_text(alloc, text)?;
+    let Ok(judgement) = judge_all(alloc, &document) else {
+        return Err(TraceFault::Memory);
+    };
+    Ok(judgement)
+}
+
+/// Judges each transcript of a document.
+fn judge_all(alloc: Global, document: &Document) -> Result<Judgement, AllocError>
+    requires short { All (λ one. length one.script.tester.items ≤ most_bits) document.now.cases.items }
+    requires told { All (λ one. IsTold one.transcript) document.now.transcripts.items }
+    requires known { All (λ one. one.case < length document.now.cases.items) document.now.transcripts.items }
+    requires few { length document.now.transcripts.items ≤ 4096 }
+    ensures { IfOk result (λ judgement. IsAnswer document.now judgement.lines.items judgement.tally) }
+{
     let mut lines = Vec::new(alloc);
     let tally = push_verdicts(alloc, &mut lines, &document.cases, &document.transcripts)?;
     push_count(&mut lines, tally)?;

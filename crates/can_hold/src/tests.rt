@@ -1,0 +1,1 @@
+//! Kit documents that are answered.
