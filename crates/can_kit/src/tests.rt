@@ -96,12 +96,21 @@ fn needs_in_their_order(rt: HostRuntime) -> Result<(), Fail> {
 #[test]
 fn choices_by_name(rt: HostRuntime) -> Result<(), Fail> {
     let alloc = rt.alloc();
-    let two = fields(alloc, "choices = [\"rec-127\", \"prompt\"]")?;
-    let said = choices_in(alloc, &two)?.ok_or("refused")?;
-    assert_eq!(rt;
-        said.as_slice(),
-        [Choice::Rec127, Choice::Prompt].as_slice()
-    );
+    let text =
+        "choices = [\"reserved-levels\", \"stuff-exception\", \"own-start\", \"flag-error-once\", \"own-overload\", \"rec-127\", \"recovery-by-itself\", \"recovery-rows\", \"prompt\"]";
+    let said = choices_in(alloc, &fields(alloc, text)?)?.ok_or("refused")?;
+    let all = [
+        Choice::ReservedLevels,
+        Choice::StuffException,
+        Choice::OwnStart,
+        Choice::FlagErrorOnce,
+        Choice::OwnOverload,
+        Choice::Rec127,
+        Choice::RecoveryByItself,
+        Choice::RecoveryRows,
+        Choice::Prompt,
+    ];
+    assert_eq!(rt; said.as_slice(), all.as_slice());
     let none = choices_in(alloc, &fields(alloc, "")?)?.ok_or("refused")?;
     assert_eq!(rt; none.len(), 0);
     for text in ["choices = [\"rec-128\"]", "choices = [1]", "choices = 1"] {
