@@ -96,7 +96,7 @@ one_error text k b said says =
     let j = kind_of b in
     let same = sym said.text_is ∙ says.text_is in
     let is : b ≡ Error j =
-        of_its_kind some_frame (Error k) b same ∙ ap (λ (n : ℕ). event_from n (frame_of some_frame b) j) (error_letters k) in
+    of_its_kind some_frame (Error k) b same ∙ ap (λ (n : ℕ). event_from n (frame_of some_frame b) j) (error_letters k) in
     let other = subst (λ (e : Event). SaysEvent text e) is says in
     let words : kind_word k ≡ kind_word j = append_cancel_left (codes "error ") (kind_word k) (kind_word j) (sym said.text_is ∙ other.text_is) in
     ap Error (one-kind k j words) ∙ sym is

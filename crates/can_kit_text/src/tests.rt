@@ -1,6 +1,7 @@
 //! The words as a document has them.
 use crate::{
-    push_event, push_levels, push_number, push_state, push_text, read_event, read_levels, read_state,
+    push_event, push_levels, push_number, push_state, push_text, read_event, read_levels,
+    read_state,
 };
 use can_fault::State;
 use can_frame::{Frame, Level};

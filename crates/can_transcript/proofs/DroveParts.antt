@@ -1,5 +1,5 @@
 -- The levels of a transcript: its strings are read, and together they are few enough.
-use Rattle.std.proofs.Common.{◌≡◌, ℕ, ◌<◌, ◌≤◌, List, length, codes, refl, sym, ap, inl, inr, arith}
+use Rattle.std.proofs.Common.{ℕ, ◌<◌, ◌≤◌, List, length, codes, refl, ap, inl, inr, arith}
 use Rattle.toml.specs.Data.{Data}
 use Rattle.can_frame.specs.declared.level.Level.{Level}
 use Rattle.can_stream.specs.declared.kit_field.KitField.{KitField}

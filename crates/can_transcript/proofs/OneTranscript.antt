@@ -1,5 +1,5 @@
 -- A table says one transcript.
-use Rattle.std.proofs.Common.{◌≡◌, ◌≢◌, ℕ, pos, List, codes, Option, Some, None, Vec, Global, refl, sym, ap, subst, ◌∙◌}
+use Rattle.std.proofs.Common.{◌≡◌, ℕ, pos, List, codes, Option, Some, None, Vec, Global, sym, ap, subst, ◌∙◌}
 use Rattle.toml.specs.Data.{Data, string, integer}
 use Rattle.can_conform.specs.declared.timed.Timed.{Timed}
 use Rattle.can_conform.specs.declared.transcript.Counters.{Counters}

@@ -29,7 +29,9 @@ pub(crate) fn case_in(cases: &[Value], earlier: &[Value], fields: &Table) -> Opt
 fn place_where(tables: &[Value], key: &str, text: &str) -> Option<usize>
     ensures { result ≡ place_in (λ value. text_in (named key.now value)) text.now (map view tables.now) }
 {
-    tables.iter().position(|value| text == text_said(value, key))
+    tables
+        .iter()
+        .position(|value| text == text_said(value, key))
 }
 
 /// The text that a table says in the field of this name, no text where it says none.

@@ -157,7 +157,9 @@ fn two_transcripts_of_one_case(rt: HostRuntime) -> Result<(), Fail> {
     let one = "version = 1\ncase = \"one\"\ndrove = []\n";
     let two = "version = 1\ncase = \"two\"\ndrove = []\n";
     let alloc = rt.alloc();
-    let text = format!(in alloc; "[[transcript]]\n{one}[[transcript]]\n{two}[[transcript]]\n{one}")?;
+    let text = format!(in alloc;
+        "[[transcript]]\n{one}[[transcript]]\n{two}[[transcript]]\n{one}"
+    )?;
     assert_eq!(rt; refusal(alloc, &text)?, refused(2, TranscriptField::Case));
     Ok(())
 }
@@ -171,10 +173,7 @@ fn levels_that_were_driven(rt: HostRuntime) -> Result<(), Fail> {
         ("drove = [\"01\", \"\"]", TranscriptField::Levels(1)),
         ("drove = [\"01\", \"f\"]", TranscriptField::Levels(1)),
         ("drove = [1]", TranscriptField::Levels(0)),
-        (
-            "drove = [\"1*60000\", \"1*40001\"]",
-            TranscriptField::Drove,
-        ),
+        ("drove = [\"1*60000\", \"1*40001\"]", TranscriptField::Drove),
     ] {
         let text = format!(in alloc; "[[transcript]]\nversion = 1\ncase = \"one\"\n{fields}\n")?;
         assert_eq!(rt; refusal(alloc, &text)?, refused(0, part), "{fields}");
@@ -215,13 +214,12 @@ fn events_counters_and_the_end(rt: HostRuntime) -> Result<(), Fail> {
         ("end = [\"bus-off\", 0, 0]", TranscriptField::End),
         ("end = [0, 0, 0]", TranscriptField::End),
         ("end = [\"active\", 0, 65536]", TranscriptField::End),
-        (
-            "events = 1\ncounters = 1\nend = 1",
-            TranscriptField::Events,
-        ),
+        ("events = 1\ncounters = 1\nend = 1", TranscriptField::Events),
         ("counters = 1\nend = 1", TranscriptField::Counters),
     ] {
-        let text = format!(in alloc; "[[transcript]]\nversion = 1\ncase = \"one\"\ndrove = [\"01\"]\n{fields}\n")?;
+        let text = format!(in alloc;
+            "[[transcript]]\nversion = 1\ncase = \"one\"\ndrove = [\"01\"]\n{fields}\n"
+        )?;
         assert_eq!(rt; refusal(alloc, &text)?, refused(0, part), "{fields}");
     }
     Ok(())
@@ -248,7 +246,10 @@ fn limits_of_length(rt: HostRuntime) -> Result<(), Fail> {
         ),
     ] {
         for (pieces, part) in [(most, at_most), (most + 1, beyond)] {
-            let mut text = String::from_str(alloc, "[[transcript]]\nversion = 1\ncase = \"one\"\n")?;
+            let mut text = String::from_str(
+                alloc,
+                "[[transcript]]\nversion = 1\ncase = \"one\"\n",
+            )?;
             text.push_str(front)?;
             for _ in 0..pieces {
                 text.push_str(piece)?;

@@ -1,4 +1,4 @@
-use Rattle.std.proofs.Common.{ℕ, ◌^◌, ◌-◌, ◌<◌, codes, length, arith, rules}
+use Rattle.std.proofs.Common.{ℕ, codes, arith, rules}
 use Rattle.toml.specs.Data.{table}
 use Rattle.toml.specs.View.{table_view}
 use Rattle.can_toml.specs.Demands.{IsFirstUnmet}
