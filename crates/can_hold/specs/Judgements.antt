@@ -35,19 +35,19 @@ pub record Lines : Type 0 where
 abbrev pub lines_of : List ℕ → Tally → Lines
 lines_of text tally = record { text = text; tally = tally }
 
--- behind these lines that of the verdict on a transcript of one of these cases, which is counted
-pub record AddsVerdict (cases : List Case) (told : Told) (before after : Lines) : Type 0 where
-  pub case : Case
-  pub is : slice_get cases told.case ≡ Some case
+-- behind these lines that of the verdict on this transcript of this case, which is counted
+pub record AddsVerdict (case : Case) (told : Told) (before after : Lines) : Type 0 where
   pub verdict : Verdict
   pub judged : IsVerdict case.script told.transcript verdict
   pub line : after.text ≡ before.text ++ verdict_line (string_bytes case.name) case.choices.items verdict
   pub count : after.tally ≡ counted before.tally verdict
 
--- behind these lines such a line for each transcript, one after another
+-- behind these lines such a line for each transcript of one of these cases, one after another
 abbrev pub AddVerdicts : List Case → List Told → Lines → Lines → Type 0
 AddVerdicts cases [] before after = after ≡ before
-AddVerdicts cases (told ∷ transcripts) before after = (between : Lines) × AddsVerdict cases told before between × AddVerdicts cases transcripts between after
+AddVerdicts cases (told ∷ transcripts) before after =
+    (case : Case) × (slice_get cases told.case ≡ Some case) × (between : Lines)
+    × AddsVerdict case told before between × AddVerdicts cases transcripts between after
 
 -- the answer is a line for each transcript of the document, and behind them this count
 pub record IsAnswer (document : Document) (answer : List ℕ) (tally : Tally) : Type 0 where

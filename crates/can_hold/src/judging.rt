@@ -1,10 +1,13 @@
 //! Verdicts of the transcripts of a document.
-ghost use Rattle.std.specs.Prelude.{◌≡◌, ◌≤◌, ◌<◌, ◌+◌, All, [], length, IfErr, IfOk, IsErrOf, OnOk};
+ghost use Rattle.std.specs.Prelude.{◌≡◌, ◌≤◌, ◌<◌, ◌+◌, ◌++◌, All, [], length, IfErr, IfOk, IsErrOf, OnOk};
+ghost use Rattle.std.specs.String.{string_bytes};
+ghost use Rattle.can_verdict.specs.Verdicts.{verdict_line};
 ghost use Rattle.can_conform.specs.Transcripts.{IsTold};
 ghost use Rattle.can_stream.specs.declared.kit_field.KitField.{KitField as Wrong};
+ghost use Rattle.can_stream.specs.declared.field.Field.TheVariants.{Kit};
 ghost use Rattle.can_kit.specs.Cases.{most_bits};
 ghost use Rattle.can_hold.specs.Documents.{document_demands, IsFieldOrMemory, IsFirstWrong};
-ghost use Rattle.can_hold.specs.Judgements.{counted as counted_as, lines_of, no_cases, AddVerdicts, IsAnswer, IsJudged};
+ghost use Rattle.can_hold.specs.Judgements.{counted as counted_as, lines_of, no_cases, AddVerdicts, AddsVerdict, IsAnswer, IsJudged};
 
 use crate::document::Document;
 use can_conform::{Verdict, judge};
@@ -29,7 +32,7 @@ pub struct Judgement {
 /// `Memory` says that memory ran out. There is no other fault.
 pub fn judged(alloc: Global, text: &[u8]) -> Result<Judgement, TraceFault>
     ensures found { IfOk result (λ judgement. IsJudged text.now judgement.lines.items judgement.tally) }
-    ensures wrong { (wrong : Wrong) → IsErrOf result (TraceFault.ScenarioField (Field.Kit wrong)) → IsFirstWrong document_demands wrong text.now }
+    ensures wrong { (wrong : Wrong) → IsErrOf result (TraceFault.ScenarioField (Kit wrong)) → IsFirstWrong document_demands wrong text.now }
     ensures other { IfErr result IsFieldOrMemory }
 {
     let document = Document::from_text(alloc, text)?;
@@ -64,22 +67,47 @@ fn push_verdicts(
     requires told { All (λ one. IsTold one.transcript) transcripts.now }
     requires known { All (λ one. one.case < length cases.now) transcripts.now }
     requires few { length transcripts.now ≤ 4096 }
-    ensures { IfOk result (λ tally. AddVerdicts cases.now transcripts.now (lines_of out.old.items no_cases) (lines_of out.new.items tally)) }
+    ensures { IfOk result (λ counts. AddVerdicts cases.now transcripts.now (lines_of out.old.items no_cases) (lines_of out.new.items counts)) }
 {
     let mut tally = Tally::NONE;
     for told in transcripts {
-        let case = &cases[told.case];
-        let verdict = judge(alloc, &case.script, &told.transcript)?;
-        push_verdict(out, case.name.as_bytes(), &case.choices, &verdict)?;
-        tally = counted(tally, &verdict);
+        tally = push_one(alloc, out, &cases[told.case], told, tally)?;
     }
     Ok(tally)
 }
 
+/// Appends the line of a transcript of this case, and counts its verdict.
+fn push_one(
+    alloc: Global,
+    out: &mut Vec<u8>,
+    case: &Case,
+    told: &Told,
+    tally: Tally,
+) -> Result<Tally, AllocError>
+    requires short { length case.now.script.tester.items ≤ most_bits }
+    requires told { IsTold told.now.transcript }
+    requires few { (tally.passed ≤ 4095) × (tally.failed ≤ 4095) }
+    ensures { IfOk result (λ counts. AddsVerdict case.now told.now (lines_of out.old.items tally) (lines_of out.new.items counts)) }
+{
+    match judge(alloc, &case.script, &told.transcript) {
+        Ok(verdict) => push_said(out, case, &verdict, tally),
+        Err(error) => Err(error),
+    }
+}
+
+/// Appends the line of a verdict on the transcript of this case.
+fn push_said(out: &mut Vec<u8>, case: &Case, verdict: &Verdict, tally: Tally) -> Result<Tally, AllocError>
+    requires few { (tally.passed ≤ 4095) × (tally.failed ≤ 4095) }
+    ensures line { OnOk result (out.new.items ≡ out.old.items ++ verdict_line (string_bytes case.now.name) case.now.choices.items verdict.now) }
+    ensures count { IfOk result (λ counts. counts ≡ counted_as tally verdict.now) }
+{
+    push_verdict(out, case.name.as_bytes(), &case.choices, verdict)?;
+    Ok(counted(tally, verdict))
+}
+
 /// One more transcript has this verdict.
 fn counted(tally: Tally, verdict: &Verdict) -> Tally
-    requires passed { tally.passed ≤ 4095 }
-    requires failed { tally.failed ≤ 4095 }
+    requires { (tally.passed ≤ 4095) × (tally.failed ≤ 4095) }
     ensures { result ≡ counted_as tally verdict.now }
 {
     match verdict {
