@@ -1,1 +1,3 @@
-mod Places
+mod DocumentParts
+mod CasesAlone
+mod CountedVerdicts

@@ -25,9 +25,7 @@ pub fn expected(alloc: Global, text: &[u8]) -> Result<Vec<u8>, TraceFault>
 {
     let document = Document::from_text(alloc, text)?;
     if !document.transcripts.is_empty() {
-        return Err(TraceFault::ScenarioField(Field::Kit(
-            KitField::Transcripts,
-        )));
+        return Err(TraceFault::ScenarioField(Field::Kit(KitField::Transcripts)));
     }
     let Ok(answer) = with_tables(alloc, text, &document.cases) else {
         return Err(TraceFault::Memory);

@@ -96,7 +96,12 @@ fn push_one(
 }
 
 /// Appends the line of a verdict on the transcript of this case.
-fn push_said(out: &mut Vec<u8>, case: &Case, verdict: &Verdict, tally: Tally) -> Result<Tally, AllocError>
+fn push_said(
+    out: &mut Vec<u8>,
+    case: &Case,
+    verdict: &Verdict,
+    tally: Tally,
+) -> Result<Tally, AllocError>
     requires few { (tally.passed ≤ 4095) × (tally.failed ≤ 4095) }
     ensures line { OnOk result (out.new.items ≡ out.old.items ++ verdict_line (string_bytes case.now.name) case.now.choices.items verdict.now) }
     ensures count { IfOk result (λ counts. counts ≡ counted_as tally verdict.now) }

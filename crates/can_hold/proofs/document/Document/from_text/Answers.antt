@@ -1,0 +1,12 @@
+use Rattle.std.proofs.Common.{inr, rules}
+use Rattle.toml.specs.Data.{table}
+use Rattle.toml.specs.View.{table_view}
+use Rattle.can_toml.specs.Demands.{IsFirstUnmet}
+use Rattle.can_hold.specs.Documents.{document_demands}
+use Rattle.can_hold.proofs.document.Document.from_text.Goals as goal
+
+pub returns-in_err-read_tables-in-Ok-clause-wrong : goal.returns-in_err-read_tables-in-Ok-clause-wrong
+returns-in_err-read_tables-in-Ok-clause-wrong c = λ wrong is.
+    let d = table (table_view c.in-Ok.fields) in
+    let here : IsFirstUnmet wrong (document_demands d) = search rules in
+    inr (d, c.in-Ok.ensures.said, here)
