@@ -2,7 +2,7 @@
 use Rattle.std.specs.Prelude.{ℕ, Result, Ok, Err}
 use Rattle.can_stream.specs.declared.fault.TraceFault.TheVariants.{BadByte, ScenarioField, Read, Write, Memory as OutOfMemory, Long, FrameLine}
 use Rattle.can_program.specs.declared.fault.RunFault.{RunFault}
-use Rattle.can_program.specs.declared.fault.RunFault.TheVariants.{VectorsDiffer, Usage, Memory, Stream}
+use Rattle.can_program.specs.declared.fault.RunFault.TheVariants.{VectorsDiffer, TranscriptsDiffer, Usage, Memory, Stream}
 
 -- 1: the input is refused. 2: the words are. 3: a stream failed. 4: memory ran out.
 abbrev pub status_of : RunFault → ℕ
@@ -11,6 +11,7 @@ status_of (Stream (ScenarioField wrong)) = 1
 status_of (Stream Long) = 1
 status_of (Stream (FrameLine line fault)) = 1
 status_of VectorsDiffer = 1
+status_of TranscriptsDiffer = 1
 status_of Usage = 2
 status_of (Stream Read) = 3
 status_of (Stream Write) = 3

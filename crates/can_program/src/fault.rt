@@ -16,6 +16,9 @@ pub enum RunFault {
     /// Not all vectors have the levels of their frames.
     #[error("vectors differ")]
     VectorsDiffer,
+    /// Not all transcripts tell what the reference does.
+    #[error("transcripts differ")]
+    TranscriptsDiffer,
     /// Memory ran out in reading the words.
     #[error("P5 memory")]
     Memory,
@@ -55,6 +58,7 @@ impl RunFault {
     {
         match self {
             RunFault::VectorsDiffer
+            | RunFault::TranscriptsDiffer
             | RunFault::Stream(
                 TraceFault::BadByte { .. }
                 | TraceFault::ScenarioField(_)

@@ -6,7 +6,8 @@ use Rattle.std.specs.declared.string.String.{String}
 use Rattle.canhold.specs.declared.words.Asked.{Asked}
 use Rattle.canhold.specs.declared.words.Asked.TheVariants.{Run, Help}
 use Rattle.canhold.specs.declared.words.Chosen.{Chosen}
-use Rattle.canhold.specs.declared.words.Chosen.TheVariants.{Play}
+use Rattle.canhold.specs.declared.words.Chosen.TheVariants.{Play, Document}
+use Rattle.canhold.specs.declared.words.Question.TheVariants.{Expect, Judge}
 
 -- the words as texts
 abbrev pub texts_of : List (String Global) → List (List ℕ)
@@ -16,6 +17,8 @@ texts_of words = map string_bytes words
 abbrev pub asked_word : List ℕ → Option Asked
 asked_word word =
     if bytes_eq word (codes "play") then Some (Run Play)
+    else if bytes_eq word (codes "expect") then Some (Run (Document Expect))
+    else if bytes_eq word (codes "judge") then Some (Run (Document Judge))
     else (if bytes_eq word (codes "help") || (bytes_eq word (codes "--help") || bytes_eq word (codes "-h")) then Some Help else None)
 
 -- what the words ask for: the program's name, whatever it is, and one word

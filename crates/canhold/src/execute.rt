@@ -3,12 +3,13 @@ ghost use Rattle.std.specs.Prelude.{◌≡◌, ◌≢◌, ◌⊎◌, ◌<◌, �
 ghost use Rattle.std.specs.Io.KnownBytes.{Appends};
 ghost use Rattle.can_stream.specs.Told.{Told};
 ghost use Rattle.can_stream.specs.Outbox.{TakesFront};
-ghost use Rattle.canhold.specs.Answers.{Does};
+ghost use Rattle.canhold.specs.Answers.{AnswersDocument, Does};
 ghost use Rattle.can_program.specs.Status.{exit_status};
 ghost use Rattle.canhold.specs.Words.{AsksFor, asked_by, texts_of};
 
+use crate::document::answer_document;
 use crate::help::HELP;
-use crate::words::{Asked, Chosen, read_words};
+use crate::words::{Asked, Chosen, Question, read_words};
 use can_adapter::play_lines;
 use can_program::{RunFault, conclude, refuse, write_help};
 use can_stream::{Sink, Source};
@@ -87,5 +88,29 @@ fn answer<R: Source, W: Sink>(
 {
     match chosen {
         Chosen::Play => Ok(play_lines(alloc, r, w)?),
+        Chosen::Document(question) => answered(alloc, question, r, w),
+    }
+}
+
+/// Answers the document that the reader tells.
+fn answered<R: Source, W: Sink>(
+    alloc: Global,
+    question: Question,
+    r: &mut R,
+    w: &mut W,
+) -> Result<(), RunFault>
+    requires reader_unfailed { R.has_failed r.old ≡ false }
+    requires reader_unended { R.has_ended r.old ≡ false }
+    requires writer_unfailed { W.has_failed w.old ≡ false }
+    ensures told { Told R.remaining r.old r.new W.contents w.old w.new (AnswersDocument question result) }
+    ensures stream_failed { exit_status result ≡ 3 → IsTrue (R.has_failed r.new) ⊎ IsTrue (W.has_failed w.new) }
+    ensures write_told { IsTrue (W.has_failed w.new) → exit_status result ≡ 3 }
+    ensures read_told { IsTrue (R.has_failed r.new) → exit_status result ≡ 3 }
+    ensures no_misuse { exit_status result ≢ 2 }
+{
+    if answer_document(alloc, question, r, w)? {
+        Ok(())
+    } else {
+        Err(RunFault::TranscriptsDiffer)
     }
 }

@@ -8,6 +8,7 @@
 //! That `main` joins `execute` to the process's words and standard streams is only tested.
 #![tactic(auto)]
 
+mod document;
 mod execute;
 mod help;
 #[cfg(test)]

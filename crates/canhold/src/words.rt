@@ -2,9 +2,20 @@
 ghost use Rattle.std.specs.Prelude.{◌≡◌};
 ghost use Rattle.canhold.specs.Words.{asked_by, asked_word, texts_of};
 
+/// What is asked of a kit document.
+#[derive(Clone, Copy, Debug, PartialEq, Eq)]
+pub enum Question {
+    /// What the reference does in each of its cases.
+    Expect,
+    /// Whether its transcripts tell what the reference does.
+    Judge,
+}
+
 /// A subcommand.
 #[derive(Clone, Copy, Debug, PartialEq, Eq)]
 pub enum Chosen {
+    /// A kit document in, an answer out.
+    Document(Question),
     /// A runner's lines in, the reference's answers out.
     Play,
 }
@@ -31,8 +42,11 @@ pub fn read_words(words: &[String]) -> Option<Asked>
 fn read_word(word: &str) -> Option<Asked>
     ensures { result ≡ asked_word word.now }
 {
-    if word == "play" {
-        return Some(Asked::Run(Chosen::Play));
+    match word {
+        "play" => Some(Asked::Run(Chosen::Play)),
+        "expect" => Some(Asked::Run(Chosen::Document(Question::Expect))),
+        "judge" => Some(Asked::Run(Chosen::Document(Question::Judge))),
+        "help" | "--help" | "-h" => Some(Asked::Help),
+        _ => None,
     }
-    (word == "help" || word == "--help" || word == "-h").then_some(Asked::Help)
 }
