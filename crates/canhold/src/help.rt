@@ -7,7 +7,19 @@ The proved reference of the conformance kit for classical CAN controllers
 Usage: canhold COMMAND
 
 Commands:
-  play  Answers a runner of the kit, line by line, as the reference's adapter
+  expect  Writes a kit document, and behind it what the reference does in its cases
+  judge   Says of each transcript of a kit document whether the reference does so too
+  play    Answers a runner of the kit, line by line, as the reference's adapter
+
+expect and judge read a kit document from standard input: tables of TOML,
+[[case]] and [[transcript]], as conformance/cases and conformance/transcripts
+have them. expect writes the document and a [[transcript]] for each case:
+levels, events, counters, the end. judge writes a line for each transcript,
+and the count:
+  pass suspend-reception-at-4
+  fail suspend-behind-error at 230: drove 0 not 1; suspend 7, sender; ...
+  passed 1 failed 1 void 0 skipped 0 of 2
+A failure names the first difference, where the reference stands, and the rule.
 
 play reads standard input and answers each line before it reads on:
   case NAME START  begins a case, START is idle or joining; answer: ready
@@ -20,9 +32,13 @@ play reads standard input and answers each line before it reads on:
 A line that is none of these is answered by a line that begins with error.
 
 Faults, on standard error as canhold: P3 read:
+  P2 FIELD           the document's first field that isn't as it has to be, as
+                     P2 case[3].tester[1]; nothing has been written
   P3 read, P4 write  standard input could not be read, standard output not be written
-  P5 memory          no memory for the words of the command line or for a case
-  P6 long            the input has more than 2^63 bytes
+  P5 memory          no memory for the words of the command line, a document or a case
+  P6 long            the runner's lines have more than 2^63 bytes
+  transcripts differ  not all transcripts pass
 
-Exit status: 0 all done; 1 P6; 2 wrong use; 3 P3, P4; 4 P5
+Exit status: 0 all done, and all pass; 1 P2, P6, or not all pass; 2 wrong use;
+3 P3, P4; 4 P5
 ";

@@ -63,6 +63,84 @@ fn plays_a_runners_lines(rt: HostRuntime) -> Result<(), Fail> {
     Ok(())
 }
 
+/// A case of three bit times, in which an idle controller has nothing to do.
+const DOCUMENT: &[u8] =
+    b"[[case]]\nversion = 1\nname = \"a-1\"\nfamily = \"a\"\nstart = \"idle\"\nbits = 3\ntester = [\"111\"]\n";
+
+/// What it does.
+const EXPECTED: &[u8] =
+    b"\n[[transcript]]\nversion = 1\ncase = \"a-1\"\ndrove = [\"111\"]\nevents = []\ncounters = []\nend = [\"active\", 0, 0]\n";
+
+/// What a controller did that began to send in the third bit time.
+const OTHER: &[u8] = b"\n[[transcript]]\nversion = 1\ncase = \"a-1\"\ndrove = [\"110\"]\n";
+
+/// The case with a transcript behind it.
+fn with(alloc: Global, transcript: &[u8]) -> Result<Vec<u8>, AllocError> {
+    let mut text = Vec::from_slice(alloc, DOCUMENT)?;
+    text.extend_from_slice(transcript)?;
+    Ok(text)
+}
+
+#[test]
+fn what_is_expected(rt: HostRuntime) -> Result<(), Fail> {
+    let outcome = run(rt.alloc(), &["expect"], DOCUMENT, Stop::Nothing, ROOM)?;
+    assert_eq!(rt; outcome.status, 0);
+    assert_eq!(rt; outcome.told.len(), 0);
+    let whole = with(rt.alloc(), EXPECTED)?;
+    assert_eq!(rt; outcome.written.as_slice(), whole.as_slice());
+    Ok(())
+}
+
+#[test]
+fn what_is_judged(rt: HostRuntime) -> Result<(), Fail> {
+    for (transcript, status, written, told) in [
+        (
+            EXPECTED,
+            0,
+            b"pass a-1\npassed 1 failed 0 void 0 skipped 0 of 1\n".as_slice(),
+            b"".as_slice(),
+        ),
+        (
+            OTHER,
+            1,
+            b"fail a-1 at 2: drove 0 not 1; idle, receiver; Start of frame\npassed 0 failed 1 void 0 skipped 0 of 1\n",
+            b"canhold: transcripts differ\n",
+        ),
+    ] {
+        let text = with(rt.alloc(), transcript)?;
+        let outcome = run(rt.alloc(), &["judge"], &text, Stop::Nothing, ROOM)?;
+        assert_eq!(rt; outcome.status, status);
+        assert_eq!(rt; outcome.written.as_slice(), written);
+        assert_eq!(rt; outcome.told.as_slice(), told);
+    }
+    Ok(())
+}
+
+#[test]
+fn documents_refused(rt: HostRuntime) -> Result<(), Fail> {
+    let text = with(rt.alloc(), EXPECTED)?;
+    for (word, text, told) in [
+        (
+            "expect",
+            text.as_slice(),
+            b"canhold: P2 transcript\n".as_slice(),
+        ),
+        ("judge", b"[[cases]]\n", b"canhold: P2 key\n"),
+        (
+            "judge",
+            b"[[case]]\nversion = 2\n",
+            b"canhold: P2 case[0].version\n",
+        ),
+        ("expect", b"case\n", b"canhold: P2 toml\n"),
+    ] {
+        let outcome = run(rt.alloc(), &[word], text, Stop::Nothing, ROOM)?;
+        assert_eq!(rt; outcome.status, 1);
+        assert_eq!(rt; outcome.written.len(), 0);
+        assert_eq!(rt; outcome.told.as_slice(), told);
+    }
+    Ok(())
+}
+
 #[test]
 fn faults_of_streams(rt: HostRuntime) -> Result<(), Fail> {
     let outcome = run(
@@ -74,8 +152,12 @@ fn faults_of_streams(rt: HostRuntime) -> Result<(), Fail> {
     )?;
     assert_eq!(rt; outcome.status, 3);
     assert_eq!(rt; outcome.told.as_slice(), b"canhold: P3 read\n".as_slice());
-    for words in ["play", "help"] {
-        let outcome = run(rt.alloc(), &[words], b"", Stop::Nothing, 9)?;
+    for (word, text) in [
+        ("play", b"".as_slice()),
+        ("help", b""),
+        ("expect", DOCUMENT),
+    ] {
+        let outcome = run(rt.alloc(), &[word], text, Stop::Nothing, 9)?;
         assert_eq!(rt; outcome.status, 3);
         assert_eq!(rt; outcome.told.as_slice(), b"canhold: P4 write\n".as_slice());
         assert_eq!(rt; outcome.written.len(), 9);
