@@ -102,7 +102,7 @@ fn lines_of_cases(rt: HostRuntime) -> Result<(), Fail> {
             "fail a at 4: drove nothing; idle, receiver; Start of frame; choice reserved-levels; choice prompt\n",
         ),
     ] {
-        let out = line(rt.alloc(), name, choices, &verdict)?;
+        let out = line(rt.alloc(), name, choices, verdict)?;
         assert_eq!(rt; out.as_slice(), text.as_bytes());
     }
     Ok(())
