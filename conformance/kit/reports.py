@@ -24,7 +24,7 @@ class Verdict:
 
     def line(self) -> str:
         if self.kind == "fail":
-            note = f" ; choice {', '.join(self.case.choices)}" if self.case.choices else ""
+            note = "".join(f"; choice {choice}" for choice in self.case.choices)
             return f"fail {self.case.name} at {self.detail}{note}"
         return f"{self.kind} {self.case.name}" + (f": {self.detail}" if self.detail else "")
 
