@@ -70,6 +70,7 @@ pub extern "C" fn page_frame_text(
     count: &mut usize,
 ) -> u8
     ensures text { result ≡ done → take count.new text.new ≡ frame_text (parts_of identifier extended remote dlc bytes.now) }
+    ensures within { result ≡ done → count.new ≤ length text.old }
     ensures whole { result ≡ done → IsFrame (parts_of identifier extended remote dlc bytes.now) }
     ensures taken { IsFrame (parts_of identifier extended remote dlc bytes.now) → 32 ≤ length text.old → result ≡ done }
     ensures identifier { result ≡ answer_code Answer.BadIdentifier → ident_count extended ≤ identifier }

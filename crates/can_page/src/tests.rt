@@ -64,12 +64,14 @@ fn parts_make_a_text(rt: HostRuntime) {
         page_frame_text(0x123, false, false, 2, &[0xaa, 0x55], &mut text, &mut count),
         0
     );
-    assert_eq!(rt; &text[..count], b"S 123 D 2 aa55".as_slice());
+    assert_eq!(rt; count, 14);
+    assert_eq!(rt; &text[..14], b"S 123 D 2 aa55".as_slice());
     assert_eq!(rt;
         page_frame_text(0x18db_33f1, true, true, 8, &[], &mut text, &mut count),
         0
     );
-    assert_eq!(rt; &text[..count], b"E 18db33f1 R 8".as_slice());
+    assert_eq!(rt; count, 14);
+    assert_eq!(rt; &text[..14], b"E 18db33f1 R 8".as_slice());
     assert_eq!(rt;
         page_frame_text(0x800, false, false, 0, &[], &mut text, &mut count),
         3
