@@ -79,13 +79,14 @@ export function spansOf(fields, from = 0, to = fields.length) {
 }
 
 /**
- * The label of a field, in the longest form that fits.
+ * The label of a field, in the longest form that fits. Only the rest of one that begins a row before may have none.
  * @param {Span} span
  * @returns {string}
  */
 function labelOf({ field, from, to }) {
   const { name, short } = FIELDS[field];
-  return name.length * 8 <= (to - from) * CELL ? name : short;
+  const room = (to - from) * CELL;
+  return [name, short].find((label) => label.length * 8 <= room) ?? '…';
 }
 
 /**
