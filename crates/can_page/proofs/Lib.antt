@@ -1,0 +1,2 @@
+mod CodeLemmas
+mod TraceLemmas

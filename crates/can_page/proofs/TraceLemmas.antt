@@ -1,0 +1,83 @@
+-- Trace text whose levels are written one by one.
+use Rattle.std.proofs.Common.{◌≡◌, ℕ, ◌+◌, ◌<◌, ◌≤◌, true, false, Option, Some, None, IfSome, append_assoc, List, [], ◌∷◌, ◌++◌, length, take, drop, get_or, set, sym, ◌∙◌, ap, subst, arith}
+use Rattle.std.proofs.lemmas.List.{append-nil, drop_more, length-take-le, take_all, take_more, take_more_set, take-append-drop, map-append}
+use Rattle.std.specs.Io.KnownBytes.{Appends}
+use Rattle.can_frame.specs.declared.level.Level.{Level}
+use Rattle.can_stream.proofs.Elements.{AllByRecursion-append}
+use Rattle.can_decode.specs.Decoded.{DecodesToBadByte}
+use Rattle.can_decode.specs.TraceText.{IsFirstBadTraceByte, IsTraceText, is_trace_byte, levels_in, levels_of_byte}
+use Rattle.can_decode.proofs.DecodeSteps.{levels_in-append}
+use Rattle.can_page.specs.Codes.{level_code, level_codes}
+
+-- the levels of the first bytes are written
+pub record IsRead (text levels : List ℕ) (written index : ℕ) : Type 0 where
+  pub text_is : IsTraceText (take index text)
+  pub levels_are : take written levels ≡ level_codes (levels_in (take index text))
+  pub within : written ≤ index
+
+-- the bytes up to one more
+module _ (text levels : List ℕ) (written index : ℕ) (h : IsRead text levels written index) (l : index < length text) (stands : is_trace_byte (get_or text index 0) ≡ true) where
+  one_more : take (index + 1) text ≡ take index text ++ get_or text index 0 ∷ []
+  one_more = take_more text index 0 l
+
+  is_text : IsTraceText (take (index + 1) text)
+  is_text = subst IsTraceText (sym one_more) (AllByRecursion-append (λ byte. is_trace_byte byte ≡ true) (take index text) (get_or text index 0 ∷ []) h.text_is (stands, tt))
+
+  in_text : levels_in (take (index + 1) text) ≡ levels_in (take index text) ++ (levels_of_byte (get_or text index 0) ++ [])
+  in_text = ap levels_in one_more ∙ levels_in-append (take index text) (get_or text index 0 ∷ [])
+
+  pub IsRead-skip : levels_of_byte (get_or text index 0) ≡ [] → IsRead text levels written (index + 1)
+  IsRead-skip none =
+      let same_levels : levels_in (take (index + 1) text) ≡ levels_in (take index text) = in_text ∙ ap (λ x. levels_in (take index text) ++ (x ++ [])) none ∙ append-nil (levels_in (take index text)) in
+      record { text_is = is_text; levels_are = h.levels_are ∙ ap level_codes (sym same_levels); within = omega (arith, h.within) }
+
+  pub IsRead-level : (x : Level) → levels_of_byte (get_or text index 0) ≡ x ∷ [] → written < length levels → IsRead text (set levels written (level_code x)) (written + 1) (index + 1)
+  IsRead-level x one room =
+      let more : levels_in (take (index + 1) text) ≡ levels_in (take index text) ++ x ∷ [] = in_text ∙ ap (λ y. levels_in (take index text) ++ (y ++ [])) one in
+      record {
+        text_is = is_text;
+        levels_are = take_more_set levels written (level_code x) room ∙ ap (λ t. t ++ level_code x ∷ []) h.levels_are ∙ sym (map-append level_code (levels_in (take index text)) (x ∷ [])) ∙ ap level_codes (sym more);
+        within = omega (arith, h.within);
+      }
+
+-- all bytes
+pub all_read : (text levels : List ℕ) (written index : ℕ) → IsRead text levels written index → length text ≤ index → (take written levels ≡ level_codes (levels_in text)) × IsTraceText text
+all_read text levels written index h l =
+    (h.levels_are ∙ ap (λ t. level_codes (levels_in t)) (take_all index text l), subst IsTraceText (take_all index text l) h.text_is)
+
+-- the first bad byte stands behind those
+pub bad_byte : (text levels : List ℕ) (written index : ℕ) → IsRead text levels written index → index < length text → is_trace_byte (get_or text index 0) ≡ false → IsFirstBadTraceByte text index
+bad_byte text levels written index h l bad = record {
+  before = take index text;
+  bad = get_or text index 0;
+  after = drop (index + 1) text;
+  text_is = sym (take-append-drop index text) ∙ ap (λ t. take index text ++ t) (drop_more text index 0 l);
+  good = h.text_is;
+  is_bad = bad;
+  place_is = sym (length-take-le index text (omega (arith, l)));
+}
+
+-- ---- what is decoded
+
+-- the first bad byte of a front is that of the whole
+bad_in_front : (place : ℕ) (front rest output : List ℕ) → DecodesToBadByte place front output → DecodesToBadByte place (front ++ rest) output
+bad_in_front place front rest output d = record {
+  bad = record {
+    before = d.bad.before;
+    bad = d.bad.bad;
+    after = d.bad.after ++ rest;
+    text_is = ap (λ t. t ++ rest) d.bad.text_is ∙ append_assoc d.bad.before (d.bad.bad ∷ d.bad.after) rest;
+    good = d.bad.good;
+    is_bad = d.bad.is_bad;
+    place_is = d.bad.place_is;
+  };
+  decodes = d.decodes;
+}
+
+-- what was written of a text that is read up to its first bad byte, by a writer that held nothing
+pub bad_told : (text rest : List ℕ) (held holds : Option (List ℕ)) (place : ℕ) (input output : List ℕ) → text ≡ input ++ rest → held ≡ Some [] → Appends held holds output
+    → DecodesToBadByte place input output → IfSome holds (λ lines. DecodesToBadByte place text lines)
+bad_told text rest held None place input output splits empty appends decodes = absurd (subst (λ h. Appends h None output) empty appends)
+bad_told text rest held (Some lines) place input output splits empty appends decodes =
+    let lines_are : lines ≡ output = subst (λ h. Appends h (Some lines) output) empty appends in
+    subst (DecodesToBadByte place text) (sym lines_are) (subst (λ t. DecodesToBadByte place t output) (sym splits) (bad_in_front place input rest output decodes))

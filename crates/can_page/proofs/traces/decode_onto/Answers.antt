@@ -1,0 +1,8 @@
+use Rattle.std.proofs.Common.{ap, Err, ◌∙◌, sym}
+use Rattle.can_page.proofs.TraceLemmas.{bad_told}
+use Rattle.can_page.proofs.traces.decode_onto.Goals as goal
+
+pub returns-in-Err-BadByte-clause-bad : goal.returns-in-Err-BadByte-clause-bad
+returns-in-Err-BadByte-clause-bad g c = λ _.
+    let told = c.in-Err-BadByte.ensures.byte c.in-Err-BadByte.bad (ap Err c.in-Err-BadByte.field-0-is) in
+    bad_told c.args.text.now c.decode_stream.new.r.rest.now _ _ c.in-Err-BadByte.bad told.input told.output (sym c.new.ensures.unread ∙ told.consumes) c.requires.empty told.appends told.related

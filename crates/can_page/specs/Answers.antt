@@ -1,0 +1,42 @@
+-- The numbers by which the page knows what a call answers. Those of frame texts are those of the codes X1 to X6 and
+-- ten more. (docs/CODES.md)
+use Rattle.std.specs.Prelude.{ℕ}
+use Rattle.can_frame.specs.declared.text.TextFaultKind.{TextFaultKind}
+use Rattle.can_frame.specs.declared.text.TextFaultKind.TheVariants.{KindLetter, Identifier, DataOrRemote, Dlc, Data, Trailing}
+use Rattle.can_page.specs.declared.answer.Answer.{Answer}
+use Rattle.can_page.specs.declared.answer.Answer.TheVariants.{Done, NoRoom, BadLevel, BadIdentifier, BadDlc, BadCount, LetterFault, IdentifierFault, DirectionFault, DlcFault, DataFault, TrailingFault}
+
+abbrev pub answer_code : Answer → ℕ
+answer_code Done = 0
+answer_code NoRoom = 1
+answer_code BadLevel = 2
+answer_code BadIdentifier = 3
+answer_code BadDlc = 4
+answer_code BadCount = 5
+answer_code LetterFault = 11
+answer_code IdentifierFault = 12
+answer_code DirectionFault = 13
+answer_code DlcFault = 14
+answer_code DataFault = 15
+answer_code TrailingFault = 16
+
+-- the call has done what it says
+abbrev pub done : ℕ
+done = answer_code Done
+
+-- there was too little room
+abbrev pub no_room : ℕ
+no_room = answer_code NoRoom
+
+-- a byte or a number is no level's
+abbrev pub bad_level : ℕ
+bad_level = answer_code BadLevel
+
+-- the answer for a fault of a frame text
+abbrev pub text_answer : TextFaultKind → Answer
+text_answer KindLetter = LetterFault
+text_answer Identifier = IdentifierFault
+text_answer DataOrRemote = DirectionFault
+text_answer Dlc = DlcFault
+text_answer Data = DataFault
+text_answer Trailing = TrailingFault

@@ -1,0 +1,25 @@
+-- What the calls answer.
+use Rattle.std.specs.Prelude.{◌≢◌, ℕ, ◌<◌, ◌≤◌, Bool, List, length}
+use Rattle.can_frame.specs.Ident.{ident_count}
+use Rattle.can_frame.specs.Parts.{Parts, byte_count}
+use Rattle.can_page.specs.declared.answer.Answer.{Answer}
+use Rattle.can_page.specs.declared.answer.Answer.TheVariants.{Done, NoRoom, BadLevel, BadIdentifier, BadDlc, BadCount, LetterFault, IdentifierFault, DirectionFault, DlcFault, DataFault, TrailingFault}
+
+-- the parts of a frame
+abbrev pub parts_of : ℕ → Bool → Bool → ℕ → List ℕ → Parts
+parts_of raw extended remote dlc bytes = record { id = record { raw = raw; extended = extended }; remote = remote; dlc = dlc; bytes = bytes }
+
+-- why parts are those of no frame
+abbrev pub IsRefusal : Answer → Parts → Type 0
+IsRefusal BadIdentifier f = ident_count f.id.extended ≤ f.id.raw
+IsRefusal BadDlc f = 15 < f.dlc
+IsRefusal BadCount f = length f.bytes ≢ byte_count f.remote f.dlc
+IsRefusal Done f = ⊥
+IsRefusal NoRoom f = ⊥
+IsRefusal BadLevel f = ⊥
+IsRefusal LetterFault f = ⊥
+IsRefusal IdentifierFault f = ⊥
+IsRefusal DirectionFault f = ⊥
+IsRefusal DlcFault f = ⊥
+IsRefusal DataFault f = ⊥
+IsRefusal TrailingFault f = ⊥

@@ -1,0 +1,7 @@
+-- To believe: what public calls promise is said in these words
+pub mod Answers
+pub mod Codes
+pub mod Calls
+pub mod Lines
+-- For models only
+pub mod Texts

@@ -1,0 +1,137 @@
+ghost use Rattle.std.specs.Prelude.{◌≡◌, ◌≢◌, ◌<◌, ◌≤◌, length, take, IfErr, IfOk, IfSome, IsNone, OnOk};
+ghost use Rattle.can_frame.specs.Ident.{ident_count};
+ghost use Rattle.can_frame.specs.Parts.{Parts, IsFrame, byte_count};
+ghost use Rattle.can_frame.specs.Text.{frame_text, IsTextFault};
+ghost use Rattle.can_frame.specs.declared.text.TextFault.{TextFault as Fault};
+ghost use Rattle.can_wire.specs.Wire.{driven};
+ghost use Rattle.can_page.specs.Answers.{answer_code, done, no_room, text_answer};
+ghost use Rattle.can_page.specs.Calls.{IsRefusal, parts_of};
+ghost use Rattle.can_page.specs.Codes.{level_codes};
+
+use crate::answer::Answer;
+use crate::codes::level_code;
+use can_code::encode;
+use can_frame::{Frame, Id, Level};
+
+/// No frame has more levels.
+const MOST_LEVELS: usize = 157;
+
+/// Writes the levels that the sender of a frame drives, one byte each, by the frame's text, and how many they are. Where
+/// the bytes are no frame text, the answer tells the part in which the fault lies, and `place` where.
+#[unsafe(no_mangle)]
+pub extern "C" fn page_encode(
+    text: &[u8],
+    levels: &mut [u8],
+    count: &mut usize,
+    place: &mut usize,
+) -> u8
+    ensures levels { result ≡ done → (f : Parts) × (IsFrame f × (frame_text f ≡ text.now) × (take count.new levels.new ≡ level_codes (driven f))) }
+    ensures within { result ≡ done → count.new ≤ length levels.old }
+    ensures taken { (f : Parts) → IsFrame f → frame_text f ≡ text.now → 157 ≤ length levels.old → result ≡ done }
+    ensures fault { result ≢ done → result ≢ no_room → (fault : Fault) × (IsTextFault text.now fault × (result ≡ answer_code (text_answer fault.kind)) × (place.new ≡ fault.place)) }
+{
+    if levels.len() < MOST_LEVELS {
+        return Answer::NoRoom.code();
+    }
+    match Frame::from_text(text) {
+        Ok(frame) => {
+            let wire = encode(&frame);
+            write_levels(wire.as_slice(), levels);
+            *count = wire.len();
+            Answer::Done.code()
+        }
+        Err(fault) => {
+            *place = fault.place;
+            Answer::of_text(fault.kind).code()
+        }
+    }
+}
+
+/// Writes the levels' numbers in front of what stands there.
+fn write_levels(wire: &[Level], levels: &mut [u8])
+    requires { length wire.now ≤ length levels.old }
+    ensures { take (length wire.now) levels.new ≡ level_codes wire.now }
+{
+    for place in 0..wire.len() {
+        levels[place] = level_code(wire[place]);
+    }
+}
+
+/// Writes the text of the frame with these parts, and how many bytes it has. A remote frame has no data bytes, and
+/// takes none.
+#[unsafe(no_mangle)]
+pub extern "C" fn page_frame_text(
+    identifier: u32,
+    extended: bool,
+    remote: bool,
+    dlc: u8,
+    bytes: &[u8],
+    text: &mut [u8],
+    count: &mut usize,
+) -> u8
+    ensures text { result ≡ done → take count.new text.new ≡ frame_text (parts_of identifier extended remote dlc bytes.now) }
+    ensures within { result ≡ done → count.new ≤ length text.old }
+    ensures whole { result ≡ done → IsFrame (parts_of identifier extended remote dlc bytes.now) }
+    ensures taken { IsFrame (parts_of identifier extended remote dlc bytes.now) → 32 ≤ length text.old → result ≡ done }
+    ensures identifier { result ≡ answer_code Answer.BadIdentifier → ident_count extended ≤ identifier }
+    ensures dlc { result ≡ answer_code Answer.BadDlc → 15 < dlc }
+    ensures count { result ≡ answer_code Answer.BadCount → length bytes.now ≢ byte_count remote dlc }
+{
+    match frame_of(identifier, extended, remote, dlc, bytes) {
+        Ok(frame) => {
+            let line = frame.to_text();
+            let line = line.as_bytes();
+            if text.len() < line.len() {
+                return Answer::NoRoom.code();
+            }
+            text[..line.len()].copy_from_slice(line);
+            *count = line.len();
+            Answer::Done.code()
+        }
+        Err(answer) => answer.code(),
+    }
+}
+
+/// The frame with these parts, or the first reason why there is none.
+fn frame_of(
+    identifier: u32,
+    extended: bool,
+    remote: bool,
+    dlc: u8,
+    bytes: &[u8],
+) -> Result<Frame, Answer>
+    ensures frame { IfOk result (λ f. f ≡ parts_of identifier extended remote dlc bytes.now) }
+    ensures made { OnOk result (identifier < ident_count extended) }
+    ensures few { OnOk result (dlc ≤ 15) }
+    ensures counted { OnOk result (length bytes.now ≡ byte_count remote dlc) }
+    ensures refused { IfErr result (λ why. IsRefusal why (parts_of identifier extended remote dlc bytes.now)) }
+{
+    let Some(id) = id_of(identifier, extended) else {
+        return Err(Answer::BadIdentifier);
+    };
+    if dlc > 15 {
+        return Err(Answer::BadDlc);
+    }
+    if remote {
+        if !bytes.is_empty() {
+            return Err(Answer::BadCount);
+        }
+        return Frame::remote(id, dlc).map_err(|_| Answer::BadDlc);
+    }
+    Frame::data(id, dlc, bytes).map_err(|_| Answer::BadCount)
+}
+
+/// The identifier of this number and kind.
+fn id_of(identifier: u32, extended: bool) -> Option<Id>
+    ensures none { IsNone result → ident_count extended ≤ identifier }
+    ensures within { IfSome result (λ id. identifier < ident_count extended) }
+    ensures id { IfSome result (λ id. id ≡ record { raw = identifier; extended = extended }) }
+{
+    if extended {
+        return Id::extended(identifier);
+    }
+    if identifier < 0x800 {
+        return Id::standard(identifier as u16);
+    }
+    None
+}

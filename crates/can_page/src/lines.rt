@@ -1,0 +1,55 @@
+ghost use Rattle.std.specs.Prelude.{◌≡◌, [], false};
+
+use can_stream::Sink;
+use std::io;
+
+/// How many bytes there is room for.
+pub const ROOM: usize = 33_554_432;
+
+/// The caller's room for lines of text: they stand in front, and `count` tells how many bytes they have. Each content
+/// is allowed.
+#[repr(C)]
+#[derive(Drop)]
+pub struct Lines {
+    /// How many bytes are written.
+    pub count: usize,
+    /// Whether bytes came when all the room was taken.
+    pub full: bool,
+    /// The bytes.
+    pub bytes: [u8; ROOM],
+}
+
+impl Lines {
+    ghost use Rattle.can_page.specs.Lines.{is_full, lines_of};
+
+    /// No bytes are written.
+    pub(crate) fn clear(&mut self)
+        ensures lines { lines_of self.new ≡ [] }
+        ensures full { is_full self.new ≡ false }
+    {
+        self.count = 0;
+        self.full = false;
+    }
+}
+
+impl Sink for Lines {
+    ghost use Rattle.std.specs.Prelude.{Some};
+    ghost use Rattle.can_page.specs.Lines.{is_full, lines_of};
+
+    ghost contents = { λ s. Some (lines_of s) };
+
+    ghost has_failed = { is_full };
+
+    fn write(&mut self, buf: &[u8]) -> io::Result<usize> {
+        let start = self.count.min(ROOM);
+        let taken = buf.len().min(ROOM - start);
+        self.full = self.failed() || (taken == 0 && !buf.is_empty());
+        self.bytes[start..start + taken].copy_from_slice(&buf[..taken]);
+        self.count = start + taken;
+        Ok(taken)
+    }
+
+    fn failed(&self) -> bool {
+        self.full && self.count >= ROOM
+    }
+}

@@ -1,0 +1,178 @@
+//! Rows that were worked out by hand, as docs/ and the README show them.
+use crate::answer::Answer;
+use crate::traces::decode_onto;
+use crate::{page_encode, page_frame_text, page_levels, page_marks};
+use arrayvec::ArrayVec;
+use can_stream::ToWrite;
+
+/// `S 000 D 0` as its sender drives it.
+const WIRE: &[u8; 50] = b"00000100000100000100000100000100000100001111111111";
+
+/// Its levels.
+fn wire_levels() -> [u8; 50] {
+    let mut levels = [0; 50];
+    for place in 0..50 {
+        levels[place] = u8::from(WIRE[place] == b'1');
+    }
+    levels
+}
+
+#[test]
+fn a_frame_is_encoded(rt: HostRuntime) {
+    let mut levels = [9; 157];
+    let (mut count, mut place) = (0, 99);
+    assert_eq!(rt;
+        page_encode(b"S 000 D 0", &mut levels, &mut count, &mut place),
+        0
+    );
+    assert_eq!(rt; (count, place), (50, 99));
+    assert_eq!(rt; &levels[..50], wire_levels().as_slice());
+    let mut few = [9; 156];
+    assert_eq!(rt;
+        page_encode(b"S 000 D 0", &mut few, &mut count, &mut place),
+        1
+    );
+}
+
+#[test]
+fn what_is_no_frame_text_is_refused(rt: HostRuntime) {
+    let mut levels = [9; 157];
+    let rows: [(&[u8], u8, usize); 7] = [
+        (b"", 11, 0),
+        (b"T 000 D 0", 11, 0),
+        (b"S 800 D 0", 12, 2),
+        (b"S 123 X 0", 13, 6),
+        (b"S 123 D 16", 14, 9),
+        (b"S 123 D 1 g0", 15, 10),
+        (b"S 123 R 16", 16, 9),
+    ];
+    for (text, answer, at) in rows {
+        let (mut count, mut place) = (77, 99);
+        assert_eq!(rt;
+            page_encode(text, &mut levels, &mut count, &mut place),
+            answer
+        );
+        assert_eq!(rt; (count, place), (77, at));
+    }
+}
+
+#[test]
+fn parts_make_a_text(rt: HostRuntime) {
+    let mut text = [0; 32];
+    let mut count = 0;
+    assert_eq!(rt;
+        page_frame_text(0x123, false, false, 2, &[0xaa, 0x55], &mut text, &mut count),
+        0
+    );
+    assert_eq!(rt; count, 14);
+    assert_eq!(rt; &text[..14], b"S 123 D 2 aa55".as_slice());
+    assert_eq!(rt;
+        page_frame_text(0x18db_33f1, true, true, 8, &[], &mut text, &mut count),
+        0
+    );
+    assert_eq!(rt; count, 14);
+    assert_eq!(rt; &text[..14], b"E 18db33f1 R 8".as_slice());
+    assert_eq!(rt;
+        page_frame_text(0x800, false, false, 0, &[], &mut text, &mut count),
+        3
+    );
+    assert_eq!(rt;
+        page_frame_text(0x2000_0000, true, false, 0, &[], &mut text, &mut count),
+        3
+    );
+    assert_eq!(rt;
+        page_frame_text(0, false, false, 16, &[], &mut text, &mut count),
+        4
+    );
+    assert_eq!(rt;
+        page_frame_text(0, false, false, 1, &[], &mut text, &mut count),
+        5
+    );
+    assert_eq!(rt;
+        page_frame_text(0, false, true, 1, &[0], &mut text, &mut count),
+        5
+    );
+    assert_eq!(rt;
+        page_frame_text(0, false, false, 0, &[], &mut [0; 8], &mut count),
+        1
+    );
+}
+
+#[test]
+fn a_trace_has_levels(rt: HostRuntime) {
+    let mut levels = [9; 8];
+    let (mut count, mut place) = (0, 99);
+    assert_eq!(rt;
+        page_levels(b"1 0\r\n1", &mut levels, &mut count, &mut place),
+        0
+    );
+    assert_eq!(rt; (&levels[..count], place), ([1, 0, 1].as_slice(), 99));
+    assert_eq!(rt;
+        page_levels(b"10 2", &mut levels, &mut count, &mut place),
+        2
+    );
+    assert_eq!(rt; (count, place), (2, 3));
+    assert_eq!(rt;
+        page_levels(b"101010101", &mut levels, &mut count, &mut place),
+        1
+    );
+}
+
+#[test]
+fn a_trace_is_decoded(rt: HostRuntime) {
+    let mut place = 99;
+    let mut trace = [b'1'; 72];
+    trace[11..61].copy_from_slice(WIRE);
+    let mut lines = ToWrite::new(ArrayVec::<u8, 64>::new());
+    assert_eq!(rt; decode_onto(&trace, &mut lines, &mut place), Answer::Done);
+    assert_eq!(rt;
+        lines.into_inner().as_slice(),
+        b"11 S 000 D 0 noack\n".as_slice()
+    );
+    trace[70] = b'2';
+    let mut lines = ToWrite::new(ArrayVec::<u8, 64>::new());
+    assert_eq!(rt;
+        decode_onto(&trace, &mut lines, &mut place),
+        Answer::BadLevel
+    );
+    assert_eq!(rt; (place, lines.into_inner().len()), (70, 19));
+    let mut lines = ToWrite::new(ArrayVec::<u8, 8>::new());
+    assert_eq!(rt;
+        decode_onto(&trace[..70], &mut lines, &mut place),
+        Answer::NoRoom
+    );
+}
+
+#[test]
+fn levels_have_fields(rt: HostRuntime) {
+    let mut fields = [99; 157];
+    let mut stuffed = [99; 157];
+    let mut count = 0;
+    assert_eq!(rt;
+        page_marks(&wire_levels(), &mut fields, &mut stuffed, &mut count),
+        0
+    );
+    assert_eq!(rt; count, 50);
+    assert_eq!(rt;
+        (fields[0], fields[13], fields[14], fields[15], fields[16]),
+        (0, 1, 3, 5, 7)
+    );
+    assert_eq!(rt;
+        (
+            fields[18], fields[22], fields[40], fields[41], fields[42], fields[43]
+        ),
+        (8, 10, 11, 12, 13, 14)
+    );
+    assert_eq!(rt;
+        (stuffed[4], stuffed[5], stuffed[17], stuffed[49]),
+        (0, 1, 1, 0)
+    );
+    assert_eq!(rt;
+        page_marks(&[0, 2], &mut fields, &mut stuffed, &mut count),
+        2
+    );
+    assert_eq!(rt;
+        page_marks(&[0, 1], &mut [0; 156], &mut stuffed, &mut count),
+        1
+    );
+}

@@ -1,0 +1,103 @@
+ghost use Rattle.std.specs.Prelude.{◌≡◌, ◌^◌, ◌≤◌, ◌⊎◌, [], false, true, length, take, option_to_list, IfOk, IfSome, OnErr, OnOk, Some};
+ghost use Rattle.can_decode.specs.Decoded.{DecodesAll, DecodesToBadByte};
+ghost use Rattle.can_decode.specs.TraceText.{IsFirstBadTraceByte, IsTraceText, is_trace_byte, levels_in, levels_of_byte};
+ghost use Rattle.can_page.specs.Answers.{bad_level, done, no_room};
+ghost use Rattle.can_page.specs.Codes.{level_codes};
+ghost use Rattle.can_page.specs.Lines.{is_full, lines_of};
+
+use crate::answer::Answer;
+use crate::codes::level_code;
+use crate::lines::Lines;
+use crate::text::Text;
+use can_decode::decode_stream;
+use can_frame::Level;
+use can_stream::{Sink, TraceFault};
+
+/// Finds the frames and the faults of a trace, and writes their lines to `out`. The answer is 0 where these are all.
+/// Where it is that of a bad byte, that byte's place in the text is told, and the lines are those of the levels before
+/// it. Where it is that of too little room, all the room is taken.
+#[unsafe(no_mangle)]
+pub extern "C" fn page_decode(text: &[u8], out: &mut Lines, place: &mut u64) -> u8
+    ensures whole { result ≡ done → DecodesAll text.now (lines_of out.new) }
+    ensures bad { result ≡ bad_level → DecodesToBadByte place.new text.now (lines_of out.new) }
+    ensures answers { (result ≡ done) ⊎ (result ≡ bad_level) ⊎ (result ≡ no_room) }
+    ensures room { length text.now ≤ 2 ^ 63 → result ≡ no_room → is_full out.new ≡ true }
+{
+    out.clear();
+    decode_onto(text, out, place).code()
+}
+
+/// The same onto any sink that holds nothing.
+pub(crate) fn decode_onto<W: Sink>(text: &[u8], out: &mut W, place: &mut u64) -> Answer
+    requires unfailed { W.has_failed out.old ≡ false }
+    requires empty { W.contents out.old ≡ Some [] }
+    ensures whole { result ≡ Answer.Done → IfSome (W.contents out.new) (λ lines. DecodesAll text.now lines) }
+    ensures bad { result ≡ Answer.BadLevel → IfSome (W.contents out.new) (λ lines. DecodesToBadByte place.new text.now lines) }
+    ensures answers { (result ≡ Answer.Done) ⊎ (result ≡ Answer.BadLevel) ⊎ (result ≡ Answer.NoRoom) }
+    ensures room { length text.now ≤ 2 ^ 63 → result ≡ Answer.NoRoom → W.has_failed out.new ≡ true }
+{
+    match decode_stream(&mut Text::new(text), out) {
+        Ok(()) => Answer::Done,
+        Err(TraceFault::BadByte { place: bad }) => {
+            *place = bad;
+            Answer::BadLevel
+        }
+        Err(_) => Answer::NoRoom,
+    }
+}
+
+/// Writes the levels of a trace, one byte each, and how many they are. A byte of the text that may not stand in a trace
+/// is told by its place, and the levels before it are written.
+#[unsafe(no_mangle)]
+pub extern "C" fn page_levels(
+    text: &[u8],
+    levels: &mut [u8],
+    count: &mut usize,
+    place: &mut usize,
+) -> u8
+    ensures levels { result ≡ done → take count.new levels.new ≡ level_codes (levels_in text.now) }
+    ensures text { result ≡ done → IsTraceText text.now }
+    ensures bad { result ≡ bad_level → IsFirstBadTraceByte text.now place.new }
+    ensures before { result ≡ bad_level → take count.new levels.new ≡ level_codes (levels_in (take place.new text.now)) }
+    ensures within { count.new ≤ length levels.old }
+{
+    *count = 0;
+    if levels.len() < text.len() {
+        return Answer::NoRoom.code();
+    }
+    let mut written = 0;
+    for (index, byte) in text.iter().enumerate() {
+        match read_byte(*byte) {
+            Ok(None) => {}
+            Ok(Some(level)) => {
+                levels[written] = level_code(level);
+                written += 1;
+            }
+            Err(BadByte) => {
+                *place = index;
+                *count = written;
+                return Answer::BadLevel.code();
+            }
+        }
+    }
+    *count = written;
+    Answer::Done.code()
+}
+
+/// A byte that may not stand in trace text.
+#[derive(Clone, Copy, Debug, PartialEq, Eq)]
+struct BadByte;
+
+/// The level of a byte of trace text, where it is a digit: a blank and a line end have none.
+fn read_byte(byte: u8) -> Result<Option<Level>, BadByte>
+    ensures may_stand { OnOk result (is_trace_byte byte ≡ true) }
+    ensures levels { IfOk result (λ level. levels_of_byte byte ≡ option_to_list level) }
+    ensures bad { OnErr result (is_trace_byte byte ≡ false) }
+{
+    match byte {
+        b'0' => Ok(Some(Level::Dominant)),
+        b'1' => Ok(Some(Level::Recessive)),
+        b' ' | b'\n' | b'\r' => Ok(None),
+        _ => Err(BadByte),
+    }
+}

@@ -1,0 +1,54 @@
+// Puts the page together: bundle.mjs SOURCES WASM OUT. The scripts become one, in the order in which they need one
+// another, and the page's own policy allows these scripts and styles and no network.
+import { createHash } from 'node:crypto';
+import { readFileSync, writeFileSync } from 'node:fs';
+import { join } from 'node:path';
+import { Script } from 'node:vm';
+
+const IMPORT = /^import (\{[^}]*\}) from '\.\/([a-z_]+)\.js';\n/gm;
+const EXPORT = /^export (?=(?:async )?(?:class|const|function) (\w+))/gm;
+
+/**
+ * The scripts that one needs, and itself behind them, each in a scope of its own.
+ * @param {string} folder
+ * @param {string} name
+ * @param {Map<string, string>} found those that are there already, in order
+ * @returns {Map<string, string>}
+ */
+function withNeeded(folder, name, found = new Map()) {
+  if (found.has(name)) return found;
+  const text = readFileSync(join(folder, `${name}.js`), 'utf8');
+  for (const [, , needed] of text.matchAll(IMPORT)) withNeeded(folder, needed, found);
+  const exported = [...text.matchAll(EXPORT)].map(([, item]) => item);
+  const body = text.replace(IMPORT, (_, items, needed) => `const ${items} = ${needed}_js;\n`).replace(EXPORT, '').trim();
+  if (/^(import|export)\b/m.test(body)) throw new Error(`${name}.js has an import or export that is not understood`);
+  return found.set(name, `const ${name}_js = (() => {\n${body}\nreturn { ${exported.join(', ')} };\n})();`);
+}
+
+/**
+ * Fills in the one place where a mark stands.
+ * @param {string} page
+ * @param {string} mark
+ * @param {string} text
+ */
+function fill(page, mark, text) {
+  if (page.split(mark).length !== 2) throw new Error(`${mark} does not stand once in the page`);
+  return page.replace(mark, () => text);
+}
+
+/** @param {string} text */
+function policyHash(text) {
+  return `'sha256-${createHash('sha256').update(text).digest('base64')}'`;
+}
+
+const [folder, wasm, out] = process.argv.slice(2);
+const scripts = withNeeded(folder, 'main');
+const script = `\n${[...scripts.values()].join('\n\n')}\n`;
+new Script(script); // a mistake of syntax is told here
+const style = `\n${readFileSync(join(folder, 'style.css'), 'utf8')}`;
+let page = readFileSync(join(folder, 'index.html'), 'utf8');
+page = fill(page, '@POLICY@', `default-src 'none'; script-src 'wasm-unsafe-eval' ${policyHash(script)}; style-src ${policyHash(style)}; img-src blob: data:; base-uri 'none'; form-action 'none'`);
+page = fill(page, '@STYLE@', style);
+page = fill(page, '@MODULE@', readFileSync(wasm).toString('base64'));
+page = fill(page, '@SCRIPT@', script);
+writeFileSync(out, page);

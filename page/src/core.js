@@ -1,0 +1,184 @@
+/**
+ * The proved code: a WebAssembly module whose exports read and write the memory that is laid out here. Nothing else
+ * of the page knows of addresses.
+ */
+
+/** The most bytes that a trace may have. */
+export const MOST_BYTES = 10 * 1024 * 1024;
+
+/** No frame has more levels, and no frame text more bytes. */
+const MOST_LEVELS = 157;
+const MOST_TEXT = 32;
+
+/** A fault of a text lies within its first 32 bytes, so a longer text has the same answer as so much of it. */
+const MOST_LOOKED_AT = 4096;
+
+/** The room for lines (`Lines` of can_page): their count, a flag, and the bytes. */
+const LINE_BYTES = 33554432;
+const LINES_FRONT = 9;
+
+/** What a call answers (`Answer` of can_page). */
+export const ANSWER = Object.freeze({
+  done: 0, noRoom: 1, badLevel: 2, badIdentifier: 3, badDlc: 4, badCount: 5,
+  letter: 11, identifier: 12, direction: 13, dlc: 14, data: 15, trailing: 16,
+});
+
+/**
+ * @typedef {object} Parts the parts of a frame
+ * @property {number} identifier
+ * @property {boolean} extended
+ * @property {boolean} remote
+ * @property {number} dlc 0 to 255
+ * @property {Uint8Array} bytes
+ */
+
+/**
+ * @typedef {object} Marks what levels are, as far as anything is told of them
+ * @property {Uint8Array} fields the number of each level's field
+ * @property {Uint8Array} stuffed 1 where a level is a stuff bit
+ */
+
+/** Where everything stands in the module's memory. */
+class Rooms {
+  /** @param {number} base */
+  constructor(base) {
+    this.next = Math.ceil(base / 16) * 16;
+    this.count = this.take(8);
+    this.place = this.take(8);
+    this.short = this.take(MOST_TEXT);
+    this.front = this.take(MOST_LEVELS);
+    this.fields = this.take(MOST_LEVELS);
+    this.stuffed = this.take(MOST_LEVELS);
+    this.text = this.take(MOST_BYTES);
+    this.levels = this.take(MOST_BYTES);
+    this.lines = this.take(LINES_FRONT + LINE_BYTES);
+  }
+
+  /**
+   * @param {number} bytes
+   * @returns {number} their address
+   */
+  take(bytes) {
+    const at = this.next;
+    this.next = Math.ceil((at + bytes) / 16) * 16;
+    return at;
+  }
+}
+
+export class Core {
+  /** @param {WebAssembly.Exports} exports */
+  constructor(exports) {
+    this.calls = exports;
+    this.memory = new Uint8Array(exports.memory.buffer);
+    this.view = new DataView(exports.memory.buffer);
+    this.rooms = new Rooms(Number(exports.__heap_base.value));
+    if (this.rooms.next > this.memory.length) throw new Error('the module has too little memory');
+  }
+
+  /**
+   * @param {BufferSource} bytes the module
+   * @returns {Promise<Core | null>} none where the browser knows no 64-bit memory
+   */
+  static async load(bytes) {
+    if (typeof WebAssembly !== 'object' || !WebAssembly.validate(bytes)) return null;
+    const { instance } = await WebAssembly.instantiate(bytes, {});
+    return new Core(instance.exports);
+  }
+
+  /**
+   * Writes bytes where a call reads them.
+   * @param {number} at
+   * @param {Uint8Array} bytes
+   * @returns {[bigint, bigint]} the slice
+   */
+  put(at, bytes) {
+    this.memory.set(bytes, at);
+    return [BigInt(at), BigInt(bytes.length)];
+  }
+
+  /**
+   * @param {number} at
+   * @param {number} count
+   * @returns {Uint8Array} a copy of what stands there
+   */
+  copy(at, count) {
+    return this.memory.slice(at, at + count);
+  }
+
+  /**
+   * @param {number} at
+   * @returns {number} the number of 64 bits that stands there
+   */
+  number(at) {
+    return Number(this.view.getBigUint64(at, true));
+  }
+
+  /**
+   * The text of the frame with these parts.
+   * @param {Parts} parts
+   * @returns {{answer: number, text: string}}
+   */
+  frameText(parts) {
+    const { rooms } = this;
+    const bytes = this.put(rooms.front, parts.bytes.subarray(0, MOST_LEVELS));
+    const answer = this.calls.page_frame_text(parts.identifier, Number(parts.extended), Number(parts.remote), parts.dlc,
+      ...bytes, BigInt(rooms.short), BigInt(MOST_TEXT), BigInt(rooms.count));
+    const text = answer === ANSWER.done ? this.copy(rooms.short, this.number(rooms.count)) : new Uint8Array();
+    return { answer, text: new TextDecoder().decode(text) };
+  }
+
+  /**
+   * The levels that the sender of a frame drives, by the frame's text; or the place of the text's fault.
+   * @param {Uint8Array} text
+   * @returns {{answer: number, place: number, levels: Uint8Array}}
+   */
+  encode(text) {
+    const { rooms } = this;
+    const answer = this.calls.page_encode(...this.put(rooms.text, text.subarray(0, MOST_LOOKED_AT)), BigInt(rooms.front), BigInt(MOST_LEVELS),
+      BigInt(rooms.count), BigInt(rooms.place));
+    if (answer !== ANSWER.done) return { answer, place: this.number(rooms.place), levels: new Uint8Array() };
+    return { answer, place: 0, levels: this.copy(rooms.front, this.number(rooms.count)) };
+  }
+
+  /**
+   * What levels are that begin with a start of frame: at most 157 of them, and none behind the frame or a wrong stuff
+   * bit.
+   * @param {Uint8Array} levels
+   * @returns {Marks}
+   */
+  marks(levels) {
+    const { rooms } = this;
+    const count = this.markCount(levels);
+    return { fields: this.copy(rooms.fields, count), stuffed: this.copy(rooms.stuffed, count) };
+  }
+
+  /**
+   * Of how many of these levels it is told what they are.
+   * @param {Uint8Array} levels
+   * @returns {number}
+   */
+  markCount(levels) {
+    const { rooms } = this;
+    const most = BigInt(MOST_LEVELS);
+    const answer = this.calls.page_marks(...this.put(rooms.front, levels.subarray(0, MOST_LEVELS)), BigInt(rooms.fields), most,
+      BigInt(rooms.stuffed), most, BigInt(rooms.count));
+    if (answer !== ANSWER.done) throw new Error(`page_marks answers ${answer}`);
+    return this.number(rooms.count);
+  }
+
+  /**
+   * The levels of a trace, and the lines of the frames and faults in it. Where a byte of the text is no level, `place`
+   * is its place, and the rest is that of the levels before it.
+   * @param {Uint8Array} text at most MOST_BYTES
+   * @returns {{answer: number, place: number, levels: Uint8Array, lines: Uint8Array}}
+   */
+  decode(text) {
+    const { rooms } = this;
+    const slice = this.put(rooms.text, text);
+    this.calls.page_levels(...slice, BigInt(rooms.levels), BigInt(MOST_BYTES), BigInt(rooms.count), BigInt(rooms.place));
+    const levels = this.copy(rooms.levels, this.number(rooms.count));
+    const answer = this.calls.page_decode(...slice, BigInt(rooms.lines), BigInt(rooms.place));
+    const lines = this.copy(rooms.lines + LINES_FRONT, this.number(rooms.lines));
+    return { answer, place: this.number(rooms.place), levels, lines };
+  }
+}

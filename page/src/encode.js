@@ -1,0 +1,162 @@
+/** The view that shows the wire of a frame, by its text or by its parts. */
+import { ANSWER } from './core.js';
+import { asFile, byId, copyText, download, html } from './draw.js';
+import { PART_FAULTS, TEXT_FAULTS, counted } from './words.js';
+import { WireView } from './wire_view.js';
+
+/** Frame texts to begin with. */
+const EXAMPLES = Object.freeze([
+  'S 123 D 2 aa55', 'S 000 D 0', 'S 7ff D 8 0123456789abcdef', 'S 123 R 8', 'S 5a5 D 15 ffffffffffffffff', 'E 18db33f1 D 8 02010c0000000000',
+  'E 00000000 D 0', 'E 12345678 R 4',
+]);
+
+/** The field in which a fault of the parts lies. */
+const PART_OF = Object.freeze({
+  [ANSWER.badIdentifier]: 'part-identifier', [ANSWER.badDlc]: 'part-dlc', [ANSWER.badCount]: 'part-data',
+});
+
+export class EncodeView {
+  /** @param {import('./core.js').Core} core */
+  constructor(core) {
+    this.core = core;
+    this.text = byId('frame-text');
+    this.parts = byId('parts');
+    this.levels = '';
+    this.wires = new WireView(byId('encode-wire'), byId('encode-level'), byId('encode-fields'));
+    this.fillChoices();
+    this.listen();
+    this.showText();
+  }
+
+  fillChoices() {
+    byId('part-dlc').append(...Array.from({ length: 16 }, (_, dlc) => html('option', { value: dlc }, [String(dlc)])));
+    byId('examples').append(...EXAMPLES.map((text) => html('option', { value: text }, [text])));
+    this.text.value = EXAMPLES[0];
+  }
+
+  listen() {
+    this.text.addEventListener('input', () => this.showText());
+    this.parts.addEventListener('input', () => this.showParts());
+    this.parts.addEventListener('submit', (event) => event.preventDefault());
+    byId('examples').addEventListener('change', (event) => {
+      if (event.target.value === '') return;
+      this.text.value = event.target.value;
+      this.showText();
+    });
+    byId('copy-levels').addEventListener('click', () => this.copyLevels());
+    byId('download-picture').addEventListener('click', () => this.downloadPicture());
+  }
+
+  /** Shows the frame whose text is typed, or the text's fault. */
+  showText() {
+    const bytes = new TextEncoder().encode(this.text.value);
+    const { answer, place, levels } = this.core.encode(bytes);
+    if (answer !== ANSWER.done) {
+      this.refuse(this.text, ...textFault(bytes, answer, place));
+      return;
+    }
+    this.fillParts();
+    this.showLevels(levels);
+  }
+
+  /** Shows the frame of the parts that are picked, or why there is none. */
+  showParts() {
+    const digits = byId('part-identifier').value.trim();
+    const data = byId('part-data').value.replaceAll(/\s/g, '');
+    if (!/^[0-9a-fA-F]{1,8}$/.test(digits)) {
+      this.refuse(byId('part-identifier'), 'The identifier is written in one to eight hexadecimal digits.');
+      return;
+    }
+    if (!/^([0-9a-fA-F]{2}){0,32}$/.test(data)) {
+      this.refuse(byId('part-data'), 'The data are written in two hexadecimal digits a byte.');
+      return;
+    }
+    const { answer, text } = this.core.frameText({
+      identifier: Number.parseInt(digits, 16),
+      extended: byId('part-extended').checked,
+      remote: byId('part-remote').checked,
+      dlc: Number(byId('part-dlc').value),
+      bytes: Uint8Array.from(data.match(/../g) ?? [], (pair) => Number.parseInt(pair, 16)),
+    });
+    if (answer !== ANSWER.done) {
+      this.refuse(byId(PART_OF[answer]), PART_FAULTS[answer]);
+      return;
+    }
+    this.text.value = text;
+    this.showLevels(this.core.encode(new TextEncoder().encode(text)).levels);
+  }
+
+  /** Fills the parts in as a frame's text has them. */
+  fillParts() {
+    const [kind, identifier, direction, dlc, data = ''] = this.text.value.split(' ');
+    byId(kind === 'E' ? 'part-extended' : 'part-standard').checked = true;
+    byId(direction === 'R' ? 'part-remote' : 'part-dataframe').checked = true;
+    byId('part-identifier').value = identifier;
+    byId('part-dlc').value = dlc;
+    byId('part-data').value = data;
+  }
+
+  /** @param {Uint8Array} levels */
+  showLevels(levels) {
+    const { fields, stuffed } = this.core.marks(levels);
+    this.levels = levels.join('');
+    this.setFault([]);
+    byId('encode-told').textContent = `${counted(levels.length, 'level')}, ${counted(stuffed.reduce((sum, flag) => sum + flag, 0), 'stuff bit')} among them.`;
+    this.wires.show({ id: 'sent', name: `Levels of ${this.text.value}`, levels, fields, stuffed, first: 0, fault: null });
+    byId('encode-shown').hidden = false;
+    this.wires.draw();
+  }
+
+  /**
+   * Tells why nothing is shown.
+   * @param {HTMLElement} field where the fault lies
+   * @param {...(string | Node)} why
+   */
+  refuse(field, ...why) {
+    this.levels = '';
+    this.setFault(why, field);
+    byId('encode-told').textContent = '';
+    byId('encode-shown').hidden = true;
+    this.wires.show(null);
+  }
+
+  /**
+   * @param {Array<string | Node>} why nothing where all is right
+   * @param {HTMLElement | null} [wrong] the field in which the fault lies
+   */
+  setFault(why, wrong = null) {
+    byId('encode-fault').replaceChildren(...why);
+    for (const field of [this.text, ...Object.values(PART_OF).map(byId)]) field.setAttribute('aria-invalid', String(field === wrong));
+    byId('copied').textContent = '';
+  }
+
+  async copyLevels() {
+    const copied = await copyText(this.levels);
+    byId('copied').textContent = copied ? `${counted(this.levels.length, 'level')} copied.` : 'The browser does not let this page copy.';
+  }
+
+  downloadPicture() {
+    const { picture } = this.wires;
+    if (picture) download(`${this.text.value.replaceAll(' ', '_')}.svg`, 'image/svg+xml', asFile(picture));
+  }
+}
+
+/**
+ * The fault of a frame text, with the text marked at its place.
+ * @param {Uint8Array} bytes
+ * @param {number} answer
+ * @param {number} place
+ * @returns {Array<string | Node>}
+ */
+function textFault(bytes, answer, place) {
+  const { code, wrong, expected } = TEXT_FAULTS[answer];
+  const told = (from, to) => new TextDecoder().decode(bytes.subarray(from, to));
+  // a character may have more than one byte
+  let end = place + 1;
+  while (end < bytes.length && (bytes[end] & 0xc0) === 0x80) end += 1;
+  const at = place < bytes.length ? html('mark', {}, [told(place, end).replace(' ', '␣')]) : html('mark', { class: 'end' }, ['end']);
+  return [
+    html('strong', {}, [`${code} at ${place}`]), `: wrong in ${wrong}: ${expected}. `,
+    html('code', { class: 'excerpt' }, [told(0, place), at, told(end, end + 24)]),
+  ];
+}

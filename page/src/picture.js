@@ -1,0 +1,216 @@
+/**
+ * The wire as a picture: levels as a waveform in rows, the field of each above it, stuff bits hatched, place numbers
+ * under it. Each level can be pointed at and focused. It only draws what it is given.
+ */
+import { FIELDS, STUFF_RULE, levelName } from './words.js';
+import { svg } from './draw.js';
+
+/** Sizes in pixels. */
+const CELL = 24;
+const SIDE = 4;
+const LABEL = 20;
+const HIGH = 32;
+const LOW = 58;
+const DIGIT = 78;
+const PLACE = 94;
+const ROW = 112;
+
+/** Every so many places a number stands under the wire. */
+const NUMBERED = 5;
+
+/**
+ * @typedef {object} Wire
+ * @property {Uint8Array} levels
+ * @property {Uint8Array} fields of as many levels from the first on as anything is told of
+ * @property {Uint8Array} stuffed
+ * @property {number} first the place of the first level
+ * @property {number | null} fault the index of the level that shows a fault; that behind the last, where they end too soon
+ */
+
+/**
+ * What a level is, in a sentence.
+ * @param {Wire} wire
+ * @param {number} index
+ * @returns {string}
+ */
+export function levelWords(wire, index) {
+  if (index >= wire.levels.length) return `Place ${wire.first + index}: the levels have ended; here the fault shows`;
+  const value = wire.levels[index];
+  const words = [`Level ${wire.first + index}: ${value}, ${levelName(value)}`];
+  if (index >= wire.fields.length) words.push('no field is told of it');
+  else words.push(wire.stuffed[index] ? `stuff bit in: ${FIELDS[wire.fields[index]].name}` : FIELDS[wire.fields[index]].name);
+  if (index === wire.fault) words.push('here the fault shows');
+  return words.join('; ');
+}
+
+/**
+ * The rule of a level, or nothing where no field is told of it.
+ * @param {Wire} wire
+ * @param {number} index
+ * @returns {string}
+ */
+export function levelRule(wire, index) {
+  if (index >= wire.fields.length) return '';
+  return wire.stuffed[index] ? STUFF_RULE : FIELDS[wire.fields[index]].rule;
+}
+
+/**
+ * @typedef {object} Span levels of one field that follow one another
+ * @property {number} field
+ * @property {number} from
+ * @property {number} to behind the last
+ */
+
+/**
+ * @param {Uint8Array} fields
+ * @param {number} [from]
+ * @param {number} [to]
+ * @returns {Span[]} the fields of these levels, in order
+ */
+export function spansOf(fields, from = 0, to = fields.length) {
+  /** @type {Span[]} */
+  const spans = [];
+  for (let index = from; index < Math.min(to, fields.length); index += 1) {
+    const last = spans.at(-1);
+    if (last && last.field === fields[index]) last.to = index + 1;
+    else spans.push({ field: fields[index], from: index, to: index + 1 });
+  }
+  return spans;
+}
+
+/**
+ * The label of a field, in the longest form that fits. Only the rest of one that begins a row before may have none.
+ * @param {Span} span
+ * @returns {string}
+ */
+function labelOf({ field, from, to }) {
+  const { name, short } = FIELDS[field];
+  const room = (to - from) * CELL;
+  return [name, short].find((label) => label.length * 8 <= room) ?? '…';
+}
+
+/**
+ * The name over a field's levels, on its colour.
+ * @param {Span} span
+ * @param {number} start the first level of the row
+ */
+function fieldLabel(span, start) {
+  const x = SIDE + (span.from - start) * CELL;
+  const width = (span.to - span.from) * CELL;
+  return svg('g', { class: 'field-label', 'aria-hidden': 'true', 'data-field': span.field }, [
+    svg('rect', { class: `field field-${span.field}`, x: x + 0.5, y: 1, width: width - 1, height: LABEL - 2, rx: 3 }),
+    svg('text', { class: 'label', x: x + width / 2, y: 14.5, 'text-anchor': 'middle' }, [labelOf(span)]),
+  ]);
+}
+
+/**
+ * @param {Wire} wire
+ * @param {number} start
+ * @param {number} end
+ * @returns {string} the line of a row's levels
+ */
+function wavePath(wire, start, end) {
+  const height = (index) => (wire.levels[index] === 0 ? LOW : HIGH);
+  let path = `M${SIDE} ${height(start > 0 ? start - 1 : start)}`;
+  for (let index = start; index < Math.min(end, wire.levels.length); index += 1) path += `V${height(index)}H${SIDE + (index - start + 1) * CELL}`;
+  return path;
+}
+
+/** @param {Wire} wire @param {number} index @param {number} start */
+function levelCell(wire, index, start) {
+  const x = SIDE + (index - start) * CELL;
+  const told = index < wire.fields.length;
+  const place = wire.first + index;
+  const parts = [
+    svg('rect', { class: `cell ${told ? `field field-${wire.fields[index]} pale` : 'untold'}`, x, y: LABEL, width: CELL, height: DIGIT - LABEL + 5 }),
+    svg('text', { class: 'digit', x: x + CELL / 2, y: DIGIT, 'text-anchor': 'middle' }, [String(wire.levels[index] ?? '…')]),
+  ];
+  if (told && wire.stuffed[index]) {
+    parts.splice(1, 0, svg('path', { class: 'hatch', d: hatching(x) }));
+  }
+  if (index === wire.fault) parts.push(svg('rect', { class: 'fault-box', x: x + 1.5, y: LABEL + 1.5, width: CELL - 3, height: DIGIT - LABEL + 2 }));
+  if (index === start || place % NUMBERED === 0) parts.push(svg('text', { class: 'place', x: x + CELL / 2, y: PLACE, 'text-anchor': 'middle' }, [String(place)]));
+  return svg('g', {
+    class: 'level', role: 'option', id: `${wire.id}-${index}`, 'data-index': index, tabindex: '-1',
+    'aria-selected': 'false', 'aria-label': levelWords(wire, index), ...(told && wire.stuffed[index] ? { 'data-stuffed': '' } : {}),
+  }, parts);
+}
+
+/**
+ * @param {number} x
+ * @returns {string} slanted lines over a cell
+ */
+function hatching(x) {
+  const top = LABEL + 1;
+  const bottom = LOW + 5;
+  let path = '';
+  for (let offset = 6; offset < CELL + bottom - top; offset += 8) {
+    const high = Math.min(offset, bottom - top);
+    const low = Math.max(0, offset - CELL);
+    if (high > low) path += `M${x + offset - high} ${top + high}L${x + offset - low} ${top + low}`;
+  }
+  return path;
+}
+
+/** @param {Wire} wire @param {number} start @param {number} end @param {number} row */
+function rowOf(wire, start, end, row) {
+  const cells = [];
+  for (let index = start; index < end; index += 1) cells.push(levelCell(wire, index, start));
+  return svg('g', { class: 'row', role: 'presentation', transform: `translate(0 ${row * ROW})` }, [
+    ...spansOf(wire.fields, start, end).map((span) => fieldLabel(span, start)),
+    ...cells,
+    svg('path', { class: 'wave', d: wavePath(wire, start, end) }),
+  ]);
+}
+
+/**
+ * The picture of a wire, as wide as there is room.
+ * @param {Wire & {id: string, name: string}} wire
+ * @param {number} room in pixels
+ * @returns {SVGSVGElement}
+ */
+export function pictureOf(wire, room) {
+  const count = wire.fault === wire.levels.length ? wire.levels.length + 1 : wire.levels.length;
+  const columns = Math.min(Math.max(4, Math.floor((room - 2 * SIDE) / CELL)), count);
+  const rows = [];
+  for (let start = 0; start < count; start += columns) rows.push(rowOf(wire, start, Math.min(start + columns, count), rows.length));
+  const width = 2 * SIDE + columns * CELL;
+  const height = rows.length * ROW - (ROW - PLACE - 4);
+  const picture = svg('svg', {
+    class: 'wire', width, height, viewBox: `0 0 ${width} ${height}`, role: 'listbox', 'aria-label': wire.name, 'aria-orientation': 'horizontal',
+  }, rows);
+  picture.querySelector('.level')?.setAttribute('tabindex', '0');
+  return picture;
+}
+
+/**
+ * Lets the levels of the pictures in a room be pointed at, and focused one after another by the arrow keys, Home and
+ * End. The room listens and not the picture, which a browser would take for something to be focused itself.
+ * @param {HTMLElement} room
+ * @param {(index: number) => void} onLevel told of the level that is looked at
+ */
+export function letLook(room, onLevel) {
+  const look = (level) => {
+    for (const other of room.querySelectorAll('.level[aria-selected=true], .level[tabindex="0"]')) {
+      other.setAttribute('aria-selected', 'false');
+      other.setAttribute('tabindex', '-1');
+    }
+    level.setAttribute('aria-selected', 'true');
+    level.setAttribute('tabindex', '0');
+    onLevel(Number(level.dataset.index));
+  };
+  for (const type of ['pointerover', 'focusin']) {
+    room.addEventListener(type, (event) => {
+      const level = event.target.closest('.level');
+      if (level) look(level);
+    });
+  }
+  room.addEventListener('keydown', (event) => {
+    const levels = [...room.querySelectorAll('.level')];
+    const at = levels.indexOf(event.target.closest('.level'));
+    const to = { ArrowLeft: at - 1, ArrowRight: at + 1, Home: 0, End: levels.length - 1 }[event.key];
+    if (at < 0 || to === undefined || event.altKey || event.ctrlKey || event.metaKey) return;
+    event.preventDefault();
+    levels[Math.min(Math.max(to, 0), levels.length - 1)].focus();
+  });
+}

@@ -1,0 +1,153 @@
+// Names, order, contrast, narrow screens and motion.
+import assert from 'node:assert/strict';
+
+/** What in a view has no name, or a name or place that is not right. */
+const complaints = () => {
+  const found = [];
+  const seen = (element) => element.checkVisibility();
+  const label = (element) => (element.getAttribute('aria-label') ?? [...(element.labels ?? [])].map((one) => one.textContent).join(' ') ?? '') || element.textContent;
+  for (const element of document.querySelectorAll('button, input, select, textarea, a[href], [tabindex], [role]')) {
+    if (!seen(element) || ['presentation', 'status'].includes(element.getAttribute('role'))) continue;
+    const named = element.getAttribute('aria-labelledby');
+    if (named ? !document.getElementById(named) : label(element).trim() === '') found.push(`no name: ${element.outerHTML.slice(0, 120)}`);
+    if (element.tabIndex > 0) found.push(`a place of its own in the order: ${element.id}`);
+  }
+  const ids = [...document.querySelectorAll('[id]')].map((element) => element.id);
+  for (const id of new Set(ids)) if (ids.filter((other) => other === id).length > 1) found.push(`twice: ${id}`);
+  for (const attribute of ['aria-describedby', 'aria-labelledby', 'aria-controls', 'for']) {
+    for (const element of document.querySelectorAll(`[${attribute}]`)) {
+      for (const id of element.getAttribute(attribute).split(' ')) if (!document.getElementById(id)) found.push(`${attribute} of nothing: ${id}`);
+    }
+  }
+  let level = 0;
+  for (const heading of document.querySelectorAll('h1, h2, h3')) {
+    if (!seen(heading)) continue;
+    const next = Number(heading.tagName[1]);
+    if (next > level + 1) found.push(`a heading is skipped before ${heading.textContent}`);
+    level = next;
+  }
+  if (document.querySelectorAll('h1').length !== 1) found.push('not one h1');
+  if (!document.documentElement.lang || !document.title) found.push('no language or no title');
+  if (document.querySelectorAll('main').length !== 1) found.push('not one main');
+  for (const option of document.querySelectorAll('[role=option]')) if (!option.closest('[role=listbox]')) found.push('an option outside of a list');
+  for (const small of document.querySelectorAll('button, .level')) {
+    const { width, height } = small.getBoundingClientRect();
+    if (seen(small) && (width < 23.9 || height < 23.9)) found.push(`too small to hit: ${small.outerHTML.slice(0, 80)}`);
+  }
+  return found;
+};
+
+/** Texts whose contrast with what is behind them is too low. */
+const pale = () => {
+  const canvas = document.createElement('canvas');
+  canvas.width = 1;
+  canvas.height = 1;
+  const pen = canvas.getContext('2d', { willReadFrequently: true });
+  const over = (colours) => {
+    pen.globalAlpha = 1;
+    pen.clearRect(0, 0, 1, 1);
+    for (const [colour, alpha] of colours) {
+      pen.globalAlpha = alpha;
+      pen.fillStyle = colour;
+      pen.fillRect(0, 0, 1, 1);
+    }
+    return [...pen.getImageData(0, 0, 1, 1).data].slice(0, 3);
+  };
+  const light = (rgb) => {
+    const [r, g, b] = rgb.map((part) => part / 255).map((part) => (part <= 0.04045 ? part / 12.92 : ((part + 0.055) / 1.055) ** 2.4));
+    return 0.2126 * r + 0.7152 * g + 0.0722 * b;
+  };
+  const behind = (element) => {
+    const layers = [];
+    for (let at = element; at; at = at.parentElement) layers.unshift([getComputedStyle(at).backgroundColor, 1]);
+    if (element.ownerSVGElement) {
+      const rect = element.parentElement.querySelector(element.matches('.label, .digit') ? 'rect' : 'none');
+      if (rect) layers.push([getComputedStyle(rect).fill, Number(getComputedStyle(rect).fillOpacity)]);
+      if (element.matches('.found')) layers.push([getComputedStyle(element.previousElementSibling).fill, 1]);
+    }
+    return layers;
+  };
+  const found = [];
+  for (const element of document.querySelectorAll('body *')) {
+    const own = [...element.childNodes].some((node) => node.nodeType === Node.TEXT_NODE && node.textContent.trim() !== '');
+    if (!own || !element.checkVisibility() || element.matches('script, style, option, :disabled')) continue;
+    const style = getComputedStyle(element);
+    const layers = behind(element);
+    const text = light(over([...layers, [element.ownerSVGElement ? style.fill : style.color, 1]]));
+    const ground = light(over(layers));
+    const contrast = (Math.max(text, ground) + 0.05) / (Math.min(text, ground) + 0.05);
+    if (contrast < 4.5) found.push(`${contrast.toFixed(2)}: ${element.tagName} ${element.getAttribute('class') ?? element.id} ${element.textContent.slice(0, 30)}`);
+  }
+  return [...new Set(found)];
+};
+
+/** Shows each view in turn, with a fault in it too. */
+async function eachView(page, test) {
+  await page.fill('frame-text', 'E 18db33f1 D 8 02010c0000000000');
+  await test('encode');
+  await page.fill('frame-text', 'S 800 D 0');
+  await test('encode with a fault');
+  await page.click('tab-decode');
+  await page.click('next-fault');
+  await test('decode');
+  await page.fill('trace-text', '11111111111000000x');
+  await test('decode with a wrong byte');
+  await page.click('tab-about');
+  await test('about');
+}
+
+export const accessTests = [
+  ['everything has a name and its place', async ({ open }) => {
+    const page = await open();
+    await eachView(page, async (view) => assert.deepEqual(await page.run(complaints), [], view));
+  }],
+  ...[false, true].map((dark) => [`contrast is enough in ${dark ? 'dark' : 'light'}`, async ({ open }) => {
+    const page = await open({ dark });
+    assert.equal(await page.get("matchMedia('(prefers-color-scheme: dark)').matches"), dark);
+    await eachView(page, async (view) => assert.deepEqual(await page.run(pale), [], view));
+  }]),
+  ...[360, 768, 1920].map((width) => [`nothing is cut at ${width} pixels`, async ({ open }) => {
+    const page = await open({ width });
+    await eachView(page, async (view) => {
+      const wide = await page.run(() => [document.documentElement.scrollWidth, ...[...document.querySelectorAll('body *')]
+        .filter((element) => element.checkVisibility() && !element.closest('.table-room, .time') && element.getBoundingClientRect().right > innerWidth + 1).map((element) => element.id || element.tagName)]);
+      assert.deepEqual(wide, [width], view);
+    });
+  }]),
+  ['the picture follows the width', async ({ open }) => {
+    const page = await open({ width: 360 });
+    await page.fill('frame-text', 'S 000 D 0');
+    const rows = () => page.get("document.querySelectorAll('#encode-wire .row').length");
+    const narrow = await rows();
+    await page.call('Emulation.setDeviceMetricsOverride', { width: 1400, height: 900, deviceScaleFactor: 1, mobile: false });
+    await page.until("document.querySelectorAll('#encode-wire .row').length === 1");
+    assert.ok(narrow >= 4);
+  }],
+  ['the keyboard reaches everything in the order of the page', async ({ open }) => {
+    const page = await open();
+    const reached = [];
+    for (let step = 0; step < 16; step += 1) {
+      await page.key('Tab');
+      reached.push(await page.run(() => document.activeElement.id || document.activeElement.getAttribute('role') || document.activeElement.getAttribute('href') || document.activeElement.getAttribute('aria-label')));
+    }
+    assert.deepEqual(reached.slice(0, 12), ['#about', 'tab-encode', 'frame-text', 'examples', 'part-standard', 'part-identifier', 'part-dataframe', 'part-dlc', 'part-data', 'sent-0', 'copy-levels', 'download-picture']);
+    const outlined = await page.run(() => { document.getElementById('copy-levels').focus(); return getComputedStyle(document.activeElement).outlineStyle; });
+    assert.equal(outlined, 'solid');
+  }],
+  ['tabs are changed by keys', async ({ open }) => {
+    const page = await open();
+    await page.run(() => document.getElementById('tab-encode').focus());
+    await page.key('ArrowRight');
+    assert.deepEqual(await page.run(() => [document.activeElement.id, document.getElementById('panel-decode').hidden]), ['tab-decode', false]);
+    await page.key('End');
+    await page.key('ArrowRight');
+    assert.equal(await page.get('document.activeElement.id'), 'tab-encode');
+  }],
+  ['nothing moves by itself', async ({ open }) => {
+    const page = await open({ still: true });
+    await eachView(page, async (view) => {
+      const moving = await page.run(() => [document.getAnimations().length, ...[...document.querySelectorAll('body *')].filter((element) => getComputedStyle(element).transitionDuration !== '0s').map((element) => element.tagName)]);
+      assert.deepEqual(moving, [0], view);
+    });
+  }],
+];

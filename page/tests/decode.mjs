@@ -1,0 +1,198 @@
+// The view Decode: the examples against canbit, each kind of fault at its place, wrong input, and long traces.
+import assert from 'node:assert/strict';
+import { createHash } from 'node:crypto';
+import { readFileSync, writeFileSync } from 'node:fs';
+import { join } from 'node:path';
+import { picture } from './encode.mjs';
+
+const WIRE = '00000100000100000100000100000100000100001111111111';
+const IDLE = '11111111111';
+
+/** Opens the view with a trace in it. */
+async function shown(open, text, how) {
+  const page = await open(how);
+  await page.click('tab-decode');
+  if (text !== undefined) await page.fill('trace-text', text);
+  return page;
+}
+
+const told = (page) => page.run(() => ({
+  whole: document.getElementById('decode-told').textContent.replace(/, decoded in .*/, ''),
+  fault: document.getElementById('trace-fault').textContent,
+  marked: document.querySelector('#trace-fault mark')?.textContent ?? '',
+  words: document.getElementById('found-words').textContent,
+}));
+
+/** The answer's text, as it is downloaded. */
+const answer = (page) => page.run(async () => {
+  let blob;
+  URL.createObjectURL = (given) => { blob = given; return 'data:,'; };
+  HTMLAnchorElement.prototype.click = () => {};
+  document.getElementById('answer-download').click();
+  return blob.text();
+});
+
+/** Where the picture of the finding shows the fault. */
+const faultLevel = (page) => page.run(() => {
+  const level = document.querySelector('#decode-wire .fault-box')?.closest('.level');
+  return level ? level.getAttribute('aria-label') : '';
+});
+
+/** Each kind of fault: a trace worked out by hand, its line, where the picture shows it, and the words. */
+const FAULTS = [
+  // the levels end behind 20 of the frame's
+  [IDLE + WIRE.slice(0, 20), '11 fault C1 at 31', 'Place 31: the levels have ended; here the fault shows', /Frame cut short.*more were expected/],
+  // the sixth dominant level in a row
+  [`${IDLE}000000${IDLE}`, '11 fault C3 at 16', 'Level 16: 0, dominant; stuff bit in: Identifier; here the fault shows', /Stuff error.*stuff bit of the other value/],
+  // the last bit of the check sequence is inverted
+  [`${IDLE}${WIRE.slice(0, 39)}1${WIRE.slice(40)}${IDLE}`, '11 fault C4 at 50', 'Level 50: 1, recessive; CRC sequence; here the fault shows', /CRC error.*check sequence/],
+  // a dominant CRC delimiter
+  [`${IDLE}${WIRE.slice(0, 40)}0${WIRE.slice(41)}${IDLE}`, '11 fault C5 at 51', 'Level 51: 0, dominant; CRC delimiter; here the fault shows', /Form error.*recessive level was expected/],
+  // a dominant second level of the end of frame
+  [`${IDLE}${WIRE.slice(0, 44)}0${WIRE.slice(45)}${IDLE}`, '11 fault C5 at 55', 'Level 55: 0, dominant; End of frame; here the fault shows', /Form error/],
+];
+
+export const decodeTests = [
+  ['the example has the answer that canbit gives', async ({ open, examples, work }) => {
+    const page = await shown(open, readFileSync(join(examples, 'trace.txt'), 'utf8'));
+    const lines = readFileSync(join(work, 'trace.txt.answer'), 'utf8');
+    assert.equal(await answer(page), lines);
+    const listed = await page.run(() => [...document.querySelectorAll('#found-list tr')].map((row) => [...row.children].slice(0, 2).map((cell) => cell.textContent).join(' ')));
+    assert.deepEqual(listed, lines.trim().split('\n').map((line) => line.replace('fault ', '').replace(/ (?:no)?ack.*/, '')));
+    assert.deepEqual(await page.get("[...document.querySelectorAll('#timeline [data-line]')].map((mark) => Number(mark.dataset.line))"), listed.map((_, index) => index));
+  }],
+  ['each kind of fault is shown at its place', async ({ open }) => {
+    const page = await shown(open);
+    for (const [trace, line, level, words] of FAULTS) {
+      await page.fill('trace-text', trace);
+      assert.equal(await answer(page), `${line}\n`);
+      assert.equal(await faultLevel(page), level, line);
+      assert.match((await told(page)).words, words, line);
+      assert.deepEqual(await page.get("[...document.querySelectorAll('#timeline .fault-mark')].map((mark) => mark.dataset.place)"), [line.split(' ').at(-1)], line);
+    }
+  }],
+  ['a frame in a trace is drawn with its fields', async ({ open }) => {
+    const page = await shown(open, IDLE + WIRE + IDLE);
+    assert.deepEqual(await told(page), { whole: '1 frame and 0 faults in 72 levels', fault: '', marked: '', words: '1 of 1: a frame at 11: S 000 D 0, not acknowledged.' });
+    const { digits, stuffed, numbers } = await picture(page, 'decode-wire');
+    assert.deepEqual([digits, stuffed], [WIRE, '.....^.....^.....^.....^.....^.....^..............']);
+    assert.deepEqual([numbers[0], numbers[4], numbers[5]], ['11', '15', '']);
+  }],
+  ['a byte that is no level is told by its place', async ({ open }) => {
+    const page = await shown(open, `${IDLE}${WIRE}11x1`);
+    assert.deepEqual(await told(page), {
+      whole: '1 frame and 0 faults in 63 levels', marked: 'x', words: '1 of 1: a frame at 11: S 000 D 0, not acknowledged.',
+      fault: `Byte 63 is no level: 0, 1, a blank or a line end was expected. ${(IDLE + WIRE).slice(39)}11x1 Shown is what stands before it.`,
+    });
+    await page.fill('trace-text', '2');
+    assert.match((await told(page)).fault, /^Byte 0 is no level/);
+    await page.fill('trace-text', '1 \t1');
+    assert.match((await told(page)).fault, /^Byte 2 is no level/);
+    await page.fill('trace-text', '0110é');
+    assert.match((await told(page)).fault, /^Byte 4 is no level/);
+    assert.equal(await page.get("document.getElementById('trace-text').getAttribute('aria-invalid')"), 'true');
+  }],
+  ['a trace without frames says so', async ({ open }) => {
+    const page = await shown(open, '');
+    assert.deepEqual(await told(page), { whole: '0 frames and 0 faults in 0 levels', fault: '', marked: '', words: 'There is no frame and no fault in the trace.' });
+    await page.fill('trace-text', '1111\n1111');
+    assert.equal((await told(page)).whole, '0 frames and 0 faults in 8 levels');
+    assert.deepEqual(await page.get("['previous-found', 'next-found', 'next-fault', 'answer-download'].map((id) => document.getElementById(id).disabled)"), [true, true, true, true]);
+  }],
+  ['a file of 10 MB is decoded within a second, as canbit does', async ({ open, work }) => {
+    const page = await shown(open);
+    await page.files('trace-file', [join(work, 'long.txt')]);
+    await page.until("Number(document.getElementById('decode-told').dataset.took) > 0 && document.getElementById('trace-name').textContent.includes('long.txt') && !document.getElementById('decode-told').textContent.includes(' in 3')");
+    const lines = readFileSync(join(work, 'long.txt.answer'));
+    const hash = await page.run(async () => {
+      let blob;
+      URL.createObjectURL = (given) => { blob = given; return 'data:,'; };
+      HTMLAnchorElement.prototype.click = () => {};
+      document.getElementById('answer-download').click();
+      const sum = await crypto.subtle.digest('SHA-256', await blob.arrayBuffer());
+      return [...new Uint8Array(sum)].map((byte) => byte.toString(16).padStart(2, '0')).join('');
+    });
+    assert.equal(hash, createHash('sha256').update(lines).digest('hex'));
+    const took = Number(await page.get("document.getElementById('decode-told').dataset.took"));
+    assert.ok(took < 1000, `it took ${took} ms`);
+    const drew = await page.run(() => {
+      const began = performance.now();
+      for (const id of ['zoom-in', 'later', 'zoom-in', 'zoom-in', 'next-fault', 'zoom-all']) document.getElementById(id).click();
+      return performance.now() - began;
+    });
+    assert.ok(drew < 1500, `six steps on the time line took ${drew} ms`);
+  }],
+  ['a file that is too long is refused', async ({ open, work }) => {
+    writeFileSync(join(work, 'too_long.txt'), '1'.repeat(10 * 1024 * 1024 + 1));
+    const page = await shown(open);
+    await page.files('trace-file', [join(work, 'too_long.txt')]);
+    await page.until("document.getElementById('trace-fault').textContent !== ''");
+    assert.match((await told(page)).fault, /^The trace is too long: this page takes up to 10,485,760 bytes/);
+    assert.equal(await page.get("document.getElementById('decode-shown').hidden"), true);
+    await page.fill('trace-text', IDLE + WIRE);
+    assert.equal((await told(page)).fault, '');
+  }],
+  ['the longest answer has room', async ({ open, work }) => {
+    // a stuff error each seventeen levels
+    writeFileSync(join(work, 'faults.txt'), `000000${IDLE}`.repeat(Math.floor((10 * 1024 * 1024) / 17)));
+    const page = await shown(open);
+    await page.files('trace-file', [join(work, 'faults.txt')]);
+    await page.until("document.getElementById('decode-told').textContent.startsWith('0 frames and 616,809 faults')");
+    assert.equal((await told(page)).fault, '');
+  }],
+  ['a dropped file is decoded', async ({ open }) => {
+    const page = await shown(open);
+    await page.run((text) => {
+      const data = new DataTransfer();
+      data.items.add(new File([text], 'dropped.txt'));
+      document.getElementById('trace-text').dispatchEvent(new DragEvent('drop', { bubbles: true, cancelable: true, dataTransfer: data }));
+    }, IDLE + WIRE);
+    await page.until("document.getElementById('trace-name').textContent.includes('dropped.txt')");
+    assert.equal((await told(page)).whole, '1 frame and 0 faults in 61 levels');
+  }],
+  ['a long text that is pasted is decoded, and not put into the field', async ({ open }) => {
+    const page = await shown(open);
+    await page.run((text) => {
+      const data = new DataTransfer();
+      data.setData('text/plain', text.repeat(4000));
+      document.getElementById('trace-text').dispatchEvent(new ClipboardEvent('paste', { bubbles: true, cancelable: true, clipboardData: data }));
+    }, WIRE + IDLE);
+    assert.equal((await told(page)).whole, '4,000 frames and 0 faults in 244,000 levels');
+    assert.equal(await page.get("document.getElementById('trace-text').value"), '');
+  }],
+  ['the time line zooms and moves, by mouse and keys', async ({ open }) => {
+    const page = await shown(open, (WIRE + IDLE).repeat(200));
+    const count = () => page.get("document.querySelectorAll('#timeline [data-line]').length");
+    const wave = () => page.get("document.querySelector('#timeline .wave') !== null");
+    assert.deepEqual([await count(), await wave()], [200, false]);
+    await page.run(() => document.getElementById('timeline').focus());
+    for (let step = 0; step < 6; step += 1) await page.key('+');
+    assert.ok(await count() <= 6);
+    assert.equal(await wave(), true);
+    const first = () => page.get("Number(document.querySelector('#timeline [data-line]').dataset.line)");
+    const before = await first();
+    for (let step = 0; step < 8; step += 1) await page.key('ArrowRight');
+    assert.ok(await first() > before);
+    await page.key('0');
+    assert.equal(await count(), 200);
+    const box = await page.run(() => { const { x, y, width } = document.getElementById('timeline').getBoundingClientRect(); return { x, y, width }; });
+    await page.call('Input.dispatchMouseEvent', { type: 'mouseWheel', x: box.x + box.width / 2, y: box.y + 40, deltaX: 0, deltaY: -100 });
+    await page.until("document.querySelectorAll('#timeline [data-line]').length < 200");
+    for (const type of ['mousePressed', 'mouseReleased']) await page.call('Input.dispatchMouseEvent', { type, x: box.x + box.width / 2, y: box.y + 40, button: 'left', clickCount: 1 });
+    assert.match((await told(page)).words, /^(99|100|101|102) of 200: a frame/);
+  }],
+  ['findings are gone through one by one', async ({ open, examples }) => {
+    const page = await shown(open, readFileSync(join(examples, 'trace.txt'), 'utf8'));
+    const words = async () => (await told(page)).words;
+    await page.click('next-fault');
+    assert.match(await words(), /^3 of 5: no frame at 131\. Stuff error \(C3\) at 136\./);
+    await page.click('next-found');
+    assert.match(await words(), /^4 of 5:/);
+    await page.click('previous-found');
+    await page.click('previous-found');
+    assert.match(await words(), /^2 of 5:/);
+    await page.run(() => document.querySelector('#found-list tr:last-child button').click());
+    assert.match(await words(), /^5 of 5:/);
+    assert.equal(await page.get("document.getElementById('next-found').disabled"), true);
+  }],
+];

@@ -1,0 +1,36 @@
+// Tries the page: run.mjs CHROMIUM PAGE EXAMPLES WORK. WORK has the answers of canbit.
+import { pathToFileURL } from 'node:url';
+import { Browser } from './browser.mjs';
+import { accessTests } from './access.mjs';
+import { decodeTests } from './decode.mjs';
+import { encodeTests } from './encode.mjs';
+import { pageTests } from './page.mjs';
+
+const [program, file, examples, work] = process.argv.slice(2);
+const browser = new Browser(program);
+const place = { browser, address: pathToFileURL(file).href, file, examples, work };
+let passed = 0;
+let failed = 0;
+
+for (const [name, test] of [...pageTests, ...encodeTests, ...decodeTests, ...accessTests]) {
+  const pages = [];
+  const open = async (how) => {
+    const page = await browser.open(place.address, how);
+    pages.push(page);
+    return page;
+  };
+  try {
+    await test({ ...place, open });
+    for (const page of pages) if (page.errors.length > 0) throw new Error(`the console says: ${page.errors.join('; ')}`);
+    passed += 1;
+    console.log(`passed: ${name}`);
+  } catch (error) {
+    failed += 1;
+    console.log(`failed: ${name}\n    ${error.stack?.split('\n').slice(0, 4).join('\n    ')}`);
+  }
+  for (const page of pages) await page.close();
+}
+
+await browser.close();
+console.log(`${passed} passed, ${failed} failed`);
+process.exitCode = failed === 0 ? 0 : 1;
