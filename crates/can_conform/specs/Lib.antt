@@ -1,7 +1,7 @@
--- what a reader has to believe
+-- To believe: what public calls and laws promise is said in these words
 pub mod Standings
 pub mod Runs
 pub mod Transcripts
 pub mod Verdicts
--- what private contracts and proofs need
+-- For proofs and for models only
 pub mod Walks

@@ -1,2 +1,3 @@
+-- To believe: what public calls and laws promise is said in these words
 pub mod Fields
 pub mod Marks

@@ -1,1 +1,2 @@
+-- To believe: what public calls and laws promise is said in these words
 pub mod Status
