@@ -5,7 +5,9 @@ import assert from 'node:assert/strict';
 const complaints = () => {
   const found = [];
   const seen = (element) => element.checkVisibility();
-  const label = (element) => (element.getAttribute('aria-label') ?? [...(element.labels ?? [])].map((one) => one.textContent).join(' ') ?? '') || element.textContent;
+  // what stands in a field is not its name
+  const label = (element) => element.getAttribute('aria-label')
+    ?? (element.matches('input, select, textarea') ? [...element.labels].map((one) => one.textContent).join(' ') : element.textContent);
   for (const element of document.querySelectorAll('button, input, select, textarea, a[href], [tabindex], [role]')) {
     if (!seen(element) || ['presentation', 'status'].includes(element.getAttribute('role'))) continue;
     const named = element.getAttribute('aria-labelledby');

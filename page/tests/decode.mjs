@@ -181,6 +181,22 @@ export const decodeTests = [
     for (const type of ['mousePressed', 'mouseReleased']) await page.call('Input.dispatchMouseEvent', { type, x: box.x + box.width / 2, y: box.y + 40, button: 'left', clickCount: 1 });
     assert.match((await told(page)).words, /^(99|100|101|102) of 200: a frame/);
   }],
+  ['the time line shows frames, faults and levels at their places', async ({ open }) => {
+    // a frame from 11 to 60, and a stuff error that begins at 72 and shows at 77, in 100 levels
+    const trace = `${IDLE}${WIRE}${IDLE}000000`.padEnd(100, '1');
+    const page = await shown(open, trace);
+    await page.click('zoom-all');
+    const places = await page.run(() => {
+      const room = document.getElementById('timeline');
+      const place = (x) => Math.round((x / room.clientWidth) * 1000) / 10;
+      const boxes = [...room.querySelectorAll('[data-line]')].map((box) => [place(box.x.baseVal.value), place(box.x.baseVal.value + box.width.baseVal.value + 1)]);
+      const [, mark] = room.querySelector('.fault-mark').getAttribute('d').match(/^M([\d.]+) /);
+      const path = room.querySelector('.wave').getAttribute('d');
+      const levels = [...path.matchAll(/V(\d+)H([\d.]+)/g)].map(([, y, x]) => [Number(y) < 110 ? '1' : '0', place(Number(x))]);
+      return { boxes, mark: place(Number(mark)), levels: levels.map(([level]) => level).join(''), ends: levels.map(([, end]) => end) };
+    });
+    assert.deepEqual(places, { boxes: [[11, 61], [72, 78]], mark: 77.5, levels: trace, ends: [...trace].map((_, index) => index + 1) });
+  }],
   ['findings are gone through one by one', async ({ open, examples }) => {
     const page = await shown(open, readFileSync(join(examples, 'trace.txt'), 'utf8'));
     const words = async () => (await told(page)).words;

@@ -12,6 +12,8 @@ const picture = (page, room = 'encode-wire') => page.run((id) => {
     hatched: levels.map((level) => (level.querySelector('.hatch') ? '^' : '.')).join(''),
     labels: [...document.querySelectorAll(`#${id} .field-label`)].map((label) => label.textContent),
     numbers: levels.map((level) => level.querySelector('.place')?.textContent ?? ''),
+    // the height of the line over each level: the upper is recessive
+    heights: [...document.querySelectorAll(`#${id} .wave`)].flatMap((wave) => [...wave.getAttribute('d').matchAll(/V(\d+)H/g)].map(([, y]) => (Number(y) < 45 ? 1 : 0))).join(''),
     waves: document.querySelectorAll(`#${id} .wave`).length,
     rows: document.querySelectorAll(`#${id} .row`).length,
   };
@@ -40,8 +42,9 @@ export const encodeTests = [
     assert.equal(texts.length, answers.length);
     for (const [index, text] of texts.entries()) {
       await page.fill('frame-text', text);
-      const { digits, stuffed, hatched, waves, rows } = await picture(page);
+      const { digits, heights, stuffed, hatched, waves, rows } = await picture(page);
       assert.equal(digits, answers[index], text);
+      assert.equal(heights, answers[index], text);
       assert.equal(stuffed, hatched, text);
       assert.equal(waves, rows, text);
       assert.equal((await fault(page)).text, '', text);

@@ -8,11 +8,17 @@ use can_stream::ToWrite;
 /// `S 000 D 0` as its sender drives it.
 const WIRE: &[u8; 50] = b"00000100000100000100000100000100000100001111111111";
 
-/// Its levels.
-fn wire_levels() -> [u8; 50] {
-    let mut levels = [0; 50];
-    for place in 0..50 {
-        levels[place] = u8::from(WIRE[place] == b'1');
+/// The front of `S 555 D 1 aa` up to its data, with a stuff bit in its DLC, and one level of its check sequence.
+const FRONT: &[u8; 29] = b"01010101010100000101101010100";
+
+/// The front of an extended frame up to its DLC, `E 15555555`.
+const EXTENDED: &[u8; 36] = b"010101010101110101010101010101010000";
+
+/// The levels of digits.
+fn levels_of<const N: usize>(digits: &[u8; N]) -> [u8; N] {
+    let mut levels = [0; N];
+    for place in 0..N {
+        levels[place] = u8::from(digits[place] == b'1');
     }
     levels
 }
@@ -26,7 +32,7 @@ fn a_frame_is_encoded(rt: HostRuntime) {
         0
     );
     assert_eq!(rt; (count, place), (50, 99));
-    assert_eq!(rt; &levels[..50], wire_levels().as_slice());
+    assert_eq!(rt; &levels[..50], levels_of(WIRE).as_slice());
     let mut few = [9; 156];
     assert_eq!(rt;
         page_encode(b"S 000 D 0", &mut few, &mut count, &mut place),
@@ -72,6 +78,11 @@ fn parts_make_a_text(rt: HostRuntime) {
     );
     assert_eq!(rt; count, 14);
     assert_eq!(rt; &text[..14], b"E 18db33f1 R 8".as_slice());
+    assert_eq!(rt;
+        page_frame_text(0x7ff, false, false, 0, &[], &mut text, &mut count),
+        0
+    );
+    assert_eq!(rt; (count, &text[..9]), (9, b"S 7ff D 0".as_slice()));
     assert_eq!(rt;
         page_frame_text(0x800, false, false, 0, &[], &mut text, &mut count),
         3
@@ -149,7 +160,7 @@ fn levels_have_fields(rt: HostRuntime) {
     let mut stuffed = [99; 157];
     let mut count = 0;
     assert_eq!(rt;
-        page_marks(&wire_levels(), &mut fields, &mut stuffed, &mut count),
+        page_marks(&levels_of(WIRE), &mut fields, &mut stuffed, &mut count),
         0
     );
     assert_eq!(rt; count, 50);
@@ -175,4 +186,40 @@ fn levels_have_fields(rt: HostRuntime) {
         page_marks(&[0, 1], &mut [0; 156], &mut stuffed, &mut count),
         1
     );
+}
+
+#[test]
+fn fields_of_fronts(rt: HostRuntime) {
+    let mut fields = [99; 157];
+    let mut stuffed = [99; 157];
+    let mut count = 0;
+    assert_eq!(rt;
+        page_marks(&levels_of(FRONT), &mut fields, &mut stuffed, &mut count),
+        0
+    );
+    assert_eq!(rt; count, 29);
+    assert_eq!(rt; (stuffed[16], stuffed[17], stuffed[18]), (0, 1, 0));
+    assert_eq!(rt;
+        (
+            fields[12], fields[17], fields[19], fields[20], fields[27], fields[28]
+        ),
+        (3, 8, 8, 9, 9, 10)
+    );
+    let levels = levels_of(EXTENDED);
+    assert_eq!(rt;
+        page_marks(&levels, &mut fields, &mut stuffed, &mut count),
+        0
+    );
+    assert_eq!(rt; count, 36);
+    assert_eq!(rt;
+        (
+            fields[12], fields[13], fields[31], fields[32], fields[33], fields[34]
+        ),
+        (4, 5, 1, 3, 6, 7)
+    );
+    assert_eq!(rt;
+        page_marks(&levels[..13], &mut fields, &mut stuffed, &mut count),
+        0
+    );
+    assert_eq!(rt; (count, fields[11], fields[12]), (13, 1, 2));
 }
