@@ -9,6 +9,8 @@ import { pageTests } from './page.mjs';
 const [program, file, examples, work] = process.argv.slice(2);
 const browser = new Browser(program);
 const place = { browser, address: pathToFileURL(file).href, file, examples, work };
+// a run that is stopped leaves no browser behind
+for (const signal of ['SIGINT', 'SIGTERM']) process.on(signal, () => browser.close().then(() => process.exit(1)));
 let passed = 0;
 let failed = 0;
 
