@@ -217,8 +217,10 @@ fn fields_of_fronts(rt: HostRuntime) {
         ),
         (4, 5, 1, 3, 6, 7)
     );
+    // up to SRR alone
+    let levels = levels_of(b"0101010101011");
     assert_eq!(rt;
-        page_marks(&levels[..13], &mut fields, &mut stuffed, &mut count),
+        page_marks(&levels, &mut fields, &mut stuffed, &mut count),
         0
     );
     assert_eq!(rt; (count, fields[11], fields[12]), (13, 1, 2));
