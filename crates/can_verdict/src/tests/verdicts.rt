@@ -4,8 +4,8 @@ use can_conform::{
     Counters, Difference, Ending, Failure, Part, PhaseName, Rule, Standing, Timed, Verdict,
 };
 use can_fault::State;
-use can_kit::Choice;
 use can_frame::{Frame, Level};
+use can_kit::Choice;
 use can_mac::{ErrorKind, Event};
 use std::alloc::{AllocError, Global};
 use std::test::Fail;

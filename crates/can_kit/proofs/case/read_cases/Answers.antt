@@ -21,8 +21,7 @@ loop-number-preserved c =
     let values = c.args.values.now in
     let number = c.loop-number.number in
     let here : AllMet (case_demands (map view (take number values)) number (view c.index-values-number.result)) = search rules in
-    rw c.in_ok-push.ensures.items
-    (
+    rw c.in_ok-push.ensures.items (
       IsRead-more (λ place d. case_demands (take place (map view values)) place d) SaysCase values number _ c.index-values-number.result _ c.loop-number-test.true c.index-values-number.is
           (subst (λ (earlier : List Data). AllMet (case_demands earlier number (view c.index-values-number.result))) (sym (take-map view number values)) here) c.in_ok-read_case.ensures.said c.loop-number.invariant.0,
       All-push (λ one. length one.script.tester.items ≤ most_bits) _ _ c.loop-number.invariant.1 c.in_ok-read_case.ensures.short,
