@@ -1,68 +1,43 @@
--- Where a move lands: what was counted makes the controller bus off, or it does not.
-use Rattle.std.proofs.Common.{◌≡◌, ◌≤◌, Bool, true, false, IsTrue, IsFalse, Option, Some, None, refl, sym, ◌∙◌, ap, subst, arith, cond}
+-- What a bit time makes of a controller, from its fields: a move, and where it lands.
+use Rattle.std.proofs.Common.{◌≡◌, ◌≤◌, Bool, true, false, IsTrue, IsFalse, Option, None, refl, sym, ◌∙◌, ap, subst, arith, cond}
 use Rattle.std.proofs.Math.Dec.{leb}
 use Rattle.std.proofs.lemmas.Bool.{cond-true, cond-false, le-leb, leb-true, or_left}
 use Rattle.can_frame.specs.declared.level.Level.{Level}
 use Rattle.can_frame.specs.Parts.{Parts}
-use Rattle.can_fault.specs.declared.cause.Cause.{Cause}
 use Rattle.can_fault.specs.declared.state.State.TheVariants.{Active, Passive, BusOff as off_state}
-use Rattle.can_fault.specs.Counters.{ConfineParts, counted, is_bus_off, is_passive, state_of}
-use Rattle.can_mac.specs.declared.event.Event.TheVariants.{WentOff}
+use Rattle.can_fault.specs.Counters.{ConfineParts, is_bus_off, is_passive, state_of}
+use Rattle.can_mac.specs.declared.event.Event.{Event}
 use Rattle.can_mac.specs.declared.moves.Move.{Move}
 use Rattle.can_mac.specs.declared.moves.Stance.{Stance}
 use Rattle.can_mac.specs.declared.phase.Role.TheVariants.{Receiver}
 use Rattle.can_mac.specs.declared.phase.Phase.TheVariants.{BusOff}
 use Rattle.can_mac.specs.State.{MacPhase, MacState, IsMac, IsFrameOrNone, is_off_phase}
 use Rattle.can_mac.specs.Moves.{MacMove, goes, move, move_keeping}
-use Rattle.can_mac.specs.Machine.{step_counting, mac_step, state_after_move, off_step, on_step, stance}
+use Rattle.can_mac.specs.Machine.{step_counting, mac_step, off_step, on_step, stance}
 use Rattle.can_mac.proofs.Kept.{on_kept}
 
 -- the state of a controller that goes off the bus
 abbrev pub gone : MacMove → ConfineParts → MacState
 gone v c = record { phase = BusOff; role = Receiver; overloads = v.overloads; counters = c }
 
--- what counting a cause, if there is one, leaves, and whether it makes the controller bus off
-pub record IsCounted (cause : Option Cause) (old new : ConfineParts) (off : Bool) : Type 0 where
-  pub none : cause ≡ None → (new ≡ old) × (off ≡ false)
-  pub some : (k : Cause) → cause ≡ Some k → (new ≡ counted k old) × (off ≡ is_bus_off new)
-
-pub step_counting-off : (v : MacMove) (cause : Option Cause) (old new : ConfineParts) (off : Bool) → IsCounted cause old new off → off ≡ true → step_counting v old cause ≡ (gone v new, Some WentOff)
-step_counting-off v None old new off h e = cc ((h.none refl).1)
-step_counting-off v (Some k) old new off h e =
-    let s = h.some k refl in
-    rw (← s.0) (cond-true (is_bus_off new) (gone v new, Some WentOff) (state_after_move v new, v.event) (sym s.1 ∙ e))
-
-pub step_counting-on : (v : MacMove) (cause : Option Cause) (old new : ConfineParts) (off : Bool) → IsCounted cause old new off → off ≡ false → step_counting v old cause ≡ (state_after_move v new, v.event)
-step_counting-on v None old new off h e = rw (h.none refl).0
-step_counting-on v (Some k) old new off h e =
-    let s = h.some k refl in
-    rw (← s.0) (cond-false (is_bus_off new) (gone v new, Some WentOff) (state_after_move v new, v.event) (sym s.1 ∙ e))
-
--- A controller whose fields are these, and which it is from outside; what its move is; and what is counted.
+-- A controller whose fields are these, and which it is from outside; what its move is; and where it lands.
 module _ (m now : MacState) (view : m ≡ now) (h : IsMac m) (on : is_off_phase now.phase ≡ false) (waiting : Option Parts) (whole : IsFrameOrNone waiting) (x : Level) where
   module _ (passive : Bool) (told : passive ≡ is_passive m.counters) (kept : MacPhase) (next : Move (Option MacPhase))
-      (is : move_keeping kept next ≡ move (record { passive = passive; role = m.role; overloads = m.overloads }) m.phase waiting x)
-      (new : ConfineParts) (off : Bool) (count : IsCounted next.cause m.counters new off) where
+      (is : move_keeping kept next ≡ move (record { passive = passive; role = m.role; overloads = m.overloads }) m.phase waiting x) where
     same_move : move_keeping kept next ≡ move (stance m) m.phase waiting x
     same_move = subst (λ p. move_keeping kept next ≡ move (record { passive = p; role = m.role; overloads = m.overloads }) m.phase waiting x) told is
 
     same_step : step_counting (move_keeping kept next) m.counters next.cause ≡ on_step now (move (stance now) now.phase waiting x)
     same_step = ap (λ v. step_counting v m.counters v.cause) same_move ∙ ap (λ n. on_step n (move (stance n) n.phase waiting x)) view
 
-    pub goes_off : off ≡ true → (gone (move_keeping kept next) new, Some WentOff) ≡ on_step now (move (stance now) now.phase waiting x)
-    goes_off e = sym (step_counting-off (move_keeping kept next) next.cause m.counters new off count e) ∙ same_step
-
-    pub stays_on : off ≡ false → (state_after_move (move_keeping kept next) new, next.event) ≡ on_step now (move (stance now) now.phase waiting x)
-    stays_on e = sym (step_counting-on (move_keeping kept next) next.cause m.counters new off count e) ∙ same_step
+    pub lands : {A : Type 0} (part : MacState × Option Event → A) (a : A) → a ≡ part (step_counting (move_keeping kept next) m.counters next.cause) → a ≡ part (on_step now (move (stance now) now.phase waiting x))
+    lands part a landed = landed ∙ ap part same_step
 
     step_is_mac : IsMac (on_step now (move (stance now) now.phase waiting x)).0
     step_is_mac = on_kept now (subst IsMac view h) waiting x on whole
 
-    pub goes_off-IsMac : off ≡ true → IsMac (gone (move_keeping kept next) new)
-    goes_off-IsMac e = subst (λ p. IsMac p.0) (sym (goes_off e)) step_is_mac
-
-    pub stays_on-IsMac : off ≡ false → IsMac (state_after_move (move_keeping kept next) new)
-    stays_on-IsMac e = subst (λ p. IsMac p.0) (sym (stays_on e)) step_is_mac
+    pub lands-IsMac : (s : MacState) → s ≡ (step_counting (move_keeping kept next) m.counters next.cause).0 → IsMac s
+    lands-IsMac s landed = subst IsMac (sym (lands (λ p. p.0) s landed)) step_is_mac
 
   -- where a level only makes another phase
   module _ (p : MacPhase) (is : (s : Stance) → s.role ≡ m.role → move s m.phase waiting x ≡ goes s p) where

@@ -3,12 +3,12 @@ ghost use Rattle.std.specs.Option.{option_copied};
 ghost use Rattle.can_code.specs.Front.{FrontParts};
 ghost use Rattle.can_fault.specs.Counters.{counted, is_bus_off, is_passive as is_passive_by};
 ghost use Rattle.can_mac.specs.State.{idle as idle_state, IsMac, IsPhase, IsFrameOrNone, is_off_phase, joining as joining_state, starting};
-ghost use Rattle.can_mac.specs.Moves.{move};
-ghost use Rattle.can_mac.specs.Machine.{holding, IsSilent, mac_drives, mac_step, off_step, on_step, stance as stance_of};
+ghost use Rattle.can_mac.specs.Moves.{move, move_keeping};
+ghost use Rattle.can_mac.specs.Machine.{holding, IsSilent, mac_drives, mac_step, off_step, on_step, stance as stance_of, step_counting};
 
 use crate::driving::{level_of_part, level_of_slot};
 use crate::event::Event;
-use crate::moves::{MOST_OVERLOADS, Move, Stance, enter, goes_on, next_move};
+use crate::moves::{Hearing, MOST_OVERLOADS, Stance, enter, goes_on, next_move};
 use crate::phase::{Overloads, Phase, Role};
 use can_code::{FrameBits, Front, PackedBits, PlainBits};
 use can_fault::{Cause, Confine, State};
@@ -206,23 +206,31 @@ impl<B: FrameBits> MediumAccess<B> {
             role: self.role,
             overloads: self.overloads,
         };
-        let Move {
-            phase,
-            role,
-            overloads,
-            cause,
-            event,
-        } = next_move(&stance, &mut self.phase, waiting, seen);
-        self.overloads = overloads;
-        if count(&mut self.confine, cause) {
-            self.phase = Phase::BusOff;
-            self.role = Role::Receiver;
-            return Some(Event::WentOff);
-        }
-        enter(&mut self.phase, phase);
-        self.role = role;
-        event
+        let made = next_move(&stance, &mut self.phase, waiting, seen);
+        self.overloads = made.overloads;
+        land(&mut self.phase, &mut self.role, &mut self.confine, made)
     }
+}
+
+/// Lands where a move leads, whose phase may have been heard in place: what is told. Where what it counts makes the
+/// controller bus off, this is told in place of all else.
+fn land<B: FrameBits>(
+    phase: &mut Phase<Front<B>>,
+    role: &mut Role,
+    confine: &mut Confine,
+    made: Hearing,
+) -> Option<Event>
+    ensures state { record { phase = phase.new; role = role.new; overloads = made.overloads; counters = confine.new } ≡ (step_counting (move_keeping phase.old made) confine.old made.cause).0 }
+    ensures event { result ≡ (step_counting (move_keeping phase.old made) confine.old made.cause).1 }
+{
+    if count(confine, made.cause) {
+        *phase = Phase::BusOff;
+        *role = Role::Receiver;
+        return Some(Event::WentOff);
+    }
+    enter(phase, made.phase);
+    *role = made.role;
+    made.event
 }
 
 /// A frame that waits is within its limits, which its bytes tell.
