@@ -4,7 +4,8 @@ import { mkdtempSync, rmSync } from 'node:fs';
 import { tmpdir } from 'node:os';
 import { join } from 'node:path';
 
-const WAIT = 15000;
+/** How long an answer may take: others may use the machine. */
+const WAIT = 60000;
 
 export class Browser {
   /** @param {string} program */
@@ -17,6 +18,9 @@ export class Browser {
     this.next = 1;
     this.waiting = new Map();
     this.listeners = [];
+    this.process.on('exit', (code, signal) => {
+      for (const { method, reject } of this.waiting.values()) reject(new Error(`${method}: the browser has ended (${code ?? signal})`));
+    });
     let text = '';
     this.process.stdio[4].setEncoding('utf8').on('data', (data) => {
       text += data;

@@ -30,7 +30,7 @@ for (const [name, test] of [...pageTests, ...encodeTests, ...decodeTests, ...acc
     failed += 1;
     console.log(`failed: ${name}\n    ${error.stack?.split('\n').slice(0, 4).join('\n    ')}`);
   }
-  for (const page of pages) await page.close();
+  for (const page of pages) await page.close().catch(() => {});
 }
 
 await browser.close();
