@@ -52,11 +52,13 @@ IsKitText bytes document = (d : Data) × IsDocument bytes d × SaysDocument d do
 
 -- ---- refusals
 
+-- the field that is told of bytes that are no document
+abbrev pub IsNoDocument : KitField → List ℕ → Type 0
+IsNoDocument wrong bytes = (wrong ≡ field.Document) × ¬ ((d : Data) × IsDocument bytes d)
+
 -- the field that is told of bytes that don't meet these demands: they are no document, or it is the first that isn't met
 abbrev pub IsFirstWrong : (Data → Demands KitField) → KitField → List ℕ → Type 0
-IsFirstWrong demands wrong bytes =
-    ((wrong ≡ field.Document) × ¬ ((d : Data) × IsDocument bytes d))
-    ⊎ ((d : Data) × IsDocument bytes d × IsFirstUnmet wrong (demands d))
+IsFirstWrong demands wrong bytes = IsNoDocument wrong bytes ⊎ ((d : Data) × IsDocument bytes d × IsFirstUnmet wrong (demands d))
 
 -- a field of the document is wrong, or memory ran out
 abbrev pub IsFieldOrMemory : TraceFault → Type 0

@@ -1,6 +1,6 @@
 -- What `canhold expect` writes: the document, and behind it what the reference does in each of its cases.
 -- (docs/CONFORMANCE.md, "What is expected")
-use Rattle.std.specs.Prelude.{ℕ, ◌≡◌, List, [], ◌∷◌, ◌++◌}
+use Rattle.std.specs.Prelude.{ℕ, ◌≡◌, codes, None, List, [], ◌∷◌, ◌++◌}
 use Rattle.std.specs.String.{string_bytes}
 use Rattle.toml.specs.Data.{Data}
 use Rattle.can_conform.specs.declared.transcript.Transcript.{Transcript}
@@ -8,14 +8,23 @@ use Rattle.can_conform.specs.Transcripts.{IsTranscript}
 use Rattle.can_stream.specs.declared.kit_field.KitField.{KitField}
 use Rattle.can_stream.specs.declared.kit_field.KitField.TheVariants as field
 use Rattle.can_toml.specs.Demands.{Demands, no_demands, demand, followed}
+use Rattle.can_toml.specs.Values.{named, IsDocument}
 use Rattle.can_kit.specs.declared.case.Case.{Case}
 use Rattle.can_verdict.specs.Transcripts.{transcript_text}
 use Rattle.can_hold.specs.declared.document.Document.{Document}
-use Rattle.can_hold.specs.Documents.{document_demands, transcripts_of, IsKitText}
+use Rattle.can_hold.specs.Documents.{document_demands, SaysDocument}
 
--- a kit document that has no transcript yet
+-- the list of transcripts is left out: behind an empty one there could be no tables either
+abbrev pub HasCasesAlone : Data → Type 0
+HasCasesAlone d = named (codes "transcript") d ≡ None
+
+-- a kit document without that list
 abbrev pub cases_alone_demands : Data → Demands KitField
-cases_alone_demands d = followed (document_demands d) (demand field.Transcripts (transcripts_of d ≡ []) no_demands)
+cases_alone_demands d = followed (document_demands d) (demand field.Transcripts (HasCasesAlone d) no_demands)
+
+-- the bytes are this kit document, and it has no such list
+abbrev pub IsCasesText : List ℕ → Document → Type 0
+IsCasesText bytes document = (d : Data) × IsDocument bytes d × SaysDocument d document × HasCasesAlone d
 
 -- behind these bytes the table of the one transcript that tells all of the case
 pub record AddsTable (c : Case) (before after : List ℕ) : Type 0 where
@@ -28,9 +37,8 @@ abbrev pub AddTables : List Case → List ℕ → List ℕ → Type 0
 AddTables [] before after = after ≡ before
 AddTables (c ∷ cases) before after = (between : List ℕ) × AddsTable c before between × AddTables cases between after
 
--- the bytes are a kit document with no transcript, and behind them stand the tables
+-- the bytes are a kit document without a list of transcripts, and behind them stand the tables
 pub record IsExpected (bytes answer : List ℕ) : Type 0 where
   pub document : Document
-  pub read : IsKitText bytes document
-  pub alone : document.transcripts.items ≡ []
+  pub read : IsCasesText bytes document
   pub tables : AddTables document.cases.items bytes answer

@@ -3,15 +3,16 @@ ghost use Rattle.std.specs.Prelude.{◌≡◌, ◌≤◌, ◌<◌, All, codes, l
 ghost use Rattle.toml.specs.Data.{table};
 ghost use Rattle.toml.specs.View.{table_view, view};
 ghost use Rattle.can_conform.specs.Transcripts.{IsTold};
+ghost use Rattle.can_stream.specs.declared.field.Field.TheVariants.{Kit};
 ghost use Rattle.can_stream.specs.declared.kit_field.KitField.{KitField as Wrong};
 ghost use Rattle.can_toml.specs.Demands.{AllMet, IsFirstUnmet};
-ghost use Rattle.can_toml.specs.Values.{elements_in, named, IsOptional};
+ghost use Rattle.can_toml.specs.Values.{elements_in, named, IsDocument, IsOptional};
 ghost use Rattle.can_kit.specs.Cases.{most_bits};
 ghost use Rattle.can_kit.specs.Lists.{IsArrayOf};
-ghost use Rattle.can_hold.specs.Documents.{cases_of, document_demands, top_demands, transcripts_of, IsFieldOrMemory, IsFirstWrong, IsKitText, SaysDocument};
+ghost use Rattle.can_hold.specs.Documents.{cases_of, document_demands, top_demands, transcripts_of, IsFieldOrMemory, IsFirstWrong, IsKitText, IsNoDocument, SaysDocument};
 
 use can_kit::{Case, KitFault, read_cases};
-use can_stream::{Field, KitField, TraceFault};
+use can_stream::{KitField, TraceFault};
 use can_toml::{DocumentFault, elements_or_none, has_only, read_document};
 use can_transcript::{Told, read_transcripts};
 use std::alloc::Global;
@@ -45,21 +46,28 @@ impl Document {
         ensures told { IfOk result (λ document. All (λ one. IsTold one.transcript) document.transcripts.items) }
         ensures known { IfOk result (λ document. All (λ one. one.case < length document.cases.items) document.transcripts.items) }
         ensures few { IfOk result (λ document. length document.transcripts.items ≤ 4096) }
-        ensures wrong { (wrong : Wrong) → IsErrOf result (TraceFault.ScenarioField (Field.Kit wrong)) → IsFirstWrong document_demands wrong text.now }
+        ensures wrong { (wrong : Wrong) → IsErrOf result (TraceFault.ScenarioField (Kit wrong)) → IsFirstWrong document_demands wrong text.now }
         ensures other { IfErr result IsFieldOrMemory }
     {
-        match read_document(alloc, text) {
-            Ok(fields) => Ok(read_tables(alloc, &fields)?),
-            Err(DocumentFault::Memory) => Err(TraceFault::Memory),
-            Err(DocumentFault::NoDocument) => {
-                Err(TraceFault::ScenarioField(Field::Kit(KitField::Document)))
-            }
-        }
+        let fields = read_fields(alloc, text)?;
+        Ok(read_tables(alloc, &fields)?)
+    }
+}
+
+/// The fields at the top of the TOML document that the bytes are.
+pub(crate) fn read_fields(alloc: Global, text: &[u8]) -> Result<Table, KitFault>
+    ensures said { IfOk result (λ fields. IsDocument text.now (table (table_view fields))) }
+    ensures wrong { (wrong : Wrong) → IsErrOf result (KitFault.Field wrong) → IsNoDocument wrong text.now }
+{
+    match read_document(alloc, text) {
+        Ok(fields) => Ok(fields),
+        Err(DocumentFault::Memory) => Err(KitFault::Memory),
+        Err(DocumentFault::NoDocument) => Err(KitFault::Field(KitField::Document)),
     }
 }
 
 /// Reads the cases and transcripts of a document with these fields.
-fn read_tables(alloc: Global, fields: &Table) -> Result<Document, KitFault>
+pub(crate) fn read_tables(alloc: Global, fields: &Table) -> Result<Document, KitFault>
     ensures said { IfOk result (SaysDocument (table (table_view fields.now))) }
     ensures short { IfOk result (λ document. All (λ one. length one.script.tester.items ≤ most_bits) document.cases.items) }
     ensures told { IfOk result (λ document. All (λ one. IsTold one.transcript) document.transcripts.items) }

@@ -1,14 +1,16 @@
 //! A document with the transcripts of the reference behind it.
 ghost use Rattle.std.specs.Prelude.{◌≤◌, All, length, IfErr, IfOk, IsErrOf, OnOk};
+ghost use Rattle.can_stream.specs.declared.field.Field.TheVariants.{Kit};
 ghost use Rattle.can_stream.specs.declared.kit_field.KitField.{KitField as Wrong};
 ghost use Rattle.can_kit.specs.Cases.{most_bits};
 ghost use Rattle.can_hold.specs.Documents.{IsFieldOrMemory, IsFirstWrong};
-ghost use Rattle.can_hold.specs.Expectations.{cases_alone_demands, AddTables, IsExpected};
+ghost use Rattle.can_hold.specs.Expectations.{cases_alone_demands, AddTables, IsCasesText, IsExpected};
 
-use crate::document::Document;
+use crate::document::{Document, read_fields, read_tables};
 use can_conform::expect;
-use can_kit::Case;
-use can_stream::{Field, KitField, TraceFault};
+use can_kit::{Case, KitFault};
+use can_stream::{KitField, TraceFault};
+use can_toml::field;
 use can_verdict::push_transcript;
 use std::alloc::{AllocError, Global};
 
@@ -16,21 +18,33 @@ use std::alloc::{AllocError, Global};
 /// reference, with levels, events, counters and the end.
 ///
 /// `ScenarioField` names the first field that isn't as it has to be, as [`Document::from_text`] does; a
-/// document that has a transcript already is refused for its transcripts. `Memory` says that memory ran
-/// out. There is no other fault.
+/// document that has a list of transcripts, be it empty, is refused for that list. `Memory` says that memory
+/// ran out. There is no other fault.
 pub fn expected(alloc: Global, text: &[u8]) -> Result<Vec<u8>, TraceFault>
     ensures found { IfOk result (λ answer. IsExpected text.now answer.items) }
-    ensures wrong { (wrong : Wrong) → IsErrOf result (TraceFault.ScenarioField (Field.Kit wrong)) → IsFirstWrong cases_alone_demands wrong text.now }
+    ensures wrong { (wrong : Wrong) → IsErrOf result (TraceFault.ScenarioField (Kit wrong)) → IsFirstWrong cases_alone_demands wrong text.now }
     ensures other { IfErr result IsFieldOrMemory }
 {
-    let document = Document::from_text(alloc, text)?;
-    if !document.transcripts.is_empty() {
-        return Err(TraceFault::ScenarioField(Field::Kit(KitField::Transcripts)));
-    }
+    let document = read_alone(alloc, text)?;
     let Ok(answer) = with_tables(alloc, text, &document.cases) else {
         return Err(TraceFault::Memory);
     };
     Ok(answer)
+}
+
+/// The kit document that the bytes are, which has no list of transcripts: TOML takes no tables behind an empty
+/// one.
+fn read_alone(alloc: Global, text: &[u8]) -> Result<Document, KitFault>
+    ensures read { IfOk result (IsCasesText text.now) }
+    ensures short { IfOk result (λ document. All (λ one. length one.script.tester.items ≤ most_bits) document.cases.items) }
+    ensures wrong { (wrong : Wrong) → IsErrOf result (KitFault.Field wrong) → IsFirstWrong cases_alone_demands wrong text.now }
+{
+    let fields = read_fields(alloc, text)?;
+    let document = read_tables(alloc, &fields)?;
+    if field(&fields, "transcript").is_some() {
+        return Err(KitFault::Field(KitField::Transcripts));
+    }
+    Ok(document)
 }
 
 /// The bytes, and behind them the table of each case's transcript.

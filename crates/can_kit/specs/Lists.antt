@@ -30,6 +30,10 @@ abbrev pub SayStrings : List Data → List Level → Type 0
 SayStrings [] levels = levels ≡ []
 SayStrings (d ∷ ds) levels = (first : List Level) × (rest : List Level) × SaysString d first × SayStrings ds rest × (levels ≡ first ++ rest)
 
+-- the first of the levels that these strings say, at most so many
+abbrev pub SayUpTo : ℕ → List Data → List Level → Type 0
+SayUpTo most ds levels = (all : List Level) × SayStrings ds all × (levels ≡ take most all)
+
 -- ---- elements with their times
 
 -- the time of an element: the number itself, or the first of an array

@@ -1,5 +1,5 @@
 //! What the tester does in a case: its levels, and the bit times that are forced.
-ghost use Rattle.std.specs.Prelude.{ℕ, ◌≡◌, ◌<◌, All, List, codes, false, map, length, true, IfNone, IfOk, IfSome, IsErrOf, OnOk, OnSome};
+ghost use Rattle.std.specs.Prelude.{ℕ, ◌≡◌, ◌≤◌, ◌<◌, All, List, codes, false, map, length, true, IfNone, IfOk, IfSome, IsErrOf, OnOk, OnSome};
 ghost use Rattle.toml.specs.Data.{table};
 ghost use Rattle.toml.specs.View.{table_view, view};
 ghost use Rattle.can_stream.specs.declared.kit_field.KitField.{KitField as Wrong};
@@ -8,7 +8,7 @@ ghost use Rattle.can_toml.specs.Demands.{AllMet, IsFirstUnmet};
 ghost use Rattle.can_toml.specs.Values.{named, IsNumber, IsRequired};
 ghost use Rattle.can_kit_text.specs.LevelTexts.{AddsLevels};
 ghost use Rattle.can_kit.specs.Cases.{driven as driven_as, forced_at, strings_of, tester_demands};
-ghost use Rattle.can_kit.specs.Lists.{strings_demands, IsArrayOf, SaysString, SayStrings};
+ghost use Rattle.can_kit.specs.Lists.{strings_demands, IsArrayOf, SaysString, SayStrings, SayUpTo};
 
 use crate::fault::KitFault;
 use crate::lists::ElementFault;
@@ -41,7 +41,8 @@ pub(crate) fn read_tester(
     let Some(values) = strings_in(fields) else {
         return Err(KitFault::in_case(number, CaseField::Tester));
     };
-    let levels = match read_strings(alloc, values) {
+    // One level more than there are bit times shows that there are too many.
+    let levels = match read_strings(alloc, bits as usize + 1, values) {
         Ok(levels) => levels,
         Err(ElementFault::At(place)) => {
             return Err(KitFault::in_case(number, CaseField::Levels(place)));
@@ -64,28 +65,36 @@ fn strings_in(fields: &Table) -> Option<&[Value]>
     (!values.is_empty() && values.len() <= MOST_STRINGS).then_some(values)
 }
 
-/// Reads strings of levels, one after another.
-pub fn read_strings(alloc: Global, values: &[Value]) -> Result<Vec<Level>, ElementFault>
-    ensures said { IfOk result (λ levels. SayStrings (map view values.now) levels.items) }
+/// Reads strings of levels, one after another, and keeps the first of them, at most so many. The others are read
+/// too, so a string that says none is told wherever it stands.
+pub fn read_strings(
+    alloc: Global,
+    most: usize,
+    values: &[Value],
+) -> Result<Vec<Level>, ElementFault>
+    ensures said { IfOk result (λ levels. SayUpTo most (map view values.now) levels.items) }
+    ensures few { IfOk result (λ levels. length levels.items ≤ most) }
     ensures met { (told : ℕ → Wrong) → OnOk result (AllMet (strings_demands told (map view values.now))) }
     ensures unmet { (told : ℕ → Wrong) (place : ℕ) → IsErrOf result (ElementFault.At place) → IsFirstUnmet (told place) (strings_demands told (map view values.now)) }
 {
     let mut levels = Vec::new(alloc);
     for (place, value) in values.iter().enumerate() {
-        if !read_string(&mut levels, value)? {
+        if !read_string(&mut levels, most, value)? {
             return Err(ElementFault::At(place));
         }
     }
     Ok(levels)
 }
 
-/// Appends the levels that a string says, and answers whether it says some.
-fn read_string(levels: &mut Vec<Level>, value: &Value) -> Result<bool, AllocError>
-    ensures said { IfOk result (λ said. said ≡ true → AddsLevels (SaysString (view value.now)) levels.old.items levels.new.items) }
+/// Appends the levels that a string says, as far as there is room, and answers whether it says some.
+fn read_string(levels: &mut Vec<Level>, most: usize, value: &Value) -> Result<bool, AllocError>
+    requires { length levels.old.items ≤ most }
+    ensures said { IfOk result (λ said. said ≡ true → AddsLevels (SaysString (view value.now)) most levels.old.items levels.new.items) }
     ensures none { IfOk result (λ said. said ≡ false → (read : List LevelSaid) → ¬ SaysString (view value.now) read) }
+    ensures few { IfOk result (λ said. length levels.new.items ≤ most) }
 {
     match text_of(value) {
-        Some(text) => read_levels(levels, text),
+        Some(text) => read_levels(levels, most, text),
         None => Ok(false),
     }
 }

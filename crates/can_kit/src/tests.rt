@@ -7,7 +7,7 @@ use crate::tester::{forced_tester, read_tester};
 use crate::words::{Choice, Needs, choices_in, is_name, is_purpose, needs_in, start_in};
 use can_conform::{Start, TesterLevel, Timed};
 use can_frame::{Frame, Level};
-use can_stream::{CaseField, KitField};
+use can_stream::{CaseField, Field, KitField, TraceFault};
 use can_toml::{field, read_document, required_number};
 use std::alloc::Global;
 use std::test::Fail;
@@ -115,6 +115,42 @@ fn choices_by_name(rt: HostRuntime) -> Result<(), Fail> {
     assert_eq!(rt; none.len(), 0);
     for text in ["choices = [\"rec-128\"]", "choices = [1]", "choices = 1"] {
         assert!(rt; choices_in(alloc, &fields(alloc, text)?)?.is_none());
+    }
+    Ok(())
+}
+
+#[test]
+fn words_of_choices(rt: HostRuntime) -> Result<(), Fail> {
+    for (choice, word) in [
+        (Choice::ReservedLevels, "reserved-levels"),
+        (Choice::StuffException, "stuff-exception"),
+        (Choice::OwnStart, "own-start"),
+        (Choice::FlagErrorOnce, "flag-error-once"),
+        (Choice::OwnOverload, "own-overload"),
+        (Choice::Rec127, "rec-127"),
+        (Choice::RecoveryByItself, "recovery-by-itself"),
+        (Choice::RecoveryRows, "recovery-rows"),
+        (Choice::Prompt, "prompt"),
+    ] {
+        assert_eq!(rt; choice.word(), word);
+    }
+    Ok(())
+}
+
+#[test]
+fn faults_as_they_are_told(rt: HostRuntime) -> Result<(), Fail> {
+    let wrong = KitField::Case {
+        number: 3,
+        part: CaseField::Bits,
+    };
+    for (fault, told) in [
+        (
+            refusal(CaseField::Bits),
+            TraceFault::ScenarioField(Field::Kit(wrong)),
+        ),
+        (KitFault::Memory, TraceFault::Memory),
+    ] {
+        assert_eq!(rt; TraceFault::from(fault), told);
     }
     Ok(())
 }
@@ -233,6 +269,14 @@ fn levels_of_the_tester(rt: HostRuntime) -> Result<(), Fail> {
         ("bits = 6\ntester = [1]", CaseField::Levels(0)),
         ("bits = 6\ntester = [\"1*7\"]", CaseField::Tester),
         ("bits = 6\ntester = [\"1*5\"]", CaseField::Tester),
+        (
+            "bits = 6\ntester = [\"1*100000 1*100000\", \"1*100000\"]",
+            CaseField::Tester,
+        ),
+        (
+            "bits = 6\ntester = [\"1*100000 1*100000\", \"2\"]",
+            CaseField::Levels(1),
+        ),
     ] {
         let read = levels_of_case_3(alloc, &fields(alloc, text)?)?;
         assert_eq!(rt; read.err().ok_or("taken")?, refusal(part), "{text}");

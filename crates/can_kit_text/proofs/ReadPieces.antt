@@ -1,9 +1,9 @@
 -- What the pieces of a text say.
 use Rattle.std.specs.Str.{bytes_eq}
-use Rattle.std.proofs.lemmas.Bool.{false≢true}
+use Rattle.std.proofs.lemmas.Bool.{cases_lt, false≢true}
 use Rattle.std.proofs.lemmas.Slice.Eq.{bytes_eq-Decides}
 use Rattle.std.proofs.Common.{Bool, false, Result, Ok, Err, IfOk, ◌≡◌, ◌≢◌, ℕ, ◌+◌, ◌^◌, ◌<◌, ◌≤◌, ◌⊎◌, take, append-nil, List, [], ◌∷◌, ◌++◌, length, map, get_or, replicate, Option, Bor, MatchOption, decimal, refl, sym, ap, subst, ◌∙◌, inl, inr, arith, append_assoc}
-use Rattle.std.proofs.lemmas.List.{get_or-map, length-map, map-append, take_all, take_more}
+use Rattle.std.proofs.lemmas.List.{get_or-map, length-append, length-map, length-take, length-take-le, map-append, take-append-le, take-take, take_all, take_more}
 use Rattle.std.proofs.lemmas.Fmt.{decimal_injective}
 use Rattle.std.proofs.lemmas.Str.Pattern.{IsSplitOnceResult, split_after}
 use Rattle.can_frame.specs.declared.level.Level.{Level}
@@ -88,21 +88,50 @@ no-count digits count low is out n some few same =
     let equal : count ≡ n = decimal_injective count n (omega (arith, low)) (omega (arith, few)) (sym is ∙ same) in
     elim out [ inl zero ↦ omega (arith, zero, equal, some) | inr many ↦ omega (arith, many, equal, few) ]
 
--- ---- digits, one after another
+-- ---- as many as there is room for
+
+-- what was left out before is left out behind
+pub take-joined : (most : ℕ) (xs ys : List Level) → take most (take most xs ++ ys) ≡ take most (xs ++ ys)
+take-joined most xs ys = elim (cases_lt most (length xs)) [
+  | inl many ↦
+      let few : most ≤ length xs = omega (arith, many) in
+      let full : length (take most xs) ≡ most = length-take-le most xs few in
+      take-append-le most (take most xs) ys (omega (arith, full)) ∙ take-take most most xs (omega arith) ∙ sym (take-append-le most xs ys few)
+  | inr few ↦ ap (λ ls. take most (ls ++ ys)) (take_all most xs few)
+]
+
+pub take-few : (most : ℕ) (xs : List Level) → length (take most xs) ≤ most
+take-few most xs = omega (arith, length-take most xs)
 
 -- so many of these digits are read
-abbrev pub AreRead : List ℕ → ℕ → List Level → List Level → Type 0
-AreRead digits place before after = AddsLevels (λ read. take place digits ≡ map digit_of read) before after
+abbrev pub AreRead : List ℕ → ℕ → ℕ → List Level → List Level → Type 0
+AreRead digits place most before after = AddsLevels (λ read. take place digits ≡ map digit_of read) most before after
 
-pub read-none : (digits : List ℕ) (before : List Level) → AreRead digits 0 before before
-read-none digits before = record { read = []; said = refl; all = sym (append-nil before) }
+pub adds-few : {Says : List Level → Type 0} (most : ℕ) (before after : List Level) → AddsLevels Says most before after → length after ≤ most
+adds-few most before after adds = subst (λ (ls : List Level). length ls ≤ most) (sym adds.all) (take-few most (before ++ adds.read))
 
-pub read-more : (digits : List ℕ) (place : ℕ) (before after : List Level) (level : Level) → place < length digits → digit_of level ≡ get_or digits place 0 → AreRead digits place before after → AreRead digits (place + 1) before (after ++ level ∷ [])
-read-more digits place before after level within is are = record {
+pub read-none : (digits : List ℕ) (most : ℕ) (before : List Level) → length before ≤ most → AreRead digits 0 most before before
+read-none digits most before few = record { read = []; said = refl; all = sym (ap (take most) (append-nil before) ∙ take_all most before few) }
+
+-- one more digit is read, whatever is kept of it
+read-digit : (digits : List ℕ) (place most : ℕ) (before after later : List Level) (level : Level) → place < length digits → digit_of level ≡ get_or digits place 0 → later ≡ take most (after ++ level ∷ [])
+    → AreRead digits place most before after → AreRead digits (place + 1) most before later
+read-digit digits place most before after later level within is kept are = record {
   read = are.read ++ level ∷ [];
   said = take_more digits place 0 within ∙ ap (λ ds. ds ++ get_or digits place 0 ∷ []) are.said ∙ ap (λ d. map digit_of are.read ++ d ∷ []) (sym is) ∙ sym (map-append digit_of are.read (level ∷ []));
-  all = ap (λ ls. ls ++ level ∷ []) are.all ∙ append_assoc before are.read (level ∷ []);
+  all = kept ∙ ap (λ ls. take most (ls ++ level ∷ [])) are.all ∙ take-joined most (before ++ are.read) (level ∷ []) ∙ ap (take most) (append_assoc before are.read (level ∷ []));
 }
+
+pub read-more : (digits : List ℕ) (place most : ℕ) (before after : List Level) (level : Level) → place < length digits → digit_of level ≡ get_or digits place 0 → length after < most
+    → AreRead digits place most before after → AreRead digits (place + 1) most before (after ++ level ∷ [])
+read-more digits place most before after level within is room are =
+    read-digit digits place most before after (after ++ level ∷ []) level within is (sym (take_all most (after ++ level ∷ []) (omega (arith, room, length-append after (level ∷ []))))) are
+
+pub read-past : (digits : List ℕ) (place most : ℕ) (before after : List Level) (level : Level) → place < length digits → digit_of level ≡ get_or digits place 0 → most ≤ length after
+    → AreRead digits place most before after → AreRead digits (place + 1) most before after
+read-past digits place most before after level within is full are =
+    let few = adds-few most before after are in
+    read-digit digits place most before after after level within is (sym (take-append-le most after (level ∷ []) full ∙ take_all most after few)) are
 
 -- a digit that is no level's
 pub read-other : (digits : List ℕ) (place : ℕ) → place < length digits → ((level : Level) → digit_of level ≢ get_or digits place 0) → (read : List Level) → digits ≢ map digit_of read
@@ -110,8 +139,8 @@ read-other digits place within none read is =
     let inside : place < length read = omega (arith, within, ap length is, length-map read digit_of) in
     none (get_or read place Dominant) (sym (get_or-map digit_of read place Dominant 0 inside) ∙ ap (λ ds. get_or ds place 0) (sym is))
 
-pub read-all : (digits : List ℕ) (place : ℕ) (before after : List Level) → length digits ≤ place → AreRead digits place before after → AddsLevels (λ read. digits ≡ map digit_of read) before after
-read-all digits place before after past are = record { read = are.read; said = sym (take_all place digits past) ∙ are.said; all = are.all }
+pub read-all : (digits : List ℕ) (place most : ℕ) (before after : List Level) → length digits ≤ place → AreRead digits place most before after → AddsLevels (λ read. digits ≡ map digit_of read) most before after
+read-all digits place most before after past are = record { read = are.read; said = sym (take_all place digits past) ∙ are.said; all = are.all }
 
 -- ---- what is no number, and no piece
 

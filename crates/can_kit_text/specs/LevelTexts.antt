@@ -1,5 +1,5 @@
 -- The levels that a text says: tokens, parted by blanks. (docs/CONFORMANCE.md)
-use Rattle.std.specs.Prelude.{ℕ, ◌≡◌, ◌⊎◌, ◌==◌, ◌≤◌, ◌<◌, List, [], ◌∷◌, ◌++◌, length, map, codes, decimal, replicate}
+use Rattle.std.specs.Prelude.{ℕ, ◌≡◌, ◌⊎◌, ◌==◌, ◌≤◌, ◌<◌, List, [], ◌∷◌, ◌++◌, length, map, take, codes, decimal, replicate}
 use Rattle.std.specs.List.{slice_split}
 use Rattle.can_frame.specs.declared.level.Level.{Level}
 use Rattle.can_stream.specs.Digits.{digit_of}
@@ -35,8 +35,8 @@ pub record SaysLevels (text : List ℕ) (levels : List Level) : Type 0 where
   pub some : 0 < length levels
   pub pieces : SayPieces (pieces_of text) levels
 
--- behind the levels that were there stand those that the text says
-pub record AddsLevels (Says : List Level → Type 0) (before after : List Level) : Type 0 where
+-- behind the levels that were there stand those that are said, as far as they are then at most so many
+pub record AddsLevels (Says : List Level → Type 0) (most : ℕ) (before after : List Level) : Type 0 where
   pub read : List Level
   pub said : Says read
-  pub all : after ≡ before ++ read
+  pub all : after ≡ take most (before ++ read)

@@ -1,5 +1,5 @@
 //! The levels that a text says.
-ghost use Rattle.std.specs.Prelude.{ℕ, ◌≡◌, ◌≢◌, ◌<◌, ◌≤◌, ◌^◌, List, decimal, false, map, replicate, true, IfOk, MatchOption};
+ghost use Rattle.std.specs.Prelude.{ℕ, ◌≡◌, ◌≢◌, ◌<◌, ◌≤◌, ◌^◌, List, decimal, false, length, map, replicate, true, IfOk, MatchOption};
 ghost use Rattle.can_frame.specs.declared.level.Level.{Level as LevelSaid};
 ghost use Rattle.can_stream.specs.Digits.{digit_of};
 ghost use Rattle.can_kit_text.specs.LevelTexts.{longest_run, AddsLevels, IsRun, SaysLevels, SaysPiece};
@@ -11,44 +11,55 @@ use std::alloc::AllocError;
 /// How many levels a token `L*N` has at most.
 const LONGEST_RUN: u32 = 100_000;
 
-/// Appends the levels that a text says, and answers whether it says some.
-pub fn read_levels(levels: &mut Vec<Level>, text: &str) -> Result<bool, AllocError>
-    ensures said { IfOk result (λ said. said ≡ true → AddsLevels (SaysLevels text.now) levels.old.items levels.new.items) }
+/// Appends the levels that a text says, as far as the list then has at most so many, and answers whether it says
+/// some. The others are read too, and not kept.
+pub fn read_levels(levels: &mut Vec<Level>, most: usize, text: &str) -> Result<bool, AllocError>
+    requires { length levels.old.items ≤ most }
+    ensures said { IfOk result (λ said. said ≡ true → AddsLevels (SaysLevels text.now) most levels.old.items levels.new.items) }
     ensures none { IfOk result (λ said. said ≡ false → (read : List LevelSaid) → ¬ SaysLevels text.now read) }
+    ensures few { IfOk result (λ said. length levels.new.items ≤ most) }
 {
-    let before = levels.len();
+    let mut some = false;
     for piece in text.split(' ') {
-        if !read_piece(levels, piece)? {
+        if !read_piece(levels, most, piece)? {
             return Ok(false);
         }
+        some = some || !piece.is_empty();
     }
-    Ok(before < levels.len())
+    Ok(some)
 }
 
-/// Appends the levels that stand between two blanks, and answers whether these are levels.
-fn read_piece(levels: &mut Vec<Level>, piece: &str) -> Result<bool, AllocError>
-    ensures said { IfOk result (λ said. said ≡ true → AddsLevels (SaysPiece piece.now) levels.old.items levels.new.items) }
+/// Appends the levels that stand between two blanks, as far as there is room, and answers whether these are levels.
+fn read_piece(levels: &mut Vec<Level>, most: usize, piece: &str) -> Result<bool, AllocError>
+    requires { length levels.old.items ≤ most }
+    ensures said { IfOk result (λ said. said ≡ true → AddsLevels (SaysPiece piece.now) most levels.old.items levels.new.items) }
     ensures none { IfOk result (λ said. said ≡ false → (read : List LevelSaid) → ¬ SaysPiece piece.now read) }
+    ensures few { IfOk result (λ said. length levels.new.items ≤ most) }
 {
     let Some((level, count)) = run_in(piece) else {
-        return read_digits(levels, piece.as_bytes());
+        return read_digits(levels, most, piece.as_bytes());
     };
-    for _ in 0..count {
+    let room = most - levels.len();
+    for _ in 0..room.min(count as usize) {
         levels.push(level)?;
     }
     Ok(true)
 }
 
-/// Appends the levels whose digits these are, and answers whether they are digits of levels.
-fn read_digits(levels: &mut Vec<Level>, digits: &[u8]) -> Result<bool, AllocError>
-    ensures said { IfOk result (λ said. said ≡ true → AddsLevels (λ read. digits.now ≡ map digit_of read) levels.old.items levels.new.items) }
+/// Appends the levels whose digits these are, as far as there is room, and answers whether they are digits of levels.
+fn read_digits(levels: &mut Vec<Level>, most: usize, digits: &[u8]) -> Result<bool, AllocError>
+    requires { length levels.old.items ≤ most }
+    ensures said { IfOk result (λ said. said ≡ true → AddsLevels (λ read. digits.now ≡ map digit_of read) most levels.old.items levels.new.items) }
     ensures none { IfOk result (λ said. said ≡ false → (read : List LevelSaid) → digits.now ≢ map digit_of read) }
+    ensures few { IfOk result (λ said. length levels.new.items ≤ most) }
 {
     for digit in digits {
         let Some(level) = level_of(*digit) else {
             return Ok(false);
         };
-        levels.push(level)?;
+        if levels.len() < most {
+            levels.push(level)?;
+        }
     }
     Ok(true)
 }

@@ -80,14 +80,18 @@ fn a_state_and_its_counters(rt: HostRuntime) -> Result<(), Fail> {
 /// The digits of the levels that a text says; nothing where it says none.
 fn read(alloc: Global, text: &str) -> Result<Option<Vec<u8>>, AllocError> {
     let mut levels = Vec::new(alloc);
-    if !read_levels(&mut levels, text)? {
+    if !read_levels(&mut levels, 100_000, text)? {
         return Ok(None);
     }
-    let digits = levels
+    Ok(Some(digits_of(alloc, &levels)?))
+}
+
+/// The digits of levels.
+fn digits_of(alloc: Global, levels: &[Level]) -> Result<Vec<u8>, AllocError> {
+    levels
         .iter()
         .map(|level| if level.is_recessive() { b'1' } else { b'0' })
-        .collect(alloc)?;
-    Ok(Some(digits))
+        .collect(alloc)
 }
 
 #[test]
@@ -104,6 +108,29 @@ fn texts_that_say_levels(rt: HostRuntime) -> Result<(), Fail> {
     }
     let most = read(rt.alloc(), "1*100000")?.ok_or("no levels")?;
     assert_eq!(rt; most.len(), 100_000);
+    Ok(())
+}
+
+/// Behind two levels that are there; a text that says none may have appended some.
+#[test]
+fn levels_as_far_as_there_is_room(rt: HostRuntime) -> Result<(), Fail> {
+    let alloc = rt.alloc();
+    for (most, text, says, kept) in [
+        (6, "0101", true, "110101"),
+        (5, "0101", true, "11010"),
+        (3, "0 1*100000 1*100000", true, "110"),
+        (5, "1*100000 0", true, "11111"),
+        (2, "1*8", true, "11"),
+        (2, " ", false, "11"),
+        (4, "0*8 2", false, "1100"),
+    ] {
+        let mut levels = Vec::new(alloc);
+        levels.push(Level::Recessive)?;
+        levels.push(Level::Recessive)?;
+        assert_eq!(rt; read_levels(&mut levels, most, text)?, says, "{text}");
+        let digits = digits_of(alloc, &levels)?;
+        assert_eq!(rt; digits.as_slice(), kept.as_bytes(), "{text}");
+    }
     Ok(())
 }
 

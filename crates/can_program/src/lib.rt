@@ -1,19 +1,19 @@
-//! What the programs share: the words of a command line, why a run did not do all that it was asked, its line on
-//! standard error and its exit status. (docs/CODES.md)
+//! What the programs share: a run in its process, why a run did not do all that it was asked, its line on standard
+//! error and its exit status. (docs/CODES.md)
 //!
 //! | File | What it has | Defined in |
 //! |---|---|---|
 //! | `fault.rt` | [`RunFault`], the faults, their texts and statuses | `specs/Status.antt` |
 //! | `ending.rt` | [`conclude`] and [`refuse`], how a run ends; [`write_help`] | `specs/Status.antt` |
-//! | `words.rt` | [`command_line`], the words of the process | |
+//! | `process.rt` | [`run_program`], a run on the words and streams of its process; [`words_or_status`] | `specs/Status.antt` |
 #![tactic(auto)]
 
 mod ending;
 mod fault;
+mod process;
 #[cfg(test)]
 mod tests;
-mod words;
 
 pub use ending::{conclude, refuse, write_help};
 pub use fault::RunFault;
-pub use words::command_line;
+pub use process::{run_program, words_or_status};

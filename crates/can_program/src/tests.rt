@@ -1,7 +1,7 @@
 //! Faults, their lines and statuses.
 ghost use Rattle.std.specs.Prelude.{◌≡◌, false};
 
-use crate::{RunFault, conclude, refuse, write_help};
+use crate::{RunFault, conclude, refuse, words_or_status, write_help};
 use can_stream::pieces::{ROOM, Stop, Taker, writer_of};
 use can_stream::{Field, KitField, PortField, ToWrite, TraceFault, TranscriptField};
 use std::alloc::Global;
@@ -93,5 +93,35 @@ fn words_that_could_not_be_read(rt: HostRuntime) {
         (ErrorKind::OutOfMemory, RunFault::Memory),
     ] {
         assert_eq!(rt; RunFault::of_words(&Error::from(kind)), fault);
+    }
+}
+
+/// Words that were read are handed on, and nothing is told.
+#[test]
+fn words_that_were_read(rt: HostRuntime) -> Result<(), Fail> {
+    let mut words = Vec::new(rt.alloc());
+    words.push(String::from_str(rt.alloc(), "canbit")?)?;
+    words.push(String::from_str(rt.alloc(), "encode")?)?;
+    let mut told = errors(rt.alloc(), ROOM);
+    let read = words_or_status("canbit", Ok(words), &mut told).map(|words| words
+        .iter()
+        .map(String::len)
+        .sum::<usize>());
+    assert_eq!(rt; read, Ok(12));
+    assert_eq!(rt; told.into_inner().taken.len(), 0);
+    Ok(())
+}
+
+/// Where they could not be read, the run ends with the line and the status of that fault.
+#[test]
+fn words_that_could_not_be_read_end_the_run(rt: HostRuntime) {
+    for (kind, status, line) in [
+        (ErrorKind::InvalidData, 2, "canhold: usage\n"),
+        (ErrorKind::OutOfMemory, 4, "canhold: P5 memory\n"),
+    ] {
+        let mut told = errors(rt.alloc(), ROOM);
+        let read = words_or_status("canhold", Err(Error::from(kind)), &mut told);
+        assert_eq!(rt; read.err(), Some(status));
+        assert_eq!(rt; told.into_inner().taken.as_slice(), line.as_bytes());
     }
 }

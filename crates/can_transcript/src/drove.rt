@@ -37,7 +37,8 @@ pub(crate) fn read_drove(
     let Some(values) = strings_in(fields) else {
         return Err(in_transcript(number, TranscriptField::Drove));
     };
-    let levels = match read_strings(alloc, values) {
+    // One level more than there may be shows that there are too many.
+    let levels = match read_strings(alloc, MOST_LEVELS + 1, values) {
         Ok(levels) => levels,
         Err(ElementFault::At(place)) => {
             return Err(in_transcript(number, TranscriptField::Levels(place)));

@@ -174,6 +174,14 @@ fn levels_that_were_driven(rt: HostRuntime) -> Result<(), Fail> {
         ("drove = [\"01\", \"f\"]", TranscriptField::Levels(1)),
         ("drove = [1]", TranscriptField::Levels(0)),
         ("drove = [\"1*60000\", \"1*40001\"]", TranscriptField::Drove),
+        (
+            "drove = [\"1*100000 1*100000\", \"1*100000\"]",
+            TranscriptField::Drove,
+        ),
+        (
+            "drove = [\"1*100000 1*100000\", \"\"]",
+            TranscriptField::Levels(1),
+        ),
     ] {
         let text = format!(in alloc; "[[transcript]]\nversion = 1\ncase = \"one\"\n{fields}\n")?;
         assert_eq!(rt; refusal(alloc, &text)?, refused(0, part), "{fields}");

@@ -1,12 +1,12 @@
 -- What a stream's fault says of what was read and written.
 use Rattle.std.proofs.Common.{◌≡◌, ◌⊎◌, arith, inl, inr, refl, ℕ, Bool, List, Option, Err}
 use Rattle.std.specs.Result.{IsErrOf}
-use Rattle.can_trace.specs.Checked.{ChecksAll}
-use Rattle.can_trace.specs.Told.{Told}
+use Rattle.can_lines.specs.Checked.{ChecksAll}
+use Rattle.can_stream.specs.Told.{Told}
 use Rattle.can_stream.specs.declared.fault.TraceFault.{TraceFault}
 use Rattle.can_stream.specs.declared.fault.TraceFault.TheVariants.{BadByte, ScenarioField, Read, Write, Memory, Long, FrameLine}
 use Rattle.can_program.specs.declared.fault.RunFault.TheVariants.{Stream}
-use Rattle.canbit.specs.declared.subcommands.Chosen.{Chosen}
+use Rattle.canbit_words.specs.declared.subcommands.Chosen.{Chosen}
 use Rattle.canbit.specs.Answers.{AnswersTooLong, HasBadByte, HasBadLine, HasWrongField, PassesAll, RefusesInput}
 use Rattle.can_program.specs.Status.{status_of}
 

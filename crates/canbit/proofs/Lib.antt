@@ -1,4 +1,2 @@
-pub mod Walks
-pub mod Parses
 pub mod Faults
 pub mod Runs

@@ -1,10 +1,10 @@
 -- What was read and written of a scenario that was run.
 use Rattle.std.proofs.Common.{◌≡◌, refl, subst, sym, ℕ, List, Option, Result, Ok, Err, OnOk}
 use Rattle.std.specs.Io.KnownBytes.{Appends, Consumes}
-use Rattle.can_trace.specs.Outbox.{TakesFront}
-use Rattle.can_trace.specs.Report.{report}
-use Rattle.can_trace.specs.Scenarios.{IsScenarioText}
-use Rattle.can_trace.specs.Told.{Told}
+use Rattle.can_stream.specs.Outbox.{TakesFront}
+use Rattle.can_scenario.specs.Report.{report}
+use Rattle.can_scenario.specs.Scenarios.{IsScenarioText}
+use Rattle.can_stream.specs.Told.{Told}
 use Rattle.can_scenario.specs.declared.scenario.Scenario.{Scenario}
 use Rattle.canbit.specs.Answers.{BeginsReport, Reports}
 

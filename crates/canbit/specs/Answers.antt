@@ -1,14 +1,14 @@
 -- What each subcommand has written of what it read, for each way in which it can end. (docs/FORMATS.md)
 use Rattle.std.specs.Prelude.{◌≡◌, ◌≢◌, ◌⊎◌, ℕ, Bool, IsTrue, List, [], ◌++◌}
-use Rattle.can_trace.specs.Checked.{BeginsChecking, ChecksAll, ChecksEnded, ChecksTooLong, IsFirstBadByte, IsFirstBadVectorLine}
-use Rattle.can_trace.specs.Coded.{BeginsEncoding, EncodesAll, EncodesEnded, EncodesTooLong, IsFirstBadLine}
-use Rattle.can_trace.specs.Decoded.{BeginsDecoding, DecodesAll, DecodesSoFar, DecodesToBadByte, DecodesTooLong}
-use Rattle.can_trace.specs.Report.{report}
-use Rattle.can_trace.specs.Scenarios.{IsFirstWrong, IsScenarioText}
+use Rattle.can_lines.specs.Checked.{BeginsChecking, ChecksAll, ChecksEnded, ChecksTooLong, IsFirstBadByte, IsFirstBadVectorLine}
+use Rattle.can_lines.specs.Coded.{BeginsEncoding, EncodesAll, EncodesEnded, EncodesTooLong, IsFirstBadLine}
+use Rattle.can_decode.specs.Decoded.{BeginsDecoding, DecodesAll, DecodesSoFar, DecodesToBadByte, DecodesTooLong}
+use Rattle.can_scenario.specs.Report.{report}
+use Rattle.can_scenario.specs.Scenarios.{IsFirstWrong, IsScenarioText}
 use Rattle.can_scenario.specs.declared.scenario.Scenario.{Scenario}
 use Rattle.can_stream.specs.declared.field.Field.{Field}
-use Rattle.canbit.specs.declared.subcommands.Chosen.{Chosen}
-use Rattle.canbit.specs.declared.subcommands.Chosen.TheVariants.{Encode, Decode, Run, Check}
+use Rattle.canbit_words.specs.declared.subcommands.Chosen.{Chosen}
+use Rattle.canbit_words.specs.declared.subcommands.Chosen.TheVariants.{Encode, Decode, Run, Check}
 
 -- the output is the answer to vectors that all pass
 abbrev pub PassesAll : List ℕ → List ℕ → Type 0

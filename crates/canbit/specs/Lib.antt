@@ -1,4 +1,2 @@
 -- To believe: what public calls and laws promise is said in these words
-pub mod Subcommands
-pub mod Words
 pub mod Answers

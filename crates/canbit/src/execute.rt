@@ -1,17 +1,18 @@
 //! What the program does, over any streams.
 ghost use Rattle.std.specs.Prelude.{◌≡◌, ◌≢◌, ◌⊎◌, ◌<◌, ◌∷◌, [], false, IsTrue, IsFalse, List, ℕ};
 ghost use Rattle.std.specs.Io.KnownBytes.{Appends, IsAtEnd};
-ghost use Rattle.can_trace.specs.Told.{Told};
+ghost use Rattle.can_stream.specs.Told.{Told};
 ghost use Rattle.canbit.specs.Answers.{AnswersAll, AnswersEnded, BeginsAnswering, HasBadByte, RefusesInput};
 ghost use Rattle.can_program.specs.Status.{exit_status};
-ghost use Rattle.canbit.specs.Subcommands.{name_of};
-ghost use Rattle.canbit.specs.Words.{AsksFor, AsksForHelp, AsksForOne, IsMisuse, texts_of};
+ghost use Rattle.canbit_words.specs.Subcommands.{name_of};
+ghost use Rattle.canbit_words.specs.Words.{AsksFor, AsksForHelp, AsksForOne, IsMisuse, texts_of};
 
 use crate::run::run;
-use crate::subcommands::Chosen;
-use crate::words::{WordFault, chosen};
+use can_decode::decode_stream;
+use can_lines::{check_lines, encode_lines};
 use can_program::{RunFault, conclude, refuse, write_help};
-use can_trace::{Sink, Source, check_lines, decode_stream, encode_lines};
+use can_stream::{Sink, Source};
+use canbit_words::{Chosen, WordFault, chosen};
 use std::alloc::Global;
 
 /// The program's name, before the line of a fault.

@@ -1,11 +1,12 @@
 //! Running the scenario that a reader tells.
 ghost use Rattle.std.specs.Prelude.{◌≡◌, ◌↔◌, ℕ, false, IsErrOf, IsTrue, OnOk};
 ghost use Rattle.std.specs.Io.KnownBytes.{IsAtEnd};
-ghost use Rattle.can_trace.specs.Told.{Told};
+ghost use Rattle.can_stream.specs.Told.{Told};
 ghost use Rattle.can_stream.specs.declared.field.Field.{Field};
 ghost use Rattle.canbit.specs.Answers.{BeginsReport, RefusesScenario, Reports, WritesNothing};
 
-use can_trace::{Scenario, Sink, Source, TraceFault, read_whole, run_scenario};
+use can_scenario::{Scenario, run_scenario};
+use can_stream::{Sink, Source, TraceFault, read_whole};
 use std::alloc::Global;
 
 /// Reads a scenario up to the reader's end, runs it, and writes its report. Nothing is written where

@@ -2,7 +2,6 @@
 mod execute;
 mod run;
 mod streams;
-mod words;
 
 use std::alloc::{AllocError, Global};
 

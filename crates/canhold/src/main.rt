@@ -15,23 +15,12 @@ mod help;
 mod tests;
 mod words;
 
-use can_program::{RunFault, command_line, refuse};
-use can_stream::{FromRead, ToWrite};
+use can_program::run_program;
 use std::process::ExitCode;
 
 fn main(rt: HostRuntime) -> ExitCode {
-    let mut reader = FromRead::new(rt.stdin());
-    let mut writer = ToWrite::new(rt.stdout());
-    let mut errors = ToWrite::new(rt.stderr());
-    let status = match command_line(&rt) {
-        Ok(words) => execute::execute(
-            rt.alloc(),
-            words.as_slice(),
-            &mut reader,
-            &mut writer,
-            &mut errors,
-        ),
-        Err(error) => refuse(execute::NAME, RunFault::of_words(&error), &mut errors),
-    };
-    ExitCode::from(status)
+    let alloc = rt.alloc();
+    run_program(rt, execute::NAME, |words, reader, writer, errors| {
+        execute::execute(alloc, words.as_slice(), reader, writer, errors)
+    })
 }

@@ -125,6 +125,7 @@ fn documents_refused(rt: HostRuntime) -> Result<(), Fail> {
             text.as_slice(),
             b"canhold: P2 transcript\n".as_slice(),
         ),
+        ("expect", b"transcript = []\n", b"canhold: P2 transcript\n"),
         ("judge", b"[[cases]]\n", b"canhold: P2 key\n"),
         (
             "judge",

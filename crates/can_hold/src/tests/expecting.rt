@@ -6,7 +6,7 @@ use super::tables::{
 use super::{changed, joined, of_case, told};
 use crate::expecting::expected;
 use crate::judging::judged;
-use can_stream::{CaseField, KitField};
+use can_stream::{CaseField, KitField, TranscriptField};
 use std::test::Fail;
 
 #[test]
@@ -72,6 +72,59 @@ fn documents_that_are_refused(rt: HostRuntime) -> Result<(), Fail> {
         let text = joined(alloc, &parts)?;
         let refused = expected(alloc, text.as_bytes()).err().ok_or("taken")?;
         assert_eq!(rt; refused, fault, "{text}");
+    }
+    Ok(())
+}
+
+/// TOML takes no tables of a list behind these spellings of it, so no answer could stand behind them.
+#[test]
+fn lists_of_transcripts_that_are_there_already(rt: HostRuntime) -> Result<(), Fail> {
+    let alloc = rt.alloc();
+    for list in [
+        "transcript = []\n",
+        "'transcript' = [  # none\n]\n",
+        "transcript = {}\n",
+        "transcript.x = 1\n",
+        "[transcript]\n",
+        "[transcript.x]\n",
+        "[[transcript.x]]\n",
+    ] {
+        let text = joined(alloc, &[list, FORM_ERROR])?;
+        let refused = expected(alloc, text.as_bytes()).err().ok_or("taken")?;
+        assert_eq!(rt; refused, told(KitField::Transcripts), "{list}");
+    }
+    Ok(())
+}
+
+/// What the document has to meet anyway is told before the list.
+#[test]
+fn faults_before_that_list(rt: HostRuntime) -> Result<(), Fail> {
+    let alloc = rt.alloc();
+    for (text, fault) in [
+        ("transcript = []\ntranscript = []", KitField::Document),
+        (
+            "transcript = []\n[[transcript]]\nversion = 1",
+            KitField::Document,
+        ),
+        ("transcript = []\nspeed = 1", KitField::Unknown),
+        ("transcript = []\ncase = 1", KitField::Cases),
+        (
+            "transcript = []\ncase = [1]",
+            KitField::Case {
+                number: 0,
+                part: CaseField::Table,
+            },
+        ),
+        (
+            "[[transcript]]",
+            KitField::Transcript {
+                number: 0,
+                part: TranscriptField::Version,
+            },
+        ),
+    ] {
+        let refused = expected(alloc, text.as_bytes()).err().ok_or("taken")?;
+        assert_eq!(rt; refused, told(fault), "{text}");
     }
     Ok(())
 }

@@ -61,7 +61,7 @@ fn counters(transmit: u16, receive: u16) -> Counters {
 /// A transcript with the levels that a text says, and nothing else.
 fn driving(alloc: Global, text: &str) -> Result<Transcript, AllocError> {
     let mut drove = Vec::new(alloc);
-    let _ = read_levels(&mut drove, text)?;
+    let _ = read_levels(&mut drove, 100_000, text)?;
     Ok(Transcript {
         drove,
         events: None,

@@ -1,7 +1,7 @@
 //! Streams that give and take bytes as a test says, and runs over them.
 use super::command_line;
 use crate::execute::execute;
-use can_trace::{FromRead, ToWrite};
+use can_stream::{FromRead, ToWrite};
 use std::alloc::Global;
 use std::io::{self, ErrorKind, Read, Write};
 use std::process::Abort;

@@ -1,4 +1,5 @@
-use Rattle.std.proofs.Common.{◌≡◌, ◌≢◌, ℕ, List, length, map, subst, arith, rules}
+use Rattle.std.proofs.Common.{◌≡◌, ◌≢◌, ◌+◌, ℕ, List, ap, length, map, subst, arith, rules}
+use Rattle.std.proofs.lemmas.List.{length-take}
 use Rattle.toml.specs.Data.{Data, table}
 use Rattle.toml.specs.View.{table_view, view}
 use Rattle.can_stream.specs.declared.kit_field.KitField.{KitField}
@@ -6,6 +7,7 @@ use Rattle.can_stream.specs.declared.kit_field.CaseField.TheVariants as of_case
 use Rattle.can_toml.specs.Demands.{AllMet, IsFirstUnmet}
 use Rattle.can_kit.specs.Cases.{tester_demands, told}
 use Rattle.can_kit.specs.Lists.{strings_demands, SayStrings}
+use Rattle.can_kit.proofs.Strings.{all-said}
 use Rattle.can_kit.proofs.TesterParts.{tester-long, tester-met, tester-strings}
 use Rattle.can_kit.proofs.tester.read_tester.Goals as goal
 
@@ -24,11 +26,13 @@ returns-then-len-bits-clause-unmet c = λ wrong is.
     let d = table (table_view c.args.fields.now) in
     let fields = λ (place : ℕ). told c.args.number (of_case.Levels place) in
     let same : told c.args.number of_case.Tester ≡ wrong = cc in
-    let long : length c.in-Ok.levels.items ≢ c.args.bits = omega arith in
+    let said = c.in-Ok.ensures.said in
+    let other : length c.in-Ok.levels.items ≢ c.args.bits = omega arith in
+    let long : length said.0 ≢ c.args.bits = λ same. other (omega (arith, same, ap length said.2, length-take (c.args.bits + 1) said.0)) in
     subst (λ (w : KitField). IsFirstUnmet w (tester_demands c.args.number d)) same
-    (tester-long c.args.number d c.in-Some.ensures.met c.in-Ok.levels.items c.args.bits
+    (tester-long c.args.number d c.in-Some.ensures.met said.0 c.args.bits
     (subst (λ (ds : List Data). AllMet (strings_demands fields ds)) c.in-Some.ensures.said (c.in-Ok.ensures.met fields))
-    (subst (λ (ds : List Data). SayStrings ds c.in-Ok.levels.items) c.in-Some.ensures.said c.in-Ok.ensures.said) c.requires long)
+    (subst (λ (ds : List Data). SayStrings ds said.0) c.in-Some.ensures.said said.1) c.requires long)
 
 pub returns-clause-met : goal.returns-clause-met
 returns-clause-met c =
@@ -37,4 +41,8 @@ returns-clause-met c =
     let long : length c.in-Ok.levels.items ≡ c.args.bits = omega arith in
     tester-met c.args.number d c.in-Some.ensures.met c.in-Ok.levels.items c.args.bits
     (subst (λ (ds : List Data). AllMet (strings_demands fields ds)) c.in-Some.ensures.said (c.in-Ok.ensures.met fields))
-    (subst (λ (ds : List Data). SayStrings ds c.in-Ok.levels.items) c.in-Some.ensures.said c.in-Ok.ensures.said) c.requires long
+    (subst (λ (ds : List Data). SayStrings ds c.in-Ok.levels.items) c.in-Some.ensures.said (all-said (map view c.in-Some.values.now) (c.args.bits + 1) c.in-Ok.levels.items (omega arith) c.in-Ok.ensures.said)) c.requires long
+
+pub returns-clause-said : goal.returns-clause-said
+returns-clause-said c =
+    subst (λ (ds : List Data). SayStrings ds c.in-Ok.levels.items) c.in-Some.ensures.said (all-said (map view c.in-Some.values.now) (c.args.bits + 1) c.in-Ok.levels.items (omega arith) c.in-Ok.ensures.said)

@@ -1,10 +1,12 @@
-use Rattle.std.proofs.Common.{◌≡◌, ◌<◌, ◌≤◌, ℕ, List, length, map, subst, arith, rules}
+use Rattle.std.proofs.Common.{◌≡◌, ◌+◌, ◌<◌, ◌≤◌, ℕ, List, ap, length, map, subst, arith, rules}
+use Rattle.std.proofs.lemmas.List.{length-take}
 use Rattle.toml.specs.Data.{Data, table}
 use Rattle.toml.specs.View.{table_view, view}
 use Rattle.can_stream.specs.declared.kit_field.KitField.{KitField}
 use Rattle.can_stream.specs.declared.kit_field.TranscriptField.TheVariants as of_transcript
 use Rattle.can_toml.specs.Demands.{AllMet, IsFirstUnmet}
 use Rattle.can_kit.specs.Lists.{strings_demands, SayStrings}
+use Rattle.can_kit.proofs.Strings.{all-said}
 use Rattle.can_transcript.specs.Transcripts.{drove_demands, most_levels, told}
 use Rattle.can_transcript.proofs.DroveParts.{drove-many, drove-met, drove-strings}
 use Rattle.can_transcript.proofs.drove.read_drove.Goals as goal
@@ -24,11 +26,12 @@ returns-then-len-gt-MOST_LEVELS-clause-unmet c = λ wrong is.
     let d = table (table_view c.args.fields.now) in
     let fields = λ (place : ℕ). told c.args.number (of_transcript.Levels place) in
     let same : told c.args.number of_transcript.Drove ≡ wrong = cc in
-    let many : most_levels < length c.in-Ok.levels.items = omega arith in
+    let said = c.in-Ok.ensures.said in
+    let many : most_levels < length said.0 = omega (arith, ap length said.2, length-take (most_levels + 1) said.0) in
     subst (λ (w : KitField). IsFirstUnmet w (drove_demands c.args.number d)) same
-    (drove-many c.args.number d c.in-Some.ensures.met c.in-Ok.levels.items
+    (drove-many c.args.number d c.in-Some.ensures.met said.0
     (subst (λ (ds : List Data). AllMet (strings_demands fields ds)) c.in-Some.ensures.said (c.in-Ok.ensures.met fields))
-    (subst (λ (ds : List Data). SayStrings ds c.in-Ok.levels.items) c.in-Some.ensures.said c.in-Ok.ensures.said) many)
+    (subst (λ (ds : List Data). SayStrings ds said.0) c.in-Some.ensures.said said.1) many)
 
 pub returns-clause-met : goal.returns-clause-met
 returns-clause-met c =
@@ -37,4 +40,8 @@ returns-clause-met c =
     let few : length c.in-Ok.levels.items ≤ most_levels = omega arith in
     drove-met c.args.number d c.in-Some.ensures.met c.in-Ok.levels.items
     (subst (λ (ds : List Data). AllMet (strings_demands fields ds)) c.in-Some.ensures.said (c.in-Ok.ensures.met fields))
-    (subst (λ (ds : List Data). SayStrings ds c.in-Ok.levels.items) c.in-Some.ensures.said c.in-Ok.ensures.said) few
+    (subst (λ (ds : List Data). SayStrings ds c.in-Ok.levels.items) c.in-Some.ensures.said (all-said (map view c.in-Some.values.now) (most_levels + 1) c.in-Ok.levels.items (omega arith) c.in-Ok.ensures.said)) few
+
+pub returns-clause-said : goal.returns-clause-said
+returns-clause-said c =
+    subst (λ (ds : List Data). SayStrings ds c.in-Ok.levels.items) c.in-Some.ensures.said (all-said (map view c.in-Some.values.now) (most_levels + 1) c.in-Ok.levels.items (omega arith) c.in-Ok.ensures.said)

@@ -2,7 +2,7 @@ use Rattle.std.proofs.Common.{◌≡◌, ap, rules, Err}
 use Rattle.canbit.proofs.Faults.{passes_all, read_told, refused, weaker}
 use Rattle.canbit.specs.Answers.{HasBadLine, HasWrongField}
 use Rattle.can_program.specs.declared.fault.RunFault.TheVariants.{Stream}
-use Rattle.canbit.specs.declared.subcommands.Chosen.TheVariants.{Encode, Decode, Run, Check}
+use Rattle.canbit_words.specs.declared.subcommands.Chosen.TheVariants.{Encode, Decode, Run, Check}
 use Rattle.canbit.proofs.execute.answer.Goals as goal
 
 pub returns-in_err-encode_lines-in-Encode-clause-input_refused : goal.returns-in_err-encode_lines-in-Encode-clause-input_refused

@@ -5,8 +5,8 @@ use Rattle.can_toml.specs.Demands.{IsFirstUnmet}
 use Rattle.can_hold.specs.Documents.{document_demands}
 use Rattle.can_hold.proofs.document.Document.from_text.Goals as goal
 
-pub returns-in_err-read_tables-in-Ok-clause-wrong : goal.returns-in_err-read_tables-in-Ok-clause-wrong
-returns-in_err-read_tables-in-Ok-clause-wrong c = λ wrong is.
-    let d = table (table_view c.in-Ok.fields) in
+pub returns-in_err-read_tables-clause-wrong : goal.returns-in_err-read_tables-clause-wrong
+returns-in_err-read_tables-clause-wrong c = λ wrong is.
+    let d = table (table_view c.in_ok-fields.fields) in
     let here : IsFirstUnmet wrong (document_demands d) = search rules in
-    inr (d, c.in-Ok.ensures.said, here)
+    inr (d, c.in_ok-fields.ensures.said, here)

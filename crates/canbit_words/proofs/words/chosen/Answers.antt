@@ -1,7 +1,7 @@
 use Rattle.std.proofs.Common.{ap, inr, rules, Err}
-use Rattle.canbit.specs.Words.{texts_of}
-use Rattle.canbit.proofs.Parses.{alone_asks, misuse}
-use Rattle.canbit.proofs.words.chosen.Goals as goal
+use Rattle.canbit_words.specs.Words.{texts_of}
+use Rattle.canbit_words.proofs.Parses.{alone_asks, misuse}
+use Rattle.canbit_words.proofs.words.chosen.Goals as goal
 
 pub returns-in-Ok-clause-alone : goal.returns-in-Ok-clause-alone
 returns-in-Ok-clause-alone c name chosen is =

@@ -6,8 +6,8 @@ use Rattle.std.specs.declared.string.String.{String}
 use Rattle.clap.specs.Words.{IsAmong, Kinds, Text, fault_of, subcommand_of}
 use Rattle.clap.specs.declared.error.kind.ErrorKind.{ErrorKind}
 use Rattle.clap.specs.declared.error.kind.ErrorKind.TheVariants.{DisplayHelp}
-use Rattle.canbit.specs.declared.subcommands.Chosen.{Chosen}
-use Rattle.canbit.specs.Subcommands.{canbit, name_of}
+use Rattle.canbit_words.specs.declared.subcommands.Chosen.{Chosen}
+use Rattle.canbit_words.specs.Subcommands.{canbit, name_of}
 
 -- the words as texts
 abbrev pub texts_of : List (String Global) → List Text

@@ -1,7 +1,7 @@
 use Rattle.std.proofs.Common.{◌≡◌, take, fold}
 use Rattle.clap.specs.Words.{app_of}
-use Rattle.canbit.specs.Subcommands.{subcommands, without_subcommands, with_chosen}
-use Rattle.canbit.proofs.words.command.Given as goal
+use Rattle.canbit_words.specs.Subcommands.{subcommands, without_subcommands, with_chosen}
+use Rattle.canbit_words.proofs.words.command.Given as goal
 
 -- the command with the subcommands so far
 abbrev pub invariant-loop-chosen : goal.invariant-loop-chosen

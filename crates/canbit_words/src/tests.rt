@@ -1,13 +1,26 @@
-use super::command_line;
-use crate::words::{WordFault, chosen};
+//! What words of a command line come to.
+use crate::{Chosen, WordFault, chosen};
 use std::alloc::{AllocError, Global};
 use std::test::Fail;
+
+/// The words of a command line: the program's name and these.
+fn command_line(alloc: Global, words: &[&str]) -> Result<Vec<String>, AllocError> {
+    let mut all = Vec::new(alloc);
+    all.push(String::from_str(alloc, "canbit")?)?;
+    for word in words {
+        all.push(String::from_str(alloc, word)?)?;
+    }
+    Ok(all)
+}
 
 /// What the words come to, in a word.
 fn outcome(alloc: Global, words: &[&str]) -> Result<&'static str, AllocError> {
     let all = command_line(alloc, words)?;
     Ok(match chosen(alloc, all.as_slice()) {
-        Ok(chosen) => chosen.name(),
+        Ok(Chosen::Encode) => "encode",
+        Ok(Chosen::Decode) => "decode",
+        Ok(Chosen::Run) => "run",
+        Ok(Chosen::Check) => "check",
         Err(WordFault::Usage) => "usage",
         Err(WordFault::Help(_)) => "help",
         Err(WordFault::Memory) => "memory",
@@ -16,10 +29,11 @@ fn outcome(alloc: Global, words: &[&str]) -> Result<&'static str, AllocError> {
 
 #[test]
 fn words_name_a_subcommand_or_none(rt: HostRuntime) -> Result<(), Fail> {
-    let runs: [(&[&str], &str); 17] = [
+    let runs: [(&[&str], &str); 18] = [
         (&["encode"], "encode"),
         (&["encode", "--"], "encode"),
         (&["decode"], "decode"),
+        (&["run"], "run"),
         (&["check"], "check"),
         (&[], "usage"),
         (&["--"], "usage"),

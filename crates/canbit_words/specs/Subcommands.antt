@@ -2,8 +2,8 @@
 use Rattle.std.specs.Prelude.{List, [], ◌∷◌, codes, fold, true}
 use Rattle.clap.specs.Words.{App, Text, new_app, with_subcommand}
 use Rattle.clap.specs.Simple.{on_top, new_shape}
-use Rattle.canbit.specs.declared.subcommands.Chosen.{Chosen}
-use Rattle.canbit.specs.declared.subcommands.Chosen.TheVariants.{Encode, Decode, Run, Check}
+use Rattle.canbit_words.specs.declared.subcommands.Chosen.{Chosen}
+use Rattle.canbit_words.specs.declared.subcommands.Chosen.TheVariants.{Encode, Decode, Run, Check}
 
 -- every subcommand, in the order of the help text
 abbrev pub subcommands : List Chosen

@@ -10,11 +10,11 @@ use Rattle.clap.specs.declared.parser.matches.SubCommand.{SubCommand}
 use Rattle.clap.specs.Simple.{subcommand_rows}
 use Rattle.std.specs.Box.{box_value}
 use Rattle.clap.proofs.OnLiterals.{clap_on_literals}
-use Rattle.canbit.specs.declared.subcommands.Chosen.{Chosen}
-use Rattle.canbit.specs.declared.subcommands.Chosen.TheVariants.{Encode, Decode, Run, Check}
-use Rattle.canbit.specs.Subcommands.{canbit, name_of}
-use Rattle.canbit.specs.Words.{AsksFor, IsMisuse, faults_in, named_in}
-use Rattle.canbit.proofs.Walks.{subcommand_named}
+use Rattle.canbit_words.specs.declared.subcommands.Chosen.{Chosen}
+use Rattle.canbit_words.specs.declared.subcommands.Chosen.TheVariants.{Encode, Decode, Run, Check}
+use Rattle.canbit_words.specs.Subcommands.{canbit, name_of}
+use Rattle.canbit_words.specs.Words.{AsksFor, IsMisuse, faults_in, named_in}
+use Rattle.canbit_words.proofs.Walks.{subcommand_named}
 
 -- the command is simple, and no argument has a rule on another
 simple : is_simple canbit ≡ true

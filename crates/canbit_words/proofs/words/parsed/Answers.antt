@@ -1,5 +1,5 @@
-use Rattle.canbit.proofs.Parses.{alone, known, taken}
-use Rattle.canbit.proofs.words.parsed.Goals as goal
+use Rattle.canbit_words.proofs.Parses.{alone, known, taken}
+use Rattle.canbit_words.proofs.words.parsed.Goals as goal
 
 pub returns-clause-taken : goal.returns-clause-taken
 returns-clause-taken c = taken _ _ c.in_ok-command.ensures _ c.try_get_matches_from.ensures.kinds

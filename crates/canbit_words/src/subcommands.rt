@@ -1,6 +1,6 @@
 //! The subcommands of the program.
 ghost use Rattle.std.specs.Prelude.{◌≡◌, IfSome, Some};
-ghost use Rattle.canbit.specs.Subcommands.{name_of};
+ghost use Rattle.canbit_words.specs.Subcommands.{name_of};
 
 use crate::help;
 
@@ -34,7 +34,7 @@ impl Chosen {
     }
 
     /// Its line in the help text.
-    pub fn about(self) -> &'static str {
+    pub(crate) fn about(self) -> &'static str {
         match self {
             Chosen::Encode => "Writes the levels of each frame line",
             Chosen::Decode => "Writes the frames and faults of a trace of levels",
@@ -44,7 +44,7 @@ impl Chosen {
     }
 
     /// What its help text says of input, answer, faults and statuses.
-    pub fn details(self) -> &'static str {
+    pub(crate) fn details(self) -> &'static str {
         match self {
             Chosen::Encode => help::ENCODE,
             Chosen::Decode => help::DECODE,
@@ -54,7 +54,7 @@ impl Chosen {
     }
 
     /// The subcommand of this name.
-    pub fn named(name: &str) -> Option<Chosen>
+    pub(crate) fn named(name: &str) -> Option<Chosen>
         ensures some { IfSome result (λ chosen. name_of chosen ≡ name.now) }
         ensures every { (chosen : Chosen) → name_of chosen ≡ name.now → result ≡ Some chosen }
     {

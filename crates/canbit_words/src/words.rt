@@ -3,8 +3,8 @@ ghost use Rattle.std.specs.Prelude.{◌≡◌, ◌≢◌, ◌⊎◌, [], ◌∷�
 ghost use Rattle.clap.specs.Words.{app_of, shape_of, kind_of, subcommand_name_of, HasKind};
 ghost use Rattle.clap.specs.Simple.{new_shape};
 ghost use Rattle.clap.specs.declared.builder.command.Command.TheViews.{out-Command as fields_of};
-ghost use Rattle.canbit.specs.Subcommands.{canbit, name_of};
-ghost use Rattle.canbit.specs.Words.{AsksFor, AsksForHelp, IsMisuse, faults_in, named_in, texts_of};
+ghost use Rattle.canbit_words.specs.Subcommands.{canbit, name_of};
+ghost use Rattle.canbit_words.specs.Words.{AsksFor, AsksForHelp, IsMisuse, faults_in, named_in, texts_of};
 
 use crate::help::PROGRAM;
 use crate::subcommands::Chosen;
@@ -24,7 +24,7 @@ pub enum WordFault {
 }
 
 impl From<AllocError> for WordFault {
-    ghost use Rattle.canbit.specs.declared.words.WordFault.TheVariants.{Memory};
+    ghost use Rattle.canbit_words.specs.declared.words.WordFault.TheVariants.{Memory};
 
     ghost from_gives = { λ _ fault. fault ≡ Memory };
 

@@ -1,9 +1,9 @@
 use Rattle.std.proofs.Common.{◌∙◌, ap₂, arith, rules, sym}
 use Rattle.std.proofs.lemmas.List.Sums.{fold_more}
 use Rattle.clap.specs.Words.{with_subcommand}
-use Rattle.canbit.specs.declared.subcommands.Chosen.TheVariants.{Encode}
-use Rattle.canbit.specs.Subcommands.{subcommands, without_subcommands, with_chosen}
-use Rattle.canbit.proofs.words.command.Goals as goal
+use Rattle.canbit_words.specs.declared.subcommands.Chosen.TheVariants.{Encode}
+use Rattle.canbit_words.specs.Subcommands.{subcommands, without_subcommands, with_chosen}
+use Rattle.canbit_words.proofs.words.command.Goals as goal
 
 pub loop-chosen-preserved : goal.loop-chosen-preserved
 loop-chosen-preserved c =

@@ -10,9 +10,9 @@ use Rattle.clap.specs.Kinds.{Kinds, check_kinds, or_else}
 use Rattle.clap.specs.Lexer.{long_of, short_of}
 use Rattle.clap.specs.Simple.{Shape, argument_words, built, entered, label_of, names_of, rows_at, subcommand_of}
 use Rattle.clap.specs.Walk.{Held, Names, Outcome, Row, Rule, Step, Text, Waiting, Walk, after_flag, after_step, answers_to, arg_by_index, done, finished, idle, long_or_other, next, nothing_held, option, plain, plain_word, positional, refused, settled, short_or_plain, stop_after, subcommand, subcommand_met, subcommand_or_other, to_positional, trailing, value, waits, walk, walk_from, walked, walked_from, word_met}
-use Rattle.canbit.specs.declared.subcommands.Chosen.{Chosen}
-use Rattle.canbit.specs.declared.subcommands.Chosen.TheVariants.{Encode, Decode, Run, Check}
-use Rattle.canbit.specs.Subcommands.{canbit, name_of}
+use Rattle.canbit_words.specs.declared.subcommands.Chosen.{Chosen}
+use Rattle.canbit_words.specs.declared.subcommands.Chosen.TheVariants.{Encode, Decode, Run, Check}
+use Rattle.canbit_words.specs.Subcommands.{canbit, name_of}
 
 -- no kinds come only of two empty lists
 or_else-nil : (a b : Kinds) → or_else a b ≡ [] → (a ≡ []) × (b ≡ [])

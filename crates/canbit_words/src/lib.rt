@@ -1,0 +1,19 @@
+//! The words of `canbit`'s command line: its subcommands, which of them the words name, and the texts of help.
+//!
+//! | File | What it has | Defined in |
+//! |---|---|---|
+//! | `subcommands.rt` | [`Chosen`], the table of subcommands | `specs/Subcommands.antt` |
+//! | `words.rt` | [`chosen`], which of them the words name, as `clap` reads them; [`WordFault`] | `specs/Words.antt` |
+//! | `help.rt` | what the texts of help say of input, answer, faults and statuses | |
+//!
+//! The contract of `chosen` says it by `clap`'s definition of a simple command, without the parser.
+#![tactic(auto)]
+
+mod help;
+mod subcommands;
+#[cfg(test)]
+mod tests;
+mod words;
+
+pub use subcommands::Chosen;
+pub use words::{WordFault, chosen};
