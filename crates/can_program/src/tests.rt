@@ -103,11 +103,11 @@ fn words_that_were_read(rt: HostRuntime) -> Result<(), Fail> {
     words.push(String::from_str(rt.alloc(), "canbit")?)?;
     words.push(String::from_str(rt.alloc(), "encode")?)?;
     let mut told = errors(rt.alloc(), ROOM);
-    let read = words_or_status("canbit", Ok(words), &mut told).map(|words| words
-        .iter()
-        .map(String::len)
-        .sum::<usize>());
-    assert_eq!(rt; read, Ok(12));
+    let read = words_or_status("canbit", Ok(words), &mut told).expect(&rt, "the words");
+    assert_eq!(rt; read.len(), 2);
+    for (word, given) in read.iter().zip(["canbit", "encode"]) {
+        assert_eq!(rt; word.as_str(), given);
+    }
     assert_eq!(rt; told.into_inner().taken.len(), 0);
     Ok(())
 }
