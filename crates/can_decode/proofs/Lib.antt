@@ -1,4 +1,5 @@
 pub mod IdleRows
+pub mod Blocks
 pub mod TraceSteps
 pub mod DecodeSteps
 pub mod FindsTotal

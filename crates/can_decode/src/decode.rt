@@ -1,4 +1,4 @@
-ghost use Rattle.std.specs.Prelude.{◌≡◌, ℕ, ◌+◌, ◌^◌, ◌<◌, ◌≤◌, ◌↔◌, true, false, [], ◌∷◌, ◌++◌, length, take, replicate, is_err, IsTrue, IsFalse, IsErrOf, IfErr, OnOk, OnErr};
+ghost use Rattle.std.specs.Prelude.{◌≡◌, ℕ, ◌+◌, ◌^◌, ◌<◌, ◌≤◌, ◌↔◌, true, false, [], ◌∷◌, ◌++◌, length, take, is_err, IsTrue, IsFalse, IsErrOf, IfErr, OnOk, OnErr};
 ghost use Rattle.std.specs.Io.KnownBytes.{IsAtEnd};
 ghost use Rattle.can_frame.specs.declared.text.TextFault.{TextFault};
 ghost use Rattle.can_stream.specs.declared.field.Field.{Field};
@@ -9,12 +9,10 @@ ghost use Rattle.can_decode.specs.Decoded.{BeginsDecoding, DecodesAll, DecodesSo
 ghost use Rattle.can_decode.specs.Decoding.{Decodes, Hears, HearsText, IsByteAs, StopsHearing};
 
 use crate::finding::put_finding;
+use crate::idle::recessive_count;
 use crate::trace::Trace;
 use can_frame::Level;
 use can_stream::{Inbox, Outbox, Sink, Source, TraceFault};
-
-/// The digits of recessive levels, so many of which are compared at once.
-const ROW: [u8; 32] = [b'1'; 32];
 
 /// What a byte is in trace text.
 #[derive(Clone, Copy, Debug, PartialEq, Eq)]
@@ -161,21 +159,6 @@ fn skip_row(bytes: &[u8], trace: &mut Trace) -> usize
     }
     let count = recessive_count(bytes);
     trace.skip(count);
-    count
-}
-
-/// How many digits of recessive levels stand at the front of the bytes.
-fn recessive_count(bytes: &[u8]) -> usize
-    ensures within { result ≤ length bytes.now }
-    ensures row { take result bytes.now ≡ replicate result 49 }
-{
-    let mut count = 0;
-    while bytes[count..].starts_with(&ROW) {
-        count += ROW.len();
-    }
-    while count < bytes.len() && bytes[count] == b'1' {
-        count += 1;
-    }
     count
 }
 

@@ -9,17 +9,20 @@
 //! |---|---|---|
 //! | `decode.rt` | [`decode_stream`] | `specs/TraceText.antt`, `specs/Decoded.antt` |
 //! | `trace.rt` | a trace as it is heard, level by level | `specs/Decoding.antt` |
+//! | `idle.rt` | rows of recessive levels, block by block | `specs/TraceText.antt` |
 //! | `finding.rt` | what is told of a trace, and its line | `specs/Decoded.antt` |
 //! | `laws.rt` | that in each trace one list is found, and each input has one answer | `specs/Decoded.antt` |
 //!
 //! `specs/Decoding.antt` has what the steps of `decode.rt` and `trace.rt` promise one another. Of the lemmas,
-//! `IdleRows` has the search for eleven recessive levels, `TraceSteps` what one level makes of a trace,
-//! `DecodeSteps` and `DecodeEndings` the steps and the ends of a run, `FindsTotal` and `FindsOne` that in all
-//! levels one list is found, `OneDecoding` that each input has one full answer.
+//! `IdleRows` has the search for eleven recessive levels, `Blocks` a row of digits by the masks of its blocks,
+//! `TraceSteps` what one level makes of a trace, `DecodeSteps` and `DecodeEndings` the steps and the ends of a
+//! run, `FindsTotal` and `FindsOne` that in all levels one list is found, `OneDecoding` that each input has one
+//! full answer.
 #![tactic(auto)]
 
 mod decode;
 mod finding;
+mod idle;
 mod laws;
 #[cfg(test)]
 mod tests;

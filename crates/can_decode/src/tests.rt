@@ -82,6 +82,49 @@ fn frames_and_faults(rt: HostRuntime) -> Result<(), Fail> {
     Ok(())
 }
 
+/// A frame stands behind a row of any length and in front of one.
+#[test]
+fn frames_in_rows(rt: HostRuntime) -> Result<(), Fail> {
+    let row = [b'1'; 130];
+    for (before, lines) in [
+        (0, b"0 S 001 D 0 ack\n".as_slice()),
+        (1, b"1 S 001 D 0 ack\n"),
+        (17, b"17 S 001 D 0 ack\n"),
+        (62, b"62 S 001 D 0 ack\n"),
+        (63, b"63 S 001 D 0 ack\n"),
+        (64, b"64 S 001 D 0 ack\n"),
+        (65, b"65 S 001 D 0 ack\n"),
+        (127, b"127 S 001 D 0 ack\n"),
+        (128, b"128 S 001 D 0 ack\n"),
+        (129, b"129 S 001 D 0 ack\n"),
+    ] {
+        let trace = [&row[..before], WIRE_001, &row].concat(rt.alloc())?;
+        decodes(&rt, rt.alloc(), &trace, Ok(()), lines);
+    }
+    Ok(())
+}
+
+/// A byte that is no level is skipped in a row or is bad there, wherever it stands.
+#[test]
+fn other_bytes_in_rows(rt: HostRuntime) -> Result<(), Fail> {
+    for place in [0, 1, 17, 62, 63, 64, 65, 127, 128, 129] {
+        let mut row = [b'1'; 130];
+        for byte in [b' ', b'\r', b'\n'] {
+            row[place] = byte;
+            let trace = [&row, WIRE_001].concat(rt.alloc())?;
+            decodes(&rt, rt.alloc(), &trace, Ok(()), b"129 S 001 D 0 ack\n");
+        }
+        for byte in [b'/', b'2', b'x', 0, 255] {
+            row[place] = byte;
+            let fault = TraceFault::BadByte {
+                place: place as u64,
+            };
+            decodes(&rt, rt.alloc(), &row, Err(fault), b"");
+        }
+    }
+    Ok(())
+}
+
 /// A bad byte ends the run, and a frame that it cuts off is not told.
 #[test]
 fn bad_bytes(rt: HostRuntime) -> Result<(), Fail> {

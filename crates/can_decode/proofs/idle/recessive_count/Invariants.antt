@@ -1,5 +1,5 @@
 use Rattle.std.proofs.Common.{◌≡◌, ◌≤◌, ◌-◌, length, take, replicate}
-use Rattle.can_decode.proofs.decode.recessive_count.Given as goal
+use Rattle.can_decode.proofs.idle.recessive_count.Given as goal
 
 abbrev pub invariant-loop-count : goal.invariant-loop-count
 invariant-loop-count l = record {
