@@ -145,11 +145,11 @@ unfolding without
 without-remove f [] = refl
 without-remove f (g ∷ queue) = without_by f g queue (same_field f g) (position_or_len (same_field f) queue) (without-remove f queue)
 
-place_found : (b : Bool) (m n : ℕ) → cond b (Some m) None ≡ Some n → m ≡ n
+pub place_found : (b : Bool) (m n : ℕ) → cond b (Some m) None ≡ Some n → m ≡ n
 place_found true m n e = cc
 place_found false m n e = cc
 
-none_found : (b : Bool) (m : ℕ) → cond b (Some m) None ≡ None → b ≡ false
+pub none_found : (b : Bool) (m : ℕ) → cond b (Some m) None ≡ None → b ≡ false
 none_found true m e = cc
 none_found false m e = refl
 
@@ -170,14 +170,9 @@ pub waiting-empty : (queue : List Parts) → queue ≡ [] → slice_get queue 0 
 unfolding waiting
 waiting-empty queue e = ap (λ q. slice_get q 0) e ∙ sym (ap waiting e)
 
-pub first-begins : (queue : List Parts) → slice_get queue 0 ≡ waiting (take 1 queue)
-unfolding waiting
-first-begins [] = refl
-first-begins (f ∷ queue) = refl
-
 -- the frame at a place waits with one more frame behind the queue, unless this goes before it
 module _ (queue : List Parts) (f w : Parts) (waits : waiting queue ≡ Some w) where
-  waits_behind : waiting (queue ++ f ∷ []) ≡ Some (earlier w (Some f))
+  pub waits_behind : waiting (queue ++ f ∷ []) ≡ Some (earlier w (Some f))
   waits_behind = waiting-push queue f ∙ ap (λ o. behind o f) waits
 
   pub next-stays : (next : ℕ) → slice_get queue next ≡ Some w → goes_before f w ≡ false → slice_get (queue ++ f ∷ []) next ≡ waiting (queue ++ f ∷ [])
@@ -189,22 +184,10 @@ module _ (queue : List Parts) (f w : Parts) (waits : waiting queue ≡ Some w) w
 pub next-only : (queue : List Parts) (f : Parts) → waiting queue ≡ None → slice_get (queue ++ f ∷ []) (length queue) ≡ waiting (queue ++ f ∷ [])
 next-only queue f none = slice_get-last queue f ∙ sym (waiting-push queue f ∙ ap (λ o. behind o f) none)
 
-take_next : (queue : List Parts) (n : ℕ) (f : Parts) → slice_get queue n ≡ Some f → take (n + 1) queue ≡ take n queue ++ f ∷ []
+pub take_next : (queue : List Parts) (n : ℕ) (f : Parts) → slice_get queue n ≡ Some f → take (n + 1) queue ≡ take n queue ++ f ∷ []
 take_next queue n f e = ap (λ k. take k queue) (add-one n) ∙ by_suc queue n e
   where
     by_suc : (xs : List Parts) (k : ℕ) → slice_get xs k ≡ Some f → take (suc k) xs ≡ take k xs ++ f ∷ []
     by_suc [] k h = cc
     by_suc (x ∷ xs) zero h = let s : x ≡ f = cc in ap (λ y. y ∷ []) s
     by_suc (x ∷ xs) (suc k) h = ap (λ l. x ∷ l) (by_suc xs k h)
-
--- one frame more is looked at, which stands behind those that were
-module _ (queue : List Parts) (place first : ℕ) (f w : Parts) (at : slice_get queue place ≡ Some f) (stands : slice_get queue first ≡ Some w)
-    (goes_first : slice_get queue first ≡ waiting (take place queue)) where
-  waits_next : waiting (take (place + 1) queue) ≡ Some (earlier w (Some f))
-  waits_next = ap waiting (take_next queue place f at) ∙ waits_behind (take place queue) f w (sym goes_first ∙ stands)
-
-  pub first-new : goes_before f w ≡ true → slice_get queue place ≡ waiting (take (place + 1) queue)
-  first-new before = at ∙ ap Some (sym (cond-true (goes_before f w) f w before)) ∙ sym waits_next
-
-  pub first-stays : goes_before f w ≡ false → slice_get queue first ≡ waiting (take (place + 1) queue)
-  first-stays after = stands ∙ ap Some (sym (cond-false (goes_before f w) f w after)) ∙ sym waits_next

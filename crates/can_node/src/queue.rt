@@ -74,9 +74,10 @@ impl Queue {
         ensures frames { self.new.frames.items ≡ without sent.now self.old.frames.items }
         ensures room { self.new.room ≡ self.old.room }
     {
-        if let Some(place) = place_of(&self.frames, sent) {
+        let removal = removal_of(&self.frames, sent);
+        if let Some(place) = removal.place {
             self.frames.remove(place);
-            self.next = place_of_first(&self.frames);
+            self.next = removal.next;
         }
     }
 }
@@ -88,29 +89,39 @@ fn goes_before(frame: &Frame, other: &Frame) -> bool
     frame.key() < other.key()
 }
 
-/// Whether two frames have the same arbitration field.
-fn same_field(frame: &Frame, other: &Frame) -> bool
-    ensures { result ≡ same_field_by frame.now other.now }
-{
-    frame.key() == other.key()
+/// What a frame that leaves makes of a queue.
+#[derive(Drop)]
+struct Removal {
+    /// The place of the first frame that has its arbitration field.
+    place: Option<usize>,
+    /// The place of the frame that goes first of those that stay.
+    next: usize,
 }
 
-/// The place of the first frame that has the arbitration field of this one.
-fn place_of(frames: &[Frame], sent: &Frame) -> Option<usize>
-    ensures { result ≡ position (same_field_by sent.now) frames.now }
+/// Which frame leaves with this one, and which one goes first then. Each frame is looked at once.
+fn removal_of(frames: &[Frame], sent: &Frame) -> Removal
+    ensures place { result.place ≡ position (same_field_by sent.now) frames.now }
+    ensures next { slice_get (without sent.now frames.now) result.next ≡ waiting (without sent.now frames.now) }
 {
-    frames.iter().position(|frame| same_field(sent, frame))
-}
-
-/// The place of the frame that goes first.
-fn place_of_first(frames: &[Frame]) -> usize
-    ensures { slice_get frames.now result ≡ waiting frames.now }
-{
-    let mut first = 0;
-    for place in 1..frames.len() {
-        if goes_before(&frames[place], &frames[first]) {
-            first = place;
+    let field = sent.key();
+    let mut removal = Removal {
+        place: None,
+        next: 0,
+    };
+    // The least arbitration field of those that stay, if there are any.
+    let mut least = field;
+    let mut staying = 0;
+    for frame in frames {
+        let key = frame.key();
+        if removal.place.is_none() && field == key {
+            removal.place = Some(staying);
+        } else {
+            if staying == 0 || key < least {
+                removal.next = staying;
+                least = key;
+            }
+            staying += 1;
         }
     }
-    first
+    removal
 }

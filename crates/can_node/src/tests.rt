@@ -147,6 +147,36 @@ fn lesser_fields_go_first_and_equal_ones_in_turn(rt: HostRuntime) -> Result<(), 
     Ok(())
 }
 
+/// The one that goes first was offered last, and those of one field stand between others.
+#[test]
+fn the_frames_that_stay_keep_their_order(rt: HostRuntime) -> Result<(), Fail> {
+    for (one, other) in PAIRS {
+        let mut sender = one.idle(rt.alloc(), 5, 5)?;
+        let mut receiver = other.idle(rt.alloc(), 0, 5)?;
+        let last = frame("S 003 D 0")?;
+        let second = frame("S 001 D 1 00")?;
+        let third = frame("S 001 D 1 01")?;
+        let fourth = frame("S 001 D 1 02")?;
+        let first = frame("S 000 D 0")?;
+        for offered in [last, second, third, fourth, first] {
+            assert!(rt; sender.offer(offered).is_ok());
+        }
+        share(&mut sender, &mut receiver, 400);
+        assert_eq!(rt;
+            receiver.log(),
+            [
+                taken(first),
+                taken(second),
+                taken(third),
+                taken(fourth),
+                taken(last)
+            ]
+            .as_slice()
+        );
+    }
+    Ok(())
+}
+
 #[test]
 fn a_refused_wish_changes_nothing(rt: HostRuntime) -> Result<(), Fail> {
     for kind in KINDS {
