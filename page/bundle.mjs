@@ -1,7 +1,7 @@
-// Puts the page together: bundle.mjs SOURCES WASM OUT. The scripts become one, in the order in which they need one
+// Puts the page together: bundle.mjs SOURCES WASM SCENARIOS OUT. The scripts become one, in the order in which they need one
 // another, and the page's own policy allows these scripts and styles and no network.
 import { createHash } from 'node:crypto';
-import { readFileSync, writeFileSync } from 'node:fs';
+import { readFileSync, readdirSync, writeFileSync } from 'node:fs';
 import { join } from 'node:path';
 import { Script } from 'node:vm';
 
@@ -41,7 +41,16 @@ function policyHash(text) {
   return `'sha256-${createHash('sha256').update(text).digest('base64')}'`;
 }
 
-const [folder, wasm, out] = process.argv.slice(2);
+/**
+ * The scenarios of a folder, by their names, as JSON that may stand in a page.
+ * @param {string} from
+ */
+function scenariosIn(from) {
+  const names = readdirSync(from).filter((name) => name.endsWith('.toml')).sort();
+  return JSON.stringify(names.map((name) => [name.slice(0, -'.toml'.length), readFileSync(join(from, name), 'utf8')])).replaceAll('<', '\\u003c');
+}
+
+const [folder, wasm, scenarios, out] = process.argv.slice(2);
 const scripts = withNeeded(folder, 'main');
 const script = `\n${[...scripts.values()].join('\n\n')}\n`;
 new Script(script); // a mistake of syntax is told here
@@ -50,5 +59,6 @@ let page = readFileSync(join(folder, 'index.html'), 'utf8');
 page = fill(page, '@POLICY@', `default-src 'none'; script-src 'wasm-unsafe-eval' ${policyHash(script)}; style-src ${policyHash(style)}; img-src blob: data:; base-uri 'none'; form-action 'none'`);
 page = fill(page, '@STYLE@', style);
 page = fill(page, '@MODULE@', readFileSync(wasm).toString('base64'));
+page = fill(page, '@SCENARIOS@', scenariosIn(scenarios));
 page = fill(page, '@SCRIPT@', script);
 writeFileSync(out, page);

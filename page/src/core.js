@@ -17,9 +17,17 @@ const MOST_LOOKED_AT = 4096;
 const LINE_BYTES = 33554432;
 const LINES_FRONT = 9;
 
+/** What is told of a port in a bit time (`PlainTime` of can_page), and of a wrong scenario (`WrongField`). */
+export const TIME_BYTES = 10;
+const WRONG_BYTES = 24;
+
+/** No scenario has more bit times, and none is longer that the page takes. */
+const MOST_TIMES = 1000000;
+export const MOST_SCENARIO = 1024 * 1024;
+
 /** What a call answers (`Answer` of can_page). */
 export const ANSWER = Object.freeze({
-  done: 0, noRoom: 1, badLevel: 2, badIdentifier: 3, badDlc: 4, badCount: 5,
+  done: 0, noRoom: 1, badLevel: 2, badIdentifier: 3, badDlc: 4, badCount: 5, badScenario: 6, noPort: 7, noMemory: 8,
   letter: 11, identifier: 12, direction: 13, dlc: 14, data: 15, trailing: 16,
 });
 
@@ -30,6 +38,13 @@ export const ANSWER = Object.freeze({
  * @property {boolean} remote
  * @property {number} dlc 0 to 255
  * @property {Uint8Array} bytes
+ */
+
+/**
+ * @typedef {object} WrongField what is wrong in a scenario
+ * @property {number} field the number of the field
+ * @property {number} number the port, or the place in a list of disturbances
+ * @property {number} element the element of the port's queue
  */
 
 /**
@@ -52,6 +67,8 @@ class Rooms {
     this.text = this.take(MOST_BYTES);
     this.levels = this.take(MOST_BYTES);
     this.lines = this.take(LINES_FRONT + LINE_BYTES);
+    this.wrong = this.take(WRONG_BYTES);
+    this.times = this.take(MOST_TIMES * TIME_BYTES);
   }
 
   /**
@@ -65,10 +82,30 @@ class Rooms {
   }
 }
 
+/**
+ * The calls of a module. None may follow one that did not end, which leaves its memory half written.
+ * @param {WebAssembly.Exports} exports
+ */
+function guarded(exports) {
+  let broken = false;
+  const calls = {};
+  for (const [name, call] of Object.entries(exports)) {
+    if (typeof call !== 'function') continue;
+    calls[name] = (...given) => {
+      if (broken) throw new Error('the proved code did not end a call: load the page again');
+      broken = true;
+      const answer = call(...given);
+      broken = false;
+      return answer;
+    };
+  }
+  return calls;
+}
+
 export class Core {
   /** @param {WebAssembly.Exports} exports */
   constructor(exports) {
-    this.calls = exports;
+    this.calls = guarded(exports);
     this.memory = new Uint8Array(exports.memory.buffer);
     this.view = new DataView(exports.memory.buffer);
     this.rooms = new Rooms(Number(exports.__heap_base.value));
@@ -180,5 +217,34 @@ export class Core {
     const answer = this.calls.page_decode(...slice, BigInt(rooms.lines), BigInt(rooms.place));
     const lines = this.copy(rooms.lines + LINES_FRONT, this.number(rooms.lines));
     return { answer, place: this.number(rooms.place), levels, lines };
+  }
+
+  /**
+   * The report of the scenario that a document says; or the first field that is wrong.
+   * @param {Uint8Array} text at most MOST_SCENARIO
+   * @returns {{answer: number, wrong: WrongField, report: Uint8Array}}
+   */
+  run(text) {
+    const { rooms, view } = this;
+    const slice = this.put(rooms.text, text);
+    this.calls.page_heap_begin(BigInt(rooms.next));
+    const answer = this.calls.page_run(...slice, BigInt(rooms.lines), BigInt(rooms.wrong));
+    const wrong = { number: this.number(rooms.wrong), element: this.number(rooms.wrong + 8), field: view.getUint8(rooms.wrong + 16) };
+    return { answer, wrong, report: answer === ANSWER.done ? this.copy(rooms.lines + LINES_FRONT, this.number(rooms.lines)) : new Uint8Array() };
+  }
+
+  /**
+   * What a port of a scenario does in each bit time: TIME_BYTES for each.
+   * @param {Uint8Array} text
+   * @param {number} node
+   * @returns {{answer: number, times: Uint8Array}}
+   */
+  portTimes(text, node) {
+    const { rooms } = this;
+    const slice = this.put(rooms.text, text);
+    this.calls.page_heap_begin(BigInt(rooms.next));
+    const answer = this.calls.page_port_times(...slice, BigInt(node), BigInt(rooms.times), BigInt(MOST_TIMES), BigInt(rooms.count));
+    const count = answer === ANSWER.done ? this.number(rooms.count) : 0;
+    return { answer, times: this.copy(rooms.times, count * TIME_BYTES) };
   }
 }

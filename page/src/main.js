@@ -1,4 +1,5 @@
 /** Loads the proved code, and begins the views. */
+import { BusView } from './bus.js';
 import { Core } from './core.js';
 import { byId, html } from './draw.js';
 import { DecodeView } from './decode.js';
@@ -68,9 +69,11 @@ async function begin() {
   }
   const encode = new EncodeView(core);
   let decode = null;
+  let bus = null;
   new Tabs((name) => {
     if (name === 'encode') encode.wires.draw();
     if (name === 'decode') decode ??= new DecodeView(core);
+    if (name === 'bus') bus ??= new BusView(core);
   });
   document.documentElement.dataset.ready = '';
 }

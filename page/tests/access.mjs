@@ -65,7 +65,8 @@ const pale = () => {
     if (element.ownerSVGElement) {
       const rect = element.parentElement.querySelector(element.matches('.label, .digit') ? 'rect' : 'none');
       if (rect) layers.push([getComputedStyle(rect).fill, Number(getComputedStyle(rect).fillOpacity)]);
-      if (element.matches('.found')) layers.push([getComputedStyle(element.previousElementSibling).fill, 1]);
+      const band = element.dataset.does ? element.parentElement.querySelector(`.does-${element.dataset.does}`) : element.previousElementSibling;
+      if (element.matches('.found')) layers.push([getComputedStyle(band).fill, 1]);
     }
     return layers;
   };
@@ -94,6 +95,13 @@ async function eachView(page, test) {
   await test('decode');
   await page.fill('trace-text', '11111111111000000x');
   await test('decode with a wrong byte');
+  await page.click('tab-bus');
+  await page.click('bus-next');
+  await page.run(() => new Promise((resolve) => { requestAnimationFrame(() => requestAnimationFrame(resolve)); }));
+  await page.run(() => { document.querySelector('details').open = true; });
+  await test('bus');
+  await page.fill('bus-text', 'version = 3');
+  await test('bus with a fault');
   await page.click('tab-about');
   await test('about');
 }
@@ -112,7 +120,7 @@ export const accessTests = [
     const page = await open({ width });
     await eachView(page, async (view) => {
       const wide = await page.run(() => [document.documentElement.scrollWidth, ...[...document.querySelectorAll('body *')]
-        .filter((element) => element.checkVisibility() && !element.closest('.table-room, .time') && element.getBoundingClientRect().right > innerWidth + 1).map((element) => element.id || element.tagName)]);
+        .filter((element) => element.checkVisibility() && !element.closest('.table-room, .time, .bus, .unseen') && element.getBoundingClientRect().right > innerWidth + 1).map((element) => element.id || element.tagName)]);
       assert.deepEqual(wide, [width], view);
     });
   }]),

@@ -2,6 +2,7 @@
 import { pathToFileURL } from 'node:url';
 import { Browser } from './browser.mjs';
 import { accessTests } from './access.mjs';
+import { busTests } from './bus.mjs';
 import { decodeTests } from './decode.mjs';
 import { encodeTests } from './encode.mjs';
 import { pageTests } from './page.mjs';
@@ -14,7 +15,7 @@ for (const signal of ['SIGINT', 'SIGTERM']) process.on(signal, () => browser.clo
 let passed = 0;
 let failed = 0;
 
-for (const [name, test] of [...pageTests, ...encodeTests, ...decodeTests, ...accessTests]) {
+for (const [name, test] of [...pageTests, ...encodeTests, ...decodeTests, ...busTests, ...accessTests]) {
   const pages = [];
   const open = async (how) => {
     const page = await browser.open(place.address, how);

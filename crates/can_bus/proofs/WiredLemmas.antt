@@ -64,6 +64,18 @@ wired_more drive xs i d h =
     ap (λ ys. wired (map drive ys)) (take_more xs i d h) ∙ ap wired (map-append drive (take i xs) (x ∷ []))
     ∙ wired-append (map drive (take i xs)) (drive x ∷ []) ∙ over_last (wired (map drive (take i xs))) (drive x)
 
+-- one port more of a walk, each port of which is changed in its place and answers what it drives
+pub wired-turned : {X Y : Type 0} (drive : Y → Level) (f : X → Y) (xs : List X) (i : ℕ) (y : X) (x before after : Level) → i < length xs →
+    before ≡ wired (map drive (map f (take i xs))) → x ≡ drive (f y) → after ≡ over x before → after ≡ wired (map drive (map f (take (i + 1) (set xs i y))))
+unfolding wired
+wired-turned drive f xs i y x before after h e is joined =
+    let front = take i xs in
+    joined ∙ ap (λ w. over x w) e ∙ ap (λ z. over z (wired (map drive (map f front)))) is ∙ sym (over_last (wired (map drive (map f front))) (drive (f y)))
+    ∙ sym (wired-append (map drive (map f front)) (drive (f y) ∷ []))
+    ∙ ap wired (sym (map-append drive (map f front) (f y ∷ [])))
+    ∙ ap (λ ys. wired (map drive ys)) (sym (map-append f front (y ∷ [])))
+    ∙ ap (λ ys. wired (map drive (map f ys))) (sym (take_more_set xs i y h))
+
 -- the chunk of this number
 pub get_or-first_chunks : {X : Type 0} (n k i : ℕ) (xs d : List X) → i < k → get_or (first_chunks n k xs) i d ≡ take n (drop (i * n) xs)
 get_or-first_chunks n zero i xs d h = absurd (omega arith)

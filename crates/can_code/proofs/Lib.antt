@@ -31,6 +31,8 @@ pub mod DecodingLemmas
 pub mod UnstuffingLemmas
 pub mod StepLemmas
 pub mod StepTable
+pub mod StepRows
+pub mod WholeTail
 pub mod TailLemmas
 -- arbitration, level by level
 pub mod UnstuffedOrder

@@ -7,6 +7,7 @@ use Rattle.std.proofs.Math.Seq.{take-add}
 use Rattle.std.proofs.lemmas.Bool.{and_left, and_right, cond-true, cond-false, eq-eqb, eqb-true, eqb-false, ne_eqb}
 use Rattle.std.proofs.lemmas.List.{append-nil, map-append, take-map, take-take}
 use Rattle.std.proofs.lemmas.Option.{option_and_then_some}
+use lib.Count.{count_trailing_zeros, under}
 use lib.Lanes.{mask_l}
 use mir.Val.{bool_byte}
 use Rattle.can_frame.specs.declared.level.Level.{Level}
@@ -16,9 +17,8 @@ use Rattle.can_wire.specs.Stuffing.{run_after}
 use Rattle.can_wire.specs.Layout.{frame_len}
 use Rattle.can_code.specs.Front.{FrontParts, next_place, heard_level, hear_at, heard_levels}
 use Rattle.can_code.specs.Digits.{HearsDigits, bit_of, digit_of, levels_up}
-use Rattle.can_code.specs.Steps.{begun, step_on, steps_on}
+use Rattle.can_code.specs.Steps.{Step, begun, step_on, steps_on}
 use Rattle.can_code.specs.Unstuffing.{HasRoom, Unstuffs}
-use Rattle.can_code.specs.declared.steps.Step.{Step}
 use Rattle.can_code.specs.declared.unstuffing.UnstuffedRun.{UnstuffedRun}
 use Rattle.can_wire.proofs.LevelLemmas.{bits_of-zero, length-bits_of}
 use Rattle.can_wire.proofs.PackedLemmas.{bits_of-next, bits_of-moved, joined-small, next-small}
@@ -146,31 +146,57 @@ steps_on-heard (x ∷ xs) u s t room taken =
 twice : (n : ℕ) → 2 ^ suc n ≡ 2 ^ n * 2
 twice n = (let up : suc n ≡ n + 1 = omega arith in ap (λ e. 2 ^ e) up ∙ pow-add 2 n 1)
 
--- one digit before others, of which these masks tell where dominant and recessive levels stand
-one_lane : (x : ℕ) (xs : List ℕ) (dominant recessive power : ℕ) (d r : Bool) → eqb x 48 ≡ d → eqb x 49 ≡ r → (cond d 1 zero + 2 * dominant) + (cond r 1 zero + 2 * recessive) + 1 ≡ power * 2
-    → (dominant + recessive + 1 ≡ power → xs ≡ map digit_of (levels_up (length xs) recessive))
-    → x ∷ xs ≡ digit_of (level_of ((cond r 1 zero + 2 * recessive) % 2)) ∷ map digit_of (levels_up (length xs) ((cond r 1 zero + 2 * recessive) / 2))
-one_lane x xs dominant recessive power true true d r sum rest = absurd (omega (arith, sum))
-one_lane x xs dominant recessive power false false d r sum rest = absurd (omega (arith, sum))
-one_lane x xs dominant recessive power true false d r sum rest =
-    let low : (0 + 2 * recessive) % 2 ≡ 0 = omega arith in
-    let half : (0 + 2 * recessive) / 2 ≡ recessive = omega arith in
-    ap (λ y. y ∷ xs) (eqb-true x 48 d) ∙ ap (λ l. 48 ∷ l) (rest (omega (arith, sum)))
-    ∙ ap (λ b. digit_of (level_of b) ∷ map digit_of (levels_up (length xs) recessive)) (sym low)
-    ∙ ap (λ m. digit_of (level_of ((0 + 2 * recessive) % 2)) ∷ map digit_of (levels_up (length xs) m)) (sym half)
-one_lane x xs dominant recessive power false true d r sum rest =
-    let low : (1 + 2 * recessive) % 2 ≡ 1 = omega arith in
-    let half : (1 + 2 * recessive) / 2 ≡ recessive = omega arith in
-    ap (λ y. y ∷ xs) (eqb-true x 49 r) ∙ ap (λ l. 49 ∷ l) (rest (omega (arith, sum)))
-    ∙ ap (λ b. digit_of (level_of b) ∷ map digit_of (levels_up (length xs) recessive)) (sym low)
-    ∙ ap (λ m. digit_of (level_of ((1 + 2 * recessive) % 2)) ∷ map digit_of (levels_up (length xs) m)) (sym half)
+-- the levels of n digits at the front of bytes, as the lowest bits of a number
+abbrev pub FrontDigits : ℕ → List ℕ → ℕ → Type 0
+FrontDigits n bytes number = (n ≤ length bytes) × (take n bytes ≡ map digit_of (levels_up n number))
 
--- bytes that are all digits, where each stands in one of the masks
-pub lanes-levels : (xs : List ℕ) → mask_l (map (λ x. eqb x 48) xs) + mask_l (map (λ x. eqb x 49) xs) + 1 ≡ 2 ^ length xs
-    → xs ≡ map digit_of (levels_up (length xs) (mask_l (map (λ x. eqb x 49) xs)))
-lanes-levels [] h = refl
-lanes-levels (x ∷ xs) h =
-    one_lane x xs (mask_l (map (λ y. eqb y 48) xs)) (mask_l (map (λ y. eqb y 49) xs)) (2 ^ length xs) (eqb x 48) (eqb x 49) refl refl (h ∙ twice (length xs)) (lanes-levels xs)
+-- a byte before others, of which these masks tell where dominant and recessive levels stand
+one_lane : (x : ℕ) (xs : List ℕ) (dominant recessive k : ℕ) (d r : Bool) → eqb x 48 ≡ d → eqb x 49 ≡ r → FrontDigits (count_trailing_zeros k (dominant + recessive + 1)) xs recessive
+    → FrontDigits (count_trailing_zeros (suc k) ((cond d 1 zero + 2 * dominant) + (cond r 1 zero + 2 * recessive) + 1)) (x ∷ xs) (cond r 1 zero + 2 * recessive)
+unfolding count_trailing_zeros
+one_lane x xs dominant recessive k true true d r rest = absurd (omega (arith, eqb-true x 48 d, eqb-true x 49 r))
+one_lane x xs dominant recessive k false false d r rest =
+    let m = (0 + 2 * dominant) + (0 + 2 * recessive) + 1 in
+    let odd : m % 2 ≡ 1 = omega arith in
+    let none : under (m % 2) (count_trailing_zeros k (m / 2)) ≡ 0 = ap (λ b. under b (count_trailing_zeros k (m / 2))) odd in
+    subst (λ n. FrontDigits n (x ∷ xs) (0 + 2 * recessive)) (sym none) (omega arith, refl)
+one_lane x xs dominant recessive k true false d r rest =
+    let m = (1 + 2 * dominant) + (0 + 2 * recessive) + 1 in
+    let n = count_trailing_zeros k (dominant + recessive + 1) in
+    let even : m % 2 ≡ 0 = omega arith in
+    let half : m / 2 ≡ dominant + recessive + 1 = omega arith in
+    let more : under (m % 2) (count_trailing_zeros k (m / 2)) ≡ suc n = ap (λ b. under b (count_trailing_zeros k (m / 2))) even ∙ ap (λ h. suc (count_trailing_zeros k h)) half in
+    let low : (0 + 2 * recessive) % 2 ≡ 0 = omega arith in
+    let up : (0 + 2 * recessive) / 2 ≡ recessive = omega arith in
+    subst (λ c. FrontDigits c (x ∷ xs) (0 + 2 * recessive)) (sym more) (
+      omega (arith, rest.0),
+      ap (λ y. y ∷ take n xs) (eqb-true x 48 d) ∙ ap (λ l. 48 ∷ l) rest.1
+          ∙ ap (λ b. digit_of (level_of b) ∷ map digit_of (levels_up n recessive)) (sym low)
+          ∙ ap (λ h. digit_of (level_of ((0 + 2 * recessive) % 2)) ∷ map digit_of (levels_up n h)) (sym up),
+    )
+one_lane x xs dominant recessive k false true d r rest =
+    let m = (0 + 2 * dominant) + (1 + 2 * recessive) + 1 in
+    let n = count_trailing_zeros k (dominant + recessive + 1) in
+    let even : m % 2 ≡ 0 = omega arith in
+    let half : m / 2 ≡ dominant + recessive + 1 = omega arith in
+    let more : under (m % 2) (count_trailing_zeros k (m / 2)) ≡ suc n = ap (λ b. under b (count_trailing_zeros k (m / 2))) even ∙ ap (λ h. suc (count_trailing_zeros k h)) half in
+    let low : (1 + 2 * recessive) % 2 ≡ 1 = omega arith in
+    let up : (1 + 2 * recessive) / 2 ≡ recessive = omega arith in
+    subst (λ c. FrontDigits c (x ∷ xs) (1 + 2 * recessive)) (sym more) (
+      omega (arith, rest.0),
+      ap (λ y. y ∷ take n xs) (eqb-true x 49 r) ∙ ap (λ l. 49 ∷ l) rest.1
+          ∙ ap (λ b. digit_of (level_of b) ∷ map digit_of (levels_up n recessive)) (sym low)
+          ∙ ap (λ h. digit_of (level_of ((1 + 2 * recessive) % 2)) ∷ map digit_of (levels_up n h)) (sym up),
+    )
+
+-- the digits at the front of bytes, by the masks of both
+pub lanes-levels : (k : ℕ) (xs : List ℕ) → length xs < k
+    → FrontDigits (count_trailing_zeros k (mask_l (map (λ x. eqb x 48) xs) + mask_l (map (λ x. eqb x 49) xs) + 1)) xs (mask_l (map (λ x. eqb x 49) xs))
+unfolding count_trailing_zeros
+lanes-levels zero xs h = absurd (omega arith)
+lanes-levels (suc k) [] h = (omega arith, refl)
+lanes-levels (suc k) (x ∷ xs) h =
+    one_lane x xs (mask_l (map (λ y. eqb y 48) xs)) (mask_l (map (λ y. eqb y 49) xs)) k (eqb x 48) (eqb x 49) refl refl (lanes-levels k xs (omega arith))
 
 mask-more : (b : Bool) (mask power : ℕ) → mask < power → cond b 1 zero + 2 * mask < power * 2
 mask-more true mask power h = omega (arith, h)
@@ -185,11 +211,12 @@ take-levels_up zero n x h = refl
 take-levels_up (suc k) zero x h = absurd (omega arith)
 take-levels_up (suc k) (suc n) x h = ap (λ l. level_of (x % 2) ∷ l) (take-levels_up k n (x / 2) (omega arith))
 
--- the first k digits behind n
-pub digits-levels_up : (digits block : List ℕ) (n k m : ℕ) → k ≤ 16 → block ≡ take 16 (drop n digits) → block ≡ map digit_of (levels_up 16 m)
+-- the first k digits behind n, where a block there begins with c of them
+pub digits-levels_up : (digits block : List ℕ) (n k c m : ℕ) → k ≤ c → c ≤ 16 → block ≡ take 16 (drop n digits) → take c block ≡ map digit_of (levels_up c m)
     → take k (drop n digits) ≡ map digit_of (levels_up k m)
-digits-levels_up digits block n k m few at are =
-    sym (take-take k 16 (drop n digits) few) ∙ ap (take k) (sym at ∙ are) ∙ take-map digit_of k (levels_up 16 m) ∙ ap (map digit_of) (take-levels_up k 16 m few)
+digits-levels_up digits block n k c m few whole at are =
+    sym (take-take k 16 (drop n digits) (omega arith)) ∙ ap (take k) (sym at) ∙ sym (take-take k c block few) ∙ ap (take k) are
+    ∙ take-map digit_of k (levels_up c m) ∙ ap (map digit_of) (take-levels_up k c m few)
 
 -- levels at the front of digits, and more behind them
 pub HearsDigits-append : (f g h : FrontParts) (digits : List ℕ) (n k : ℕ) (xs : List Level) → HearsDigits f g (take n digits) → take k (drop n digits) ≡ map digit_of xs
@@ -218,11 +245,11 @@ Unstuffs-begin digits room last run r some short begins = subst (Unstuffs digits
       heard = λ u has. HearsDigits-begin u last run digits;
     })
 
-module _ (digits block : List ℕ) (room : ℕ) (last : Level) (run : ℕ) (r : UnstuffedRun) (levels count : ℕ) (s : Step) (so_far : Unstuffs digits room last run r) where
-  pub Unstuffs-step : room ≤ 32 → block ≡ take 16 (drop r.taken digits) → r.taken + 16 ≤ length digits → block ≡ map digit_of (levels_up 16 levels) → count ≤ 8 → r.len + count ≤ room
+module _ (digits block : List ℕ) (room : ℕ) (last : Level) (run : ℕ) (r : UnstuffedRun) (levels digit_count count : ℕ) (s : Step) (so_far : Unstuffs digits room last run r) where
+  pub Unstuffs-step : room ≤ 32 → block ≡ take 16 (drop r.taken digits) → r.taken + 16 ≤ length digits → take digit_count block ≡ map digit_of (levels_up digit_count levels) → digit_count ≤ 16 → count ≤ digit_count → r.len + count ≤ room
       → steps_on (begun r.last r.run) (levels_up count levels) ≡ Some s
       → Unstuffs digits room last run (record { number = r.number * 2 ^ s.len % 2 ^ 32 + s.number; len = r.len + s.len; last = s.last; run = s.run; taken = r.taken + count })
-  Unstuffs-step wide at whole are few fits taken =
+  Unstuffs-step wide at whole are within few fits taken =
       let h : StepBounds s count = taken-bounds r.last r.run count count levels s so_far.some so_far.short (omega arith) taken in
       record {
         within = omega (arith, whole);
@@ -239,7 +266,7 @@ module _ (digits block : List ℕ) (room : ℕ) (last : Level) (run : ℕ) (r : 
             let ends : v ++ bits_of s.len s.number ≡ u ++ bits_of (r.len + s.len) (r.number * 2 ^ s.len % 2 ^ 32 + s.number) =
             append_assoc u (bits_of r.len r.number) (bits_of s.len s.number) ∙ ap (λ l. u ++ l) (sym (bits_of-moved 32 r.len s.len r.number s.number (omega (arith, fits, h.few)) h.small)) in
             HearsDigits-append _ (record { unstuffed = v; last = r.last; run = r.run }) _ digits r.taken count (levels_up count levels) (so_far.heard u has)
-            (digits-levels_up digits block r.taken count levels (omega arith) at are)
+            (digits-levels_up digits block r.taken count digit_count levels few within at are)
             (ap (λ l. heard_levels (record { unstuffed = l; last = r.last; run = r.run }) (levels_up count levels)) (sym begins)
             ∙ steps_on-heard (levels_up count levels) v (begun r.last r.run) s left taken ∙ ap (λ l. Some (record { unstuffed = l; last = s.last; run = s.run })) ends);
       }

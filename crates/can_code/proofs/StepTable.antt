@@ -6,15 +6,14 @@ use Rattle.std.proofs.Math.Pow.{pow-add, pow_mono, mod-pow-add}
 use Rattle.std.proofs.lemmas.Bool.{cond-false, le-ltb}
 use Rattle.std.proofs.lemmas.List.FromFn.{get_or-map-range_with_len}
 use Rattle.std.proofs.lemmas.Nat.{pow_pos, mod_below}
-use mir.Val.{bool_byte}
 use Rattle.can_frame.specs.declared.level.Level.{Level}
 use Rattle.can_frame.specs.declared.level.Level.TheVariants.{Dominant, Recessive}
-use Rattle.can_frame.specs.Levels.{is_recessive, level_from, level_of}
-use Rattle.can_code.specs.Digits.{bit_of, levels_up}
-use Rattle.can_code.specs.Steps.{begun, entry_of, steps_on}
-use Rattle.can_code.specs.declared.steps.Step.{Step}
+use Rattle.can_frame.specs.Levels.{level_from, level_of}
+use Rattle.can_code.specs.Digits.{levels_up}
+use Rattle.can_code.specs.Steps.{Step, begun, entry_of, in_table, last_of, row_of, run_of, steps_on}
+use Rattle.can_code.specs.declared.steps.TableStep.{TableStep}
 use Rattle.can_code.specs.declared.steps.TheConstants.{STEPS}
-use Rattle.can_code.proofs.StepLemmas.{StepBounds, bit_small}
+use Rattle.can_code.proofs.StepLemmas.{StepBounds}
 
 -- the levels below the highest bit of a number, at most n of them, the lowest first
 abbrev pub levels_below : ℕ → ℕ → List Level
@@ -22,7 +21,7 @@ levels_below zero i = []
 levels_below (suc n) i = cond (ltb i 2) [] (level_of (i % 2) ∷ levels_below n (i / 2))
 
 abbrev entry_at : ℕ → ℕ
-entry_at place = entry_of (steps_on (begun (level_of (place / 2560)) (place / 512 % 5 + 1)) (levels_below 8 (place % 512)))
+entry_at place = entry_of (steps_on (begun (last_of (place / 512)) (run_of (place / 512))) (levels_below 8 (place % 512)))
 
 -- the table, by computing each of its entries
 table_is : STEPS ≡ map entry_at (range_with_len 0 5120)
@@ -33,7 +32,7 @@ levels_below-none zero = refl
 levels_below-none (suc n) = refl
 
 -- below a bit that ends them stand so many levels of a number
-levels_below-up : (n k m : ℕ) → k ≤ n → levels_below n (2 ^ k + m % 2 ^ k) ≡ levels_up k m
+pub levels_below-up : (n k m : ℕ) → k ≤ n → levels_below n (2 ^ k + m % 2 ^ k) ≡ levels_up k m
 levels_below-up n zero m h =
     let one : 2 ^ 0 + m % 2 ^ 0 ≡ 1 = omega arith in
     ap (levels_below n) one ∙ levels_below-none n
@@ -50,72 +49,75 @@ levels_below-up (suc n) (suc k) m h =
     ∙ ap (λ b. level_of b ∷ levels_below n (i / 2)) low ∙ ap (λ t. level_of (m % 2) ∷ levels_below n t) half
     ∙ ap (λ t. level_of (m % 2) ∷ t) (levels_below-up n k (m / 2) (omega arith))
 
-level_of-row : (x : Level) (r : ℕ) → r < 5 → level_of ((5 * bool_byte (is_recessive x) + r) / 5) ≡ x
-level_of-row Dominant r h = (let e : (5 * 0 + r) / 5 ≡ 0 = omega arith in ap level_of e)
-level_of-row Recessive r h = (let e : (5 * 1 + r) / 5 ≡ 1 = omega arith in ap level_of e)
-
--- what the table has at the place of these levels
-pub entry_is : (last : Level) (run m k place : ℕ) → 1 ≤ run → run ≤ 5 → k ≤ 8 → place ≡ 512 * (5 * bool_byte (is_recessive last) + (run - 1)) + (2 ^ k + m % 2 ^ k) → bool_byte (is_recessive last) ≤ 1
-    → (place < 5120) × (get_or STEPS place 0 ≡ entry_of (steps_on (begun last run) (levels_up k m)))
-entry_is last run m k place some short few at bit =
-    let b = bool_byte (is_recessive last) in
+-- what a row of the table has at the place of these levels
+pub entry_is : (row m k place : ℕ) → row < 10 → k ≤ 8 → place ≡ 512 * row + (2 ^ k + m % 2 ^ k)
+    → (place < 5120) × (get_or STEPS place 0 ≡ entry_of (steps_on (begun (last_of row) (run_of row)) (levels_up k m)))
+entry_is row m k place within few at =
     let i = 2 ^ k + m % 2 ^ k in
-    let row = 5 * b + (run - 1) in
     let most : 2 ^ k ≤ 2 ^ 8 = pow_mono few in
     let column : i < 512 = omega (arith, most, mod_below m (2 ^ k) (pow_pos k)) in
-    let within : place < 5120 = omega (arith, at, column, bit) in
+    let inside : place < 5120 = omega (arith, at, column) in
     let low : place % 512 ≡ i = omega (arith, at, column) in
-    let high : place / 512 ≡ row = omega (arith, at, column) in
-    let top : place / 2560 ≡ row / 5 = omega (arith, at, column) in
-    let run_is : place / 512 % 5 + 1 ≡ run = omega (arith, high) in
-    let last_is : level_of (place / 2560) ≡ last = ap level_of top ∙ level_of-row last (run - 1) (omega arith) in (
-      within,
-      ap (λ t. get_or t place 0) table_is ∙ get_or-map-range_with_len entry_at 0 5120 place place 0 within (omega arith)
-          ∙ ap (λ x. entry_of (steps_on (begun x (place / 512 % 5 + 1)) (levels_below 8 (place % 512)))) last_is
-          ∙ ap (λ r. entry_of (steps_on (begun last r) (levels_below 8 (place % 512)))) run_is
-          ∙ ap (λ j. entry_of (steps_on (begun last run) (levels_below 8 j))) low
-          ∙ ap (λ l. entry_of (steps_on (begun last run) l)) (levels_below-up 8 k m few),
+    let high : place / 512 ≡ row = omega (arith, at, column) in (
+      inside,
+      ap (λ t. get_or t place 0) table_is ∙ get_or-map-range_with_len entry_at 0 5120 place place 0 inside (omega arith)
+          ∙ ap (λ r. entry_of (steps_on (begun (last_of r) (run_of r)) (levels_below 8 (place % 512)))) high
+          ∙ ap (λ j. entry_of (steps_on (begun (last_of row) (run_of row)) (levels_below 8 j))) low
+          ∙ ap (λ l. entry_of (steps_on (begun (last_of row) (run_of row)) l)) (levels_below-up 8 k m few),
     )
+
+-- ---- rows
+
+pub row_of-last : (x : Level) (r : ℕ) → 1 ≤ r → r ≤ 5 → last_of (row_of x r) ≡ x
+row_of-last Dominant r some short = (let e : (5 * 0 + (r - 1)) / 5 ≡ 0 = omega arith in ap level_of e)
+row_of-last Recessive r some short = (let e : (5 * 1 + (r - 1)) / 5 ≡ 1 = omega arith in ap level_of e)
+
+pub row_of-run : (x : Level) (r : ℕ) → 1 ≤ r → r ≤ 5 → run_of (row_of x r) ≡ r
+row_of-run Dominant r some short = omega arith
+row_of-run Recessive r some short = omega arith
+
+pub row_of-small : (x : Level) (r : ℕ) → r ≤ 5 → row_of x r < 10
+row_of-small Dominant r short = omega arith
+row_of-small Recessive r short = omega arith
+
+-- the last level before a row, as code reads it
+pub last_read : (n : ℕ) → n < 2 → level_from (eqb n 1) ≡ level_of n
+last_read zero h = refl
+last_read (suc zero) h = refl
+last_read (suc (suc n)) h = absurd (omega arith)
 
 -- ---- what code reads of an entry
 
-level_back : (x : Level) → level_from (eqb (bit_of x) 1) ≡ x
-level_back Dominant = refl
-level_back Recessive = refl
-
-same_step : (s : Step) (number len run : ℕ) (last : Level) → number ≡ s.number → len ≡ s.len → last ≡ s.last → run ≡ s.run
-    → Some (record { number = number; len = len; last = last; run = run }) ≡ Some s
-same_step s number len run last p q r t =
-    ap (λ n. Some (record { number = n; len = len; last = last; run = run })) p ∙ ap (λ n. Some (record { number = s.number; len = n; last = last; run = run })) q
-    ∙ ap (λ x. Some (record { number = s.number; len = s.len; last = x; run = run })) r ∙ ap (λ n. Some (record { number = s.number; len = s.len; last = s.last; run = n })) t
-
--- the last level by another name
-pub same_last : (number len run : ℕ) (x y : Level) → x ≡ y
-    → ◌≡◌ {A = Option Step} (Some (record { number = number; len = len; last = x; run = run })) (Some (record { number = number; len = len; last = y; run = run }))
-same_last number len run x y same = ap (λ l. Some (record { number = number; len = len; last = l; run = run })) same
+same_step : (s : Step) (number len row : ℕ) → number ≡ s.number → len ≡ s.len → row ≡ row_of s.last s.run
+    → ◌≡◌ {A = Option TableStep} (Some (record { number = number; len = len; row = row })) (in_table (Some s))
+same_step s number len row p q r =
+    ap (λ n. Some (record { number = n; len = len; row = row })) p ∙ ap (λ n. Some (record { number = s.number; len = n; row = row })) q
+    ∙ ap (λ n. Some (record { number = s.number; len = s.len; row = n })) r
 
 -- the parts of an entry
-module _ (s : Step) (e : ℕ) (is : e ≡ s.number + 256 * s.len + 4096 * (s.run - 1) + 32768 * bit_of s.last) (h : StepBounds s 8) where
+module _ (s : Step) (e : ℕ) (is : e ≡ s.number + 256 * s.len + 4096 * row_of s.last s.run) (h : StepBounds s 8) where
   small : s.number < 256
   small = let most : 2 ^ s.len ≤ 2 ^ 8 = pow_mono h.few in omega (arith, h.small, most)
 
   pub entry-no_none : e ≢ 65535
-  entry-no_none none = absurd (omega (arith, is, none, small, h.few, h.some, h.short, bit_small s.last))
+  entry-no_none none = absurd (omega (arith, is, none, small, h.few, row_of-small s.last s.run h.short))
 
-  pub entry-step : Some (record { number = e % 256; len = e / 256 % 16; last = level_from (eqb (e / 32768) 1); run = e / 4096 % 8 + 1 }) ≡ Some s
+  pub entry-step : ◌≡◌ {A = Option TableStep} (Some (record { number = e % 256; len = e / 256 % 16; row = e / 4096 })) (in_table (Some s))
   entry-step =
-      let high : e / 32768 ≡ bit_of s.last = omega (arith, is, small, h.few, h.some, h.short, bit_small s.last) in
-      same_step s (e % 256) (e / 256 % 16) (e / 4096 % 8 + 1) (level_from (eqb (e / 32768) 1))
-      (omega (arith, is, small, h.few, h.some, h.short, bit_small s.last)) (omega (arith, is, small, h.few, h.some, h.short, bit_small s.last))
-      (ap (λ b. level_from (eqb b 1)) high ∙ level_back s.last) (omega (arith, is, small, h.few, h.some, h.short, bit_small s.last))
+      same_step s (e % 256) (e / 256 % 16) (e / 4096) (omega (arith, is, small, h.few)) (omega (arith, is, small, h.few)) (omega (arith, is, small, h.few))
 
 -- where it has a step
 pub read-some : (o : Option Step) (e : ℕ) → e ≡ entry_of o → ((s : Step) → o ≡ Some s → StepBounds s 8) → e ≢ 65535
-    → Some (record { number = e % 256; len = e / 256 % 16; last = level_from (eqb (e / 32768) 1); run = e / 4096 % 8 + 1 }) ≡ o
+    → ◌≡◌ {A = Option TableStep} (Some (record { number = e % 256; len = e / 256 % 16; row = e / 4096 })) (in_table o)
 read-some None e is bounds some = absurd (some is)
 read-some (Some s) e is bounds some = entry-step s e is (bounds s refl)
 
 -- and where it has none
-pub read-none : (o : Option Step) (e : ℕ) → e ≡ entry_of o → ((s : Step) → o ≡ Some s → StepBounds s 8) → e ≡ 65535 → None ≡ o
+pub read-none : (o : Option Step) (e : ℕ) → e ≡ entry_of o → ((s : Step) → o ≡ Some s → StepBounds s 8) → e ≡ 65535 → None ≡ in_table o
 read-none None e is bounds none = refl
 read-none (Some s) e is bounds none = absurd (entry-no_none s e is (bounds s refl) none)
+
+-- the step that the code has
+pub in_table-some : (o : Option Step) (t : TableStep) → Some t ≡ in_table o → (s : Step) × (o ≡ Some s) × (t ≡ record { number = s.number; len = s.len; row = row_of s.last s.run })
+in_table-some None t h = cc
+in_table-some (Some s) t h = (s, refl, cc)

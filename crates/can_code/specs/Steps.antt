@@ -1,10 +1,19 @@
 -- Levels of a stuffed part that are taken at once. (Bosch CAN 2.0 part B, section 6)
-use Rattle.std.specs.Prelude.{ℕ, ◌+◌, ◌-◌, ◌*◌, ◌==◌, Option, Some, None, option_and_then, if◌then◌else◌, List, [], ◌∷◌}
+use Rattle.std.specs.Prelude.{ℕ, ◌+◌, ◌-◌, ◌*◌, ◌/◌, ◌%◌, ◌==◌, Option, Some, None, option_and_then, if◌then◌else◌, List, [], ◌∷◌}
 use Rattle.can_frame.specs.declared.level.Level.{Level}
-use Rattle.can_frame.specs.Levels.{same}
+use Rattle.can_frame.specs.Levels.{level_of, same}
 use Rattle.can_wire.specs.Stuffing.{run_after}
 use Rattle.can_code.specs.Digits.{bit_of}
-use Rattle.can_code.specs.declared.steps.Step.{Step}
+use Rattle.can_code.specs.declared.steps.TableStep.{TableStep}
+
+-- Levels without their stuff bits: the unstuffed ones as a number whose bits they are, the first of them the
+-- highest, and how many they are; the last level, which may be a stuff bit, and how many levels up to it, in a row,
+-- equal it.
+pub record Step : Type 0 where
+  pub number : ℕ
+  pub len : ℕ
+  pub last : Level
+  pub run : ℕ
 
 -- none, behind a run of this level and length
 abbrev pub begun : Level → ℕ → Step
@@ -21,7 +30,24 @@ abbrev pub steps_on : Step → List Level → Option Step
 steps_on s [] = Some s
 steps_on s (x ∷ xs) = option_and_then (λ t. steps_on t xs) (step_on s x)
 
--- a step as a number, as the table of the code has it
+-- ---- the table of the code
+
+-- its row behind a run of this level and length, and what stands before a row
+abbrev pub row_of : Level → ℕ → ℕ
+row_of last run = 5 * bit_of last + (run - 1)
+
+abbrev pub last_of : ℕ → Level
+last_of row = level_of (row / 5)
+
+abbrev pub run_of : ℕ → ℕ
+run_of row = row % 5 + 1
+
+-- a step, as the code has it
+abbrev pub in_table : Option Step → Option TableStep
+in_table None = None
+in_table (Some s) = Some (record { number = s.number; len = s.len; row = row_of s.last s.run })
+
+-- and as a number
 abbrev pub entry_of : Option Step → ℕ
 entry_of None = 65535
-entry_of (Some s) = s.number + 256 * s.len + 4096 * (s.run - 1) + 32768 * bit_of s.last
+entry_of (Some s) = s.number + 256 * s.len + 4096 * row_of s.last s.run

@@ -5,6 +5,8 @@ use Rattle.can_frame.specs.declared.level.Level.{Level}
 use Rattle.can_frame.specs.Levels.{bits_of}
 use Rattle.can_wire.specs.Layout.{frame_len}
 use Rattle.can_code.specs.Digits.{HearsDigits}
+use Rattle.can_code.specs.Steps.{last_of, run_of}
+use Rattle.can_code.specs.declared.unstuffing.StepRun.{StepRun}
 use Rattle.can_code.specs.declared.unstuffing.UnstuffedRun.{UnstuffedRun}
 
 -- with up to n unstuffed levels more, whichever they are, the check sequence is not whole yet
@@ -21,3 +23,7 @@ pub record Unstuffs (digits : List ℕ) (room : ℕ) (last : Level) (run : ℕ) 
   pub short : taken.run ≤ 5
   pub heard : (u : List Level) → HasRoom u room → HearsDigits (record { unstuffed = u; last = last; run = run })
       (record { unstuffed = u ++ bits_of taken.len taken.number; last = taken.last; run = taken.run }) (take taken.taken digits)
+
+-- levels that steps have taken, with the last level and the run that its row of the table stands for
+abbrev pub as_run : StepRun → UnstuffedRun
+as_run s = record { number = s.number; len = s.len; last = last_of s.row; run = run_of s.row; taken = s.taken }

@@ -1,4 +1,4 @@
-ghost use Rattle.std.specs.Prelude.{◌≡◌, ◌+◌, ◌<◌, ◌≤◌, ◌∷◌, ◌++◌, [], Option, Some, None, Result, Ok, List, length, take, IfErr};
+ghost use Rattle.std.specs.Prelude.{◌≡◌, ◌+◌, ◌<◌, ◌≤◌, ◌∷◌, ◌++◌, [], Bool, Option, Some, None, Result, Ok, List, length, take, IfErr, IfSome};
 ghost use Rattle.can_frame.specs.declared.level.Level.{Level as Bit};
 ghost use Rattle.can_frame.specs.declared.level.Level.TheVariants.{Dominant};
 ghost use Rattle.can_wire.specs.Heard.{HeardParts, Spells};
@@ -7,7 +7,7 @@ ghost use Rattle.can_code.specs.Decoder.{HasHeard};
 ghost use Rattle.can_code.specs.Digits.{DecodesDigits, HearsTail};
 ghost use Rattle.can_code.specs.Front.{next_place};
 
-use crate::digits::level_of;
+use crate::digits::{BLOCK, level_of, levels_of};
 use crate::fault::CodeFaultKind;
 use crate::front::{Front, Place};
 use can_frame::Level;
@@ -20,6 +20,12 @@ const ACK_SLOT: usize = 1;
 /// Where the last level of the end of frame stands in them: behind CRC delimiter, ACK slot, ACK
 /// delimiter, and six levels of the end of frame.
 const LAST_LEVEL: usize = 9;
+
+/// The levels of a tail before it, the first of them the lowest bit, where the ACK slot is dominant.
+const TAIL: u64 = 0b1_1111_1101;
+
+/// The same where the ACK slot is recessive.
+const UNACKNOWLEDGED_TAIL: u64 = 0b1_1111_1111;
 
 /// A frame as it is decoded, level by level, from its start of frame on. (Bosch CAN 2.0 part B,
 /// sections 3.2.1 and 6)
@@ -127,7 +133,45 @@ struct TailRun {
 
 /// Takes levels of a tail but for its last one from the front of these digits, where `behind` of its levels
 /// stand before them.
+#[inline]
 fn tail_of(digits: &[u8], behind: usize, acked: bool) -> TailRun
+    requires { behind < 10 }
+    ensures within { result.taken ≤ length digits.now }
+    ensures few { behind + result.taken < 10 }
+    ensures tail { HearsTail behind acked (behind + result.taken) result.acked (take result.taken digits.now) }
+{
+    match whole_tail(digits) {
+        Some(acked) if behind == 0 => TailRun {
+            taken: LAST_LEVEL,
+            acked,
+        },
+        _ => tail_levels(digits, behind, acked),
+    }
+}
+
+/// Whether the ACK slot is dominant in a tail that begins with these digits, if all of it but for its last level
+/// does.
+#[inline]
+fn whole_tail(digits: &[u8]) -> Option<bool>
+    ensures within { IfSome result (λ acked. 9 ≤ length digits.now) }
+    ensures tail { IfSome result (λ acked. (before : Bool) → HearsTail 0 before 9 acked (take 9 digits.now)) }
+{
+    let Some(block) = digits.first_chunk::<BLOCK>() else {
+        return None;
+    };
+    let levels = levels_of(block);
+    if levels.count < LAST_LEVEL {
+        return None;
+    }
+    match levels.number % (1 << LAST_LEVEL) {
+        TAIL => Some(true),
+        UNACKNOWLEDGED_TAIL => Some(false),
+        _ => None,
+    }
+}
+
+/// Takes levels of a tail but for its last one, level by level.
+fn tail_levels(digits: &[u8], behind: usize, acked: bool) -> TailRun
     requires { behind < 10 }
     ensures within { result.taken ≤ length digits.now }
     ensures few { behind + result.taken < 10 }

@@ -1,4 +1,4 @@
-ghost use Rattle.std.specs.Prelude.{◌≡◌, ◌==◌, IfSome, map};
+ghost use Rattle.std.specs.Prelude.{◌≡◌, ◌≤◌, ◌==◌, IfSome, map, take};
 ghost use lib.Lanes.{mask_l};
 ghost use Rattle.can_code.specs.Digits.{digit_of, levels_up};
 
@@ -22,17 +22,26 @@ pub(crate) fn level_of(byte: u8) -> Option<Level>
     }
 }
 
-/// The levels whose digits these bytes are, if they all are digits, as the bits of a number. The first
-/// level is the lowest bit.
+/// Levels whose digits stand at the front of a block.
+#[derive(Clone, Copy)]
+pub(crate) struct BlockLevels {
+    /// The levels, as the bits of a number, the first of them the lowest.
+    pub(crate) number: u64,
+    /// How many they are.
+    pub(crate) count: usize,
+}
+
+/// The levels whose digits stand at the front of the block, up to its first byte that is no digit.
 #[inline]
-pub(crate) fn levels_of(block: &[u8; BLOCK]) -> Option<u64>
-    ensures { IfSome result (λ levels. block.now ≡ map digit_of (levels_up 16 levels)) }
+pub(crate) fn levels_of(block: &[u8; BLOCK]) -> BlockLevels
+    ensures within { result.count ≤ 16 }
+    ensures digits { take result.count block.now ≡ map digit_of (levels_up result.count result.number) }
 {
     let recessive = places_of(block, b'1');
-    if places_of(block, b'0') + recessive == (1 << BLOCK) - 1 {
-        Some(recessive)
-    } else {
-        None
+    let digits = places_of(block, b'0') + recessive;
+    BlockLevels {
+        number: recessive,
+        count: (digits + 1).trailing_zeros() as usize,
     }
 }
 

@@ -1,9 +1,11 @@
 ghost use Rattle.std.specs.Prelude.{◌≡◌, ◌<◌, ◌≤◌, List, length};
 ghost use Rattle.can_frame.specs.declared.level.Level.{Level as Bit};
 ghost use Rattle.can_code.specs.Reading.{TellsLength};
-ghost use Rattle.can_code.specs.Unstuffing.{HasRoom, Unstuffs};
+ghost use Rattle.can_code.specs.Steps.{last_of, run_of};
+ghost use Rattle.can_code.specs.Unstuffing.{HasRoom, Unstuffs, as_run};
 
 use crate::digits::{BLOCK, level_of, levels_of};
+use crate::rows::{last_before, row_behind, run_before};
 use crate::steps::{STEP_LEVELS, take_step};
 use can_frame::Level;
 use can_wire::{LONGEST_RUN, run_after};
@@ -84,7 +86,7 @@ pub(crate) fn unstuff(digits: &[u8], room: usize, last: Level, run: u8) -> Unstu
     }
 }
 
-/// The same, up to eight levels in a step. It stops where a block of digits is not whole.
+/// The same, up to eight levels in a step. It stops where no block of bytes is left.
 #[inline]
 fn unstuff_steps(digits: &[u8], room: usize, last: Level, run: u8) -> UnstuffedRun
     requires wide { room ≤ 32 }
@@ -92,22 +94,58 @@ fn unstuff_steps(digits: &[u8], room: usize, last: Level, run: u8) -> UnstuffedR
     requires short { run ≤ 5 }
     ensures { Unstuffs digits.now room last run result }
 {
-    let mut now = UnstuffedRun::begin(last, run);
+    let now = unstuff_rows(digits, room, row_behind(last, run));
+    UnstuffedRun {
+        number: now.number,
+        len: now.len,
+        last: last_before(now.row),
+        run: run_before(now.row),
+        taken: now.taken,
+    }
+}
+
+/// Levels that steps have taken.
+#[derive(Clone, Copy)]
+struct StepRun {
+    /// The unstuffed levels, as a number.
+    number: u32,
+    /// How many they are.
+    len: usize,
+    /// The row of the table of steps behind them.
+    row: u8,
+    /// How many levels were taken, stuff bits among them.
+    taken: usize,
+}
+
+/// The same from row to row of the table of steps.
+#[inline]
+fn unstuff_rows(digits: &[u8], room: usize, row: u8) -> StepRun
+    requires wide { room ≤ 32 }
+    requires row { row < 10 }
+    ensures row { result.row < 10 }
+    ensures taken { Unstuffs digits.now room (last_of row) (run_of row) (as_run result) }
+{
+    let mut now = StepRun {
+        number: 0,
+        len: 0,
+        row,
+        taken: 0,
+    };
     while now.len < room {
         let Some(block) = digits[now.taken..].first_chunk::<BLOCK>() else {
             return now;
         };
-        let Some(levels) = levels_of(block) else {
+        let levels = levels_of(block);
+        let count = levels.count.min(STEP_LEVELS).min(room - now.len);
+        if count == 0 {
             return now;
-        };
-        let count = (room - now.len).min(STEP_LEVELS);
-        let Some(step) = take_step(now.last, now.run, levels, count) else {
+        }
+        let Some(step) = take_step(now.row, levels.number, count) else {
             return now;
         };
         now.number = (now.number << step.len) + u32::from(step.number);
         now.len += usize::from(step.len);
-        now.last = step.last;
-        now.run = step.run;
+        now.row = step.row;
         now.taken += count;
     }
     now

@@ -90,6 +90,17 @@ pub length-digits : (levels : List Level) → length (map digit_of levels) ≡ l
 length-digits [] = refl
 length-digits (x ∷ levels) = ap suc (length-digits levels)
 
+-- levels of which nothing is told, one part behind the other
+pub Untold-then : (a b c : Trace) (bytes : List ℕ) (n k : ℕ) → IsTraceText (take n bytes) → Hears a b (levels_in (take n bytes)) []
+    → IsTraceText (take k (drop n bytes)) → Hears b c (levels_in (take k (drop n bytes))) [] → IsTraceText (take (n + k) bytes) × Hears a c (levels_in (take (n + k) bytes)) []
+Untold-then a b c bytes n k text hears more_text more_hears =
+    let front = take n bytes in
+    let more = take k (drop n bytes) in
+    let both : take (n + k) bytes ≡ front ++ more = take-add n k bytes in (
+      subst IsTraceText (sym both) (AllByRecursion-append (λ byte. is_trace_byte byte ≡ true) front more text more_text),
+      subst (λ l. Hears a c l []) (sym (ap levels_in both ∙ levels_in-append front more)) (Hears-then a b c (levels_in front) (levels_in more) [] [] hears more_hears),
+    )
+
 pub HearsText-none : (trace : Trace) (held : Option (List ℕ)) (waiting : List ℕ) → HearsText trace trace [] held held waiting waiting
 HearsText-none trace held waiting = record { found = []; is_text = tt; hears = Hears-none trace; passes = PassesOn-none held waiting }
 

@@ -7,3 +7,5 @@ pub mod DecodeEndings
 pub mod FindsOne
 pub mod OneDecoding
 pub mod Rows
+pub mod FrameText
+pub mod SearchSteps

@@ -176,6 +176,13 @@ module _ (old new : Trace) (levels : List Level) (told : List Finding) (hearing 
       } in
       Hearing-now old new levels more told [] hearing place (none_more new.state (levels ++ more) told (subst (λ s. Stands s (levels ++ more) told) (sym now) still)) tt
 
+  -- levels behind a fault
+  pub Hearing-search : (more : List Level) → new.place ≡ old.place + length more → (n m : ℕ) → old.state ≡ Lost n → new.state ≡ Lost m
+      → (IsLost n levels told → IsLost m (levels ++ more) told) → Hearing new (levels ++ more) (told ++ [])
+  Hearing-search more place n m was now goes_on =
+      let still : IsLost m (levels ++ more) told = goes_on (subst (λ s. Stands s levels told) was hearing.stands) in
+      Hearing-now old new levels more told [] hearing place (none_more new.state (levels ++ more) told (subst (λ s. Stands s (levels ++ more) told) (sym now) still)) tt
+
   module _ (level : Level) (place : new.place ≡ old.place + 1) where
     -- a recessive level between frames
     pub Hearing-recessive : old.state ≡ Idle → new.state ≡ Idle → is_recessive level ≡ true → Hearing new (levels ++ level ∷ []) (told ++ [])

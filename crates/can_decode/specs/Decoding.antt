@@ -45,6 +45,12 @@ pub record IsLost (row : ℕ) (levels : List Level) (told : List Finding) : Type
   pub levels_are : levels ≡ done ++ replicate row Recessive
   pub searches_on : SearchesOn (replicate row Recessive) done told
 
+-- digits of levels, with which the search goes on from one row to the other
+pub record Searches (row : ℕ) (digits : List ℕ) (row_now : ℕ) : Type 0 where
+  pub is_text : IsTraceText digits
+  pub all : length (levels_in digits) ≡ length digits
+  pub lost : (levels : List Level) (told : List Finding) → IsLost row levels told → IsLost row_now (levels ++ levels_in digits) told
+
 -- how the levels heard so far, and what was told of them, are related to where a trace stands
 abbrev pub Stands : State → List Level → List Finding → Type 0
 Stands Idle levels told = GoesOn levels told

@@ -138,11 +138,9 @@ fn hear_run(bytes: &[u8], trace: &mut Trace) -> usize
     ensures hears { Hears trace.old trace.new (levels_in (take result bytes.now)) [] }
     ensures place { trace.new.place ≤ trace.old.place + result }
 {
-    if trace.is_idle() {
-        skip_row(bytes, trace)
-    } else {
-        trace.hear_run(bytes)
-    }
+    let row = skip_row(bytes, trace);
+    let begun = row + hear_start(&bytes[row..], trace);
+    begun + trace.hear_run(&bytes[begun..])
 }
 
 /// Skips the recessive levels at the front of the bytes, if they stand between frames, and answers how many
@@ -162,7 +160,24 @@ fn skip_row(bytes: &[u8], trace: &mut Trace) -> usize
     count
 }
 
+/// Hears the level at the front of the bytes with which a frame begins, if one does there, and answers how many
+/// levels it heard.
+fn hear_start(bytes: &[u8], trace: &mut Trace) -> usize
+    requires { trace.old.place + length bytes.now < 2 ^ 64 }
+    ensures within { result ≤ length bytes.now }
+    ensures text { IsTraceText (take result bytes.now) }
+    ensures hears { Hears trace.old trace.new (levels_in (take result bytes.now)) [] }
+    ensures place { trace.new.place ≤ trace.old.place + result }
+{
+    if bytes.is_empty() || bytes[0] != b'0' || !trace.is_idle() {
+        return 0;
+    }
+    trace.begin_frame();
+    1
+}
+
 /// Hears one byte, which has this place in the input.
+#[inline(never)]
 fn hear_byte<W: Sink>(
     byte: u8,
     place: u64,

@@ -3,6 +3,7 @@ ghost use Rattle.std.specs.Prelude.{◌≡◌, ◌+◌, ◌≤◌, ◌++◌, fal
 ghost use Rattle.can_stream.specs.Outbox.{PassesOn, TakesFront};
 ghost use Rattle.can_decode.specs.Decoded.{acknowledgement, code_of, deviations, finding_line, word_if};
 
+use crate::text::push_frame;
 use arrayvec::ArrayVec;
 use can_code::{CodeFaultKind, Heard};
 use can_stream::line::{LINE, Line, push, push_number};
@@ -55,7 +56,7 @@ fn frame_line(place: u64, heard: &Heard) -> Line
     let mut line = ArrayVec::new();
     push_number(&mut line, place);
     push(&mut line, b" ");
-    push(&mut line, heard.frame().to_text().as_bytes());
+    push_frame(&mut line, &heard.frame());
     push_acknowledgement(&mut line, heard.acked());
     push_deviations(&mut line, heard);
     push(&mut line, b"\n");

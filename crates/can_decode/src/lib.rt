@@ -9,8 +9,10 @@
 //! |---|---|---|
 //! | `decode.rt` | [`decode_stream`] | `specs/TraceText.antt`, `specs/Decoded.antt` |
 //! | `trace.rt` | a trace as it is heard, level by level | `specs/Decoding.antt` |
+//! | `searching.rt` | the search for an idle row behind a fault | `specs/Decoding.antt` |
 //! | `idle.rt` | rows of recessive levels, block by block | `specs/TraceText.antt` |
 //! | `finding.rt` | what is told of a trace, and its line | `specs/Decoded.antt` |
+//! | `text.rt` | the text of a frame in its line | can_frame's `specs/Text.antt` |
 //! | `laws.rt` | that in each trace one list is found, and each input has one answer | `specs/Decoded.antt` |
 //!
 //! `specs/Decoding.antt` has what the steps of `decode.rt` and `trace.rt` promise one another. Of the lemmas,
@@ -24,8 +26,10 @@ mod decode;
 mod finding;
 mod idle;
 mod laws;
+mod searching;
 #[cfg(test)]
 mod tests;
+mod text;
 mod trace;
 
 pub use decode::decode_stream;

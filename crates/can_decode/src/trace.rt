@@ -2,16 +2,14 @@
 ghost use Rattle.std.specs.Prelude.{◌≡◌, ◌+◌, ◌^◌, ◌<◌, ◌≤◌, ◌∷◌, ◌++◌, [], length, take, replicate, List, IsTrue};
 ghost use Rattle.can_decode.specs.TraceText.{IsTraceText, levels_in};
 ghost use Rattle.can_frame.specs.declared.level.Level.{Level as Bit};
-ghost use Rattle.can_frame.specs.declared.level.Level.TheVariants.{Recessive};
+ghost use Rattle.can_frame.specs.declared.level.Level.TheVariants.{Dominant, Recessive};
 ghost use Rattle.can_decode.specs.declared.finding.Finding.{Finding as Findings};
 ghost use Rattle.can_decode.specs.Decoding.{EndsWith, Hearing, Hears, SearchesOn, Stands, told_of};
 
 use crate::finding::Finding;
+use crate::searching::{LONGEST_ROW, search};
 use can_code::{CodeFaultKind, Decoder, PackedBits};
 use can_frame::{IDLE_ROW, Level};
-
-/// How many recessive levels may stand in a row behind a fault before an idle row ends the search.
-const LONGEST_ROW: u8 = IDLE_ROW - 1;
 
 /// Where a trace stands.
 #[derive(Drop)]
@@ -65,6 +63,20 @@ impl Trace {
         self.place += count as u64;
     }
 
+    /// Hears the level between frames with which a frame begins.
+    pub(crate) fn begin_frame(&mut self)
+        requires idle { self.old.state ≡ State.Idle }
+        requires fits { self.old.place + 1 < 2 ^ 64 }
+        ensures hears { Hears self.old self.new (Dominant ∷ []) [] }
+        ensures place { self.new.place ≡ self.old.place + 1 }
+    {
+        self.state = State::InFrame {
+            start: self.place,
+            decoder: Decoder::begin(),
+        };
+        self.place += 1;
+    }
+
     /// Hears the next level, and tells of the frame or the fault that ends with it.
     pub(crate) fn hear(&mut self, level: Level) -> Option<Finding>
         requires { self.old.place + 1 < 2 ^ 64 }
@@ -111,9 +123,9 @@ impl Trace {
         }
     }
 
-    /// Hears levels from the front of these digits within a frame, as many as it likes, and answers how many.
-    /// Nothing is told of them.
-    #[inline]
+    /// Hears levels from the front of these digits within a frame or behind a fault, as many as it likes, and
+    /// answers how many. Nothing is told of them.
+    #[inline(never)]
     pub(crate) fn hear_run(&mut self, digits: &[u8]) -> usize
         requires { self.old.place + length digits.now < 2 ^ 64 }
         ensures within { result ≤ length digits.now }
@@ -121,10 +133,15 @@ impl Trace {
         ensures hears { Hears self.old self.new (levels_in (take result digits.now)) [] }
         ensures place { self.new.place ≡ self.old.place + result }
     {
-        let State::InFrame { decoder, .. } = &mut self.state else {
-            return 0;
+        let heard = match &mut self.state {
+            State::Idle => 0,
+            State::InFrame { decoder, .. } => decoder.hear_run(digits),
+            State::Lost { row } => {
+                let searched = search(digits, *row);
+                *row = searched.row;
+                searched.taken
+            }
         };
-        let heard = decoder.hear_run(digits);
         self.place += heard as u64;
         heard
     }

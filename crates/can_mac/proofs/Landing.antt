@@ -1,8 +1,9 @@
 -- What a bit time makes of a controller, from its fields: a move, and where it lands.
-use Rattle.std.proofs.Common.{◌≡◌, ◌≤◌, Bool, true, false, IsTrue, IsFalse, Option, None, refl, sym, ◌∙◌, ap, subst, arith, cond}
+use Rattle.std.proofs.Common.{◌≡◌, ◌≤◌, Bool, true, false, IsTrue, IsFalse, Option, Some, None, refl, sym, ◌∙◌, ap, subst, arith, cond}
 use Rattle.std.proofs.Math.Dec.{leb}
 use Rattle.std.proofs.lemmas.Bool.{cond-true, cond-false, le-leb, leb-true, or_left}
 use Rattle.can_frame.specs.declared.level.Level.{Level}
+use Rattle.can_frame.specs.declared.level.Level.TheVariants.{Dominant}
 use Rattle.can_frame.specs.Parts.{Parts}
 use Rattle.can_fault.specs.declared.state.State.TheVariants.{Active, Passive, BusOff as off_state}
 use Rattle.can_fault.specs.Counters.{ConfineParts, is_bus_off, is_passive, state_of}
@@ -12,7 +13,7 @@ use Rattle.can_mac.specs.declared.moves.Stance.{Stance}
 use Rattle.can_mac.specs.declared.phase.Role.TheVariants.{Receiver}
 use Rattle.can_mac.specs.declared.phase.Phase.TheVariants.{BusOff}
 use Rattle.can_mac.specs.State.{MacPhase, MacState, IsMac, IsFrameOrNone, is_off_phase}
-use Rattle.can_mac.specs.Moves.{MacMove, goes, move, move_keeping}
+use Rattle.can_mac.specs.Moves.{MacMove, begins_frame, goes, idle_move, move, move_keeping, next_role}
 use Rattle.can_mac.specs.Machine.{step_counting, mac_step, off_step, on_step, stance}
 use Rattle.can_mac.proofs.Kept.{on_kept}
 
@@ -55,6 +56,11 @@ pub passes-IsMac : (m : MacState) → IsMac m → (waiting : Option Parts) → I
     → IsMac (record { phase = p; role = m.role; overloads = m.overloads; counters = m.counters })
 passes-IsMac m h waiting whole x true p is on same = goes-on-IsMac m m refl h (on refl) waiting whole x p (is refl)
 passes-IsMac m h waiting whole x false p is on same = rw (same refl) h
+
+-- an idle controller takes part in a frame that begins, as one does in the last bit of intermission
+pub idle_begins : (s : Stance) (waiting : Option Parts) → idle_move s waiting Dominant ≡ begins_frame s (next_role false waiting)
+idle_begins s None = refl
+idle_begins s (Some f) = refl
 
 -- one bit time, off the bus and on it
 pub step_off : (m : MacState) (waiting : Option Parts) (x : Level) → is_off_phase m.phase ≡ true → mac_step m waiting x ≡ off_step m x

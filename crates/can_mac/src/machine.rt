@@ -1,6 +1,7 @@
-ghost use Rattle.std.specs.Prelude.{◌≡◌, ◌≤◌, ◌↔◌, length, true, false, IsTrue, IsFalse, None};
+ghost use Rattle.std.specs.Prelude.{◌≡◌, ◌≤◌, ◌↔◌, length, true, false, IfSome, IsNone, IsTrue, IsFalse, Option, None};
 ghost use Rattle.std.specs.Option.{option_copied};
 ghost use Rattle.can_code.specs.Front.{FrontParts};
+ghost use Rattle.can_frame.specs.Parts.{Parts};
 ghost use Rattle.can_fault.specs.Counters.{counted, is_bus_off, is_passive as is_passive_by};
 ghost use Rattle.can_mac.specs.State.{idle as idle_state, IsMac, IsPhase, IsFrameOrNone, is_off_phase, joining as joining_state, starting};
 ghost use Rattle.can_mac.specs.Moves.{move, move_keeping};
@@ -8,7 +9,8 @@ ghost use Rattle.can_mac.specs.Machine.{holding, IsSilent, mac_drives, mac_step,
 
 use crate::driving::{level_of_part, level_of_slot};
 use crate::event::Event;
-use crate::moves::{Hearing, MOST_OVERLOADS, Stance, enter, goes_on, next_move};
+use crate::moves::in_place::move_in_place;
+use crate::moves::{Hearing, MOST_OVERLOADS, Move, Stance, enter, follows, goes_on, next_move};
 use crate::phase::{Overloads, Phase, Role};
 use can_code::{FrameBits, Front, PackedBits, PlainBits};
 use can_fault::{Cause, Confine, State};
@@ -106,6 +108,7 @@ impl<B: FrameBits> MediumAccess<B> {
 
     /// Takes the level that the bus has in this bit time, where this frame waits to be sent: what is
     /// told. What the controller drove is what [`MediumAccess::drive`] answers for the same frame.
+    /// [`MediumAccess::passes`] takes most levels quicker.
     #[tactic(auto, unfolding(crate::specs::Machine::mac_step))]
     pub fn sample(&mut self, waiting: Option<&Frame>, seen: Level) -> Option<Event>
         ensures state { self.new ≡ (mac_step self.old (option_copied waiting.entry) seen).0 }
@@ -129,6 +132,20 @@ impl<B: FrameBits> MediumAccess<B> {
     {
         within_limits(waiting);
         goes_on(&self.role, &mut self.phase, waiting, seen)
+    }
+
+    /// Takes a level with which the controller just goes on, as [`MediumAccess::passes`] does, and behind which it
+    /// drives recessive: both whatever waits. Most levels are such to a receiver, and a caller that asks this first
+    /// need not look for the frame that waits.
+    #[tactic(auto, unfolding(crate::specs::Machine::mac_step, crate::specs::Machine::mac_drives))]
+    #[inline(always)]
+    pub fn follows(&mut self, seen: Level) -> bool
+        ensures taken { IsTrue result → (waiting : Option Parts) → mac_step self.old waiting seen ≡ (self.new, None) }
+        ensures recessive { IsTrue result → (waiting : Option Parts) → mac_drives self.new waiting ≡ Level.Recessive }
+        ensures unchanged { IsFalse result → self.new ≡ self.old }
+        ensures kept { IsMac self.new }
+    {
+        follows(&self.role, &mut self.phase, seen)
     }
 
     /// Asks for `count` overload frames of its own, in place of what was asked for before. `false`
@@ -186,11 +203,41 @@ impl<B: FrameBits> MediumAccess<B> {
         ensures state { self.new ≡ (on_step self.old (move (stance_of self.old) self.old.phase (option_copied waiting.entry) seen)).0 }
         ensures event { result ≡ (on_step self.old (move (stance_of self.old) self.old.phase (option_copied waiting.entry) seen)).1 }
     {
-        if self.passes(waiting, seen) {
-            return None;
-        }
         within_limits(waiting);
+        if let Some(event) = self.move_in_place(waiting, seen) {
+            return event;
+        }
         self.make_move(waiting, seen)
+    }
+
+    /// A level that makes a move of a frame that goes well: what is told. Else nothing changes.
+    #[inline(always)]
+    fn move_in_place(&mut self, waiting: Option<&Frame>, seen: Level) -> Option<Option<Event>>
+        requires on_bus { is_off_phase self.old.phase ≡ false }
+        requires waiting { IsFrameOrNone (option_copied waiting) }
+        ensures state { IfSome result (λ event. self.new ≡ (on_step self.old (move (stance_of self.old) self.old.phase (option_copied waiting.entry) seen)).0) }
+        ensures event { IfSome result (λ event. event ≡ (on_step self.old (move (stance_of self.old) self.old.phase (option_copied waiting.entry) seen)).1) }
+        ensures unchanged { IsNone result → self.new ≡ self.old }
+    {
+        let passive = is_passive(&self.confine);
+        let Some(outcome) = move_in_place(
+            passive,
+            &mut self.phase,
+            &mut self.role,
+            &mut self.overloads,
+            waiting,
+            seen,
+        ) else {
+            return None;
+        };
+        let made = Move {
+            phase: None,
+            role: self.role,
+            overloads: self.overloads,
+            cause: outcome.cause,
+            event: outcome.event,
+        };
+        Some(land(&mut self.phase, &mut self.role, &mut self.confine, made))
     }
 
     /// A level that makes a move.
@@ -214,6 +261,7 @@ impl<B: FrameBits> MediumAccess<B> {
 
 /// Lands where a move leads, whose phase may have been heard in place: what is told. Where what it counts makes the
 /// controller bus off, this is told in place of all else.
+#[inline(always)]
 fn land<B: FrameBits>(
     phase: &mut Phase<Front<B>>,
     role: &mut Role,

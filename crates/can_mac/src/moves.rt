@@ -4,16 +4,20 @@
 pub(crate) mod between_frames;
 pub(crate) mod flags;
 pub(crate) mod frame_end;
+pub(crate) mod in_place;
 pub(crate) mod stuffed_part;
 
-ghost use Rattle.std.specs.Prelude.{◌≡◌, ◌≢◌, IsFalse, IsTrue, false};
+ghost use Rattle.std.specs.Prelude.{◌≡◌, ◌≢◌, IsFalse, IsTrue, Option, false};
 ghost use Rattle.std.specs.Option.{option_copied};
 ghost use Rattle.can_code.specs.Front.{FrontParts};
+ghost use Rattle.can_frame.specs.Parts.{Parts};
+ghost use Rattle.can_mac.specs.Machine.{phase_drives};
 ghost use Rattle.can_mac.specs.State.{IsPhase, is_off_phase};
 ghost use Rattle.can_mac.specs.Moves.{begins_frame, enters_intermission, errs, errs_by, errs_in_flag, flag, goes, is_held_back, move, overload, part_phase, phase_after, move_keeping, tells};
 ghost use Rattle.can_mac.specs.declared.moves.Stance.{Stance as Standing};
 ghost use Rattle.can_mac.specs.declared.phase.Phase.TheVariants.{AckDelimiter, AckSlot, CrcDelimiter, EndOfFrame, StuffedPart};
 ghost use Rattle.can_mac.specs.declared.phase.Reading.{Reading as ReadingParts};
+ghost use Rattle.can_mac.specs.declared.phase.Role.{Role as Part};
 
 use crate::event::{ErrorKind, Event};
 use crate::phase::{Overloads, Phase, Role};
@@ -255,8 +259,23 @@ pub(crate) fn goes_on<B: FrameBits>(
     ensures on_bus { IsTrue result → is_off_phase phase.old ≡ false }
     ensures unchanged { IsFalse result → phase.new ≡ phase.old }
 {
+    match phase {
+        Phase::StuffedPart(_) => hears_on(role, phase, seen),
+        _ => goes_on_outside(role, phase, waiting, seen),
+    }
+}
+
+/// The same, in the stuffed part of a frame, where what waits changes nothing.
+#[inline(always)]
+fn hears_on<B: FrameBits>(role: &Role, phase: &mut Phase<Front<B>>, seen: Level) -> bool
+    requires { IsPhase phase.old }
+    ensures on { IsTrue result → (s : Standing) (waiting : Option Parts) → s.role ≡ role.now → move s phase.old waiting seen ≡ goes s phase.new }
+    ensures silent { IsTrue result → (waiting : Option Parts) → phase_drives phase.new Role.Receiver waiting ≡ Level.Recessive }
+    ensures on_bus { IsTrue result → is_off_phase phase.old ≡ false }
+    ensures unchanged { IsFalse result → phase.new ≡ phase.old }
+{
     let Phase::StuffedPart(front) = phase else {
-        return goes_on_outside(role, phase, waiting, seen);
+        return false;
     };
     if !is_in_order(role, front, seen) {
         return false;
@@ -266,6 +285,47 @@ pub(crate) fn goes_on<B: FrameBits>(
         end_part(phase);
     }
     true
+}
+
+/// Takes a level with which the controller just goes on, and behind which it drives recessive whatever waits. It
+/// answers whether the level is one; else nothing changes.
+#[inline(always)]
+pub(crate) fn follows<B: FrameBits>(role: &Role, phase: &mut Phase<Front<B>>, seen: Level) -> bool
+    requires { IsPhase phase.old }
+    ensures on { IsTrue result → (s : Standing) (waiting : Option Parts) → s.role ≡ role.now → move s phase.old waiting seen ≡ goes s phase.new }
+    ensures silent { IsTrue result → (waiting : Option Parts) → phase_drives phase.new role.now waiting ≡ Level.Recessive }
+    ensures on_bus { IsTrue result → is_off_phase phase.old ≡ false }
+    ensures unchanged { IsFalse result → phase.new ≡ phase.old }
+{
+    if let Phase::StuffedPart(_) = phase {
+        return match role {
+            Role::Receiver => hears_on(role, phase, seen),
+            Role::Sender(_) => false,
+        };
+    }
+    follows_end(phase, seen)
+}
+
+/// The same, in the end of frame and in intermission. It stands apart, since most levels are of the stuffed part.
+#[inline(never)]
+fn follows_end<B: FrameBits>(phase: &mut Phase<Front<B>>, seen: Level) -> bool
+    requires { IsPhase phase.old }
+    ensures on { IsTrue result → (s : Standing) (waiting : Option Parts) → move s phase.old waiting seen ≡ goes s phase.new }
+    ensures silent { IsTrue result → (role : Part) (waiting : Option Parts) → phase_drives phase.new role waiting ≡ Level.Recessive }
+    ensures on_bus { IsTrue result → is_off_phase phase.old ≡ false }
+    ensures unchanged { IsFalse result → phase.new ≡ phase.old }
+{
+    match phase {
+        Phase::EndOfFrame { place, .. } if seen.is_recessive() && *place < LAST_OF_FRAME - 1 => {
+            *place += 1;
+            true
+        }
+        Phase::Intermission { place } if seen.is_recessive() && *place < LAST_OF_INTERMISSION => {
+            *place += 1;
+            true
+        }
+        _ => false,
+    }
 }
 
 /// The same, outside of the stuffed part of a frame. It stands apart, since most levels are of that part.
@@ -292,21 +352,14 @@ fn goes_on_outside<B: FrameBits>(
             pass_delimiter(phase);
             true
         }
-        Phase::EndOfFrame { place, .. } if seen.is_recessive() && *place < LAST_OF_FRAME - 1 => {
-            *place += 1;
-            true
-        }
-        Phase::Intermission { place } if seen.is_recessive() && *place < LAST_OF_INTERMISSION => {
-            *place += 1;
-            true
-        }
+        Phase::EndOfFrame { .. } | Phase::Intermission { .. } => follows_end(phase, seen),
         _ => false,
     }
 }
 
 /// Ends the stuffed part of a frame, where it has ended.
 #[inline(never)]
-fn end_part<B: FrameBits>(phase: &mut Phase<Front<B>>)
+pub(crate) fn end_part<B: FrameBits>(phase: &mut Phase<Front<B>>)
     ensures { (front : FrontParts) → phase.old ≡ StuffedPart front → phase.new ≡ part_phase front }
 {
     if let Phase::StuffedPart(front) = phase {

@@ -347,6 +347,38 @@ fn most_levels_of_a_frame_pass(rt: HostRuntime) {
     assert_eq!(rt; port.rec(&rt), 0);
 }
 
+/// The same frame: of the levels that pass a receiver follows those of the stuffed part behind the start of frame, the first
+/// five of the end of frame, and the first two of intermission. Behind the CRC delimiter it drives dominant.
+#[test]
+fn a_receiver_follows_most_levels(rt: HostRuntime) {
+    let levels = "000001000001000001000001000001000001000010111111111111";
+    let followed = "011111111111111111111111111111111111111100011111001100";
+    let mut port = Port::idle();
+    for (level, follows) in levels.bytes().zip(followed.bytes()) {
+        let seen = Level::from_bool(level == b'1');
+        let has_followed = port.plain.follows(seen);
+        assert_eq!(rt; has_followed, follows == b'1');
+        assert_eq!(rt; port.packed.follows(seen), has_followed);
+        if has_followed {
+            assert_eq!(rt; port.drives(&rt, None), Level::Recessive);
+        } else {
+            let _event = port.tells(&rt, None, seen);
+        }
+    }
+    assert_eq!(rt; port.rec(&rt), 0);
+}
+
+/// A sender drives its frame behind each level of it.
+#[test]
+fn a_sender_follows_no_level_of_its_frame(rt: HostRuntime) -> Result<(), Fail> {
+    let frame = empty_frame(0)?;
+    let mut port = Port::idle();
+    assert_eq!(rt; port.tells(&rt, Some(&frame), Level::Dominant), None);
+    assert!(rt; !port.plain.follows(Level::Dominant));
+    assert!(rt; !port.packed.follows(Level::Dominant));
+    Ok(())
+}
+
 /// How many bytes a controller takes that holds the unstuffed levels one by one, and one that holds them in a
 /// register.
 #[test]

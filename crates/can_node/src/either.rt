@@ -38,6 +38,14 @@ impl Port for EitherNode {
         }
     }
 
+    #[inline(always)]
+    fn turn(&mut self, seen: Level) -> Level {
+        match self {
+            EitherNode::Plain(node) => node.turn(seen),
+            EitherNode::Packed(node) => node.turn(seen),
+        }
+    }
+
     fn offer(&mut self, frame: Frame) -> Result<(), Frame> {
         match self {
             EitherNode::Plain(node) => node.offer(frame),

@@ -69,7 +69,7 @@ impl<B: FrameBits> Node<B> {
 }
 
 impl<B: FrameBits> Node<B> {
-    ghost use Rattle.can_node.specs.Ports.{port_noting, port_event, port_step};
+    ghost use Rattle.can_node.specs.Ports.{port_drives, port_noting, port_event, port_step};
 
     /// A level that may tell something.
     #[tactic(auto, unfolding(crate::specs::Ports::port_step))]
@@ -81,6 +81,17 @@ impl<B: FrameBits> Node<B> {
         let event = self.mac.sample(self.queue.waiting(), seen);
         self.note(&event);
         event
+    }
+
+    /// A level behind which the port may drive dominant.
+    #[tactic(auto, unfolding(crate::specs::Ports::port_step))]
+    #[inline(never)]
+    fn turn_apart(&mut self, seen: Level) -> Level
+        ensures port { ⟦<Node<B> as Port>⟧.port self.new ≡ port_step (⟦<Node<B> as Port>⟧.port self.old) seen }
+        ensures level { result ≡ port_drives (⟦<Node<B> as Port>⟧.port self.new) }
+    {
+        let _event = self.sample(seen);
+        self.drive()
     }
 
     /// The medium access of its controller.
@@ -133,6 +144,16 @@ impl<B: FrameBits> Port for Node<B> {
             return None;
         }
         self.take(seen)
+    }
+
+    #[tactic(auto, unfolding(crate::specs::Ports::port_step, crate::specs::Ports::port_drives))]
+    #[inline(always)]
+    fn turn(&mut self, seen: Level) -> Level {
+        // most ports hear a frame, whatever waits in them
+        if self.mac.follows(seen) {
+            return Level::Recessive;
+        }
+        self.turn_apart(seen)
     }
 
     fn offer(&mut self, frame: Frame) -> Result<(), Frame> {

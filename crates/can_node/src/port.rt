@@ -26,6 +26,12 @@ pub trait Port {
         ensures port { port self.new ≡ port_step (port self.old) seen }
         ensures event { result ≡ port_event (port self.old) seen };
 
+    /// Samples a level, and answers what the port drives in the next bit time. It is [`Port::sample`] with
+    /// [`Port::drive`] behind it, for a caller that asks for no event.
+    fn turn(&mut self, seen: Level) -> Level
+        ensures port { port self.new ≡ port_step (port self.old) seen }
+        ensures level { result ≡ port_drives (port self.new) };
+
     /// Queues a frame behind those that wait. A full queue refuses it: the frame comes back, and
     /// nothing changes.
     fn offer(&mut self, frame: Frame) -> Result<(), Frame>

@@ -177,6 +177,36 @@ fn the_frames_that_stay_keep_their_order(rt: HostRuntime) -> Result<(), Fail> {
     Ok(())
 }
 
+/// The sender drives each level of its frame behind the one before it. The receiver drives its acknowledgement alone,
+/// in the ACK slot, which is level 41.
+#[test]
+fn a_turn_answers_what_is_driven_next(rt: HostRuntime) -> Result<(), Fail> {
+    for kind in KINDS {
+        let mut sender = kind.idle(rt.alloc(), 1, 1)?;
+        let mut receiver = kind.idle(rt.alloc(), 0, 1)?;
+        let own = frame("S 000 D 0")?;
+        assert!(rt; sender.offer(own).is_ok());
+        let wire = levels(rt.alloc(), WIRE_000)?;
+        for place in 1..wire.len() {
+            let seen = wire[place - 1];
+            let acknowledges = place == 41;
+            let expected = if acknowledges {
+                Level::Recessive
+            } else {
+                wire[place]
+            };
+            assert_eq!(rt; sender.turn(seen), expected, "at {place}");
+            assert_eq!(rt;
+                receiver.turn(seen).is_recessive(),
+                !acknowledges,
+                "at {place}"
+            );
+        }
+        assert_eq!(rt; receiver.log(), [taken(own)].as_slice());
+    }
+    Ok(())
+}
+
 #[test]
 fn a_refused_wish_changes_nothing(rt: HostRuntime) -> Result<(), Fail> {
     for kind in KINDS {

@@ -1,2 +1,3 @@
 mod CodeLemmas
+mod ReportLemmas
 mod TraceLemmas

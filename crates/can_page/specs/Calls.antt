@@ -3,7 +3,7 @@ use Rattle.std.specs.Prelude.{◌≢◌, ℕ, ◌<◌, ◌≤◌, Bool, List, le
 use Rattle.can_frame.specs.Ident.{ident_count}
 use Rattle.can_frame.specs.Parts.{Parts, byte_count}
 use Rattle.can_page.specs.declared.answer.Answer.{Answer}
-use Rattle.can_page.specs.declared.answer.Answer.TheVariants.{Done, NoRoom, BadLevel, BadIdentifier, BadDlc, BadCount, LetterFault, IdentifierFault, DirectionFault, DlcFault, DataFault, TrailingFault}
+use Rattle.can_page.specs.declared.answer.Answer.TheVariants.{Done, NoRoom, BadLevel, BadIdentifier, BadDlc, BadCount, BadScenario, NoPort, NoMemory, LetterFault, IdentifierFault, DirectionFault, DlcFault, DataFault, TrailingFault}
 
 -- the parts of a frame
 abbrev pub parts_of : ℕ → Bool → Bool → ℕ → List ℕ → Parts
@@ -17,6 +17,9 @@ IsRefusal BadCount f = length f.bytes ≢ byte_count f.remote f.dlc
 IsRefusal Done f = ⊥
 IsRefusal NoRoom f = ⊥
 IsRefusal BadLevel f = ⊥
+IsRefusal BadScenario f = ⊥
+IsRefusal NoPort f = ⊥
+IsRefusal NoMemory f = ⊥
 IsRefusal LetterFault f = ⊥
 IsRefusal IdentifierFault f = ⊥
 IsRefusal DirectionFault f = ⊥

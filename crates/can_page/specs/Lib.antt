@@ -3,5 +3,6 @@ pub mod Answers
 pub mod Codes
 pub mod Calls
 pub mod Lines
+pub mod Plain
 -- For models only
 pub mod Texts

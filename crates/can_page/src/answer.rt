@@ -18,6 +18,12 @@ pub enum Answer {
     BadDlc,
     /// There are not as many data bytes as the DLC says.
     BadCount,
+    /// The document says no scenario.
+    BadScenario,
+    /// The scenario has no port of this number.
+    NoPort,
+    /// Memory ran out.
+    NoMemory,
     /// A frame text is wrong in its kind letter.
     LetterFault,
     /// A frame text is wrong in its identifier.
@@ -44,6 +50,9 @@ impl Answer {
             Answer::BadIdentifier => 3,
             Answer::BadDlc => 4,
             Answer::BadCount => 5,
+            Answer::BadScenario => 6,
+            Answer::NoPort => 7,
+            Answer::NoMemory => 8,
             Answer::LetterFault => 11,
             Answer::IdentifierFault => 12,
             Answer::DirectionFault => 13,

@@ -1,8 +1,8 @@
-//! What the page in page/ asks of the proved code: bytes and numbers in, bytes and numbers out, with no memory but
-//! the caller's.
+//! What the page in page/ asks of the proved code: bytes and numbers in, bytes and numbers out. Only those that run a
+//! scenario take memory of their own.
 //!
-//! Each export does what one call of can_frame, can_code, can_fields or can_decode does, and promises it in the same
-//! definitions. It answers an [`Answer`] as a number.
+//! Each export does what one call of can_frame, can_code, can_fields, can_decode or can_scenario does, and promises it in
+//! the same definitions. It answers an [`Answer`] as a number.
 //!
 //! | File | What it has | Defined in |
 //! |---|---|---|
@@ -10,6 +10,8 @@
 //! | `codes.rt` | the numbers of levels, fields and flags | `specs/Codes.antt` |
 //! | `frames.rt` | [`page_frame_text`], the text of a frame by its parts, and [`page_encode`], the levels of a frame by its text | `specs/Calls.antt` |
 //! | `lines.rt` | [`Lines`], the caller's room for lines | `specs/Lines.antt` |
+//! | `plain.rt` | [`PlainTime`], what a port does in a bit time, and [`WrongField`], what is wrong in a scenario, as plain fields | `specs/Plain.antt` |
+//! | `scenarios.rt` | [`page_run`], the report of a scenario, and [`page_port_times`], what one of its ports does in each bit time | `specs/Calls.antt` |
 //! | `text.rt` | `Text`, bytes to be read, which a read never fails | `specs/Texts.antt` |
 //! | `traces.rt` | [`page_decode`], the frames and faults in a trace, and [`page_levels`], its levels | `specs/Calls.antt` |
 //! | `wires.rt` | [`page_marks`], the field of each level of a frame | `specs/Calls.antt` |
@@ -19,6 +21,8 @@ mod answer;
 mod codes;
 mod frames;
 mod lines;
+mod plain;
+mod scenarios;
 #[cfg(test)]
 mod tests;
 mod text;
@@ -28,5 +32,7 @@ mod wires;
 pub use answer::Answer;
 pub use frames::{page_encode, page_frame_text};
 pub use lines::{Lines, ROOM};
+pub use plain::{PlainTime, WrongField};
+pub use scenarios::{page_port_times, page_run};
 pub use traces::{page_decode, page_levels};
 pub use wires::page_marks;

@@ -1,7 +1,9 @@
 //! Rows that were worked out by hand, as docs/ and the README show them.
 use crate::answer::Answer;
+use crate::plain::WrongField;
+use crate::scenarios::run_onto;
 use crate::traces::decode_onto;
-use crate::{page_encode, page_frame_text, page_levels, page_marks};
+use crate::{PlainTime, page_encode, page_frame_text, page_levels, page_marks, page_port_times};
 use arrayvec::ArrayVec;
 use can_stream::ToWrite;
 
@@ -224,4 +226,113 @@ fn fields_of_fronts(rt: HostRuntime) {
         0
     );
     assert_eq!(rt; (count, fields[11], fields[12]), (13, 1, 2));
+}
+
+/// Two ports for so many bit times, of which the first sends `S 000 D 0`.
+const SCENARIO: &[u8] =
+    b"version = 1\nbits = 60\n[[port]]\nqueue = [\"S 000 D 0\"]\n[[port]]\nlog = 0\n";
+
+/// Its report.
+const REPORT: &[u8] = b"bits 60
+000001000001000001000001000001000001000010111111111111111111
+port 0 active tec 0 rec 0 missed 0
+  sent S 000 D 0
+port 1 active tec 0 rec 0 missed 1
+";
+
+#[test]
+fn a_scenario_has_a_report(rt: HostRuntime) {
+    let mut wrong = WrongField::none();
+    let mut lines = ToWrite::new(ArrayVec::<u8, 256>::new());
+    assert_eq!(rt;
+        run_onto(rt.alloc(), SCENARIO, &mut lines, &mut wrong),
+        Answer::Done
+    );
+    assert_eq!(rt; lines.into_inner().as_slice(), REPORT);
+    let mut lines = ToWrite::new(ArrayVec::<u8, 8>::new());
+    assert_eq!(rt;
+        run_onto(rt.alloc(), SCENARIO, &mut lines, &mut wrong),
+        Answer::NoRoom
+    );
+}
+
+#[test]
+fn what_is_no_scenario_is_told(rt: HostRuntime) {
+    let rows: [(&[u8], u8, usize, usize); 7] = [
+        (b"version", 0, 0, 0),
+        (b"version = 3", 2, 0, 0),
+        (b"version = 1\nbits = 1", 4, 0, 0),
+        (
+            b"version = 1\nbits = 1\n[[port]]\n[[port]]\nqueue = [\"S 000 D 0\", \"\"]",
+            8,
+            1,
+            1,
+        ),
+        (b"version = 1\nbits = 1\n[[port]]\nhold = 3", 11, 0, 0),
+        (b"version = 1\nbits = 1\nin = 1\n[[port]]", 13, 0, 0),
+        (
+            b"version = 1\nbits = 1\nview = [[0, 0], [0, 1]]\n[[port]]",
+            17,
+            1,
+            0,
+        ),
+    ];
+    for (text, field, number, element) in rows {
+        let mut wrong = WrongField::none();
+        let mut lines = ToWrite::new(ArrayVec::<u8, 8>::new());
+        assert_eq!(rt;
+            run_onto(rt.alloc(), text, &mut lines, &mut wrong),
+            Answer::BadScenario
+        );
+        assert_eq!(rt;
+            (wrong.field, wrong.number, wrong.element),
+            (field, number, element)
+        );
+    }
+}
+
+#[test]
+fn a_port_has_its_bit_times(rt: HostRuntime) {
+    let mut times = [PlainTime {
+        transmit: 9,
+        receive: 9,
+        stage: 99,
+        sends: 9,
+        drove: 9,
+        saw: 9,
+        brought: 99,
+    }; 60];
+    let mut count = 0;
+    assert_eq!(rt;
+        page_port_times(rt.alloc(), SCENARIO, 0, &mut times, &mut count),
+        0
+    );
+    assert_eq!(rt; count, 60);
+    assert_eq!(rt;
+        (times[0].stage, times[0].sends, times[0].drove, times[0].saw),
+        (1, 0, 0, 0)
+    );
+    assert_eq!(rt; (times[1].stage, times[1].sends), (2, 1));
+    // the ACK slot is left recessive, and seen dominant
+    assert_eq!(rt;
+        (times[41].stage, times[41].drove, times[41].saw),
+        (4, 1, 0)
+    );
+    assert_eq!(rt;
+        (times[49].stage, times[49].brought, times[50].stage),
+        (6, 1, 12)
+    );
+    assert_eq!(rt; (times[49].transmit, times[49].receive), (0, 0));
+    assert_eq!(rt;
+        page_port_times(rt.alloc(), SCENARIO, 2, &mut times, &mut count),
+        7
+    );
+    assert_eq!(rt;
+        page_port_times(rt.alloc(), SCENARIO, 0, &mut times[..59], &mut count),
+        1
+    );
+    assert_eq!(rt;
+        page_port_times(rt.alloc(), b"bits = 1", 0, &mut times, &mut count),
+        6
+    );
 }

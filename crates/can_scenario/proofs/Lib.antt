@@ -12,3 +12,5 @@ pub mod FirstOffers
 pub mod RoomForAll
 pub mod QuietOrder
 pub mod OneScenario
+pub mod SeenLevels
+pub mod ToldTimes

@@ -4,5 +4,6 @@ pub mod ScenarioOffers
 pub mod Report
 pub mod QuietReport
 pub mod OpenReport
+pub mod PortTimes
 -- For proofs and for models only
 pub mod ScenarioProps

@@ -14,6 +14,7 @@
 //! | `scenario/version.rt` | the versions of the format | |
 //! | `offers.rt` | the offers of a scenario, in the order in which they are made | `specs/ScenarioOffers.antt` |
 //! | `run.rt` | [`run_scenario`] | `specs/Report.antt`, `specs/OpenReport.antt`, `specs/QuietReport.antt` |
+//! | `port_times.rt` | [`told_times`], what a port does in each bit time | `specs/PortTimes.antt` |
 //! | `report.rt` | the report of a run, put line by line | `specs/Report.antt` |
 //! | `laws.rt` | that documents have one reading, offers one order, none of them finds a full queue, frames of time 0 wait, and quiet scenarios have one report, however each port was offered its frames | `specs/Scenarios.antt`, `specs/ScenarioOffers.antt`, `specs/Report.antt`, `specs/QuietReport.antt` |
 //!
@@ -27,6 +28,7 @@
 
 mod laws;
 mod offers;
+mod port_times;
 mod report;
 mod run;
 mod scenario;
@@ -38,5 +40,6 @@ pub use laws::{
     frames_of_time_0_wait, no_offer_finds_a_full_queue, offering_order_is_untold,
     one_order_of_offers, one_scenario,
 };
+pub use port_times::{Brought, PortTime, Stage, told_times};
 pub use run::run_scenario;
 pub use scenario::{PortPlan, Scenario, TimedFrame};

@@ -62,15 +62,15 @@ pub fn run_scenario<W: Sink>(
 
 /// A scenario that has run.
 #[derive(Drop)]
-struct Ended {
+pub(crate) struct Ended {
     /// The levels that were recorded.
-    levels: Vec<Level>,
+    pub(crate) levels: Vec<Level>,
     /// The ports as they ended.
     ports: Vec<PackedNode>,
 }
 
 /// Runs the scenario. It fails only where an allocation does.
-fn run(alloc: Global, scenario: &Scenario) -> Result<Ended, AllocError>
+pub(crate) fn run(alloc: Global, scenario: &Scenario) -> Result<Ended, AllocError>
     ensures levels { IfOk result (λ ended. ended.levels.items ≡ recorded_levels scenario.now) }
     ensures ports { IfOk result (λ ended. map ⟦<PackedNode as Port>⟧.port ended.ports.items ≡ (ended_bus scenario.now).ports) }
     ensures scheduled { OnOk result (IsOpenScenario scenario.now → AreOver (scenario_starts scenario.now) scenario.now.bits →
@@ -150,7 +150,7 @@ fn made_ports(alloc: Global, plans: &[PortPlan]) -> Result<Vec<PackedNode>, Allo
 }
 
 /// A port as it is made.
-fn made_port(alloc: Global, plan: &PortPlan) -> Result<PackedNode, AllocError>
+pub(crate) fn made_port(alloc: Global, plan: &PortPlan) -> Result<PackedNode, AllocError>
     ensures { IfOk result (λ node. ⟦<PackedNode as Port>⟧.port node ≡ made_port_of plan.now) }
 {
     let queue_room = plan.queue.len();
@@ -174,7 +174,7 @@ fn offer_waiting(ports: &mut [PackedNode], plans: &[PortPlan])
 }
 
 /// Offers the frames in their order to a port that has room for them.
-fn offer_all<P: Port>(port: &mut P, queue: &[TimedFrame])
+pub(crate) fn offer_all<P: Port>(port: &mut P, queue: &[TimedFrame])
     requires { length (P.port port.old).queue + length queue.now ≤ (P.port port.old).queue_room }
     ensures { P.port port.new ≡ all_offered (map (λ timed. timed.frame) queue.now) (P.port port.old) }
 {

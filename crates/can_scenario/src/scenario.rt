@@ -45,7 +45,7 @@ pub struct PortPlan {
 }
 
 impl Scenario {
-    ghost use Rattle.std.specs.Prelude.{IfErr, IfOk, IsErrOf};
+    ghost use Rattle.std.specs.Prelude.{◌≡◌, IfErr, IfOk, IsErrOf};
     ghost use Rattle.can_stream.specs.declared.field.Field.{Field as Wrong};
     ghost use Rattle.can_scenario.specs.Scenarios.{IsFieldOrMemory, IsFirstWrong, IsScenarioText};
 
@@ -74,5 +74,12 @@ impl Scenario {
             ports,
             hits,
         })
+    }
+
+    /// How many ports there are.
+    pub fn port_count(&self) -> usize
+        ensures { result ≡ length self.now.ports.items }
+    {
+        self.ports.len()
     }
 }

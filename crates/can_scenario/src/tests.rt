@@ -1,4 +1,5 @@
 mod hits;
+mod port_times;
 mod run;
 mod scenario;
 mod timed;

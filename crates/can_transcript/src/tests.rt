@@ -157,10 +157,12 @@ fn two_transcripts_of_one_case(rt: HostRuntime) -> Result<(), Fail> {
     let one = "version = 1\ncase = \"one\"\ndrove = []\n";
     let two = "version = 1\ncase = \"two\"\ndrove = []\n";
     let alloc = rt.alloc();
-    let text = format!(in alloc;
-        "[[transcript]]\n{one}[[transcript]]\n{two}[[transcript]]\n{one}"
-    )?;
-    assert_eq!(rt; refusal(alloc, &text)?, refused(2, TranscriptField::Case));
+    for again in [one, two] {
+        let text = format!(in alloc;
+            "[[transcript]]\n{one}[[transcript]]\n{two}[[transcript]]\n{again}"
+        )?;
+        assert_eq!(rt; refusal(alloc, &text)?, refused(2, TranscriptField::Case));
+    }
     Ok(())
 }
 

@@ -28,6 +28,7 @@ pub mod CrcTable
 pub mod OctetLemmas
 pub mod CheckRuns
 -- stuffing
+pub mod StuffSteps
 pub mod OneStuffing
 -- the layout of unstuffed levels
 pub mod LayoutNumbers

@@ -4,3 +4,5 @@ pub mod Stuffing
 pub mod Wire
 pub mod Heard
 pub mod Layout
+-- For proofs only
+pub mod StuffSteps

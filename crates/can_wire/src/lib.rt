@@ -10,6 +10,7 @@
 //! | `crc.rt` | [`crc15`], the CRC sequence | `specs/Crc.antt` |
 //! | `crc_run.rt` | [`CrcRun`], the CRC sequence of levels that come one by one | `specs/Crc.antt` |
 //! | `stuffing.rt` | [`stuff`], the stuff bits, and [`run_after`], the run that a level ends | `specs/Stuffing.antt` |
+//! | `stuff_steps.rt` | levels as they are laid out with their stuff bits, eight in a step | `specs/StuffSteps.antt` |
 //! | `heard.rt` | [`Heard`], a frame as it is heard | `specs/Heard.antt` |
 //! | `frame_bits.rt` | [`FrameBits`], the unstuffed levels of a frame that have been heard or laid out | |
 //! | `plain_bits.rt` | [`PlainBits`], these levels one by one | |
@@ -38,6 +39,7 @@ mod packed_bits;
 pub mod places;
 mod plain_bits;
 mod spelling;
+mod stuff_steps;
 mod stuffing;
 mod two_words;
 

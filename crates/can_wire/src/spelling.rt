@@ -1,18 +1,23 @@
-ghost use Rattle.std.specs.Prelude.{◌≡◌, ◌≤◌, ◌++◌, if◌then◌else◌, List};
+ghost use Rattle.std.specs.Prelude.{◌≡◌, ◌+◌, ◌≤◌, ◌++◌, if◌then◌else◌, List, length, take};
 ghost use Rattle.arrayvec.specs.ArrayVec.{array_vec_len};
 ghost use Rattle.can_frame.specs.declared.level.Level.{Level as Bit};
 ghost use Rattle.can_wire.specs.Wire.{tail};
 ghost use Rattle.can_wire.specs.Heard.{ack_slot, Spells, spelling};
+ghost use Rattle.can_wire.specs.Stuffing.{stuffed};
 
+use crate::frame_bits::FrameBits;
 use crate::heard::{END_OF_FRAME, Heard};
 use crate::layout::head_and_crc;
-use crate::plain_bits::PlainBits;
-use crate::stuffing::stuff_onto;
+use crate::packed_bits::PackedBits;
+use crate::stuff_steps::{LONGEST_WIRE, STEP_LEVELS, Stuffing};
 use arrayvec::ArrayVec;
 use can_frame::Level;
 
 /// The CRC delimiter and the ACK delimiter.
 const DELIMITER: Level = Level::Recessive;
+
+/// How many levels stand behind the stuffed part.
+const TAIL_LEVELS: usize = 10;
 
 /// The levels that spell what is heard, one for each bit time, from the start of frame to the end
 /// of frame. Their CRC sequence is that of the levels that were heard. (Bosch CAN 2.0 part B,
@@ -23,18 +28,41 @@ pub fn respell(heard: &Heard) -> ArrayVec<Level, 157>
     ensures computed { result.items ≡ spelling heard.now }
     ensures bound { array_vec_len result ≤ (if heard.now.frame.id.extended then 157 else 132) }
 {
-    let unstuffed: PlainBits = head_and_crc(heard);
-    let mut levels = ArrayVec::new();
-    stuff_onto(&mut levels, unstuffed.as_slice());
-    push_tail(&mut levels, heard);
-    levels
+    let unstuffed: PackedBits = head_and_crc(heard);
+    let mut levels = [Level::Recessive; LONGEST_WIRE];
+    let part = lay_out(&mut levels, &unstuffed);
+    put_tail(&mut levels, part, heard);
+    let mut wire = ArrayVec::from(levels);
+    wire.truncate(part + TAIL_LEVELS);
+    wire
 }
 
-/// Appends the ten levels behind the stuffed part: CRC delimiter, ACK slot, ACK delimiter, and
-/// seven levels of the end of frame.
-fn push_tail(levels: &mut ArrayVec<Level, 157>, heard: &Heard)
-    requires { array_vec_len levels.old ≤ 147 }
-    ensures { levels.new.items ≡ levels.old.items ++ tail (ack_slot heard.now.acked) heard.now.last }
+/// Lays out the levels with their stuff bits, eight in a step, and answers how many they are.
+fn lay_out(levels: &mut [Level; LONGEST_WIRE], unstuffed: &PackedBits) -> usize
+    requires some { 1 ≤ length unstuffed.now }
+    requires few { length unstuffed.now ≤ 118 }
+    ensures levels { take result levels.new ≡ stuffed unstuffed.now }
+    ensures bound { result ≤ 147 }
+{
+    let count = unstuffed.len();
+    let mut stuffing = Stuffing::begin(levels, unstuffed.level_at(0));
+    let mut place = 1;
+    while place + STEP_LEVELS <= count {
+        stuffing.push_octet(levels, unstuffed.number_at(place, STEP_LEVELS) as u8);
+        place += STEP_LEVELS;
+    }
+    while place < count {
+        stuffing.push(levels, unstuffed.level_at(place));
+        place += 1;
+    }
+    stuffing.len
+}
+
+/// Puts the ten levels behind the stuffed part: CRC delimiter, ACK slot, ACK delimiter, and seven levels of the end of
+/// frame.
+fn put_tail(levels: &mut [Level; LONGEST_WIRE], place: usize, heard: &Heard)
+    requires { place ≤ 147 }
+    ensures { take (place + TAIL_LEVELS) levels.new ≡ take place levels.old ++ tail (ack_slot heard.now.acked) heard.now.last }
 {
     let ack_slot = if heard.acked() {
         Level::Dominant
@@ -46,7 +74,5 @@ fn push_tail(levels: &mut ArrayVec<Level, 157>, heard: &Heard)
     let tail = [
         DELIMITER, ack_slot, DELIMITER, end, end, end, end, end, end, last,
     ];
-    for level in tail {
-        levels.push(level);
-    }
+    levels[place..place + TAIL_LEVELS].copy_from_slice(&tail);
 }

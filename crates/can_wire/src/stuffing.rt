@@ -1,5 +1,4 @@
 ghost use Rattle.std.specs.Prelude.{◌≡◌, ◌+◌, ◌<◌, ◌≤◌, ◌++◌, List, length};
-ghost use Rattle.arrayvec.specs.ArrayVec.{array_vec_len};
 ghost use Rattle.can_frame.specs.declared.level.Level.{Level as Bit};
 ghost use Rattle.can_wire.specs.Stuffing.{Stuffs, stuffed as stuffed_of, run_after as run_after_of};
 
@@ -18,15 +17,6 @@ pub fn stuff(levels: &[Level]) -> ArrayVec<Level, 147>
     ensures computed { result.items ≡ stuffed_of levels.now }
 {
     let mut stuffed = ArrayVec::new();
-    stuff_onto(&mut stuffed, levels);
-    stuffed
-}
-
-/// Appends the levels with their stuff bits. What stands there already begins no run.
-pub(crate) fn stuff_onto<const N: usize>(stuffed: &mut ArrayVec<Level, N>, levels: &[Level])
-    requires { array_vec_len stuffed.old + length (stuffed_of levels.now) ≤ N }
-    ensures { stuffed.new.items ≡ stuffed.old.items ++ stuffed_of levels.now }
-{
     let mut last = Level::Dominant;
     let mut run = 0;
     for level in levels {
@@ -39,6 +29,7 @@ pub(crate) fn stuff_onto<const N: usize>(stuffed: &mut ArrayVec<Level, N>, level
             stuffed.push(last);
         }
     }
+    stuffed
 }
 
 /// The length of the run that `level` ends, behind a run of `last`.

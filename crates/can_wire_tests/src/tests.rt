@@ -6,6 +6,7 @@ use can_wire::{
 };
 use std::test::Fail;
 
+mod encoded;
 mod frame_bits;
 mod heard;
 

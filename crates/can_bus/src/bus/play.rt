@@ -13,6 +13,7 @@ use crate::call::Call;
 use crate::check::check;
 use crate::fault::BusFault;
 use crate::offer::Offer;
+use crate::wire::wired_level;
 use can_frame::Level;
 use can_node::Port;
 
@@ -96,7 +97,8 @@ impl<P: Port> Bus<P> {
         };
         for slot in rec.iter_mut() {
             self.make_all(offers, call.time, &mut progress);
-            *slot = self.step(&[], &mut call);
+            let mut driven = wired_level(self.ports.as_slice());
+            *slot = self.step(&[], &mut call, &mut driven);
         }
         Ok(progress.refused)
     }

@@ -51,7 +51,7 @@ pub(crate) fn idle(stance: &Stance, waiting: Option<&Frame>, seen: Level) -> Ent
 }
 
 /// What a controller is to a frame that begins in the last bit of intermission.
-fn role_in_next(held_back: bool, waiting: Option<&Frame>) -> Role
+pub(crate) fn role_in_next(held_back: bool, waiting: Option<&Frame>) -> Role
     ensures { result ≡ next_role held_back (option_copied waiting.entry) }
 {
     match waiting {

@@ -92,10 +92,11 @@ fn stuff_error(stance: &Stance, place: usize, seen: Level) -> Entering
 
 /// Whether the unstuffed level at this place of a frame belongs to its identifier or is a bit that
 /// stands with it: SRR and IDE of an extended frame, RTR.
-fn is_in_arbitration(sending: &Sending, place: usize) -> bool
+pub(crate) fn is_in_arbitration(sending: &Sending, place: usize) -> bool
     ensures { (u : List Bit) → length u ≡ place → result ≡ in_arbitration sending.now u }
 {
-    place <= rtr_place(sending.frame().is_extended())
+    // the frame is worked out of its levels, which most places don't need
+    place <= rtr_place(false) || place <= rtr_place(true) && sending.frame().is_extended()
 }
 
 /// A level of its frame that a sender sent, and the one that it sees. A recessive level that is overridden in its

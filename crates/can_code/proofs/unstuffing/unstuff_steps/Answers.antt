@@ -1,33 +1,16 @@
-use Rattle.std.proofs.Common.{sym, arith, length-drop}
-use Rattle.std.proofs.lemmas.List.{take_rest}
-use Rattle.can_wire.proofs.PackedLemmas.{moved-fits}
-use Rattle.can_code.proofs.StepLemmas.{StepBounds, Unstuffs-begin, Unstuffs-step, taken-bounds}
+use Rattle.std.proofs.Common.{◌≡◌, ap, ◌∙◌, subst}
+use Rattle.can_code.specs.Steps.{last_of, run_of}
+use Rattle.can_code.specs.Unstuffing.{Unstuffs, as_run}
+use Rattle.can_code.proofs.StepTable.{row_of-last, row_of-run}
 use Rattle.can_code.proofs.unstuffing.unstuff_steps.Goals as goal
 
-pub loop-now-init : goal.loop-now-init
-loop-now-init c = Unstuffs-begin c.args.digits.now c.args.room c.args.last c.args.run c.begin-now.result c.requires.some c.requires.short c.begin-now.ensures
-
-pub overflow_shl-now : goal.overflow_shl-now
-overflow_shl-now c =
-    let r = c.loop-now.now in
-    let s = c.in-Some-take_step.step in
-    let h : StepBounds s 8 = taken-bounds r.last r.run 8 c.min-count.result c.in-Some-levels_of.levels s c.loop-now.invariant.some c.loop-now.invariant.short (omega (arith, c.min-count.ensures)) (sym c.in-Some-take_step.ensures) in
-    omega (arith, h.few)
-
-pub overflow_add-now : goal.overflow_add-now
-overflow_add-now c =
-    let r = c.loop-now.now in
-    let s = c.in-Some-take_step.step in
-    let h : StepBounds s 8 = taken-bounds r.last r.run 8 c.min-count.result c.in-Some-levels_of.levels s c.loop-now.invariant.some c.loop-now.invariant.short (omega (arith, c.min-count.ensures)) (sym c.in-Some-take_step.ensures) in
-    omega (arith, moved-fits 32 s.len r.number s.number (omega (arith, h.few)) h.small, c.from.ensures)
-
-pub loop-now-preserved : goal.loop-now-preserved
-loop-now-preserved c =
+pub returns : goal.returns
+returns c =
     let digits = c.args.digits.now in
-    let r = c.loop-now.now in
-    let rest = take_rest digits r.taken in
-    let chunk = c.in-Some.ensures.cases in
-    rw (c.from.ensures, c.from-in-loop-now.ensures)
-    (Unstuffs-step digits c.in-Some.block.now c.args.room c.args.last c.args.run r c.in-Some-levels_of.levels c.min-count.result c.in-Some-take_step.step c.loop-now.invariant
-    c.requires.wide (rw rest at chunk.same) (omega (arith, rw rest at chunk.enough, length-drop r.taken digits, c.loop-now.invariant.within)) c.in-Some-levels_of.ensures
-    (omega (arith, c.min-count.ensures)) (omega (arith, c.min-count.ensures, c.loop-now-test.true)) (sym c.in-Some-take_step.ensures))
+    let row = c.row_behind.result in
+    let now = c.unstuff_rows-now in
+    let last_is : last_of row ≡ c.args.last = ap last_of c.row_behind.ensures ∙ row_of-last c.args.last c.args.run c.requires.some c.requires.short in
+    let run_is : run_of row ≡ c.args.run = ap run_of c.row_behind.ensures ∙ row_of-run c.args.last c.args.run c.requires.some c.requires.short in
+    rw (c.last_before.ensures, c.run_before.ensures)
+    (subst (λ l. Unstuffs digits c.args.room l c.args.run (as_run now.result)) last_is
+    (subst (λ r. Unstuffs digits c.args.room (last_of row) r (as_run now.result)) run_is now.ensures.taken))

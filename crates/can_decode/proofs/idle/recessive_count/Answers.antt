@@ -1,6 +1,6 @@
 use Rattle.std.proofs.Common.{drop, arith, length-drop}
 use Rattle.std.proofs.lemmas.List.{take_rest}
-use Rattle.can_decode.proofs.Blocks.{row_longer, row_through, row_within, row_ends}
+use Rattle.can_decode.proofs.Blocks.{row_longer, row_through, row_ends}
 use Rattle.can_decode.proofs.idle.recessive_count.Goals as goal
 
 pub returns-then-others-ne0-clause-row : goal.returns-then-others-ne0-clause-row

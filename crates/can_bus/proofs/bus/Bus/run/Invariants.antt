@@ -1,14 +1,17 @@
-use Rattle.std.proofs.Common.{◌≡◌, ◌<◌, ℕ, get_or}
+use Rattle.std.proofs.Common.{◌≡◌, ◌<◌, ℕ, get_or, map}
 use Rattle.can_frame.specs.declared.level.Level.{Level}
+use Rattle.can_node.specs.Ports.{port_drives}
 use Rattle.can_bus.specs.Run.{course, bus_after, bus_level}
-use Rattle.can_bus.specs.State.{state_of}
+use Rattle.can_bus.specs.State.{port_states, state_of}
 use Rattle.can_bus.specs.Walks.{IsCall}
+use Rattle.can_bus.specs.Wired.{wired}
 use Rattle.can_bus.proofs.bus.Bus.run.Given as goal
 
 abbrev pub invariant-loop-slot : goal.invariant-loop-slot
 invariant-loop-slot g l = record {
   course : record { bus = state_of g.P.Port.port l.self; time = l.call.time; latest = l.call.latest } ≡ bus_after l.hits l.slot-index (course (state_of g.P.Port.port l.fn.self));
   levels : (t : ℕ) (d : Level) → t < l.slot-index → get_or l.rec t d ≡ bus_level l.hits t (state_of g.P.Port.port l.fn.self);
+  driven : l.driven ≡ wired (map port_drives (port_states g.P.Port.port l.self));
   call : IsCall l.hits l.call;
   time : l.call.time ≡ l.slot-index;
 }

@@ -10,7 +10,7 @@ use Rattle.can_bus.proofs.bus.Bus.step.Goals as goal
 pub hits_wire-hit-requires-clause-within : goal.hits_wire-hit-requires-clause-within
 hits_wire-hit-requires-clause-within g c =
     subst (λ l. AreBelow c.args.hits.now c.args.call.now.within.place (in_now l)) (sym c.attempt_now-call.ensures)
-    (within_now c.args.hits.now c.args.call.now.within.place (begins_attempt c.args.self.now.rest c.wired_level-wired.result) c.args.call.now.latest c.requires.call.within)
+    (within_now c.args.hits.now c.args.call.now.within.place (begins_attempt c.args.self.now.rest c.args.driven.now) c.args.call.now.latest c.requires.call.within)
 
 pub returns-clause-level : goal.returns-clause-level
 returns-clause-level g c =
@@ -18,10 +18,10 @@ returns-clause-level g c =
     let xs = c.args.self.now.ports.items in
     let level = c.inverted_if-level.result in
     (step_is c.args.hits.now (map S xs) (all_sampled c.args.hits.now c.args.call.now.time level 0 (map S xs)) c.args.self.now.rest c.args.call.now.time c.args.call.now.latest
-    c.attempt_now-call.result c.wired_level-wired.result level
-    (c.wired_level-wired.ensures ∙ ap (λ ys. wired (map port_drives (map S ys))) c.as_slice.ensures.value)
+    c.attempt_now-call.result c.args.driven.now level
+    c.requires.driven
     c.attempt_now-call.ensures
-    (c.inverted_if-level.ensures ∙ ap (λ b. inverted_if b c.wired_level-wired.result) c.hits_wire-hit.ensures.result)
+    (c.inverted_if-level.ensures ∙ ap (λ b. inverted_if b c.args.driven.now) c.hits_wire-hit.ensures.result)
     refl).0
 
 pub returns-clause-after : goal.returns-clause-after
@@ -38,10 +38,10 @@ returns-clause-after g c =
     ∙ ap (λ t. all_sampled c.args.hits.now t level 0 (map S c.as_mut_slice.result.now)) c.hits_wire-hit.ensures.time
     ∙ ap (λ ys. all_sampled c.args.hits.now c.args.call.now.time level 0 (map S ys)) c.as_mut_slice.ensures.value in
     let both = step_is c.args.hits.now (map S xs.items) next c.args.self.now.rest c.args.call.now.time c.args.call.now.latest
-    c.attempt_now-call.result c.wired_level-wired.result level
-    (c.wired_level-wired.ensures ∙ ap (λ ys. wired (map port_drives (map S ys))) c.as_slice.ensures.value)
+    c.attempt_now-call.result c.args.driven.now level
+    c.requires.driven
     c.attempt_now-call.ensures
-    (c.inverted_if-level.ensures ∙ ap (λ b. inverted_if b c.wired_level-wired.result) c.hits_wire-hit.ensures.result)
+    (c.inverted_if-level.ensures ∙ ap (λ b. inverted_if b c.args.driven.now) c.hits_wire-hit.ensures.result)
     sampled in
     ap (λ r. let after : Course = record { bus = record { ports = next; rest = r }; time = c.hits_wire-hit.new.self.time + 1; latest = c.hits_wire-hit.new.self.latest } in after) c.rest_after-self.ensures
     ∙ ap (λ t. let after : Course = record { bus = record { ports = next; rest = rest_after c.args.self.now.rest level }; time = t + 1; latest = c.hits_wire-hit.new.self.latest } in after) c.hits_wire-hit.ensures.time
@@ -50,7 +50,7 @@ returns-clause-after g c =
 
 pub returns-clause-call : goal.returns-clause-call
 returns-clause-call g c =
-    let begun = begins_attempt c.args.self.now.rest c.wired_level-wired.result in
+    let begun = begins_attempt c.args.self.now.rest c.args.driven.now in
     let passed : IsPassed c.attempt_now-call.result (c.args.call.now.time + 1) =
     subst (λ l. IsPassed l (c.args.call.now.time + 1)) (sym c.attempt_now-call.ensures) (passed_more begun c.args.call.now.latest c.args.call.now.time c.requires.call.passed) in
     record {

@@ -1,0 +1,123 @@
+//! The text of a frame, put straight into a line, two hexadecimal digits at a time.
+ghost use Rattle.std.specs.Prelude.{◌≡◌, ◌+◌, ◌*◌, ◌<◌, ◌≤◌, ◌++◌, length, codes, if◌then◌else◌};
+ghost use Rattle.hex.specs.Hex.{encode_lower};
+ghost use Rattle.can_frame.specs.Text.{blank_before, decimal_digits, frame_text, hex_digits, identifier_digits};
+
+use can_frame::{Frame, Id};
+use can_stream::line::{LINE, Line, push};
+
+/// Appends the text of a frame.
+pub(crate) fn push_frame(line: &mut Line, frame: &Frame)
+    requires { length line.old.items + 32 ≤ LINE }
+    ensures text { line.new.items ≡ line.old.items ++ frame_text frame.now }
+    ensures bound { length line.new.items ≤ length line.old.items + 32 }
+{
+    push_letter(line, b"S ", b"E ", frame.is_extended());
+    push_identifier(line, frame.id());
+    push_letter(line, b"D ", b"R ", frame.is_remote());
+    push_data_length_code(line, frame.dlc(), frame.bytes());
+    push_data(line, frame.bytes());
+}
+
+/// Appends one of two letters, with the blank that follows it.
+fn push_letter(line: &mut Line, first: &[u8; 2], second: &[u8; 2], is_second: bool)
+    requires { length line.old.items + 2 ≤ LINE }
+    ensures text { line.new.items ≡ line.old.items ++ (if is_second then second.now else first.now) }
+    ensures bound { length line.new.items ≡ length line.old.items + 2 }
+{
+    push(line, if is_second { second } else { first });
+}
+
+/// Appends the identifier and a blank.
+fn push_identifier(line: &mut Line, id: Id)
+    requires { length line.old.items + 9 ≤ LINE }
+    ensures text { line.new.items ≡ line.old.items ++ (hex_digits (identifier_digits id.extended) id.raw ++ codes " ") }
+    ensures bound { length line.new.items ≤ length line.old.items + 9 }
+{
+    let raw = id.raw();
+    if id.is_extended() {
+        push_pair(line, raw >> 24);
+        push_pair(line, raw >> 16);
+        push_pair(line, raw >> 8);
+    } else {
+        push_digit(line, raw >> 8);
+    }
+    push_pair(line, raw);
+    push(line, b" ");
+}
+
+/// Appends the DLC, and a blank only where there are data bytes.
+fn push_data_length_code(line: &mut Line, dlc: u8, bytes: &[u8])
+    requires range { dlc < 16 }
+    requires room { length line.old.items + 3 ≤ LINE }
+    ensures text { line.new.items ≡ line.old.items ++ (decimal_digits dlc ++ blank_before bytes.now) }
+    ensures bound { length line.new.items ≤ length line.old.items + 3 }
+{
+    if dlc >= 10 {
+        push(line, &[b'1', b'0' + dlc % 10]);
+    } else {
+        push(line, &[b'0' + dlc]);
+    }
+    if !bytes.is_empty() {
+        push(line, b" ");
+    }
+}
+
+/// Appends data bytes.
+fn push_data(line: &mut Line, bytes: &[u8])
+    requires { length line.old.items + 2 * length bytes.now ≤ LINE }
+    ensures text { line.new.items ≡ line.old.items ++ encode_lower bytes.now }
+    ensures bound { length line.new.items ≡ length line.old.items + 2 * length bytes.now }
+{
+    let mut index = 0;
+    while index < bytes.len() {
+        push_pair(line, u32::from(bytes[index]));
+        index += 1;
+    }
+}
+
+/// Appends the two lowest hexadecimal digits of a number.
+fn push_pair(line: &mut Line, number: u32)
+    requires { length line.old.items + 2 ≤ LINE }
+    ensures text { line.new.items ≡ line.old.items ++ hex_digits 2 number }
+    ensures bound { length line.new.items ≡ length line.old.items + 2 }
+{
+    let pair = PAIRS[(number % 256) as usize];
+    push(line, &[(pair / 256) as u8, (pair % 256) as u8]);
+}
+
+/// Appends the lowest hexadecimal digit of a number.
+fn push_digit(line: &mut Line, number: u32)
+    requires { length line.old.items + 1 ≤ LINE }
+    ensures text { line.new.items ≡ line.old.items ++ hex_digits 1 number }
+    ensures bound { length line.new.items ≡ length line.old.items + 1 }
+{
+    let pair = PAIRS[(number % 16) as usize];
+    push(line, &[(pair % 256) as u8]);
+}
+
+/// The two hexadecimal digits of each byte, in lower case, the code of the first above that of the second.
+static PAIRS: [u16; 256] = [
+    0x3030, 0x3031, 0x3032, 0x3033, 0x3034, 0x3035, 0x3036, 0x3037, 0x3038, 0x3039, 0x3061, 0x3062,
+    0x3063, 0x3064, 0x3065, 0x3066, 0x3130, 0x3131, 0x3132, 0x3133, 0x3134, 0x3135, 0x3136, 0x3137,
+    0x3138, 0x3139, 0x3161, 0x3162, 0x3163, 0x3164, 0x3165, 0x3166, 0x3230, 0x3231, 0x3232, 0x3233,
+    0x3234, 0x3235, 0x3236, 0x3237, 0x3238, 0x3239, 0x3261, 0x3262, 0x3263, 0x3264, 0x3265, 0x3266,
+    0x3330, 0x3331, 0x3332, 0x3333, 0x3334, 0x3335, 0x3336, 0x3337, 0x3338, 0x3339, 0x3361, 0x3362,
+    0x3363, 0x3364, 0x3365, 0x3366, 0x3430, 0x3431, 0x3432, 0x3433, 0x3434, 0x3435, 0x3436, 0x3437,
+    0x3438, 0x3439, 0x3461, 0x3462, 0x3463, 0x3464, 0x3465, 0x3466, 0x3530, 0x3531, 0x3532, 0x3533,
+    0x3534, 0x3535, 0x3536, 0x3537, 0x3538, 0x3539, 0x3561, 0x3562, 0x3563, 0x3564, 0x3565, 0x3566,
+    0x3630, 0x3631, 0x3632, 0x3633, 0x3634, 0x3635, 0x3636, 0x3637, 0x3638, 0x3639, 0x3661, 0x3662,
+    0x3663, 0x3664, 0x3665, 0x3666, 0x3730, 0x3731, 0x3732, 0x3733, 0x3734, 0x3735, 0x3736, 0x3737,
+    0x3738, 0x3739, 0x3761, 0x3762, 0x3763, 0x3764, 0x3765, 0x3766, 0x3830, 0x3831, 0x3832, 0x3833,
+    0x3834, 0x3835, 0x3836, 0x3837, 0x3838, 0x3839, 0x3861, 0x3862, 0x3863, 0x3864, 0x3865, 0x3866,
+    0x3930, 0x3931, 0x3932, 0x3933, 0x3934, 0x3935, 0x3936, 0x3937, 0x3938, 0x3939, 0x3961, 0x3962,
+    0x3963, 0x3964, 0x3965, 0x3966, 0x6130, 0x6131, 0x6132, 0x6133, 0x6134, 0x6135, 0x6136, 0x6137,
+    0x6138, 0x6139, 0x6161, 0x6162, 0x6163, 0x6164, 0x6165, 0x6166, 0x6230, 0x6231, 0x6232, 0x6233,
+    0x6234, 0x6235, 0x6236, 0x6237, 0x6238, 0x6239, 0x6261, 0x6262, 0x6263, 0x6264, 0x6265, 0x6266,
+    0x6330, 0x6331, 0x6332, 0x6333, 0x6334, 0x6335, 0x6336, 0x6337, 0x6338, 0x6339, 0x6361, 0x6362,
+    0x6363, 0x6364, 0x6365, 0x6366, 0x6430, 0x6431, 0x6432, 0x6433, 0x6434, 0x6435, 0x6436, 0x6437,
+    0x6438, 0x6439, 0x6461, 0x6462, 0x6463, 0x6464, 0x6465, 0x6466, 0x6530, 0x6531, 0x6532, 0x6533,
+    0x6534, 0x6535, 0x6536, 0x6537, 0x6538, 0x6539, 0x6561, 0x6562, 0x6563, 0x6564, 0x6565, 0x6566,
+    0x6630, 0x6631, 0x6632, 0x6633, 0x6634, 0x6635, 0x6636, 0x6637, 0x6638, 0x6639, 0x6661, 0x6662,
+    0x6663, 0x6664, 0x6665, 0x6666,
+];

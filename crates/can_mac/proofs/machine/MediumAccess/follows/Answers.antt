@@ -1,0 +1,18 @@
+use Rattle.std.specs.Prelude.{None}
+use Rattle.can_mac.specs.State.{MacState}
+use Rattle.can_mac.proofs.Landing.{passes-IsMac}
+use Rattle.can_mac.proofs.machine.MediumAccess.follows.Goals as goal
+
+pub invariant_of-self : goal.invariant_of-self
+invariant_of-self g c =
+    let i = c.self.inside in
+    let fields : MacState = record { phase = i.phase; role = i.role; overloads = i.overloads; counters = i.confine } in
+    passes-IsMac fields c.self.invariant None tt c.args.seen
+    c.follows.result c.follows.new.phase (λ on s. c.follows.ensures.on on s None) c.follows.ensures.on_bus c.follows.ensures.unchanged
+
+pub returns-clause-kept : goal.returns-clause-kept
+returns-clause-kept g c =
+    let i = c.self.inside in
+    let fields : MacState = record { phase = i.phase; role = i.role; overloads = i.overloads; counters = i.confine } in
+    passes-IsMac fields c.self.invariant None tt c.args.seen
+    c.follows.result c.follows.new.phase (λ on s. c.follows.ensures.on on s None) c.follows.ensures.on_bus c.follows.ensures.unchanged

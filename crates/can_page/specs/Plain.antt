@@ -1,0 +1,104 @@
+-- The plain fields by which the page knows what a port does in a bit time, and what is wrong in a scenario.
+use Rattle.std.specs.Prelude.{ℕ, List, map}
+use Rattle.can_mac.specs.declared.event.ErrorKind.{ErrorKind}
+use Rattle.can_mac.specs.declared.event.ErrorKind.TheVariants.{Bit, Stuff, Crc, Form, Ack}
+use Rattle.can_scenario.specs.declared.port_times.Brought.{Brought}
+use Rattle.can_scenario.specs.declared.port_times.Brought.TheVariants as bring
+use Rattle.can_scenario.specs.declared.port_times.PortTime.{PortTime}
+use Rattle.can_scenario.specs.declared.port_times.Stage.{Stage}
+use Rattle.can_scenario.specs.declared.port_times.Stage.TheVariants as stage
+use Rattle.can_stream.specs.declared.field.Field.{Field}
+use Rattle.can_stream.specs.declared.field.Field.TheVariants as field
+use Rattle.can_stream.specs.declared.field.HitList.{HitList}
+use Rattle.can_stream.specs.declared.field.HitList.TheVariants as list
+use Rattle.can_stream.specs.declared.field.PortField.{PortField}
+use Rattle.can_stream.specs.declared.field.PortField.TheVariants as part
+use Rattle.can_page.specs.Codes.{flag_code, level_code}
+use Rattle.can_page.specs.declared.plain.PlainTime.{PlainTime}
+use Rattle.can_page.specs.declared.plain.WrongField.{WrongField}
+
+-- ---- a port in a bit time
+
+abbrev pub stage_code : Stage → ℕ
+stage_code stage.Joining = 0
+stage_code stage.Idle = 1
+stage_code stage.StuffedPart = 2
+stage_code stage.CrcDelimiter = 3
+stage_code stage.AckSlot = 4
+stage_code stage.AckDelimiter = 5
+stage_code stage.EndOfFrame = 6
+stage_code stage.ErrorFlag = 7
+stage_code stage.PassiveFlag = 8
+stage_code stage.OverloadFlag = 9
+stage_code stage.AfterFlag = 10
+stage_code stage.Delimiter = 11
+stage_code stage.Intermission = 12
+stage_code stage.Suspend = 13
+stage_code stage.BusOff = 14
+
+abbrev pub kind_code : ErrorKind → ℕ
+kind_code Bit = 4
+kind_code Stuff = 5
+kind_code Crc = 6
+kind_code Form = 7
+kind_code Ack = 8
+
+abbrev pub brought_code : Brought → ℕ
+brought_code bring.Nothing = 0
+brought_code bring.Sent = 1
+brought_code bring.Received = 2
+brought_code bring.Lost = 3
+brought_code (bring.Error kind) = kind_code kind
+brought_code bring.Overload = 9
+brought_code bring.WentOff = 10
+brought_code bring.Recovered = 11
+
+abbrev pub plain_time : PortTime → PlainTime
+plain_time time = record {
+  transmit = time.transmit;
+  receive = time.receive;
+  stage = stage_code time.stage;
+  sends = flag_code time.sends;
+  drove = level_code time.drove;
+  saw = level_code time.saw;
+  brought = brought_code time.brought;
+}
+
+abbrev pub plain_times : List PortTime → List PlainTime
+plain_times times = map plain_time times
+
+-- ---- what is wrong in a scenario
+
+-- the field, the port or the element of a list at the top, and the element of a port's queue
+abbrev pub wrong_at : ℕ → ℕ → ℕ → WrongField
+wrong_at code number element = record { field = code; number = number; element = element }
+
+abbrev pub wrong_in_port : ℕ → PortField → WrongField
+wrong_in_port number part.Table = wrong_at 5 number 0
+wrong_in_port number part.Unknown = wrong_at 6 number 0
+wrong_in_port number part.Queue = wrong_at 7 number 0
+wrong_in_port number (part.Frame element) = wrong_at 8 number element
+wrong_in_port number part.Log = wrong_at 9 number 0
+wrong_in_port number part.Join = wrong_at 10 number 0
+wrong_in_port number part.Hold = wrong_at 11 number 0
+
+abbrev pub wrong_list : HitList → WrongField
+wrong_list list.At = wrong_at 12 0 0
+wrong_list list.In = wrong_at 13 0 0
+wrong_list list.View = wrong_at 14 0 0
+
+abbrev pub wrong_hit : HitList → ℕ → WrongField
+wrong_hit list.At place = wrong_at 15 place 0
+wrong_hit list.In place = wrong_at 16 place 0
+wrong_hit list.View place = wrong_at 17 place 0
+
+abbrev pub wrong_field : Field → WrongField
+wrong_field field.Document = wrong_at 0 0 0
+wrong_field field.Unknown = wrong_at 1 0 0
+wrong_field field.Version = wrong_at 2 0 0
+wrong_field field.Bits = wrong_at 3 0 0
+wrong_field field.Ports = wrong_at 4 0 0
+wrong_field (field.Port number p) = wrong_in_port number p
+wrong_field (field.Hits hits) = wrong_list hits
+wrong_field (field.Hit hits place) = wrong_hit hits place
+wrong_field (field.Kit kit) = wrong_at 18 0 0

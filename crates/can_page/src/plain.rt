@@ -1,0 +1,180 @@
+//! What a port does in a bit time, and what is wrong in a scenario, as plain fields.
+ghost use Rattle.std.specs.Prelude.{◌≡◌};
+ghost use Rattle.can_page.specs.Plain.{brought_code as brought_code_of, kind_code as kind_code_of, plain_time, stage_code as stage_code_of, wrong_at, wrong_field, wrong_hit, wrong_in_port, wrong_list};
+
+use crate::codes::{flag_code, level_code};
+use can_mac::ErrorKind;
+use can_scenario::{Brought, Field, HitList, PortField, PortTime, Stage};
+
+/// What a port does in a bit time.
+#[repr(C)]
+#[derive(Clone, Copy, Debug)]
+pub struct PlainTime {
+    /// The transmit error counter as the bit time begins.
+    pub transmit: u16,
+    /// The receive error counter.
+    pub receive: u16,
+    /// The number of its phase.
+    pub stage: u8,
+    /// 1 where it is the sender of the frame on the bus.
+    pub sends: u8,
+    /// The number of the level that it drives.
+    pub drove: u8,
+    /// The number of the level that it sees.
+    pub saw: u8,
+    /// The number of what the bit time brings.
+    pub brought: u8,
+}
+
+/// What is wrong in a scenario.
+#[repr(C)]
+#[derive(Clone, Copy, Debug)]
+pub struct WrongField {
+    /// The port, or the place in a list of disturbances, where the field is one of those.
+    pub number: usize,
+    /// The element of the port's queue, where the field is that.
+    pub element: usize,
+    /// The number of the field.
+    pub field: u8,
+}
+
+impl PlainTime {
+    /// A bit time of a port.
+    pub(crate) fn of(time: &PortTime) -> PlainTime
+        ensures { result ≡ plain_time time.now }
+    {
+        PlainTime {
+            transmit: time.transmit,
+            receive: time.receive,
+            stage: stage_code(time.stage),
+            sends: flag_code(time.sends),
+            drove: level_code(time.drove),
+            saw: level_code(time.saw),
+            brought: brought_code(time.brought),
+        }
+    }
+}
+
+impl WrongField {
+    /// This field.
+    pub(crate) fn of(field: Field) -> WrongField
+        ensures { result ≡ wrong_field field }
+    {
+        match field {
+            Field::Document => WrongField::at(0, 0, 0),
+            Field::Unknown => WrongField::at(1, 0, 0),
+            Field::Version => WrongField::at(2, 0, 0),
+            Field::Bits => WrongField::at(3, 0, 0),
+            Field::Ports => WrongField::at(4, 0, 0),
+            Field::Port { number, part } => WrongField::in_port(number, part),
+            Field::Hits(list) => WrongField::in_list(list),
+            Field::Hit { list, place } => WrongField::in_hit(list, place),
+            Field::Kit(_) => WrongField::at(18, 0, 0),
+        }
+    }
+
+    /// Nothing is wrong yet.
+    pub(crate) fn none() -> WrongField {
+        WrongField::at(0, 0, 0)
+    }
+
+    /// A field of a port.
+    fn in_port(number: usize, part: PortField) -> WrongField
+        ensures { result ≡ wrong_in_port number part }
+    {
+        match part {
+            PortField::Table => WrongField::at(5, number, 0),
+            PortField::Unknown => WrongField::at(6, number, 0),
+            PortField::Queue => WrongField::at(7, number, 0),
+            PortField::Frame(element) => WrongField::at(8, number, element),
+            PortField::Log => WrongField::at(9, number, 0),
+            PortField::Join => WrongField::at(10, number, 0),
+            PortField::Hold => WrongField::at(11, number, 0),
+        }
+    }
+
+    /// A list of disturbances.
+    fn in_list(list: HitList) -> WrongField
+        ensures { result ≡ wrong_list list }
+    {
+        match list {
+            HitList::At => WrongField::at(12, 0, 0),
+            HitList::In => WrongField::at(13, 0, 0),
+            HitList::View => WrongField::at(14, 0, 0),
+        }
+    }
+
+    /// An element of such a list.
+    fn in_hit(list: HitList, place: usize) -> WrongField
+        ensures { result ≡ wrong_hit list place }
+    {
+        match list {
+            HitList::At => WrongField::at(15, place, 0),
+            HitList::In => WrongField::at(16, place, 0),
+            HitList::View => WrongField::at(17, place, 0),
+        }
+    }
+
+    /// The field of this number.
+    fn at(field: u8, number: usize, element: usize) -> WrongField
+        ensures { result ≡ wrong_at field number element }
+    {
+        WrongField {
+            number,
+            element,
+            field,
+        }
+    }
+}
+
+/// The number of a phase.
+fn stage_code(stage: Stage) -> u8
+    ensures { result ≡ stage_code_of stage }
+{
+    match stage {
+        Stage::Joining => 0,
+        Stage::Idle => 1,
+        Stage::StuffedPart => 2,
+        Stage::CrcDelimiter => 3,
+        Stage::AckSlot => 4,
+        Stage::AckDelimiter => 5,
+        Stage::EndOfFrame => 6,
+        Stage::ErrorFlag => 7,
+        Stage::PassiveFlag => 8,
+        Stage::OverloadFlag => 9,
+        Stage::AfterFlag => 10,
+        Stage::Delimiter => 11,
+        Stage::Intermission => 12,
+        Stage::Suspend => 13,
+        Stage::BusOff => 14,
+    }
+}
+
+/// The number of what a bit time brings.
+fn brought_code(brought: Brought) -> u8
+    ensures { result ≡ brought_code_of brought }
+{
+    match brought {
+        Brought::Nothing => 0,
+        Brought::Sent => 1,
+        Brought::Received => 2,
+        Brought::Lost => 3,
+        Brought::Error(kind) => kind_code(kind),
+        Brought::Overload => 9,
+        Brought::WentOff => 10,
+        Brought::Recovered => 11,
+    }
+}
+
+/// The number of an error of this kind.
+fn kind_code(kind: ErrorKind) -> u8
+    ensures { result ≡ kind_code_of kind }
+{
+    match kind {
+        ErrorKind::Bit => 4,
+        ErrorKind::Stuff => 5,
+        ErrorKind::Crc => 6,
+        ErrorKind::Form => 7,
+        ErrorKind::Ack => 8,
+    }
+}

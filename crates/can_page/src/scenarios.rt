@@ -1,0 +1,116 @@
+ghost use Rattle.std.specs.Prelude.{◌≡◌, ◌^◌, ◌<◌, ◌≤◌, ◌⊎◌, [], false, true, length, take, IfErr, IfOk, IfSome, IsErrOf, List, Some};
+ghost use Rattle.can_scenario.specs.PortTimes.{AreTold};
+ghost use Rattle.can_scenario.specs.Report.{report};
+ghost use Rattle.can_scenario.specs.Scenarios.{IsFirstWrong, IsScenarioText};
+ghost use Rattle.can_scenario.specs.declared.port_times.PortTime.{PortTime as Told};
+ghost use Rattle.can_scenario.specs.declared.scenario.Scenario.{Scenario as Planned};
+ghost use Rattle.can_stream.specs.declared.field.Field.{Field as Wrong};
+ghost use Rattle.can_page.specs.Answers.{answer_code, bad_scenario, done};
+ghost use Rattle.can_page.specs.Lines.{is_full, lines_of};
+ghost use Rattle.can_page.specs.Plain.{plain_times, wrong_field};
+
+use crate::answer::Answer;
+use crate::lines::Lines;
+use crate::plain::{PlainTime, WrongField};
+use can_scenario::{PortTime, Scenario, run_scenario, told_times};
+use can_stream::{Sink, TraceFault};
+use std::alloc::Global;
+
+/// Runs the scenario that a document says, and writes its report to `out`. Where the document says none, the first
+/// field that is wrong is told.
+#[unsafe(no_mangle)]
+pub extern "C" fn page_run(
+    alloc: Global,
+    text: &[u8],
+    out: &mut Lines,
+    wrong: &mut WrongField,
+) -> u8
+    ensures report { result ≡ done → (s : Planned) × (IsScenarioText text.now s × (lines_of out.new ≡ report s)) }
+    ensures wrong { result ≡ bad_scenario → (field : Wrong) × (IsFirstWrong field text.now × (wrong.new ≡ wrong_field field)) }
+    ensures room { result ≡ answer_code Answer.NoRoom → is_full out.new ≡ true }
+{
+    out.clear();
+    run_onto(alloc, text, out, wrong).code()
+}
+
+/// The same onto any sink that holds nothing.
+pub(crate) fn run_onto<W: Sink>(
+    alloc: Global,
+    text: &[u8],
+    out: &mut W,
+    wrong: &mut WrongField,
+) -> Answer
+    requires unfailed { W.has_failed out.old ≡ false }
+    requires empty { W.contents out.old ≡ Some [] }
+    ensures report { result ≡ Answer.Done → IfSome (W.contents out.new) (λ bytes. (s : Planned) × (IsScenarioText text.now s × (bytes ≡ report s))) }
+    ensures wrong { result ≡ Answer.BadScenario → (field : Wrong) × (IsFirstWrong field text.now × (wrong.new ≡ wrong_field field)) }
+    ensures room { result ≡ Answer.NoRoom → W.has_failed out.new ≡ true }
+{
+    match read(alloc, text, wrong) {
+        Err(answer) => answer,
+        Ok(scenario) => match run_scenario(alloc, &scenario, out) {
+            Ok(()) => Answer::Done,
+            Err(TraceFault::Write) => Answer::NoRoom,
+            Err(_) => Answer::NoMemory,
+        },
+    }
+}
+
+/// Writes what the port of this number does in each bit time of the scenario that a document says, and how many bit
+/// times these are.
+#[unsafe(no_mangle)]
+pub extern "C" fn page_port_times(
+    alloc: Global,
+    text: &[u8],
+    node: usize,
+    times: &mut [PlainTime],
+    count: &mut usize,
+) -> u8
+    ensures times { result ≡ done → (s : Planned) × (told : List Told) × (IsScenarioText text.now s × (node < length s.ports.items) × AreTold s node told
+        × (take count.new times.new ≡ plain_times told) × (count.new ≡ length told)) }
+{
+    let mut wrong = WrongField::none();
+    match read(alloc, text, &mut wrong) {
+        Err(answer) => answer.code(),
+        Ok(scenario) => {
+            if node >= scenario.port_count() {
+                return Answer::NoPort.code();
+            }
+            let Ok(told) = told_times(alloc, &scenario, node) else {
+                return Answer::NoMemory.code();
+            };
+            if times.len() < told.len() {
+                return Answer::NoRoom.code();
+            }
+            write_times(&told, times);
+            *count = told.len();
+            Answer::Done.code()
+        }
+    }
+}
+
+/// The scenario that a document says, or the first field that is wrong.
+fn read(alloc: Global, text: &[u8], wrong: &mut WrongField) -> Result<Scenario, Answer>
+    ensures found { IfOk result (IsScenarioText text.now) }
+    ensures wrong { IsErrOf result Answer.BadScenario → (field : Wrong) × (IsFirstWrong field text.now × (wrong.new ≡ wrong_field field)) }
+    ensures other { IfErr result (λ answer. (answer ≡ Answer.BadScenario) ⊎ (answer ≡ Answer.NoMemory)) }
+{
+    match Scenario::from_text(alloc, text) {
+        Ok(scenario) => Ok(scenario),
+        Err(TraceFault::ScenarioField(field)) => {
+            *wrong = WrongField::of(field);
+            Err(Answer::BadScenario)
+        }
+        Err(_) => Err(Answer::NoMemory),
+    }
+}
+
+/// Writes bit times in front of what stands there.
+fn write_times(told: &[PortTime], times: &mut [PlainTime])
+    requires { length told.now ≤ length times.old }
+    ensures { take (length told.now) times.new ≡ plain_times told.now }
+{
+    for place in 0..told.len() {
+        times[place] = PlainTime::of(&told[place]);
+    }
+}
