@@ -2,6 +2,7 @@
 import assert from 'node:assert/strict';
 import { readFileSync, readdirSync } from 'node:fs';
 import { join } from 'node:path';
+import { within } from './limits.mjs';
 
 /** Opens the view with a scenario in it. */
 async function shown(open, text, how) {
@@ -200,7 +201,7 @@ export const busTests = [
       await new Promise((resolve) => { requestAnimationFrame(() => requestAnimationFrame(resolve)); });
       return performance.now() - began;
     }, long());
-    assert.ok(took < 2000, `it took ${took} ms`);
+    within('the run', took, 2000);
     for (const zoom of ['bus-zoom-in', 'bus-zoom-all']) {
       await page.click(zoom);
       const times = await page.run(async () => {
@@ -212,7 +213,7 @@ export const busTests = [
         }
         return all.sort((a, b) => a - b);
       });
-      assert.ok(times[15] < 16, `${zoom}: a picture takes ${times[15]} ms`);
+      within(`a picture behind ${zoom}`, times[15], 16);
     }
   }],
 ];

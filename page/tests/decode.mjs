@@ -4,6 +4,7 @@ import { createHash } from 'node:crypto';
 import { readFileSync, writeFileSync } from 'node:fs';
 import { join } from 'node:path';
 import { picture } from './encode.mjs';
+import { within } from './limits.mjs';
 
 const WIRE = '00000100000100000100000100000100000100001111111111';
 const IDLE = '11111111111';
@@ -132,13 +133,13 @@ export const decodeTests = [
       await page.run(() => document.getElementById('trace-file').dispatchEvent(new Event('change')));
       await page.until(`document.getElementById('decode-told').dataset.took !== '${before}'`);
     }
-    assert.ok(Math.min(...times) < 1000, `it took ${times} ms`);
+    within('decoding', Math.min(...times), 1000);
     const drew = await page.run(() => {
       const began = performance.now();
       for (const id of ['zoom-in', 'later', 'zoom-in', 'zoom-in', 'next-fault', 'zoom-all']) document.getElementById(id).click();
       return performance.now() - began;
     });
-    assert.ok(drew < 1500, `six steps on the time line took ${drew} ms`);
+    within('six steps on the time line', drew, 1500);
   }],
   ['a file that is too long is refused', async ({ open, work }) => {
     writeFileSync(join(work, 'too_long.txt'), '1'.repeat(10 * 1024 * 1024 + 1));

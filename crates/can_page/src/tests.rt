@@ -291,17 +291,20 @@ fn what_is_no_scenario_is_told(rt: HostRuntime) {
     }
 }
 
+/// A bit time of which nothing is told yet.
+const UNTOLD: PlainTime = PlainTime {
+    transmit: 9,
+    receive: 9,
+    stage: 99,
+    sends: 9,
+    drove: 9,
+    saw: 9,
+    brought: 99,
+};
+
 #[test]
 fn a_port_has_its_bit_times(rt: HostRuntime) {
-    let mut times = [PlainTime {
-        transmit: 9,
-        receive: 9,
-        stage: 99,
-        sends: 9,
-        drove: 9,
-        saw: 9,
-        brought: 99,
-    }; 60];
+    let mut times = [UNTOLD; 60];
     let mut count = 0;
     assert_eq!(rt;
         page_port_times(rt.alloc(), SCENARIO, 0, &mut times, &mut count),
@@ -323,14 +326,22 @@ fn a_port_has_its_bit_times(rt: HostRuntime) {
         (6, 1, 12)
     );
     assert_eq!(rt; (times[49].transmit, times[49].receive), (0, 0));
+}
+
+#[test]
+fn bit_times_are_refused(rt: HostRuntime) {
+    let mut times = [UNTOLD; 60];
+    let mut count = 0;
     assert_eq!(rt;
         page_port_times(rt.alloc(), SCENARIO, 2, &mut times, &mut count),
         7
     );
+    let mut short = [UNTOLD; 59];
     assert_eq!(rt;
-        page_port_times(rt.alloc(), SCENARIO, 0, &mut times[..59], &mut count),
+        page_port_times(rt.alloc(), SCENARIO, 0, &mut short, &mut count),
         1
     );
+    let mut times = [UNTOLD; 60];
     assert_eq!(rt;
         page_port_times(rt.alloc(), b"bits = 1", 0, &mut times, &mut count),
         6
