@@ -6,7 +6,7 @@ import { DOES_WORDS } from './bus_words.js';
 /** Sizes in pixels, and how few bit times fill the width at most. */
 const AXIS = 18;
 const LEVELS = 40;
-const PORT = 46;
+const PORT = 60;
 const BAND = 20;
 const FEWEST = 20;
 
@@ -166,7 +166,7 @@ export class BusPicture {
       ...this.arrows(port.losses, top + 2, 'lost-here'),
       ...this.arrows(port.errors, top + 2, 'error-here'),
       ...this.arrows(port.blind, top + 2, 'hit'),
-      ...this.counters(port, top + PORT - 3),
+      ...this.counters(port, top + PORT - 5),
     ])];
   }
 
@@ -203,21 +203,30 @@ export class BusPicture {
     return path ? [svg('path', { class: name, d: path, 'data-times': shown.slice(0, 200).join(' ') })] : [];
   }
 
-  /** The counters at the left, and where they move. */
+  /** The counters at the left, and where they move: of moves that have no room the last, behind the one before it. */
   counters(port, y) {
     const told = [];
     let free = 0;
     const start = Math.min(Math.floor(this.from), port.count - 1);
     if (start < 0) return told;
+    const words = (time) => `TEC ${port.transmit(time)} REC ${port.receive(time)}`;
+    const room = (time) => words(time).length * 6.8 + 8;
+    const put = (time, x) => {
+      free = x + room(time);
+      told.push(svg('text', { class: 'place count', x: x + 2, y }, [words(time)]));
+    };
     const next = firstFrom(port.moves, start + 1);
+    let waits = null;
     for (const time of [start, ...port.moves.subarray(next, next + 400)]) {
       const x = Math.max(this.x(time), 0);
       if (x > this.width - 60) break;
-      if (x < free) continue;
-      const text = `TEC ${port.transmit(time)} REC ${port.receive(time)}`;
-      free = x + text.length * 6.8 + 8;
-      told.push(svg('text', { class: 'place count', x: x + 2, y }, [text]));
+      if (x >= free) {
+        if (waits !== null && free + room(waits) <= x) put(waits, free);
+        waits = null;
+        put(time, x);
+      } else waits = time;
     }
+    if (waits !== null && free < this.width - 60) put(waits, free);
     return told;
   }
 }
