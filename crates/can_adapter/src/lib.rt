@@ -13,7 +13,5 @@
 mod adapter;
 mod command;
 mod play;
-#[cfg(test)]
-mod tests;
 
 pub use play::play_lines;

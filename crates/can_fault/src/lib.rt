@@ -19,8 +19,6 @@ mod cause;
 mod confine;
 mod laws;
 mod state;
-#[cfg(test)]
-mod tests;
 
 pub use cause::Cause;
 pub use confine::Confine;

@@ -12,8 +12,6 @@
 
 mod controller;
 mod handle;
-#[cfg(test)]
-mod tests;
 
 pub use controller::Controller;
 pub use handle::Handle;

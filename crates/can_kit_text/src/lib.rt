@@ -13,8 +13,6 @@
 mod events;
 mod levels;
 mod reading;
-#[cfg(test)]
-mod tests;
 mod words;
 
 pub use events::{read_event, read_state};

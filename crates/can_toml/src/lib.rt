@@ -14,8 +14,6 @@
 #![tactic(auto)]
 
 mod document;
-#[cfg(test)]
-mod tests;
 mod values;
 
 pub use document::{DocumentFault, read_document};

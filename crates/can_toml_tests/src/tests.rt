@@ -1,9 +1,9 @@
 //! Values as they stand in documents.
-use crate::{
+use can_frame::Frame;
+use can_toml::{
     DocumentFault, elements_of, elements_or_none, field, fields_of, frame, has_only, number,
     number_or, read_document, required_number, three_of, truth, two_of, whole_number,
 };
-use can_frame::Frame;
 use std::test::Fail;
 
 const DOCUMENT: &[u8] = br#"

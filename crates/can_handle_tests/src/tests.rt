@@ -1,6 +1,6 @@
-use crate::{Controller, Handle};
 use can_fault::State;
 use can_frame::{Frame, Level};
+use can_handle::{Controller, Handle};
 use can_mac::Event;
 use std::test::Fail;
 

@@ -1,10 +1,10 @@
 //! The words as a document has them.
-use crate::{
+use can_fault::State;
+use can_frame::{Frame, Level};
+use can_kit_text::{
     push_event, push_levels, push_number, push_state, push_text, read_event, read_levels,
     read_state,
 };
-use can_fault::State;
-use can_frame::{Frame, Level};
 use can_mac::{ErrorKind, Event};
 use std::alloc::{AllocError, Global};
 use std::test::Fail;

@@ -1,5 +1,5 @@
 //! Conversations of a runner with the reference, worked out by hand from docs/FRAMES.md and docs/ACCESS.md.
-use crate::play_lines;
+use can_adapter::play_lines;
 use can_stream::TraceFault;
 use can_stream::pieces::{ROOM, Stop, reader_of, writer_of};
 use std::alloc::Global;

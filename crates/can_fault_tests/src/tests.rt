@@ -1,4 +1,4 @@
-use crate::{Cause, Confine, State};
+use can_fault::{Cause, Confine, State};
 use can_frame::Level;
 
 /// Each cause.
