@@ -1,17 +1,21 @@
 -- A line that is read as a frame text, a mark and levels.
-use Rattle.std.proofs.Common.{◌≡◌, ◌≢◌, ℕ, ◌+◌, ◌-◌, ◌<◌, ◌≤◌, inr, Bool, true, false, List, ◌++◌, length, take, drop, sym, ap, subst, ◌∙◌, append_assoc, arith, eqb}
-use Rattle.std.proofs.lemmas.Bool.{false≢true}
+use Rattle.std.proofs.Common.{◌≡◌, ◌≢◌, ℕ, Option, None, Some, ◌+◌, ◌-◌, ◌<◌, ◌≤◌, inr, Bool, true, false, List, ◌++◌, length, get_or, take, drop, map, refl, sym, ap, subst, ◌∙◌, append_assoc, arith, eqb}
+use Rattle.std.proofs.lemmas.Bool.{eq-eqb, false≢true}
 use Rattle.std.proofs.lemmas.Bool.Decides.{Decides-eqb}
-use Rattle.std.proofs.lemmas.List.{length-append, length-take, take-append-drop, take_rest}
+use Rattle.std.proofs.lemmas.List.{get_or-drop, get_or-take, length-append, length-map, length-take, take-append-drop, take_rest}
 use Rattle.std.proofs.lemmas.Slice.Eq.{starts_is}
 use Rattle.std.specs.List.{starts_with}
+use Rattle.std.specs.Option.{unwrap_or}
+use Rattle.memchr.specs.Find.{is_byte, IsFirstByte}
 use Rattle.can_frame.specs.declared.level.Level.{Level}
 use Rattle.can_frame.specs.Parts.{Parts, IsFrame}
 use Rattle.can_frame.specs.Text.{frame_text}
 use Rattle.can_frame.specs.declared.text.TextFault.{TextFault}
 use Rattle.can_wire.specs.Wire.{driven}
-use Rattle.can_lines.specs.Checked.{mark, Compares, IsBadLevelByte, IsBadVectorLine, IsFirstBadDigit, IsFramePart, IsLevels, IsMarked, IsVerdict}
+use Rattle.can_stream.specs.Digits.{digit_of}
+use Rattle.can_lines.specs.Checked.{mark, ComparesDigits, IsBadLevelByte, IsBadVectorLine, IsFirstBadDigit, IsFramePart, IsLevels, IsMarked, IsVerdict}
 use Rattle.can_lines.specs.declared.vector.Verdict.{Verdict}
+use Rattle.can_lines.specs.declared.vector.Verdict.TheVariants.{Agrees}
 use Rattle.can_lines.proofs.DigitLemmas.{IsFirstBadDigit-only, IsLevels-good}
 use Rattle.can_lines.proofs.MarkLemmas.{IsFramePart-marked, IsFramePart-only, marked-others, marked-text}
 
@@ -29,12 +33,35 @@ module _ (line : List ℕ) (place : ℕ) (found : Bool) (is : found ≡ starts_w
       let whole : drop place line ≡ mark ++ drop 3 (drop place line) = sym (take-append-drop 3 (drop place line)) ∙ ap (λ t. t ++ drop 3 (drop place line)) there in
       false≢true (sym no_mark ∙ tells.1 (drop 3 (drop place line)) whole)
 
+-- no mark has its `=` before the line's first
+pub unmarked_before : (line : List ℕ) (equals : Option ℕ) (place : ℕ) → IsFirstByte (is_byte 61) line equals → place + 1 < unwrap_or equals (length line) → take 3 (drop place line) ≢ mark
+unmarked_before line equals place first less there = earlier equals first less
+  where
+    equals_at : get_or line (place + 1) 0 ≡ 61
+    equals_at = sym (get_or-drop place line 1 0) ∙ sym (get_or-take 3 (drop place line) 1 0 (omega arith)) ∙ ap (λ l. get_or l 1 0) there
+
+    earlier : (found : Option ℕ) → IsFirstByte (is_byte 61) line found → place + 1 < unwrap_or found (length line) → ⊥
+    earlier None none less = none (place + 1) (omega arith) less (eq-eqb _ _ equals_at)
+    earlier (Some at) found less =
+        let before = found.0 in
+        before.before (place + 1) (omega arith) less (eq-eqb _ _ equals_at)
+
 pub IsFramePart-found : (line : List ℕ) (n : ℕ) → ((place : ℕ) → place < n → take 3 (drop place line) ≢ mark) → take 3 (drop n line) ≡ mark → IsFramePart line (take n line)
 IsFramePart-found line n first there = record {
   rest = drop n line;
   line_is = sym (take-append-drop n line);
   marked = inr there;
   first = λ place less. first place (omega (arith, length-take n line));
+}
+
+-- ---- the levels
+
+-- the digits of the driven levels
+pub ComparesDigits-agrees : (digits : List ℕ) (f : Parts) → digits ≡ map digit_of (driven f) → length digits ≤ 157 → ComparesDigits digits f Agrees
+ComparesDigits-agrees digits f same within = record {
+  levels = driven f;
+  are_levels = record { within = omega (arith, ap length same, length-map (driven f) digit_of); digits_are = same };
+  compares = refl;
 }
 
 -- ---- the line
@@ -46,13 +73,13 @@ module _ (line : List ℕ) (f : Parts) (start : ℕ) (is : IsFrame f) (text : ta
     line_is = sym (take-append-drop start line) ∙ ap (λ t. t ++ drop start line) text ∙ append_assoc (frame_text f) mark (drop start line);
   }
 
-  -- the levels were read
-  pub IsVerdict-read : (levels : List Level) (verdict : Verdict) → IsLevels (drop start line) levels → Compares levels (driven f) verdict → IsVerdict line verdict
-  IsVerdict-read levels verdict are compares = record {
+  -- the levels were compared
+  pub IsVerdict-read : (verdict : Verdict) → ComparesDigits (drop start line) f verdict → IsVerdict line verdict
+  IsVerdict-read verdict compares = record {
     frame = f;
-    levels = levels;
-    vector = record { digits = drop start line; marked = IsMarked-at; are_levels = are };
-    compares = compares;
+    levels = compares.levels;
+    vector = record { digits = drop start line; marked = IsMarked-at; are_levels = compares.are_levels };
+    compares = compares.compares;
   }
 
   digits_bad : (place : ℕ) (bad : IsBadLevelByte line place) → IsFirstBadDigit (drop start line) bad.place_in_digits

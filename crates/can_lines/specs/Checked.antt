@@ -82,6 +82,12 @@ abbrev pub Compares : List Level → List Level → Verdict → Type 0
 Compares levels driven_levels Agrees = levels ≡ driven_levels
 Compares levels driven_levels (DiffersAt place) = (levels ≢ driven_levels) × IsCommonFront levels driven_levels place
 
+-- the bytes are the digits of levels, and this is what these come to for the frame
+pub record ComparesDigits (digits : List ℕ) (f : Parts) (verdict : Verdict) : Type 0 where
+  pub levels : List Level
+  pub are_levels : IsLevels digits levels
+  pub compares : Compares levels (driven f) verdict
+
 -- the line is a vector, and this is what its levels come to
 pub record IsVerdict (line : List ℕ) (verdict : Verdict) : Type 0 where
   pub frame : Parts

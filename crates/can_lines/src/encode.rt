@@ -8,15 +8,16 @@ ghost use Rattle.can_lines.specs.Coded.{coded_line, EncodesAll, EncodesEnded, En
 ghost use Rattle.can_lines.specs.Answering.{Answers, FailsToAnswer, Encodes};
 ghost use Rattle.can_stream.specs.Faults.{is_err_by, is_read, is_write};
 
+use crate::driven::write_driven;
 use can_frame::Frame;
-use can_stream::{LineReader, Outbox, Sink, Source, TraceFault, write_digits};
-use can_wire::encode;
+use can_stream::{LineReader, Outbox, Sink, Source, TraceFault};
+use can_wire::LONGEST_WIRE;
 
 /// How many bytes of a line are kept: one more than the longest frame text has.
 const KEPT: usize = 33;
 
 /// How many bytes the line of a frame's levels has at most.
-const LINE: usize = 158;
+const LINE: usize = LONGEST_WIRE + 1;
 
 /// Reads lines of frame text and writes for each the levels of its frame, as `0` and `1` and 0x0a.
 ///
@@ -136,9 +137,7 @@ fn write_line(frame: &Frame, line: &mut [u8]) -> usize
     ensures bound { result ≤ LINE }
     ensures line { take result line.new ≡ coded_line frame.now }
 {
-    let levels = encode(frame);
-    let count = levels.len();
-    write_digits(&levels, &mut line[..count]);
+    let count = write_driven(frame, &mut line[..LONGEST_WIRE]);
     line[count] = b'\n';
     count + 1
 }

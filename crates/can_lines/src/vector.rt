@@ -4,11 +4,13 @@ ghost use Rattle.can_frame.specs.Parts.{IsFrame};
 ghost use Rattle.can_frame.specs.Text.{frame_text};
 ghost use Rattle.can_frame.specs.declared.level.Level.{Level as Bit};
 ghost use Rattle.can_stream.specs.Digits.{digit_of};
-ghost use Rattle.can_lines.specs.Checked.{mark, pass, Compares, IsBadAs, IsBadLevelByte, IsBadVectorLine, IsCommonFront, IsFirstBadDigit, IsFramePart, IsLevels, IsVerdict};
+ghost use Rattle.can_lines.specs.Checked.{mark, pass, Compares, ComparesDigits, IsBadAs, IsBadLevelByte, IsBadVectorLine, IsCommonFront, IsFirstBadDigit, IsFramePart, IsLevels, IsVerdict};
 
+use crate::driven::write_driven;
 use arrayvec::ArrayVec;
 use can_frame::{Frame, Level, TextFault, TextFaultKind};
-use can_wire::encode;
+use can_wire::{LONGEST_WIRE, encode};
+use memchr::memchr;
 
 /// What a line of a frame's text and levels comes to.
 #[derive(Clone, Copy, Debug, PartialEq, Eq)]
@@ -47,12 +49,27 @@ pub(crate) fn judge(line: &[u8]) -> Result<Verdict, BadLine>
     ensures byte { (place : ℕ) → IsBadLevelByte line.now place → IsErrOf result (BadLine.Byte place) }
 {
     match read_opening(line) {
-        Ok(opening) => match read_levels(&line[opening.start..]) {
-            Ok(levels) => Ok(compare(&levels, &encode(&opening.frame))),
+        Ok(opening) => match judge_digits(&line[opening.start..], &opening.frame) {
+            Ok(verdict) => Ok(verdict),
             Err(place) => Err(BadLine::Byte(opening.start + place)),
         },
         Err(fault) => Err(BadLine::Frame(fault)),
     }
+}
+
+/// Compares the levels whose digits these are with those that the sender of the frame drives. Where the
+/// bytes are no levels' digits, it answers the place of the first that is none, or is one too many.
+fn judge_digits(digits: &[u8], frame: &Frame) -> Result<Verdict, usize>
+    ensures ok { IfOk result (ComparesDigits digits.now frame.now) }
+    ensures err { IfErr result (IsFirstBadDigit digits.now) }
+{
+    let mut driven = [0; LONGEST_WIRE];
+    let count = write_driven(frame, &mut driven);
+    if digits == &driven[..count] {
+        return Ok(Verdict::Agrees);
+    }
+    let levels = read_levels(digits)?;
+    Ok(compare(&levels, &encode(frame)))
 }
 
 /// What a line begins with.
@@ -90,7 +107,9 @@ fn frame_length(line: &[u8]) -> usize
     ensures within { result ≤ length line.now }
     ensures part { IsFramePart line.now (take result line.now) }
 {
-    for place in 0..line.len() {
+    // no mark ends before the first `=`
+    let equals = memchr(b'=', line).unwrap_or(line.len());
+    for place in equals.saturating_sub(1)..line.len() {
         if line[place..].starts_with(b" = ") {
             return place;
         }

@@ -1,10 +1,12 @@
 -- How a text falls into lines.
-use Rattle.std.proofs.Common.{◌≡◌, ℕ, zero, suc, ◌+◌, ◌≤◌, ◌<◌, ◌==◌, Bool, true, false, cond, List, [], ◌∷◌, ◌++◌, length, get_or, take, drop, position, Some, None, refl, sym, ap, subst, ◌∙◌, append_assoc, arith, eqb-true}
+use Rattle.std.proofs.Common.{◌≡◌, ℕ, zero, suc, ◌+◌, ◌≤◌, ◌<◌, ◌==◌, Bool, true, false, cond, List, [], ◌∷◌, ◌++◌, length, get_or, take, drop, position, Option, Some, None, refl, sym, ap, subst, ◌∙◌, append_assoc, arith, eqb-true}
+use Rattle.std.proofs.lemmas.Bool.{false_from_ne_true}
 use Rattle.std.proofs.lemmas.List.{append-nil, length-append, take-append-drop, drop_more, take_all, drop_all}
 use Rattle.std.proofs.lemmas.List.Quantifiers.{position-Some}
-use Rattle.std.proofs.lemmas.List.Sums.{fails_before_first}
+use Rattle.std.proofs.lemmas.List.Sums.{fails_before_first, position_or_len_is}
 use Rattle.std.proofs.lemmas.Grind.{common_steps}
 use Rattle.std.specs.List.{flat_map, AllByRecursion, position_or_len}
+use Rattle.memchr.specs.Find.{IsFirstByte}
 use Rattle.can_stream.specs.Lines.{with_end, lines_of, ended_lines, onto_first, onto_ended, whole_lines, IsLine, SplitsLine}
 
 abbrev pub is_end : ℕ → Bool
@@ -14,6 +16,21 @@ is_end byte = byte == 10
 abbrev pub open_lines : List ℕ → List (List ℕ)
 open_lines [] = []
 open_lines (byte ∷ line) = (byte ∷ line) ∷ []
+
+-- ---- the first byte that passes a test
+
+pub position-first : (test : ℕ → Bool) (xs : List ℕ) (found : Option ℕ) → IsFirstByte test xs found → found ≡ position test xs
+position-first test xs None none =
+    let all : position_or_len test xs ≡ length xs =
+    position_or_len_is test xs (length xs) 0 (omega arith) (λ k less. false_from_ne_true (test (get_or xs k 0)) (none k (omega arith) less)) (λ less. absurd (omega arith))
+    in
+    grind (arith, common_steps)
+position-first test xs (Some i) first =
+    let before = first.0 in
+    let at : position_or_len test xs ≡ i =
+    position_or_len_is test xs i 0 (omega arith) (λ k less. false_from_ne_true (test (get_or xs k 0)) (before.before k (omega arith) less)) (λ less. first.1)
+    in
+    grind (arith, common_steps)
 
 -- ---- one line
 

@@ -11,6 +11,7 @@ use crate::outbox::Outbox;
 use crate::sink::Sink;
 use crate::source::Source;
 use arrayvec::ArrayVec;
+use memchr::memchr;
 
 /// The lines of a source, one after another. Of each it keeps the first `KEPT` bytes, so that a line
 /// may have any length. In clauses it is these bytes, `line_of`, and what was read and not used yet,
@@ -113,7 +114,7 @@ impl<const KEPT: usize> LineReader<KEPT> {
 fn first_end(bytes: &[u8]) -> Option<usize>
     ensures { result ≡ position (λ byte. byte == 10) bytes.now }
 {
-    bytes.iter().position(|byte| *byte == b'\n')
+    memchr(b'\n', bytes)
 }
 
 /// Appends those of the bytes that there is room for.

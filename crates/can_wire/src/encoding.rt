@@ -1,10 +1,11 @@
-ghost use Rattle.std.specs.Prelude.{◌≡◌, ◌≤◌, if◌then◌else◌, List, length};
+ghost use Rattle.std.specs.Prelude.{◌≡◌, ◌≤◌, if◌then◌else◌, List, length, take};
 ghost use Rattle.can_frame.specs.declared.level.Level.{Level as Bit};
 ghost use Rattle.can_frame.specs.declared.level.Level.TheVariants.{Recessive};
 ghost use Rattle.can_wire.specs.Wire.{head, driven, stuffed_part, wire, IsSpelling};
 
 use crate::heard::Heard;
-use crate::spelling::respell;
+use crate::spelling::{respell, respell_into};
+use crate::stuff_steps::LONGEST_WIRE;
 use arrayvec::ArrayVec;
 use can_frame::{Frame, Level};
 
@@ -21,4 +22,13 @@ pub fn encode(frame: &Frame) -> ArrayVec<Level, 157>
     ensures wire_bound { length (wire frame.now) ≤ (if frame.now.id.extended then 157 else 132) }
 {
     respell(&Heard::unacknowledged(*frame))
+}
+
+/// Puts the levels that [`encode`] gives into the front of an array, and answers how many they are: for
+/// callers that want no list of them.
+pub fn encode_into(frame: &Frame, levels: &mut [Level; LONGEST_WIRE]) -> usize
+    ensures levels { take result levels.new ≡ driven frame.now }
+    ensures bound { result ≤ LONGEST_WIRE }
+{
+    respell_into(&Heard::unacknowledged(*frame), levels)
 }

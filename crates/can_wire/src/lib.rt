@@ -10,14 +10,14 @@
 //! | `crc.rt` | [`crc15`], the CRC sequence | `specs/Crc.antt` |
 //! | `crc_run.rt` | [`CrcRun`], the CRC sequence of levels that come one by one | `specs/Crc.antt` |
 //! | `stuffing.rt` | [`stuff`], the stuff bits, and [`run_after`], the run that a level ends | `specs/Stuffing.antt` |
-//! | `stuff_steps.rt` | levels as they are laid out with their stuff bits, eight in a step | `specs/StuffSteps.antt` |
+//! | `stuff_steps.rt` | [`LONGEST_WIRE`], and levels as they are laid out with their stuff bits, eight in a step | `specs/StuffSteps.antt` |
 //! | `heard.rt` | [`Heard`], a frame as it is heard | `specs/Heard.antt` |
 //! | `frame_bits.rt` | [`FrameBits`], the unstuffed levels of a frame that have been heard or laid out | |
 //! | `plain_bits.rt` | [`PlainBits`], these levels one by one | |
 //! | `packed_bits.rt`, `two_words.rt` | [`PackedBits`], these levels in a register, with their CRC sequence so far | |
 //! | `layout.rt` | the head and the CRC sequence of what is heard, unstuffed | `specs/Heard.antt` |
 //! | `spelling.rt` | [`respell`], the levels that spell what is heard | `specs/Heard.antt` |
-//! | `encoding.rt` | [`encode`], the levels that the sender of a frame drives | `specs/Wire.antt` |
+//! | `encoding.rt` | [`encode`] and [`encode_into`], the levels that the sender of a frame drives | `specs/Wire.antt` |
 //! | `places.rt` | where the unstuffed levels of a frame stand, [`rtr_place`] among them | `specs/Layout.antt` |
 //! | `laws.rt` | that a CRC sequence, a stuffed list, a frame's wire and a spelling are unique, and that no spelling begins another | |
 //!
@@ -45,7 +45,7 @@ mod two_words;
 
 pub use crc::crc15;
 pub use crc_run::CrcRun;
-pub use encoding::encode;
+pub use encoding::{encode, encode_into};
 pub use frame_bits::FrameBits;
 pub use heard::Heard;
 pub use laws::{
@@ -56,4 +56,5 @@ pub use packed_bits::PackedBits;
 pub use places::rtr_place;
 pub use plain_bits::PlainBits;
 pub use spelling::respell;
+pub use stuff_steps::LONGEST_WIRE;
 pub use stuffing::{LONGEST_RUN, run_after, stuff};

@@ -2,7 +2,7 @@ ghost use Rattle.std.specs.Prelude.{◌≡◌, ◌+◌, ◌≤◌, ◌++◌, if�
 ghost use Rattle.arrayvec.specs.ArrayVec.{array_vec_len};
 ghost use Rattle.can_frame.specs.declared.level.Level.{Level as Bit};
 ghost use Rattle.can_wire.specs.Wire.{tail};
-ghost use Rattle.can_wire.specs.Heard.{ack_slot, Spells, spelling};
+ghost use Rattle.can_wire.specs.Heard.{ack_slot, IsHeard, Spells, spelling};
 ghost use Rattle.can_wire.specs.Stuffing.{stuffed};
 
 use crate::frame_bits::FrameBits;
@@ -28,13 +28,23 @@ pub fn respell(heard: &Heard) -> ArrayVec<Level, 157>
     ensures computed { result.items ≡ spelling heard.now }
     ensures bound { array_vec_len result ≤ (if heard.now.frame.id.extended then 157 else 132) }
 {
-    let unstuffed: PackedBits = head_and_crc(heard);
     let mut levels = [Level::Recessive; LONGEST_WIRE];
-    let part = lay_out(&mut levels, &unstuffed);
-    put_tail(&mut levels, part, heard);
+    let count = respell_into(heard, &mut levels);
     let mut wire = ArrayVec::from(levels);
-    wire.truncate(part + TAIL_LEVELS);
+    wire.truncate(count);
     wire
+}
+
+/// Puts these levels into the front of an array, and answers how many they are.
+pub(crate) fn respell_into(heard: &Heard, levels: &mut [Level; LONGEST_WIRE]) -> usize
+    ensures whole { IsHeard heard.now }
+    ensures levels { take result levels.new ≡ spelling heard.now }
+    ensures bound { result ≤ LONGEST_WIRE }
+{
+    let unstuffed: PackedBits = head_and_crc(heard);
+    let part = lay_out(levels, &unstuffed);
+    put_tail(levels, part, heard);
+    part + TAIL_LEVELS
 }
 
 /// Lays out the levels with their stuff bits, eight in a step, and answers how many they are.

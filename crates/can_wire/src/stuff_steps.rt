@@ -24,7 +24,7 @@ const RUNS: u16 = 4;
 const OCTETS: usize = 256;
 
 /// How many levels the longest frame has on the wire.
-pub(crate) const LONGEST_WIRE: usize = 157;
+pub const LONGEST_WIRE: usize = 157;
 
 /// Eight levels with their stuff bits.
 #[derive(Clone, Copy)]
@@ -136,9 +136,19 @@ fn put_ten(levels: &mut [Level; LONGEST_WIRE], place: usize, number: u16)
     requires small { number < 2 ^ 10 }
     ensures { take (place + MOST_STEPPED) levels.new ≡ take place levels.old ++ bits_of MOST_STEPPED number }
 {
-    let (first, second) = (number / 32, number % 32);
-    levels[place..place + FIVE].copy_from_slice(&FIVE_LEVELS[usize::from(first)]);
-    levels[place + FIVE..place + MOST_STEPPED].copy_from_slice(&FIVE_LEVELS[usize::from(second)]);
+    let (first, second) = (five_levels(number / 32), five_levels(number % 32));
+    levels[place..place + FIVE].copy_from_slice(&first);
+    levels[place + FIVE..place + MOST_STEPPED].copy_from_slice(&second);
+}
+
+/// The levels of a number's five bits, the highest first. They are a copy, which the compiler knows to lie apart from
+/// where they are put.
+#[inline]
+fn five_levels(number: u16) -> [Level; FIVE]
+    requires { number < 2 ^ 5 }
+    ensures { result ≡ bits_of FIVE number }
+{
+    FIVE_LEVELS[usize::from(number)]
 }
 
 /// A dominant level.

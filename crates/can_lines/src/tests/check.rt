@@ -18,6 +18,22 @@ fn checks(rt: HostRuntime) {
         (b"".as_slice(), Ok((0, 0)), b"passed 0 of 0\n".as_slice()),
         (VECTORS, Ok((1, 2)), b"ok\ndiffers at 38\npassed 1 of 2\n"),
         (&VECTORS[..59], Ok((1, 1)), b"ok\npassed 1 of 1\n"),
+        // a level less, a level more, and the last one inverted
+        (
+            &VECTORS[..58],
+            Ok((0, 1)),
+            b"differs at 46\npassed 0 of 1\n",
+        ),
+        (
+            b"S 001 D 0 = 000001000001010000010001000100001001111111111111",
+            Ok((0, 1)),
+            b"differs at 47\npassed 0 of 1\n",
+        ),
+        (
+            b"S 001 D 0 = 00000100000101000001000100010000100111111111110",
+            Ok((0, 1)),
+            b"differs at 46\npassed 0 of 1\n",
+        ),
         (
             b"S 001 D 0 = ",
             Ok((0, 1)),

@@ -1,6 +1,6 @@
 //! What `encode` lays out eight levels in a step, beside the plain form, which stuffs them one by one.
 use can_frame::{Frame, Id, Level};
-use can_wire::{Heard, PlainBits, encode, head_and_crc, stuff};
+use can_wire::{Heard, LONGEST_WIRE, PlainBits, encode, encode_into, head_and_crc, stuff};
 use std::test::Fail;
 
 /// How many frames are drawn.
@@ -45,6 +45,9 @@ fn as_one_by_one(rt: HostRuntime) -> Result<(), Fail> {
         let (part, tail) = levels.split_at_checked(stuffed.len()).ok_or("a tail")?;
         assert!(rt; part == stuffed.as_slice());
         assert!(rt; tail == [Level::Recessive; 10].as_slice());
+        let mut array = [Level::Dominant; LONGEST_WIRE];
+        let count = encode_into(&frame, &mut array);
+        assert!(rt; &array[..count] == levels.as_slice());
     }
     Ok(())
 }

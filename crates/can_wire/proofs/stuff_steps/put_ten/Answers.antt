@@ -4,7 +4,7 @@ use Rattle.std.proofs.lemmas.Slice.{take-put_mid}
 use borrow.Rule.Slice.PartMut.{put_mid}
 use Rattle.can_frame.specs.Levels.{bits_of}
 use Rattle.can_wire.proofs.LevelLemmas.{length-bits_of}
-use Rattle.can_wire.proofs.StuffSteps.{bits_of-ten, five_levels}
+use Rattle.can_wire.proofs.StuffSteps.{bits_of-ten}
 use Rattle.can_wire.proofs.stuff_steps.put_ten.Goals as goal
 
 pub returns : goal.returns
@@ -14,9 +14,9 @@ returns c =
     let one = c.copy_from_slice.new.self in
     let two = c.copy_from_slice-2.new.self in
     let first : one ≡ bits_of 5 (number / 32) =
-    c.copy_from_slice.ensures.after ∙ five_levels c.from.result _ (omega (arith, c.from.ensures, c.requires.small)) ∙ ap (bits_of 5) c.from.ensures in
+    c.copy_from_slice.ensures.after ∙ c.five_levels-first.ensures in
     let second : two ≡ bits_of 5 (number % 32) =
-    c.copy_from_slice-2.ensures.after ∙ five_levels c.from-2.result _ (omega (arith, c.from-2.ensures)) ∙ ap (bits_of 5) c.from-2.ensures in
+    c.copy_from_slice-2.ensures.after ∙ c.five_levels-second.ensures in
     let one_size : length one ≡ 5 = ap length first ∙ length-bits_of 5 (number / 32) in
     let two_size : length two ≡ 5 = ap length second ∙ length-bits_of 5 (number % 32) in
     let old = c.args.levels.now in
