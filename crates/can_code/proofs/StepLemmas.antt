@@ -1,11 +1,11 @@
 -- Levels of a stuffed part that are taken at once, and what a front has heard with them.
-use Rattle.std.proofs.Common.{◌≡◌, ◌≢◌, ℕ, zero, suc, ◌+◌, ◌*◌, ◌/◌, ◌%◌, ◌^◌, ◌<◌, ◌≤◌, Bool, true, false, cond, ◌⊎◌, inl, inr, Some, None, List, [], ◌∷◌, ◌++◌, length, take, drop, map, refl, sym, ◌∙◌, ap, subst, arith, length-append, append_assoc}
+use Rattle.std.proofs.Common.{◌≡◌, ◌≢◌, ℕ, zero, suc, ◌+◌, ◌*◌, ◌/◌, ◌%◌, ◌^◌, ◌<◌, ◌≤◌, Bool, true, false, cond, ◌⊎◌, inl, inr, Some, None, List, [], ◌∷◌, ◌++◌, length, take, drop, map, refl, sym, ◌∙◌, ap, subst, arith, length-append, append_assoc, length-drop}
 use Rattle.std.specs.Option.{option_and_then}
 use Rattle.std.proofs.Math.Dec.{eqb}
 use Rattle.std.proofs.Math.Pow.{pow-add}
 use Rattle.std.proofs.Math.Seq.{take-add}
 use Rattle.std.proofs.lemmas.Bool.{and_left, and_right, cond-true, cond-false, eq-eqb, eqb-true, eqb-false, ne_eqb}
-use Rattle.std.proofs.lemmas.List.{append-nil, map-append, take-map, take-take}
+use Rattle.std.proofs.lemmas.List.{append-nil, drop-drop, drop-take, map-append, take-map, take-take}
 use Rattle.std.proofs.lemmas.Option.{option_and_then_some}
 use lib.Count.{count_trailing_zeros, under}
 use lib.Lanes.{mask_l}
@@ -16,7 +16,7 @@ use Rattle.can_frame.specs.Levels.{bits_of, is_recessive, level_of, same}
 use Rattle.can_wire.specs.Stuffing.{run_after}
 use Rattle.can_wire.specs.Layout.{frame_len}
 use Rattle.can_code.specs.Front.{FrontParts, next_place, heard_level, hear_at, heard_levels}
-use Rattle.can_code.specs.Digits.{HearsDigits, bit_of, digit_of, levels_up}
+use Rattle.can_code.specs.Digits.{BeginWith, HearsDigits, bit_of, digit_of, levels_up}
 use Rattle.can_code.specs.Steps.{Step, begun, step_on, steps_on}
 use Rattle.can_code.specs.Unstuffing.{HasRoom, Unstuffs}
 use Rattle.can_code.specs.declared.unstuffing.UnstuffedRun.{UnstuffedRun}
@@ -218,6 +218,23 @@ digits-levels_up digits block n k c m few whole at are =
     sym (take-take k 16 (drop n digits) (omega arith)) ∙ ap (take k) (sym at) ∙ sym (take-take k c block few) ∙ ap (take k) are
     ∙ take-map digit_of k (levels_up c m) ∙ ap (map digit_of) (take-levels_up k c m few)
 
+-- the same, of a block that the digits have
+pub BeginWith-block : (digits block : List ℕ) (n k c m : ℕ) → n + 16 ≤ length digits → k ≤ c → c ≤ 16 → block ≡ take 16 (drop n digits) → take c block ≡ map digit_of (levels_up c m)
+    → BeginWith (drop n digits) k m
+BeginWith-block digits block n k c m whole few within at are = (omega (arith, whole, length-drop n digits), digits-levels_up digits block n k c m few within at are)
+
+eight_halves : (m : ℕ) → m / 2 / 2 / 2 / 2 / 2 / 2 / 2 / 2 ≡ m / 2 ^ 8
+eight_halves m = omega arith
+
+-- the upper half of a block of digits alone
+pub BeginWith-half : (digits block : List ℕ) (n m : ℕ) → n + 16 ≤ length digits → block ≡ take 16 (drop n digits) → take 16 block ≡ map digit_of (levels_up 16 m)
+    → BeginWith (drop (n + 8) digits) 8 (m / 2 ^ 8)
+BeginWith-half digits block n m whole at are =
+    let all : take 16 (drop n digits) ≡ map digit_of (levels_up 16 m) = digits-levels_up digits block n 16 16 m (omega arith) (omega arith) at are in (
+      omega (arith, whole, length-drop (n + 8) digits),
+      ap (take 8) (sym (drop-drop 8 n digits)) ∙ sym (drop-take 8 8 (drop n digits)) ∙ ap (drop 8) all ∙ ap (λ x. map digit_of (levels_up 8 x)) (eight_halves m),
+    )
+
 -- levels at the front of digits, and more behind them
 pub HearsDigits-append : (f g h : FrontParts) (digits : List ℕ) (n k : ℕ) (xs : List Level) → HearsDigits f g (take n digits) → take k (drop n digits) ≡ map digit_of xs
     → heard_levels g xs ≡ Some h → HearsDigits f h (take (n + k) digits)
@@ -245,14 +262,13 @@ Unstuffs-begin digits room last run r some short begins = subst (Unstuffs digits
       heard = λ u has. HearsDigits-begin u last run digits;
     })
 
-module _ (digits block : List ℕ) (room : ℕ) (last : Level) (run : ℕ) (r : UnstuffedRun) (levels digit_count count : ℕ) (s : Step) (so_far : Unstuffs digits room last run r) where
-  pub Unstuffs-step : room ≤ 32 → block ≡ take 16 (drop r.taken digits) → r.taken + 16 ≤ length digits → take digit_count block ≡ map digit_of (levels_up digit_count levels) → digit_count ≤ 16 → count ≤ digit_count → r.len + count ≤ room
-      → steps_on (begun r.last r.run) (levels_up count levels) ≡ Some s
+module _ (digits : List ℕ) (room : ℕ) (last : Level) (run : ℕ) (r : UnstuffedRun) (levels count : ℕ) (s : Step) (so_far : Unstuffs digits room last run r) where
+  pub Unstuffs-step : room ≤ 32 → BeginWith (drop r.taken digits) count levels → r.len + count ≤ room → steps_on (begun r.last r.run) (levels_up count levels) ≡ Some s
       → Unstuffs digits room last run (record { number = r.number * 2 ^ s.len % 2 ^ 32 + s.number; len = r.len + s.len; last = s.last; run = s.run; taken = r.taken + count })
-  Unstuffs-step wide at whole are within few fits taken =
+  Unstuffs-step wide begins_with fits taken =
       let h : StepBounds s count = taken-bounds r.last r.run count count levels s so_far.some so_far.short (omega arith) taken in
       record {
-        within = omega (arith, whole);
+        within = omega (arith, begins_with.0, length-drop r.taken digits, so_far.within);
         few = omega (arith, fits, h.few);
         small = joined-small 32 r.len s.len r.number s.number so_far.small h.small (omega (arith, fits, h.few));
         some = h.some;
@@ -265,8 +281,7 @@ module _ (digits block : List ℕ) (room : ℕ) (last : Level) (run : ℕ) (r : 
             let begins : v ++ bits_of 0 0 ≡ v = ap (λ l. v ++ l) (bits_of-zero 0) ∙ append-nil v in
             let ends : v ++ bits_of s.len s.number ≡ u ++ bits_of (r.len + s.len) (r.number * 2 ^ s.len % 2 ^ 32 + s.number) =
             append_assoc u (bits_of r.len r.number) (bits_of s.len s.number) ∙ ap (λ l. u ++ l) (sym (bits_of-moved 32 r.len s.len r.number s.number (omega (arith, fits, h.few)) h.small)) in
-            HearsDigits-append _ (record { unstuffed = v; last = r.last; run = r.run }) _ digits r.taken count (levels_up count levels) (so_far.heard u has)
-            (digits-levels_up digits block r.taken count digit_count levels few within at are)
+            HearsDigits-append _ (record { unstuffed = v; last = r.last; run = r.run }) _ digits r.taken count (levels_up count levels) (so_far.heard u has) begins_with.1
             (ap (λ l. heard_levels (record { unstuffed = l; last = r.last; run = r.run }) (levels_up count levels)) (sym begins)
             ∙ steps_on-heard (levels_up count levels) v (begun r.last r.run) s left taken ∙ ap (λ l. Some (record { unstuffed = l; last = s.last; run = s.run })) ends);
       }

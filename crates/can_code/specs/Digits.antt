@@ -1,5 +1,5 @@
 -- Levels as digits, and what a front and a decoder have heard of them.
-use Rattle.std.specs.Prelude.{ℕ, zero, suc, ◌≡◌, ◌/◌, ◌%◌, Bool, Some, List, [], ◌∷◌, ◌++◌, map, take}
+use Rattle.std.specs.Prelude.{ℕ, zero, suc, ◌≡◌, ◌≤◌, ◌/◌, ◌%◌, Bool, Some, List, [], ◌∷◌, ◌++◌, length, map, take}
 use Rattle.can_frame.specs.declared.level.Level.{Level}
 use Rattle.can_frame.specs.declared.level.Level.TheVariants.{Dominant, Recessive}
 use Rattle.can_frame.specs.Levels.{level_of}
@@ -22,6 +22,10 @@ bit_of Recessive = 1
 abbrev pub levels_up : ℕ → ℕ → List Level
 levels_up zero x = []
 levels_up (suc n) x = level_of (x % 2) ∷ levels_up n (x / 2)
+
+-- digits begin with those of the n lowest bits of a number, the lowest first
+abbrev pub BeginWith : List ℕ → ℕ → ℕ → Type 0
+BeginWith digits n x = (n ≤ length digits) × (take n digits ≡ map digit_of (levels_up n x))
 
 -- these are the digits of levels, which lead from the one front to the other
 pub record HearsDigits (f g : FrontParts) (digits : List ℕ) : Type 0 where

@@ -137,6 +137,9 @@ impl<B: FrameBits> Front<B> {
             return 0;
         }
         let heard = unstuff(digits, room, self.last, self.run);
+        if heard.taken == 0 {
+            return 0;
+        }
         self.bits.append(heard.number, heard.len);
         self.last = heard.last;
         self.run = heard.run;

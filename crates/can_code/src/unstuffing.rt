@@ -1,5 +1,6 @@
-ghost use Rattle.std.specs.Prelude.{◌≡◌, ◌<◌, ◌≤◌, List, length};
+ghost use Rattle.std.specs.Prelude.{◌≡◌, ◌+◌, ◌^◌, ◌<◌, ◌≤◌, ℕ, IfSome, List, drop, length};
 ghost use Rattle.can_frame.specs.declared.level.Level.{Level as Bit};
+ghost use Rattle.can_code.specs.Digits.{BeginWith};
 ghost use Rattle.can_code.specs.Reading.{TellsLength};
 ghost use Rattle.can_code.specs.Steps.{last_of, run_of};
 ghost use Rattle.can_code.specs.Unstuffing.{HasRoom, Unstuffs, as_run};
@@ -117,6 +118,48 @@ struct StepRun {
     taken: usize,
 }
 
+impl StepRun {
+    /// None so far, at this row.
+    #[inline]
+    fn begin(row: u8) -> StepRun
+        ensures { result ≡ record { number = 0; len = 0; row = row; taken = 0 } }
+    {
+        StepRun {
+            number: 0,
+            len: 0,
+            row,
+            taken: 0,
+        }
+    }
+}
+
+/// These levels with `count` more behind them, the lowest bits of a number, of which the lowest comes first. `None` where a
+/// stuff place repeats the level before it.
+#[inline]
+fn step_behind(now: StepRun, levels: u64, count: usize) -> Option<StepRun>
+    requires row { now.row < 10 }
+    requires small { now.number < 2 ^ now.len }
+    requires few { count ≤ 8 }
+    requires fits { now.len + count ≤ 32 }
+    requires within { now.taken + count < 2 ^ 64 }
+    ensures row { IfSome result (λ next. next.row < 10) }
+    ensures few { IfSome result (λ next. next.len ≤ now.len + count) }
+    ensures all { IfSome result (λ next. next.taken ≡ now.taken + count) }
+    ensures taken { IfSome result (λ next. (digits : List ℕ) (room : ℕ) (last : Bit) (run : ℕ)
+        → Unstuffs digits room last run (as_run now) → BeginWith (drop now.taken digits) count levels → now.len + count ≤ room → room ≤ 32
+        → Unstuffs digits room last run (as_run next)) }
+{
+    let Some(step) = take_step(now.row, levels, count) else {
+        return None;
+    };
+    Some(StepRun {
+        number: (now.number << step.len) + u32::from(step.number),
+        len: now.len + usize::from(step.len),
+        row: step.row,
+        taken: now.taken + count,
+    })
+}
+
 /// The same from row to row of the table of steps.
 #[inline]
 fn unstuff_rows(digits: &[u8], room: usize, row: u8) -> StepRun
@@ -125,12 +168,7 @@ fn unstuff_rows(digits: &[u8], room: usize, row: u8) -> StepRun
     ensures row { result.row < 10 }
     ensures taken { Unstuffs digits.now room (last_of row) (run_of row) (as_run result) }
 {
-    let mut now = StepRun {
-        number: 0,
-        len: 0,
-        row,
-        taken: 0,
-    };
+    let mut now = unstuff_blocks(digits, room, row);
     while now.len < room {
         let Some(block) = digits[now.taken..].first_chunk::<BLOCK>() else {
             return now;
@@ -140,13 +178,39 @@ fn unstuff_rows(digits: &[u8], room: usize, row: u8) -> StepRun
         if count == 0 {
             return now;
         }
-        let Some(step) = take_step(now.row, levels.number, count) else {
+        let Some(next) = step_behind(now, levels.number, count) else {
             return now;
         };
-        now.number = (now.number << step.len) + u32::from(step.number);
-        now.len += usize::from(step.len);
-        now.row = step.row;
-        now.taken += count;
+        now = next;
+    }
+    now
+}
+
+/// The same by whole blocks, two steps in each. It stops where a block has a byte that is no digit, or where there may be no
+/// room for all of its levels.
+#[inline]
+fn unstuff_blocks(digits: &[u8], room: usize, row: u8) -> StepRun
+    requires wide { room ≤ 32 }
+    requires row { row < 10 }
+    ensures row { result.row < 10 }
+    ensures taken { Unstuffs digits.now room (last_of row) (run_of row) (as_run result) }
+{
+    let mut now = StepRun::begin(row);
+    while now.len + BLOCK <= room {
+        let Some(block) = digits[now.taken..].first_chunk::<BLOCK>() else {
+            return now;
+        };
+        let levels = levels_of(block);
+        if levels.count < BLOCK {
+            return now;
+        }
+        let Some(first) = step_behind(now, levels.number, STEP_LEVELS) else {
+            return now;
+        };
+        let Some(second) = step_behind(first, levels.number >> STEP_LEVELS, STEP_LEVELS) else {
+            return first;
+        };
+        now = second;
     }
     now
 }

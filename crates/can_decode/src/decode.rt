@@ -177,7 +177,7 @@ fn hear_start(bytes: &[u8], trace: &mut Trace) -> usize
 }
 
 /// Hears one byte, which has this place in the input.
-#[inline(never)]
+#[inline]
 fn hear_byte<W: Sink>(
     byte: u8,
     place: u64,

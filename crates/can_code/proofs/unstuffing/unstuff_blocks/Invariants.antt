@@ -1,0 +1,14 @@
+use Rattle.std.proofs.Common.{◌-◌, ◌<◌, length}
+use Rattle.can_code.specs.Steps.{last_of, run_of}
+use Rattle.can_code.specs.Unstuffing.{Unstuffs, as_run}
+use Rattle.can_code.proofs.unstuffing.unstuff_blocks.Given as goal
+
+-- the levels so far were heard
+abbrev pub invariant-loop-now : goal.invariant-loop-now
+invariant-loop-now l = record {
+  row : l.now.row < 10;
+  taken : Unstuffs l.digits l.room (last_of l.fn.row) (run_of l.fn.row) (as_run l.now);
+}
+
+abbrev pub decreases-loop-now : goal.decreases-loop-now
+decreases-loop-now l = length l.digits - l.now.taken
