@@ -1,5 +1,5 @@
 -- Walking along hits, and along offers, in their order.
-use Rattle.std.specs.Prelude.{ℕ, ◌≡◌, ◌+◌, ◌<◌, ◌≤◌, ◌==◌, Bool, true, false, ◌&&◌, List, Option, Some, None, slice_get}
+use Rattle.std.specs.Prelude.{ℕ, ◌≡◌, ◌+◌, ◌-◌, ◌^◌, nat_lt, if◌then◌else◌, ◌<◌, ◌≤◌, ◌==◌, Bool, true, false, ◌&&◌, List, Option, Some, None, slice_get}
 use Rattle.can_bus.specs.declared.hit.Hit.{Hit}
 use Rattle.can_bus.specs.declared.hit.Hit.TheVariants.{At, In, View}
 use Rattle.can_bus.specs.declared.moment.Attempt.{Attempt}
@@ -7,6 +7,7 @@ use Rattle.can_bus.specs.declared.offer.Offer.{Offer}
 use Rattle.can_bus.specs.declared.call.Call.{Call}
 use Rattle.can_bus.specs.declared.cursor.Cursor.{Cursor}
 use Rattle.can_bus.specs.Hits.{is_above}
+use Rattle.can_bus.specs.Run.{BusState, Course}
 
 -- the second hit is the first
 abbrev pub is_hit : Hit → Hit → Bool
@@ -60,3 +61,43 @@ first_call = record { time = 0; latest = None; at = first_place; within = first_
 pub record IsReached (offers : List Offer) (place time : ℕ) : Type 0 where
   pub passed : (n : ℕ) (offer : Offer) → n < place → slice_get offers n ≡ Some offer → offer.time < time
   pub ahead : (n : ℕ) (offer : Offer) → place ≤ n → slice_get offers n ≡ Some offer → time ≤ offer.time
+
+-- a call in its course on this bus
+abbrev pub course_in : BusState → Call → Course
+course_in bus call = record { bus = bus; time = call.time; latest = call.latest }
+
+-- the attempt so many bit times later
+abbrev pub aged_by : ℕ → Option Attempt → Option Attempt
+aged_by n None = None
+aged_by n (Some a) = Some (record { number = a.number; offset = a.offset + n })
+
+-- no bit time of a call comes so late
+abbrev pub never : ℕ
+never = 2 ^ 64 - 1
+
+-- how many bit times pass from this time on before the wired level is hit at its time, where this is the next hit of a
+-- walk along those that lie no earlier
+abbrev pub until_at : ℕ → Option Hit → ℕ
+until_at time None = never
+until_at time (Some (At t)) = t - time
+until_at time (Some (In number offset)) = never
+until_at time (Some (View t node)) = never
+
+-- the same of a hit on the latest attempt, if no later one begins; 0 where the walk has a hit yet to pass
+abbrev pub until_in : Option Attempt → Option Hit → ℕ
+until_in None next = never
+until_in (Some a) None = never
+until_in (Some a) (Some (At t)) = 0
+until_in (Some a) (Some (In number offset)) = if nat_lt a.number number then never else if nat_lt number a.number then 0 else offset - (a.offset + 1)
+until_in (Some a) (Some (View t node)) = never
+
+-- and of a hit on what a port sees
+abbrev pub until_view : ℕ → Option Hit → ℕ
+until_view time None = never
+until_view time (Some (At t)) = 0
+until_view time (Some (In number offset)) = 0
+until_view time (Some (View t node)) = t - time
+
+-- the course of a call in which the bus has rested for so many bit times
+abbrev pub rested : ℕ → Course → Course
+rested n c = record { bus = c.bus; time = c.time + n; latest = aged_by n c.latest }

@@ -1,7 +1,7 @@
-ghost use Rattle.std.specs.Prelude.{◌≡◌};
+ghost use Rattle.std.specs.Prelude.{ℕ, ◌≡◌, ◌+◌, ◌-◌, ◌<◌, ◌≤◌, ◌^◌, false};
 ghost use Rattle.std.specs.List.{list_any};
-ghost use Rattle.can_bus.specs.Run.{hits_wire};
-ghost use Rattle.can_bus.specs.Walks.{AreBelow, AreRising, first_call, in_now};
+ghost use Rattle.can_bus.specs.Run.{hits_view, hits_wire};
+ghost use Rattle.can_bus.specs.Walks.{AreBelow, AreRising, IsCall, IsPassed, aged_by, first_call, in_now, until_at as until_at_of, until_in as until_in_of, until_view as until_view_of};
 
 use crate::cursor::Cursor;
 use crate::hit::Hit;
@@ -57,5 +57,90 @@ impl Call {
             ),
         };
         by_time || by_attempt
+    }
+
+    /// How many bit times from this one on no hit falls in while no attempt begins, `most` at most. It may be fewer
+    /// where a hit has just passed.
+    pub(crate) fn undisturbed(&self, hits: &[Hit], most: usize) -> usize
+        requires rising { AreRising hits.now }
+        requires call { IsCall hits.now self.now }
+        requires time { self.now.time < 2 ^ 64 - 1 }
+        ensures most { result ≤ most }
+        ensures wire { (n : ℕ) → n < result → list_any (hits_wire (self.now.time + n) (aged_by (n + 1) self.now.latest)) hits.now ≡ false }
+        ensures view { (n node : ℕ) → n < result → list_any (hits_view (self.now.time + n) node) hits.now ≡ false }
+    {
+        let at = until_at(self.at.next(hits), self.time);
+        let within = until_in(self.within.next(hits), self.latest);
+        let view = until_view(self.view.next(hits), self.time);
+        at.min(within).min(view).min(most as u64) as usize
+    }
+
+    /// So many bit times pass in which no attempt begins.
+    pub(crate) fn pass(&mut self, count: usize)
+        requires passed { IsPassed self.old.latest self.old.time }
+        requires time { self.old.time + count < 2 ^ 64 }
+        ensures time { self.new.time ≡ self.old.time + count }
+        ensures latest { self.new.latest ≡ aged_by count self.old.latest }
+        ensures at { self.new.at ≡ self.old.at }
+        ensures within { self.new.within ≡ self.old.within }
+        ensures view { self.new.view ≡ self.old.view }
+    {
+        self.time += count as u64;
+        self.latest = match self.latest {
+            None => None,
+            Some(Attempt { number, offset }) => Some(Attempt {
+                number,
+                offset: offset + count as u64,
+            }),
+        };
+    }
+}
+
+/// How many bit times pass before the wired level is hit at its time, where this hit is the next of a walk.
+fn until_at(next: Option<Hit>, time: u64) -> u64
+    ensures { result ≡ until_at_of time next }
+{
+    match next {
+        Some(Hit::At(hit)) => hit.saturating_sub(time),
+        Some(Hit::In { .. }) => u64::MAX,
+        Some(Hit::View { .. }) => u64::MAX,
+        None => u64::MAX,
+    }
+}
+
+/// How many bit times pass before the latest attempt is hit, if no later one begins. A hit on an earlier attempt has yet
+/// to be passed.
+fn until_in(next: Option<Hit>, latest: Option<Attempt>) -> u64
+    requires { IsPassed latest (2 ^ 64 - 1) }
+    ensures { result ≡ until_in_of latest next }
+{
+    let Some(latest) = latest else {
+        return u64::MAX;
+    };
+    match next {
+        Some(Hit::At(_)) => 0,
+        Some(Hit::In { attempt, offset }) => {
+            if latest.number < attempt {
+                u64::MAX
+            } else if attempt < latest.number {
+                0
+            } else {
+                offset.saturating_sub(latest.offset + 1)
+            }
+        }
+        Some(Hit::View { .. }) => u64::MAX,
+        None => u64::MAX,
+    }
+}
+
+/// How many bit times pass before what a port sees is hit.
+fn until_view(next: Option<Hit>, time: u64) -> u64
+    ensures { result ≡ until_view_of time next }
+{
+    match next {
+        Some(Hit::At(_)) => 0,
+        Some(Hit::In { .. }) => 0,
+        Some(Hit::View { time: hit, node: _ }) => hit.saturating_sub(time),
+        None => u64::MAX,
     }
 }

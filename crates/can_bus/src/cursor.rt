@@ -1,4 +1,4 @@
-ghost use Rattle.std.specs.Prelude.{◌≡◌};
+ghost use Rattle.std.specs.Prelude.{◌≡◌, slice_get};
 ghost use Rattle.std.specs.List.{list_any};
 ghost use Rattle.can_bus.specs.Walks.{AreBelow, AreRising, is_hit};
 
@@ -12,6 +12,13 @@ pub(crate) struct Cursor {
 }
 
 impl Cursor {
+    /// The first hit that isn't passed.
+    pub(crate) fn next(&self, hits: &[Hit]) -> Option<Hit>
+        ensures { result ≡ slice_get hits.now self.now.place }
+    {
+        hits.get(self.place).copied()
+    }
+
     /// Passes the hits below this one, and answers whether it is among them all.
     pub(crate) fn reach(&mut self, hits: &[Hit], hit: Hit) -> bool
         requires rising { AreRising hits.now }

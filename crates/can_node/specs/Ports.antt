@@ -8,6 +8,7 @@ use Rattle.can_frame.specs.Parts.{Parts, IsFrame}
 use Rattle.can_frame.specs.Arbitration.{arbitration_field, field_cmp}
 use Rattle.can_mac.specs.declared.event.Event.{Event}
 use Rattle.can_mac.specs.declared.event.Event.TheVariants.{Sent, Received, Lost, Error, Overload, WentOff, Recovered}
+use Rattle.can_mac.specs.declared.phase.Phase.TheVariants.{Idle}
 use Rattle.can_mac.specs.State.{MacState, IsMac}
 use Rattle.can_mac.specs.Machine.{mac_drives, mac_step, holding}
 use Rattle.can_node.specs.declared.entry.Entry.{Entry}
@@ -88,6 +89,10 @@ port_event p seen = (mac_step p.mac (waiting p.queue) seen).1
 -- the port after it
 unfoldable pub port_step : PortState → Level → PortState
 port_step p seen = port_noting (port_event p seen) (record p { mac = (mac_step p.mac (waiting p.queue) seen).0 })
+
+-- a port at rest: its controller is idle, and no frame waits (Bosch CAN 2.0 part B, section 3.2.5)
+abbrev pub IsAtRest : PortState → Type 0
+IsAtRest p = (p.mac.phase ≡ Idle) × (waiting p.queue ≡ None)
 
 -- one more frame waits
 abbrev pub port_offered : Parts → PortState → PortState

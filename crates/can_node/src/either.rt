@@ -46,6 +46,14 @@ impl Port for EitherNode {
         }
     }
 
+    #[inline(always)]
+    fn rests(&self) -> bool {
+        match self {
+            EitherNode::Plain(node) => node.rests(),
+            EitherNode::Packed(node) => node.rests(),
+        }
+    }
+
     fn offer(&mut self, frame: Frame) -> Result<(), Frame> {
         match self {
             EitherNode::Plain(node) => node.offer(frame),

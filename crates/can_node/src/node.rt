@@ -9,7 +9,7 @@ use crate::queue::Queue;
 use can_code::{FrameBits, PackedBits, PlainBits};
 use can_fault::State;
 use can_frame::{Frame, Level};
-use can_mac::{Event, MediumAccess};
+use can_mac::{Event, MediumAccess, Phase};
 use std::alloc::{AllocError, Global};
 
 /// A port with memory of its own, all of which is taken when it is made: no later call takes memory,
@@ -154,6 +154,12 @@ impl<B: FrameBits> Port for Node<B> {
             return Level::Recessive;
         }
         self.turn_apart(seen)
+    }
+
+    #[tactic(auto, using(crate::proofs::PortLemmas::rests_recessive, crate::proofs::PortLemmas::rests_unchanged))]
+    #[inline(always)]
+    fn rests(&self) -> bool {
+        matches!(self.mac.phase(), Phase::Idle) && self.queue.waiting().is_none()
     }
 
     fn offer(&mut self, frame: Frame) -> Result<(), Frame> {

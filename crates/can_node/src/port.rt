@@ -2,7 +2,7 @@ ghost use Rattle.std.specs.Prelude.{◌≡◌, ◌<◌, ◌≤◌, ◌↔◌, le
 ghost use Rattle.can_fault.specs.Counters.{state_of};
 ghost use Rattle.can_frame.specs.declared.level.Level.TheVariants.{Recessive};
 ghost use Rattle.can_mac.specs.Machine.{IsSilent};
-ghost use Rattle.can_node.specs.Ports.{PortState, IsPort, port_offered, port_drives, port_event, port_holding, port_step};
+ghost use Rattle.can_node.specs.Ports.{PortState, IsAtRest, IsPort, port_offered, port_drives, port_event, port_holding, port_step};
 
 use crate::entry::Entry;
 use can_fault::State;
@@ -31,6 +31,14 @@ pub trait Port {
     fn turn(&mut self, seen: Level) -> Level
         ensures port { port self.new ≡ port_step (port self.old) seen }
         ensures level { result ≡ port_drives (port self.new) };
+
+    /// Whether the port is at rest: its controller is idle, and no frame waits. Then it drives recessive, and a
+    /// recessive level leaves it as it is (Bosch CAN 2.0 part B, section 3.2.5, bus idle): so a bus need not visit
+    /// its ports while all of them rest.
+    fn rests(&self) -> bool
+        ensures idle { IsTrue result ↔ IsAtRest (port self.now) }
+        ensures recessive { IsTrue result → port_drives (port self.now) ≡ Recessive }
+        ensures unchanged { IsTrue result → port_step (port self.now) Recessive ≡ port self.now };
 
     /// Queues a frame behind those that wait. A full queue refuses it: the frame comes back, and
     /// nothing changes.

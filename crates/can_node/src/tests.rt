@@ -291,6 +291,24 @@ fn an_unacknowledged_frame_stays(rt: HostRuntime) -> Result<(), Fail> {
     Ok(())
 }
 
+/// A port rests while it is idle and no frame waits.
+#[test]
+fn rests_while_idle_and_no_frame_waits(rt: HostRuntime) -> Result<(), Fail> {
+    for kind in KINDS {
+        let mut port = kind.idle(rt.alloc(), 1, 1)?;
+        assert!(rt; port.rests(), "{kind:?}");
+        let _ = port.sample(Level::Recessive);
+        assert!(rt; port.rests(), "{kind:?}");
+        let _ = port.sample(Level::Dominant);
+        assert!(rt; !port.rests(), "{kind:?}");
+        assert!(rt; !kind.joining(rt.alloc(), 1, 1)?.rests(), "{kind:?}");
+        let mut sender = kind.idle(rt.alloc(), 1, 1)?;
+        assert!(rt; sender.offer(frame("S 001 D 0")?).is_ok());
+        assert!(rt; !sender.rests(), "{kind:?}");
+    }
+    Ok(())
+}
+
 /// Each of its four allocations may be refused: then the port isn't made. No later one is there to be
 /// refused, whatever happens in ten thousand bit times.
 #[test]

@@ -158,6 +158,40 @@ const ONE_PORT_ALONE: Course = Course {
     ..COURSE
 };
 
+const FAR_BEHIND: &[Course] = &[
+    Course {
+        name: "a dominant level far behind",
+        queues: &[&[], &[]],
+        hits: &[Hits::At(1005, 1006)],
+        levels: &[("1", 1000), ("111110111111000000111111111111", 1)],
+        stands: &[
+            (1011, "active 0 0 | active 0 0"),
+            (1012, "active 0 1 | active 0 1"),
+            (1030, "active 0 1 | active 0 1"),
+        ],
+        ..COURSE
+    },
+    Course {
+        name: "one port alone far behind",
+        queues: &[&[], &[]],
+        hits: &[Hits::View(1000, 0)],
+        levels: &[
+            ("1", 1000),
+            ("1111111000000000000", 1),
+            (DELIMITER_AND_INTERMISSION, 1),
+            ("1", 1),
+        ],
+        stands: &[(1031, "active 0 9 | active 0 1")],
+        ..COURSE
+    },
+];
+
+/// The same a thousand bit times later, in which the bus rests.
+#[test]
+fn hits_far_behind_on_a_resting_bus(rt: HostRuntime) -> Result<(), Fail> {
+    hold(&rt, rt.alloc(), FAR_BEHIND)
+}
+
 /// The first port alone hears a start of frame, and its flag from 7 on is heard by the other as one with
 /// five dominant levels behind it, which at 12 is a stuff error in turn. Behind its own flag the first
 /// hears the other's, whose first dominant level counts eight more.

@@ -27,7 +27,7 @@ struct Row {
     stands: &'static [(usize, &'static str)],
 }
 
-const ROWS: [Row; 6] = [
+const ROWS: [Row; 7] = [
     // 000 waits behind 001, whose start of frame is at 0
     Row {
         room: 2,
@@ -91,6 +91,17 @@ const ROWS: [Row; 6] = [
             150,
             "active 0 0, sent S 000 D 0, took S 001 D 0 | \
              active 0 0, took S 000 D 0, sent S 001 D 0",
+        )],
+    },
+    // the bus rests for a thousand bit times
+    Row {
+        room: 2,
+        offers: &[(1000, 1, "S 001 D 0")],
+        levels: &[("1", 1000), (WIRE_001, 1), (INTERMISSION, 1)],
+        refused: 0,
+        stands: &[(
+            1050,
+            "active 0 0, took S 001 D 0 | active 0 0, sent S 001 D 0",
         )],
     },
     // all at time 0, as if they had waited before

@@ -245,6 +245,32 @@ fn an_attempt_begins_however_long_the_bus_has_rested(rt: HostRuntime) -> Result<
     go(&rt, rt.alloc(), &[&[], &[]], AT_REST)
 }
 
+const REST_ENDED: &[Run] = &[
+    // the dominant level at 5 is recorded, and no port sees it
+    Run {
+        offers: &[],
+        hits: &[Hits::At(5, 6), Hits::View(5, 0), Hits::View(5, 1)],
+        levels: &[("1111101111", 1)],
+    },
+    Run {
+        offers: &[],
+        hits: &[],
+        levels: &[("1111111", 1)],
+    },
+    Run {
+        offers: &[(0, "S 001 D 0")],
+        hits: &[DOMINANT_STUFF_BIT],
+        levels: &[(BROKEN, 1), (DELIMITER_AND_INTERMISSION, 1)],
+    },
+];
+
+/// Behind a dominant level the bus rests again after eleven recessive ones, four and seven in two runs, though its
+/// ports are idle all the time.
+#[test]
+fn a_bus_rests_after_eleven_recessive_levels_of_two_runs(rt: HostRuntime) -> Result<(), Fail> {
+    go(&rt, rt.alloc(), &[&[], &[]], REST_ENDED)
+}
+
 /// The frame of `WIRE_001`, cut behind its tenth level.
 const WITHIN: &[Run] = &[
     Run {

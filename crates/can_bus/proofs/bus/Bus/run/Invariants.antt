@@ -1,4 +1,4 @@
-use Rattle.std.proofs.Common.{◌≡◌, ◌<◌, ℕ, get_or, map}
+use Rattle.std.proofs.Common.{◌≡◌, ◌-◌, ◌<◌, ◌≤◌, ℕ, get_or, length, map}
 use Rattle.can_frame.specs.declared.level.Level.{Level}
 use Rattle.can_node.specs.Ports.{port_drives}
 use Rattle.can_bus.specs.Run.{course, bus_after, bus_level}
@@ -7,11 +7,16 @@ use Rattle.can_bus.specs.Walks.{IsCall}
 use Rattle.can_bus.specs.Wired.{wired}
 use Rattle.can_bus.proofs.bus.Bus.run.Given as goal
 
-abbrev pub invariant-loop-slot : goal.invariant-loop-slot
-invariant-loop-slot g l = record {
-  course : record { bus = state_of g.P.Port.port l.self; time = l.call.time; latest = l.call.latest } ≡ bus_after l.hits l.slot-index (course (state_of g.P.Port.port l.fn.self));
-  levels : (t : ℕ) (d : Level) → t < l.slot-index → get_or l.rec t d ≡ bus_level l.hits t (state_of g.P.Port.port l.fn.self);
+abbrev pub invariant-loop-place : goal.invariant-loop-place
+invariant-loop-place g l = record {
+  course : record { bus = state_of g.P.Port.port l.self; time = l.call.time; latest = l.call.latest } ≡ bus_after l.hits l.place (course (state_of g.P.Port.port l.fn.self));
+  levels : (t : ℕ) (d : Level) → t < l.place → get_or l.rec t d ≡ bus_level l.hits t (state_of g.P.Port.port l.fn.self);
   driven : l.driven ≡ wired (map port_drives (port_states g.P.Port.port l.self));
   call : IsCall l.hits l.call;
-  time : l.call.time ≡ l.slot-index;
+  time : l.call.time ≡ l.place;
+  size : length l.rec ≡ length l.fn.rec;
+  within : l.place ≤ length l.fn.rec;
 }
+
+abbrev pub decreases-loop-place : goal.decreases-loop-place
+decreases-loop-place g l = length l.fn.rec - l.place

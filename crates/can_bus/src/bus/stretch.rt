@@ -1,0 +1,103 @@
+//! A run by stretches: bit times in which the bus rests are passed at once, others are taken one after another.
+ghost use Rattle.std.specs.Prelude.{ℕ, ◌≡◌, ◌+◌, ◌<◌, ◌≤◌, ◌^◌, length, map, slice_index_or, IsTrue};
+ghost use Rattle.can_frame.specs.declared.level.Level.TheVariants.{Recessive};
+ghost use Rattle.can_node.specs.Ports.{port_drives, port_step};
+ghost use Rattle.can_bus.specs.Run.{bus_after, recorded};
+ghost use Rattle.can_bus.specs.State.{port_states, state_of};
+ghost use Rattle.can_bus.specs.Walks.{AreRising, IsCall, course_in, rested};
+ghost use Rattle.can_bus.specs.Wired.{wired as wired_of};
+
+use crate::bus::Bus;
+use crate::call::Call;
+use crate::hit::Hit;
+use can_frame::{IDLE_ROW, Level};
+use can_node::Port;
+
+/// How many bit times are taken one after another before the bus is asked again whether it rests, so that a busy bus
+/// is seldom asked.
+const STRETCH: usize = 32;
+
+impl<P: Port> Bus<P> {
+    /// Runs some bit times, one or more and at most as many as `rec` is long, and records a level in each. The answer
+    /// is how many they are. A bus at rest takes no time a port.
+    #[inline(always)]
+    pub(super) fn go_on(
+        &mut self,
+        hits: &[Hit],
+        call: &mut Call,
+        driven: &mut Level,
+        rec: &mut [Level],
+    ) -> usize
+        requires some { 0 < length rec.old }
+        requires driven { driven.old ≡ wired_of (map port_drives (port_states P.port self.old)) }
+        requires rising { AreRising hits.now }
+        requires call { IsCall hits.now call.old }
+        requires time { call.old.time + length rec.old < 2 ^ 64 }
+        ensures some { 1 ≤ result }
+        ensures most { result ≤ length rec.old }
+        ensures levels { (t : ℕ) (d : Level) → t < result → slice_index_or rec.new t d ≡ recorded hits.now (bus_after hits.now t (course_in (state_of P.port self.old) call.old)) }
+        ensures after { course_in (state_of P.port self.new) call.new ≡ bus_after hits.now result (course_in (state_of P.port self.old) call.old) }
+        ensures driven { driven.new ≡ wired_of (map port_drives (port_states P.port self.new)) }
+        ensures call { IsCall hits.now call.new }
+        ensures time { call.new.time ≡ call.old.time + result }
+    {
+        let resting = self.resting(hits, call, *driven, rec.len());
+        if resting > 0 {
+            rec[..resting].fill(Level::Recessive);
+            call.pass(resting);
+            return resting;
+        }
+        let count = STRETCH.min(rec.len());
+        self.take_each(hits, call, driven, &mut rec[..count]);
+        count
+    }
+
+    /// Runs as many bit times as `rec` is long, one after another, and records a level in each.
+    #[inline(always)]
+    fn take_each(&mut self, hits: &[Hit], call: &mut Call, driven: &mut Level, rec: &mut [Level])
+        requires driven { driven.old ≡ wired_of (map port_drives (port_states P.port self.old)) }
+        requires rising { AreRising hits.now }
+        requires call { IsCall hits.now call.old }
+        requires time { call.old.time + length rec.old < 2 ^ 64 }
+        ensures levels { (t : ℕ) (d : Level) → t < length rec.old → slice_index_or rec.new t d ≡ recorded hits.now (bus_after hits.now t (course_in (state_of P.port self.old) call.old)) }
+        ensures after { course_in (state_of P.port self.new) call.new ≡ bus_after hits.now (length rec.old) (course_in (state_of P.port self.old) call.old) }
+        ensures driven { driven.new ≡ wired_of (map port_drives (port_states P.port self.new)) }
+        ensures call { IsCall hits.now call.new }
+        ensures time { call.new.time ≡ call.old.time + length rec.old }
+    {
+        for slot in rec.iter_mut() {
+            *slot = self.step(hits, call, driven);
+        }
+    }
+
+    /// In how many bit times from this one on the bus rests, at most so many: it has been recessive for eleven bit
+    /// times, all ports rest, and no hit falls in them. It may be fewer where a hit has just passed.
+    #[inline(never)]
+    fn resting(&self, hits: &[Hit], call: &Call, driven: Level, most: usize) -> usize
+        requires driven { driven ≡ wired_of (map port_drives (port_states P.port self.now)) }
+        requires rising { AreRising hits.now }
+        requires call { IsCall hits.now call.now }
+        requires time { call.now.time + most < 2 ^ 64 }
+        requires some { 0 < most }
+        ensures most { result ≤ most }
+        ensures levels { (n : ℕ) → n < result → recorded hits.now (bus_after hits.now n (course_in (state_of P.port self.now) call.now)) ≡ Recessive }
+        ensures after { bus_after hits.now result (course_in (state_of P.port self.now) call.now) ≡ rested result (course_in (state_of P.port self.now) call.now) }
+    {
+        if driven.is_recessive() && self.rest == IDLE_ROW && all_rest(self.ports.as_slice()) {
+            return call.undisturbed(hits, most);
+        }
+        0
+    }
+}
+
+/// Whether all ports rest. It ends at the first that doesn't.
+fn all_rest<P: Port>(ports: &[P]) -> bool
+    ensures { IsTrue result → map (λ p. port_step p Recessive) (map P.port ports.now) ≡ map P.port ports.now }
+{
+    for port in ports {
+        if !port.rests() {
+            return false;
+        }
+    }
+    true
+}
