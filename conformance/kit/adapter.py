@@ -4,6 +4,7 @@ from __future__ import annotations
 
 import os
 import selectors
+import signal
 import subprocess
 import time
 from typing import IO, List, Optional, Sequence, Tuple
@@ -15,6 +16,8 @@ MOST_LEVELS = 4096
 GREETING_SECONDS = 60.0
 ANSWER_SECONDS = 10.0
 SECONDS_A_LEVEL = 0.001
+ENDING_SECONDS = 2.0
+MOST_SHOWN = 60
 
 
 class Void(Exception):
@@ -25,13 +28,21 @@ class Skip(Exception):
     """The adapter does not play the case. The reason is the exception's text."""
 
 
+def _is_other(line: bytes) -> Void:
+    """The answer is another than due. The reason shows the line, its first bytes where it is long."""
+    text = ascii(line[:MOST_SHOWN].decode("latin-1"))
+    return Void(f"protocol: {text}" + (" .." if len(line) > MOST_SHOWN else ""))
+
+
 class Adapter:
-    """A running adapter. After a Void it has to be closed, and another one started."""
+    """A running adapter. After a Void it has to be closed, and another one started. A carriage return before the end
+    of a line that it writes is passed over."""
 
     def __init__(self, command: Sequence[str], errors: Optional[IO[str]] = None) -> None:
-        """Starts it. Its standard error is the runner's, or goes to a file."""
+        """Starts it, in a session of its own, so that what it starts can be ended with it. Its standard error is the
+        runner's, or goes to a file."""
         self._process = subprocess.Popen(
-            list(command), stdin=subprocess.PIPE, stdout=subprocess.PIPE, stderr=errors
+            list(command), stdin=subprocess.PIPE, stdout=subprocess.PIPE, stderr=errors, start_new_session=True
         )
         self._selector = selectors.DefaultSelector()
         assert self._process.stdout is not None
@@ -45,24 +56,27 @@ class Adapter:
             raise
 
     def _greeting(self) -> str:
-        words = self._read_line(time.monotonic() + GREETING_SECONDS).split(" ", 2)
+        line = self._read_line(time.monotonic() + GREETING_SECONDS)
+        words = line.split(" ", 2)
         if words[:2] != ["can-kit", "1"] or len(words) != 3:
-            raise Void("protocol")
+            raise _is_other(line.encode())
         return words[2]
 
     def _read_line(self, deadline: float) -> str:
         while b"\n" not in self._pending:
             if len(self._pending) > LONGEST_LINE:
-                raise Void("protocol")
+                raise _is_other(self._pending)
             if not self._selector.select(max(0.0, deadline - time.monotonic())):
                 raise Void("time-out")
             read = os.read(self._output, 65536)
             if not read:
-                raise Void("ended")
+                raise self._has_ended()
             self._pending += read
         line, _, self._pending = self._pending.partition(b"\n")
+        if line.endswith(b"\r"):
+            line = line[:-1]
         if len(line) >= LONGEST_LINE or not line.isascii():
-            raise Void("protocol")
+            raise _is_other(line)
         text = line.decode("ascii")
         if text.startswith("error ") or text == "error":
             raise Void(text)
@@ -74,7 +88,15 @@ class Adapter:
             self._process.stdin.write(line.encode("ascii") + b"\n")
             self._process.stdin.flush()
         except (BrokenPipeError, OSError):
-            raise Void("ended") from None
+            raise self._has_ended() from None
+
+    def _has_ended(self) -> Void:
+        """It has ended, or closed its output; with its status, or the signal that ended it."""
+        try:
+            status = self._process.wait(timeout=ENDING_SECONDS)
+        except subprocess.TimeoutExpired:
+            return Void("ended")
+        return Void(f"ended, status {status}" if status >= 0 else f"ended, signal {-status}")
 
     def begin(self, name: str, start: str) -> None:
         """A new controller for this case. Raises Skip where the adapter does not play it."""
@@ -83,7 +105,7 @@ class Adapter:
         if answer.startswith("skip "):
             raise Skip(answer[len("skip ") :])
         if answer != "ready":
-            raise Void("protocol")
+            raise _is_other(answer.encode())
 
     def offer(self, frame: str) -> None:
         self._write_line(f"offer {frame}")
@@ -97,27 +119,29 @@ class Adapter:
         deadline = time.monotonic() + ANSWER_SECONDS + SECONDS_A_LEVEL * len(levels)
         events: List[Event] = []
         while True:
-            word, _, rest = self._read_line(deadline).partition(" ")
+            line = self._read_line(deadline)
+            word, _, rest = line.partition(" ")
             if word != "event":
                 break
             place, _, event = rest.partition(" ")
             last = events[-1][0] if events else -1
             if not place.isdigit() or not last < int(place) < len(levels) or not is_event(event):
-                raise Void("protocol")
+                raise _is_other(line.encode())
             events.append((int(place), event))
         if word != "drove" or len(rest) != len(levels) or rest.strip("01"):
-            raise Void("protocol")
+            raise _is_other(line.encode())
         return rest, events
 
     def end(self) -> Optional[State]:
         """The state behind the last bit time; None where the adapter does not know it."""
         self._write_line("end")
-        words = self._read_line(time.monotonic() + ANSWER_SECONDS).split(" ")
+        line = self._read_line(time.monotonic() + ANSWER_SECONDS)
+        words = line.split(" ")
         if words == ["state", "unknown"]:
             return None
         good = len(words) == 4 and words[0] == "state" and words[1] in ("active", "passive", "off")
         if not good or not (words[2].isdigit() and words[3].isdigit()):
-            raise Void("protocol")
+            raise _is_other(line.encode())
         return words[1], int(words[2]), int(words[3])
 
     def close(self) -> None:
@@ -132,9 +156,16 @@ class Adapter:
         except OSError:
             pass
         try:
-            self._process.wait(timeout=2.0)
+            self._process.wait(timeout=ENDING_SECONDS)
         except subprocess.TimeoutExpired:
-            self._process.kill()
+            self._kill()
             self._process.wait()
         self._selector.close()
         self._process.stdout.close()
+
+    def _kill(self) -> None:
+        """Ends it, and what it has started and that hangs as it does: a simulator behind a script, say."""
+        try:
+            os.killpg(self._process.pid, signal.SIGKILL)
+        except ProcessLookupError:
+            pass

@@ -67,12 +67,17 @@ def exit_status(verdicts: Iterable[Verdict]) -> int:
     return 1 if "fail" in kinds else 0
 
 
+def _shown(text: str) -> str:
+    """The text as XML can hold it: an adapter's reason may have control characters."""
+    return "".join(letter if letter.isprintable() else "?" for letter in text)
+
+
 def write_junit(path: str, name: str, verdicts: List[Verdict]) -> None:
     """Each family is a class, each case a test."""
     kinds = [verdict.kind for verdict in verdicts]
     suite = xml.Element(
         "testsuite",
-        name=name,
+        name=_shown(name),
         tests=str(len(kinds)),
         failures=str(kinds.count("fail")),
         errors=str(kinds.count("void")),
@@ -89,7 +94,7 @@ def write_junit(path: str, name: str, verdicts: List[Verdict]) -> None:
         )
         element = {"fail": "failure", "void": "error", "skip": "skipped"}.get(verdict.kind)
         if element is not None:
-            xml.SubElement(test, element, message=verdict.line()).text = verdict.case.purpose
+            xml.SubElement(test, element, message=_shown(verdict.line())).text = verdict.case.purpose
     root = xml.Element("testsuites")
     root.append(suite)
     xml.ElementTree(root).write(path, encoding="utf-8", xml_declaration=True)

@@ -13,7 +13,7 @@ MOST_VOIDS = 3
 
 
 class Stopped(Exception):
-    """Three cases in a row were void."""
+    """Three cases in a row were void. The text says so."""
 
 
 class Played:
@@ -24,12 +24,14 @@ class Played:
 
 
 class Session:
-    """An adapter's command, and the adapter while one runs."""
+    """An adapter's command, and the adapter while one runs. Once it has told an event, a case in which it tells none is
+    one in which it told that there were none."""
 
     def __init__(self, command: Sequence[str], without: Sequence[str] = (), batch: int = MOST_LEVELS) -> None:
         self._command, self._without, self._batch = command, without, batch
         self._adapter: Optional[Adapter] = None
         self._voids = 0
+        self._tells_events = False
 
     def __enter__(self) -> Session:
         return self
@@ -55,6 +57,10 @@ class Session:
         except (Void, OSError) as reason:
             self._close()
             return None, "void", str(reason)
+        if transcript.events is not None:
+            self._tells_events = True
+        elif self._tells_events:
+            transcript.events = []
         return transcript, "played", ""
 
     def play_all(self, cases: Iterable[Case]) -> Iterator[Played]:
@@ -65,4 +71,4 @@ class Session:
             yield Played(case, transcript, kind, detail, time.monotonic() - begun)
             self._voids = self._voids + 1 if kind == "void" else 0
             if self._voids == MOST_VOIDS:
-                raise Stopped
+                raise Stopped("stopped: three cases in a row are void, and no more are played")

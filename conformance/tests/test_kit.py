@@ -106,11 +106,26 @@ class Playing(unittest.TestCase):
 
     def test_voids_have_their_reasons(self) -> None:
         case = read_document(CASE)[0][0]
-        for command, reason in ((["true"], "ended"), (["echo", "hello"], "protocol")):
-            with Session(command) as session:
+        reasons = (
+            ("true", "ended, status 0"),
+            ("kill -9 $$", "ended, signal 9"),
+            ("echo hello", "protocol: 'hello'"),
+            ("echo error why", "error why"),
+            (f"echo {'x' * 70}", f"protocol: '{'x' * 60}' .."),
+        )
+        for command, reason in reasons:
+            with Session(["sh", "-c", command]) as session:
                 self.assertEqual([(one.kind, one.detail) for one in session.play_all([case])], [("void", reason)])
         with Session(["true"], without=["forced"]) as session:
             self.assertEqual([one.detail for one in session.play_all([case])], ["forced"])
+
+    def test_who_tells_events_tells_that_there_are_none(self) -> None:
+        """The adapter tells an event in its second case alone."""
+        cases = read_document("".join(CASE.replace("some-case", f"some-{name}") for name in ("one", "two", "three")))[0]
+        answers = "".join(f"ready\n{event}drove {'1' * 20}\nstate unknown\n" for event in ("", "event 0 lost\n", ""))
+        with Session(["sh", "-c", 'printf "$0"; cat > /dev/null', "can-kit 1 one event\n" + answers]) as session:
+            told = [one.transcript.events for one in session.play_all(cases) if one.transcript is not None]
+        self.assertEqual(told, [None, [(0, "lost")], []])
 
 
 class Reports(unittest.TestCase):

@@ -24,8 +24,9 @@ pub const NAME: &str = "canhold";
 ///
 /// | Status | Line | Why |
 /// |---|---|---|
-/// | 0 | none | all was done |
-/// | 1 | `canhold: P6 long` | the input is refused |
+/// | 0 | none | all was done, and all that was judged passes |
+/// | 1 | `canhold: P2 case[3].tester[1]`, `canhold: P6 long` | the document or the input is refused |
+/// | 1 | `canhold: transcripts differ` | all was done, and some transcript does not pass |
 /// | 2 | `canhold: usage` | the words are refused |
 /// | 3 | `canhold: P3 read`, `canhold: P4 write` | `r` or `w` failed |
 /// | 4 | `canhold: P5 memory` | memory ran out |

@@ -17,7 +17,7 @@ have them. expect writes the document and a [[transcript]] for each case:
 levels, events, counters, the end. judge writes a line for each transcript,
 and the count:
   pass suspend-reception-at-4
-  fail suspend-behind-error at 230: drove 0 not 1; suspend 7, sender; ...
+  fail suspend-behind-error at 253: drove 0 not 1; suspend 7, sender; ...
   passed 1 failed 1 void 0 skipped 0 of 2
 A failure names the first difference, where the reference stands, and the rule.
 

@@ -1,7 +1,8 @@
 //! The command `canhold`: the proved reference of the conformance kit, from standard input to standard output.
 //!
 //! - `words.rt`: what the words of a command line ask for.
-//! - `help.rt`: the help texts.
+//! - `help.rt`: the help text.
+//! - `document.rt`: a kit document in, the answer to it out.
 //! - `execute.rt`: what a run does over any reader and writers, its fault line and its exit status. The
 //!   contract of `execute` says for each outcome what was read and written.
 //!

@@ -1,0 +1,77 @@
+"""Tests of the runner's command: whole runs on adapters of a few lines."""
+
+from __future__ import annotations
+
+import os
+import subprocess
+import sys
+import tempfile
+import unittest
+import xml.etree.ElementTree as xml
+from typing import List
+
+TOP = os.path.dirname(os.path.dirname(os.path.realpath(__file__)))
+TRANSCRIPTS = os.path.join(TOP, "transcripts")
+
+# Drives nothing, and answers with line ends of two bytes.
+SILENT = """
+import sys
+def say(text):
+    sys.stdout.write(text + "\\r\\n")
+    sys.stdout.flush()
+say("can-kit 1 silent")
+for line in sys.stdin:
+    word, _, rest = line.strip().partition(" ")
+    if word in ("case", "play", "end"):
+        say({"case": "ready", "play": "drove " + "1" * len(rest), "end": "state unknown"}[word])
+"""
+
+
+class Runs(unittest.TestCase):
+    def setUp(self) -> None:
+        self.folder = tempfile.TemporaryDirectory()
+        self.addCleanup(self.folder.cleanup)
+
+    def path(self, name: str) -> str:
+        return os.path.join(self.folder.name, name)
+
+    def run_kit(self, options: List[str], command: List[str]) -> "subprocess.CompletedProcess[str]":
+        words = [os.path.join(TOP, "run"), "--expect", TRANSCRIPTS, *options, "--", *command]
+        return subprocess.run([sys.executable, *words], capture_output=True, text=True, timeout=60)
+
+    def test_line_ends_of_two_bytes(self) -> None:
+        run = self.run_kit(["--only", "rx-dlc-data-0"], [sys.executable, "-c", SILENT])
+        self.assertEqual(run.stdout.splitlines()[0], "fail rx-dlc-data-0 at 37: drove 1 not 0")
+        self.assertEqual((run.returncode, run.stderr), (1, ""))
+
+    def test_three_voids_end_a_run(self) -> None:
+        run = self.run_kit(["--quiet"], ["true"])
+        self.assertEqual(run.stdout.splitlines()[3], "stopped: three cases in a row are void, and no more are played")
+        self.assertEqual((run.returncode, run.stdout.splitlines()[-1]), (3, "passed 0 failed 0 void 3 skipped 0 of 3"))
+
+    def test_wrong_uses(self) -> None:
+        """A run of no case doesn't pass, and no option ends in a stack of calls."""
+        nowhere = self.path("nowhere/told")
+        wrong = (
+            (["--only", "no-such"], "there are no cases whose names begin with no-such"),
+            (["--cases", nowhere], f"[Errno 2] No such file or directory: '{nowhere}'"),
+            (["--junit", nowhere], f"[Errno 2] No such file or directory: '{nowhere}'"),
+            (["--transcripts", nowhere], f"[Errno 2] No such file or directory: '{nowhere}'"),
+            (["--reference", "true"], "the reference does not play arbitration-equal-same: void ended, status 0"),
+            (["--reference", "'"], "No closing quotation"),
+        )
+        for options, told in wrong:
+            run = self.run_kit(options, ["true"])
+            self.assertEqual((run.returncode, run.stdout, run.stderr), (2, "", f"run: {told}\n"))
+
+    def test_a_report_in_xml(self) -> None:
+        """An adapter's own words are in it, with marks in the place of what XML has no letters for."""
+        command = ["sh", "-c", "printf 'error \\001 <why>\\n'"]
+        self.run_kit(["--only", "rx-dlc-data-0", "--junit", self.path("report.xml")], command)
+        suite = xml.parse(self.path("report.xml")).getroot()[0]
+        self.assertEqual([suite.get(name) for name in ("tests", "failures", "errors", "skipped")], ["1", "0", "1", "0"])
+        self.assertEqual(suite[0][0].get("message"), "void rx-dlc-data-0: error ? <why>")
+
+
+if __name__ == "__main__":
+    unittest.main()
