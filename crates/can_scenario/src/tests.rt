@@ -3,3 +3,4 @@ mod port_times;
 mod run;
 mod scenario;
 mod timed;
+mod writers;
