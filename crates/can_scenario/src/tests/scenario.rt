@@ -284,15 +284,26 @@ fn a_byte_that_is_no_text(rt: HostRuntime) -> Result<(), Fail> {
     Ok(())
 }
 
+/// How many ports a document has, what stands in the last of them, and what is told.
+const NUMBERS_OF_PORTS: &[(usize, &str, &str)] = &[(64, "", ""), (65, "log = -1\n", "P2 port")];
+
+/// A document of so many ports.
+fn with_ports(alloc: Global, count: usize, last: &str) -> Result<String, AllocError> {
+    let mut document = String::from_str(alloc, "version = 1\nbits = 5\n")?;
+    for _ in 0..count {
+        document.push_str("[[port]]\n")?;
+    }
+    document.push_str(last)?;
+    Ok(document)
+}
+
 #[test]
 fn numbers_of_ports(rt: HostRuntime) -> Result<(), Fail> {
-    let mut document = b"version = 1\nbits = 5\n".to_vec(rt.alloc())?;
-    for _ in 0..64 {
-        document.extend_from_slice(b"[[port]]\n")?;
+    for (count, last, fault) in NUMBERS_OF_PORTS {
+        let document = with_ports(rt.alloc(), *count, last)?;
+        let told = told(rt.alloc(), document.as_bytes())?;
+        assert_eq!(rt; told.as_str(), *fault, "{count} ports");
     }
-    assert_eq!(rt; told(rt.alloc(), &document)?.as_str(), "");
-    document.extend_from_slice(b"[[port]]\nlog = -1\n")?;
-    assert_eq!(rt; told(rt.alloc(), &document)?.as_str(), "P2 port");
     Ok(())
 }
 

@@ -1,9 +1,8 @@
 //! Writers that fail in a report, and memory that runs out.
-use crate::run_scenario;
 use crate::scenario::Scenario;
-use crate::tests::run::{IDLE, Port, WITH_000, WITH_001, of_ports, report_of};
-use can_stream::pieces::{ROOM, Stop, writer_of};
-use can_stream::{Sink, TraceFault};
+use crate::tests::run::{IDLE, Port, WITH_000, WITH_001, of_ports, report_of, run_into};
+use can_stream::TraceFault;
+use can_stream::pieces::{ROOM, Stop};
 use std::alloc::Global;
 use std::io::ErrorKind;
 use std::process::Abort;
@@ -19,16 +18,12 @@ fn assert_fails(
     writes: (usize, usize, Stop),
 ) -> Result<(), Fail> {
     let (size, room, stop) = writes;
-    let mut writer = writer_of(alloc, size, room, stop);
-    assert_eq!(rt;
-        run_scenario(alloc, scenario, &mut writer),
-        Err(TraceFault::Write)
-    );
-    assert!(rt; writer.failed());
-    let writer = writer.into_inner();
-    assert_eq!(rt; writer.stops, 1);
-    assert_eq!(rt; writer.taken.len(), room);
-    assert!(rt; report.starts_with(&writer.taken));
+    let left = run_into(alloc, scenario, size, room, stop);
+    assert_eq!(rt; left.end, Err(TraceFault::Write));
+    assert!(rt; left.failed);
+    assert_eq!(rt; left.stops, 1);
+    assert_eq!(rt; left.taken.len(), room);
+    assert!(rt; report.starts_with(&left.taken));
     Ok(())
 }
 
@@ -56,14 +51,10 @@ fn no_memory(rt: HostRuntime) -> Result<(), Fail> {
         ..IDLE
     };
     let two = of_ports(&rt, rt.alloc(), 103, &[WITH_001, endless], &[])?;
-    let mut writer = writer_of(rt.alloc(), ROOM, ROOM, Stop::Nothing);
-    assert_eq!(rt;
-        run_scenario(rt.alloc(), &two, &mut writer),
-        Err(TraceFault::Memory)
-    );
-    assert!(rt; !writer.failed());
-    let writer = writer.into_inner();
-    assert_eq!(rt; writer.stops, 0);
-    assert!(rt; writer.taken.is_empty());
+    let left = run_into(rt.alloc(), &two, ROOM, ROOM, Stop::Nothing);
+    assert_eq!(rt; left.end, Err(TraceFault::Memory));
+    assert!(rt; !left.failed);
+    assert_eq!(rt; left.stops, 0);
+    assert!(rt; left.taken.is_empty());
     Ok(())
 }
