@@ -5,7 +5,7 @@ mod judging;
 mod tables;
 
 use crate::document::Document;
-use can_stream::{CaseField, Field, KitField, TraceFault};
+use can_stream::{Field, KitField, TraceFault};
 use std::alloc::{AllocError, Global};
 use std::test::Fail;
 
@@ -27,11 +27,6 @@ fn changed(alloc: Global, text: &str, old: &str, new: &str) -> Result<String, Fa
 /// The fault that tells this field.
 fn told(wrong: KitField) -> TraceFault {
     TraceFault::ScenarioField(Field::Kit(wrong))
-}
-
-/// The fault of something of the case of this number.
-fn of_case(number: usize, part: CaseField) -> TraceFault {
-    told(KitField::Case { number, part })
 }
 
 /// Why a document is refused.

@@ -74,13 +74,13 @@ fn telling(alloc: Global, rows: &[(u32, Seen)]) -> Result<Transcript, AllocError
 }
 
 /// The same with these changes of a counter alone.
-fn counting(alloc: Global, rows: &[(u32, Counters)]) -> Result<Transcript, AllocError> {
+fn counting(alloc: Global, rows: &[(u32, Counts)]) -> Result<Transcript, AllocError> {
     let mut transcript = transcript(alloc)?;
     let mut changes = Vec::new(alloc);
     for (time, told) in rows {
         changes.push(Timed {
             time: *time,
-            told: *told,
+            told: counters(told.0, told.1),
         })?;
     }
     transcript.counters = Some(changes);
@@ -130,19 +130,31 @@ fn what_is_left_out_is_not_judged(rt: HostRuntime) -> Result<(), Fail> {
     Ok(())
 }
 
+/// Levels that a transcript tells, the time of the first that differs, what is told then and what ought to be.
+const LEVELS: &[(&[(&str, usize)], u32, Option<Level>, Option<Level>)] = &[
+    (
+        SHORT_FLAG,
+        50,
+        Some(Level::Recessive),
+        Some(Level::Dominant),
+    ),
+    (&[("1", 4)], 4, None, Some(Level::Recessive)),
+    (
+        &[("1", 46), ("0", 6), ("1", 15)],
+        66,
+        Some(Level::Recessive),
+        None,
+    ),
+];
+
 #[test]
 fn levels_differ(rt: HostRuntime) -> Result<(), Fail> {
-    let one = Some(Level::Recessive);
-    for (drove, time, told) in [
-        (SHORT_FLAG, 50, (one, Some(Level::Dominant))),
-        ([("1", 4)].as_slice(), 4, (None, one)),
-        ([("1", 46), ("0", 6), ("1", 15)].as_slice(), 66, (one, None)),
-    ] {
-        let transcript = driving(rt.alloc(), drove)?;
+    for (drove, time, told, ought) in LEVELS {
+        let transcript = driving(rt.alloc(), *drove)?;
         let failure = failure(&rt, rt.alloc(), &case(rt.alloc())?, &transcript)?;
         let failure = failure.ok_or("it passed")?;
-        assert_eq!(rt; failure.time, time);
-        assert_eq!(rt; levels_told(&failure), Some(told), "at {time}");
+        assert_eq!(rt; failure.time, *time);
+        assert_eq!(rt; levels_told(&failure), Some((*told, *ought)), "at {time}");
     }
     Ok(())
 }
@@ -208,54 +220,42 @@ fn events_differ(rt: HostRuntime) -> Result<(), Fail> {
     Ok(())
 }
 
+/// The transmit and the receive error counter.
+type Counts = (u16, u16);
+
+/// Changes that a transcript tells, the time of the first that differs, what is told then and what ought to be.
+const CHANGES: &[(&[(u32, Counts)], u32, Counts, Counts)] = &[
+    (&[], 45, (0, 0), (0, 1)),
+    (&[(45, (0, 2))], 45, (0, 2), (0, 1)),
+    (&[(45, (8, 1))], 45, (8, 1), (0, 1)),
+    (&[(46, (0, 1))], 45, (0, 0), (0, 1)),
+    (&[(45, (0, 1)), (60, (0, 0))], 60, (0, 0), (0, 1)),
+];
+
 #[test]
 fn counters_differ(rt: HostRuntime) -> Result<(), Fail> {
-    for (rows, time, told) in [
-        ([].as_slice(), 45, (counters(0, 0), counters(0, 1))),
-        (
-            [(45, counters(0, 2))].as_slice(),
-            45,
-            (counters(0, 2), counters(0, 1)),
-        ),
-        (
-            [(45, counters(8, 1))].as_slice(),
-            45,
-            (counters(8, 1), counters(0, 1)),
-        ),
-        (
-            [(46, counters(0, 1))].as_slice(),
-            45,
-            (counters(0, 0), counters(0, 1)),
-        ),
-        (
-            [(45, counters(0, 1)), (60, counters(0, 0))].as_slice(),
-            60,
-            (counters(0, 0), counters(0, 1)),
-        ),
-    ] {
-        let transcript = counting(rt.alloc(), rows)?;
+    for (rows, time, told, ought) in CHANGES {
+        let transcript = counting(rt.alloc(), *rows)?;
         let failure = failure(&rt, rt.alloc(), &case(rt.alloc())?, &transcript)?;
         let failure = failure.ok_or("it passed")?;
-        assert_eq!(rt; failure.time, time);
-        assert_eq!(rt; counters_told(&failure), Some(told), "at {time}");
+        assert_eq!(rt; failure.time, *time);
+        let differing = (counters(told.0, told.1), counters(ought.0, ought.1));
+        assert_eq!(rt; counters_told(&failure), Some(differing), "at {time}");
     }
     Ok(())
 }
 
+/// Ends that a transcript tells, none of which ought to be.
+const ENDS: &[(State, Counts)] = &[(State::Passive, (0, 1)), (State::Active, (0, 0))];
+
 #[test]
 fn the_end_differs_behind_all_else(rt: HostRuntime) -> Result<(), Fail> {
-    for told in [
-        Ending {
-            state: State::Passive,
-            counters: counters(0, 1),
-        },
-        Ending {
-            state: State::Active,
-            counters: counters(0, 0),
-        },
-    ] {
+    for (state, counts) in ENDS {
         let mut transcript = transcript(rt.alloc())?;
-        transcript.end = Some(told);
+        transcript.end = Some(Ending {
+            state: *state,
+            counters: counters(counts.0, counts.1),
+        });
         let failure = failure(&rt, rt.alloc(), &case(rt.alloc())?, &transcript)?;
         let failure = failure.ok_or("it passed")?;
         assert_eq!(rt; failure.time, 66);
@@ -285,27 +285,22 @@ fn a_level_comes_before_an_event_and_an_event_before_counters(rt: HostRuntime) -
     Ok(())
 }
 
+/// Two times, and whether they rise.
+const TIMES: &[(u32, u32, bool)] = &[
+    (1, 2, true),
+    (2, 2, false),
+    (2, 1, false),
+    (1, u32::MAX - 1, true),
+    (1, u32::MAX, false),
+];
+
 #[test]
 fn times_that_do_not_rise_are_no_transcript(rt: HostRuntime) -> Result<(), Fail> {
-    for (times, is_told) in [
-        ([1, 2], true),
-        ([2, 2], false),
-        ([2, 1], false),
-        ([1, u32::MAX - 1], true),
-        ([1, u32::MAX], false),
-    ] {
-        let rows = [(times[0], Seen::Lost), (times[1], Seen::Lost)];
-        assert_eq!(rt;
-            telling(rt.alloc(), &rows)?.is_told(),
-            is_told,
-            "at {times:?}"
-        );
-        let rows = [(times[0], counters(0, 1)), (times[1], counters(0, 2))];
-        assert_eq!(rt;
-            counting(rt.alloc(), &rows)?.is_told(),
-            is_told,
-            "at {times:?}"
-        );
+    for (first, second, is_told) in TIMES {
+        let events = telling(rt.alloc(), &[(*first, Seen::Lost), (*second, Seen::Lost)])?;
+        assert_eq!(rt; events.is_told(), *is_told, "at {first} and {second}");
+        let changes = counting(rt.alloc(), &[(*first, (0, 1)), (*second, (0, 2))])?;
+        assert_eq!(rt; changes.is_told(), *is_told, "at {first} and {second}");
     }
     Ok(())
 }

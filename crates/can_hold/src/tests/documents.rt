@@ -1,15 +1,10 @@
 //! What documents are refused for, in the order in which it is tested, and what they say.
 use super::tables::{FORM_ERROR, FORM_ERROR_TOLD, START, START_STORED};
-use super::{joined, of_case, refusal, told};
+use super::{joined, refusal, told};
 use crate::document::Document;
-use can_stream::{CaseField, KitField, TraceFault, TranscriptField};
+use can_stream::{CaseField, KitField, TranscriptField};
 use std::alloc::{AllocError, Global};
 use std::test::Fail;
-
-/// The fault of something of the transcript of this number.
-fn of_transcript(number: usize, part: TranscriptField) -> TraceFault {
-    told(KitField::Transcript { number, part })
-}
 
 /// A list by its name with so many elements, none of which is a table.
 fn list_of(alloc: Global, name: &str, count: usize) -> Result<String, AllocError> {
@@ -21,86 +16,150 @@ fn list_of(alloc: Global, name: &str, count: usize) -> Result<String, AllocError
     Ok(text)
 }
 
+/// Documents, and the field at the top that is refused.
+const AT_THE_TOP: &[(&str, KitField)] = &[
+    ("case = ", KitField::Document),
+    ("transcript = []\ntranscript = []", KitField::Document),
+    ("speed = 1", KitField::Unknown),
+    ("Case = []", KitField::Unknown),
+    ("case = 1", KitField::Cases),
+    ("case = {}", KitField::Cases),
+    ("transcript = 1", KitField::Transcripts),
+    ("transcript = {}", KitField::Transcripts),
+    ("transcript = 1\ncase = 1\nspeed = 1", KitField::Unknown),
+    ("transcript = 1\ncase = 1", KitField::Cases),
+    ("case = [1]\nspeed = 1", KitField::Unknown),
+    ("case = [1]\ntranscript = 1", KitField::Transcripts),
+    ("transcript = [1]\ncase = 1", KitField::Cases),
+];
+
 #[test]
 fn fields_at_the_top(rt: HostRuntime) -> Result<(), Fail> {
-    for (text, wrong) in [
-        ("case = ", KitField::Document),
-        ("transcript = []\ntranscript = []", KitField::Document),
-        ("speed = 1", KitField::Unknown),
-        ("Case = []", KitField::Unknown),
-        ("case = 1", KitField::Cases),
-        ("case = {}", KitField::Cases),
-        ("transcript = 1", KitField::Transcripts),
-        ("transcript = {}", KitField::Transcripts),
-        ("transcript = 1\ncase = 1\nspeed = 1", KitField::Unknown),
-        ("transcript = 1\ncase = 1", KitField::Cases),
-        ("case = [1]\nspeed = 1", KitField::Unknown),
-        ("case = [1]\ntranscript = 1", KitField::Transcripts),
-        ("transcript = [1]\ncase = 1", KitField::Cases),
-    ] {
+    for (text, wrong) in AT_THE_TOP {
         let fault = refusal(rt.alloc(), text.as_bytes())?;
-        assert_eq!(rt; fault, told(wrong), "{text}");
+        assert_eq!(rt; fault, told(*wrong), "{text}");
     }
     assert_eq!(rt; refusal(rt.alloc(), b"# \xff\n")?, told(KitField::Document));
     Ok(())
 }
 
+/// A list, how many elements it has that are no tables, and what is refused.
+const LONG_LISTS: &[(&str, usize, KitField)] = &[
+    (
+        "case",
+        4096,
+        KitField::Case {
+            number: 0,
+            part: CaseField::Table,
+        },
+    ),
+    ("case", 4097, KitField::Cases),
+    (
+        "transcript",
+        4096,
+        KitField::Transcript {
+            number: 0,
+            part: TranscriptField::Table,
+        },
+    ),
+    ("transcript", 4097, KitField::Transcripts),
+];
+
 #[test]
 fn lists_of_4096_at_most(rt: HostRuntime) -> Result<(), Fail> {
-    let alloc = rt.alloc();
-    for (name, count, fault) in [
-        ("case", 4096, of_case(0, CaseField::Table)),
-        ("case", 4097, told(KitField::Cases)),
-        ("transcript", 4096, of_transcript(0, TranscriptField::Table)),
-        ("transcript", 4097, told(KitField::Transcripts)),
-    ] {
-        let text = list_of(alloc, name, count)?;
-        assert_eq!(rt; refusal(alloc, text.as_bytes())?, fault, "{name}");
+    for (name, count, wrong) in LONG_LISTS {
+        let text = list_of(rt.alloc(), name, *count)?;
+        let fault = refusal(rt.alloc(), text.as_bytes())?;
+        assert_eq!(rt; fault, told(*wrong), "{name}");
     }
     Ok(())
 }
 
+/// A case and a transcript of a version that is not known.
+const BAD_CASE: &str = "[[case]]\nversion = 2\n";
+
+const BAD_TRANSCRIPT: &str = "[[transcript]]\nversion = 2\n";
+
+/// The parts of a document, and what of it is refused first.
+const IN_THEIR_ORDER: &[([&str; 3], KitField)] = &[
+    (
+        ["case = [1]\n", "", ""],
+        KitField::Case {
+            number: 0,
+            part: CaseField::Table,
+        },
+    ),
+    (
+        ["case = [1]\n", "transcript = [1]\n", ""],
+        KitField::Case {
+            number: 0,
+            part: CaseField::Table,
+        },
+    ),
+    (
+        ["transcript = [1]\n", "case = [1]\n", ""],
+        KitField::Case {
+            number: 0,
+            part: CaseField::Table,
+        },
+    ),
+    (
+        [FORM_ERROR, BAD_CASE, BAD_TRANSCRIPT],
+        KitField::Case {
+            number: 1,
+            part: CaseField::Version,
+        },
+    ),
+    (
+        [BAD_TRANSCRIPT, FORM_ERROR, BAD_CASE],
+        KitField::Case {
+            number: 1,
+            part: CaseField::Version,
+        },
+    ),
+    (
+        [FORM_ERROR, FORM_ERROR, ""],
+        KitField::Case {
+            number: 1,
+            part: CaseField::Name,
+        },
+    ),
+    (
+        [FORM_ERROR, BAD_TRANSCRIPT, ""],
+        KitField::Transcript {
+            number: 0,
+            part: TranscriptField::Version,
+        },
+    ),
+    (
+        [FORM_ERROR, FORM_ERROR_TOLD, BAD_TRANSCRIPT],
+        KitField::Transcript {
+            number: 1,
+            part: TranscriptField::Version,
+        },
+    ),
+    (
+        [FORM_ERROR, FORM_ERROR_TOLD, FORM_ERROR_TOLD],
+        KitField::Transcript {
+            number: 1,
+            part: TranscriptField::Case,
+        },
+    ),
+    (
+        [FORM_ERROR_TOLD, START, ""],
+        KitField::Transcript {
+            number: 0,
+            part: TranscriptField::Case,
+        },
+    ),
+];
+
 #[test]
 fn cases_and_then_transcripts(rt: HostRuntime) -> Result<(), Fail> {
-    let alloc = rt.alloc();
-    let bad_case = "[[case]]\nversion = 2\n";
-    let bad_transcript = "[[transcript]]\nversion = 2\n";
-    let version = TranscriptField::Version;
-    for (parts, fault) in [
-        (["case = [1]\n", "", ""], of_case(0, CaseField::Table)),
-        (
-            ["case = [1]\n", "transcript = [1]\n", ""],
-            of_case(0, CaseField::Table),
-        ),
-        (
-            ["transcript = [1]\n", "case = [1]\n", ""],
-            of_case(0, CaseField::Table),
-        ),
-        (
-            [FORM_ERROR, bad_case, bad_transcript],
-            of_case(1, CaseField::Version),
-        ),
-        (
-            [bad_transcript, FORM_ERROR, bad_case],
-            of_case(1, CaseField::Version),
-        ),
-        ([FORM_ERROR, FORM_ERROR, ""], of_case(1, CaseField::Name)),
-        ([FORM_ERROR, bad_transcript, ""], of_transcript(0, version)),
-        (
-            [FORM_ERROR, FORM_ERROR_TOLD, bad_transcript],
-            of_transcript(1, version),
-        ),
-        (
-            [FORM_ERROR, FORM_ERROR_TOLD, FORM_ERROR_TOLD],
-            of_transcript(1, TranscriptField::Case),
-        ),
-        (
-            [FORM_ERROR_TOLD, START, ""],
-            of_transcript(0, TranscriptField::Case),
-        ),
-    ] {
-        let text = joined(alloc, &parts)?;
-        assert_eq!(rt; refusal(alloc, text.as_bytes())?, fault, "{text}");
+    for (parts, wrong) in IN_THEIR_ORDER {
+        let text = joined(rt.alloc(), parts)?;
+        let fault = refusal(rt.alloc(), text.as_bytes())?;
+        assert_eq!(rt; fault, told(*wrong), "{text}");
     }
     Ok(())
 }

@@ -3,10 +3,12 @@ use super::tables::{
     ACK_ERROR, ACK_ERROR_STORED, ACK_UNSEEN, BUS_OFF, FORM_ERROR, FORM_ERROR_TOLD, JOINING, START,
     START_STORED, SUSPEND, TWO_WISHES,
 };
-use super::{changed, joined, of_case, told};
+use super::{changed, joined, told};
 use crate::expecting::expected;
 use crate::judging::judged;
 use can_stream::{CaseField, KitField, TranscriptField};
+use std::alloc::Global;
+use std::process::Abort;
 use std::test::Fail;
 
 #[test]
@@ -57,74 +59,91 @@ fn documents_without_cases_stay(rt: HostRuntime) -> Result<(), Fail> {
     Ok(())
 }
 
+/// The document is not answered, and this is told of it.
+fn assert_refused(rt: &impl Abort, alloc: Global, text: &str, wrong: KitField) -> Result<(), Fail> {
+    let refused = expected(alloc, text.as_bytes()).err().ok_or("taken")?;
+    assert_eq!(rt; refused, told(wrong), "{text}");
+    Ok(())
+}
+
+/// The parts of a document, and what of it is refused.
+const REFUSED: &[([&str; 2], KitField)] = &[
+    (["case = ", ""], KitField::Document),
+    (
+        ["case = [1]", ""],
+        KitField::Case {
+            number: 0,
+            part: CaseField::Table,
+        },
+    ),
+    ([FORM_ERROR, FORM_ERROR_TOLD], KitField::Transcripts),
+    (
+        [FORM_ERROR, "transcript = 1"],
+        KitField::Case {
+            number: 0,
+            part: CaseField::Unknown,
+        },
+    ),
+];
+
 #[test]
 fn documents_that_are_refused(rt: HostRuntime) -> Result<(), Fail> {
-    let alloc = rt.alloc();
-    for (parts, fault) in [
-        (["case = ", ""], told(KitField::Document)),
-        (["case = [1]", ""], of_case(0, CaseField::Table)),
-        ([FORM_ERROR, FORM_ERROR_TOLD], told(KitField::Transcripts)),
-        (
-            [FORM_ERROR, "transcript = 1"],
-            of_case(0, CaseField::Unknown),
-        ),
-    ] {
-        let text = joined(alloc, &parts)?;
-        let refused = expected(alloc, text.as_bytes()).err().ok_or("taken")?;
-        assert_eq!(rt; refused, fault, "{text}");
+    for (parts, wrong) in REFUSED {
+        let text = joined(rt.alloc(), parts)?;
+        assert_refused(&rt, rt.alloc(), &text, *wrong)?;
     }
     Ok(())
 }
 
-/// TOML takes no tables of a list behind these spellings of it, so no answer could stand behind them.
+/// Spellings of a list of transcripts, behind which TOML takes no tables of it, so that no answer could stand there.
+const LISTS: &[&str] = &[
+    "transcript = []\n",
+    "'transcript' = [  # none\n]\n",
+    "transcript = {}\n",
+    "transcript.x = 1\n",
+    "[transcript]\n",
+    "[transcript.x]\n",
+    "[[transcript.x]]\n",
+];
+
 #[test]
 fn lists_of_transcripts_that_are_there_already(rt: HostRuntime) -> Result<(), Fail> {
-    let alloc = rt.alloc();
-    for list in [
-        "transcript = []\n",
-        "'transcript' = [  # none\n]\n",
-        "transcript = {}\n",
-        "transcript.x = 1\n",
-        "[transcript]\n",
-        "[transcript.x]\n",
-        "[[transcript.x]]\n",
-    ] {
-        let text = joined(alloc, &[list, FORM_ERROR])?;
-        let refused = expected(alloc, text.as_bytes()).err().ok_or("taken")?;
-        assert_eq!(rt; refused, told(KitField::Transcripts), "{list}");
+    for list in LISTS {
+        let text = joined(rt.alloc(), &[*list, FORM_ERROR])?;
+        assert_refused(&rt, rt.alloc(), &text, KitField::Transcripts)?;
     }
     Ok(())
 }
 
-/// What the document has to meet anyway is told before the list.
+/// What a document has to meet anyway is told before the list.
+const BEFORE_THE_LIST: &[(&str, KitField)] = &[
+    ("transcript = []\ntranscript = []", KitField::Document),
+    (
+        "transcript = []\n[[transcript]]\nversion = 1",
+        KitField::Document,
+    ),
+    ("transcript = []\nspeed = 1", KitField::Unknown),
+    ("transcript = []\ncase = 1", KitField::Cases),
+    (
+        "transcript = []\ncase = [1]",
+        KitField::Case {
+            number: 0,
+            part: CaseField::Table,
+        },
+    ),
+    (
+        "[[transcript]]",
+        KitField::Transcript {
+            number: 0,
+            part: TranscriptField::Version,
+        },
+    ),
+];
+
 #[test]
 fn faults_before_that_list(rt: HostRuntime) -> Result<(), Fail> {
-    let alloc = rt.alloc();
-    for (text, fault) in [
-        ("transcript = []\ntranscript = []", KitField::Document),
-        (
-            "transcript = []\n[[transcript]]\nversion = 1",
-            KitField::Document,
-        ),
-        ("transcript = []\nspeed = 1", KitField::Unknown),
-        ("transcript = []\ncase = 1", KitField::Cases),
-        (
-            "transcript = []\ncase = [1]",
-            KitField::Case {
-                number: 0,
-                part: CaseField::Table,
-            },
-        ),
-        (
-            "[[transcript]]",
-            KitField::Transcript {
-                number: 0,
-                part: TranscriptField::Version,
-            },
-        ),
-    ] {
-        let refused = expected(alloc, text.as_bytes()).err().ok_or("taken")?;
-        assert_eq!(rt; refused, told(fault), "{text}");
+    for (text, wrong) in BEFORE_THE_LIST {
+        assert_refused(&rt, rt.alloc(), text, *wrong)?;
     }
     Ok(())
 }

@@ -53,26 +53,45 @@ fn assert_fails(
     assert_judged(rt, alloc, &[case, &transcript], &lines, (0, 1))
 }
 
+/// A case, its stored transcript, and the line that is said of it.
+const STORED: &[(&str, &str, &str)] = &[
+    (FORM_ERROR, FORM_ERROR_TOLD, "pass rx-form-error-s-crcdelim"),
+    (ACK_UNSEEN, ACK_UNSEEN_STORED, "pass rx-ack-unseen-standard"),
+    (TWO_WISHES, TWO_WISHES_STORED, "pass overload-own-two"),
+    (START, START_STORED, "pass start-first"),
+    (ACK_ERROR, ACK_ERROR_STORED, "pass tx-ack-error-once"),
+    (JOINING, JOINING_STORED, "pass joining-eleven"),
+    (SUSPEND, SUSPEND_STORED, "pass suspend-behind-error"),
+    (BUS_OFF, BUS_OFF_STORED, "pass bus-off-recovery-recessive"),
+];
+
 #[test]
 fn stored_transcripts_pass(rt: HostRuntime) -> Result<(), Fail> {
-    for (case, transcript, line) in [
-        (FORM_ERROR, FORM_ERROR_TOLD, "pass rx-form-error-s-crcdelim"),
-        (ACK_UNSEEN, ACK_UNSEEN_STORED, "pass rx-ack-unseen-standard"),
-        (TWO_WISHES, TWO_WISHES_STORED, "pass overload-own-two"),
-        (START, START_STORED, "pass start-first"),
-        (ACK_ERROR, ACK_ERROR_STORED, "pass tx-ack-error-once"),
-        (JOINING, JOINING_STORED, "pass joining-eleven"),
-        (SUSPEND, SUSPEND_STORED, "pass suspend-behind-error"),
-        (BUS_OFF, BUS_OFF_STORED, "pass bus-off-recovery-recessive"),
-    ] {
+    for (case, transcript, line) in STORED {
         let lines = joined(
             rt.alloc(),
-            &[line, "\npassed 1 failed 0 void 0 skipped 0 of 1\n"],
+            &[*line, "\npassed 1 failed 0 void 0 skipped 0 of 1\n"],
         )?;
-        assert_judged(&rt, rt.alloc(), &[case, transcript], &lines, (1, 0))?;
+        assert_judged(&rt, rt.alloc(), &[*case, *transcript], &lines, (1, 0))?;
     }
     Ok(())
 }
+
+/// A change of the transcript of a frame that is offered first, and the line that is said of it.
+const OTHER_LEVELS: &[((&str, &str), &str)] = &[
+    (
+        ("0001", "0011"),
+        "fail start-first at 2: drove 1 not 0; stuffed 2, sender; Arbitration; choice prompt",
+    ),
+    (
+        ("1*16", "1*15"),
+        "fail start-first at 67: drove nothing; idle, receiver; Start of frame; since sent S 155 D 2 5aa5 at 61; choice prompt",
+    ),
+    (
+        ("1*16", "1*17"),
+        "fail start-first at 68: drove too long; idle, receiver; Start of frame; since sent S 155 D 2 5aa5 at 61; choice prompt",
+    ),
+];
 
 #[test]
 fn other_levels(rt: HostRuntime) -> Result<(), Fail> {
@@ -84,54 +103,44 @@ fn other_levels(rt: HostRuntime) -> Result<(), Fail> {
         ("1*26", "1*25 0"),
         "fail suspend-behind-error at 331: drove 0 not 1; suspend 7, sender; Suspend transmission; since error bit at 306",
     )?;
-    for (change, line) in [
-        (
-            ("0001", "0011"),
-            "fail start-first at 2: drove 1 not 0; stuffed 2, sender; Arbitration; choice prompt",
-        ),
-        (
-            ("1*16", "1*15"),
-            "fail start-first at 67: drove nothing; idle, receiver; Start of frame; since sent S 155 D 2 5aa5 at 61; choice prompt",
-        ),
-        (
-            ("1*16", "1*17"),
-            "fail start-first at 68: drove too long; idle, receiver; Start of frame; since sent S 155 D 2 5aa5 at 61; choice prompt",
-        ),
-    ] {
-        assert_fails(&rt, rt.alloc(), START, START_STORED, change, line)?;
+    for (change, line) in OTHER_LEVELS {
+        assert_fails(&rt, rt.alloc(), START, START_STORED, *change, line)?;
     }
     Ok(())
 }
 
+/// A change of the transcript of a form error, and the line that is said of it.
+const OTHER_ENDS: &[((&str, &str), &str)] = &[
+    (
+        ("error form", "error crc"),
+        "fail rx-form-error-s-crcdelim at 45: told error crc not error form; crc-delimiter, receiver; Fixed form",
+    ),
+    (
+        ("    [45, \"error form\"],\n", ""),
+        "fail rx-form-error-s-crcdelim at 45: told nothing not error form; crc-delimiter, receiver; Fixed form",
+    ),
+    (
+        ("    [45, \"e", "    [3, \"lost\"],\n    [45, \"e"),
+        "fail rx-form-error-s-crcdelim at 3: told lost not nothing; stuffed 2, receiver; Stuff places",
+    ),
+    (
+        ("[45, 0, 1]", "[45, 0, 2]"),
+        "fail rx-form-error-s-crcdelim at 45: counted 0 2 not 0 1; crc-delimiter, receiver; Fixed form",
+    ),
+    (
+        ("    [45, 0, 1],\n", ""),
+        "fail rx-form-error-s-crcdelim at 45: counted 0 0 not 0 1; crc-delimiter, receiver; Fixed form",
+    ),
+    (
+        ("\"active\", 0, 1", "\"passive\", 128, 1"),
+        "fail rx-form-error-s-crcdelim at 66: end passive 128 1 not active 0 1; idle, receiver; Start of frame; since error form at 45",
+    ),
+];
+
 #[test]
 fn other_events_counters_and_ends(rt: HostRuntime) -> Result<(), Fail> {
-    for (change, line) in [
-        (
-            ("error form", "error crc"),
-            "fail rx-form-error-s-crcdelim at 45: told error crc not error form; crc-delimiter, receiver; Fixed form",
-        ),
-        (
-            ("    [45, \"error form\"],\n", ""),
-            "fail rx-form-error-s-crcdelim at 45: told nothing not error form; crc-delimiter, receiver; Fixed form",
-        ),
-        (
-            ("    [45, \"e", "    [3, \"lost\"],\n    [45, \"e"),
-            "fail rx-form-error-s-crcdelim at 3: told lost not nothing; stuffed 2, receiver; Stuff places",
-        ),
-        (
-            ("[45, 0, 1]", "[45, 0, 2]"),
-            "fail rx-form-error-s-crcdelim at 45: counted 0 2 not 0 1; crc-delimiter, receiver; Fixed form",
-        ),
-        (
-            ("    [45, 0, 1],\n", ""),
-            "fail rx-form-error-s-crcdelim at 45: counted 0 0 not 0 1; crc-delimiter, receiver; Fixed form",
-        ),
-        (
-            ("\"active\", 0, 1", "\"passive\", 128, 1"),
-            "fail rx-form-error-s-crcdelim at 66: end passive 128 1 not active 0 1; idle, receiver; Start of frame; since error form at 45",
-        ),
-    ] {
-        assert_fails(&rt, rt.alloc(), FORM_ERROR, FORM_ERROR_TOLD, change, line)?;
+    for (change, line) in OTHER_ENDS {
+        assert_fails(&rt, rt.alloc(), FORM_ERROR, FORM_ERROR_TOLD, *change, line)?;
     }
     Ok(())
 }
@@ -176,36 +185,41 @@ passed 2 failed 1 void 0 skipped 0 of 3
     assert_judged(&rt, alloc, &parts, lines, (2, 1))
 }
 
+/// The parts of a document, what is said of it, and how many transcripts pass.
+const UNTOLD: &[([&str; 3], &str, u32)] = &[
+    (
+        [FORM_ERROR, START, START_STORED],
+        "pass start-first\npassed 1 failed 0 void 0 skipped 0 of 1\n",
+        1,
+    ),
+    (
+        [FORM_ERROR, START, ""],
+        "passed 0 failed 0 void 0 skipped 0 of 0\n",
+        0,
+    ),
+    (["", "", ""], "passed 0 failed 0 void 0 skipped 0 of 0\n", 0),
+];
+
 #[test]
 fn cases_without_a_transcript_are_not_counted(rt: HostRuntime) -> Result<(), Fail> {
-    let alloc = rt.alloc();
-    for (parts, lines, passed) in [
-        (
-            [FORM_ERROR, START, START_STORED],
-            "pass start-first\npassed 1 failed 0 void 0 skipped 0 of 1\n",
-            1,
-        ),
-        (
-            [FORM_ERROR, START, ""],
-            "passed 0 failed 0 void 0 skipped 0 of 0\n",
-            0,
-        ),
-        (["", "", ""], "passed 0 failed 0 void 0 skipped 0 of 0\n", 0),
-    ] {
-        assert_judged(&rt, alloc, &parts, lines, (passed, 0))?;
+    for (parts, lines, passed) in UNTOLD {
+        assert_judged(&rt, rt.alloc(), parts, lines, (*passed, 0))?;
     }
     Ok(())
 }
 
+/// Documents, and what of each is refused.
+const REFUSED: &[(&str, KitField)] = &[
+    ("case = ", KitField::Document),
+    ("speed = 1", KitField::Unknown),
+    ("transcript = 1", KitField::Transcripts),
+];
+
 #[test]
 fn documents_that_are_not_judged(rt: HostRuntime) -> Result<(), Fail> {
-    for (text, wrong) in [
-        ("case = ", KitField::Document),
-        ("speed = 1", KitField::Unknown),
-        ("transcript = 1", KitField::Transcripts),
-    ] {
+    for (text, wrong) in REFUSED {
         let refused = judged(rt.alloc(), text.as_bytes()).err().ok_or("taken")?;
-        assert_eq!(rt; refused, told(wrong), "{text}");
+        assert_eq!(rt; refused, told(*wrong), "{text}");
     }
     Ok(())
 }

@@ -1,10 +1,33 @@
 //! What ports do in each bit time, as docs/ACCESS.md says it.
 use crate::{Brought, PortTime, Scenario, Stage, told_times};
-use can_frame::Level::{Dominant, Recessive};
+use can_frame::Level::{self, Dominant, Recessive};
 use can_mac::ErrorKind;
 use std::alloc::Global;
 use std::process::Abort;
 use std::test::Fail;
+
+/// Something that is said of a port in one bit time.
+#[derive(Clone, Copy)]
+enum Said {
+    Is(Stage),
+    Sends(bool),
+    Receive(u16),
+    Drove(Level),
+    Saw(Level),
+    Brought(Brought),
+}
+
+/// Whether it is so.
+fn is_so(said: Said, time: &PortTime) -> bool {
+    match said {
+        Said::Is(stage) => time.stage == stage,
+        Said::Sends(sends) => time.sends == sends,
+        Said::Receive(counter) => time.receive == counter,
+        Said::Drove(level) => time.drove == level,
+        Said::Saw(level) => time.saw == level,
+        Said::Brought(brought) => time.brought == brought,
+    }
+}
 
 /// What the port of this number does.
 fn times_of(
@@ -18,91 +41,116 @@ fn times_of(
     Ok(told_times(alloc, &scenario, node)?)
 }
 
+/// A run of so many bit times, in which of the port of a number this is said at these times.
+struct Row<'a> {
+    text: &'a str,
+    bits: usize,
+    node: usize,
+    said: &'a [(usize, Said)],
+}
+
+/// All that is said in the row is so.
+fn assert_so(rt: &impl Abort, alloc: Global, row: &Row) -> Result<(), Fail> {
+    let times = times_of(rt, alloc, row.text.as_bytes(), row.node)?;
+    assert_eq!(rt; times.len(), row.bits);
+    for (at, said) in row.said {
+        let time = times.get(*at).ok_or("no such bit time")?;
+        assert!(rt; is_so(*said, time), "at {at}");
+    }
+    Ok(())
+}
+
 /// The last bit of the identifiers stands behind two stuff bits: there the port with the worse frame sends recessive,
 /// sees dominant, and goes on as a receiver.
-#[test]
-fn a_port_loses_arbitration(rt: HostRuntime) -> Result<(), Fail> {
-    let text =
-        b"version = 1\nbits = 60\n[[port]]\nqueue = [\"S 001 D 0\"]\n[[port]]\nqueue = [\"S 000 D 0\"]\n";
-    let times = times_of(&rt, rt.alloc(), text, 0)?;
-    assert_eq!(rt; times.len(), 60);
-    assert_eq!(rt;
-        (times[0].stage, times[0].sends, times[0].drove),
-        (Stage::Idle, false, Dominant)
-    );
-    assert_eq!(rt;
-        (times[1].stage, times[1].sends),
-        (Stage::StuffedPart, true)
-    );
-    assert_eq!(rt;
-        (times[13].drove, times[13].saw, times[13].brought),
-        (Recessive, Dominant, Brought::Lost)
-    );
-    assert_eq!(rt; (times[13].sends, times[14].sends), (true, false));
-    // the frame of the other port is 50 levels long, and is taken at its last but one
-    assert_eq!(rt; times[48].brought, Brought::Received);
-    assert_eq!(rt;
-        (times[49].stage, times[50].stage),
-        (Stage::EndOfFrame, Stage::Intermission)
-    );
-    // its own follows behind the intermission
-    assert_eq!(rt;
-        (times[53].stage, times[53].drove, times[54].sends),
-        (Stage::Idle, Dominant, true)
-    );
-    Ok(())
-}
+const LOSES: Row<'static> = Row {
+    text: "version = 1\nbits = 60\n[[port]]\nqueue = [\"S 001 D 0\"]\n[[port]]\nqueue = [\"S 000 D 0\"]\n",
+    bits: 60,
+    node: 0,
+    said: &[
+        (0, Said::Is(Stage::Idle)),
+        (0, Said::Sends(false)),
+        (0, Said::Drove(Dominant)),
+        (1, Said::Is(Stage::StuffedPart)),
+        (1, Said::Sends(true)),
+        (13, Said::Drove(Recessive)),
+        (13, Said::Saw(Dominant)),
+        (13, Said::Brought(Brought::Lost)),
+        (13, Said::Sends(true)),
+        (14, Said::Sends(false)),
+        // the frame of the other port is 50 levels long, and is taken at its last but one
+        (48, Said::Brought(Brought::Received)),
+        (49, Said::Is(Stage::EndOfFrame)),
+        (50, Said::Is(Stage::Intermission)),
+        // its own follows behind the intermission
+        (53, Said::Is(Stage::Idle)),
+        (53, Said::Drove(Dominant)),
+        (54, Said::Sends(true)),
+    ],
+};
 
-/// A port alone sees the last but one level of a frame dominant: a form error, a flag of six levels, and one error counted.
-#[test]
-fn a_port_alone_is_disturbed(rt: HostRuntime) -> Result<(), Fail> {
-    let text =
-        b"version = 1\nbits = 70\nview = [[48, 1]]\n[[port]]\nqueue = [\"S 000 D 0\"]\n[[port]]\n[[port]]\n";
-    let times = times_of(&rt, rt.alloc(), text, 1)?;
-    assert_eq!(rt; times.len(), 70);
-    assert_eq!(rt; (times[47].saw, times[48].saw), (Recessive, Dominant));
-    assert_eq!(rt; times[48].brought, Brought::Error(ErrorKind::Form));
-    assert_eq!(rt;
-        (
-            times[49].stage,
-            times[49].drove,
-            times[54].stage,
-            times[55].stage
-        ),
-        (
-            Stage::ErrorFlag,
-            Dominant,
-            Stage::ErrorFlag,
-            Stage::AfterFlag
-        )
-    );
-    assert_eq!(rt; (times[48].receive, times[49].receive), (0, 1));
-    let others = times_of(&rt, rt.alloc(), text, 2)?;
-    assert_eq!(rt; others.len(), 70);
-    assert_eq!(rt;
-        (others[48].saw, others[48].brought),
-        (Recessive, Brought::Received)
-    );
-    Ok(())
-}
+/// The document of a port that alone sees the last but one level of a frame dominant.
+const DISTURBED_TEXT: &str =
+    "version = 1\nbits = 70\nview = [[48, 1]]\n[[port]]\nqueue = [\"S 000 D 0\"]\n[[port]]\n[[port]]\n";
 
-/// Frames are offered while the bus runs, each to its own port.
+/// It has a form error, a flag of six levels, and one error counted.
+const DISTURBED: Row<'static> = Row {
+    text: DISTURBED_TEXT,
+    bits: 70,
+    node: 1,
+    said: &[
+        (47, Said::Saw(Recessive)),
+        (48, Said::Saw(Dominant)),
+        (48, Said::Brought(Brought::Error(ErrorKind::Form))),
+        (49, Said::Is(Stage::ErrorFlag)),
+        (49, Said::Drove(Dominant)),
+        (54, Said::Is(Stage::ErrorFlag)),
+        (55, Said::Is(Stage::AfterFlag)),
+        (48, Said::Receive(0)),
+        (49, Said::Receive(1)),
+    ],
+};
+
+/// Another port takes the frame.
+const UNDISTURBED: Row<'static> = Row {
+    text: DISTURBED_TEXT,
+    bits: 70,
+    node: 2,
+    said: &[
+        (48, Said::Saw(Recessive)),
+        (48, Said::Brought(Brought::Received)),
+    ],
+};
+
+/// The document of a port that is offered a frame while the bus runs, and one that joins.
+const OFFERED_TEXT: &str =
+    "version = 2\nbits = 30\n[[port]]\nqueue = [[7, \"S 000 D 0\"]]\n[[port]]\njoin = true\n";
+
+const OFFERED: Row<'static> = Row {
+    text: OFFERED_TEXT,
+    bits: 30,
+    node: 0,
+    said: &[
+        (6, Said::Drove(Recessive)),
+        (7, Said::Drove(Dominant)),
+        (8, Said::Sends(true)),
+    ],
+};
+
+const JOINS: Row<'static> = Row {
+    text: OFFERED_TEXT,
+    bits: 30,
+    node: 1,
+    said: &[
+        (0, Said::Is(Stage::Joining)),
+        (29, Said::Is(Stage::Joining)),
+        (7, Said::Drove(Recessive)),
+    ],
+};
+
 #[test]
-fn frames_are_offered_meanwhile(rt: HostRuntime) -> Result<(), Fail> {
-    let text =
-        b"version = 2\nbits = 30\n[[port]]\nqueue = [[7, \"S 000 D 0\"]]\n[[port]]\njoin = true\n";
-    let first = times_of(&rt, rt.alloc(), text, 0)?;
-    assert_eq!(rt; first.len(), 30);
-    assert_eq!(rt;
-        (first[6].drove, first[7].drove, first[8].sends),
-        (Recessive, Dominant, true)
-    );
-    let second = times_of(&rt, rt.alloc(), text, 1)?;
-    assert_eq!(rt; second.len(), 30);
-    assert_eq!(rt;
-        (second[0].stage, second[29].stage),
-        (Stage::Joining, Stage::Joining)
-    );
-    assert_eq!(rt; second[7].drove, Recessive);
+fn what_ports_do(rt: HostRuntime) -> Result<(), Fail> {
+    for row in [&LOSES, &DISTURBED, &UNDISTURBED, &OFFERED, &JOINS] {
+        assert_so(&rt, rt.alloc(), row)?;
+    }
     Ok(())
 }

@@ -1,5 +1,7 @@
 //! Runs of `run`.
-use super::streams::{ALL, expect_failing, expect_whatever_the_pieces};
+use super::streams::{
+    ALL, FailingRow, READ, Row, WRITE, expect_failing, expect_whatever_the_pieces,
+};
 use std::test::Fail;
 
 /// Two ports, each with a frame, of which the second's goes first.
@@ -55,102 +57,107 @@ bits 103
 port 0 active tec 0 rec 0 missed 0
 ";
 
+/// Scenarios and their reports.
+const REPORTED: &[Row] = &[
+    (TWO_PORTS, 0, TWO_REPORTS, ""),
+    (TIMED_OFFERS, 0, TIMED_REPORTS, ""),
+    // The same, cut after its first port.
+    ("version = 1\nbits = 103\n[[port]]\n", 0, ONE_REPORT, ""),
+    (
+        "version = 1\nbits = 0\n[[port]]\n",
+        0,
+        "bits 0\n\nport 0 active tec 0 rec 0 missed 0\n",
+        "",
+    ),
+];
+
 #[test]
 fn scenarios_are_reported_whatever_the_pieces(rt: HostRuntime) -> Result<(), Fail> {
-    let rows = [
-        (TWO_PORTS, 0, TWO_REPORTS, ""),
-        (TIMED_OFFERS, 0, TIMED_REPORTS, ""),
-        // The same, cut after its first port.
-        ("version = 1\nbits = 103\n[[port]]\n", 0, ONE_REPORT, ""),
-        (
-            "version = 1\nbits = 0\n[[port]]\n",
-            0,
-            "bits 0\n\nport 0 active tec 0 rec 0 missed 0\n",
-            "",
-        ),
-    ];
-    expect_whatever_the_pieces(&rt, rt.alloc(), &["run"], &rows)
+    expect_whatever_the_pieces(&rt, rt.alloc(), &["run"], REPORTED)
 }
+
+/// Documents that say no scenario, and what is told of each.
+const REFUSED: &[Row] = &[
+    ("", 1, "", "canbit: P2 version\n"),
+    ("version = 1\nbits 5\n", 1, "", "canbit: P2 toml\n"),
+    ("version = 1\nbits = 5\n", 1, "", "canbit: P2 port\n"),
+    (
+        "version = 3\nbits = 5\n[[port]]\n",
+        1,
+        "",
+        "canbit: P2 version\n",
+    ),
+    // The scenario of timed offers, with one part changed.
+    (
+        "version = 3\nbits = 155\n[[port]]\nqueue = [[50, \"S 000 D 0\"], [0, \"S 001 D 0\"]]\n[[port]]\nqueue = [[49, \"S 009 D 0\"]]\n",
+        1,
+        "",
+        "canbit: P2 version\n",
+    ),
+    (
+        "version = 2\nbits = 155\nat = [5]\n[[port]]\nqueue = [[50, \"S 000 D 0\"], [0, \"S 001 D 0\"]]\n[[port]]\nqueue = [[49, \"S 009 D 0\"]]\n",
+        1,
+        "",
+        "canbit: P2 key\n",
+    ),
+    (
+        "version = 2\nbits = 155\n[[port]]\nqueue = [\"S 001 D 0\"]\n[[port]]\nqueue = [[49, \"S 009 D 0\"]]\n",
+        1,
+        "",
+        "canbit: P2 port[0].queue[0]\n",
+    ),
+    (
+        "version = 2\nbits = 155\n[[port]]\nqueue = [[50, \"S 000 D 0\"], [0, \"S 001 D 0\"]]\n[[port]]\nqueue = [[1000001, \"S 009 D 0\"]]\n",
+        1,
+        "",
+        "canbit: P2 port[1].queue[0]\n",
+    ),
+    (
+        "version = 1\nbits = 5\n[[port]]\nqueue = [\"S 800 D 0\"]\n",
+        1,
+        "",
+        "canbit: P2 port[0].queue[0]\n",
+    ),
+    (
+        "version = 1\nbits = 5\nview = [[0, 1]]\n[[port]]\n",
+        1,
+        "",
+        "canbit: P2 view[0]\n",
+    ),
+    // The first scenario, cut after a line or within one.
+    ("version = 1\n", 1, "", "canbit: P2 bits\n"),
+    ("version = 1\nbits = 1", 1, "", "canbit: P2 port\n"),
+    ("version = 1\nbits = 103\n", 1, "", "canbit: P2 port\n"),
+];
 
 #[test]
 fn wrong_scenarios_are_refused_whatever_the_pieces(rt: HostRuntime) -> Result<(), Fail> {
-    let rows = [
-        ("", 1, "", "canbit: P2 version\n"),
-        ("version = 1\nbits 5\n", 1, "", "canbit: P2 toml\n"),
-        ("version = 1\nbits = 5\n", 1, "", "canbit: P2 port\n"),
-        (
-            "version = 3\nbits = 5\n[[port]]\n",
-            1,
-            "",
-            "canbit: P2 version\n",
-        ),
-        // The scenario of timed offers, with one part changed.
-        (
-            "version = 3\nbits = 155\n[[port]]\nqueue = [[50, \"S 000 D 0\"], [0, \"S 001 D 0\"]]\n[[port]]\nqueue = [[49, \"S 009 D 0\"]]\n",
-            1,
-            "",
-            "canbit: P2 version\n",
-        ),
-        (
-            "version = 2\nbits = 155\nat = [5]\n[[port]]\nqueue = [[50, \"S 000 D 0\"], [0, \"S 001 D 0\"]]\n[[port]]\nqueue = [[49, \"S 009 D 0\"]]\n",
-            1,
-            "",
-            "canbit: P2 key\n",
-        ),
-        (
-            "version = 2\nbits = 155\n[[port]]\nqueue = [\"S 001 D 0\"]\n[[port]]\nqueue = [[49, \"S 009 D 0\"]]\n",
-            1,
-            "",
-            "canbit: P2 port[0].queue[0]\n",
-        ),
-        (
-            "version = 2\nbits = 155\n[[port]]\nqueue = [[50, \"S 000 D 0\"], [0, \"S 001 D 0\"]]\n[[port]]\nqueue = [[1000001, \"S 009 D 0\"]]\n",
-            1,
-            "",
-            "canbit: P2 port[1].queue[0]\n",
-        ),
-        (
-            "version = 1\nbits = 5\n[[port]]\nqueue = [\"S 800 D 0\"]\n",
-            1,
-            "",
-            "canbit: P2 port[0].queue[0]\n",
-        ),
-        (
-            "version = 1\nbits = 5\nview = [[0, 1]]\n[[port]]\n",
-            1,
-            "",
-            "canbit: P2 view[0]\n",
-        ),
-        // The first scenario, cut after a line or within one.
-        ("version = 1\n", 1, "", "canbit: P2 bits\n"),
-        ("version = 1\nbits = 1", 1, "", "canbit: P2 port\n"),
-        ("version = 1\nbits = 103\n", 1, "", "canbit: P2 port\n"),
-    ];
-    expect_whatever_the_pieces(&rt, rt.alloc(), &["run"], &rows)
+    expect_whatever_the_pieces(&rt, rt.alloc(), &["run"], REFUSED)
 }
+
+/// Documents on a failing reader, and what `run` leaves.
+const READING_FAILS: &[FailingRow] = &[
+    ("", true, ALL, 3, "", READ),
+    (TWO_PORTS, true, ALL, 3, "", READ),
+    // What was read would be refused.
+    ("version = 1\n", true, ALL, 3, "", READ),
+    ("version = 1\n", true, 0, 3, "", READ),
+];
 
 #[test]
 fn a_failing_reader_ends_running(rt: HostRuntime) -> Result<(), Fail> {
-    let read = "canbit: P3 read\n";
-    let rows = [
-        ("", true, ALL, 3, "", read),
-        (TWO_PORTS, true, ALL, 3, "", read),
-        // What was read would be refused.
-        ("version = 1\n", true, ALL, 3, "", read),
-        ("version = 1\n", true, 0, 3, "", read),
-    ];
-    expect_failing(&rt, rt.alloc(), &["run"], &rows)
+    expect_failing(&rt, rt.alloc(), &["run"], READING_FAILS)
 }
+
+/// Where nothing is to be written, the writer isn't asked.
+const UNASKED: &[FailingRow] = &[("version = 1\n", false, 0, 1, "", "canbit: P2 bits\n")];
 
 #[test]
 fn a_failing_writer_ends_running(rt: HostRuntime) -> Result<(), Fail> {
-    let write = "canbit: P4 write\n";
     for room in [0, 1, 8, 9, 112, 113, TWO_REPORTS.len() - 1] {
         let front = TWO_REPORTS.get(..room).ok_or("a longer report")?;
-        let rows = [(TWO_PORTS, false, room, 3, front, write)];
+        let rows = [(TWO_PORTS, false, room, 3, front, WRITE)];
         expect_failing(&rt, rt.alloc(), &["run"], &rows)?;
     }
-    // Where nothing is to be written, the writer isn't asked.
-    let refused = [("version = 1\n", false, 0, 1, "", "canbit: P2 bits\n")];
-    expect_failing(&rt, rt.alloc(), &["run"], &refused)
+    expect_failing(&rt, rt.alloc(), &["run"], UNASKED)
 }

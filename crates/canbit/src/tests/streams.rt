@@ -10,6 +10,11 @@ use std::test::Fail;
 /// More bytes than any test reads or writes.
 pub(super) const ALL: usize = 100_000;
 
+/// The fault lines of a reader and of a writer that fail.
+pub(super) const READ: &str = "canbit: P3 read\n";
+
+pub(super) const WRITE: &str = "canbit: P4 write\n";
+
 /// A reader that gives at most `step` bytes at a time, and fails or ends behind the last.
 #[derive(Drop)]
 pub(super) struct Script<'a> {

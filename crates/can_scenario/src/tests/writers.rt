@@ -1,0 +1,60 @@
+//! Writers that fail in a report, and memory that runs out.
+use crate::scenario::Scenario;
+use crate::tests::run::{IDLE, Port, WITH_000, WITH_001, of_ports, report_of, run_into};
+use can_stream::TraceFault;
+use can_stream::pieces::{ROOM, Stop};
+use std::alloc::Global;
+use std::io::ErrorKind;
+use std::process::Abort;
+use std::test::Fail;
+
+/// A writer that takes so many bytes at once, with room for so many, stops once, and has taken a beginning of the
+/// report.
+fn assert_fails(
+    rt: &impl Abort,
+    alloc: Global,
+    scenario: &Scenario,
+    report: &[u8],
+    writes: (usize, usize, Stop),
+) -> Result<(), Fail> {
+    let (size, room, stop) = writes;
+    let left = run_into(alloc, scenario, size, room, stop);
+    assert_eq!(rt; left.end, Err(TraceFault::Write));
+    assert!(rt; left.failed);
+    assert_eq!(rt; left.stops, 1);
+    assert_eq!(rt; left.taken.len(), room);
+    assert!(rt; report.starts_with(&left.taken));
+    Ok(())
+}
+
+/// The buffer is filled twice. What was taken is a beginning of the report, and no more is written.
+#[test]
+fn failing_writes(rt: HostRuntime) -> Result<(), Fail> {
+    let alloc = rt.alloc();
+    let long = of_ports(&rt, alloc, 20_000, &[WITH_001, WITH_000], &[])?;
+    let report = report_of(alloc, &long)?;
+    for stop in [Stop::Nothing, Stop::Fails(ErrorKind::Interrupted)] {
+        for size in [1, 4096, ROOM] {
+            for room in [0, 1, 4096, 8191, 8192, 8193, 16_384, 20_000] {
+                assert_fails(&rt, alloc, &long, &report, (size, room, stop))?;
+            }
+        }
+    }
+    Ok(())
+}
+
+/// A log that no memory has room for: nothing is written.
+#[test]
+fn no_memory(rt: HostRuntime) -> Result<(), Fail> {
+    let endless = Port {
+        log_room: usize::MAX,
+        ..IDLE
+    };
+    let two = of_ports(&rt, rt.alloc(), 103, &[WITH_001, endless], &[])?;
+    let left = run_into(rt.alloc(), &two, ROOM, ROOM, Stop::Nothing);
+    assert_eq!(rt; left.end, Err(TraceFault::Memory));
+    assert!(rt; !left.failed);
+    assert_eq!(rt; left.stops, 0);
+    assert!(rt; left.taken.is_empty());
+    Ok(())
+}
