@@ -1,6 +1,6 @@
 -- A bus at rest: while no hit falls in them, bit times leave it as it is, and recessive levels are recorded.
 use Rattle.std.specs.List.{list_any, slice_get}
-use Rattle.std.proofs.Common.{◌≡◌, ◌≢◌, add-one, set, get_or-set_other, get_or-set_same, below_more, ℕ, zero, suc, ◌+◌, ◌<◌, ◌≤◌, Bool, true, false, List, [], ◌∷◌, Option, Some, None, ◌||◌, length, map, get_or, take, refl, sym, ap, subst, ◌∙◌, arith, inl, inr}
+use Rattle.std.proofs.Common.{◌≡◌, ◌≢◌, add-one, set, get_or-set_other, get_or-set_same, below_more, ℕ, zero, suc, ◌+◌, ◌<◌, ◌≤◌, true, false, List, [], ◌∷◌, Option, Some, None, ◌||◌, length, map, get_or, take, refl, sym, ap, subst, ◌∙◌, arith, inl, inr}
 use Rattle.std.specs.Prelude.{if◌then◌else◌, min, nat_lt, ◌-◌, ◌==◌, ◌&&◌, ⊤}
 use Rattle.std.proofs.lemmas.Bool.{cases_Bool, cond-true, cond-false, lt-ltb, ltb-false}
 use Rattle.std.proofs.lemmas.Bool.Decides.{nat_tests}
@@ -18,7 +18,7 @@ use Rattle.can_bus.specs.Hits.{is_above, is_pair_above}
 use Rattle.can_bus.specs.Run.{BusState, Course, wired_level, begins_attempt, following, aged, attempt_now, hits_wire, hits_view, inverted_if, all_sampled, rest_after, recorded, bus_step, bus_after, bus_level, course}
 use Rattle.can_bus.specs.Wired.{wired}
 use Rattle.can_bus.specs.Walks.{AreBelow, AreRising, IsPassed, IsCall, in_next, is_hit, aged_by, never, rested, until_at, until_in, until_view}
-use Rattle.can_bus.proofs.CursorLemmas.{below_above, reach_none, reach_past, wire_found, attempt_found, view_found}
+use Rattle.can_bus.proofs.CursorLemmas.{reach_none, reach_past, wire_found, attempt_found, view_found}
 use Rattle.can_bus.proofs.RunLemmas.{after_join}
 use Rattle.can_bus.proofs.StepLemmas.{at_next, view_next, view_later, within_next}
 

@@ -1,7 +1,6 @@
 use Rattle.std.proofs.Common.{◌≡◌, ◌+◌, ◌++◌, refl, List, length, map, take, drop, arith, sym, ap, subst, ◌∙◌}
 use Rattle.std.proofs.lemmas.List.{take_at}
-use Rattle.can_node.specs.Ports.{PortState, port_drives}
-use Rattle.can_bus.specs.Wired.{wired}
+use Rattle.can_node.specs.Ports.{PortState}
 use Rattle.can_bus.specs.Run.{Course, begins_attempt, inverted_if, all_sampled, rest_after}
 use Rattle.can_bus.specs.Walks.{AreBelow, IsPassed, in_now}
 use Rattle.can_bus.proofs.StepLemmas.{within_now, within_next, at_next, passed_more, step_is}

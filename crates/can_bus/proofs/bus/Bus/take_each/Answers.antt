@@ -1,5 +1,4 @@
-use Rattle.std.proofs.Common.{◌≡◌, ◌+◌, length, map, arith, refl, sym, ap, ◌∙◌, length-set}
-use Rattle.can_node.specs.Ports.{port_drives}
+use Rattle.std.proofs.Common.{◌≡◌, ◌+◌, length, arith, refl, ap, ◌∙◌, length-set}
 use Rattle.can_bus.specs.Run.{bus_after}
 use Rattle.can_bus.specs.State.{state_of}
 use Rattle.can_bus.specs.Walks.{course_in}

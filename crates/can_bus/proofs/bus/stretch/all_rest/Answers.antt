@@ -1,4 +1,4 @@
-use Rattle.std.proofs.Common.{◌≡◌, true, get_or, map, take, rules, refl, subst, ap, ◌∙◌}
+use Rattle.std.proofs.Common.{◌≡◌, true, get_or, map, rules, refl, subst}
 use Rattle.std.proofs.lemmas.List.{take_all}
 use Rattle.can_frame.specs.declared.level.Level.TheVariants.{Recessive}
 use Rattle.can_node.specs.Ports.{port_step}

@@ -1,5 +1,4 @@
-use Rattle.std.proofs.Common.{◌≡◌, ◌<◌, arith, rules, sym, subst, ap, ◌∙◌}
-use Rattle.std.specs.Prelude.{slice_get}
+use Rattle.std.proofs.Common.{◌<◌, arith, subst, ap, ◌∙◌}
 use Rattle.can_bus.specs.Walks.{until_at, until_in, until_view}
 use Rattle.can_bus.proofs.BusAtRest.{wire_undisturbed, view_undisturbed}
 use Rattle.can_bus.proofs.call.Call.undisturbed.Goals as goal
