@@ -3,7 +3,7 @@ use Rattle.std.specs.Prelude.{if◌then◌else◌, nat_le, nat_lt, not, ◌↔�
 use Rattle.std.specs.Result.{is_ok}
 use Rattle.std.specs.List.{slice_get}
 use Rattle.std.proofs.Common.{◌≡◌, ◌≢◌, ℕ, zero, suc, ◌+◌, ◌<◌, ◌≤◌, ◌==◌, Bool, true, false, List, [], ◌∷◌, Some, length, map, get_or, set, drop, drop-cons, refl, sym, ◌∙◌, ap, inl, inr, arith, add-one}
-use Rattle.std.proofs.lemmas.Bool.{cases_order}
+use Rattle.std.proofs.lemmas.Bool.{cases_lt, cases_order}
 use Rattle.std.proofs.lemmas.Bool.Decides.{nat_tests}
 use Rattle.std.proofs.lemmas.Option.{slice_get-get_or, get_or_from_slice_get, slice_get_within}
 use Rattle.can_frame.specs.Parts.{Parts}
@@ -207,3 +207,33 @@ within-last ports offers place time sound within other = record {
       let apart : (get_or offers place o).time ≢ time = other (get_or offers place o) here in
       let h : (get_or offers place o).time ≤ o.time = offers-rise ports offers sound place n (get_or offers place o) o behind here at in omega arith;
 }
+
+-- the walk stands so up to the next offer
+pub reached-later : (ports : ℕ) (offers : List Offer) (place time count : ℕ) (offer : Offer) → AreOffered ports offers → IsReached offers place (time + 1) → 0 < count →
+    slice_get offers place ≡ Some offer → time + count ≤ offer.time → IsReached offers place (time + count)
+reached-later ports offers place time count offer sound reached some there before = record {
+  passed = λ n o earlier at. let h : o.time < time + 1 = reached.passed n o earlier at in omega arith;
+  ahead = λ n o behind at. let h : offer.time ≤ o.time = offers-rise ports offers sound place n offer o behind there at in omega arith;
+}
+
+-- and wherever it ends, if there is none
+pub reached-end : (offers : List Offer) (place time count : ℕ) → IsReached offers place (time + 1) → 0 < count → length offers ≤ place → IsReached offers place (time + count)
+reached-end offers place time count reached some end = record {
+  passed = λ n o earlier at. let h : o.time < time + 1 = reached.passed n o earlier at in omega arith;
+  ahead = λ n o behind at. let h : n < length offers = slice_get_within offers n o at in absurd (omega arith);
+}
+
+-- and at each time before
+pub reached-between : (offers : List Offer) (place time count less : ℕ) → IsReached offers place (time + 1) → IsReached offers place (time + count) → 0 < less → less ≤ count → IsReached offers place (time + less)
+reached-between offers place time count less first last some within = record {
+  passed = λ n o earlier at. let h : o.time < time + 1 = first.passed n o earlier at in omega arith;
+  ahead = λ n o behind at. let h : time + count ≤ o.time = last.ahead n o behind at in omega arith;
+}
+
+-- between two such times no offer is made
+pub none-between : (offers : List Offer) (place time count t : ℕ) (ports : List PortState) → IsReached offers place (time + 1) → IsReached offers place (time + count) → time < t → t < time + count →
+    (all_made offers t ports ≡ ports) × (refused_at offers t ports ≡ 0)
+none-between offers place time count t ports first last after before = none_made offers t ports (λ n o at. elim (cases_lt n place) [
+  | inl earlier ↦ let h : o.time < time + 1 = first.passed n o earlier at in omega arith
+  | inr behind ↦ let h : time + count ≤ o.time = last.ahead n o behind at in omega arith
+])

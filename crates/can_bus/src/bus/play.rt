@@ -54,6 +54,22 @@ impl<P: Port> Bus<P> {
         }
     }
 
+    /// How many bit times from this one on, whose offers are made, come before the next offer, `most` at most.
+    fn until_offer(&self, offers: &[Offer], progress: &Progress, time: u64, most: usize) -> usize
+        requires offered { AreOffered (port_count self.now) offers.now }
+        requires reached { IsReached offers.now progress.now.place (time + 1) }
+        requires some { 0 < most }
+        ensures some { 0 < result }
+        ensures most { result ≤ most }
+        ensures reached { IsReached offers.now progress.now.place (time + result) }
+    {
+        if progress.place < offers.len() {
+            (offers[progress.place].time - time).min(most as u64) as usize
+        } else {
+            most
+        }
+    }
+
     /// Runs as many bit times as `rec` is long, and records a level in each. Each offer is made to its
     /// port before the bit time of its number is driven, and those of one bit time in the order of the
     /// list. The answer is how many of them a full queue gave back. Offers at or behind the end of `rec`
@@ -62,7 +78,7 @@ impl<P: Port> Bus<P> {
     /// No offer may be earlier than the one before it, and each must name a port that there is: else the
     /// first that doesn't is told, its order before its port, nothing has run, and `rec` and all ports
     /// are as they were. It takes no memory. Its work is in proportion to the offers, and to ports and bit
-    /// times.
+    /// times; a bus at rest takes no time a port.
     ///
     /// On a bus of two ports or more that are idle, have counted no error and ask for no overload frame,
     /// with room in each queue for all that its port is offered and in each empty log for all frames, no
@@ -95,10 +111,13 @@ impl<P: Port> Bus<P> {
             place: 0,
             refused: 0,
         };
-        for slot in rec.iter_mut() {
+        let mut place = 0;
+        while place < rec.len() {
             self.make_all(offers, call.time, &mut progress);
             let mut driven = wired_level(self.ports.as_slice());
-            *slot = self.step(&[], &mut call, &mut driven);
+            let count = self.until_offer(offers, &progress, call.time, rec.len() - place);
+            let end = place + count;
+            place += self.go_on(&[], &mut call, &mut driven, &mut rec[place..end]);
         }
         Ok(progress.refused)
     }
