@@ -185,13 +185,13 @@ fn flags_by_the_rule_that_started_them(rt: HostRuntime) -> Result<(), Fail> {
 }
 
 /// What the tester does to a sender, the time at which its flag begins, and the rule that started it.
-const SENDERS_FLAGS: &[([(&str, usize); 2], u32, Rule)] = &[
+const SENDERS_FLAGS: &[(&[(&str, usize)], u32, Rule)] = &[
     // its start of frame isn't seen
-    ([("f", 1), ("1", 3)], 1, Rule::StartOfFrame),
+    (&[("f", 1), ("1", 3)], 1, Rule::StartOfFrame),
     // nor is a dominant level of the identifier
-    ([("111f", 1), ("1", 3)], 4, Rule::Arbitration),
+    (&[("111f", 1), ("1", 3)], 4, Rule::Arbitration),
     // a stuff bit of the identifier is overridden
-    ([("111110", 1), ("1", 3)], 6, Rule::StuffPlaces),
+    (&[("111110", 1), ("1", 3)], 6, Rule::StuffPlaces),
 ];
 
 /// Where a receiver stands with two overload frames of its own behind a frame.
@@ -222,7 +222,7 @@ const OVERLOADS: &[Row] = &[
 fn flags_of_senders(rt: HostRuntime) -> Result<(), Fail> {
     let flag = PhaseName::ActiveFlag(0);
     for (texts, time, rule) in SENDERS_FLAGS {
-        let case = offering(rt.alloc(), 0, texts)?;
+        let case = offering(rt.alloc(), 0, *texts)?;
         hold(&rt, rt.alloc(), &case, &[(*time, flag, Sender, *rule)])?;
     }
     Ok(())
