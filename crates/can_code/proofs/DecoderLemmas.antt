@@ -66,15 +66,23 @@ module _ (d : DecoderParts) (l : List Level) (h : HasHeard d l) where
         let parts = and_parts (eqb d.front.run 5) (same x d.front.last) error in
         IsCodeFault-stuff l d.front x rest front_of_all (eqb-true d.front.run 5 parts.0) parts.1
 
-    -- levels that leave the stuffed part unended
-    pub HasHeard-run : (xs : List Level) (e : DecoderParts) → heard_levels d.front xs ≡ Some e.front → next_place e.front ≢ CrcDelimiter → e.behind ≡ d.behind → HasHeard e (l ++ xs)
-    HasHeard-run xs e next going_on same_behind =
+    -- levels of the stuffed part, up to its end only where its check sequence agrees
+    pub HasHeard-run : (xs : List Level) (e : DecoderParts) → heard_levels d.front xs ≡ Some e.front → e.behind ≡ d.behind → (next_place e.front ≡ CrcDelimiter → IsCrc (head_of e.front.unstuffed) (check_of e.front.unstuffed))
+        → HasHeard e (l ++ xs)
+    HasHeard-run xs e next same_behind agrees =
         let nothing : e.behind ≡ [] = same_behind ∙ h.none going in
         record {
           part = h.part ++ xs;
           whole = ap (λ t. t ++ xs) all_part ∙ ap (λ t. Dominant ∷ t) (sym (append-nil (h.part ++ xs))) ∙ ap (λ t. Dominant ∷ ((h.part ++ xs) ++ t)) (sym nothing);
           front = heard_levels-append h.part xs first_front d.front h.front ∙ next;
-          behind = λ ended. absurd (going_on ended);
+          behind = λ ended. record {
+            agrees = agrees ended;
+            acked = true;
+            last = Recessive;
+            more = tail (ack_slot true) Recessive;
+            missing = omega arith;
+            begins = ap (λ t. t ++ tail (ack_slot true) Recessive) nothing;
+          };
           none = λ _. nothing;
         }
 
@@ -96,25 +104,7 @@ module _ (d : DecoderParts) (l : List Level) (h : HasHeard d l) where
 
       pub HasHeard-level : (e : DecoderParts) → e.front ≡ heard_level d.front x → e.behind ≡ d.behind → (next_place e.front ≡ CrcDelimiter → IsCrc (head_of e.front.unstuffed) (check_of e.front.unstuffed))
           → HasHeard e (l ++ x ∷ [])
-      HasHeard-level e next same_behind agrees =
-          let nothing : e.behind ≡ [] = same_behind ∙ h.none going in
-          record {
-            part = h.part ++ x ∷ [];
-            whole = ap (λ t. t ++ x ∷ []) all_part ∙ ap (λ t. Dominant ∷ t) (sym (append-nil (h.part ++ x ∷ []))) ∙ ap (λ t. Dominant ∷ ((h.part ++ x ∷ []) ++ t)) (sym nothing);
-            front =
-                heard_levels-append h.part (x ∷ []) first_front d.front h.front
-                ∙ ap (option_and_then (λ g. heard_levels g [])) (hear_at-going d.front x (next_place d.front) going no_error)
-                ∙ ap Some (sym next);
-            behind = λ ended. record {
-              agrees = agrees ended;
-              acked = true;
-              last = Recessive;
-              more = tail (ack_slot true) Recessive;
-              missing = omega arith;
-              begins = ap (λ t. t ++ tail (ack_slot true) Recessive) nothing;
-            };
-            none = λ _. nothing;
-          }
+      HasHeard-level e next = HasHeard-run (x ∷ []) e (ap (option_and_then (λ g. heard_levels g [])) (hear_at-going d.front x (next_place d.front) going no_error) ∙ ap Some (sym next))
 
   -- it has ended
   module _ (ended : next_place d.front ≡ CrcDelimiter) where

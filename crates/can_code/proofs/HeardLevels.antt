@@ -1,6 +1,7 @@
 -- Levels heard one by one give a stuffed part's unstuffed levels, and end where it ends.
-use Rattle.std.proofs.Common.{◌≡◌, ◌≢◌, Bool, true, false, ◌&&◌, Option, Some, None, List, [], ◌∷◌, ◌++◌, length, refl, sym, ◌∙◌, ap, subst, arith, append_assoc, length-append, ◌⊎◌, inl, inr, cond}
+use Rattle.std.proofs.Common.{◌≡◌, ◌≢◌, Bool, true, false, ◌&&◌, Option, Some, None, Err, Ok, Result, List, [], ◌∷◌, ◌++◌, length, refl, sym, ◌∙◌, ap, subst, arith, append_assoc, length-append, ◌⊎◌, inl, inr, cond}
 use Rattle.std.specs.Option.{option_and_then}
+use Rattle.std.specs.Result.{is_err, OnOk}
 use Rattle.std.proofs.Math.Dec.{eqb}
 use Rattle.std.proofs.lemmas.List.{append-nil}
 use Rattle.std.proofs.lemmas.Bool.{and_parts, eqb-true, false_from_ne_true, cond-false}
@@ -83,3 +84,8 @@ heard_levels-front (x ∷ xs) p f g r heard =
         let level = hear_at-some f h x (next_place f) refl e in
         let front = subst (IsFrontOf (p ++ x ∷ [])) (sym level.2) (IsFrontOf-heard_level p f r x level.0 level.1) in
         subst (λ b. IsFrontOf b g) (append_assoc p (x ∷ []) xs) (go_on h front rest)
+
+-- what holds of an `Ok`, where it is one
+pub at_ok : {T E P : Type 0} (r : Result T E) → is_err r ≡ false → OnOk r P → P
+at_ok (Ok x) e p = p
+at_ok (Err x) e p = cc

@@ -1,16 +1,21 @@
 -- What is read at the places of unstuffed levels.
-use Rattle.std.proofs.Common.{◌≡◌, ℕ, suc, zero, ◌+◌, ◌-◌, ◌*◌, ◌%◌, ◌^◌, ◌<◌, ◌≤◌, Bool, true, false, List, [], ◌∷◌, ◌++◌, length, drop, sym, ◌∙◌, ap, arith, bit_or, append_assoc, length-append}
+use Rattle.std.proofs.Common.{◌≡◌, ℕ, suc, zero, ◌+◌, ◌-◌, ◌*◌, ◌/◌, ◌%◌, ◌^◌, ◌<◌, ◌≤◌, Bool, true, false, List, [], ◌∷◌, ◌++◌, length, drop, take, sym, ◌∙◌, ap, refl, arith, bit_or, length-append}
+use Rattle.std.specs.Int.{byte_at, bytes_high_first, to_be_bytes, w64}
+use Rattle.std.proofs.Math.Seq.{drop-nil}
 use Rattle.std.proofs.lemmas.Bool.{cond-true}
-use Rattle.std.proofs.lemmas.List.{append-nil, drop-drop}
-use Rattle.std.proofs.lemmas.Nat.{or_shifted, shl_whole}
+use Rattle.std.proofs.lemmas.List.{take_all}
+use Rattle.std.proofs.lemmas.Nat.{mod_low, or_shifted, shl_whole}
 use Rattle.can_frame.specs.declared.level.Level.{Level}
+use Rattle.can_frame.specs.declared.level.Level.TheVariants.{Dominant}
 use Rattle.can_frame.specs.Levels.{number_from}
 use Rattle.can_frame.specs.Parts.{byte_count}
 use Rattle.can_frame.specs.Ident.{Ident}
-use Rattle.can_wire.specs.Layout.{levels_at, extended_of, remote_of, dlc_of, data_place, frame_len, IsComplete, identifier_of, bytes_from}
+use Rattle.can_wire.specs.Layout.{filled, levels_at, extended_of, remote_of, dlc_of, data_place, frame_len, IsComplete, identifier_of, bytes_from}
 use Rattle.can_code.specs.Reading.{HasData, bytes_of}
-use Rattle.can_wire.proofs.LayoutNumbers.{number_from-lt, number_from-append, number_from-split}
+use Rattle.can_wire.proofs.LayoutNumbers.{number_from-lt, number_from-append, number_from-split, number_from-upper}
+use Rattle.can_wire.proofs.LayoutBytes.{length-bytes_from}
 use Rattle.can_wire.proofs.LayoutPlaces.{length-filled}
+use Rattle.can_wire.proofs.PlaceTable.{byte_at-place}
 
 -- the IDE bit stands before the data
 pub data_behind_ide : (extended : Bool) → 19 ≤ data_place extended
@@ -55,30 +60,47 @@ extended_identifier u id raw joined extended is =
     let number : raw ≡ number_from 0 (identifier_of u) = joined ∙ ap (number_from 0) (sym told) in
     is ∙ ap (λ n. record { raw = n; extended = true }) number ∙ ap (λ e. record { raw = number_from 0 (identifier_of u); extended = e }) (sym extended)
 
--- the byte at place p, and the bytes behind it
-pub next_byte : (u : List Level) (n k p q : ℕ) → n ≡ k + 1 → q ≡ p + 8 → bytes_from n (drop p u) ≡ number_from 0 (levels_at u p 8) ∷ bytes_from k (drop q u)
-next_byte u zero k p q more place = absurd (omega arith)
-next_byte u (suc n) k p q more place =
-    let same_count : n ≡ k = omega arith in
-    ap (λ r. number_from 0 (levels_at u p 8) ∷ bytes_from n r) (drop-drop 8 p u)
-    ∙ ap (λ r. number_from 0 (levels_at u p 8) ∷ bytes_from n (drop r u)) (sym place)
-    ∙ ap (λ m. number_from 0 (levels_at u p 8) ∷ bytes_from m (drop q u)) same_count
+-- levels in two parts
+filled-split : (n m : ℕ) (u : List Level) → filled (n + m) u ≡ filled n u ++ filled m (drop n u)
+filled-split zero m u = ap (λ k. filled k u) (let same : 0 + m ≡ m = omega arith in same)
+filled-split (suc n) m [] = ap (λ k. filled k []) (let up : suc n + m ≡ suc (n + m) = omega arith in up) ∙ ap (λ t. Dominant ∷ t) (filled-split n m [] ∙ ap (λ v. filled n [] ++ filled m v) (drop-nil n))
+filled-split (suc n) m (x ∷ u) = ap (λ k. filled k (x ∷ u)) (let up : suc n + m ≡ suc (n + m) = omega arith in up) ∙ ap (λ t. x ∷ t) (filled-split n m u)
 
--- of n bytes from place p on, those that are missing behind the first i complete them; and so behind one more
-pub bytes_pushed : (u : List Level) (items pushed whole : List ℕ) (n i p byte : ℕ) → i < n → pushed ≡ items ++ byte ∷ [] → byte ≡ number_from 0 (levels_at u (p + 8 * i) 8)
-    → items ++ bytes_from (n - i) (drop (p + 8 * i) u) ≡ whole → pushed ++ bytes_from (n - (i + 1)) (drop (p + 8 * (i + 1)) u) ≡ whole
-bytes_pushed u items pushed whole n i p byte more pushed_is byte_is so_far =
-    let rest = bytes_from (n - (i + 1)) (drop (p + 8 * (i + 1)) u) in
-    let next = next_byte u (n - i) (n - (i + 1)) (p + 8 * i) (p + 8 * (i + 1)) (omega arith) (omega arith) in
-    ap (λ t. t ++ rest) pushed_is ∙ append_assoc items (byte ∷ []) rest ∙ ap (λ b. items ++ b ∷ rest) byte_is ∙ ap (λ t. items ++ t) (sym next) ∙ so_far
+-- the bytes of a number are those that its levels spell, whatever stands before them
+bytes-number_from : (k h : ℕ) (u : List Level) → bytes_high_first k (number_from h (filled (8 * k) u)) ≡ bytes_from k u
+bytes-number_from zero h u = refl
+bytes-number_from (suc k) h u =
+    let a = filled 8 u in
+    let b = filled (8 * k) (drop 8 u) in
+    let n = number_from h (filled (8 * suc k) u) in
+    let levels : filled (8 * suc k) u ≡ a ++ b = (let eight : 8 * suc k ≡ 8 + 8 * k = omega arith in ap (λ m. filled m u) eight) ∙ filled-split 8 (8 * k) u in
+    let parts : n ≡ number_from (number_from h a) b = ap (number_from h) levels ∙ number_from-append h a b in
+    let upper : n / 2 ^ (8 * k) ≡ number_from h a = ap (λ l. number_from h l / 2 ^ (8 * k)) levels ∙ number_from-upper h (8 * k) a b (length-filled (8 * k) (drop 8 u)) in
+    let byte : number_from h a ≡ h * 2 ^ 8 + number_from 0 a = number_from-split h a ∙ ap (λ m. h * 2 ^ m + number_from 0 a) (length-filled 8 u) in
+    let first : byte_at k n ≡ number_from 0 a = byte_at-place k n ∙ ap (λ m. m % 256) (upper ∙ byte) ∙ mod_low h 8 (number_from 0 a) (levels_at-lt u 0 8) in
+    ap (λ x. x ∷ bytes_high_first k n) first ∙ ap (λ m. number_from 0 a ∷ bytes_high_first k m) parts ∙ ap (λ t. number_from 0 a ∷ t) (bytes-number_from k (number_from h a) (drop 8 u))
 
--- where none is missing they are whole
-pub bytes_whole : (u : List Level) (items : List ℕ) (n i p : ℕ) → n ≤ i → items ++ bytes_from (n - i) (drop (p + 8 * i) u) ≡ bytes_from n (drop p u)
-    → n ≡ byte_count (remote_of u) (dlc_of u) → p ≡ data_place (extended_of u) → items ≡ bytes_of u
-bytes_whole u items n i p past so_far count place =
-    let none : n - i ≡ 0 = omega arith in
-    sym (append-nil items)
-    ∙ ap (λ k. items ++ bytes_from k (drop (p + 8 * i) u)) (sym none)
-    ∙ so_far
-    ∙ ap (λ k. bytes_from k (drop p u)) count
-    ∙ ap (λ k. bytes_from (byte_count (remote_of u) (dlc_of u)) (drop k u)) place
+-- and they are the last of eight where their number has no more
+last_bytes : (k n : ℕ) → k ≤ 8 → drop (8 - k) (bytes_high_first 8 n) ≡ bytes_high_first k n
+last_bytes zero n h = refl
+last_bytes (suc zero) n h = refl
+last_bytes (suc (suc zero)) n h = refl
+last_bytes (suc (suc (suc zero))) n h = refl
+last_bytes (suc (suc (suc (suc zero)))) n h = refl
+last_bytes (suc (suc (suc (suc (suc zero))))) n h = refl
+last_bytes (suc (suc (suc (suc (suc (suc zero)))))) n h = refl
+last_bytes (suc (suc (suc (suc (suc (suc (suc zero))))))) n h = refl
+last_bytes (suc (suc (suc (suc (suc (suc (suc (suc zero)))))))) n h = refl
+last_bytes (suc (suc (suc (suc (suc (suc (suc (suc (suc k))))))))) n h = absurd (omega arith)
+
+-- the bytes from a place on, read as one number
+pub bytes_read : (u : List Level) (p k n : ℕ) → k ≤ 8 → n ≡ number_from 0 (levels_at u p (8 * k)) → drop (8 - k) (to_be_bytes w64 n) ≡ bytes_from k (drop p u)
+bytes_read u p k n few is = last_bytes k n few ∙ ap (bytes_high_first k) is ∙ bytes-number_from k 0 (drop p u)
+
+-- the data bytes, as the part of eight bytes that ends with them
+pub data_part : (u : List Level) (octets : List ℕ) (count : ℕ) → count ≤ 8 → count ≡ byte_count (remote_of u) (dlc_of u) → drop (8 - byte_count (remote_of u) (dlc_of u)) octets ≡ bytes_of u
+    → take (8 - (8 - count)) (drop (8 - count) octets) ≡ bytes_of u
+data_part u octets count few is behind =
+    let size : length (bytes_of u) ≡ count = length-bytes_from (byte_count (remote_of u) (dlc_of u)) (drop (data_place (extended_of u)) u) ∙ sym is in
+    let all : length (bytes_of u) ≤ 8 - (8 - count) = omega arith in
+    ap (λ k. take (8 - (8 - count)) (drop (8 - k) octets)) is ∙ ap (take (8 - (8 - count))) behind ∙ take_all (8 - (8 - count)) (bytes_of u) all

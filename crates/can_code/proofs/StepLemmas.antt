@@ -263,14 +263,14 @@ Unstuffs-begin digits room last run r some short begins = subst (Unstuffs digits
     })
 
 module _ (digits : List ℕ) (room : ℕ) (last : Level) (run : ℕ) (r : UnstuffedRun) (levels count : ℕ) (s : Step) (so_far : Unstuffs digits room last run r) where
-  pub Unstuffs-step : room ≤ 32 → BeginWith (drop r.taken digits) count levels → r.len + count ≤ room → steps_on (begun r.last r.run) (levels_up count levels) ≡ Some s
-      → Unstuffs digits room last run (record { number = r.number * 2 ^ s.len % 2 ^ 32 + s.number; len = r.len + s.len; last = s.last; run = s.run; taken = r.taken + count })
+  pub Unstuffs-step : room ≤ 64 → BeginWith (drop r.taken digits) count levels → r.len + count ≤ room → steps_on (begun r.last r.run) (levels_up count levels) ≡ Some s
+      → Unstuffs digits room last run (record { number = r.number * 2 ^ s.len % 2 ^ 64 + s.number; len = r.len + s.len; last = s.last; run = s.run; taken = r.taken + count })
   Unstuffs-step wide begins_with fits taken =
       let h : StepBounds s count = taken-bounds r.last r.run count count levels s so_far.some so_far.short (omega arith) taken in
       record {
         within = omega (arith, begins_with.0, length-drop r.taken digits, so_far.within);
         few = omega (arith, fits, h.few);
-        small = joined-small 32 r.len s.len r.number s.number so_far.small h.small (omega (arith, fits, h.few));
+        small = joined-small 64 r.len s.len r.number s.number so_far.small h.small (omega (arith, fits, h.few));
         some = h.some;
         short = h.short;
         heard = λ u has.
@@ -279,8 +279,8 @@ module _ (digits : List ℕ) (room : ℕ) (last : Level) (run : ℕ) (r : Unstuf
             subst (λ l. length l < frame_len l) (sym (append_assoc u (bits_of r.len r.number) w))
             (has (bits_of r.len r.number ++ w) (omega (arith, short, fits, length-levels_up count levels, length-bits_of r.len r.number, length-append (bits_of r.len r.number) w)))) in
             let begins : v ++ bits_of 0 0 ≡ v = ap (λ l. v ++ l) (bits_of-zero 0) ∙ append-nil v in
-            let ends : v ++ bits_of s.len s.number ≡ u ++ bits_of (r.len + s.len) (r.number * 2 ^ s.len % 2 ^ 32 + s.number) =
-            append_assoc u (bits_of r.len r.number) (bits_of s.len s.number) ∙ ap (λ l. u ++ l) (sym (bits_of-moved 32 r.len s.len r.number s.number (omega (arith, fits, h.few)) h.small)) in
+            let ends : v ++ bits_of s.len s.number ≡ u ++ bits_of (r.len + s.len) (r.number * 2 ^ s.len % 2 ^ 64 + s.number) =
+            append_assoc u (bits_of r.len r.number) (bits_of s.len s.number) ∙ ap (λ l. u ++ l) (sym (bits_of-moved 64 r.len s.len r.number s.number (omega (arith, fits, h.few)) h.small)) in
             HearsDigits-append _ (record { unstuffed = v; last = r.last; run = r.run }) _ digits r.taken count (levels_up count levels) (so_far.heard u has) begins_with.1
             (ap (λ l. heard_levels (record { unstuffed = l; last = r.last; run = r.run }) (levels_up count levels)) (sym begins)
             ∙ steps_on-heard (levels_up count levels) v (begun r.last r.run) s left taken ∙ ap (λ l. Some (record { unstuffed = l; last = s.last; run = s.run })) ends);

@@ -1,5 +1,5 @@
 -- A run of levels that are taken from their digits at once.
-use Rattle.std.proofs.Common.{◌≡◌, ◌≢◌, ℕ, ◌+◌, ◌-◌, ◌*◌, ◌<◌, ◌≤◌, Bool, true, false, Option, Some, None, List, [], ◌∷◌, ◌++◌, length, take, get_or, refl, sym, ◌∙◌, ap, subst, arith, length-append, append_assoc}
+use Rattle.std.proofs.Common.{◌≡◌, ◌≢◌, ℕ, ◌+◌, ◌-◌, ◌*◌, ◌<◌, ◌≤◌, Bool, true, false, Option, Some, None, List, [], ◌∷◌, ◌++◌, length, map, take, drop, get_or, take-add, refl, sym, ◌∙◌, ap, subst, arith, length-append, append_assoc}
 use Rattle.std.specs.Option.{option_and_then, is_some}
 use denote.Enum.Bare.{sameb}
 use Rattle.can_frame.specs.contracts.level.Level.{the_type}
@@ -10,13 +10,14 @@ use Rattle.can_frame.specs.declared.level.Level.{Level}
 use Rattle.can_frame.specs.declared.level.Level.TheVariants.{Dominant, Recessive}
 use Rattle.can_frame.specs.Levels.{bits_of, is_recessive, same}
 use Rattle.can_code.specs.declared.front.Place.TheVariants.{CrcDelimiter}
+use Rattle.can_wire.specs.Crc.{IsCrc}
 use Rattle.can_wire.specs.Stuffing.{run_after}
 use Rattle.can_wire.specs.Wire.{tail}
 use Rattle.can_wire.specs.Heard.{ack_slot}
-use Rattle.can_wire.specs.Layout.{extended_of, data_place, frame_len}
+use Rattle.can_wire.specs.Layout.{check_of, extended_of, data_place, frame_len, head_of}
 use Rattle.can_code.specs.Reading.{TellsLength}
 use Rattle.can_code.specs.Front.{FrontParts, IsFront, next_place, is_stuff_error, heard_level, heard_levels}
-use Rattle.can_code.specs.Decoder.{DecoderParts}
+use Rattle.can_code.specs.Decoder.{DecoderParts, HasHeard}
 use Rattle.can_code.specs.Digits.{DecodesDigits, HearsDigits, HearsTail, digit_of}
 use Rattle.can_code.specs.Unstuffing.{HasRoom}
 use mir.Val.{bool_byte}
@@ -95,7 +96,7 @@ pub HearsDigits-none : (f : FrontParts) (digits : List ℕ) → HearsDigits f f 
 HearsDigits-none f digits = record { levels = []; digits_are = refl; heard = refl }
 
 -- one more
-HearsDigits-level : (f g : FrontParts) (digits : List ℕ) (n : ℕ) (x : Level) → n < length digits → get_or digits n 0 ≡ digit_of x → next_place g ≢ CrcDelimiter → is_stuff_error g x ≡ false
+pub HearsDigits-level : (f g : FrontParts) (digits : List ℕ) (n : ℕ) (x : Level) → n < length digits → get_or digits n 0 ≡ digit_of x → next_place g ≢ CrcDelimiter → is_stuff_error g x ≡ false
     → HearsDigits f g (take n digits) → HearsDigits f (heard_level g x) (take (n + 1) digits)
 HearsDigits-level f g digits n x more is going no_error h = record {
   levels = h.levels ++ x ∷ [];
@@ -145,13 +146,25 @@ HearsDigits-number f u len number last run digits n x more is room not_due so_fa
 
 -- ---- a decoder that hears them
 
--- within the stuffed part
-pub DecodesDigits-part : (d e : DecoderParts) (digits : List ℕ) → next_place d.front ≢ CrcDelimiter → next_place e.front ≢ CrcDelimiter → e.behind ≡ d.behind
+-- within the stuffed part, up to its end only where its check sequence agrees
+pub DecodesDigits-part : (d e : DecoderParts) (digits : List ℕ) → next_place d.front ≢ CrcDelimiter → (next_place e.front ≡ CrcDelimiter → IsCrc (head_of e.front.unstuffed) (check_of e.front.unstuffed)) → e.behind ≡ d.behind
     → HearsDigits d.front e.front digits → DecodesDigits d e digits
-DecodesDigits-part d e digits going going_on same_behind h = record {
+DecodesDigits-part d e digits going agrees same_behind h = record {
   levels = h.levels;
   digits_are = h.digits_are;
-  heard = λ before heard. HasHeard-run d before heard going h.levels e h.heard going_on same_behind;
+  heard = λ before heard. HasHeard-run d before heard going h.levels e h.heard same_behind agrees;
+}
+
+-- no digits
+pub DecodesDigits-none : (d : DecoderParts) (digits : List ℕ) → DecodesDigits d d (take 0 digits)
+DecodesDigits-none d digits = record { levels = []; digits_are = refl; heard = λ before heard. subst (HasHeard d) (sym (append-nil before)) heard }
+
+-- some, and then more
+pub DecodesDigits-join : (d e g : DecoderParts) (digits : List ℕ) (n k : ℕ) → DecodesDigits d e (take n digits) → DecodesDigits e g (take k (drop n digits)) → DecodesDigits d g (take (n + k) digits)
+DecodesDigits-join d e g digits n k some more = record {
+  levels = some.levels ++ more.levels;
+  digits_are = take-add n k digits ∙ ap (λ t. t ++ take k (drop n digits)) some.digits_are ∙ ap (λ t. map digit_of some.levels ++ t) more.digits_are ∙ sym (map-append digit_of some.levels more.levels);
+  heard = λ before heard. subst (HasHeard g) (append_assoc before some.levels more.levels) (more.heard (before ++ some.levels) (some.heard before heard));
 }
 
 -- behind it

@@ -96,25 +96,37 @@ impl<B: FrameBits> Decoder<B> {
 
     /// Hears levels from the front of these digits, as many as it likes, and answers how many: the same as
     /// [`hear`](Decoder::hear) of each of them, where the frame goes on. It stops before a level that ends
-    /// the frame, or its stuffed part, or shows a fault, and at a byte that is no digit.
+    /// the frame or shows a fault, and at a byte that is no digit.
     #[inline]
     pub fn hear_run(&mut self, digits: &[u8]) -> usize
         ensures within { result ≤ length digits.now }
         ensures heard { DecodesDigits self.old self.new (take result digits.now) }
     {
-        if self.front.next_place() == Place::CrcDelimiter {
-            self.hear_behind(digits)
-        } else {
-            self.front.hear_run(digits)
-        }
+        let front = self.hear_front(digits);
+        front + self.hear_behind(&digits[front..])
     }
 
-    /// The same behind the stuffed part.
-    fn hear_behind(&mut self, digits: &[u8]) -> usize
-        requires { next_place self.old.front ≡ Place.CrcDelimiter }
+    /// The same up to the end of the stuffed part.
+    #[inline]
+    fn hear_front(&mut self, digits: &[u8]) -> usize
         ensures within { result ≤ length digits.now }
         ensures heard { DecodesDigits self.old self.new (take result digits.now) }
     {
+        if self.front.next_place() == Place::CrcDelimiter {
+            return 0;
+        }
+        self.front.hear_run(digits)
+    }
+
+    /// The same behind the stuffed part.
+    #[inline]
+    fn hear_behind(&mut self, digits: &[u8]) -> usize
+        ensures within { result ≤ length digits.now }
+        ensures heard { DecodesDigits self.old self.new (take result digits.now) }
+    {
+        if self.front.next_place() != Place::CrcDelimiter {
+            return 0;
+        }
         let heard = tail_of(digits, self.behind, self.acked);
         self.behind += heard.taken;
         self.acked = heard.acked;

@@ -4,6 +4,7 @@ ghost use Rattle.can_wire.specs.Layout.{check_of, extended_of, frame_of, head_of
 ghost use Rattle.can_code.specs.Digits.{HearsDigits};
 ghost use Rattle.can_code.specs.Front.{IsFront, first_front, heard_level, is_stuff_error, next_place as next_place_of};
 
+use crate::digits::level_of;
 use crate::reading::{frame, frame_len, heard, is_extended};
 use crate::unstuffing::{room_behind, unstuff};
 use can_frame::{Frame, Level};
@@ -104,10 +105,23 @@ impl<B: FrameBits> Front<B> {
     }
 
     /// Hears levels from the front of these digits, and answers how many: the same as [`hear`](Front::hear)
-    /// of each of them. It stops before the last level of the stuffed part, at a stuff place that repeats
-    /// the level before it, and at a byte that is no digit, and may stop sooner.
+    /// of each of them. It ends with the stuffed part, and stops before a level that completes a wrong CRC
+    /// sequence, at a stuff place that repeats the level before it, and at a byte that is no digit. It may
+    /// stop sooner.
     #[inline]
     pub fn hear_run(&mut self, digits: &[u8]) -> usize
+        requires { next_place_of self.old ≢ Place.CrcDelimiter }
+        ensures within { result ≤ length digits.now }
+        ensures heard { HearsDigits self.old self.new (take result digits.now) }
+        ensures agrees { next_place_of self.new ≡ Place.CrcDelimiter → IsCrc (head_of self.new.unstuffed) (check_of self.new.unstuffed) }
+    {
+        let taken = self.hear_parts(digits);
+        taken + self.hear_last(&digits[taken..])
+    }
+
+    /// The same, as far as the last level of the CRC sequence.
+    #[inline]
+    fn hear_parts(&mut self, digits: &[u8]) -> usize
         requires { next_place_of self.old ≢ Place.CrcDelimiter }
         ensures within { result ≤ length digits.now }
         ensures heard { HearsDigits self.old self.new (take result digits.now) }
@@ -147,6 +161,27 @@ impl<B: FrameBits> Front<B> {
             self.length = frame_len(&self.bits);
         }
         heard.taken
+    }
+
+    /// Hears the last level of the CRC sequence, if it is next and completes the right one, and answers how
+    /// many levels it heard.
+    #[inline]
+    fn hear_last(&mut self, digits: &[u8]) -> usize
+        requires { next_place_of self.old ≢ Place.CrcDelimiter }
+        ensures within { result ≤ length digits.now }
+        ensures heard { HearsDigits self.old self.new (take result digits.now) }
+        ensures agrees { next_place_of self.new ≡ Place.CrcDelimiter → IsCrc (head_of self.new.unstuffed) (check_of self.new.unstuffed) }
+    {
+        if self.run == LONGEST_RUN
+            || self.length != Some(self.bits.len() + 1)
+            || digits.is_empty()
+        {
+            return 0;
+        }
+        match level_of(digits[0]) {
+            Some(level) if self.bits.agrees_with(level) && self.hear(level).is_ok() => 1,
+            _ => 0,
+        }
     }
 
     /// How many unstuffed levels have been heard.

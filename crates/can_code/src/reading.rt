@@ -1,16 +1,18 @@
-ghost use Rattle.std.specs.Prelude.{◌≡◌, ◌+◌, ◌<◌, ◌≤◌, length, if◌then◌else◌};
+ghost use Rattle.std.specs.Prelude.{◌≡◌, ◌+◌, ◌-◌, ◌<◌, ◌≤◌, drop, length, if◌then◌else◌};
 ghost use Rattle.can_frame.specs.declared.level.Level.TheVariants.{Dominant, Recessive};
 ghost use Rattle.can_frame.specs.Levels.{number_from};
 ghost use Rattle.can_frame.specs.Parts.{byte_count as byte_count_of};
 ghost use Rattle.can_wire.specs.Layout.{dlc_of, extended_of, frame_of, heard_of, identifier_of, level_at, remote_of};
 ghost use Rattle.can_code.specs.Reading.{HasControl, HasData, TellsLength, bytes_of};
 
-use arrayvec::ArrayVec;
 use can_frame::{Frame, Id, Level};
 use can_wire::places::{
     EXTENSION_BITS, EXTENSION_PLACE, IDE_PLACE, R1_PLACE, RTR_TO_DATA, SRR_PLACE, rtr_place,
 };
 use can_wire::{FrameBits, Heard};
+
+/// How many data bytes a frame has at most.
+const OCTETS: usize = 8;
 
 /// How many unstuffed levels the frame has that begins with these, if they tell it. It stands apart, as it is
 /// asked once or twice a frame.
@@ -45,7 +47,7 @@ fn byte_count<B: FrameBits>(bits: &B) -> usize
     if is_remote(bits) {
         0
     } else {
-        usize::from(dlc(bits)).min(8)
+        usize::from(dlc(bits)).min(OCTETS)
     }
 }
 
@@ -109,7 +111,8 @@ pub(crate) fn frame<B: FrameBits>(bits: &B) -> Frame
     if is_remote(bits) {
         Frame::remote(id, dlc).unwrap()
     } else {
-        Frame::data(id, dlc, &data(bits)).unwrap()
+        let unused = OCTETS - byte_count(bits);
+        Frame::data(id, dlc, &octets(bits)[unused..]).unwrap()
     }
 }
 
@@ -118,24 +121,21 @@ fn identifier<B: FrameBits>(bits: &B) -> Id
     requires { HasControl (B.levels bits.now) }
     ensures { result ≡ record { raw = number_from 0 (identifier_of (B.levels bits.now)); extended = extended_of (B.levels bits.now) } }
 {
-    let base = bits.number_at(1, 11);
+    let base = bits.number_at(1, 11) as u32;
     if is_extended(bits) {
-        let extension = bits.number_at(EXTENSION_PLACE, EXTENSION_BITS);
+        let extension = bits.number_at(EXTENSION_PLACE, EXTENSION_BITS) as u32;
         Id::extended((base << EXTENSION_BITS) | extension).unwrap()
     } else {
         Id::standard(base as u16).unwrap()
     }
 }
 
-/// The data bytes.
-fn data<B: FrameBits>(bits: &B) -> ArrayVec<u8, 8>
+/// Eight bytes, the last of which are the data bytes.
+fn octets<B: FrameBits>(bits: &B) -> [u8; OCTETS]
     requires { HasData (B.levels bits.now) }
-    ensures { result.items ≡ bytes_of (B.levels bits.now) }
+    ensures { let u = B.levels bits.now in drop (8 - byte_count_of (remote_of u) (dlc_of u)) result ≡ bytes_of u }
 {
     let data_place = rtr_place(is_extended(bits)) + RTR_TO_DATA;
-    let mut bytes = ArrayVec::new();
-    for index in 0..byte_count(bits) {
-        bytes.push(bits.number_at(data_place + 8 * index, 8) as u8);
-    }
-    bytes
+    bits.number_at(data_place, 8 * byte_count(bits))
+        .to_be_bytes()
 }

@@ -21,13 +21,13 @@ const SHORTEST: usize = 34;
 const SHORTEST_EXTENDED: usize = 54;
 
 /// How many unstuffed levels are gathered in a number at once.
-const NUMBER_BITS: usize = 32;
+const NUMBER_BITS: usize = 64;
 
 /// Levels of a stuffed part, without their stuff bits.
 #[derive(Clone, Copy)]
 pub(crate) struct UnstuffedRun {
     /// The unstuffed levels, as a number whose bits they are, the first of them the highest.
-    pub(crate) number: u32,
+    pub(crate) number: u64,
     /// How many they are.
     pub(crate) len: usize,
     /// The last level, which may be a stuff bit.
@@ -58,7 +58,7 @@ impl UnstuffedRun {
 /// as they tell the frame's length. Where they do not tell it, and are many, the frame is extended.
 #[inline]
 pub(crate) fn room_behind(len: usize, told: Option<usize>) -> usize
-    ensures bound { result ≤ 32 }
+    ensures bound { result ≤ 64 }
     ensures room { (u : List Bit) → len ≡ length u → TellsLength u told → 0 < result → HasRoom u result }
 {
     let end = match told {
@@ -74,7 +74,7 @@ pub(crate) fn room_behind(len: usize, told: Option<usize>) -> usize
 /// sooner, but takes some where it can.
 #[inline]
 pub(crate) fn unstuff(digits: &[u8], room: usize, last: Level, run: u8) -> UnstuffedRun
-    requires wide { room ≤ 32 }
+    requires wide { room ≤ 64 }
     requires some { 1 ≤ run }
     requires short { run ≤ 5 }
     ensures { Unstuffs digits.now room last run result }
@@ -90,7 +90,7 @@ pub(crate) fn unstuff(digits: &[u8], room: usize, last: Level, run: u8) -> Unstu
 /// The same, up to eight levels in a step. It stops where no block of bytes is left.
 #[inline]
 fn unstuff_steps(digits: &[u8], room: usize, last: Level, run: u8) -> UnstuffedRun
-    requires wide { room ≤ 32 }
+    requires wide { room ≤ 64 }
     requires some { 1 ≤ run }
     requires short { run ≤ 5 }
     ensures { Unstuffs digits.now room last run result }
@@ -109,7 +109,7 @@ fn unstuff_steps(digits: &[u8], room: usize, last: Level, run: u8) -> UnstuffedR
 #[derive(Clone, Copy)]
 struct StepRun {
     /// The unstuffed levels, as a number.
-    number: u32,
+    number: u64,
     /// How many they are.
     len: usize,
     /// The row of the table of steps behind them.
@@ -140,20 +140,20 @@ fn step_behind(now: StepRun, levels: u64, count: usize) -> Option<StepRun>
     requires row { now.row < 10 }
     requires small { now.number < 2 ^ now.len }
     requires few { count ≤ 8 }
-    requires fits { now.len + count ≤ 32 }
+    requires fits { now.len + count ≤ 64 }
     requires within { now.taken + count < 2 ^ 64 }
     ensures row { IfSome result (λ next. next.row < 10) }
     ensures few { IfSome result (λ next. next.len ≤ now.len + count) }
     ensures all { IfSome result (λ next. next.taken ≡ now.taken + count) }
     ensures taken { IfSome result (λ next. (digits : List ℕ) (room : ℕ) (last : Bit) (run : ℕ)
-        → Unstuffs digits room last run (as_run now) → BeginWith (drop now.taken digits) count levels → now.len + count ≤ room → room ≤ 32
+        → Unstuffs digits room last run (as_run now) → BeginWith (drop now.taken digits) count levels → now.len + count ≤ room → room ≤ 64
         → Unstuffs digits room last run (as_run next)) }
 {
     let Some(step) = take_step(now.row, levels, count) else {
         return None;
     };
     Some(StepRun {
-        number: (now.number << step.len) + u32::from(step.number),
+        number: (now.number << step.len) + u64::from(step.number),
         len: now.len + usize::from(step.len),
         row: step.row,
         taken: now.taken + count,
@@ -163,12 +163,16 @@ fn step_behind(now: StepRun, levels: u64, count: usize) -> Option<StepRun>
 /// The same from row to row of the table of steps.
 #[inline]
 fn unstuff_rows(digits: &[u8], room: usize, row: u8) -> StepRun
-    requires wide { room ≤ 32 }
+    requires wide { room ≤ 64 }
     requires row { row < 10 }
     ensures row { result.row < 10 }
     ensures taken { Unstuffs digits.now room (last_of row) (run_of row) (as_run result) }
 {
     let mut now = unstuff_blocks(digits, room, row);
+    if now.taken > 0 {
+        // what is left of the room waits, since the next part may have room for a block again
+        return now;
+    }
     while now.len < room {
         let Some(block) = digits[now.taken..].first_chunk::<BLOCK>() else {
             return now;
@@ -190,7 +194,7 @@ fn unstuff_rows(digits: &[u8], room: usize, row: u8) -> StepRun
 /// room for all of its levels.
 #[inline]
 fn unstuff_blocks(digits: &[u8], room: usize, row: u8) -> StepRun
-    requires wide { room ≤ 32 }
+    requires wide { room ≤ 64 }
     requires row { row < 10 }
     ensures row { result.row < 10 }
     ensures taken { Unstuffs digits.now room (last_of row) (run_of row) (as_run result) }
@@ -217,7 +221,7 @@ fn unstuff_blocks(digits: &[u8], room: usize, row: u8) -> StepRun
 
 /// The same, level by level.
 fn unstuff_levels(digits: &[u8], room: usize, last: Level, run: u8) -> UnstuffedRun
-    requires wide { room ≤ 32 }
+    requires wide { room ≤ 64 }
     requires some { 1 ≤ run }
     requires short { run ≤ 5 }
     ensures { Unstuffs digits.now room last run result }
@@ -233,7 +237,7 @@ fn unstuff_levels(digits: &[u8], room: usize, last: Level, run: u8) -> Unstuffed
             }
             now.run = 1;
         } else {
-            now.number = 2 * now.number + u32::from(level.is_recessive());
+            now.number = 2 * now.number + u64::from(level.is_recessive());
             now.len += 1;
             now.run = run_after(now.last, now.run, level);
         }

@@ -38,29 +38,29 @@ pub(crate) fn put_finding<W: Sink>(
     ensures failed { W.has_failed w.new ≡ is_err result }
     ensures fault { IfErr result (λ e. e ≡ TraceFault.Write) }
 {
-    let line = match finding {
-        Finding::Frame { place, heard } => frame_line(*place, heard),
+    let mut line = ArrayVec::new();
+    match finding {
+        Finding::Frame { place, heard } => push_frame_line(&mut line, *place, heard),
         Finding::Fault {
             place,
             kind,
             fault_place,
-        } => fault_line(*place, *kind, *fault_place),
-    };
+        } => push_fault_line(&mut line, *place, *kind, *fault_place),
+    }
     out.put(w, &line)
 }
 
-/// The line of a frame that begins at this place.
-fn frame_line(place: u64, heard: &Heard) -> Line
-    ensures { result.items ≡ finding_line (Finding.Frame place heard.now) }
+/// Puts the line of a frame that begins at this place together.
+fn push_frame_line(line: &mut Line, place: u64, heard: &Heard)
+    requires { line.old.items ≡ [] }
+    ensures { line.new.items ≡ finding_line (Finding.Frame place heard.now) }
 {
-    let mut line = ArrayVec::new();
-    push_number(&mut line, place);
-    push(&mut line, b" ");
-    push_frame(&mut line, &heard.frame());
-    push_acknowledgement(&mut line, heard.acked());
-    push_deviations(&mut line, heard);
-    push(&mut line, b"\n");
-    line
+    push_number(line, place);
+    push(line, b" ");
+    push_frame(line, &heard.frame());
+    push_acknowledgement(line, heard.acked());
+    push_deviations(line, heard);
+    push(line, b"\n");
 }
 
 /// Appends whether a receiver has acknowledged the frame.
@@ -69,8 +69,11 @@ fn push_acknowledgement(line: &mut Line, acked: bool)
     ensures text { line.new.items ≡ line.old.items ++ acknowledgement acked }
     ensures bound { length line.new.items ≤ length line.old.items + 6 }
 {
-    let word: &[u8] = if acked { b" ack" } else { b" noack" };
-    push(line, word);
+    if acked {
+        push(line, b" ack");
+    } else {
+        push(line, b" noack");
+    }
 }
 
 /// Appends which levels were heard otherwise than they are sent.
@@ -96,18 +99,17 @@ fn push_if(line: &mut Line, holds: bool, word: &[u8])
     }
 }
 
-/// The line of a fault in what begins at this place.
-fn fault_line(place: u64, kind: CodeFaultKind, fault_place: u64) -> Line
-    ensures { result.items ≡ finding_line (Finding.Fault place kind fault_place) }
+/// Puts the line of a fault in what begins at this place together.
+fn push_fault_line(line: &mut Line, place: u64, kind: CodeFaultKind, fault_place: u64)
+    requires { line.old.items ≡ [] }
+    ensures { line.new.items ≡ finding_line (Finding.Fault place kind fault_place) }
 {
-    let mut line = ArrayVec::new();
-    push_number(&mut line, place);
-    push(&mut line, b" fault ");
-    push(&mut line, &code(kind));
-    push(&mut line, b" at ");
-    push_number(&mut line, fault_place);
-    push(&mut line, b"\n");
-    line
+    push_number(line, place);
+    push(line, b" fault ");
+    push(line, &code(kind));
+    push(line, b" at ");
+    push_number(line, fault_place);
+    push(line, b"\n");
 }
 
 /// The code of a kind of fault.

@@ -14,6 +14,18 @@ const WIRE_000: &[u8] = b"00000100000100000100000100000100000100001011111111";
 /// The levels of `S 001 D 0`, acknowledged.
 const WIRE_001: &[u8] = b"00000100000101000001000100010000100111011111111";
 
+/// The levels of frames whose digits all differ, acknowledged, and their lines.
+const FRAMES: [(&[u8], &[u8]); 2] = [
+    (
+        b"00111010010110011001010010101101111011111111",
+        b"0 S 3a5 R 12 ack\n",
+    ),
+    (
+        b"0000011001000111101000101011001110000011010001001101010111101010101101101011111111",
+        b"0 E 01234567 D 2 89ab ack\n",
+    ),
+];
+
 /// What each trace comes to, however it is cut, and however its answer is.
 fn decodes(
     rt: &impl Abort,
@@ -78,6 +90,15 @@ fn frames_and_faults(rt: HostRuntime) -> Result<(), Fail> {
         (&WIRE_001[..20], b"0 fault C1 at 20\n"),
     ] {
         decodes(&rt, rt.alloc(), trace, Ok(()), lines);
+    }
+    Ok(())
+}
+
+/// Each digit of a frame stands in its place.
+#[test]
+fn digits_of_frames(rt: HostRuntime) -> Result<(), Fail> {
+    for (trace, line) in FRAMES {
+        decodes(&rt, rt.alloc(), trace, Ok(()), line);
     }
     Ok(())
 }

@@ -1,9 +1,9 @@
 //! The text of a frame, put straight into a line, two hexadecimal digits at a time.
-ghost use Rattle.std.specs.Prelude.{◌≡◌, ◌+◌, ◌*◌, ◌<◌, ◌≤◌, ◌++◌, length, codes, if◌then◌else◌};
+ghost use Rattle.std.specs.Prelude.{◌≡◌, ◌+◌, ◌*◌, ◌≤◌, ◌++◌, length};
 ghost use Rattle.hex.specs.Hex.{encode_lower};
-ghost use Rattle.can_frame.specs.Text.{blank_before, decimal_digits, frame_text, hex_digits, identifier_digits};
+ghost use Rattle.can_frame.specs.Text.{direction_part, dlc_part, frame_text, hex_digits, identifier_part, letter_part};
 
-use can_frame::{Frame, Id};
+use can_frame::Frame;
 use can_stream::line::{LINE, Line, push};
 
 /// Appends the text of a frame.
@@ -12,53 +12,51 @@ pub(crate) fn push_frame(line: &mut Line, frame: &Frame)
     ensures text { line.new.items ≡ line.old.items ++ frame_text frame.now }
     ensures bound { length line.new.items ≤ length line.old.items + 32 }
 {
-    push_letter(line, b"S ", b"E ", frame.is_extended());
-    push_identifier(line, frame.id());
-    push_letter(line, b"D ", b"R ", frame.is_remote());
-    push_data_length_code(line, frame.dlc(), frame.bytes());
+    push_identifier(line, frame);
+    push_direction_and_dlc(line, frame);
     push_data(line, frame.bytes());
 }
 
-/// Appends one of two letters, with the blank that follows it.
-fn push_letter(line: &mut Line, first: &[u8; 2], second: &[u8; 2], is_second: bool)
-    requires { length line.old.items + 2 ≤ LINE }
-    ensures text { line.new.items ≡ line.old.items ++ (if is_second then second.now else first.now) }
-    ensures bound { length line.new.items ≡ length line.old.items + 2 }
+/// Appends the letter of a standard or an extended frame and the identifier, each with a blank.
+fn push_identifier(line: &mut Line, frame: &Frame)
+    requires { length line.old.items + 11 ≤ LINE }
+    ensures text { line.new.items ≡ line.old.items ++ (letter_part frame.now ++ identifier_part frame.now) }
+    ensures bound { length line.new.items ≤ length line.old.items + 11 }
 {
-    push(line, if is_second { second } else { first });
-}
-
-/// Appends the identifier and a blank.
-fn push_identifier(line: &mut Line, id: Id)
-    requires { length line.old.items + 9 ≤ LINE }
-    ensures text { line.new.items ≡ line.old.items ++ (hex_digits (identifier_digits id.extended) id.raw ++ codes " ") }
-    ensures bound { length line.new.items ≤ length line.old.items + 9 }
-{
-    let raw = id.raw();
-    if id.is_extended() {
-        push_pair(line, raw >> 24);
-        push_pair(line, raw >> 16);
-        push_pair(line, raw >> 8);
+    let raw = frame.id().raw();
+    // the digits of its bytes
+    let third = pair(raw >> 8);
+    let fourth = pair(raw);
+    if frame.is_extended() {
+        let first = pair(raw >> 24);
+        let second = pair(raw >> 16);
+        push(
+            line,
+            &[
+                b'E', b' ', first[0], first[1], second[0], second[1], third[0], third[1],
+                fourth[0], fourth[1], b' ',
+            ],
+        );
     } else {
-        push_digit(line, raw >> 8);
+        push(line, &[b'S', b' ', third[1], fourth[0], fourth[1], b' ']);
     }
-    push_pair(line, raw);
-    push(line, b" ");
 }
 
-/// Appends the DLC, and a blank only where there are data bytes.
-fn push_data_length_code(line: &mut Line, dlc: u8, bytes: &[u8])
-    requires range { dlc < 16 }
-    requires room { length line.old.items + 3 ≤ LINE }
-    ensures text { line.new.items ≡ line.old.items ++ (decimal_digits dlc ++ blank_before bytes.now) }
-    ensures bound { length line.new.items ≤ length line.old.items + 3 }
+/// Appends the letter of a data or a remote frame and the DLC, with a blank behind it only where there
+/// are data bytes.
+fn push_direction_and_dlc(line: &mut Line, frame: &Frame)
+    requires { length line.old.items + 5 ≤ LINE }
+    ensures text { line.new.items ≡ line.old.items ++ (direction_part frame.now ++ dlc_part frame.now) }
+    ensures bound { length line.new.items ≤ length line.old.items + 5 }
 {
+    let letter = if frame.is_remote() { b'R' } else { b'D' };
+    let dlc = frame.dlc();
     if dlc >= 10 {
-        push(line, &[b'1', b'0' + dlc % 10]);
+        push(line, &[letter, b' ', b'1', b'0' + dlc % 10]);
     } else {
-        push(line, &[b'0' + dlc]);
+        push(line, &[letter, b' ', b'0' + dlc]);
     }
-    if !bytes.is_empty() {
+    if !frame.bytes().is_empty() {
         push(line, b" ");
     }
 }
@@ -71,29 +69,16 @@ fn push_data(line: &mut Line, bytes: &[u8])
 {
     let mut index = 0;
     while index < bytes.len() {
-        push_pair(line, u32::from(bytes[index]));
+        push(line, &pair(u32::from(bytes[index])));
         index += 1;
     }
 }
 
-/// Appends the two lowest hexadecimal digits of a number.
-fn push_pair(line: &mut Line, number: u32)
-    requires { length line.old.items + 2 ≤ LINE }
-    ensures text { line.new.items ≡ line.old.items ++ hex_digits 2 number }
-    ensures bound { length line.new.items ≡ length line.old.items + 2 }
+/// The two lowest hexadecimal digits of a number.
+fn pair(number: u32) -> [u8; 2]
+    ensures { result ≡ hex_digits 2 number }
 {
-    let pair = PAIRS[(number % 256) as usize];
-    push(line, &[(pair / 256) as u8, (pair % 256) as u8]);
-}
-
-/// Appends the lowest hexadecimal digit of a number.
-fn push_digit(line: &mut Line, number: u32)
-    requires { length line.old.items + 1 ≤ LINE }
-    ensures text { line.new.items ≡ line.old.items ++ hex_digits 1 number }
-    ensures bound { length line.new.items ≡ length line.old.items + 1 }
-{
-    let pair = PAIRS[(number % 16) as usize];
-    push(line, &[(pair % 256) as u8]);
+    PAIRS[(number % 256) as usize].to_be_bytes()
 }
 
 /// The two hexadecimal digits of each byte, in lower case, the code of the first above that of the second.

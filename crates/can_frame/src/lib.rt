@@ -28,6 +28,3 @@ pub use laws::{
 };
 pub use level::{IDLE_ROW, Level};
 pub use text::{TextFault, TextFaultKind, one_text_a_frame};
-
-#[cfg(test)]
-mod tests;

@@ -95,6 +95,3 @@ impl Frame {
 pub fn one_text_a_frame()
     ensures { (f g : Parts) → IsFrame f → IsFrame g → frame_text f ≡ frame_text g → f ≡ g }
 {}
-
-#[cfg(test)]
-mod tests;

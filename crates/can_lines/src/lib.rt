@@ -26,8 +26,6 @@ mod check;
 mod driven;
 mod encode;
 mod laws;
-#[cfg(test)]
-mod tests;
 mod vector;
 mod verdict;
 

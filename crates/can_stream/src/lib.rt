@@ -36,8 +36,6 @@ mod outbox;
 pub mod pieces;
 mod sink;
 mod source;
-#[cfg(test)]
-mod tests;
 mod whole;
 
 pub use digits::{digit, write_digits};

@@ -17,8 +17,6 @@ mod difference;
 mod elements;
 mod standing;
 mod tally;
-#[cfg(test)]
-mod tests;
 mod transcript;
 mod verdict;
 

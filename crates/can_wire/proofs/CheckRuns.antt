@@ -1,13 +1,13 @@
 -- A check sequence that grows level by level, and what it is of levels that end with a check sequence.
-use Rattle.std.proofs.Common.{◌≡◌, ℕ, suc, zero, ◌+◌, ◌-◌, ◌/◌, ◌<◌, ◌≤◌, ◌^◌, List, [], ◌∷◌, ◌++◌, length, drop, refl, sym, ◌∙◌, ap, subst, arith, append_assoc, length-append}
+use Rattle.std.proofs.Common.{◌≡◌, ℕ, suc, zero, ◌+◌, ◌-◌, ◌<◌, ◌≤◌, ◌^◌, List, [], ◌∷◌, ◌++◌, length, drop, refl, sym, ◌∙◌, ap, subst, arith, length-append}
 use Rattle.std.proofs.lemmas.List.{append_cancel_right, drop_at, length-drop, take-append-drop}
 use Rattle.can_frame.specs.declared.level.Level.{Level}
 use Rattle.can_frame.specs.declared.level.Level.TheVariants.{Dominant, Recessive}
 use Rattle.can_frame.specs.Levels.{bits_of, number_from}
 use Rattle.can_wire.specs.Crc.{xor, lower_terms, reduced, IsCrc, crc_of}
 use Rattle.can_wire.specs.Layout.{check_of, head_of, level_at}
-use Rattle.can_wire.proofs.LayoutNumbers.{bits_of-number_from, number_from-whole}
-use Rattle.can_wire.proofs.LevelLemmas.{bits_of-further, bits_of-none}
+use Rattle.can_wire.proofs.LayoutNumbers.{number_from-whole}
+use Rattle.can_wire.proofs.LevelLemmas.{bits_of-none}
 use Rattle.can_wire.proofs.XorLemmas.{xor_comm, xor_assoc, xor_zeros, xor_zeros_longer, xor_self, xor_twice, length-xor}
 use Rattle.can_wire.proofs.DivisionLemmas.{none, length-reduced, length-crc_of, IsCrc-crc_of, IsCrc-only}
 use Rattle.can_wire.proofs.Register.{register, register-nil, register-append, register-crc_of}
@@ -15,15 +15,6 @@ use Rattle.can_wire.proofs.Register.{register, register-nil, register-append, re
 -- the check sequence of the same levels
 pub IsCrc-same : {a b c : List Level} → a ≡ b → IsCrc a c → IsCrc b c
 IsCrc-same {c = c} same is = subst (λ l. IsCrc l c) same is
-
--- a register of fifteen bits that holds the check sequence is the number of the check sequence that is computed
-pub check_number : (levels : List Level) (r : ℕ) → r < 2 ^ 15 → IsCrc levels (bits_of 15 r) → number_from 0 (crc_of levels) ≡ r
-check_number levels r small is = ap (number_from 0) (sym (IsCrc-only levels (bits_of 15 r) is)) ∙ number_from-whole 15 r small
-
-pub IsCrc-check_number : (levels : List Level) (r : ℕ) → number_from 0 (crc_of levels) ≡ r → IsCrc levels (bits_of 15 r)
-IsCrc-check_number levels r e =
-    let same : crc_of levels ≡ bits_of 15 r = sym (bits_of-number_from 15 0 (crc_of levels) (length-crc_of levels)) ∙ ap (bits_of 15) e in
-    subst (IsCrc levels) same (IsCrc-crc_of levels)
 
 -- where a register holds the check sequence of some levels, its step over more levels makes it that of them all
 pub IsCrc-on : (r next : ℕ) (levels more : List Level) → bits_of 15 next ≡ register (bits_of 15 r) more → IsCrc levels (bits_of 15 r)
@@ -33,18 +24,6 @@ IsCrc-on r next levels more step is =
     let next_is : bits_of 15 next ≡ crc_of (levels ++ more) =
     step ∙ ap (λ t. register t more) start ∙ sym (register-append (none 15) levels more) ∙ register-crc_of (levels ++ more) in
     subst (IsCrc (levels ++ more)) (sym next_is) (IsCrc-crc_of (levels ++ more))
-
--- the check sequence of levels and of those of a number but for the `left` lowest, and of the next w of them
-pub IsCrc-further : (levels : List Level) (count left w number r : ℕ) → w ≤ left → left ≤ count
-    → IsCrc ((levels ++ bits_of (count - left) (number / 2 ^ left)) ++ bits_of w (number / 2 ^ (left - w))) (bits_of 15 r)
-    → IsCrc (levels ++ bits_of (count - (left - w)) (number / 2 ^ (left - w))) (bits_of 15 r)
-IsCrc-further levels count left w number r some within is =
-    let y = number / 2 ^ (left - w) in
-    let size : count - (left - w) ≡ (count - left) + w = omega arith in
-    let back : (left - w) + w ≡ left = omega arith in
-    let parts : bits_of (count - (left - w)) y ≡ bits_of (count - left) (number / 2 ^ left) ++ bits_of w y =
-    ap (λ n. bits_of n y) size ∙ bits_of-further (count - left) w (left - w) number ∙ ap (λ m. bits_of (count - left) (number / 2 ^ m) ++ bits_of w y) back in
-    IsCrc-same (append_assoc levels (bits_of (count - left) (number / 2 ^ left)) (bits_of w y) ∙ ap (λ t. levels ++ t) (sym parts)) is
 
 -- The generator's constant term is 1, so a register that a dominant level clears was clear before it.
 cleared-level : (r : List Level) → length r ≡ 15 → register r (Dominant ∷ []) ≡ none 15 → r ≡ none 15
@@ -106,9 +85,9 @@ module _ (u : List Level) (long : 15 ≤ length u) where
       check-goes_on ∙ ap (λ t. register t (none 15)) (ap (xor a) (IsCrc-only (head_of u) (check_of u) is) ∙ xor_self a ∙ ap none (length-crc_of (head_of u))) ∙ nothing
 
   -- the same of the number of their check sequence
-  module _ (n : ℕ) (is : IsCrc u (bits_of 15 n)) where
+  module _ (n : ℕ) (is : bits_of 15 n ≡ crc_of u) where
     pub IsCrc-zero : n ≡ 0 → IsCrc (head_of u) (check_of u)
-    IsCrc-zero zero_is = IsCrc-cleared (sym (IsCrc-only u (bits_of 15 n) is) ∙ ap (bits_of 15) zero_is ∙ bits_of-none 15)
+    IsCrc-zero zero_is = IsCrc-cleared (sym is ∙ ap (bits_of 15) zero_is ∙ bits_of-none 15)
 
     pub zero-IsCrc : n < 2 ^ 15 → IsCrc (head_of u) (check_of u) → n ≡ 0
-    zero-IsCrc small agrees = sym (number_from-whole 15 n small) ∙ ap (number_from 0) (IsCrc-only u (bits_of 15 n) is ∙ IsCrc-clears agrees)
+    zero-IsCrc small agrees = sym (number_from-whole 15 n small) ∙ ap (number_from 0) (is ∙ IsCrc-clears agrees)

@@ -29,7 +29,7 @@ crc_of_byte-lt byte =
     let power : 2 ^ length (crc_of (bits_of 8 byte)) ≡ 2 ^ 15 = ap (λ n. 2 ^ n) (length-crc_of (bits_of 8 byte)) in
     omega (arith, number_from-lt (crc_of (bits_of 8 byte)), power)
 
-bits_of-crc_of_byte : (byte : ℕ) → bits_of 15 (crc_of_byte byte) ≡ crc_of (bits_of 8 byte)
+pub bits_of-crc_of_byte : (byte : ℕ) → bits_of 15 (crc_of_byte byte) ≡ crc_of (bits_of 8 byte)
 bits_of-crc_of_byte byte =
     let check = crc_of (bits_of 8 byte) in
     ap (λ n. bits_of n (number_from 0 check)) (sym (length-crc_of (bits_of 8 byte))) ∙ bits_of-number_from 0 check

@@ -3,7 +3,7 @@ use Rattle.std.proofs.Common.{◌≡◌, ℕ, suc, zero, ◌+◌, ◌-◌, ◌*�
 use Rattle.std.specs.Prelude.{bit_xor}
 use Rattle.std.specs.Int.{bit_at}
 use Rattle.std.proofs.lemmas.Nat.Bits.{bit_at_xor, bit_at-zero, bit_at_cat_low}
-use Rattle.std.proofs.lemmas.Nat.{shr_split, shl-shr, shr-shr}
+use Rattle.std.proofs.lemmas.Nat.{shr_split, shl-shr}
 use Rattle.can_frame.specs.declared.level.Level.{Level}
 use Rattle.can_frame.specs.declared.level.Level.TheVariants.{Dominant}
 use Rattle.can_frame.specs.Levels.{level_of, bits_of}
@@ -57,7 +57,3 @@ bits_of-pushed items (suc n) x h =
     let e : suc n - 1 ≡ n = omega arith in
     ap (λ k. (items ++ level_of (bit_at x k) ∷ []) ++ bits_of k x) e
     ∙ append_assoc items (level_of (bit_at x n) ∷ []) (bits_of n x) ∙ ap (λ t. items ++ t) (sym (bits_of-suc n x))
-
--- w levels more of a number, of which the upper ones that begin at place `left` have been taken
-pub bits_of-further : (k w left number : ℕ) → bits_of (k + w) (number / 2 ^ left) ≡ bits_of k (number / 2 ^ (left + w)) ++ bits_of w (number / 2 ^ left)
-bits_of-further k w left number = bits_of-append k w (number / 2 ^ left) ∙ ap (λ t. bits_of k t ++ bits_of w (number / 2 ^ left)) (shr-shr number left w)

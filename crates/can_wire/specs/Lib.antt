@@ -6,3 +6,4 @@ pub mod Heard
 pub mod Layout
 -- For proofs only
 pub mod StuffSteps
+pub mod PackedNumbers

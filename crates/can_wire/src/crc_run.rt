@@ -60,34 +60,6 @@ impl CrcRun {
         self.register = shift_in_octet(self.register, octet);
     }
 
-    /// Takes the eight levels of a byte.
-    #[inline]
-    fn push_byte(&mut self, byte: u8)
-        ensures range { self.new < 2 ^ 15 }
-        ensures check { (levels : List Bit) → IsCrc levels (bits_of 15 self.old) → IsCrc (levels ++ bits_of 8 byte) (bits_of 15 self.new) }
-    {
-        self.register = shift_in_byte(self.register, u16::from(byte));
-    }
-
-    /// Takes the levels of the `count` lowest bits of a number, the highest first.
-    pub(crate) fn push_number(&mut self, number: u32, count: usize)
-        requires { count ≤ 32 }
-        ensures range { self.new < 2 ^ 15 }
-        ensures check { (levels : List Bit) → IsCrc levels (bits_of 15 self.old) → IsCrc (levels ++ bits_of count number) (bits_of 15 self.new) }
-    {
-        // it tells that the register has fifteen bits, also where no level comes
-        let _ = self.value();
-        let mut left = count;
-        while left >= 8 {
-            left -= 8;
-            self.push_byte(((number >> left) % 256) as u8);
-        }
-        while left > 0 {
-            left -= 1;
-            self.push(Level::from_bool((number >> left) % 2 == 1));
-        }
-    }
-
     /// The CRC sequence, as a number of fifteen bits. Bit 14 is sent first.
     #[inline]
     pub fn value(&self) -> u16

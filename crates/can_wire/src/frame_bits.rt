@@ -25,9 +25,9 @@ pub trait FrameBits: Drop {
         ensures { levels self.new ≡ levels self.old ++ level ∷ [] };
 
     /// Appends the levels of the `count` lowest bits of a number that has no others, the highest first.
-    fn append(&mut self, number: u32, count: usize)
+    fn append(&mut self, number: u64, count: usize)
         requires room { length (levels self.old) + count ≤ 118 }
-        requires width { count ≤ 32 }
+        requires width { count ≤ 64 }
         requires small { number < 2 ^ count }
         ensures { levels self.new ≡ levels self.old ++ bits_of count number };
 
@@ -41,9 +41,9 @@ pub trait FrameBits: Drop {
         ensures { result ≡ level_at (levels self.now) place };
 
     /// The number that `count` levels from `place` on spell, the highest bit first.
-    fn number_at(&self, place: usize, count: usize) -> u32
+    fn number_at(&self, place: usize, count: usize) -> u64
         requires within { place + count ≤ length (levels self.now) }
-        requires width { count ≤ 32 }
+        requires width { count ≤ 64 }
         ensures { result ≡ number_from 0 (levels_at (levels self.now) place count) };
 
     /// Their CRC sequence, as a number of fifteen bits. Bit 14 is sent first.
@@ -55,4 +55,9 @@ pub trait FrameBits: Drop {
     fn check_agrees(&self) -> bool
         requires { 15 ≤ length (levels self.now) }
         ensures { IsTrue result ↔ IsCrc (head_of (levels self.now)) (check_of (levels self.now)) };
+
+    /// The same with one level more behind them.
+    fn agrees_with(&self, level: Level) -> bool
+        requires { 14 ≤ length (levels self.now) }
+        ensures { let more = levels self.now ++ level ∷ [] in IsTrue result ↔ IsCrc (head_of more) (check_of more) };
 }

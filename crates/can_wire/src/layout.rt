@@ -114,5 +114,5 @@ fn push_bits<B: FrameBits>(levels: &mut B, value: u32, count: usize)
     ensures levels { B.levels levels.new ≡ B.levels levels.old ++ bits_of count value }
     ensures len { length (B.levels levels.new) ≡ length (B.levels levels.old) + count }
 {
-    levels.append(value % (1 << count), count);
+    levels.append(u64::from(value % (1 << count)), count);
 }

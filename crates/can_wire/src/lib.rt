@@ -9,12 +9,13 @@
 //! |---|---|---|
 //! | `crc.rt` | [`crc15`], the CRC sequence | `specs/Crc.antt` |
 //! | `crc_run.rt` | [`CrcRun`], the CRC sequence of levels that come one by one | `specs/Crc.antt` |
+//! | `crc_places.rt` | the CRC sequence of a number's levels by its bytes | `specs/Crc.antt` |
 //! | `stuffing.rt` | [`stuff`], the stuff bits, and [`run_after`], the run that a level ends | `specs/Stuffing.antt` |
 //! | `stuff_steps.rt` | [`LONGEST_WIRE`], and levels as they are laid out with their stuff bits, eight in a step | `specs/StuffSteps.antt` |
 //! | `heard.rt` | [`Heard`], a frame as it is heard | `specs/Heard.antt` |
 //! | `frame_bits.rt` | [`FrameBits`], the unstuffed levels of a frame that have been heard or laid out | |
 //! | `plain_bits.rt` | [`PlainBits`], these levels one by one | |
-//! | `packed_bits.rt`, `two_words.rt` | [`PackedBits`], these levels in a register, with their CRC sequence so far | |
+//! | `packed_bits.rt`, `two_words.rt` | [`PackedBits`], these levels in a register | |
 //! | `layout.rt` | the head and the CRC sequence of what is heard, unstuffed | `specs/Heard.antt` |
 //! | `spelling.rt` | [`respell`], the levels that spell what is heard | `specs/Heard.antt` |
 //! | `encoding.rt` | [`encode`] and [`encode_into`], the levels that the sender of a frame drives | `specs/Wire.antt` |
@@ -29,6 +30,7 @@
 #![tactic(auto)]
 
 mod crc;
+mod crc_places;
 mod crc_run;
 mod encoding;
 mod frame_bits;

@@ -1,68 +1,77 @@
-use crate::crc_run::CrcRun;
+ghost use Rattle.std.specs.Prelude.{◌≡◌, ◌≤◌, ◌<◌, ◌^◌, length};
+ghost use Rattle.can_frame.specs.Levels.{bits_of};
+
+use crate::crc_places::crc_of_number;
 use crate::frame_bits::{FrameBits, START_OF_FRAME};
 use crate::two_words::TwoWords;
 use can_frame::Level;
 use std::marker::Model;
 
-/// The unstuffed levels of a frame in a register, the last of them its lowest bit, with their CRC
-/// sequence so far. Nothing is worked out anew from all of them. The register has no bits above them, so
-/// that equal levels have equal registers.
+/// The unstuffed levels of a frame in the highest bits of a register, the first of them its highest bit, so that each
+/// place has a bit of its own. Dominant bits stand behind them, so that equal levels have equal registers. Their CRC
+/// sequence is worked out when it is asked for.
 #[derive(Clone, Copy, Debug)]
 pub struct PackedBits {
     register: TwoWords,
-    check: CrcRun,
     count: u8,
 }
 
 impl Model for PackedBits {
-    ghost use Rattle.std.specs.Prelude.{◌≡◌, ◌≤◌, ◌<◌, ◌^◌, List, length};
+    ghost use Rattle.std.specs.Prelude.{◌≡◌, ◌≤◌, ◌<◌, ◌-◌, ◌^◌, ◌++◌, List, length, take, drop, replicate};
     ghost use Rattle.std.proofs.Common.{ap, ◌∙◌};
     ghost use Rattle.can_frame.specs.declared.level.Level.{Level};
+    ghost use Rattle.can_frame.specs.declared.level.Level.TheVariants.{Dominant};
     ghost use Rattle.can_frame.specs.Levels.{bits_of, number_from};
-    ghost use Rattle.can_frame.specs.LevelNumbers.{length-bits_of, number_from-whole};
-    ghost use Rattle.can_wire.specs.Crc.{crc_of};
+    ghost use Rattle.can_wire.specs.PackedNumbers.{length-highest, number_from-highest};
 
     ghost Value = { List Level };
 
-    ghost view = { λ a. bits_of a.count a.register };
+    ghost view = { λ a. take a.count (bits_of 128 a.register) };
 
-    ghost invariant = { λ a. (a.count ≤ 118) × (a.register < 2 ^ a.count) × (number_from 0 (crc_of (bits_of a.count a.register)) ≡ a.check) };
+    ghost invariant = { λ a. (1 ≤ a.count) × (a.count ≤ 118) × (a.register < 2 ^ 128) × (drop a.count (bits_of 128 a.register) ≡ replicate (128 - a.count) Dominant) };
 
-    ghost inverse = { λ u. record { register = number_from 0 u; check = number_from 0 (crc_of u); count = length u } };
+    ghost inverse = { λ u. record { register = number_from 0 (u ++ replicate (128 - length u) Dominant); count = length u } };
 
     ghost inverse_ok = { λ a is.
-        ap (λ r. record { register = r; check = number_from 0 (crc_of (bits_of a.count a.register)); count = length (bits_of a.count a.register) }) (number_from-whole a.count a.register is.1)
-        ∙ ap (λ c. record { register = a.register; check = c; count = length (bits_of a.count a.register) }) is.2
-        ∙ ap (λ n. record { register = a.register; check = a.check; count = n }) (length-bits_of a.count a.register) };
+        ap (λ n. record { register = number_from 0 (take a.count (bits_of 128 a.register) ++ replicate (128 - n) Dominant); count = n }) (length-highest a.count a.register is.1)
+        ∙ ap (λ r. record { register = r; count = a.count }) (number_from-highest a.count a.register is.2 is.3) };
+}
+
+impl PackedBits {
+    /// The number whose lowest bits the levels are, the first of them the highest.
+    #[inline]
+    fn number(&self) -> u128
+        ensures few { length self.now ≤ 118 }
+        ensures small { result < 2 ^ length self.now }
+        ensures levels { bits_of (length self.now) result ≡ self.now }
+    {
+        self.register.number() >> (128 - self.count)
+    }
 }
 
 impl FrameBits for PackedBits {
     ghost levels = { λ u. u };
 
     fn start() -> Self {
-        let mut check = CrcRun::new();
-        check.push(START_OF_FRAME);
+        let first = u128::from(START_OF_FRAME.is_recessive());
         PackedBits {
-            register: TwoWords::new(0),
-            check,
+            register: TwoWords::new(first << 127),
             count: 1,
         }
     }
 
     #[inline]
     fn push(&mut self, level: Level) {
-        let moved = self.register.number() << 1;
-        self.register = TwoWords::new(moved + u128::from(level.is_recessive()));
+        let added = u128::from(level.is_recessive()) << (127 - self.count);
+        self.register = TwoWords::new(self.register.number() + added);
         self.count += 1;
-        self.check.push(level);
     }
 
     #[inline]
-    fn append(&mut self, number: u32, count: usize) {
-        let moved = self.register.number() << count;
-        self.register = TwoWords::new(moved + u128::from(number));
+    fn append(&mut self, number: u64, count: usize) {
+        let added = u128::from(number) << (128 - usize::from(self.count) - count);
+        self.register = TwoWords::new(self.register.number() + added);
         self.count += count as u8;
-        self.check.push_number(number, count);
     }
 
     #[inline]
@@ -72,26 +81,30 @@ impl FrameBits for PackedBits {
 
     #[inline]
     fn level_at(&self, place: usize) -> Level {
-        let behind = usize::from(self.count) - 1 - place;
-        Level::from_bool((self.register.number() >> behind) % 2 == 1)
+        Level::from_bool((self.register.number() >> (127 - place)) % 2 == 1)
     }
 
     #[inline]
-    fn number_at(&self, place: usize, count: usize) -> u32 {
-        let behind = usize::from(self.count) - place - count;
-        let lowest = ((self.register.number() >> behind) % (1 << 64)) as u64;
-        (lowest & ((1 << count) - 1)) as u32
+    fn number_at(&self, place: usize, count: usize) -> u64 {
+        // by one place first, since the whole may be by 128
+        let upper = (self.register.number() >> 1) >> (127 - place - count);
+        (upper % (1 << count)) as u64
     }
 
     #[inline]
     fn check(&self) -> u16 {
-        self.check.value()
+        crc_of_number(self.number())
     }
 
     /// Levels that end with the CRC sequence of those before it have 0 as their own: the generator
     /// divides them as they stand.
     #[inline]
     fn check_agrees(&self) -> bool {
-        self.check.value() == 0
+        self.check() == 0
+    }
+
+    #[inline]
+    fn agrees_with(&self, level: Level) -> bool {
+        crc_of_number(2 * self.number() + u128::from(level.is_recessive())) == 0
     }
 }

@@ -48,7 +48,7 @@ impl FrameBits for PlainBits {
         self.levels.push(level);
     }
 
-    fn append(&mut self, number: u32, count: usize) {
+    fn append(&mut self, number: u64, count: usize) {
         push_bits(&mut self.levels, number, count as u32);
     }
 
@@ -60,7 +60,7 @@ impl FrameBits for PlainBits {
         self.levels[place]
     }
 
-    fn number_at(&self, place: usize, count: usize) -> u32 {
+    fn number_at(&self, place: usize, count: usize) -> u64 {
         number(&self.levels[place..place + count])
     }
 
@@ -70,26 +70,31 @@ impl FrameBits for PlainBits {
 
     fn check_agrees(&self) -> bool {
         let (head, check) = self.levels.split_at(self.levels.len() - 15);
-        number(check) == u32::from(crc15(head))
+        number(check) == u64::from(crc15(head))
+    }
+
+    fn agrees_with(&self, level: Level) -> bool {
+        let (head, check) = self.levels.split_at(self.levels.len() - 14);
+        2 * number(check) + u64::from(level.is_recessive()) == u64::from(crc15(head))
     }
 }
 
 /// The number that the levels spell, the highest bit first.
-fn number(levels: &[Level]) -> u32
-    requires { length levels.now ≤ 32 }
+fn number(levels: &[Level]) -> u64
+    requires { length levels.now ≤ 64 }
     ensures { result ≡ number_from 0 levels.now }
 {
     let mut value = 0;
     for level in levels {
-        value = 2 * value + u32::from(level.is_recessive());
+        value = 2 * value + u64::from(level.is_recessive());
     }
     value
 }
 
 /// Appends the lowest bits of a number, the highest first.
-fn push_bits(levels: &mut Unstuffed, value: u32, count: u32)
+fn push_bits(levels: &mut Unstuffed, value: u64, count: u32)
     requires room { array_vec_len levels.old + count ≤ 118 }
-    requires width { count ≤ 32 }
+    requires width { count ≤ 64 }
     ensures items { levels.new.items ≡ levels.old.items ++ bits_of count value }
     ensures len { array_vec_len levels.new ≡ array_vec_len levels.old + count }
 {
@@ -99,8 +104,8 @@ fn push_bits(levels: &mut Unstuffed, value: u32, count: u32)
 }
 
 /// One bit of a number. Bit 0 is the lowest.
-fn bit(value: u32, place: u32) -> Level
-    requires { place < 32 }
+fn bit(value: u64, place: u32) -> Level
+    requires { place < 64 }
     ensures { result ≡ level_of (value / 2 ^ place % 2) }
 {
     Level::from_bool((value >> place) & 1 == 1)

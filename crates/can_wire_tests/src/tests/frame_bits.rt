@@ -19,7 +19,7 @@ const KNOWN_LEVELS: [&str; 7] = [
 ];
 
 /// The first eleven levels of the identifier of each known frame, as a number.
-const BASES: [u32; 7] = [0x000, 0x001, 0x009, 0x000, 0x123, 0x123, 0x123];
+const BASES: [u64; 7] = [0x000, 0x001, 0x009, 0x000, 0x123, 0x123, 0x123];
 
 /// The unstuffed levels, of which the first is the start of frame, in this form.
 fn held<B: FrameBits>(levels: &[Level]) -> B {
@@ -33,8 +33,8 @@ fn held<B: FrameBits>(levels: &[Level]) -> B {
 }
 
 /// The number of so many levels from a place on, where there are so many.
-fn number_at<B: FrameBits>(bits: &B, place: usize, count: usize) -> Option<u32> {
-    if count <= 32 && place <= bits.len() && count <= bits.len() - place {
+fn number_at<B: FrameBits>(bits: &B, place: usize, count: usize) -> Option<u64> {
+    if count <= 64 && place <= bits.len() && count <= bits.len() - place {
         Some(bits.number_at(place, count))
     } else {
         None
@@ -50,12 +50,12 @@ fn agrees<B: FrameBits>(bits: &B) -> bool {
 fn held_in_runs<B: FrameBits>(levels: &[Level], most: usize) -> B {
     let mut bits = B::start();
     let behind = levels.split_first().map_or(&[][..], |(_, behind)| behind);
-    for run in behind.chunks(most.clamp(1, 31)) {
-        let mut number = 0u32;
+    for run in behind.chunks(most.clamp(1, 63)) {
+        let mut number = 0u64;
         for level in run {
-            number = number.wrapping_mul(2) | u32::from(level.is_recessive());
+            number = number.wrapping_mul(2) | u64::from(level.is_recessive());
         }
-        if run.len() < 32 && bits.len() <= 118 && run.len() <= 118 - bits.len() {
+        if run.len() < 64 && bits.len() <= 118 && run.len() <= 118 - bits.len() {
             bits.append(number % (1 << run.len()), run.len());
         }
     }
@@ -75,7 +75,7 @@ fn tells_known_levels<B: FrameBits>(rt: &impl Abort) {
         assert_eq!(rt; number_at(&bits, 1, 11), Some(*base));
         assert_eq!(rt;
             number_at(&bits, text.len().saturating_sub(15), 15),
-            Some(u32::from(*check))
+            Some(u64::from(*check))
         );
         assert!(rt; agrees(&bits));
         let (head, _) = levels.as_slice().split_at(levels.len().saturating_sub(15));
@@ -124,6 +124,29 @@ fn tells<B: FrameBits>(bits: &B, levels: &[Level]) -> bool {
     same
 }
 
+/// Whether they end with the check sequence of those before it once this level stands behind them.
+fn agrees_with<B: FrameBits>(bits: &B, level: Level) -> bool {
+    bits.len() >= 14 && bits.agrees_with(level)
+}
+
+/// The known lists agree with their last level and with no other, and so do fifteen dominant levels, whose head is empty.
+fn tells_last_levels<B: FrameBits>(rt: &impl Abort) {
+    for text in KNOWN_LEVELS.iter().chain(&["000000000000000"]) {
+        let levels = levels_of(*text);
+        if let Some((last, before)) = levels.as_slice().split_last() {
+            let bits: B = held(before);
+            assert!(rt; agrees_with(&bits, *last));
+            assert!(rt; !agrees_with(&bits, last.opposite()));
+        }
+    }
+}
+
+#[test]
+fn last_levels(rt: HostRuntime) {
+    tells_last_levels::<PlainBits>(&rt);
+    tells_last_levels::<PackedBits>(&rt);
+}
+
 /// The two longest frames have 118 levels each.
 fn holds_longest_frames<B: FrameBits>(rt: &impl Abort) -> Result<(), Fail> {
     let lowest = Id::extended(0).ok_or("an identifier of 29 bits")?;
@@ -136,7 +159,7 @@ fn holds_longest_frames<B: FrameBits>(rt: &impl Abort) -> Result<(), Fail> {
         assert_eq!(rt; levels.as_slice().len(), 118);
         let one_by_one: B = held(levels.as_slice());
         assert!(rt; tells(&one_by_one, levels.as_slice()));
-        for most in [1, 7, 20] {
+        for most in [1, 20, 63] {
             let bits: B = held_in_runs(levels.as_slice(), most);
             assert!(rt; tells(&bits, levels.as_slice()));
             assert!(rt; agrees(&bits));

@@ -10,8 +10,14 @@ unwrap-requires g c =
     let joined = identifier_joined u c.number_at-base.result c.number_at-extension.result c.number_at-base.ensures c.number_at-extension.ensures in
     true_from_ne_false (is_some c.extended.result) (λ none. omega (arith, c.extended.ensures.none.0 none, joined, identifier_joined-lt u))
 
+pub overflow_cast-extension : goal.overflow_cast-extension
+overflow_cast-extension g c = omega (arith, levels_at-lt (g.B.FrameBits.levels c.args.bits.now) 14 18, c.number_at-extension.ensures)
+
 pub overflow_cast-base : goal.overflow_cast-base
 overflow_cast-base g c = omega (arith, levels_at-lt (g.B.FrameBits.levels c.args.bits.now) 1 11, c.number_at-base.ensures)
+
+pub overflow_cast-base-else-is_extended : goal.overflow_cast-base-else-is_extended
+overflow_cast-base-else-is_extended g c = omega (arith, levels_at-lt (g.B.FrameBits.levels c.args.bits.now) 1 11, c.number_at-base.ensures)
 
 pub unwrap-requires-else-is_extended : goal.unwrap-requires-else-is_extended
 unwrap-requires-else-is_extended g c =

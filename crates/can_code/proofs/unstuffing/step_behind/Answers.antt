@@ -20,7 +20,7 @@ overflow_add-result c =
     let r = c.args.now in
     let found = in_table-some (steps_on (begun (last_of r.row) (run_of r.row)) (levels_up c.args.count c.args.levels)) c.in-Some.step c.in-Some.ensures in
     let h : StepBounds found.0 8 = taken-bounds (last_of r.row) (run_of r.row) 8 c.args.count c.args.levels found.0 (omega arith) (omega arith) c.requires.few found.1 in
-    rw (c.from.ensures, found.2) (omega (arith, moved-fits 32 found.0.len r.number found.0.number (omega (arith, h.few)) h.small))
+    rw (c.from.ensures, found.2) (omega (arith, moved-fits 64 found.0.len r.number found.0.number (omega (arith, h.few)) h.small))
 
 pub returns-clause-row : goal.returns-clause-row
 returns-clause-row c =

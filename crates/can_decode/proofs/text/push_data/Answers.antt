@@ -1,4 +1,4 @@
-use Rattle.std.proofs.Common.{◌++◌, get_or, take, ap, ◌∙◌, sym, arith, append_assoc}
+use Rattle.std.proofs.Common.{ℕ, ◌++◌, length, get_or, take, ap, ◌∙◌, sym, arith, append_assoc, length-append}
 use Rattle.std.proofs.lemmas.List.{append-nil, take_all}
 use Rattle.hex.specs.Hex.{encode_lower}
 use Rattle.can_frame.specs.Text.{hex_digits}
@@ -20,10 +20,10 @@ loop-index-preserved c =
     let done = encode_lower (take index bytes) in
     record {
       within = omega arith;
-      text = c.push_pair.ensures.text ∙ ap (λ b. c.loop-index.line.items ++ hex_digits 2 b) c.from.ensures
+      text = c.push.ensures ∙ ap (λ t. c.loop-index.line.items ++ t) (c.pair.ensures ∙ ap (hex_digits 2) c.from.ensures)
           ∙ ap (λ t. t ++ hex_digits 2 (get_or bytes index 0)) c.loop-index.invariant.text ∙ append_assoc c.args.line.now.items done (hex_digits 2 (get_or bytes index 0))
           ∙ ap (λ t. c.args.line.now.items ++ t) (sym (encode_lower-more bytes index c.loop-index-test.true (omega (arith, c.type_inv.bytes index))));
-      size = omega (arith, c.push_pair.ensures.bound, c.loop-index.invariant.size);
+      size = omega (arith, ap length c.push.ensures, length-append {A = ℕ});
     }
 
 pub returns-clause-text : goal.returns-clause-text

@@ -1,4 +1,4 @@
-use Rattle.std.proofs.Common.{◌++◌, ◌∷◌, [], ◌∙◌, length, drop, ap, arith}
+use Rattle.std.proofs.Common.{◌++◌, ◌∷◌, [], ◌∙◌, drop, ap, arith}
 use Rattle.std.proofs.lemmas.List.{length-append, length-take, take_more_set, take-append-le}
 use Rattle.can_lines.specs.Coded.{coded_line}
 use Rattle.can_lines.proofs.encode.write_line.Goals as goal

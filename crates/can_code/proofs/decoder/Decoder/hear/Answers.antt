@@ -1,6 +1,6 @@
-use Rattle.std.proofs.Common.{◌≡◌, ◌≢◌, ◌<◌, ◌+◌, [], ◌∷◌, ◌++◌, take, not, false, refl, sym, ◌∙◌, ap, subst, arith, Result, Ok, Err}
+use Rattle.std.proofs.Common.{◌≡◌, ◌≢◌, ◌<◌, ◌+◌, [], ◌∷◌, ◌++◌, take, not, refl, sym, ◌∙◌, ap, subst, arith}
 use Rattle.std.proofs.lemmas.Bool.{false_from_ne_true, both_ways, not-true, not-false}
-use Rattle.std.specs.Result.{is_err, OnOk}
+use Rattle.std.specs.Result.{is_err}
 use Rattle.can_frame.specs.declared.level.Level.TheVariants.{Recessive}
 use Rattle.can_frame.specs.Levels.{is_recessive}
 use Rattle.can_code.specs.declared.front.Place.TheVariants.{CrcDelimiter}
@@ -9,15 +9,11 @@ use Rattle.can_wire.specs.Wire.{tail}
 use Rattle.can_wire.specs.Heard.{ack_slot, Spells}
 use Rattle.can_wire.specs.Layout.{check_of, head_of, heard_of}
 use Rattle.can_code.specs.Front.{next_place, is_stuff_error, heard_level}
+use Rattle.can_code.proofs.HeardLevels.{at_ok}
 use Rattle.can_code.proofs.TailLemmas.{ack_slot_heard, recessive_heard, dominant_breaks}
 use Rattle.can_code.proofs.DecoderLemmas.{is_ended, is_going, HasHeard-stuff, HasHeard-crc, HasHeard-level, HasHeard-form, HasHeard-behind, HasHeard-last}
 use Rattle.can_code.proofs.decoder.Decoder.hear.Goals as goal
 use Rattle.can_code.proofs.decoder.Decoder.hear.Goals.{else-eq-via-then-eq+else-not-check_agrees, else-eq-via-else-eq, in-1, in_default}
-
--- what holds of an `Ok`, where it is one
-at_ok : {T E P : Type 0} (r : Result T E) → is_err r ≡ false → OnOk r P → P
-at_ok (Ok x) e p = p
-at_ok (Err x) e p = cc
 
 pub returns-then-is_err-clause-fault : goal.returns-then-is_err-clause-fault
 returns-then-is_err-clause-fault g c =

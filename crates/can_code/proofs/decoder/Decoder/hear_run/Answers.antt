@@ -1,13 +1,16 @@
-use Rattle.std.proofs.Common.{take, subst, sym, ap, ◌∙◌}
-use Rattle.can_code.specs.Digits.{HearsDigits}
-use Rattle.can_code.specs.Front.{next_place}
-use Rattle.can_code.proofs.DecoderLemmas.{is_going}
-use Rattle.can_code.proofs.UnstuffingLemmas.{DecodesDigits-part}
+use Rattle.std.proofs.Common.{arith, length-drop}
+use Rattle.std.proofs.lemmas.List.{take_rest}
+use Rattle.can_code.proofs.UnstuffingLemmas.{DecodesDigits-join}
 use Rattle.can_code.proofs.decoder.Decoder.hear_run.Goals as goal
 
-pub returns-else-eq-clause-heard : goal.returns-else-eq-clause-heard
-returns-else-eq-clause-heard g c =
-    let front_is = ap (λ d. d.front) c.self.view_is in
-    let going = is_going c.next_place.result (sym c.eq.ensures ∙ c.if-eq.false) in
-    DecodesDigits-part c.args.self.now _ (take c.hear_run.result c.args.digits.now) (λ e. going (c.next_place.ensures.place ∙ ap next_place front_is ∙ e)) c.hear_run.ensures.going (ap (λ d. d.behind) c.self.view_is)
-    (subst (λ f. HearsDigits f c.hear_run.new.self (take c.hear_run.result c.args.digits.now)) front_is c.hear_run.ensures.heard)
+pub returns-clause-within : goal.returns-clause-within
+returns-clause-within g c =
+    let digits = c.args.digits.now in
+    let front = c.hear_front-front.result in
+    omega (arith, rw (take_rest digits front) at c.hear_behind.ensures.within, length-drop front digits, c.hear_front-front.ensures.within)
+
+pub returns-clause-heard : goal.returns-clause-heard
+returns-clause-heard g c =
+    let digits = c.args.digits.now in
+    let front = c.hear_front-front.result in
+    DecodesDigits-join c.args.self.now c.hear_front-front.new.self c.hear_behind.new.self digits front c.hear_behind.result c.hear_front-front.ensures.heard (rw (take_rest digits front) at c.hear_behind.ensures.heard)

@@ -1,41 +1,39 @@
-use Rattle.std.proofs.Common.{◌≡◌, ◌+◌, ◌*◌, ◌%◌, ◌^◌, ◌<◌, ◌≤◌, length, ap, subst, sym, ◌∙◌, ◌++◌, ◌∷◌, [], arith}
+use Rattle.std.proofs.Common.{◌≡◌, ◌+◌, ◌-◌, ◌*◌, ◌%◌, ◌^◌, ◌<◌, ◌≤◌, ◌++◌, ◌∷◌, [], Bool, ℕ, length, take, drop, replicate, refl, ap, ◌∙◌, arith}
 use mir.Val.{bool_byte}
+use Rattle.can_frame.specs.declared.level.Level.{Level}
+use Rattle.can_frame.specs.declared.level.Level.TheVariants.{Dominant}
 use Rattle.can_frame.specs.Levels.{bits_of, is_recessive}
-use Rattle.can_wire.proofs.CheckRuns.{IsCrc-same, IsCrc-check_number, check_number}
-use Rattle.can_wire.proofs.LevelLemmas.{length-bits_of}
-use Rattle.can_wire.proofs.PackedLemmas.{bits_of-push, joined-small}
-use Rattle.can_wire.proofs.RegisterWord.{level_byte-lt}
+use Rattle.can_wire.specs.PackedNumbers.{length-highest}
+use Rattle.can_wire.proofs.PackedLemmas.{IsPut, is_put}
+use Rattle.can_wire.proofs.RegisterWord.{level_bits, level_byte-lt}
 use Rattle.can_wire.proofs.packed_bits.PackedBitsFrameBits.push.Goals as goal
-use Rattle.can_wire.proofs.packed_bits.PackedBitsFrameBits.push.Goals.{After-push}
 
-within : (c : After-push) → c.self.inside.count + 1 ≤ 118
-within c = omega (arith, c.requires, length-bits_of c.self.inside.count c.self.inside.register, ap length c.self.view_is)
+-- the level is put behind those that are there
+module _ (n x : ℕ) (level : Level) (few : n ≤ 118) (small : x < 2 ^ 128) (behind : drop n (bits_of 128 x) ≡ replicate (128 - n) Dominant) where
+  put : (z read bit : ℕ) (recessive : Bool) → z ≡ read + bit * 2 ^ (127 - n) % 2 ^ 128 → read ≡ x → bit ≡ bool_byte recessive → recessive ≡ is_recessive level
+      → IsPut n 1 x (bool_byte (is_recessive level)) z
+  put z read bit recessive is of_read of_bit of_level =
+      let shift : 127 - n ≡ 128 - n - 1 = omega arith in
+      is_put n 1 x (bool_byte (is_recessive level)) (omega (arith, few)) small behind (level_byte-lt level) z read bit (127 - n) is of_read (of_bit ∙ ap bool_byte of_level) shift
 
--- the register has moved up by one place, and the level stands in the lowest
-moved : (c : After-push) → c.new-self-inside.result ≡ c.self.inside.register * 2 % 2 ^ 128 + bool_byte (is_recessive c.args.level)
-moved c =
-    let x = c.self.inside.register in
-    c.new-self-inside.ensures ∙ ap (λ y. y * 2 % 2 ^ 128 + c.from.result) c.number-moved.ensures
-    ∙ ap (λ b. x * 2 % 2 ^ 128 + b) (c.from.ensures ∙ ap bool_byte c.is_recessive.ensures)
-
-pushed : (c : After-push) → bits_of (c.self.inside.count + 1) c.new-self-inside.result ≡ bits_of c.self.inside.count c.self.inside.register ++ c.args.level ∷ []
-pushed c =
+pub overflow_add-number : goal.overflow_add-number
+overflow_add-number c =
     let x = c.self.inside.register in
     let n = c.self.inside.count in
-    ap (bits_of (n + 1)) (moved c) ∙ bits_of-push n x c.args.level (omega (arith, within c))
-
-small : (c : After-push) → c.new-self-inside.result < 2 ^ (c.self.inside.count + 1)
-small c =
-    let x = c.self.inside.register in
-    let n = c.self.inside.count in
-    subst (λ y. y < 2 ^ (n + 1)) (sym (moved c))
-    (joined-small 128 n 1 x (bool_byte (is_recessive c.args.level)) c.self.invariant.1 (level_byte-lt c.args.level) (omega (arith, within c)))
+    let sum = c.number.result + c.from.result * 2 ^ (127 - n) % 2 ^ 128 in
+    let is = put n x c.args.level c.self.invariant.1 c.self.invariant.2 c.self.invariant.3 sum _ _ _ refl c.number.ensures c.from.ensures c.is_recessive.ensures in
+    omega (arith, is.small)
 
 pub invariant_of-self : goal.invariant_of-self
 invariant_of-self c =
-    let u = bits_of c.self.inside.count c.self.inside.register in
-    let check = c.push.ensures.check u (IsCrc-check_number u c.self.inside.check c.self.invariant.2) in
-    (within c, small c, check_number _ c.push.new.self c.push.ensures.range (IsCrc-same (sym (pushed c)) check))
+    let x = c.self.inside.register in
+    let n = c.self.inside.count in
+    let is = put n x c.args.level c.self.invariant.1 c.self.invariant.2 c.self.invariant.3 _ _ _ _ c.new-self-inside.ensures c.number.ensures c.from.ensures c.is_recessive.ensures in
+    (omega arith, omega (arith, c.requires, length-highest n x c.self.invariant.1, ap length c.self.view_is), is.small, is.behind)
 
 pub returns : goal.returns
-returns c = pushed c ∙ ap (λ u. u ++ c.args.level ∷ []) c.self.view_is
+returns c =
+    let x = c.self.inside.register in
+    let n = c.self.inside.count in
+    let is = put n x c.args.level c.self.invariant.1 c.self.invariant.2 c.self.invariant.3 _ _ _ _ c.new-self-inside.ensures c.number.ensures c.from.ensures c.is_recessive.ensures in
+    is.levels ∙ ap (λ t. take n (bits_of 128 x) ++ t) (level_bits c.args.level) ∙ ap (λ u. u ++ c.args.level ∷ []) c.self.view_is
