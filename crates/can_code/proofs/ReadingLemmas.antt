@@ -1,19 +1,17 @@
 -- What is read at the places of unstuffed levels.
-use Rattle.std.proofs.Common.{◌≡◌, ℕ, suc, zero, ◌+◌, ◌-◌, ◌*◌, ◌/◌, ◌%◌, ◌^◌, ◌<◌, ◌≤◌, Bool, true, false, List, [], ◌∷◌, ◌++◌, length, drop, take, sym, ◌∙◌, ap, refl, arith, bit_or, length-append}
+use Rattle.std.proofs.Common.{◌≡◌, ℕ, suc, zero, ◌+◌, ◌-◌, ◌*◌, ◌/◌, ◌%◌, ◌^◌, ◌<◌, ◌≤◌, Bool, true, false, List, [], ◌∷◌, ◌++◌, length, drop, sym, ◌∙◌, ap, refl, arith, bit_or, length-append}
 use Rattle.std.specs.Int.{byte_at, bytes_high_first, to_be_bytes, w64}
 use Rattle.std.proofs.Math.Seq.{drop-nil}
 use Rattle.std.proofs.lemmas.Bool.{cond-true}
-use Rattle.std.proofs.lemmas.List.{take_all}
 use Rattle.std.proofs.lemmas.Nat.{mod_low, or_shifted, shl_whole}
 use Rattle.can_frame.specs.declared.level.Level.{Level}
 use Rattle.can_frame.specs.declared.level.Level.TheVariants.{Dominant}
 use Rattle.can_frame.specs.Levels.{number_from}
-use Rattle.can_frame.specs.Parts.{byte_count}
 use Rattle.can_frame.specs.Ident.{Ident}
-use Rattle.can_wire.specs.Layout.{filled, levels_at, extended_of, remote_of, dlc_of, data_place, frame_len, IsComplete, identifier_of, bytes_from}
-use Rattle.can_code.specs.Reading.{HasData, bytes_of}
+use Rattle.can_frame.proofs.DataNumber.{last_bytes}
+use Rattle.can_wire.specs.Layout.{filled, levels_at, extended_of, data_place, frame_len, IsComplete, identifier_of, bytes_from}
+use Rattle.can_code.specs.Reading.{HasData}
 use Rattle.can_wire.proofs.LayoutNumbers.{number_from-lt, number_from-append, number_from-split, number_from-upper}
-use Rattle.can_wire.proofs.LayoutBytes.{length-bytes_from}
 use Rattle.can_wire.proofs.LayoutPlaces.{length-filled}
 use Rattle.can_wire.proofs.PlaceTable.{byte_at-place}
 
@@ -80,27 +78,6 @@ bytes-number_from (suc k) h u =
     let first : byte_at k n ≡ number_from 0 a = byte_at-place k n ∙ ap (λ m. m % 256) (upper ∙ byte) ∙ mod_low h 8 (number_from 0 a) (levels_at-lt u 0 8) in
     ap (λ x. x ∷ bytes_high_first k n) first ∙ ap (λ m. number_from 0 a ∷ bytes_high_first k m) parts ∙ ap (λ t. number_from 0 a ∷ t) (bytes-number_from k (number_from h a) (drop 8 u))
 
--- and they are the last of eight where their number has no more
-last_bytes : (k n : ℕ) → k ≤ 8 → drop (8 - k) (bytes_high_first 8 n) ≡ bytes_high_first k n
-last_bytes zero n h = refl
-last_bytes (suc zero) n h = refl
-last_bytes (suc (suc zero)) n h = refl
-last_bytes (suc (suc (suc zero))) n h = refl
-last_bytes (suc (suc (suc (suc zero)))) n h = refl
-last_bytes (suc (suc (suc (suc (suc zero))))) n h = refl
-last_bytes (suc (suc (suc (suc (suc (suc zero)))))) n h = refl
-last_bytes (suc (suc (suc (suc (suc (suc (suc zero))))))) n h = refl
-last_bytes (suc (suc (suc (suc (suc (suc (suc (suc zero)))))))) n h = refl
-last_bytes (suc (suc (suc (suc (suc (suc (suc (suc (suc k))))))))) n h = absurd (omega arith)
-
 -- the bytes from a place on, read as one number
 pub bytes_read : (u : List Level) (p k n : ℕ) → k ≤ 8 → n ≡ number_from 0 (levels_at u p (8 * k)) → drop (8 - k) (to_be_bytes w64 n) ≡ bytes_from k (drop p u)
 bytes_read u p k n few is = last_bytes k n few ∙ ap (bytes_high_first k) is ∙ bytes-number_from k 0 (drop p u)
-
--- the data bytes, as the part of eight bytes that ends with them
-pub data_part : (u : List Level) (octets : List ℕ) (count : ℕ) → count ≤ 8 → count ≡ byte_count (remote_of u) (dlc_of u) → drop (8 - byte_count (remote_of u) (dlc_of u)) octets ≡ bytes_of u
-    → take (8 - (8 - count)) (drop (8 - count) octets) ≡ bytes_of u
-data_part u octets count few is behind =
-    let size : length (bytes_of u) ≡ count = length-bytes_from (byte_count (remote_of u) (dlc_of u)) (drop (data_place (extended_of u)) u) ∙ sym is in
-    let all : length (bytes_of u) ≤ 8 - (8 - count) = omega arith in
-    ap (λ k. take (8 - (8 - count)) (drop (8 - k) octets)) is ∙ ap (take (8 - (8 - count))) behind ∙ take_all (8 - (8 - count)) (bytes_of u) all

@@ -17,7 +17,7 @@ use Rattle.can_wire.specs.Stuffing.{run_after}
 use Rattle.can_wire.specs.Layout.{frame_len}
 use Rattle.can_code.specs.Front.{FrontParts, next_place, heard_level, hear_at, heard_levels}
 use Rattle.can_code.specs.Digits.{BeginWith, HearsDigits, bit_of, digit_of, levels_up}
-use Rattle.can_code.specs.Steps.{Step, begun, step_on, steps_on}
+use Rattle.can_code.specs.Steps.{RunParts, Step, begun, step_on, steps_on}
 use Rattle.can_code.specs.Unstuffing.{HasRoom, Unstuffs}
 use Rattle.can_code.specs.declared.unstuffing.UnstuffedRun.{UnstuffedRun}
 use Rattle.can_wire.proofs.LevelLemmas.{bits_of-zero, length-bits_of}
@@ -250,23 +250,23 @@ HearsDigits-join f g h digits n k so_far more = HearsDigits-append f g h digits 
 
 -- ---- a step of a run
 
-pub Unstuffs-begin : (digits : List ℕ) (room : ℕ) (last : Level) (run : ℕ) (r : UnstuffedRun) → 1 ≤ run → run ≤ 5 → r ≡ record { number = 0; len = 0; last = last; run = run; taken = 0 }
-    → Unstuffs digits room last run r
-Unstuffs-begin digits room last run r some short begins = subst (Unstuffs digits room last run) (sym begins)
+pub Unstuffs-begin : (digits : List ℕ) (room : ℕ) (before : RunParts) (r : UnstuffedRun) → 1 ≤ before.run → before.run ≤ 5 → r ≡ record { number = 0; len = 0; behind = before; taken = 0 }
+    → Unstuffs digits room before r
+Unstuffs-begin digits room before r some short begins = subst (Unstuffs digits room before) (sym begins)
     (record {
       within = omega arith;
       few = omega arith;
       small = omega arith;
       some = some;
       short = short;
-      heard = λ u has. HearsDigits-begin u last run digits;
+      heard = λ u has. HearsDigits-begin u before.last before.run digits;
     })
 
-module _ (digits : List ℕ) (room : ℕ) (last : Level) (run : ℕ) (r : UnstuffedRun) (levels count : ℕ) (s : Step) (so_far : Unstuffs digits room last run r) where
-  pub Unstuffs-step : room ≤ 64 → BeginWith (drop r.taken digits) count levels → r.len + count ≤ room → steps_on (begun r.last r.run) (levels_up count levels) ≡ Some s
-      → Unstuffs digits room last run (record { number = r.number * 2 ^ s.len % 2 ^ 64 + s.number; len = r.len + s.len; last = s.last; run = s.run; taken = r.taken + count })
+module _ (digits : List ℕ) (room : ℕ) (before : RunParts) (r : UnstuffedRun) (levels count : ℕ) (s : Step) (so_far : Unstuffs digits room before r) where
+  pub Unstuffs-step : room ≤ 64 → BeginWith (drop r.taken digits) count levels → r.len + count ≤ room → steps_on (begun r.behind.last r.behind.run) (levels_up count levels) ≡ Some s
+      → Unstuffs digits room before (record { number = r.number * 2 ^ s.len % 2 ^ 64 + s.number; len = r.len + s.len; behind = record { last = s.last; run = s.run }; taken = r.taken + count })
   Unstuffs-step wide begins_with fits taken =
-      let h : StepBounds s count = taken-bounds r.last r.run count count levels s so_far.some so_far.short (omega arith) taken in
+      let h : StepBounds s count = taken-bounds r.behind.last r.behind.run count count levels s so_far.some so_far.short (omega arith) taken in
       record {
         within = omega (arith, begins_with.0, length-drop r.taken digits, so_far.within);
         few = omega (arith, fits, h.few);
@@ -281,7 +281,7 @@ module _ (digits : List ℕ) (room : ℕ) (last : Level) (run : ℕ) (r : Unstuf
             let begins : v ++ bits_of 0 0 ≡ v = ap (λ l. v ++ l) (bits_of-zero 0) ∙ append-nil v in
             let ends : v ++ bits_of s.len s.number ≡ u ++ bits_of (r.len + s.len) (r.number * 2 ^ s.len % 2 ^ 64 + s.number) =
             append_assoc u (bits_of r.len r.number) (bits_of s.len s.number) ∙ ap (λ l. u ++ l) (sym (bits_of-moved 64 r.len s.len r.number s.number (omega (arith, fits, h.few)) h.small)) in
-            HearsDigits-append _ (record { unstuffed = v; last = r.last; run = r.run }) _ digits r.taken count (levels_up count levels) (so_far.heard u has) begins_with.1
-            (ap (λ l. heard_levels (record { unstuffed = l; last = r.last; run = r.run }) (levels_up count levels)) (sym begins)
-            ∙ steps_on-heard (levels_up count levels) v (begun r.last r.run) s left taken ∙ ap (λ l. Some (record { unstuffed = l; last = s.last; run = s.run })) ends);
+            HearsDigits-append _ (record { unstuffed = v; last = r.behind.last; run = r.behind.run }) _ digits r.taken count (levels_up count levels) (so_far.heard u has) begins_with.1
+            (ap (λ l. heard_levels (record { unstuffed = l; last = r.behind.last; run = r.behind.run }) (levels_up count levels)) (sym begins)
+            ∙ steps_on-heard (levels_up count levels) v (begun r.behind.last r.behind.run) s left taken ∙ ap (λ l. Some (record { unstuffed = l; last = s.last; run = s.run })) ends);
       }

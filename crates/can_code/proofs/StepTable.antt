@@ -21,7 +21,7 @@ levels_below zero i = []
 levels_below (suc n) i = cond (ltb i 2) [] (level_of (i % 2) ∷ levels_below n (i / 2))
 
 abbrev entry_at : ℕ → ℕ
-entry_at place = entry_of (steps_on (begun (last_of (place / 512)) (run_of (place / 512))) (levels_below 8 (place % 512)))
+entry_at place = entry_of (steps_on (begun (last_of (place % 10)) (run_of (place % 10))) (levels_below 8 (place / 10)))
 
 -- the table, by computing each of its entries
 table_is : STEPS ≡ map entry_at (range_with_len 0 5120)
@@ -50,18 +50,18 @@ levels_below-up (suc n) (suc k) m h =
     ∙ ap (λ t. level_of (m % 2) ∷ t) (levels_below-up n k (m / 2) (omega arith))
 
 -- what a row of the table has at the place of these levels
-pub entry_is : (row m k place : ℕ) → row < 10 → k ≤ 8 → place ≡ 512 * row + (2 ^ k + m % 2 ^ k)
+pub entry_is : (row m k place : ℕ) → row < 10 → k ≤ 8 → place ≡ 10 * (2 ^ k + m % 2 ^ k) + row
     → (place < 5120) × (get_or STEPS place 0 ≡ entry_of (steps_on (begun (last_of row) (run_of row)) (levels_up k m)))
 entry_is row m k place within few at =
     let i = 2 ^ k + m % 2 ^ k in
     let most : 2 ^ k ≤ 2 ^ 8 = pow_mono few in
     let column : i < 512 = omega (arith, most, mod_below m (2 ^ k) (pow_pos k)) in
-    let inside : place < 5120 = omega (arith, at, column) in
-    let low : place % 512 ≡ i = omega (arith, at, column) in
-    let high : place / 512 ≡ row = omega (arith, at, column) in (
+    let inside : place < 5120 = omega (arith, at, column, within) in
+    let low : place / 10 ≡ i = omega (arith, at, within) in
+    let high : place % 10 ≡ row = omega (arith, at, within) in (
       inside,
       ap (λ t. get_or t place 0) table_is ∙ get_or-map-range_with_len entry_at 0 5120 place place 0 inside (omega arith)
-          ∙ ap (λ r. entry_of (steps_on (begun (last_of r) (run_of r)) (levels_below 8 (place % 512)))) high
+          ∙ ap (λ r. entry_of (steps_on (begun (last_of r) (run_of r)) (levels_below 8 (place / 10)))) high
           ∙ ap (λ j. entry_of (steps_on (begun (last_of row) (run_of row)) (levels_below 8 j))) low
           ∙ ap (λ l. entry_of (steps_on (begun (last_of row) (run_of row)) l)) (levels_below-up 8 k m few),
     )

@@ -9,6 +9,7 @@ pub mod Sending
 pub mod CodeFaults
 pub mod Decoder
 pub mod Digits
+pub mod RunRows
 pub mod Unstuffing
 pub mod Steps
 -- For proofs and for models only

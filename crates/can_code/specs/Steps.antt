@@ -32,6 +32,11 @@ steps_on s (x ∷ xs) = option_and_then (λ t. steps_on t xs) (step_on s x)
 
 -- ---- the table of the code
 
+-- a run of equal levels: its level, and how many levels up to the last of them, in a row, equal it
+pub record RunParts : Type 0 where
+  pub last : Level
+  pub run : ℕ
+
 -- its row behind a run of this level and length, and what stands before a row
 abbrev pub row_of : Level → ℕ → ℕ
 row_of last run = 5 * bit_of last + (run - 1)
@@ -41,6 +46,9 @@ last_of row = level_of (row / 5)
 
 abbrev pub run_of : ℕ → ℕ
 run_of row = row % 5 + 1
+
+abbrev pub run_at : ℕ → RunParts
+run_at row = record { last = last_of row; run = run_of row }
 
 -- a step, as the code has it
 abbrev pub in_table : Option Step → Option TableStep

@@ -5,7 +5,7 @@ use Rattle.can_frame.specs.declared.level.Level.{Level}
 use Rattle.can_frame.specs.Levels.{bits_of}
 use Rattle.can_wire.specs.Layout.{frame_len}
 use Rattle.can_code.specs.Digits.{HearsDigits}
-use Rattle.can_code.specs.Steps.{last_of, run_of}
+use Rattle.can_code.specs.Steps.{RunParts, run_at}
 use Rattle.can_code.specs.declared.unstuffing.StepRun.{StepRun}
 use Rattle.can_code.specs.declared.unstuffing.UnstuffedRun.{UnstuffedRun}
 
@@ -13,17 +13,17 @@ use Rattle.can_code.specs.declared.unstuffing.UnstuffedRun.{UnstuffedRun}
 abbrev pub HasRoom : List Level → ℕ → Type 0
 HasRoom u n = (v : List Level) → length v ≤ n → length (u ++ v) < frame_len (u ++ v)
 
--- What a front has heard that has this room, a last level and a run of such, where levels at the front of
--- these digits were taken
-pub record Unstuffs (digits : List ℕ) (room : ℕ) (last : Level) (run : ℕ) (taken : UnstuffedRun) : Type 0 where
+-- What a front has heard that has this room, and a run of such behind it, where levels at the front of these digits
+-- were taken
+pub record Unstuffs (digits : List ℕ) (room : ℕ) (before : RunParts) (taken : UnstuffedRun) : Type 0 where
   pub within : taken.taken ≤ length digits
   pub few : taken.len ≤ room
   pub small : taken.number < 2 ^ taken.len
-  pub some : 1 ≤ taken.run
-  pub short : taken.run ≤ 5
-  pub heard : (u : List Level) → HasRoom u room → HearsDigits (record { unstuffed = u; last = last; run = run })
-      (record { unstuffed = u ++ bits_of taken.len taken.number; last = taken.last; run = taken.run }) (take taken.taken digits)
+  pub some : 1 ≤ taken.behind.run
+  pub short : taken.behind.run ≤ 5
+  pub heard : (u : List Level) → HasRoom u room → HearsDigits (record { unstuffed = u; last = before.last; run = before.run })
+      (record { unstuffed = u ++ bits_of taken.len taken.number; last = taken.behind.last; run = taken.behind.run }) (take taken.taken digits)
 
--- levels that steps have taken, with the last level and the run that its row of the table stands for
+-- levels that steps have taken, with the run that its row of the table stands for
 abbrev pub as_run : StepRun → UnstuffedRun
-as_run s = record { number = s.number; len = s.len; last = last_of s.row; run = run_of s.row; taken = s.taken }
+as_run s = record { number = s.number; len = s.len; behind = run_at s.row; taken = s.taken }

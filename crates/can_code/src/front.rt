@@ -6,10 +6,11 @@ ghost use Rattle.can_code.specs.Front.{IsFront, first_front, heard_level, is_stu
 
 use crate::digits::level_of;
 use crate::reading::{frame, frame_len, heard, is_extended};
-use crate::unstuffing::{room_behind, unstuff};
+use crate::run::Run;
+use crate::unstuffing::{NUMBER_BITS, room_behind, unstuff};
 use can_frame::{Frame, Level};
 use can_wire::places::ends_dlc;
-use can_wire::{FrameBits, Heard, LONGEST_RUN, run_after};
+use can_wire::{FrameBits, Heard};
 use std::marker::Model;
 use thiserror::Error;
 
@@ -33,8 +34,8 @@ pub struct StuffError;
 #[derive(Drop)]
 pub struct Front<B: FrameBits> {
     bits: B,
-    last: Level,
-    run: u8,
+    /// The run that the last level ends.
+    run: Run,
     /// How many unstuffed levels the frame has, as soon as they tell it.
     length: Option<usize>,
 }
@@ -45,10 +46,10 @@ impl<B: FrameBits> Model for Front<B> {
 
     ghost Value = { FrontParts };
 
-    ghost view = { λ a. record { unstuffed = B.levels a.bits; last = a.last; run = a.run } };
+    ghost view = { λ a. record { unstuffed = B.levels a.bits; last = a.run.last; run = a.run.run } };
 
     ghost invariant = { λ a. let u = B.levels a.bits in
-        IsFront (record { unstuffed = u; last = a.last; run = a.run }) × TellsLength u a.length };
+        IsFront (record { unstuffed = u; last = a.run.last; run = a.run.run }) × TellsLength u a.length };
 }
 
 impl<B: FrameBits> Front<B> {
@@ -58,8 +59,7 @@ impl<B: FrameBits> Front<B> {
     {
         Front {
             bits: B::start(),
-            last: Level::Dominant,
-            run: 1,
+            run: Run::begin(Level::Dominant),
             length: None,
         }
     }
@@ -71,7 +71,7 @@ impl<B: FrameBits> Front<B> {
         ensures place { result ≡ next_place_of self.now }
         ensures whole { IsFront self.now }
     {
-        if self.run == LONGEST_RUN {
+        if self.run.is_longest() {
             Place::StuffBit
         } else if self.length == Some(self.bits.len()) {
             Place::CrcDelimiter
@@ -88,19 +88,18 @@ impl<B: FrameBits> Front<B> {
         ensures ok { OnOk result (self.new ≡ heard_level self.old level) }
         ensures unchanged { OnErr result (self.new ≡ self.old) }
     {
-        if self.run == LONGEST_RUN {
-            if level == self.last {
+        if self.run.is_longest() {
+            if level == self.run.level() {
                 return Err(StuffError);
             }
-            self.run = 1;
+            self.run = Run::begin(level);
         } else {
             self.bits.push(level);
-            self.run = run_after(self.last, self.run, level);
+            self.run = self.run.and(level);
             if self.length.is_none() && ends_dlc(self.bits.len()) {
                 self.length = frame_len(&self.bits);
             }
         }
-        self.last = level;
         Ok(())
     }
 
@@ -150,13 +149,14 @@ impl<B: FrameBits> Front<B> {
         if room == 0 {
             return 0;
         }
-        let heard = unstuff(digits, room, self.last, self.run);
+        // unless the room is all that is left
+        let waits = self.length.is_none() || room == NUMBER_BITS;
+        let heard = unstuff(digits, room, waits, self.run);
         if heard.taken == 0 {
             return 0;
         }
         self.bits.append(heard.number, heard.len);
-        self.last = heard.last;
-        self.run = heard.run;
+        self.run = heard.behind;
         if self.length.is_none() {
             self.length = frame_len(&self.bits);
         }
@@ -172,10 +172,7 @@ impl<B: FrameBits> Front<B> {
         ensures heard { HearsDigits self.old self.new (take result digits.now) }
         ensures agrees { next_place_of self.new ≡ Place.CrcDelimiter → IsCrc (head_of self.new.unstuffed) (check_of self.new.unstuffed) }
     {
-        if self.run == LONGEST_RUN
-            || self.length != Some(self.bits.len() + 1)
-            || digits.is_empty()
-        {
+        if self.run.is_longest() || self.length != Some(self.bits.len() + 1) || digits.is_empty() {
             return 0;
         }
         match level_of(digits[0]) {
@@ -195,7 +192,7 @@ impl<B: FrameBits> Front<B> {
     pub fn last(&self) -> Level
         ensures { result ≡ self.now.last }
     {
-        self.last
+        self.run.level()
     }
 
     /// Whether the IDE bit, which has been heard, is that of an extended frame.

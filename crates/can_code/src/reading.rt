@@ -1,4 +1,5 @@
-ghost use Rattle.std.specs.Prelude.{◌≡◌, ◌+◌, ◌-◌, ◌<◌, ◌≤◌, drop, length, if◌then◌else◌};
+ghost use Rattle.std.specs.Prelude.{◌≡◌, ◌+◌, ◌-◌, ◌*◌, ◌^◌, ◌<◌, ◌≤◌, drop, length, if◌then◌else◌};
+ghost use Rattle.std.specs.Int.{to_be_bytes, w64};
 ghost use Rattle.can_frame.specs.declared.level.Level.TheVariants.{Dominant, Recessive};
 ghost use Rattle.can_frame.specs.Levels.{number_from};
 ghost use Rattle.can_frame.specs.Parts.{byte_count as byte_count_of};
@@ -10,9 +11,6 @@ use can_wire::places::{
     EXTENSION_BITS, EXTENSION_PLACE, IDE_PLACE, R1_PLACE, RTR_TO_DATA, SRR_PLACE, rtr_place,
 };
 use can_wire::{FrameBits, Heard};
-
-/// How many data bytes a frame has at most.
-const OCTETS: usize = 8;
 
 /// How many unstuffed levels the frame has that begins with these, if they tell it. It stands apart, as it is
 /// asked once or twice a frame.
@@ -47,7 +45,7 @@ fn byte_count<B: FrameBits>(bits: &B) -> usize
     if is_remote(bits) {
         0
     } else {
-        usize::from(dlc(bits)).min(OCTETS)
+        usize::from(dlc(bits)).min(8)
     }
 }
 
@@ -111,8 +109,7 @@ pub(crate) fn frame<B: FrameBits>(bits: &B) -> Frame
     if is_remote(bits) {
         Frame::remote(id, dlc).unwrap()
     } else {
-        let unused = OCTETS - byte_count(bits);
-        Frame::data(id, dlc, &octets(bits)[unused..]).unwrap()
+        Frame::data_of_number(id, dlc, data_number(bits))
     }
 }
 
@@ -130,12 +127,12 @@ fn identifier<B: FrameBits>(bits: &B) -> Id
     }
 }
 
-/// Eight bytes, the last of which are the data bytes.
-fn octets<B: FrameBits>(bits: &B) -> [u8; OCTETS]
+/// The data bytes as one number, the first of them the highest.
+fn data_number<B: FrameBits>(bits: &B) -> u64
     requires { HasData (B.levels bits.now) }
-    ensures { let u = B.levels bits.now in drop (8 - byte_count_of (remote_of u) (dlc_of u)) result ≡ bytes_of u }
+    ensures small { let u = B.levels bits.now in result < 2 ^ (8 * byte_count_of (remote_of u) (dlc_of u)) }
+    ensures bytes { let u = B.levels bits.now in drop (8 - byte_count_of (remote_of u) (dlc_of u)) (to_be_bytes w64 result) ≡ bytes_of u }
 {
     let data_place = rtr_place(is_extended(bits)) + RTR_TO_DATA;
     bits.number_at(data_place, 8 * byte_count(bits))
-        .to_be_bytes()
 }

@@ -2,14 +2,12 @@ ghost use Rattle.std.specs.Prelude.{◌≡◌, ◌+◌, ◌^◌, ◌<◌, ◌≤
 ghost use Rattle.can_frame.specs.declared.level.Level.{Level as Bit};
 ghost use Rattle.can_code.specs.Digits.{BeginWith};
 ghost use Rattle.can_code.specs.Reading.{TellsLength};
-ghost use Rattle.can_code.specs.Steps.{last_of, run_of};
+ghost use Rattle.can_code.specs.Steps.{RunParts, run_at};
 ghost use Rattle.can_code.specs.Unstuffing.{HasRoom, Unstuffs, as_run};
 
 use crate::digits::{BLOCK, level_of, levels_of};
-use crate::rows::{last_before, row_behind, run_before};
+use crate::run::Run;
 use crate::steps::{STEP_LEVELS, take_step};
-use can_frame::Level;
-use can_wire::{LONGEST_RUN, run_after};
 
 /// How many unstuffed levels tell the length of a standard frame: all that stand before its data.
 const STANDARD_HEADER: usize = 19;
@@ -21,7 +19,7 @@ const SHORTEST: usize = 34;
 const SHORTEST_EXTENDED: usize = 54;
 
 /// How many unstuffed levels are gathered in a number at once.
-const NUMBER_BITS: usize = 64;
+pub(crate) const NUMBER_BITS: usize = 64;
 
 /// Levels of a stuffed part, without their stuff bits.
 #[derive(Clone, Copy)]
@@ -30,25 +28,22 @@ pub(crate) struct UnstuffedRun {
     pub(crate) number: u64,
     /// How many they are.
     pub(crate) len: usize,
-    /// The last level, which may be a stuff bit.
-    pub(crate) last: Level,
-    /// How many levels up to it, in a row, equal it.
-    pub(crate) run: u8,
+    /// The run that the last level ends, which may be a stuff bit.
+    pub(crate) behind: Run,
     /// How many levels were taken, stuff bits among them.
     pub(crate) taken: usize,
 }
 
 impl UnstuffedRun {
-    /// None so far, behind a run of this level and length.
+    /// None so far, behind this run.
     #[inline]
-    fn begin(last: Level, run: u8) -> UnstuffedRun
-        ensures { result ≡ record { number = 0; len = 0; last = last; run = run; taken = 0 } }
+    fn begin(before: Run) -> UnstuffedRun
+        ensures { result ≡ record { number = 0; len = 0; behind = before; taken = 0 } }
     {
         UnstuffedRun {
             number: 0,
             len: 0,
-            last,
-            run,
+            behind: before,
             taken: 0,
         }
     }
@@ -69,38 +64,35 @@ pub(crate) fn room_behind(len: usize, told: Option<usize>) -> usize
     end.saturating_sub(len).min(NUMBER_BITS)
 }
 
-/// Takes levels from the front of these digits behind a run of this level and length, until there are
-/// `room` unstuffed ones, or a byte is no digit, or a stuff place repeats the level before it. It may stop
-/// sooner, but takes some where it can.
+/// Takes levels from the front of these digits behind a run, until there are `room` unstuffed ones, or a byte is no
+/// digit, or a stuff place repeats the level before it. It may stop sooner, but takes some where it can. If it `waits`, it
+/// leaves what room there is behind whole blocks to the next call, which may have room for a block again.
 #[inline]
-pub(crate) fn unstuff(digits: &[u8], room: usize, last: Level, run: u8) -> UnstuffedRun
+pub(crate) fn unstuff(digits: &[u8], room: usize, waits: bool, before: Run) -> UnstuffedRun
     requires wide { room ≤ 64 }
-    requires some { 1 ≤ run }
-    requires short { run ≤ 5 }
-    ensures { Unstuffs digits.now room last run result }
+    requires some { 1 ≤ before.run }
+    requires short { before.run ≤ 5 }
+    ensures { Unstuffs digits.now room before result }
 {
-    let quick = unstuff_steps(digits, room, last, run);
+    let quick = unstuff_steps(digits, room, waits, before);
     if quick.taken > 0 {
         quick
     } else {
-        unstuff_levels(digits, room, last, run)
+        unstuff_levels(digits, room, before)
     }
 }
 
 /// The same, up to eight levels in a step. It stops where no block of bytes is left.
 #[inline]
-fn unstuff_steps(digits: &[u8], room: usize, last: Level, run: u8) -> UnstuffedRun
+fn unstuff_steps(digits: &[u8], room: usize, waits: bool, before: Run) -> UnstuffedRun
     requires wide { room ≤ 64 }
-    requires some { 1 ≤ run }
-    requires short { run ≤ 5 }
-    ensures { Unstuffs digits.now room last run result }
+    ensures { Unstuffs digits.now room before result }
 {
-    let now = unstuff_rows(digits, room, row_behind(last, run));
+    let now = unstuff_rows(digits, room, waits, before.row());
     UnstuffedRun {
         number: now.number,
         len: now.len,
-        last: last_before(now.row),
-        run: run_before(now.row),
+        behind: Run::at(now.row),
         taken: now.taken,
     }
 }
@@ -145,9 +137,9 @@ fn step_behind(now: StepRun, levels: u64, count: usize) -> Option<StepRun>
     ensures row { IfSome result (λ next. next.row < 10) }
     ensures few { IfSome result (λ next. next.len ≤ now.len + count) }
     ensures all { IfSome result (λ next. next.taken ≡ now.taken + count) }
-    ensures taken { IfSome result (λ next. (digits : List ℕ) (room : ℕ) (last : Bit) (run : ℕ)
-        → Unstuffs digits room last run (as_run now) → BeginWith (drop now.taken digits) count levels → now.len + count ≤ room → room ≤ 64
-        → Unstuffs digits room last run (as_run next)) }
+    ensures taken { IfSome result (λ next. (digits : List ℕ) (room : ℕ) (before : RunParts)
+        → Unstuffs digits room before (as_run now) → BeginWith (drop now.taken digits) count levels → now.len + count ≤ room → room ≤ 64
+        → Unstuffs digits room before (as_run next)) }
 {
     let Some(step) = take_step(now.row, levels, count) else {
         return None;
@@ -162,15 +154,14 @@ fn step_behind(now: StepRun, levels: u64, count: usize) -> Option<StepRun>
 
 /// The same from row to row of the table of steps.
 #[inline]
-fn unstuff_rows(digits: &[u8], room: usize, row: u8) -> StepRun
+fn unstuff_rows(digits: &[u8], room: usize, waits: bool, row: u8) -> StepRun
     requires wide { room ≤ 64 }
     requires row { row < 10 }
     ensures row { result.row < 10 }
-    ensures taken { Unstuffs digits.now room (last_of row) (run_of row) (as_run result) }
+    ensures taken { Unstuffs digits.now room (run_at row) (as_run result) }
 {
     let mut now = unstuff_blocks(digits, room, row);
-    if now.taken > 0 {
-        // what is left of the room waits, since the next part may have room for a block again
+    if waits && now.taken > 0 {
         return now;
     }
     while now.len < room {
@@ -197,7 +188,7 @@ fn unstuff_blocks(digits: &[u8], room: usize, row: u8) -> StepRun
     requires wide { room ≤ 64 }
     requires row { row < 10 }
     ensures row { result.row < 10 }
-    ensures taken { Unstuffs digits.now room (last_of row) (run_of row) (as_run result) }
+    ensures taken { Unstuffs digits.now room (run_at row) (as_run result) }
 {
     let mut now = StepRun::begin(row);
     while now.len + BLOCK <= room {
@@ -220,28 +211,27 @@ fn unstuff_blocks(digits: &[u8], room: usize, row: u8) -> StepRun
 }
 
 /// The same, level by level.
-fn unstuff_levels(digits: &[u8], room: usize, last: Level, run: u8) -> UnstuffedRun
+fn unstuff_levels(digits: &[u8], room: usize, before: Run) -> UnstuffedRun
     requires wide { room ≤ 64 }
-    requires some { 1 ≤ run }
-    requires short { run ≤ 5 }
-    ensures { Unstuffs digits.now room last run result }
+    requires some { 1 ≤ before.run }
+    requires short { before.run ≤ 5 }
+    ensures { Unstuffs digits.now room before result }
 {
-    let mut now = UnstuffedRun::begin(last, run);
+    let mut now = UnstuffedRun::begin(before);
     while now.len < room && now.taken < digits.len() {
         let Some(level) = level_of(digits[now.taken]) else {
             return now;
         };
-        if now.run == LONGEST_RUN {
-            if level == now.last {
+        if now.behind.is_longest() {
+            if level == now.behind.level() {
                 return now;
             }
-            now.run = 1;
+            now.behind = Run::begin(level);
         } else {
             now.number = 2 * now.number + u64::from(level.is_recessive());
             now.len += 1;
-            now.run = run_after(now.last, now.run, level);
+            now.behind = now.behind.and(level);
         }
-        now.last = level;
         now.taken += 1;
     }
     now

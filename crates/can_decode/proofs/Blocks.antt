@@ -36,23 +36,23 @@ pub row_longer : (bytes : List ℕ) (count more : ℕ) → take count bytes ≡ 
     → take (count + more) bytes ≡ replicate (count + more) 49
 row_longer bytes count more row behind = take-add count more bytes ∙ ap₂ (λ t u. t ++ u) row behind ∙ replicate-append-replicate count more 49
 
--- in a block, by the mask of its other bytes
-module _ (bytes : List ℕ) (whole : 64 ≤ length bytes) (mask : ℕ) (is : mask ≡ mask_l (map is_other (take 64 bytes))) where
-  size : length (take 64 bytes) ≡ 64
-  size = length-take-le 64 bytes whole
+-- in so many bytes, by the mask of the others among them
+module _ (width : ℕ) (narrow : width ≤ 64) (bytes : List ℕ) (whole : width ≤ length bytes) (mask : ℕ) (is : mask ≡ mask_l (map is_other (take width bytes))) where
+  size : length (take width bytes) ≡ width
+  size = length-take-le width bytes whole
 
-  pub row_through : mask ≡ 0 → take 64 bytes ≡ replicate 64 49
+  pub row_through : mask ≡ 0 → take width bytes ≡ replicate width 49
   row_through none =
-      let all : row_len (take 64 bytes) ≡ 64 = leading_from_mask_l is_other (take 64 bytes) (sym is ∙ none) ∙ size in
-      sym (take-take 64 64 bytes (omega arith)) ∙ subst (λ k. take k (take 64 bytes) ≡ replicate k 49) all (row_is (take 64 bytes))
+      let all : row_len (take width bytes) ≡ width = leading_from_mask_l is_other (take width bytes) (sym is ∙ none) ∙ size in
+      sym (take-take width width bytes (omega arith)) ∙ subst (λ k. take k (take width bytes) ≡ replicate k 49) all (row_is (take width bytes))
 
-  ends : 0 < mask → count_trailing_zeros 64 mask ≡ row_len (take 64 bytes)
-  ends some = ap (count_trailing_zeros 64) is ∙ trailing_mask_l is_other 64 (take 64 bytes) (omega (arith, size)) (omega (arith, is))
+  ends : 0 < mask → count_trailing_zeros 64 mask ≡ row_len (take width bytes)
+  ends some = ap (count_trailing_zeros 64) is ∙ trailing_mask_l is_other 64 (take width bytes) (omega (arith, size, narrow)) (omega (arith, is))
 
-  pub row_within : 0 < mask → count_trailing_zeros 64 mask ≤ 64
-  row_within some = omega (arith, ends some, size, prefix_len-le-length (λ byte. not (is_other byte)) (take 64 bytes))
+  pub row_within : 0 < mask → count_trailing_zeros 64 mask ≤ width
+  row_within some = omega (arith, ends some, size, prefix_len-le-length (λ byte. not (is_other byte)) (take width bytes))
 
   pub row_ends : 0 < mask → take (count_trailing_zeros 64 mask) bytes ≡ replicate (count_trailing_zeros 64 mask) 49
   row_ends some =
       let n = count_trailing_zeros 64 mask in
-      sym (take-take n 64 bytes (row_within some)) ∙ subst (λ k. take k (take 64 bytes) ≡ replicate k 49) (sym (ends some)) (row_is (take 64 bytes))
+      sym (take-take n width bytes (row_within some)) ∙ subst (λ k. take k (take width bytes) ≡ replicate k 49) (sym (ends some)) (row_is (take width bytes))

@@ -25,7 +25,8 @@ pub(crate) enum Finding {
     },
 }
 
-/// Puts the line of what is told.
+/// Puts the line of what is told. It stands within its caller, so that what is told is never laid out in memory.
+#[inline(always)]
 pub(crate) fn put_finding<W: Sink>(
     finding: &Finding,
     w: &mut W,

@@ -1,5 +1,5 @@
 //! Rows of recessive levels, compared in blocks.
-ghost use Rattle.std.specs.Prelude.{◌≡◌, ◌≤◌, ◌==◌, length, map, not, take, replicate};
+ghost use Rattle.std.specs.Prelude.{◌≡◌, ◌*◌, ◌≤◌, ◌==◌, IsTrue, length, map, not, take, replicate};
 ghost use Rattle.std.specs.Simd.Lanes.{mask_l};
 
 use std::simd::prelude::*;
@@ -7,11 +7,20 @@ use std::simd::prelude::*;
 /// How many bytes are compared at once.
 const BLOCK: usize = 64;
 
+/// How many bytes are compared first, as most rows between frames are short.
+const FIRST: usize = 16;
+
 /// How many digits of recessive levels stand at the front of the bytes.
 pub(crate) fn recessive_count(bytes: &[u8]) -> usize
     ensures within { result ≤ length bytes.now }
     ensures row { take result bytes.now ≡ replicate result 49 }
 {
+    if bytes.len() >= FIRST {
+        let others = others_at_front(bytes);
+        if others != 0 {
+            return others.trailing_zeros() as usize;
+        }
+    }
     let mut count = 0;
     while bytes.len() - count >= BLOCK {
         let others = others_in_block(&bytes[count..]);
@@ -19,11 +28,45 @@ pub(crate) fn recessive_count(bytes: &[u8]) -> usize
             return count + others.trailing_zeros() as usize;
         }
         count += BLOCK;
+        count += pairs_count(&bytes[count..]);
     }
     while count < bytes.len() && bytes[count] == b'1' {
         count += 1;
     }
     count
+}
+
+/// How many digits of recessive levels stand at the front of the bytes, as far as pairs of blocks have nothing else.
+fn pairs_count(bytes: &[u8]) -> usize
+    ensures within { result ≤ length bytes.now }
+    ensures row { take result bytes.now ≡ replicate result 49 }
+{
+    let mut count = 0;
+    while bytes.len() - count >= 2 * BLOCK && begin_with_a_row(&bytes[count..]) {
+        count += 2 * BLOCK;
+    }
+    count
+}
+
+/// Whether the first two blocks are a row. That needs the masks only as far as both are zero, which takes half of the time of
+/// looking for a place in them.
+#[inline(always)]
+fn begin_with_a_row(bytes: &[u8]) -> bool
+    requires { 2 * BLOCK ≤ length bytes.now }
+    ensures { IsTrue result → take (2 * BLOCK) bytes.now ≡ replicate (2 * BLOCK) 49 }
+{
+    others_in_block(bytes) | others_in_block(&bytes[BLOCK..]) == 0
+}
+
+/// Which of the first bytes are no digits of recessive levels, the first in the lowest bit.
+#[inline(always)]
+fn others_at_front(bytes: &[u8]) -> u64
+    requires { FIRST ≤ length bytes.now }
+    ensures { result ≡ mask_l (map (λ byte. not (byte == 49)) (take FIRST bytes.now)) }
+{
+    u8x16::from_slice(bytes)
+        .simd_ne(u8x16::splat(b'1'))
+        .to_bitmask()
 }
 
 /// Which bytes of the first block are no digits of recessive levels, the first in the lowest bit.

@@ -27,8 +27,6 @@ mod finding;
 mod idle;
 mod laws;
 mod searching;
-#[cfg(test)]
-mod tests;
 mod text;
 mod trace;
 

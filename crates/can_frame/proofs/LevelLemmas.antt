@@ -6,7 +6,6 @@ use Rattle.std.proofs.lemmas.Nat.{shr-shr, shr_high}
 use Rattle.std.proofs.lemmas.Nat.Bits.{bit_at_cat_low}
 use Rattle.can_frame.specs.declared.level.Level.{Level}
 use Rattle.can_frame.specs.declared.level.Level.TheVariants.{Dominant, Recessive}
-use denote.Enum.Bare.{sameb}
 use Rattle.can_frame.specs.Levels.{level_of, bits_of, number_from}
 pub use Rattle.can_frame.specs.LevelNumbers.{bit_cases, length-bits_of, number_from-bits_of, number_from-whole}
 

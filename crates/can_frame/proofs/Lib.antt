@@ -10,6 +10,8 @@ pub mod FieldLemmas
 pub mod HexDigits
 -- a DLC in decimal
 pub mod Decimals
+-- the bytes of a number, moved up to stand first among eight
+pub mod DataNumber
 -- how long a frame's text is
 pub mod TextLengths
 -- two frames with one text are equal

@@ -49,7 +49,7 @@ byte_is : (k n : ℕ) → byte_at k n ≡ n / 16 ^ (2 * k) % 256
 byte_is zero n = ap (λ m. m % 256) (let e : n ≡ n / 16 ^ (2 * 0) = omega arith in e)
 byte_is (suc k) n = ap (λ p. n / p % 256) (power_is (suc k))
 
-bytes_digits : (k n : ℕ) → encode_lower (bytes_high_first k n) ≡ hex_digits (2 * k) n
+pub bytes_digits : (k n : ℕ) → encode_lower (bytes_high_first k n) ≡ hex_digits (2 * k) n
 unfolding hex_digits
 bytes_digits zero n = encode_lower-nil
 bytes_digits (suc k) n =

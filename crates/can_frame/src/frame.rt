@@ -1,5 +1,6 @@
-ghost use Rattle.std.specs.Prelude.{◌≡◌, ◌≢◌, ◌<◌, ◌≤◌, ◌↔◌, [], min, length, IfOk, IsErrOf, IsOk, IsTrue, true, false, ℕ, slice_index, take};
+ghost use Rattle.std.specs.Prelude.{◌≡◌, ◌≢◌, ◌<◌, ◌≤◌, ◌↔◌, ◌-◌, ◌*◌, ◌^◌, ◌++◌, [], drop, min, length, replicate, IfOk, IsErrOf, IsOk, IsTrue, true, false, ℕ, slice_index, take};
 ghost use Rattle.std.proofs.Common.{rules};
+ghost use Rattle.std.specs.Int.{to_be_bytes, w64};
 ghost use Rattle.std.specs.Cmp.Rules.{comparing};
 ghost use Rattle.can_frame.specs.Parts.{byte_count, IsFrame, same_parts};
 
@@ -91,6 +92,23 @@ impl Frame {
         })
     }
 
+    /// The data frame whose data bytes are the last of a number's eight, the highest first: as [`data`](Frame::data) of
+    /// those bytes. (Bosch CAN 2.0 part B, section 3.2.1)
+    pub fn data_of_number(id: Id, dlc: u8, number: u64) -> Frame
+        requires range { dlc < 16 }
+        requires small { number < 2 ^ (8 * min dlc 8) }
+        ensures { result ≡ record { id = id; remote = false; dlc = dlc; bytes = drop (8 - min dlc 8) (to_be_bytes w64 number) } }
+    {
+        // in two halves, since the whole may be by 64 places
+        let half = 4 * (8 - dlc.min(8));
+        Frame {
+            id,
+            remote: false,
+            dlc,
+            store: ((number << half) << half).to_be_bytes(),
+        }
+    }
+
     /// The remote frame of these parts. It has no data bytes, whatever its DLC.
     pub fn remote(id: Id, dlc: u8) -> Result<Frame, FrameFault>
         ensures dlc_above_15 { IsErrOf result FrameFault.DlcAbove15 ↔ (15 < dlc) }
@@ -150,6 +168,13 @@ impl Frame {
         // Who reads the identifier's number knows its range.
         let _ = self.id.raw();
         front(&self.store, count)
+    }
+
+    /// The data bytes, and zeros behind them up to eight.
+    pub fn octets(&self) -> [u8; 8]
+        ensures { result ≡ self.now.bytes ++ replicate (8 - length self.now.bytes) 0 }
+    {
+        self.store
     }
 }
 

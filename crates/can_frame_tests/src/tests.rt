@@ -78,6 +78,25 @@ fn parts(rt: HostRuntime) -> Result<(), Fail> {
     Ok(())
 }
 
+// The bytes of a number, the highest first, are the data bytes; a DLC above 8 means eight of them.
+#[test]
+fn data_of_a_number(rt: HostRuntime) -> Result<(), Fail> {
+    let id = standard(0x123)?;
+    let none = Frame::data_of_number(id, 0, 0);
+    assert_eq!(rt; none, Frame::data(id, 0, &[])?);
+    assert_eq!(rt; none.octets(), [0; 8]);
+    let two = Frame::data_of_number(id, 2, 0xaa55);
+    assert_eq!(rt; two, Frame::data(id, 2, &[0xaa, 0x55])?);
+    assert_eq!(rt; two.octets(), [0xaa, 0x55, 0, 0, 0, 0, 0, 0]);
+    let bytes = [1, 2, 3, 4, 5, 6, 7, 8];
+    for dlc in [8, 12] {
+        let whole = Frame::data_of_number(id, dlc, 0x0102_0304_0506_0708);
+        assert_eq!(rt; whole, Frame::data(id, dlc, &bytes)?);
+        assert_eq!(rt; whole.octets(), bytes);
+    }
+    Ok(())
+}
+
 #[test]
 fn keys(rt: HostRuntime) -> Result<(), Fail> {
     let ascending = [

@@ -10,7 +10,8 @@ pub const LINE: usize = 112;
 /// A line that is put together.
 pub type Line = ArrayVec<u8, LINE>;
 
-/// Appends a number in decimal.
+/// Appends a number in decimal. It stands within its callers, so that a line's length stays in a register.
+#[inline(always)]
 pub fn push_number(line: &mut Line, number: u64)
     requires { length line.old.items + 20 ≤ LINE }
     ensures text { line.new.items ≡ line.old.items ++ decimal number }

@@ -7,7 +7,7 @@ use crate::sink::Sink;
 use std::marker::Model;
 
 /// How many bytes wait in an [`Outbox`] at most.
-pub const OUTBOX_ROOM: usize = 8192;
+pub const OUTBOX_ROOM: usize = 65536;
 
 /// Bytes on their way to a sink, which it is given in large pieces. In clauses it is the list of the
 /// bytes that wait. A sink that failed is not written to again, so what it did not take is dropped.

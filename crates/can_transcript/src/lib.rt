@@ -26,8 +26,6 @@ mod fault;
 mod laws;
 mod lists;
 mod naming;
-#[cfg(test)]
-mod tests;
 mod told;
 
 pub use laws::one_told;

@@ -81,15 +81,16 @@ fn failing_reads(rt: HostRuntime) {
     }
 }
 
-/// Whatever the error, what was taken is a beginning of the answer, and no more is written.
+/// The buffer is filled by one read. Whatever the error, what was taken is a beginning of the answer, and no more is
+/// written.
 #[test]
 fn failing_writes(rt: HostRuntime) -> Result<(), Fail> {
-    let text = [b"S 000 D 0\n".as_slice(); 400].concat(rt.alloc())?;
-    let levels = [S000; 400].concat(rt.alloc())?;
+    let text = [b"S 000 D 0\n".as_slice(); 2000].concat(rt.alloc())?;
+    let levels = [S000; 2000].concat(rt.alloc())?;
     for stop in [Stop::Nothing, Stop::Fails(ErrorKind::Interrupted)] {
         for size in [1, 2, 8192] {
-            for room in [0, 30, 10_000, 20_399] {
-                let mut reader = reader_of(&text, 8192, Stop::Nothing);
+            for room in [0, 30, 65_535, 65_536, 101_999] {
+                let mut reader = reader_of(&text, 20_000, Stop::Nothing);
                 let mut writer = writer_of(rt.alloc(), size, room, stop);
                 assert_eq!(rt;
                     encode_lines(&mut reader, &mut writer),

@@ -31,11 +31,11 @@ fn assert_fails(
 #[test]
 fn failing_writes(rt: HostRuntime) -> Result<(), Fail> {
     let alloc = rt.alloc();
-    let long = of_ports(&rt, alloc, 20_000, &[WITH_001, WITH_000], &[])?;
+    let long = of_ports(&rt, alloc, 140_000, &[WITH_001, WITH_000], &[])?;
     let report = report_of(alloc, &long)?;
     for stop in [Stop::Nothing, Stop::Fails(ErrorKind::Interrupted)] {
         for size in [1, 4096, ROOM] {
-            for room in [0, 1, 4096, 8191, 8192, 8193, 16_384, 20_000] {
+            for room in [0, 1, 4096, 65_535, 65_536, 65_537, 131_072, 140_000] {
                 assert_fails(&rt, alloc, &long, &report, (size, room, stop))?;
             }
         }

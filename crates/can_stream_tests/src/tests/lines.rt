@@ -81,11 +81,11 @@ fn writes_of_pieces(rt: HostRuntime) -> Result<(), Fail> {
 fn a_full_buffer(rt: HostRuntime) -> Result<(), Fail> {
     let mut writer = writer_of(rt.alloc(), ROOM, ROOM, Stop::Nothing);
     let mut out = Outbox::new();
-    out.put(&mut writer, &[b'a'; 8192])?;
+    out.put(&mut writer, &[b'a'; 65_536])?;
     out.put(&mut writer, b"b")?;
     assert_eq!(rt;
         writer.into_inner().taken.as_slice(),
-        [b'a'; 8192].as_slice()
+        [b'a'; 65_536].as_slice()
     );
     Ok(())
 }

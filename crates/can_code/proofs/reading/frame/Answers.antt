@@ -1,19 +1,16 @@
-use Rattle.std.proofs.Common.{◌≡◌, true, false, [], length, drop, min, sym, ◌∙◌, ap, arith}
+use Rattle.std.proofs.Common.{◌≡◌, ◌-◌, ◌*◌, ◌^◌, true, false, [], drop, min, sym, ◌∙◌, ap, arith}
+use Rattle.std.specs.Int.{to_be_bytes, w64}
 use Rattle.can_frame.specs.Parts.{byte_count}
 use Rattle.can_wire.specs.Layout.{bytes_from, data_place, extended_of, remote_of, dlc_of, frame_of}
 use Rattle.can_code.specs.Reading.{bytes_of}
-use Rattle.can_wire.proofs.LayoutBytes.{length-bytes_from}
-use Rattle.can_code.proofs.ReadingLemmas.{data_part}
 use Rattle.can_code.proofs.reading.frame.Goals as goal
 
-pub unwrap-requires-else-is_remote : goal.unwrap-requires-else-is_remote
-unwrap-requires-else-is_remote g c =
+pub data_of_number-requires-clause-small : goal.data_of_number-requires-clause-small
+data_of_number-requires-clause-small g c =
     let u = g.B.FrameBits.levels c.args.bits.now in
     let told : remote_of u ≡ false = sym c.is_remote.ensures ∙ c.if-is_remote.false in
-    let count : length (bytes_of u) ≡ byte_count (remote_of u) (dlc_of u) = length-bytes_from (byte_count (remote_of u) (dlc_of u)) (drop (data_place (extended_of u)) u) in
-    let bytes = data_part u c.octets.result c.byte_count-unused.result c.byte_count-unused.ensures.range c.byte_count-unused.ensures.value c.octets.ensures in
-    let size : length _ ≡ min c.dlc-dlc.result 8 = ap length bytes ∙ count ∙ ap (λ r. byte_count r (dlc_of u)) told ∙ ap (λ n. min n 8) (sym c.dlc-dlc.ensures.value) in
-    c.«data».ensures.made.1 (omega (arith, c.dlc-dlc.ensures.range), size)
+    let count : byte_count (remote_of u) (dlc_of u) ≡ min c.dlc-dlc.result 8 = ap (λ r. byte_count r (dlc_of u)) told ∙ ap (λ n. min n 8) (sym c.dlc-dlc.ensures.value) in
+    omega (arith, c.data_number.ensures.small, ap (λ k. 2 ^ (8 * k)) count)
 
 pub returns-then-is_remote : goal.returns-then-is_remote
 unfolding frame_of
@@ -29,6 +26,7 @@ unfolding frame_of
 returns-else-is_remote g c =
     let u = g.B.FrameBits.levels c.args.bits.now in
     let told : remote_of u ≡ false = sym c.is_remote.ensures ∙ c.if-is_remote.false in
-    let bytes = data_part u c.octets.result c.byte_count-unused.result c.byte_count-unused.ensures.range c.byte_count-unused.ensures.value c.octets.ensures in
-    let parts = rw c.unwrap-else-is_remote.ensures at c.«data».ensures.parts in
+    let count : min c.dlc-dlc.result 8 ≡ byte_count (remote_of u) (dlc_of u) = ap (λ n. min n 8) c.dlc-dlc.ensures.value ∙ ap (λ r. byte_count r (dlc_of u)) (sym told) in
+    let bytes = ap (λ k. drop (8 - k) (to_be_bytes w64 c.data_number.result)) count ∙ c.data_number.ensures.bytes in
+    let made = c.data_of_number.ensures in
     cc

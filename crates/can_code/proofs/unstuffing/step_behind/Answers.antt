@@ -44,7 +44,7 @@ returns-clause-taken c =
     let found = in_table-some (steps_on (begun (last_of r.row) (run_of r.row)) (levels_up count c.args.levels)) c.in-Some.step c.in-Some.ensures in
     let s = found.0 in
     let h : StepBounds s 8 = taken-bounds (last_of r.row) (run_of r.row) 8 count c.args.levels s (omega arith) (omega arith) c.requires.few found.1 in
-    λ digits room last run so_far begins_with fits wide.
+    λ digits room before so_far begins_with fits wide.
     rw (c.from.ensures, c.from-2.ensures, found.2)
-    (Unstuffs-row digits room last run _ _ _ s h.some h.short
-    (Unstuffs-step digits room last run (as_run r) c.args.levels count s so_far wide begins_with fits found.1))
+    (Unstuffs-row digits room before _ _ _ s h.some h.short
+    (Unstuffs-step digits room before (as_run r) c.args.levels count s so_far wide begins_with fits found.1))

@@ -1,6 +1,6 @@
 use Rattle.std.proofs.Common.{◌≡◌, ◌+◌, ◌/◌, ◌^◌, ◌≤◌, arith, length, length-drop, take, drop, map, refl, sym, subst}
 use Rattle.std.proofs.lemmas.List.{take_rest}
-use Rattle.can_code.specs.Steps.{last_of, run_of}
+use Rattle.can_code.specs.Steps.{run_at}
 use Rattle.can_code.specs.Digits.{BeginWith, digit_of, levels_up}
 use Rattle.can_code.proofs.StepLemmas.{BeginWith-block, BeginWith-half, Unstuffs-begin}
 use Rattle.can_code.proofs.unstuffing.unstuff_blocks.Goals as goal
@@ -9,7 +9,7 @@ pub loop-now-init : goal.loop-now-init
 loop-now-init c = rw (c.begin-now.ensures)
     (record {
       row = c.requires.row;
-      taken = Unstuffs-begin c.args.digits.now c.args.room (last_of c.args.row) (run_of c.args.row) _ (omega arith) (omega arith) refl;
+      taken = Unstuffs-begin c.args.digits.now c.args.room (run_at c.args.row) _ (omega arith) (omega arith) refl;
     })
 
 pub step_behind-requires-in-loop-now-clause-small : goal.step_behind-requires-in-loop-now-clause-small
@@ -21,7 +21,7 @@ step_behind-requires-in-loop-now-clause-small c =
     let levels = c.levels_of-levels in
     let whole : r.taken + 16 ≤ length digits = omega (arith, rw rest at chunk.enough, length-drop r.taken digits, c.loop-now.invariant.taken.within) in
     let begins = BeginWith-block digits c.in-Some.block.now r.taken 8 levels.result.count levels.result.number whole (omega (arith, c.if-levels-lt-BLOCK.false)) levels.ensures.within (rw rest at chunk.same) levels.ensures.digits in
-    (c.in-Some-step_behind.ensures.taken digits c.args.room (last_of c.args.row) (run_of c.args.row) c.loop-now.invariant.taken begins (omega (arith, c.loop-now-test.true)) c.requires.wide).small
+    (c.in-Some-step_behind.ensures.taken digits c.args.room (run_at c.args.row) c.loop-now.invariant.taken begins (omega (arith, c.loop-now-test.true)) c.requires.wide).small
 
 pub returns-in_default-step_behind-2-clause-taken : goal.returns-in_default-step_behind-2-clause-taken
 returns-in_default-step_behind-2-clause-taken c =
@@ -32,7 +32,7 @@ returns-in_default-step_behind-2-clause-taken c =
     let levels = c.levels_of-levels in
     let whole : r.taken + 16 ≤ length digits = omega (arith, rw rest at chunk.enough, length-drop r.taken digits, c.loop-now.invariant.taken.within) in
     let begins = BeginWith-block digits c.in-Some.block.now r.taken 8 levels.result.count levels.result.number whole (omega (arith, c.if-levels-lt-BLOCK.false)) levels.ensures.within (rw rest at chunk.same) levels.ensures.digits in
-    c.in-Some-step_behind.ensures.taken digits c.args.room (last_of c.args.row) (run_of c.args.row) c.loop-now.invariant.taken begins (omega (arith, c.loop-now-test.true)) c.requires.wide
+    c.in-Some-step_behind.ensures.taken digits c.args.room (run_at c.args.row) c.loop-now.invariant.taken begins (omega (arith, c.loop-now-test.true)) c.requires.wide
 
 pub loop-now-preserved : goal.loop-now-preserved
 loop-now-preserved c =
@@ -53,7 +53,7 @@ loop-now-preserved c =
     subst (λ t. BeginWith (drop t digits) 8 (number / 2 ^ 8)) (sym first.ensures.all) (BeginWith-half digits block r.taken number whole at all) in
     record {
       row = c.in-Some-step_behind-2.ensures.row;
-      taken = c.in-Some-step_behind-2.ensures.taken digits c.args.room (last_of c.args.row) (run_of c.args.row)
-          (first.ensures.taken digits c.args.room (last_of c.args.row) (run_of c.args.row) c.loop-now.invariant.taken begins (omega (arith, c.loop-now-test.true)) c.requires.wide)
+      taken = c.in-Some-step_behind-2.ensures.taken digits c.args.room (run_at c.args.row)
+          (first.ensures.taken digits c.args.room (run_at c.args.row) c.loop-now.invariant.taken begins (omega (arith, c.loop-now-test.true)) c.requires.wide)
           half (omega (arith, first.ensures.few, c.loop-now-test.true)) c.requires.wide;
     }

@@ -1,4 +1,7 @@
-use Rattle.std.proofs.Common.{◌≢◌, ◌≤◌, ◌++◌, length, sym, ◌∙◌, arith}
+use Rattle.std.proofs.Common.{◌≢◌, ◌≤◌, ◌++◌, length, ap, sym, ◌∙◌, arith}
+use Rattle.std.proofs.lemmas.Bool.{eqb-false, eqb-true}
+use denote.Enum.Bare.{sameb}
+use Rattle.can_frame.specs.contracts.level.Level.{the_type}
 use Rattle.can_frame.specs.Levels.{bits_of}
 use Rattle.can_wire.proofs.LevelLemmas.{length-bits_of}
 use Rattle.can_wire.proofs.Runs.{run_after-le, run_after-ge}
@@ -6,10 +9,10 @@ use Rattle.can_wire.proofs.PackedLemmas.{bool_small, next-fits, next-small}
 use Rattle.can_code.proofs.StepLemmas.{Unstuffs-begin}
 use Rattle.can_code.proofs.UnstuffingLemmas.{HearsDigits-number, HearsDigits-stuff_bit, other_level}
 use Rattle.can_code.proofs.unstuffing.unstuff_levels.Goals as goal
-use Rattle.can_code.proofs.unstuffing.unstuff_levels.Goals.{then-now-eq-LONGEST_RUN+else-eq, else-now-eq-LONGEST_RUN}
+use Rattle.can_code.proofs.unstuffing.unstuff_levels.Goals.{then-is_longest+else-eq, else-is_longest}
 
 pub loop-now-init : goal.loop-now-init
-loop-now-init c = Unstuffs-begin c.args.digits.now c.args.room c.args.last c.args.run c.begin-now.result c.requires.some c.requires.short c.begin-now.ensures
+loop-now-init c = Unstuffs-begin c.args.digits.now c.args.room c.args.before c.begin-now.result c.requires.some c.requires.short c.begin-now.ensures
 
 pub overflow_mul-now : goal.overflow_mul-now
 overflow_mul-now c = omega (arith, next-fits c.loop-now.now.len c.loop-now.now.number c.loop-now.invariant.small (omega (arith, c.loop-now-test.true, c.requires.wide)))
@@ -23,9 +26,9 @@ overflow_add-now c =
       next-fits c.loop-now.now.len c.loop-now.now.number c.loop-now.invariant.small (omega (arith, c.loop-now-test.true, c.requires.wide)),
     )
 
-pub run_after-requires : goal.run_after-requires
-run_after-requires c =
-    let not_due : c.loop-now.now.run ≢ 5 = c.if-now-eq-LONGEST_RUN.false in
+pub and-now-requires : goal.and-now-requires
+and-now-requires c =
+    let not_due : c.loop-now.now.behind.run ≢ 5 = eqb-false c.loop-now.now.behind.run 5 (sym c.is_longest.ensures ∙ c.if-is_longest.false) in
     omega (arith, c.loop-now.invariant.short)
 
 pub loop-now-preserved : goal.loop-now-preserved
@@ -35,8 +38,8 @@ loop-now-preserved c =
     let x = c.in-Some.level in
     let bits = bits_of s.len s.number in
     let few : length bits ≤ c.args.room = omega (arith, inv.few, length-bits_of s.len s.number) in
-    elim c.if-now-eq-LONGEST_RUN.branch [
-      | then-now-eq-LONGEST_RUN+else-eq w ↦ rw w.now-is (
+    elim c.if-is_longest.branch [
+      | then-is_longest+else-eq w ↦ rw (w.now-is, w.begin-now-then-is_longest.ensures) (
           record {
             within = omega (arith, c.if-now-digits.true);
             few = inv.few;
@@ -44,20 +47,20 @@ loop-now-preserved c =
             some = omega arith;
             short = omega arith;
             heard = λ u room.
-                HearsDigits-stuff_bit (record { unstuffed = u; last = c.args.last; run = c.args.run }) (u ++ bits) s.last s.run c.args.digits.now s.taken x
-                c.if-now-digits.true c.in-Some.ensures (room bits few) (inv.heard u room) w.if-now-eq-LONGEST_RUN.true (other_level x s.last (sym w.eq.ensures ∙ w.if-eq.false));
+                HearsDigits-stuff_bit (record { unstuffed = u; last = c.args.before.last; run = c.args.before.run }) (u ++ bits) s.behind.last s.behind.run c.args.digits.now s.taken x
+                c.if-now-digits.true c.in-Some.ensures (room bits few) (inv.heard u room) (eqb-true s.behind.run 5 (sym c.is_longest.ensures ∙ w.if-is_longest.true)) (other_level x s.behind.last (ap (λ l. sameb the_type x l) (sym w.level.ensures) ∙ sym w.eq.ensures ∙ w.if-eq.false));
           })
-      | else-now-eq-LONGEST_RUN w ↦
-          let not_due : s.run ≢ 5 = w.if-now-eq-LONGEST_RUN.false in
-          rw (w.now-is, w.from.ensures, w.is_recessive.ensures, w.run_after.ensures) (
+      | else-is_longest w ↦
+          let not_due : s.behind.run ≢ 5 = eqb-false s.behind.run 5 (sym c.is_longest.ensures ∙ w.if-is_longest.false) in
+          rw (w.now-is, w.from.ensures, w.is_recessive.ensures, w.and-now.ensures) (
           record {
             within = omega (arith, c.if-now-digits.true);
             few = omega (arith, c.loop-now-test.true);
             small = next-small s.len s.number x inv.small;
-            some = run_after-ge s.last s.run x;
-            short = omega (arith, inv.short, run_after-le s.last s.run x);
+            some = run_after-ge s.behind.last s.behind.run x;
+            short = omega (arith, inv.short, run_after-le s.behind.last s.behind.run x);
             heard = λ u room.
-                HearsDigits-number (record { unstuffed = u; last = c.args.last; run = c.args.run }) u s.len s.number s.last s.run c.args.digits.now s.taken x
+                HearsDigits-number (record { unstuffed = u; last = c.args.before.last; run = c.args.before.run }) u s.len s.number s.behind.last s.behind.run c.args.digits.now s.taken x
                 c.if-now-digits.true c.in-Some.ensures (room bits few) not_due (inv.heard u room);
           })
     ]

@@ -1,6 +1,6 @@
 use Rattle.std.proofs.Common.{◌+◌, ◌≤◌, arith, length, length-drop}
 use Rattle.std.proofs.lemmas.List.{take_rest}
-use Rattle.can_code.specs.Steps.{last_of, run_of}
+use Rattle.can_code.specs.Steps.{run_at}
 use Rattle.can_code.proofs.StepLemmas.{BeginWith-block}
 use Rattle.can_code.proofs.unstuffing.unstuff_rows.Goals as goal
 
@@ -15,6 +15,6 @@ loop-now-preserved c =
     let begins = BeginWith-block digits c.in-Some.block.now r.taken c.min-count.result levels.result.count levels.result.number whole (omega (arith, c.min.ensures, c.min-count.ensures)) levels.ensures.within (rw rest at chunk.same) levels.ensures.digits in
     record {
       row = c.in-Some-step_behind.ensures.row;
-      taken = c.in-Some-step_behind.ensures.taken digits c.args.room (last_of c.args.row) (run_of c.args.row) c.loop-now.invariant.taken begins
+      taken = c.in-Some-step_behind.ensures.taken digits c.args.room (run_at c.args.row) c.loop-now.invariant.taken begins
           (omega (arith, c.min-count.ensures, c.loop-now-test.true)) c.requires.wide;
     }

@@ -1,6 +1,7 @@
-use Rattle.std.proofs.Common.{◌∙◌}
+use Rattle.std.proofs.Common.{ap, ◌∙◌}
+use Rattle.std.specs.Int.{to_le_bytes, w16}
 use Rattle.can_decode.proofs.FrameText.{pair_digits}
 use Rattle.can_decode.proofs.text.pair.Goals as goal
 
-pub returns : goal.returns
-returns c = c.to_be_bytes.ensures ∙ pair_digits c.args.number
+pub returns-clause-digits : goal.returns-clause-digits
+returns-clause-digits c = ap (to_le_bytes w16) c.from.ensures ∙ pair_digits c.args.number

@@ -7,6 +7,6 @@ use Rattle.can_code.proofs.front.Front.frame.Goals as goal
 pub frame-requires : goal.frame-requires
 frame-requires g c =
     let inside = c.self.inside in
-    let front : FrontParts = record { unstuffed = g.B.FrameBits.levels inside.bits; last = inside.last; run = inside.run } in
+    let front : FrontParts = record { unstuffed = g.B.FrameBits.levels inside.bits; last = inside.run.last; run = inside.run.run } in
     let ended = next_place-ended front (ap next_place c.self.view_is ∙ c.requires) in
     IsComplete-HasData front.unstuffed (IsFront-complete front c.self.invariant.0 ended.1)

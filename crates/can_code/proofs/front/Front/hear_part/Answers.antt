@@ -21,33 +21,33 @@ append-requires-clause-room g c =
 pub invariant_of-self : goal.invariant_of-self
 invariant_of-self g c =
     let u = g.B.FrameBits.levels c.self.inside.bits in
-    let front : FrontParts = record { unstuffed = u; last = c.self.inside.last; run = c.self.inside.run } in
+    let front : FrontParts = record { unstuffed = u; last = c.self.inside.run.last; run = c.self.inside.run.run } in
     let heard = c.unstuff-heard.result in
     let v = bits_of heard.len heard.number in
     let r = c.room_behind-room.result in
     let some : r ≢ 0 = c.if-room-eq0.false in
     let has : HasRoom u r = c.room_behind-room.ensures.room u c.len.ensures c.self.invariant.1 (omega arith) in
     let few : length v ≤ r = omega (arith, c.unstuff-heard.ensures.few, length-bits_of heard.len heard.number) in (
-      rw c.append.ensures (IsFront-run front v heard.last heard.run r c.self.invariant.0 has few c.unstuff-heard.ensures.some c.unstuff-heard.ensures.short),
+      rw c.append.ensures (IsFront-run front v heard.behind.last heard.behind.run r c.self.invariant.0 has few c.unstuff-heard.ensures.some c.unstuff-heard.ensures.short),
       c.frame_len-self-inside.ensures,
     )
 
-pub invariant_of-self-else-is_none : goal.invariant_of-self-else-is_none
-invariant_of-self-else-is_none g c =
+pub invariant_of-self-else-is_none-2 : goal.invariant_of-self-else-is_none-2
+invariant_of-self-else-is_none-2 g c =
     let u = g.B.FrameBits.levels c.self.inside.bits in
-    let front : FrontParts = record { unstuffed = u; last = c.self.inside.last; run = c.self.inside.run } in
+    let front : FrontParts = record { unstuffed = u; last = c.self.inside.run.last; run = c.self.inside.run.run } in
     let heard = c.unstuff-heard.result in
     let v = bits_of heard.len heard.number in
     let r = c.room_behind-room.result in
     let some : r ≢ 0 = c.if-room-eq0.false in
     let has : HasRoom u r = c.room_behind-room.ensures.room u c.len.ensures c.self.invariant.1 (omega arith) in
     let few : length v ≤ r = omega (arith, c.unstuff-heard.ensures.few, length-bits_of heard.len heard.number) in (
-      rw c.append.ensures (IsFront-run front v heard.last heard.run r c.self.invariant.0 has few c.unstuff-heard.ensures.some c.unstuff-heard.ensures.short),
-      rw c.append.ensures (TellsLength-more u v c.self.inside.length c.if-is_none.ensures c.self.invariant.1),
+      rw c.append.ensures (IsFront-run front v heard.behind.last heard.behind.run r c.self.invariant.0 has few c.unstuff-heard.ensures.some c.unstuff-heard.ensures.short),
+      rw c.append.ensures (TellsLength-more u v c.self.inside.length c.if-is_none-2.ensures c.self.invariant.1),
     )
 
-pub returns-then-is_none-clause-going : goal.returns-then-is_none-clause-going
-returns-then-is_none-clause-going g c =
+pub returns-then-is_none-2-clause-going : goal.returns-then-is_none-2-clause-going
+returns-then-is_none-2-clause-going g c =
     let u = g.B.FrameBits.levels c.self.inside.bits in
     let heard = c.unstuff-heard.result in
     let v = bits_of heard.len heard.number in
@@ -55,11 +55,11 @@ returns-then-is_none-clause-going g c =
     let some : r ≢ 0 = c.if-room-eq0.false in
     let has : HasRoom u r = c.room_behind-room.ensures.room u c.len.ensures c.self.invariant.1 (omega arith) in
     let few : length v ≤ r = omega (arith, c.unstuff-heard.ensures.few, length-bits_of heard.len heard.number) in
-    next_place-room (record { unstuffed = g.B.FrameBits.levels c.append.new.self; last = heard.last; run = heard.run })
+    next_place-room (record { unstuffed = g.B.FrameBits.levels c.append.new.self; last = heard.behind.last; run = heard.behind.run })
     (subst (λ t. length t < frame_len t) (sym c.append.ensures) (has v few))
 
-pub returns-else-is_none-clause-going : goal.returns-else-is_none-clause-going
-returns-else-is_none-clause-going g c =
+pub returns-else-is_none-2-clause-going : goal.returns-else-is_none-2-clause-going
+returns-else-is_none-2-clause-going g c =
     let u = g.B.FrameBits.levels c.self.inside.bits in
     let heard = c.unstuff-heard.result in
     let v = bits_of heard.len heard.number in
@@ -67,5 +67,5 @@ returns-else-is_none-clause-going g c =
     let some : r ≢ 0 = c.if-room-eq0.false in
     let has : HasRoom u r = c.room_behind-room.ensures.room u c.len.ensures c.self.invariant.1 (omega arith) in
     let few : length v ≤ r = omega (arith, c.unstuff-heard.ensures.few, length-bits_of heard.len heard.number) in
-    next_place-room (record { unstuffed = g.B.FrameBits.levels c.append.new.self; last = heard.last; run = heard.run })
+    next_place-room (record { unstuffed = g.B.FrameBits.levels c.append.new.self; last = heard.behind.last; run = heard.behind.run })
     (subst (λ t. length t < frame_len t) (sym c.append.ensures) (has v few))

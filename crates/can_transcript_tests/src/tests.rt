@@ -1,5 +1,4 @@
 //! Transcripts as they stand in documents.
-use crate::{Told, read_transcripts};
 use can_conform::{Counters, Ending, Timed};
 use can_fault::State;
 use can_frame::{Frame, Level};
@@ -7,6 +6,7 @@ use can_kit::KitFault;
 use can_mac::{ErrorKind, Event};
 use can_stream::{KitField, TranscriptField};
 use can_toml::{elements_or_none, read_document};
+use can_transcript::{Told, read_transcripts};
 use std::alloc::Global;
 use std::process::Abort;
 use std::test::Fail;

@@ -1,5 +1,5 @@
 //! Traces, whole and in pieces, and streams that fail within them.
-use crate::decode_stream;
+use can_decode::decode_stream;
 use can_stream::pieces::{ROOM, Stop, reader_of, writer_of};
 use can_stream::{FromRead, Sink, Source, ToWrite, TraceFault};
 use std::alloc::Global;

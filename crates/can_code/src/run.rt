@@ -1,0 +1,93 @@
+//! A run of equal levels, as the row of the table of steps that stands for it.
+ghost use Rattle.std.specs.Prelude.{◌≡◌, ◌==◌, ◌<◌};
+ghost use Rattle.can_wire.specs.Stuffing.{run_after as run_after_of};
+ghost use Rattle.can_code.specs.Steps.{run_at};
+
+use can_frame::Level;
+use std::marker::Model;
+
+/// How many lengths a run may have.
+const RUNS: u8 = 5;
+
+/// A level, and how many levels up to it, in a row, equal it: one to five. It is kept as a row of the table of steps,
+/// since nearly all of what is asked of it is the place of the next step.
+#[derive(Clone, Copy, Debug)]
+pub(crate) struct Run {
+    row: u8,
+}
+
+impl Model for Run {
+    ghost use Rattle.std.specs.Prelude.{◌<◌};
+    ghost use Rattle.std.proofs.Common.{ap};
+    ghost use Rattle.can_code.specs.Steps.{RunParts, row_of, run_at};
+    ghost use Rattle.can_code.specs.RunRows.{row_again};
+
+    ghost Value = { RunParts };
+
+    ghost view = { λ a. run_at a.row };
+
+    ghost invariant = { λ a. a.row < 10 };
+
+    ghost inverse = { λ v. record { row = row_of v.last v.run } };
+
+    ghost inverse_ok = { λ a within. ap (λ r. record { row = r }) (row_again a.row within) };
+}
+
+impl Run {
+    /// The first level of a run.
+    #[inline]
+    pub(crate) fn begin(level: Level) -> Run
+        ensures { result ≡ record { last = level; run = 1 } }
+    {
+        Run {
+            row: RUNS * u8::from(level.is_recessive()),
+        }
+    }
+
+    /// The run that a row of the table stands for.
+    #[inline]
+    pub(crate) fn at(row: u8) -> Run
+        requires { row < 10 }
+        ensures { result ≡ run_at row }
+    {
+        Run { row }
+    }
+
+    /// Its row of the table.
+    #[inline]
+    pub(crate) fn row(self) -> u8
+        ensures range { result < 10 }
+        ensures run { run_at result ≡ self }
+    {
+        self.row
+    }
+
+    /// Its level.
+    #[inline]
+    pub(crate) fn level(self) -> Level
+        ensures { result ≡ self.last }
+    {
+        Level::from_bool(self.row >= RUNS)
+    }
+
+    /// Whether a stuff bit stands behind it.
+    #[inline]
+    pub(crate) fn is_longest(self) -> bool
+        ensures { result ≡ (self.run == 5) }
+    {
+        self.row == RUNS - 1 || self.row == 2 * RUNS - 1
+    }
+
+    /// With one level more behind it, or the run that this level begins.
+    #[inline]
+    pub(crate) fn and(self, level: Level) -> Run
+        requires { self.run < 5 }
+        ensures { result ≡ record { last = level; run = run_after_of self.last self.run level } }
+    {
+        if level == self.level() {
+            Run { row: self.row + 1 }
+        } else {
+            Run::begin(level)
+        }
+    }
+}
