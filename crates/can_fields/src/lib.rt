@@ -12,8 +12,6 @@
 
 mod field;
 mod mark;
-#[cfg(test)]
-mod tests;
 
 pub use field::{Field, field_at};
 pub use mark::{MOST_LEVELS, Mark, marks};

@@ -11,8 +11,6 @@
 mod document;
 mod expecting;
 mod judging;
-#[cfg(test)]
-mod tests;
 
 pub use document::Document;
 pub use expecting::expected;

@@ -31,8 +31,6 @@ mod log;
 mod node;
 mod port;
 mod queue;
-#[cfg(test)]
-mod tests;
 
 pub use alike::sample_both;
 pub use either::EitherNode;

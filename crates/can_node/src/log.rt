@@ -64,6 +64,3 @@ impl Log {
         }
     }
 }
-
-#[cfg(test)]
-mod tests;

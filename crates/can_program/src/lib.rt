@@ -11,8 +11,6 @@
 mod ending;
 mod fault;
 mod process;
-#[cfg(test)]
-mod tests;
 
 pub use ending::{conclude, refuse, write_help};
 pub use fault::RunFault;

@@ -32,8 +32,6 @@ mod port_times;
 mod report;
 mod run;
 mod scenario;
-#[cfg(test)]
-mod tests;
 
 pub use can_stream::{Field, HitList, PortField};
 pub use laws::{

@@ -1,6 +1,6 @@
 //! Rows that were worked out by hand: levels, the field of each, and which are stuff bits.
-use crate::{Field, Mark, marks};
 use arrayvec::ArrayVec;
+use can_fields::{Field, Mark, marks};
 use can_frame::Level;
 use std::process::Abort;
 

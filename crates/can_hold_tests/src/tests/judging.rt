@@ -6,7 +6,7 @@ use super::tables::{
     SUSPEND_STORED, TWO_WISHES, TWO_WISHES_STORED,
 };
 use super::{changed, joined, told};
-use crate::judging::judged;
+use can_hold::judged;
 use can_stream::KitField;
 use can_verdict::Tally;
 use std::alloc::Global;

@@ -1,7 +1,7 @@
 //! What ports do in each bit time, as docs/ACCESS.md says it.
-use crate::{Brought, PortTime, Scenario, Stage, told_times};
 use can_frame::Level::{self, Dominant, Recessive};
 use can_mac::ErrorKind;
+use can_scenario::{Brought, PortTime, Scenario, Stage, told_times};
 use std::alloc::Global;
 use std::process::Abort;
 use std::test::Fail;

@@ -1,10 +1,10 @@
 mod claims;
 mod kinds;
 
-use crate::{EitherNode, Entry, PackedNode, PlainNode, Port, listen};
 use can_fault::State;
 use can_frame::{Frame, Level};
 use can_mac::{Event, Phase};
+use can_node::{EitherNode, Entry, PackedNode, PlainNode, Port, listen};
 use std::alloc::{AllocError, Global};
 use std::test::Fail;
 

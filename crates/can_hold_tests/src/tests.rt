@@ -4,7 +4,7 @@ mod expecting;
 mod judging;
 mod tables;
 
-use crate::document::Document;
+use can_hold::Document;
 use can_stream::{Field, KitField, TraceFault};
 use std::alloc::{AllocError, Global};
 use std::test::Fail;

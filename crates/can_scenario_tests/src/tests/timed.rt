@@ -1,8 +1,5 @@
 //! Scenarios of version 2, whose frames are offered while the bus runs.
-use crate::Scenario;
-use crate::tests::run::{WIRE_000, WIRE_001, ends_with, reports};
-use std::alloc::Global;
-use std::process::Abort;
+use super::run::{Row, WIRE_000, WIRE_001, assert_reported, ends_with};
 use std::test::Fail;
 
 /// The levels of `S 009 D 0`, acknowledged.
@@ -15,13 +12,6 @@ const WIRE_123_REMOTE: &str = "000100100011100000100011011100111011011111111";
 
 const WIRE_123_EXTENDED: &str =
     "000100100011110000010000010000010000010000011011110001101111011111111";
-
-/// A document, and the levels and the ports of its report.
-struct Row<'a> {
-    text: &'a str,
-    levels: &'a [&'a str],
-    ports: &'a str,
-}
 
 /// `S 009 D 0` is offered in the last bit time of the first frame's intermission, and `S 000 D 0` in the bit
 /// time behind it: the better one goes first. It stands first in its queue, though it is offered last.
@@ -128,12 +118,6 @@ port 2 active tec 0 rec 0 missed 0
 ",
 };
 
-/// The report of the row's document is the row's.
-fn assert_reported(rt: &impl Abort, alloc: Global, row: &Row) -> Result<(), Fail> {
-    let scenario = Scenario::from_text(alloc, row.text.as_bytes())?;
-    reports(rt, alloc, &scenario, row.levels, row.ports)
-}
-
 #[test]
 fn offers_meanwhile(rt: HostRuntime) -> Result<(), Fail> {
     for row in [
@@ -152,9 +136,8 @@ fn offers_meanwhile(rt: HostRuntime) -> Result<(), Fail> {
 /// first. A third that is offered earlier goes before both, though it stands behind them.
 #[test]
 fn frames_of_one_field_in_their_order(rt: HostRuntime) -> Result<(), Fail> {
-    let text = b"version = 2\nbits = 300\n[[port]]\n\
+    let text = "version = 2\nbits = 300\n[[port]]\n\
         queue = [[4, \"S 000 D 2 0000\"], [4, \"S 000 D 1 00\"], [3, \"S 000 D 0\"]]\n[[port]]\n";
-    let timed = Scenario::from_text(rt.alloc(), text)?;
     let ports = "\nport 0 active tec 0 rec 0 missed 0
   sent S 000 D 0
   sent S 000 D 2 0000
@@ -164,5 +147,5 @@ port 1 active tec 0 rec 0 missed 0
   took S 000 D 2 0000
   took S 000 D 1 00
 ";
-    ends_with(&rt, rt.alloc(), &timed, ports)
+    ends_with(&rt, rt.alloc(), text, ports)
 }

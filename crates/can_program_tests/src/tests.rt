@@ -1,7 +1,7 @@
 //! Faults, their lines and statuses.
 ghost use Rattle.std.specs.Prelude.{◌≡◌, false};
 
-use crate::{RunFault, conclude, refuse, words_or_status, write_help};
+use can_program::{RunFault, conclude, refuse, words_or_status, write_help};
 use can_stream::pieces::{ROOM, Stop, Taker, writer_of};
 use can_stream::{Field, KitField, PortField, ToWrite, TraceFault, TranscriptField};
 use std::alloc::Global;

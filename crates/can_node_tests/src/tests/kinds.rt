@@ -1,9 +1,9 @@
 //! Nodes of both kinds beside each other.
 
 use super::{WIRE_000, WIRE_001, frame, levels, sent, taken};
-use crate::{EitherNode, PackedNode, PlainNode, Port, sample_both};
 use can_frame::Level;
 use can_mac::Event;
+use can_node::{EitherNode, PackedNode, PlainNode, Port, sample_both};
 use std::process::Abort;
 use std::test::Fail;
 

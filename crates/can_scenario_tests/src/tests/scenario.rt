@@ -1,5 +1,5 @@
 //! Documents that are refused, each for its first wrong field, and documents that are taken.
-use crate::Scenario;
+use can_scenario::Scenario;
 use std::alloc::{AllocError, Global};
 use std::process::Abort;
 use std::test::Fail;

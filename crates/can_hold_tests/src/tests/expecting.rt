@@ -4,8 +4,7 @@ use super::tables::{
     START_STORED, SUSPEND, TWO_WISHES,
 };
 use super::{changed, joined, told};
-use crate::expecting::expected;
-use crate::judging::judged;
+use can_hold::{expected, judged};
 use can_stream::{CaseField, KitField, TranscriptField};
 use std::alloc::Global;
 use std::process::Abort;

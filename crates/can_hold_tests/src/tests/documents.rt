@@ -1,7 +1,7 @@
 //! What documents are refused for, in the order in which it is tested, and what they say.
 use super::tables::{FORM_ERROR, FORM_ERROR_TOLD, START, START_STORED};
 use super::{joined, refusal, told};
-use crate::document::Document;
+use can_hold::Document;
 use can_stream::{CaseField, KitField, TranscriptField};
 use std::alloc::{AllocError, Global};
 use std::test::Fail;

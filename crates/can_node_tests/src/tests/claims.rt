@@ -2,10 +2,10 @@
 ghost use Rattle.std.specs.Prelude.{◌<◌};
 
 use super::Kind;
-use crate::{EitherNode, Port, listen};
 use can_code::{Heard, decode, respell};
 use can_frame::{Frame, Id, Level};
 use can_mac::Event;
+use can_node::{EitherNode, Port, listen};
 use std::alloc::{AllocError, Global};
 use std::process::Abort;
 use std::test::Fail;

@@ -1,79 +1,53 @@
 //! The disturbances of documents, and the first that is wrong.
-use crate::scenario::hits::read_hits;
-use crate::scenario::{Field, HitList};
-use can_bus::Hit;
-use can_stream::TraceFault;
+use can_scenario::Scenario;
 use std::alloc::Global;
 use std::process::Abort;
 use std::test::Fail;
 
-/// What the lists of the text say on a bus of two ports.
-fn read(alloc: Global, text: &str) -> Result<Vec<Hit>, TraceFault> {
-    match toml::table_from_str(alloc, text) {
-        Ok(document) => read_hits(alloc, &document, 2),
-        Err(_) => Err(TraceFault::ScenarioField(Field::Document)),
-    }
+/// A document of a bus of two ports with these lists.
+fn document(alloc: Global, lists: &str) -> Result<String, Fail> {
+    Ok(format!(in alloc; "version = 1\nbits = 5\n{lists}[[port]]\n[[port]]\n")?)
 }
 
-/// Each text says no hits, and this is told of it.
+/// The lists say no hits, and this is told of each document.
 fn are_told(rt: &impl Abort, alloc: Global, rows: &[(&str, &str)]) -> Result<(), Fail> {
-    for (text, wrong) in rows {
-        match read(alloc, text) {
-            Ok(_) => assert!(rt; false, "{text}"),
-            Err(fault) => assert_eq!(rt; format!(in alloc; "{fault}")?.as_str(), *wrong, "{text}"),
+    for (lists, wrong) in rows {
+        let document = document(alloc, lists)?;
+        match Scenario::from_text(alloc, document.as_bytes()) {
+            Ok(_) => assert!(rt; false, "{lists}"),
+            Err(fault) => assert_eq!(rt; format!(in alloc; "{fault}")?.as_str(), *wrong, "{lists}"),
         }
     }
     Ok(())
 }
 
-/// Texts, and the hits that they say: the lists come in one order, whatever the order of the document's fields.
-const SAID: &[(&str, &[Hit])] = &[
-    ("", &[]),
-    ("at = []\nin = []\nview = []\n", &[]),
+/// Lists, and the hits that they say: the lists come in one order, whatever the order of the document's fields.
+const SAID: &[(&str, &str)] = &[
+    ("", "hits: [] }"),
+    ("at = []\nin = []\nview = []\n", "hits: [] }"),
     (
         "view = [[3, 1]]\nin = [[2, 1]]\nat = [5]\n",
-        &[
-            Hit::At(5),
-            Hit::In {
-                attempt: 2,
-                offset: 1,
-            },
-            Hit::View { time: 3, node: 1 },
-        ],
+        "hits: [At(5), In { attempt: 2, offset: 1 }, View { time: 3, node: 1 }] }",
     ),
     (
         "in = [[0, 7], [1, 2], [1, 3]]\nview = [[4, 0], [4, 1], [5, 0]]\n",
-        &[
-            Hit::In {
-                attempt: 0,
-                offset: 7,
-            },
-            Hit::In {
-                attempt: 1,
-                offset: 2,
-            },
-            Hit::In {
-                attempt: 1,
-                offset: 3,
-            },
-            Hit::View { time: 4, node: 0 },
-            Hit::View { time: 4, node: 1 },
-            Hit::View { time: 5, node: 0 },
-        ],
+        "hits: [In { attempt: 0, offset: 7 }, In { attempt: 1, offset: 2 }, In { attempt: 1, offset: 3 }, \
+         View { time: 4, node: 0 }, View { time: 4, node: 1 }, View { time: 5, node: 0 }] }",
     ),
     (
         "at = [0, 9223372036854775807]\n",
-        &[Hit::At(0), Hit::At(9_223_372_036_854_775_807)],
+        "hits: [At(0), At(9223372036854775807)] }",
     ),
 ];
 
 #[test]
 fn hits_of_documents(rt: HostRuntime) -> Result<(), Fail> {
-    for (text, hits) in SAID {
-        let read = read(rt.alloc(), text);
+    let alloc = rt.alloc();
+    for (lists, hits) in SAID {
+        let scenario = Scenario::from_text(alloc, document(alloc, lists)?.as_bytes())?;
         assert!(rt;
-            matches!(&read, Ok(found) if found.as_slice() == *hits),
-            "{text}"
+            format!(in alloc; "{scenario:?}")?.ends_with(hits),
+            "{lists}"
         );
     }
     Ok(())

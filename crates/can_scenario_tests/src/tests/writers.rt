@@ -1,6 +1,6 @@
-//! Writers that fail in a report, and memory that runs out.
-use crate::scenario::Scenario;
-use crate::tests::run::{IDLE, Port, WITH_000, WITH_001, of_ports, report_of, run_into};
+//! Writers that fail in a report.
+use super::run::{report_of, run_into};
+use can_scenario::Scenario;
 use can_stream::TraceFault;
 use can_stream::pieces::{ROOM, Stop};
 use std::alloc::Global;
@@ -27,11 +27,15 @@ fn assert_fails(
     Ok(())
 }
 
-/// The buffer is filled twice. What was taken is a beginning of the report, and no more is written.
+/// A run whose report fills the buffer twice.
+const LONG: &[u8] = b"version = 1\nbits = 140000\n\
+    [[port]]\nqueue = [\"S 001 D 0\"]\n[[port]]\nqueue = [\"S 000 D 0\"]\n";
+
+/// What was taken is a beginning of the report, and no more is written.
 #[test]
 fn failing_writes(rt: HostRuntime) -> Result<(), Fail> {
     let alloc = rt.alloc();
-    let long = of_ports(&rt, alloc, 140_000, &[WITH_001, WITH_000], &[])?;
+    let long = Scenario::from_text(alloc, LONG)?;
     let report = report_of(alloc, &long)?;
     for stop in [Stop::Nothing, Stop::Fails(ErrorKind::Interrupted)] {
         for size in [1, 4096, ROOM] {
@@ -40,21 +44,5 @@ fn failing_writes(rt: HostRuntime) -> Result<(), Fail> {
             }
         }
     }
-    Ok(())
-}
-
-/// A log that no memory has room for: nothing is written.
-#[test]
-fn no_memory(rt: HostRuntime) -> Result<(), Fail> {
-    let endless = Port {
-        log_room: usize::MAX,
-        ..IDLE
-    };
-    let two = of_ports(&rt, rt.alloc(), 103, &[WITH_001, endless], &[])?;
-    let left = run_into(rt.alloc(), &two, ROOM, ROOM, Stop::Nothing);
-    assert_eq!(rt; left.end, Err(TraceFault::Memory));
-    assert!(rt; !left.failed);
-    assert_eq!(rt; left.stops, 0);
-    assert!(rt; left.taken.is_empty());
     Ok(())
 }
