@@ -18,6 +18,7 @@ ANSWER_SECONDS = 10.0
 SECONDS_A_LEVEL = 0.001
 ENDING_SECONDS = 2.0
 MOST_SHOWN = 60
+MOST_DIGITS = 9
 
 
 class Void(Exception):
@@ -32,6 +33,11 @@ def _is_other(line: bytes) -> Void:
     """The answer is another than due. The reason shows the line, its first bytes where it is long."""
     text = ascii(line[:MOST_SHOWN].decode("latin-1"))
     return Void(f"protocol: {text}" + (" .." if len(line) > MOST_SHOWN else ""))
+
+
+def _is_number(word: str) -> bool:
+    """Whether it is a number that an adapter may answer: digits, and no more than any of its answers needs."""
+    return word.isdigit() and len(word) <= MOST_DIGITS
 
 
 class Adapter:
@@ -125,7 +131,7 @@ class Adapter:
                 break
             place, _, event = rest.partition(" ")
             last = events[-1][0] if events else -1
-            if not place.isdigit() or not last < int(place) < len(levels) or not is_event(event):
+            if not _is_number(place) or not last < int(place) < len(levels) or not is_event(event):
                 raise _is_other(line.encode())
             events.append((int(place), event))
         if word != "drove" or len(rest) != len(levels) or rest.strip("01"):
@@ -140,7 +146,7 @@ class Adapter:
         if words == ["state", "unknown"]:
             return None
         good = len(words) == 4 and words[0] == "state" and words[1] in ("active", "passive", "off")
-        if not good or not (words[2].isdigit() and words[3].isdigit()):
+        if not good or not (_is_number(words[2]) and _is_number(words[3])):
             raise _is_other(line.encode())
         return words[1], int(words[2]), int(words[3])
 

@@ -59,12 +59,18 @@ def summary_lines(verdicts: Iterable[Verdict]) -> List[str]:
     return [f"  {name:{width}}  {count_line(of)}" for name, of in families.items()]
 
 
-def exit_status(verdicts: Iterable[Verdict]) -> int:
-    """0 where all passed or were skipped, 1 where one failed, 3 where one is void."""
+NOTHING_COMPARED = 5
+
+
+def exit_status(verdicts: Iterable[Verdict], only_plays: bool = False) -> int:
+    """0 where all passed or were skipped, 1 where one failed, 3 where one is void, and 5 where none was compared with
+    anything; a run that only plays, to write transcripts, has to have played one."""
     kinds = {verdict.kind for verdict in verdicts}
     if "void" in kinds:
         return 3
-    return 1 if "fail" in kinds else 0
+    if "fail" in kinds:
+        return 1
+    return 0 if "pass" in kinds or only_plays and "played" in kinds else NOTHING_COMPARED
 
 
 def _shown(text: str) -> str:

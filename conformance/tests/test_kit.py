@@ -113,6 +113,9 @@ class Playing(unittest.TestCase):
             ("echo error why", "error why"),
             (f"echo {'x' * 70}", f"protocol: '{'x' * 60}' .."),
         )
+        for answer in (f"drove {'1' * 20}\nstate active {'9' * 5000} 0", f"event {'9' * 5000} lost"):
+            start = f"printf 'can-kit 1 many\nready\n{answer}\n'; cat > /dev/null"
+            reasons += ((start, f"protocol: '{answer.splitlines()[-1][:60]}' .."),)
         for command, reason in reasons:
             with Session(["sh", "-c", command]) as session:
                 self.assertEqual([(one.kind, one.detail) for one in session.play_all([case])], [("void", reason)])

@@ -49,6 +49,24 @@ class Runs(unittest.TestCase):
         self.assertEqual(run.stdout.splitlines()[3], "stopped: three cases in a row are void, and no more are played")
         self.assertEqual((run.returncode, run.stdout.splitlines()[-1]), (3, "passed 0 failed 0 void 3 skipped 0 of 3"))
 
+    def test_a_run_that_compares_nothing_does_not_pass(self) -> None:
+        """All cases are skipped, or there is no expected transcript; but a run that only writes transcripts plays alone."""
+        skipping = ["sh", "-c", "printf 'can-kit 1 none\nskip all\n'; cat > /dev/null"]
+        silent = [sys.executable, "-c", SILENT]
+        elsewhere = ["--expect", os.path.join(TOP, "transcripts", "rx-dlc.toml")]
+        told = "run: nothing was compared: no case was played that has an expected transcript\n"
+        written = ["--transcripts", self.path("told.toml")]
+        for options, command, status in (
+            (["--expect", TRANSCRIPTS, "--without", "forced"], skipping, 5),
+            ([*elsewhere], silent, 5),
+            ([], silent, 5),
+            (written, silent, 0),
+            (written, skipping, 5),
+        ):
+            words = [os.path.join(TOP, "run"), "--only", "arbitration-equal-same", *options, "--", *command]
+            run = subprocess.run([sys.executable, *words], capture_output=True, text=True, timeout=60)
+            self.assertEqual((run.returncode, run.stderr), (status, told if status else ""))
+
     def test_wrong_uses(self) -> None:
         """A run of no case doesn't pass, and no option ends in a stack of calls."""
         nowhere = self.path("nowhere/told")
