@@ -1,9 +1,12 @@
 #!/usr/bin/env python3
 """Decodes a trace, as `canbit decode` does: its frames and its faults, a line for each, with their places.
 
-    bindings/examples/decode_trace.py < examples/trace.txt
+    bindings/examples/decode_trace.py examples/trace.txt
+
+Without a file it reads standard input.
 """
 
+import argparse
 import pathlib
 import sys
 from collections.abc import Iterator
@@ -52,8 +55,10 @@ def lines(levels: bytes) -> Iterator[str]:
 
 
 def main() -> None:
-    """Reads a trace of `0` and `1` on standard input."""
-    levels = bytes(int(letter) for letter in sys.stdin.read() if not letter.isspace())
+    """Reads a trace of `0` and `1`."""
+    words = argparse.ArgumentParser(description="Decodes a trace, as canbit decode does.")
+    words.add_argument("trace", nargs="?", type=argparse.FileType(), default=sys.stdin, help="a file of `0` and `1`")
+    levels = bytes(int(letter) for letter in words.parse_args().trace.read() if not letter.isspace())
     for line in lines(levels):
         print(line)
 

@@ -21,14 +21,16 @@ import ctypes
 import enum
 import os
 import pathlib
+import threading
 from collections.abc import Iterator
 from dataclasses import dataclass
 from types import TracebackType
-from typing import NamedTuple, Optional, Type
+from typing import NamedTuple, NoReturn, Optional, Type
 
 __all__ = [
     "DOMINANT",
     "RECESSIVE",
+    "BadFrame",
     "Counters",
     "Entry",
     "Event",
@@ -110,6 +112,14 @@ class Refused(RiddlesageError):
         super().__init__(status.name.lower().replace("_", " "))
         self.status = status
 
+    def __reduce__(self) -> tuple[Type[Refused], tuple[Status]]:
+        """How it is made again, where it is pickled or copied."""
+        return type(self), (self.status,)
+
+
+class BadFrame(Refused, ValueError):
+    """What was to be a frame is none: its identifier or its DLC is out of range."""
+
 
 class Fault(RiddlesageError):
     """Levels begin with no frame. `place` levels stand before the first one that is wrong."""
@@ -118,6 +128,10 @@ class Fault(RiddlesageError):
         super().__init__(f"{status.name.lower().replace('_', ' ')} at {place}")
         self.status = status
         self.place = place
+
+    def __reduce__(self) -> tuple[Type[Fault], tuple[Status, int]]:
+        """How it is made again, where it is pickled or copied."""
+        return type(self), (self.status, self.place)
 
     @property
     def name(self) -> str:
@@ -201,10 +215,10 @@ def _demand(status: int) -> None:
         raise Refused(Status(status))
 
 
-def _in_range(value: int, bits: int, status: Status) -> int:
+def _in_range(value: int, bits: int, refusal: Refused) -> int:
     """The number, where the library's field has so many bits; a field holds no other number."""
     if not 0 <= value < 1 << bits:
-        raise Refused(status)
+        raise refusal
     return value
 
 
@@ -212,8 +226,8 @@ def _in_range(value: int, bits: int, status: Status) -> int:
 class Frame:
     """A data frame or a remote frame.
 
-    The DLC is the number of data bytes where it is left out, and 0 for a remote frame. What is no frame is refused
-    where it is offered or encoded, but for data that is not the DLC's: that is a ValueError here.
+    The DLC is the number of data bytes where it is left out, and 0 for a remote frame. What is no frame is a BadFrame,
+    which is a ValueError, and so is data that is not the DLC's.
     """
 
     identifier: int
@@ -223,21 +237,40 @@ class Frame:
     dlc: int = -1
 
     def __post_init__(self) -> None:
+        if isinstance(self.data, int):
+            raise TypeError("the data of a frame are bytes, and not a number")
         object.__setattr__(self, "data", bytes(self.data))
         if self.dlc == -1:
             object.__setattr__(self, "dlc", len(self.data))
         if len(self.data) != (0 if self.remote else min(self.dlc, 8)):
             raise ValueError(f"{len(self.data)} data bytes are not those of DLC {self.dlc}")
+        _encoded(self)
 
     def _plain(self) -> _Frame:
         plain = _Frame(
-            _in_range(self.identifier, 32, Status.BAD_IDENTIFIER),
+            _in_range(self.identifier, 32, BadFrame(Status.BAD_IDENTIFIER)),
             bool(self.extended),
             bool(self.remote),
-            _in_range(self.dlc, 8, Status.BAD_DLC),
+            _in_range(self.dlc, 8, BadFrame(Status.BAD_DLC)),
         )
         plain.data[: len(self.data)] = self.data
         return plain
+
+
+def _encoded(frame: Frame) -> bytes:
+    """The levels of a frame, which the library refuses where it is none."""
+    levels = ctypes.create_string_buffer(_MOST_LEVELS)
+    count = ctypes.c_size_t()
+    status = _lib.riddlesage_encode(_plain_of(frame), levels, _MOST_LEVELS, count)
+    if status:
+        raise BadFrame(Status(status))
+    return levels.raw[: count.value]
+
+
+def _plain_of(frame: Frame) -> _Frame:
+    if not isinstance(frame, Frame):
+        raise TypeError(f"a Frame is wanted, and not {type(frame).__name__}")
+    return frame._plain()
 
 
 def _frame(plain: _Frame) -> Frame:
@@ -291,10 +324,18 @@ class Heard:
 
 
 class Port:
-    """A controller with a queue of frames to send and a log of the frames that were on the bus."""
+    """A controller with a queue of frames to send and a log of the frames that were on the bus.
+
+    Threads may share a port: each call waits until that of another thread has ended. A port is neither copied nor pickled.
+    """
 
     def __init__(self, queue: int = 16, log: int = 64, *, joining: bool = False) -> None:
         """Makes a port with so much room, on the bus and idle, or `joining`: it waits for eleven recessive levels."""
+        if queue < 0 or log < 0:
+            raise ValueError("a port has no negative room")
+        if max(queue, log) >= 1 << 63:
+            raise MemoryError
+        self._lock = threading.Lock()
         self._port = _Port()
         self._at = ctypes.byref(self._port)
         self._level = ctypes.c_uint8()
@@ -305,8 +346,6 @@ class Port:
         self._event_at = ctypes.byref(self._event)
         self._told_at = ctypes.byref(self._told)
         make = _lib.riddlesage_port_joining if joining else _lib.riddlesage_port_idle
-        if queue < 0 or log < 0 or max(queue, log) >= 1 << 63:
-            raise MemoryError
         status = make(self._port, queue, log)
         if status == Status.NO_MEMORY:
             raise MemoryError
@@ -314,7 +353,8 @@ class Port:
 
     def close(self) -> None:
         """Frees the port. Further calls are refused, but for this one."""
-        _demand(_lib.riddlesage_port_free(self._port))
+        with self._lock:
+            _demand(_lib.riddlesage_port_free(self._port))
 
     def __enter__(self) -> Port:
         return self
@@ -331,82 +371,96 @@ class Port:
         if hasattr(self, "_port"):
             _lib.riddlesage_port_free(self._port)
 
+    def __reduce__(self) -> NoReturn:
+        """A port stays where it was made."""
+        raise TypeError("a port is neither copied nor pickled")
+
     def offer(self, frame: Frame) -> None:
         """Offers a frame, which waits behind those that were offered before."""
-        _demand(_lib.riddlesage_port_offer(self._port, frame._plain()))
+        plain = _plain_of(frame)
+        with self._lock:
+            _demand(_lib.riddlesage_port_offer(self._port, plain))
 
     def hold(self, count: int) -> None:
         """Asks for so many overload frames of the port's own, 0 to 2, in place of an earlier wish."""
-        _demand(_lib.riddlesage_port_hold(self._port, _in_range(count, 8, Status.BAD_COUNT)))
+        wish = _in_range(count, 8, Refused(Status.BAD_COUNT))
+        with self._lock:
+            _demand(_lib.riddlesage_port_hold(self._port, wish))
 
     def drive(self) -> int:
         """Tells the level that the port drives in this bit time. The port stays as it is."""
-        status = _drive(*self._drive_arguments)
+        with self._lock:
+            status = _drive(*self._drive_arguments)
+            level = self._level.value
         if status:
             raise Refused(Status(status))
-        return self._level.value
+        return level
 
     def sample(self, level: int) -> Optional[Told]:
         """Samples the level that the bus has in this bit time, and tells what it brought, if anything."""
         if level != 0 and level != 1:
             raise Refused(Status.BAD_LEVEL)
-        status = _sample(self._at, self._levels[level], self._event_at, self._told_at)
+        with self._lock:
+            status = _sample(self._at, self._levels[level], self._event_at, self._told_at)
+            code = self._event.value
+            frame = _frame(self._told) if not status and 0 < code <= Event.RECEIVED else None
         if status:
             raise Refused(Status(status))
-        code = self._event.value
-        if not code:
-            return None
-        return Told(Event(code), _frame(self._told) if code <= Event.RECEIVED else None)
+        return Told(Event(code), frame) if code else None
 
     def run(self, levels: bytes) -> Run:
         """Samples these levels, one a bit time, whatever the port drives."""
         count = len(levels)
         drives = ctypes.create_string_buffer(count)
         events = ctypes.create_string_buffer(count)
-        _demand(_lib.riddlesage_port_run(self._port, bytes(levels), count, drives, events))
+        with self._lock:
+            _demand(_lib.riddlesage_port_run(self._port, bytes(levels), count, drives, events))
         return Run(drives.raw, events.raw)
 
     @property
     def counters(self) -> Counters:
         """The error counters."""
         transmit, receive = ctypes.c_uint16(), ctypes.c_uint16()
-        _demand(_lib.riddlesage_port_counters(self._port, transmit, receive))
+        with self._lock:
+            _demand(_lib.riddlesage_port_counters(self._port, transmit, receive))
         return Counters(transmit.value, receive.value)
 
     @property
     def state(self) -> State:
         """The state of fault confinement."""
         state = ctypes.c_uint8()
-        _demand(_lib.riddlesage_port_state(self._port, state))
+        with self._lock:
+            _demand(_lib.riddlesage_port_state(self._port, state))
         return State(state.value)
 
     @property
     def missed(self) -> int:
         """How many entries the log had no room for."""
         count = ctypes.c_uint32()
-        _demand(_lib.riddlesage_port_missed(self._port, count))
+        with self._lock:
+            _demand(_lib.riddlesage_port_missed(self._port, count))
         return count.value
 
     @property
     def log(self) -> list[Entry]:
         """The frames that were sent and received, the oldest first."""
         count = ctypes.c_size_t()
-        _demand(_lib.riddlesage_port_log_length(self._port, count))
+        with self._lock:
+            _demand(_lib.riddlesage_port_log_length(self._port, count))
         return [self.entry(number) for number in range(count.value)]
 
     def entry(self, number: int) -> Entry:
         """The entry of the log with this number, the oldest having 0."""
         frame, sent = _Frame(), ctypes.c_uint8()
-        _demand(_lib.riddlesage_port_entry(self._port, _in_range(number, 64, Status.NO_ENTRY), frame, sent))
+        place = _in_range(number, 64, Refused(Status.NO_ENTRY))
+        with self._lock:
+            _demand(_lib.riddlesage_port_entry(self._port, place, frame, sent))
         return Entry(_frame(frame), bool(sent.value))
 
 
 def encode(frame: Frame) -> bytes:
     """The levels of the frame as its sender drives them, from the start of frame to the end of frame."""
-    levels = ctypes.create_string_buffer(_MOST_LEVELS)
-    count = ctypes.c_size_t()
-    _demand(_lib.riddlesage_encode(frame._plain(), levels, _MOST_LEVELS, count))
-    return levels.raw[: count.value]
+    return _encoded(frame)
 
 
 def decode(levels: bytes) -> Heard:

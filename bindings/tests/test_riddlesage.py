@@ -2,11 +2,14 @@
 
 from __future__ import annotations
 
+import copy
 import ctypes
 import doctest
 import pathlib
+import pickle
 import subprocess
 import sys
+import threading
 import tomllib
 import unittest
 from typing import Optional
@@ -16,7 +19,7 @@ TOP = HERE.parent.parent
 sys.path[:0] = [str(HERE), str(HERE.parent / "python")]
 
 import riddlesage  # noqa: E402
-from riddlesage import Event, Fault, Frame, Port, Refused, State, Status, Told, decode, encode  # noqa: E402
+from riddlesage import BadFrame, Event, Fault, Frame, Port, Refused, State, Status, Told, decode, encode  # noqa: E402
 from scenarios import STATES, frame_of, report, text_of  # noqa: E402
 
 
@@ -159,10 +162,11 @@ class Scenarios(unittest.TestCase):
 
     def test_trace(self) -> None:
         """The script that decodes a trace."""
-        with (TOP / "examples" / "trace.txt").open("rb") as trace:
-            told = subprocess.run(
-                [sys.executable, HERE.parent / "examples" / "decode_trace.py"], stdin=trace, capture_output=True, check=True
-            )
+        script, path = HERE.parent / "examples" / "decode_trace.py", TOP / "examples" / "trace.txt"
+        told = subprocess.run([sys.executable, script, path], capture_output=True, check=True)
+        with path.open("rb") as trace:
+            piped = subprocess.run([sys.executable, script], stdin=trace, capture_output=True, check=True)
+        self.assertEqual(told.stdout, piped.stdout)
         lines = [
             "11 S 123 D 0 ack",
             "59 E 048c0000 D 0 noack",
@@ -185,16 +189,53 @@ class Refusals(unittest.TestCase):
 
     def test_frames(self) -> None:
         """Frames that are none."""
-        for call in (Port().offer, encode):
-            self.refused(Status.BAD_IDENTIFIER, call, Frame(0x800))
-            self.refused(Status.BAD_IDENTIFIER, call, Frame(1 << 29, extended=True))
-            self.refused(Status.BAD_IDENTIFIER, call, Frame(1 << 40))
-            self.refused(Status.BAD_IDENTIFIER, call, Frame(-1))
-            self.refused(Status.BAD_DLC, call, Frame(0, remote=True, dlc=200))
-            self.refused(Status.BAD_DLC, call, Frame(0, remote=True, dlc=300))
+        for identifier, extended in ((0x800, False), (1 << 29, True), (1 << 40, True), (-1, False)):
+            self.refused(Status.BAD_IDENTIFIER, Frame, identifier, b"", extended)
+        for dlc in (16, 200, 300):
+            self.refused(Status.BAD_DLC, Frame, 0, b"", False, True, dlc)
         for data, dlc, remote in ((b"", 1, False), (b"123456789", -1, False), (b"1", 1, True)):
             with self.assertRaises(ValueError):
                 Frame(0, data, dlc=dlc, remote=remote)
+        self.assertTrue(issubclass(BadFrame, ValueError))
+
+    def test_types(self) -> None:
+        """What is no frame, no number, no bytes at all."""
+        for call, *words in (
+            (encode, 1), (encode, None), (Port().offer, "S 123 D 0"), (Frame, None), (Frame, "1"), (Frame, 1, 5), (Frame, 1, "5"),
+            (decode, "01"), (Port, "1"),
+        ):
+            with self.assertRaises(TypeError):
+                call(*words)
+
+    def test_copies(self) -> None:
+        """Errors are pickled as they are, and ports are not."""
+        for error in (Refused(Status.QUEUE_FULL), BadFrame(Status.BAD_DLC), Fault(Status.STUFF, 5)):
+            again = pickle.loads(pickle.dumps(error))
+            self.assertEqual((type(again), str(again), again.__dict__), (type(error), str(error), error.__dict__))
+        port = Port()
+        for copied in (copy.copy, copy.deepcopy, pickle.dumps):
+            with self.assertRaises(TypeError):
+                copied(port)
+        self.assertEqual(port.drive(), 1)
+
+    def test_threads(self) -> None:
+        """A call waits for that of another thread."""
+        port, errors = Port(), []
+
+        def use() -> None:
+            try:
+                for _ in range(200):
+                    port.run(bytes([1]) * 500)
+                    port.sample(port.drive())
+            except Refused as refused:
+                errors.append(refused)
+
+        threads = [threading.Thread(target=use) for _ in range(4)]
+        for thread in threads:
+            thread.start()
+        for thread in threads:
+            thread.join()
+        self.assertEqual(errors, [])
 
     def test_ports(self) -> None:
         """Calls of a port."""
@@ -209,8 +250,11 @@ class Refusals(unittest.TestCase):
         self.refused(Status.NO_ENTRY, port.entry, -1)
         port.offer(Frame(0))
         self.refused(Status.QUEUE_FULL, port.offer, Frame(0))
-        for room in ((1 << 62, 1), (1, 1 << 62), (1 << 70, 1), (-1, 1)):
+        for room in ((1 << 62, 1), (1, 1 << 62), (1 << 70, 1)):
             with self.assertRaises(MemoryError):
+                Port(*room)
+        for room in ((-1, 1), (1, -1)):
+            with self.assertRaises(ValueError):
                 Port(*room)
 
     def test_closed(self) -> None:
