@@ -192,7 +192,7 @@ def _unseen_overload_flag(book: Book) -> None:
         probe_tec(scene)
 
 
-@family("passive-receiver", "an error passive receiver: a frame, each kind of error, no suspend")
+@family("passive-receiver", "an error passive receiver: a frame, each kind of error, no suspend, intermission 3")
 def passive_receiver_family(book: Book) -> None:
     wire = Frame.parse(RECEIVED).wire()
     wrong = Frame.parse(RECEIVED).wire("crc-5")
@@ -227,6 +227,13 @@ def passive_receiver_family(book: Book) -> None:
         scene.receive(RECEIVED, (OWN,))
         scene.wait()
         scene.sent(OWN)
+        scene.rest(12)
+    with book.case("joins", "a frame begins at the third level of intermission: its own that waits is sent") as scene:
+        passive_receiver(scene)
+        scene.receive(RECEIVED, (OWN,))
+        scene.rest(2, "two levels of intermission")
+        scene.play("0", "the third one dominant")
+        scene.play("1" * (Frame.parse(OWN).wire().place("ack") - 1) + "0" + "1" * 8, f"listens to {OWN}")
         scene.rest(12)
 
 
@@ -326,12 +333,14 @@ def _unacknowledged(scene: Scene, pattern: str, frame: str = OWN) -> None:
     """A passive sender without acknowledgement, these levels behind the slot, and the frame again."""
     scene.sending(frame, Frame.parse(frame).wire().place("ack"))
     scene.play("1", "no acknowledgement")
-    scene.play(pattern, "within the passive flag")
+    flag, _, delimiter = pattern.partition(" ")
+    scene.play(flag, "within the passive flag")
+    scene.play(delimiter, "within the delimiter")
     scene.wait("delimiter, intermission, suspend")
     scene.sent(frame)
 
 
-@family("passive-unacknowledged", "alone 40 times; dominant levels within the flag, behind it; probes of TEC")
+@family("passive-unacknowledged", "alone 40 times; dominant levels within the flag, behind it, in the delimiter; probes of TEC")
 def passive_unacknowledged(book: Book) -> None:
     with book.case("alone", "alone on the bus its TEC stays at 128") as scene:
         scene.anchor(PROBE_FRAME)
@@ -351,6 +360,8 @@ def passive_unacknowledged(book: Book) -> None:
         ("several", "01101111111", "several dominant levels count once"),
         ("completed", "000000", "dominant levels that complete the flag count once"),
         ("behind", "1111110", "a dominant level behind the flag does not count"),
+        ("delimiter-4", "111111 1110", "a dominant fourth level of the delimiter counts for its own error alone"),
+        ("delimiter-8", "111111 11111110111111", "a dominant last level of the delimiter counts nothing"),
     )
     more = (
         ("level-2", "10111111", "a dominant second level counts"),
