@@ -136,6 +136,24 @@ fn one_error_for_one_wrong_level(rt: HostRuntime) -> Result<(), Fail> {
     hold(&rt, rt.alloc(), ONE_WRONG_LEVEL)
 }
 
+const ASKED_FOR: &str = "
+-: hold 3 => refused, tec 0 rec 0, drives 1
+then -: hold 2 => granted, tec 0 rec 0, drives 1
+then -: PART => tec 0 rec 0, drives 1
+then -: TAIL => 8 received S 001 D 0, 9 overload, tec 0 rec 0, drives 0
+# flag, delimiter, and the second one at the next intermission
+then -: OVERLOAD_FRAME => 13 overload, tec 0 rec 0, drives 0
+then -: OVERLOAD_FRAME => tec 0 rec 0, drives 1
+then S 001 D 0: => tec 0 rec 0, drives 1
+then -: 111 => tec 0 rec 0, drives 1
+then S 001 D 0: => tec 0 rec 0, drives 0
+";
+
+#[test]
+fn overload_frames_of_its_own(rt: HostRuntime) -> Result<(), Fail> {
+    hold(&rt, rt.alloc(), ASKED_FOR)
+}
+
 /// What a sender drives up to the ACK slot, which stays recessive.
 const ALONE: &str = "
 S 000 D 0: 000001000001000001000001000001000001000011 => 41 ack, tec 8 rec 0, drives 0

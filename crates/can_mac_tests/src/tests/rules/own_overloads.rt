@@ -42,21 +42,3 @@ then S 001 D 0: => tec 0 rec 0, drives 0
 fn a_sender_starts_no_overload_frame(rt: HostRuntime) -> Result<(), Fail> {
     hold(&rt, rt.alloc(), OF_A_SENDER)
 }
-
-const ASKED_FOR: &str = "
--: hold 3 => refused, tec 0 rec 0, drives 1
-then -: hold 2 => granted, tec 0 rec 0, drives 1
-then -: PART => tec 0 rec 0, drives 1
-then -: TAIL => 8 received S 001 D 0, 9 overload, tec 0 rec 0, drives 0
-# flag, delimiter, and the second one at the next intermission
-then -: OVERLOAD_FRAME => 13 overload, tec 0 rec 0, drives 0
-then -: OVERLOAD_FRAME => tec 0 rec 0, drives 1
-then S 001 D 0: => tec 0 rec 0, drives 1
-then -: 111 => tec 0 rec 0, drives 1
-then S 001 D 0: => tec 0 rec 0, drives 0
-";
-
-#[test]
-fn overload_frames_of_its_own(rt: HostRuntime) -> Result<(), Fail> {
-    hold(&rt, rt.alloc(), ASKED_FOR)
-}
