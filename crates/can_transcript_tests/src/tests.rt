@@ -7,12 +7,21 @@ use can_mac::{ErrorKind, Event};
 use can_stream::{KitField, TranscriptField};
 use can_toml::{elements_or_none, read_document};
 use can_transcript::{Told, read_transcripts};
-use std::alloc::Global;
+use std::alloc::{AllocError, Global};
 use std::process::Abort;
 use std::test::Fail;
 
 /// The cases of the documents.
 const CASES: &[u8] = b"case = [{ name = \"one\" }, { name = \"two\" }, { name = \"one\" }]";
+
+/// The parts of a text, one behind another.
+fn joined(alloc: Global, parts: &[&str]) -> Result<String, AllocError> {
+    let mut text = String::new(alloc);
+    for part in parts {
+        text.push_str(part)?;
+    }
+    Ok(text)
+}
 
 /// Reads the transcripts of a document of these cases.
 fn read(alloc: Global, text: &str) -> Result<Result<Vec<Told>, KitFault>, Fail> {
@@ -28,18 +37,21 @@ fn taken(alloc: Global, text: &str) -> Result<Vec<Told>, Fail> {
     Ok(read(alloc, text)?.map_err(|_| "refused")?)
 }
 
-/// The refusal of a document of transcripts.
-fn refusal(alloc: Global, text: &str) -> Result<KitFault, Fail> {
-    Ok(read(alloc, text)?.err().ok_or("taken")?)
-}
-
-/// The refusal of something of the transcript of this number.
-fn refused(number: usize, part: TranscriptField) -> KitFault {
-    KitFault::Field(KitField::Transcript { number, part })
+/// Whether a document is refused for this part of the transcript of this number.
+fn is_refused(
+    alloc: Global,
+    text: &str,
+    number: usize,
+    part: TranscriptField,
+) -> Result<bool, Fail> {
+    Ok(match read(alloc, text)? {
+        Ok(_) => false,
+        Err(fault) => fault == KitFault::Field(KitField::Transcript { number, part }),
+    })
 }
 
 /// Behind this front, each text is refused as something of the first transcript.
-fn are_refused(
+fn assert_refused(
     rt: &impl Abort,
     alloc: Global,
     front: &str,
@@ -47,7 +59,7 @@ fn are_refused(
 ) -> Result<(), Fail> {
     for (fields, part) in rows {
         let text = format!(in alloc; "{front}{fields}\n")?;
-        assert_eq!(rt; refusal(alloc, &text)?, refused(0, *part), "{fields}");
+        assert!(rt; is_refused(alloc, &text, 0, *part)?, "{fields}");
     }
     Ok(())
 }
@@ -75,98 +87,140 @@ drove = []
 events = []
 "#;
 
-fn counters(transmit: u16, receive: u16) -> Counters {
-    Counters { transmit, receive }
+/// What a transcript tells: the number of its case, its levels as digits, its events as words, counters and end.
+struct Values<'a> {
+    case: usize,
+    drove: &'a str,
+    events: Option<&'a [(u32, &'a str)]>,
+    counters: Option<&'a [(u32, Counters)]>,
+    end: Option<Ending>,
 }
 
-/// Whether of these levels those are recessive that are told so.
-fn are_recessive(levels: &[Level], told: &[bool]) -> bool {
-    if levels.len() != told.len() {
-        return false;
-    }
-    for (level, told) in levels.iter().zip(told) {
-        if level.is_recessive() != *told {
-            return false;
-        }
-    }
-    true
-}
-
-/// Whether these are the times and what is told at them.
-fn are_told<T: Copy + PartialEq>(told: &Option<Vec<Timed<T>>>, rows: &[(u32, T)]) -> bool {
-    let Some(told) = told else {
-        return false;
-    };
-    if told.len() != rows.len() {
-        return false;
-    }
-    for (one, row) in told.iter().zip(rows) {
-        if one.time != row.0 || one.told != row.1 {
-            return false;
-        }
-    }
-    true
-}
-
-/// The levels of the first transcript: nine and three.
-const DROVE: &[bool] = &[
-    true, true, true, true, true, true, true, true, true, false, false, true,
+/// What those two tell.
+const VALUES: &[Values] = &[
+    Values {
+        case: 1,
+        drove: "111111111001",
+        events: Some(&[
+            (3, "received S 123 D 1 c3"),
+            (4, "error crc"),
+            (100_000, "lost"),
+        ]),
+        counters: Some(&[
+            (
+                4,
+                Counters {
+                    transmit: 0,
+                    receive: 1,
+                },
+            ),
+            (
+                7,
+                Counters {
+                    transmit: 65_535,
+                    receive: 256,
+                },
+            ),
+        ]),
+        end: Some(Ending {
+            state: State::Passive,
+            counters: Counters {
+                transmit: 7,
+                receive: 128,
+            },
+        }),
+    },
+    Values {
+        case: 0,
+        drove: "",
+        events: Some(&[]),
+        counters: None,
+        end: None,
+    },
 ];
 
-#[test]
-fn the_first_transcript_value_by_value(rt: HostRuntime) -> Result<(), Fail> {
-    let transcripts = taken(rt.alloc(), TWO_TRANSCRIPTS)?;
-    assert_eq!(rt; transcripts.len(), 2);
-    let told = &transcripts[0];
-    assert_eq!(rt; told.case, 1);
-    assert!(rt; are_recessive(&told.transcript.drove, DROVE));
-    let end = Ending {
-        state: State::Passive,
-        counters: counters(7, 128),
+/// Whether levels are these digits.
+fn are_digits(levels: &[Level], digits: &str) -> bool {
+    if levels.len() != digits.len() {
+        return false;
+    }
+    for (level, digit) in levels.iter().zip(digits.as_bytes()) {
+        if level.is_recessive() != (*digit == b'1') {
+            return false;
+        }
+    }
+    true
+}
+
+/// The event of these words: a frame that was received, or one of two others.
+fn event_of(words: &str) -> Option<Event> {
+    match words {
+        "lost" => Some(Event::Lost),
+        "error crc" => Some(Event::Error(ErrorKind::Crc)),
+        _ => {
+            let text = words.strip_prefix("received ")?;
+            Some(Event::Received(Frame::from_text(text.as_bytes()).ok()?))
+        }
+    }
+}
+
+/// Whether these are the events and their times.
+fn are_events(told: &Option<Vec<Timed<Event>>>, events: Option<&[(u32, &str)]>) -> bool {
+    let (Some(told), Some(events)) = (told, events) else {
+        return told.is_none() && events.is_none();
     };
-    assert_eq!(rt; told.transcript.end, Some(end));
-    Ok(())
+    if told.len() != events.len() {
+        return false;
+    }
+    for (one, (time, words)) in told.iter().zip(events) {
+        if one.time != *time || Some(one.told) != event_of(words) {
+            return false;
+        }
+    }
+    true
+}
+
+/// Whether these are the changes of counters and their times.
+fn are_changes(told: &Option<Vec<Timed<Counters>>>, changes: Option<&[(u32, Counters)]>) -> bool {
+    let (Some(told), Some(changes)) = (told, changes) else {
+        return told.is_none() && changes.is_none();
+    };
+    if told.len() != changes.len() {
+        return false;
+    }
+    for (one, (time, counters)) in told.iter().zip(changes) {
+        if one.time != *time || one.told != *counters {
+            return false;
+        }
+    }
+    true
+}
+
+fn tells(told: &Told, values: &Values) -> bool {
+    told.case == values.case
+        && are_digits(&told.transcript.drove, values.drove)
+        && are_events(&told.transcript.events, values.events)
+        && are_changes(&told.transcript.counters, values.counters)
+        && told.transcript.end == values.end
+}
+
+/// Whether transcripts tell these values.
+fn tell(transcripts: &[Told], values: &[Values]) -> bool {
+    if transcripts.len() != values.len() {
+        return false;
+    }
+    for (told, values) in transcripts.iter().zip(values) {
+        if !tells(told, values) {
+            return false;
+        }
+    }
+    true
 }
 
 #[test]
-fn events_and_counters_with_their_times(rt: HostRuntime) -> Result<(), Fail> {
-    let transcripts = taken(rt.alloc(), TWO_TRANSCRIPTS)?;
-    let told = &transcripts.first().ok_or("none")?.transcript;
-    let frame = Frame::from_text(b"S 123 D 1 c3")?;
-    let events = [
-        (3, Event::Received(frame)),
-        (4, Event::Error(ErrorKind::Crc)),
-        (100_000, Event::Lost),
-    ];
-    assert!(rt; are_told(&told.events, &events));
-    let changes = [(4, counters(0, 1)), (7, counters(65_535, 256))];
-    assert!(rt; are_told(&told.counters, &changes));
-    Ok(())
-}
-
-#[test]
-fn the_second_transcript_value_by_value(rt: HostRuntime) -> Result<(), Fail> {
-    let transcripts = taken(rt.alloc(), TWO_TRANSCRIPTS)?;
-    assert_eq!(rt; transcripts.len(), 2);
-    let other = &transcripts[1];
-    assert_eq!(rt; other.case, 0);
-    assert_eq!(rt; other.transcript.drove.len(), 0);
-    assert!(rt; are_told(&other.transcript.events, &[]));
-    assert!(rt; other.transcript.counters.is_none());
-    assert!(rt; other.transcript.end.is_none());
-    Ok(())
-}
-
-#[test]
-fn no_transcripts(rt: HostRuntime) -> Result<(), Fail> {
-    assert_eq!(rt; taken(rt.alloc(), "")?.len(), 0);
-    Ok(())
-}
-
-#[test]
-fn a_transcript_that_is_no_table(rt: HostRuntime) -> Result<(), Fail> {
-    let told = refusal(rt.alloc(), "transcript = [1]")?;
-    assert_eq!(rt; told, refused(0, TranscriptField::Table));
+fn transcripts_value_by_value(rt: HostRuntime) -> Result<(), Fail> {
+    assert!(rt; tell(&taken(rt.alloc(), TWO_TRANSCRIPTS)?, VALUES));
+    assert!(rt; tell(&taken(rt.alloc(), "")?, &[]));
     Ok(())
 }
 
@@ -184,7 +238,7 @@ const NAMING: &[(&str, TranscriptField)] = &[
 
 #[test]
 fn what_names_a_transcript(rt: HostRuntime) -> Result<(), Fail> {
-    are_refused(&rt, rt.alloc(), "[[transcript]]\n", NAMING)
+    assert_refused(&rt, rt.alloc(), "[[transcript]]\n", NAMING)
 }
 
 /// A transcript of each case.
@@ -192,12 +246,19 @@ const ONE: &str = "[[transcript]]\nversion = 1\ncase = \"one\"\ndrove = []\n";
 
 const TWO: &str = "[[transcript]]\nversion = 1\ncase = \"two\"\ndrove = []\n";
 
+/// Documents, the number of the transcript that is refused, and for what.
+const DOCUMENTS: &[(&[&str], usize, TranscriptField)] = &[
+    (&["transcript = [1]"], 0, TranscriptField::Table),
+    // two transcripts of one case
+    (&[ONE, TWO, ONE], 2, TranscriptField::Case),
+    (&[ONE, TWO, TWO], 2, TranscriptField::Case),
+];
+
 #[test]
-fn two_transcripts_of_one_case(rt: HostRuntime) -> Result<(), Fail> {
-    for again in [ONE, TWO] {
-        let text = format!(in rt.alloc(); "{ONE}{TWO}{again}")?;
-        let told = refusal(rt.alloc(), &text)?;
-        assert_eq!(rt; told, refused(2, TranscriptField::Case));
+fn documents_that_are_refused(rt: HostRuntime) -> Result<(), Fail> {
+    for (parts, number, part) in DOCUMENTS {
+        let text = joined(rt.alloc(), parts)?;
+        assert!(rt; is_refused(rt.alloc(), &text, *number, *part)?, "{text}");
     }
     Ok(())
 }
@@ -222,7 +283,7 @@ const LEVELS: &[(&str, TranscriptField)] = &[
 
 #[test]
 fn levels_that_were_driven(rt: HostRuntime) -> Result<(), Fail> {
-    are_refused(
+    assert_refused(
         &rt,
         rt.alloc(),
         "[[transcript]]\nversion = 1\ncase = \"one\"\n",
@@ -272,7 +333,7 @@ const TIMED: &[(&str, TranscriptField)] = &[
 
 #[test]
 fn events_counters_and_the_end(rt: HostRuntime) -> Result<(), Fail> {
-    are_refused(
+    assert_refused(
         &rt,
         rt.alloc(),
         "[[transcript]]\nversion = 1\ncase = \"one\"\ndrove = [\"01\"]\n",
@@ -307,9 +368,11 @@ const LIMITS: &[Limit] = &[
 ];
 
 /// A transcript whose last list has so many pieces.
-fn with_pieces(alloc: Global, limit: &Limit, pieces: usize) -> Result<String, Fail> {
-    let mut text = String::from_str(alloc, "[[transcript]]\nversion = 1\ncase = \"one\"\n")?;
-    text.push_str(limit.front)?;
+fn with_pieces(alloc: Global, limit: &Limit, pieces: usize) -> Result<String, AllocError> {
+    let mut text = joined(
+        alloc,
+        &["[[transcript]]\nversion = 1\ncase = \"one\"\n", limit.front],
+    )?;
     for _ in 0..pieces {
         text.push_str(limit.piece)?;
     }
@@ -317,13 +380,23 @@ fn with_pieces(alloc: Global, limit: &Limit, pieces: usize) -> Result<String, Fa
     Ok(text)
 }
 
+/// Whether this is told of the list with so many pieces.
+fn is_told(
+    alloc: Global,
+    limit: &Limit,
+    pieces: usize,
+    part: TranscriptField,
+) -> Result<bool, Fail> {
+    let text = with_pieces(alloc, limit, pieces)?;
+    is_refused(alloc, &text, 0, part)
+}
+
 #[test]
 fn limits_of_length(rt: HostRuntime) -> Result<(), Fail> {
     for limit in LIMITS {
-        let text = with_pieces(rt.alloc(), limit, limit.most)?;
-        assert_eq!(rt; refusal(rt.alloc(), &text)?, refused(0, limit.at_most));
-        let text = with_pieces(rt.alloc(), limit, limit.most.saturating_add(1))?;
-        assert_eq!(rt; refusal(rt.alloc(), &text)?, refused(0, limit.beyond));
+        let beyond = limit.most.saturating_add(1);
+        assert!(rt; is_told(rt.alloc(), limit, limit.most, limit.at_most)?);
+        assert!(rt; is_told(rt.alloc(), limit, beyond, limit.beyond)?);
     }
     Ok(())
 }
