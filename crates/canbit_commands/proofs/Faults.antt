@@ -1,5 +1,5 @@
 -- What a stream's fault says of what was read and written.
-use Rattle.std.proofs.Common.{◌≡◌, ◌⊎◌, arith, inl, inr, refl, ℕ, Bool, List, Option, Err}
+use Rattle.std.proofs.Common.{◌≡◌, ◌≢◌, ◌⊎◌, arith, inl, inr, refl, ℕ, Bool, List, Option, Err, IsTrue}
 use Rattle.std.specs.Result.{IsErrOf}
 use Rattle.can_lines.specs.Checked.{ChecksAll}
 use Rattle.can_stream.specs.Told.{Told}
@@ -7,6 +7,7 @@ use Rattle.can_stream.specs.declared.fault.TraceFault.{TraceFault}
 use Rattle.can_stream.specs.declared.fault.TraceFault.TheVariants.{BadByte, ScenarioField, Read, Write, Memory, Long, FrameLine}
 use Rattle.can_program.specs.declared.fault.RunFault.TheVariants.{Stream}
 use Rattle.canbit_words.specs.declared.subcommands.Chosen.{Chosen}
+use Rattle.canbit_words.specs.declared.subcommands.Chosen.TheVariants.{Check}
 use Rattle.canbit_commands.specs.Answers.{AnswersTooLong, HasBadByte, HasBadLine, HasWrongField, PassesAll, RefusesInput}
 use Rattle.can_program.specs.Status.{status_of}
 
@@ -62,3 +63,8 @@ module _ {R W : Type 0} (remaining : R → Option (List ℕ)) (before after : R)
   -- as many pass as there are
   pub passes_all : (passed count : ℕ) → passed ≡ count → Says (ChecksAll passed count) → Says PassesAll
   passes_all passed count same told = weaker _ PassesAll (λ input output checks. (count, rw same at checks)) told
+
+  -- not as many pass as there are
+  pub passes_not_all : (passed count : ℕ) (reader_ended : Bool) → passed ≢ count → IsTrue reader_ended → Says (ChecksAll passed count) → Says (RefusesInput Check reader_ended)
+  passes_not_all passed count reader_ended differ ended told =
+      weaker _ (RefusesInput Check reader_ended) (λ input output checks. inr (inr (inr (inl (ended, (passed, (count, differ, checks))))))) told

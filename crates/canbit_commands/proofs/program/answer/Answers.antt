@@ -1,5 +1,5 @@
 use Rattle.std.proofs.Common.{◌≡◌, ap, rules, Err}
-use Rattle.canbit_commands.proofs.Faults.{passes_all, read_told, refused, weaker}
+use Rattle.canbit_commands.proofs.Faults.{passes_all, passes_not_all, read_told, refused, weaker}
 use Rattle.canbit_commands.specs.Answers.{HasBadLine, HasWrongField}
 use Rattle.can_program.specs.declared.fault.RunFault.TheVariants.{Stream}
 use Rattle.canbit_words.specs.declared.subcommands.Chosen.TheVariants.{Encode, Decode, Run, Check}
@@ -66,3 +66,8 @@ pub returns-then-passed-count-clause-all_done : goal.returns-then-passed-count-c
 returns-then-passed-count-clause-all_done g c is =
     let told = c.in_ok-passed-in-Check.ensures in
     rw c.in-Check.is (passes_all _ _ _ _ _ _ _ _ c.if-passed-count.true told.ok)
+
+pub returns-else-passed-count-clause-input_refused : goal.returns-else-passed-count-clause-input_refused
+returns-else-passed-count-clause-input_refused g c is =
+    let told = c.in_ok-passed-in-Check.ensures in
+    rw c.in-Check.is (passes_not_all _ _ _ _ _ _ _ _ _ c.if-passed-count.false told.ended told.ok)
