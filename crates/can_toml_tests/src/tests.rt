@@ -124,13 +124,14 @@ fn fields(rt: HostRuntime) -> Result<(), Fail> {
     Ok(())
 }
 
-/// Whether the values in arrays and tables are those that stand there.
+/// Whether a number is told up to its limit, and the values in arrays and tables are those that stand there.
 fn values_are_within(document: &Table) -> Option<bool> {
     let (time, text) = two_of(field(document, "pair")?)?;
     let (first, second, third) = three_of(field(document, "three")?)?;
     let port = fields_of(field(document, "port")?)?;
     Some(
-        whole_number(time) == Some(7)
+        number(field(document, "bits")?, 93) == Some(93)
+            && whole_number(time) == Some(7)
             && frame(text) == frame_of("S 001 D 0")
             && whole_number(first) == Some(1)
             && whole_number(second) == Some(2)
