@@ -6,6 +6,7 @@ use can_frame::{Frame, Level};
 
 mod decoder;
 mod front;
+mod runs;
 mod sending;
 
 /// A list of levels that can be longer than any frame's.

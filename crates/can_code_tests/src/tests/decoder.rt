@@ -7,12 +7,12 @@ use can_frame::Level;
 use std::test::Fail;
 
 /// What a decoder first says more than that the frame goes on, and the place of the level at which it says that.
-type Word = (usize, Result<Heard, CodeFaultKind>);
+pub(super) type Word = (usize, Result<Heard, CodeFaultKind>);
 
 /// The digits of levels.
-type Digits = ArrayVec<u8, 200>;
+pub(super) type Digits = ArrayVec<u8, 200>;
 
-fn digits_of(levels: &[Level]) -> Digits {
+pub(super) fn digits_of(levels: &[Level]) -> Digits {
     let mut digits = ArrayVec::new();
     for level in levels {
         let _ = digits.try_push(if level.is_recessive() { b'1' } else { b'0' });
@@ -21,7 +21,7 @@ fn digits_of(levels: &[Level]) -> Digits {
 }
 
 /// The first word of levels that are heard one by one behind the start of frame.
-fn first_word<B: FrameBits>(levels: &[Level]) -> Option<Word> {
+pub(super) fn first_word<B: FrameBits>(levels: &[Level]) -> Option<Word> {
     let mut decoder = Decoder::<B>::begin();
     for (place, level) in levels.iter().enumerate().skip(1) {
         if let Some(word) = decoder.hear(*level).transpose() {
@@ -33,7 +33,7 @@ fn first_word<B: FrameBits>(levels: &[Level]) -> Option<Word> {
 
 /// The same of the levels that these are the digits of, heard in runs of at most `most` of them, with one level by
 /// itself behind each run.
-fn first_word_of_runs<B: FrameBits>(digits: &[u8], most: usize) -> Option<Word> {
+pub(super) fn first_word_of_runs<B: FrameBits>(digits: &[u8], most: usize) -> Option<Word> {
     let mut decoder = Decoder::<B>::begin();
     let (_, mut rest) = digits.split_first()?;
     for _ in 0..digits.len() {
