@@ -7,11 +7,10 @@ use can_kit::{Case, KitFault, read_cases};
 use can_stream::{CaseField, Field, KitField, TraceFault};
 use can_toml::{elements_or_none, read_document};
 use std::alloc::{AllocError, Global};
-use std::test::Fail;
 
 /// The fields of a sound case, in the order in which they are tested.
 const SOUND: [&str; 12] = [
-    "version = 1\n",
+    "[[case]]\nversion = 1\n",
     "family = \"rx-0\"\n",
     "name = \"rx-0-a\"\n",
     "purpose = \"two levels are forced\"\n",
@@ -25,59 +24,33 @@ const SOUND: [&str; 12] = [
     "forced = [1, 5]\n",
 ];
 
-/// A document of a case with these fields.
-fn case_of(alloc: Global, fields: &[&str]) -> Result<String, AllocError> {
-    let mut text = String::from_str(alloc, "[[case]]\n")?;
-    for field in fields {
-        text.push_str(field)?;
-    }
-    Ok(text)
-}
-
-/// A document whose case has so many of the sound fields, the first of them, and then this one.
-fn begun(alloc: Global, sound: usize, line: &str) -> Result<String, AllocError> {
-    let mut text = String::from_str(alloc, "[[case]]\n")?;
-    for field in SOUND.iter().take(sound) {
-        text.push_str(field)?;
-    }
-    text.push_str(line)?;
-    Ok(text)
-}
-
-/// Appends a table with all fields of a sound case, this one in the place of its own.
-fn push_case(text: &mut String, place: usize, line: &str) -> Result<(), AllocError> {
-    text.push_str("[[case]]\n")?;
-    for (number, sound) in SOUND.iter().enumerate() {
-        text.push_str(if number == place { line } else { sound })?;
-    }
-    Ok(())
-}
-
-/// A document of one sound case, but for the field at a place.
-fn changed(alloc: Global, place: usize, line: &str) -> Result<String, AllocError> {
+/// A document: so many sound fields, the first of them, then these lines, and then the sound fields from a place on.
+fn document(
+    alloc: Global,
+    front: usize,
+    lines: &[&str],
+    back: usize,
+) -> Result<String, AllocError> {
     let mut text = String::new(alloc);
-    push_case(&mut text, place, line)?;
+    for field in SOUND.iter().take(front) {
+        text.push_str(field)?;
+    }
+    for line in lines {
+        text.push_str(line)?;
+    }
+    for field in SOUND.iter().skip(back) {
+        text.push_str(field)?;
+    }
     Ok(text)
 }
 
-/// Reads the cases of a document.
-fn read(alloc: Global, text: &str) -> Result<Result<Vec<Case>, KitFault>, Fail> {
-    let document = read_document(alloc, text.as_bytes()).map_err(|_| "no document")?;
-    let values = elements_or_none(&document, "case").ok_or("no list of cases")?;
-    Ok(read_cases(alloc, values))
-}
-
-/// The cases of a document that is not refused.
-fn taken(alloc: Global, text: &str) -> Result<Vec<Case>, Fail> {
-    Ok(read(alloc, text)?.map_err(|_| "refused")?)
-}
-
-/// Whether a document is refused for this part of the case of this number.
-fn is_refused(alloc: Global, text: &str, number: usize, part: CaseField) -> Result<bool, Fail> {
-    Ok(match read(alloc, text)? {
-        Ok(_) => false,
-        Err(fault) => fault == KitFault::Field(KitField::Case { number, part }),
-    })
+/// What is read of the cases of a document; nothing where it is none, or has no list of them.
+fn read(alloc: Global, text: &str) -> Option<Result<Vec<Case>, KitFault>> {
+    let Ok(document) = read_document(alloc, text.as_bytes()) else {
+        return None;
+    };
+    let values = elements_or_none(&document, "case")?;
+    Some(read_cases(alloc, values))
 }
 
 /// Whether the tester does what the digits say: 0 drives a dominant level, 1 a recessive one, and in f it is forced.

@@ -1,10 +1,9 @@
 //! What cases say, value by value.
-use super::{SOUND, begun, case_of, changed, does, push_case, read, taken};
+use super::{document, does, read};
 use can_conform::{Script, Start, Timed};
 use can_frame::Frame;
 use can_kit::{Case, Choice, Needs};
-use std::alloc::{AllocError, Global};
-use std::test::Fail;
+use std::alloc::AllocError;
 
 /// The needs of a case that names none.
 const NO_NEEDS: Needs = Needs {
@@ -14,9 +13,14 @@ const NO_NEEDS: Needs = Needs {
     recovery: false,
 };
 
-/// The fields of a case, and what it says, value by value. The tester drives 0 and 1, and is forced in f.
+/// The first required fields of a case behind its version, and all of them.
+const NAMED: &str = "family = \"a\"\nname = \"a-\"\nstart = \"idle\"\n";
+
+const REQUIRED: &str =
+    "family = \"a\"\nname = \"a-\"\nstart = \"idle\"\nbits = 1\ntester = [\"1\"]\n";
+
+/// What a case says, value by value. The tester drives 0 and 1, and is forced in f.
 struct Values<'a> {
-    fields: &'a [&'a str],
     name: &'a str,
     needs: Needs,
     choices: &'a [Choice],
@@ -26,85 +30,313 @@ struct Values<'a> {
     holds: &'a [(u32, u8)],
 }
 
-const SAID: &[Values] = &[
-    Values {
-        fields: &SOUND,
-        name: "rx-0-a",
-        needs: Needs {
-            forced: true,
-            hold: true,
-            queue: false,
-            recovery: false,
-        },
-        choices: &[Choice::Rec127, Choice::Prompt],
-        start: Start::Joining,
-        tester: "0f110f",
-        offers: &[(2, "S 123 D 1 c3"), (2, "S 001 R 0")],
-        holds: &[(0, 1), (5, 2)],
-    },
+/// So many sound fields, these lines, the sound fields from a place on; and what the cases say.
+const SAID: &[(usize, &[&str], usize, &[Values])] = &[
+    // the sound case
+    (
+        12,
+        &[],
+        12,
+        &[Values {
+            name: "rx-0-a",
+            needs: Needs {
+                forced: true,
+                hold: true,
+                queue: false,
+                recovery: false,
+            },
+            choices: &[Choice::Rec127, Choice::Prompt],
+            start: Start::Joining,
+            tester: "0f110f",
+            offers: &[(2, "S 123 D 1 c3"), (2, "S 001 R 0")],
+            holds: &[(0, 1), (5, 2)],
+        }],
+    ),
+    // and without a field that may be left out
+    (
+        3,
+        &[],
+        4,
+        &[Values {
+            name: "rx-0-a",
+            needs: Needs {
+                forced: true,
+                hold: true,
+                queue: false,
+                recovery: false,
+            },
+            choices: &[Choice::Rec127, Choice::Prompt],
+            start: Start::Joining,
+            tester: "0f110f",
+            offers: &[(2, "S 123 D 1 c3"), (2, "S 001 R 0")],
+            holds: &[(0, 1), (5, 2)],
+        }],
+    ),
+    // or with another in its place
+    (
+        5,
+        &["needs = [\"forced\", \"hold\", \"queue\"]\n"],
+        6,
+        &[Values {
+            name: "rx-0-a",
+            needs: Needs {
+                forced: true,
+                hold: true,
+                queue: true,
+                recovery: false,
+            },
+            choices: &[Choice::Rec127, Choice::Prompt],
+            start: Start::Joining,
+            tester: "0f110f",
+            offers: &[(2, "S 123 D 1 c3"), (2, "S 001 R 0")],
+            holds: &[(0, 1), (5, 2)],
+        }],
+    ),
+    (
+        6,
+        &[],
+        7,
+        &[Values {
+            name: "rx-0-a",
+            needs: Needs {
+                forced: true,
+                hold: true,
+                queue: false,
+                recovery: false,
+            },
+            choices: &[],
+            start: Start::Joining,
+            tester: "0f110f",
+            offers: &[(2, "S 123 D 1 c3"), (2, "S 001 R 0")],
+            holds: &[(0, 1), (5, 2)],
+        }],
+    ),
+    (
+        9,
+        &[],
+        10,
+        &[Values {
+            name: "rx-0-a",
+            needs: Needs {
+                forced: true,
+                hold: true,
+                queue: false,
+                recovery: false,
+            },
+            choices: &[Choice::Rec127, Choice::Prompt],
+            start: Start::Joining,
+            tester: "0f110f",
+            offers: &[],
+            holds: &[(0, 1), (5, 2)],
+        }],
+    ),
+    // empty lists need nothing
+    (
+        5,
+        &[
+            "choices = [\"rec-127\", \"prompt\"]\nbits = 6\ntester = [\"0\", \"1*3 01\"]\noffers = [[2, \"S 123 D 1 c3\"], [2, \"S 001 R 0\"]]\nholds = []\nforced = []\n",
+        ],
+        12,
+        &[Values {
+            name: "rx-0-a",
+            needs: NO_NEEDS,
+            choices: &[Choice::Rec127, Choice::Prompt],
+            start: Start::Joining,
+            tester: "011101",
+            offers: &[(2, "S 123 D 1 c3"), (2, "S 001 R 0")],
+            holds: &[],
+        }],
+    ),
     // the required fields alone
-    Values {
-        fields: &[
-            "version = 1\nfamily = \"a\"\nname = \"a-\"\nstart = \"idle\"\nbits = 1\ntester = [\"1\"]\n",
+    (
+        1,
+        &[REQUIRED],
+        12,
+        &[Values {
+            name: "a-",
+            needs: NO_NEEDS,
+            choices: &[],
+            start: Start::Idle,
+            tester: "1",
+            offers: &[],
+            holds: &[],
+        }],
+    ),
+    (
+        1,
+        &[REQUIRED, "needs = []"],
+        12,
+        &[Values {
+            name: "a-",
+            needs: NO_NEEDS,
+            choices: &[],
+            start: Start::Idle,
+            tester: "1",
+            offers: &[],
+            holds: &[],
+        }],
+    ),
+    (
+        1,
+        &[REQUIRED, "needs = [\"forced\", \"queue\"]"],
+        12,
+        &[Values {
+            name: "a-",
+            needs: Needs {
+                forced: true,
+                hold: false,
+                queue: true,
+                recovery: false,
+            },
+            choices: &[],
+            start: Start::Idle,
+            tester: "1",
+            offers: &[],
+            holds: &[],
+        }],
+    ),
+    (
+        1,
+        &[
+            REQUIRED,
+            "needs = [\"forced\", \"hold\", \"queue\", \"recovery\"]",
         ],
-        name: "a-",
-        needs: NO_NEEDS,
-        choices: &[],
-        start: Start::Idle,
-        tester: "1",
-        offers: &[],
-        holds: &[],
-    },
-    Values {
-        fields: &[
-            "version = 1\nfamily = \"a\"\nname = \"a-\"\nstart = \"idle\"\nbits = 6\ntester = [\"0\", \"1*3 01\"]\n",
+        12,
+        &[Values {
+            name: "a-",
+            needs: Needs {
+                forced: true,
+                hold: true,
+                queue: true,
+                recovery: true,
+            },
+            choices: &[],
+            start: Start::Idle,
+            tester: "1",
+            offers: &[],
+            holds: &[],
+        }],
+    ),
+    (
+        1,
+        &[
+            REQUIRED,
+            "choices = [\"reserved-levels\", \"stuff-exception\", \"own-start\", \"flag-error-once\", \"own-overload\", \"rec-127\", \"recovery-by-itself\", \"recovery-rows\", \"prompt\"]",
         ],
-        name: "a-",
-        needs: NO_NEEDS,
-        choices: &[],
-        start: Start::Idle,
-        tester: "011101",
-        offers: &[],
-        holds: &[],
-    },
-    Values {
-        fields: &[
-            "version = 1\nfamily = \"a\"\nname = \"a-\"\nstart = \"idle\"\nneeds = [\"forced\"]\n",
-            "bits = 3\ntester = [\"011\"]\nforced = [2]\n",
+        12,
+        &[Values {
+            name: "a-",
+            needs: NO_NEEDS,
+            choices: &[
+                Choice::ReservedLevels,
+                Choice::StuffException,
+                Choice::OwnStart,
+                Choice::FlagErrorOnce,
+                Choice::OwnOverload,
+                Choice::Rec127,
+                Choice::RecoveryByItself,
+                Choice::RecoveryRows,
+                Choice::Prompt,
+            ],
+            start: Start::Idle,
+            tester: "1",
+            offers: &[],
+            holds: &[],
+        }],
+    ),
+    // what the tester does
+    (
+        1,
+        &[NAMED, "bits = 6\ntester = [\"0\", \"1*3 01\"]\n"],
+        12,
+        &[Values {
+            name: "a-",
+            needs: NO_NEEDS,
+            choices: &[],
+            start: Start::Idle,
+            tester: "011101",
+            offers: &[],
+            holds: &[],
+        }],
+    ),
+    (
+        1,
+        &[
+            NAMED,
+            "needs = [\"forced\"]\nbits = 3\ntester = [\"011\"]\nforced = [2]\n",
         ],
-        name: "a-",
-        needs: Needs {
-            forced: true,
-            hold: false,
-            queue: false,
-            recovery: false,
-        },
-        choices: &[],
-        start: Start::Idle,
-        tester: "01f",
-        offers: &[],
-        holds: &[],
-    },
-    Values {
-        fields: &[
-            "version = 1\nfamily = \"a\"\nname = \"a-\"\nstart = \"idle\"\nneeds = [\"forced\", \"hold\"]\n",
-            "bits = 66\ntester = [\"1*66\"]\n",
-            "offers = [[7, \"S 123 D 1 c3\"], [7, \"S 001 R 0\"], [65, \"S 001 D 0\"]]\n",
-            "holds = [[0, 2], [9, 0]]\nforced = [0, 12, 65]\n",
+        12,
+        &[Values {
+            name: "a-",
+            needs: Needs {
+                forced: true,
+                hold: false,
+                queue: false,
+                recovery: false,
+            },
+            choices: &[],
+            start: Start::Idle,
+            tester: "01f",
+            offers: &[],
+            holds: &[],
+        }],
+    ),
+    (
+        1,
+        &[
+            NAMED,
+            "needs = [\"forced\", \"hold\"]\nbits = 66\ntester = [\"1*66\"]\noffers = [[7, \"S 123 D 1 c3\"], [7, \"S 001 R 0\"], [65, \"S 001 D 0\"]]\nholds = [[0, 2], [9, 0]]\nforced = [0, 12, 65]\n",
         ],
-        name: "a-",
-        needs: Needs {
-            forced: true,
-            hold: true,
-            queue: false,
-            recovery: false,
-        },
-        choices: &[],
-        start: Start::Idle,
-        tester: "f11111111111f1111111111111111111111111111111111111111111111111111f",
-        offers: &[(7, "S 123 D 1 c3"), (7, "S 001 R 0"), (65, "S 001 D 0")],
-        holds: &[(0, 2), (9, 0)],
-    },
+        12,
+        &[Values {
+            name: "a-",
+            needs: Needs {
+                forced: true,
+                hold: true,
+                queue: false,
+                recovery: false,
+            },
+            choices: &[],
+            start: Start::Idle,
+            tester: "f11111111111f1111111111111111111111111111111111111111111111111111f",
+            offers: &[(7, "S 123 D 1 c3"), (7, "S 001 R 0"), (65, "S 001 D 0")],
+            holds: &[(0, 2), (9, 0)],
+        }],
+    ),
+    // no case, and two
+    (0, &[""], 12, &[]),
+    (
+        12,
+        &[
+            "[[case]]\nversion = 1\nfamily = \"rx-0\"\nname = \"rx-0-b\"\nstart = \"idle\"\nbits = 1\ntester = [\"1\"]\n",
+        ],
+        12,
+        &[
+            Values {
+                name: "rx-0-a",
+                needs: Needs {
+                    forced: true,
+                    hold: true,
+                    queue: false,
+                    recovery: false,
+                },
+                choices: &[Choice::Rec127, Choice::Prompt],
+                start: Start::Joining,
+                tester: "0f110f",
+                offers: &[(2, "S 123 D 1 c3"), (2, "S 001 R 0")],
+                holds: &[(0, 1), (5, 2)],
+            },
+            Values {
+                name: "rx-0-b",
+                needs: NO_NEEDS,
+                choices: &[],
+                start: Start::Idle,
+                tester: "1",
+                offers: &[],
+                holds: &[],
+            },
+        ],
+    ),
 ];
 
 /// Whether frames are offered at these times whose texts are these.
@@ -150,66 +382,33 @@ fn is_case(case: &Case, values: &Values) -> bool {
         && is_script(&case.script, values)
 }
 
-/// Whether a document with the fields has one case, which says the values.
-fn says(alloc: Global, values: &Values) -> Result<bool, Fail> {
-    let cases = taken(alloc, &case_of(alloc, values.fields)?)?;
-    Ok(match cases.as_slice() {
-        [case] => is_case(case, values),
-        _ => false,
-    })
+/// Whether the cases say these values.
+fn say(cases: &[Case], values: &[Values]) -> bool {
+    if cases.len() != values.len() {
+        return false;
+    }
+    for (case, values) in cases.iter().zip(values) {
+        if !is_case(case, values) {
+            return false;
+        }
+    }
+    true
 }
 
 #[test]
-fn cases_value_by_value(rt: HostRuntime) -> Result<(), Fail> {
-    for (place, values) in SAID.iter().enumerate() {
-        assert!(rt; says(rt.alloc(), values)?, "row {place}");
+fn cases_value_by_value(rt: HostRuntime) -> Result<(), AllocError> {
+    for (front, lines, back, values) in SAID {
+        let text = document(rt.alloc(), *front, lines, *back)?;
+        let said = match read(rt.alloc(), &text) {
+            Some(Ok(cases)) => say(&cases, values),
+            _ => false,
+        };
+        assert!(rt; said, "{text}");
     }
     Ok(())
 }
 
-/// The required fields of a case.
-const REQUIRED: &str =
-    "version = 1\nfamily = \"a\"\nname = \"a-\"\nstart = \"idle\"\nbits = 1\ntester = [\"1\"]\n";
-
-/// Needs of a case with the required fields, and which it says.
-const NEEDS: &[(&str, Needs)] = &[
-    ("", NO_NEEDS),
-    ("needs = []", NO_NEEDS),
-    (
-        "needs = [\"forced\", \"queue\"]",
-        Needs {
-            forced: true,
-            hold: false,
-            queue: true,
-            recovery: false,
-        },
-    ),
-    (
-        "needs = [\"forced\", \"hold\", \"queue\", \"recovery\"]",
-        Needs {
-            forced: true,
-            hold: true,
-            queue: true,
-            recovery: true,
-        },
-    ),
-];
-
-/// The first case of a document with the required fields and this one.
-fn with_field(alloc: Global, line: &str) -> Result<Case, Fail> {
-    let mut cases = taken(alloc, &case_of(alloc, &[REQUIRED, line])?)?;
-    Ok(cases.pop().ok_or("no case")?)
-}
-
-#[test]
-fn needs_in_their_order(rt: HostRuntime) -> Result<(), Fail> {
-    for (line, needs) in NEEDS {
-        assert_eq!(rt; with_field(rt.alloc(), line)?.needs, *needs, "{line}");
-    }
-    Ok(())
-}
-
-/// All choices, in an order, and their words.
+/// All choices and their words.
 const CHOICES: &[(Choice, &str)] = &[
     (Choice::ReservedLevels, "reserved-levels"),
     (Choice::StuffException, "stuff-exception"),
@@ -222,87 +421,9 @@ const CHOICES: &[(Choice, &str)] = &[
     (Choice::Prompt, "prompt"),
 ];
 
-const ALL_CHOICES: &str =
-    "choices = [\"reserved-levels\", \"stuff-exception\", \"own-start\", \"flag-error-once\", \"own-overload\", \"rec-127\", \"recovery-by-itself\", \"recovery-rows\", \"prompt\"]";
-
-/// Whether the choices are these, in their order, and their words those beside them.
-fn are_chosen(choices: &[Choice], told: &[(Choice, &str)]) -> bool {
-    if choices.len() != told.len() {
-        return false;
-    }
-    for (choice, (one, word)) in choices.iter().zip(told) {
-        if choice != one || choice.word() != *word {
-            return false;
-        }
-    }
-    true
-}
-
 #[test]
-fn choices_by_name(rt: HostRuntime) -> Result<(), Fail> {
-    let case = with_field(rt.alloc(), ALL_CHOICES)?;
-    assert!(rt; are_chosen(&case.choices, CHOICES));
-    Ok(())
-}
-
-/// A field in the place of its own, with which the sound case is as sound.
-const OTHER_FIELDS: &[(usize, &str)] = &[
-    (3, ""),
-    (5, "needs = [\"forced\", \"hold\", \"queue\"]\n"),
-    (6, ""),
-    (9, ""),
-];
-
-#[test]
-fn other_fields_are_sound(rt: HostRuntime) -> Result<(), Fail> {
-    for (place, line) in OTHER_FIELDS {
-        let text = changed(rt.alloc(), *place, line)?;
-        assert!(rt; read(rt.alloc(), &text)?.is_ok(), "{text}");
+fn words_of_choices(rt: HostRuntime) {
+    for (choice, word) in CHOICES {
+        assert!(rt; choice.word() == *word, "{word}");
     }
-    Ok(())
-}
-
-/// A case without needs, of which two lists are empty.
-fn without_needs(alloc: Global) -> Result<String, AllocError> {
-    let mut text = begun(alloc, 5, "")?;
-    for field in SOUND.iter().skip(6).take(4) {
-        text.push_str(field)?;
-    }
-    text.push_str("holds = []\nforced = []\n")?;
-    Ok(text)
-}
-
-#[test]
-fn empty_lists_need_nothing(rt: HostRuntime) -> Result<(), Fail> {
-    let text = without_needs(rt.alloc())?;
-    assert!(rt; read(rt.alloc(), &text)?.is_ok());
-    Ok(())
-}
-
-/// Whether the cases have these names.
-fn are_named(cases: &[Case], names: &[&str]) -> bool {
-    if cases.len() != names.len() {
-        return false;
-    }
-    for (case, name) in cases.iter().zip(names) {
-        if case.name.as_str() != *name {
-            return false;
-        }
-    }
-    true
-}
-
-/// The sound case, and behind it one of another name.
-fn two_cases(alloc: Global) -> Result<String, AllocError> {
-    let mut text = changed(alloc, 0, SOUND[0])?;
-    push_case(&mut text, 2, "name = \"rx-0-b\"\n")?;
-    Ok(text)
-}
-
-#[test]
-fn cases_behind_cases(rt: HostRuntime) -> Result<(), Fail> {
-    let two = taken(rt.alloc(), &two_cases(rt.alloc())?)?;
-    assert!(rt; are_named(&two, &["rx-0-a", "rx-0-b"]));
-    assert!(rt; are_named(&taken(rt.alloc(), "")?, &[]));
-    Ok(())
 }

@@ -3,9 +3,9 @@ ghost use Rattle.std.specs.Prelude.{◌≡◌, ◌≢◌, ◌⊎◌, ◌<◌, �
 ghost use Rattle.std.specs.Io.KnownBytes.{Appends};
 ghost use Rattle.can_stream.specs.Told.{Told};
 ghost use Rattle.can_stream.specs.Outbox.{TakesFront};
-ghost use Rattle.canhold.specs.Answers.{AnswersDocument, Does};
+ghost use Rattle.canhold_commands.specs.Answers.{AnswersDocument, Does};
 ghost use Rattle.can_program.specs.Status.{exit_status};
-ghost use Rattle.canhold.specs.Words.{AsksFor, asked_by, texts_of};
+ghost use Rattle.canhold_commands.specs.Words.{AsksFor, asked_by, texts_of};
 
 use crate::document::answer_document;
 use crate::help::HELP;

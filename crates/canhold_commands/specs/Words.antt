@@ -3,11 +3,11 @@ use Rattle.std.specs.Prelude.{ℕ, ◌≡◌, ◌||◌, if◌then◌else◌, Lis
 use Rattle.std.specs.Str.{bytes_eq}
 use Rattle.std.specs.declared.alloc.Global.{Global}
 use Rattle.std.specs.declared.string.String.{String}
-use Rattle.canhold.specs.declared.words.Asked.{Asked}
-use Rattle.canhold.specs.declared.words.Asked.TheVariants.{Run, Help}
-use Rattle.canhold.specs.declared.words.Chosen.{Chosen}
-use Rattle.canhold.specs.declared.words.Chosen.TheVariants.{Play, Document}
-use Rattle.canhold.specs.declared.words.Question.TheVariants.{Expect, Judge}
+use Rattle.canhold_commands.specs.declared.words.Asked.{Asked}
+use Rattle.canhold_commands.specs.declared.words.Asked.TheVariants.{Run, Help}
+use Rattle.canhold_commands.specs.declared.words.Chosen.{Chosen}
+use Rattle.canhold_commands.specs.declared.words.Chosen.TheVariants.{Play, Document}
+use Rattle.canhold_commands.specs.declared.words.Question.TheVariants.{Expect, Judge}
 
 -- the words as texts
 abbrev pub texts_of : List (String Global) → List (List ℕ)

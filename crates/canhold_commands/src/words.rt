@@ -1,6 +1,6 @@
 //! What the words of a command line ask for.
 ghost use Rattle.std.specs.Prelude.{◌≡◌};
-ghost use Rattle.canhold.specs.Words.{asked_by, asked_word, texts_of};
+ghost use Rattle.canhold_commands.specs.Words.{asked_by, asked_word, texts_of};
 
 /// What is asked of a kit document.
 #[derive(Clone, Copy, Debug, PartialEq, Eq)]

@@ -14,10 +14,10 @@ use Rattle.can_toml.specs.Demands.{Demands}
 use Rattle.can_verdict.specs.declared.tally.Tally.{Tally}
 use Rattle.can_program.specs.declared.fault.RunFault.{RunFault}
 use Rattle.can_program.specs.declared.fault.RunFault.TheVariants.{Usage, VectorsDiffer, TranscriptsDiffer, Memory, Stream}
-use Rattle.canhold.specs.declared.words.Chosen.{Chosen}
-use Rattle.canhold.specs.declared.words.Chosen.TheVariants.{Play, Document}
-use Rattle.canhold.specs.declared.words.Question.{Question}
-use Rattle.canhold.specs.declared.words.Question.TheVariants.{Expect, Judge}
+use Rattle.canhold_commands.specs.declared.words.Chosen.{Chosen}
+use Rattle.canhold_commands.specs.declared.words.Chosen.TheVariants.{Play, Document}
+use Rattle.canhold_commands.specs.declared.words.Question.{Question}
+use Rattle.canhold_commands.specs.declared.words.Question.TheVariants.{Expect, Judge}
 
 -- ---- lines that are played
 

@@ -4,7 +4,7 @@ ghost use Rattle.can_stream.specs.Told.{Told};
 ghost use Rattle.can_stream.specs.declared.field.Field.TheVariants.{Kit};
 ghost use Rattle.can_stream.specs.declared.kit_field.KitField.{KitField};
 ghost use Rattle.can_hold.specs.Documents.{IsFieldOrMemory, IsFirstWrong};
-ghost use Rattle.canhold.specs.Answers.{demands_of, Answers, BeginsAnswer, IsAnswerTo, Refuses, WritesNothing};
+ghost use Rattle.canhold_commands.specs.Answers.{demands_of, Answers, BeginsAnswer, IsAnswerTo, Refuses, WritesNothing};
 
 use crate::words::Question;
 use can_hold::{expected, judged};
