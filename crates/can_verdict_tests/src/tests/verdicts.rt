@@ -43,38 +43,49 @@ const IDLE: Failure = Failure {
     },
 };
 
-/// Whether this is the line of a verdict on the case of this name, which rests on these choices.
-fn is_line(
-    alloc: Global,
-    name: &str,
-    choices: &[Choice],
-    verdict: &Verdict,
-    line: &str,
-) -> Result<bool, AllocError> {
-    let mut out = Vec::new(alloc);
-    push_verdict(&mut out, name.as_bytes(), choices, verdict)?;
-    Ok(out.as_slice() == line.as_bytes())
-}
-
+/// A verdict: a pass, the failure of a suspended controller, or that of an idle one, of which one thing is another.
 #[derive(Clone, Copy)]
-enum Judged {
+enum Judged<'a> {
     Pass,
-    FailSuspended,
-    FailIdle,
+    Suspended,
+    Idle,
+    Phase(PhaseName),
+    Rule(Rule),
+    /// The level that is told, and the one that is due.
+    Levels(Option<Level>, Option<Level>),
+    /// The words of the event that is told, and of the one that is due.
+    Events(&'a str, &'a str),
+    Counters(Counters, Counters),
+    End(Ending, Ending),
 }
 
-impl Judged {
+impl Judged<'_> {
     fn verdict(self) -> Verdict {
+        let mut failure = IDLE;
         match self {
-            Judged::Pass => Verdict::Pass,
-            Judged::FailSuspended => Verdict::Fail(SUSPENDED),
-            Judged::FailIdle => Verdict::Fail(IDLE),
+            Judged::Pass => return Verdict::Pass,
+            Judged::Suspended => return Verdict::Fail(SUSPENDED),
+            Judged::Idle => {}
+            Judged::Phase(phase) => failure.standing.phase = phase,
+            Judged::Rule(rule) => failure.standing.rule = rule,
+            Judged::Levels(told, ought) => failure.difference = Difference::Level { told, ought },
+            Judged::Events(told, ought) => {
+                failure.difference = Difference::Event {
+                    told: read_event(told),
+                    ought: read_event(ought),
+                }
+            }
+            Judged::Counters(told, ought) => {
+                failure.difference = Difference::Counters { told, ought }
+            }
+            Judged::End(told, ought) => failure.difference = Difference::End { told, ought },
         }
+        Verdict::Fail(failure)
     }
 }
 
 /// The name of a case, the choices on which it rests, the verdict on its transcript, and the line.
-const CASES: &[(&str, &[Choice], Judged, &str)] = &[
+const LINES: &[(&str, &[Choice], Judged, &str)] = &[
     (
         "suspend-reception-at-4",
         &[Choice::ReservedLevels, Choice::Prompt],
@@ -84,209 +95,323 @@ const CASES: &[(&str, &[Choice], Judged, &str)] = &[
     (
         "suspend-behind-error",
         &[],
-        Judged::FailSuspended,
+        Judged::Suspended,
         "fail suspend-behind-error at 230: drove 0 not 1; suspend 7, sender; Suspend transmission; since error bit at 85\n",
     ),
     (
         "start",
         &[Choice::OwnStart],
-        Judged::FailIdle,
+        Judged::Idle,
         "fail start at 4: drove nothing; idle, receiver; Start of frame; choice own-start\n",
     ),
     (
         "a",
         &[Choice::ReservedLevels, Choice::Prompt],
-        Judged::FailIdle,
+        Judged::Idle,
         "fail a at 4: drove nothing; idle, receiver; Start of frame; choice reserved-levels; choice prompt\n",
+    ),
+    // the words of phases
+    (
+        "a",
+        &[],
+        Judged::Phase(PhaseName::Joining(10)),
+        "fail a at 4: drove nothing; joining 10, receiver; Start of frame\n",
+    ),
+    (
+        "a",
+        &[],
+        Judged::Phase(PhaseName::Idle),
+        "fail a at 4: drove nothing; idle, receiver; Start of frame\n",
+    ),
+    (
+        "a",
+        &[],
+        Judged::Phase(PhaseName::Stuffed(118)),
+        "fail a at 4: drove nothing; stuffed 118, receiver; Start of frame\n",
+    ),
+    (
+        "a",
+        &[],
+        Judged::Phase(PhaseName::CrcDelimiter),
+        "fail a at 4: drove nothing; crc-delimiter, receiver; Start of frame\n",
+    ),
+    (
+        "a",
+        &[],
+        Judged::Phase(PhaseName::AckSlot),
+        "fail a at 4: drove nothing; ack-slot, receiver; Start of frame\n",
+    ),
+    (
+        "a",
+        &[],
+        Judged::Phase(PhaseName::AckDelimiter),
+        "fail a at 4: drove nothing; ack-delimiter, receiver; Start of frame\n",
+    ),
+    (
+        "a",
+        &[],
+        Judged::Phase(PhaseName::EndOfFrame(6)),
+        "fail a at 4: drove nothing; end-of-frame 6, receiver; Start of frame\n",
+    ),
+    (
+        "a",
+        &[],
+        Judged::Phase(PhaseName::ActiveFlag(0)),
+        "fail a at 4: drove nothing; active-flag 0, receiver; Start of frame\n",
+    ),
+    (
+        "a",
+        &[],
+        Judged::Phase(PhaseName::PassiveFlag(5)),
+        "fail a at 4: drove nothing; passive-flag 5, receiver; Start of frame\n",
+    ),
+    (
+        "a",
+        &[],
+        Judged::Phase(PhaseName::OverloadFlag(1)),
+        "fail a at 4: drove nothing; overload-flag 1, receiver; Start of frame\n",
+    ),
+    (
+        "a",
+        &[],
+        Judged::Phase(PhaseName::BehindFlag(7)),
+        "fail a at 4: drove nothing; behind-flag 7, receiver; Start of frame\n",
+    ),
+    (
+        "a",
+        &[],
+        Judged::Phase(PhaseName::Delimiter(2)),
+        "fail a at 4: drove nothing; delimiter 2, receiver; Start of frame\n",
+    ),
+    (
+        "a",
+        &[],
+        Judged::Phase(PhaseName::Intermission(3)),
+        "fail a at 4: drove nothing; intermission 3, receiver; Start of frame\n",
+    ),
+    (
+        "a",
+        &[],
+        Judged::Phase(PhaseName::Suspend(4)),
+        "fail a at 4: drove nothing; suspend 4, receiver; Start of frame\n",
+    ),
+    (
+        "a",
+        &[],
+        Judged::Phase(PhaseName::BusOff(127)),
+        "fail a at 4: drove nothing; bus-off 127, receiver; Start of frame\n",
+    ),
+    // the names of rules
+    (
+        "a",
+        &[],
+        Judged::Rule(Rule::Joining),
+        "fail a at 4: drove nothing; idle, receiver; Joining\n",
+    ),
+    (
+        "a",
+        &[],
+        Judged::Rule(Rule::StartOfFrame),
+        "fail a at 4: drove nothing; idle, receiver; Start of frame\n",
+    ),
+    (
+        "a",
+        &[],
+        Judged::Rule(Rule::KeptFrame),
+        "fail a at 4: drove nothing; idle, receiver; Kept frame\n",
+    ),
+    (
+        "a",
+        &[],
+        Judged::Rule(Rule::Intermission),
+        "fail a at 4: drove nothing; idle, receiver; Intermission\n",
+    ),
+    (
+        "a",
+        &[],
+        Judged::Rule(Rule::SuspendTransmission),
+        "fail a at 4: drove nothing; idle, receiver; Suspend transmission\n",
+    ),
+    (
+        "a",
+        &[],
+        Judged::Rule(Rule::BusOff),
+        "fail a at 4: drove nothing; idle, receiver; Bus off\n",
+    ),
+    (
+        "a",
+        &[],
+        Judged::Rule(Rule::Arbitration),
+        "fail a at 4: drove nothing; idle, receiver; Arbitration\n",
+    ),
+    (
+        "a",
+        &[],
+        Judged::Rule(Rule::StuffPlaces),
+        "fail a at 4: drove nothing; idle, receiver; Stuff places\n",
+    ),
+    (
+        "a",
+        &[],
+        Judged::Rule(Rule::FixedForm),
+        "fail a at 4: drove nothing; idle, receiver; Fixed form\n",
+    ),
+    (
+        "a",
+        &[],
+        Judged::Rule(Rule::Acknowledgement),
+        "fail a at 4: drove nothing; idle, receiver; Acknowledgement\n",
+    ),
+    (
+        "a",
+        &[],
+        Judged::Rule(Rule::RefusedCheckSequence),
+        "fail a at 4: drove nothing; idle, receiver; Refused check sequence\n",
+    ),
+    (
+        "a",
+        &[],
+        Judged::Rule(Rule::DominantLastLevel),
+        "fail a at 4: drove nothing; idle, receiver; Dominant last level\n",
+    ),
+    (
+        "a",
+        &[],
+        Judged::Rule(Rule::ErrorFlags),
+        "fail a at 4: drove nothing; idle, receiver; Error flags\n",
+    ),
+    (
+        "a",
+        &[],
+        Judged::Rule(Rule::ErrorInAnOwnFlag),
+        "fail a at 4: drove nothing; idle, receiver; Error in an own flag\n",
+    ),
+    (
+        "a",
+        &[],
+        Judged::Rule(Rule::BehindAFlag),
+        "fail a at 4: drove nothing; idle, receiver; Behind a flag\n",
+    ),
+    (
+        "a",
+        &[],
+        Judged::Rule(Rule::Delimiter),
+        "fail a at 4: drove nothing; idle, receiver; Delimiter\n",
+    ),
+    (
+        "a",
+        &[],
+        Judged::Rule(Rule::OverloadFlags),
+        "fail a at 4: drove nothing; idle, receiver; Overload flags\n",
+    ),
+    (
+        "a",
+        &[],
+        Judged::Rule(Rule::OwnOverloadFrames),
+        "fail a at 4: drove nothing; idle, receiver; Own overload frames\n",
+    ),
+    // the words of differences
+    (
+        "a",
+        &[],
+        Judged::Levels(Some(Level::Dominant), Some(Level::Recessive)),
+        "fail a at 4: drove 0 not 1; idle, receiver; Start of frame\n",
+    ),
+    (
+        "a",
+        &[],
+        Judged::Levels(Some(Level::Recessive), Some(Level::Dominant)),
+        "fail a at 4: drove 1 not 0; idle, receiver; Start of frame\n",
+    ),
+    (
+        "a",
+        &[],
+        Judged::Levels(None, Some(Level::Dominant)),
+        "fail a at 4: drove nothing; idle, receiver; Start of frame\n",
+    ),
+    (
+        "a",
+        &[],
+        Judged::Levels(Some(Level::Dominant), None),
+        "fail a at 4: drove too long; idle, receiver; Start of frame\n",
+    ),
+    (
+        "a",
+        &[],
+        Judged::Events("lost", "sent S 123 D 1 c3"),
+        "fail a at 4: told lost not sent S 123 D 1 c3; idle, receiver; Start of frame\n",
+    ),
+    (
+        "a",
+        &[],
+        Judged::Events("", "overload"),
+        "fail a at 4: told nothing not overload; idle, receiver; Start of frame\n",
+    ),
+    (
+        "a",
+        &[],
+        Judged::Events("off", ""),
+        "fail a at 4: told off not nothing; idle, receiver; Start of frame\n",
+    ),
+    (
+        "a",
+        &[],
+        Judged::Counters(
+            Counters {
+                transmit: 96,
+                receive: 0,
+            },
+            Counters {
+                transmit: 8,
+                receive: 128,
+            },
+        ),
+        "fail a at 4: counted 96 0 not 8 128; idle, receiver; Start of frame\n",
+    ),
+    (
+        "a",
+        &[],
+        Judged::End(
+            Ending {
+                state: State::Active,
+                counters: Counters {
+                    transmit: 96,
+                    receive: 0,
+                },
+            },
+            Ending {
+                state: State::Passive,
+                counters: Counters {
+                    transmit: 8,
+                    receive: 128,
+                },
+            },
+        ),
+        "fail a at 4: end active 96 0 not passive 8 128; idle, receiver; Start of frame\n",
     ),
 ];
 
+/// Whether this is the line of a verdict on the case of this name, which rests on these choices.
+fn is_line(
+    alloc: Global,
+    name: &str,
+    choices: &[Choice],
+    judged: Judged,
+    line: &str,
+) -> Result<bool, AllocError> {
+    let mut out = Vec::new(alloc);
+    push_verdict(&mut out, name.as_bytes(), choices, &judged.verdict())?;
+    Ok(out.as_slice() == line.as_bytes())
+}
+
 #[test]
-fn lines_of_cases(rt: HostRuntime) -> Result<(), AllocError> {
-    for (name, choices, judged, line) in CASES {
-        let verdict = judged.verdict();
+fn lines_of_verdicts(rt: HostRuntime) -> Result<(), AllocError> {
+    for (name, choices, judged, line) in LINES {
         assert!(rt;
-            is_line(rt.alloc(), name, choices, &verdict, line)?,
+            is_line(rt.alloc(), name, choices, *judged, line)?,
             "{line}"
         );
     }
-    Ok(())
-}
-
-/// Whether the line of a failure in the case a, which rests on no choice, has these words between those.
-fn has_words(
-    alloc: Global,
-    failure: Failure,
-    before: &str,
-    words: &str,
-    behind: &str,
-) -> Result<bool, AllocError> {
-    let line = format!(in alloc; "{before}{words}{behind}")?;
-    is_line(alloc, "a", &[], &Verdict::Fail(failure), &line)
-}
-
-const PHASES: &[(PhaseName, &str)] = &[
-    (PhaseName::Joining(10), "joining 10"),
-    (PhaseName::Idle, "idle"),
-    (PhaseName::Stuffed(118), "stuffed 118"),
-    (PhaseName::CrcDelimiter, "crc-delimiter"),
-    (PhaseName::AckSlot, "ack-slot"),
-    (PhaseName::AckDelimiter, "ack-delimiter"),
-    (PhaseName::EndOfFrame(6), "end-of-frame 6"),
-    (PhaseName::ActiveFlag(0), "active-flag 0"),
-    (PhaseName::PassiveFlag(5), "passive-flag 5"),
-    (PhaseName::OverloadFlag(1), "overload-flag 1"),
-    (PhaseName::BehindFlag(7), "behind-flag 7"),
-    (PhaseName::Delimiter(2), "delimiter 2"),
-    (PhaseName::Intermission(3), "intermission 3"),
-    (PhaseName::Suspend(4), "suspend 4"),
-    (PhaseName::BusOff(127), "bus-off 127"),
-];
-
-#[test]
-fn words_of_phases(rt: HostRuntime) -> Result<(), AllocError> {
-    let (before, behind) = (
-        "fail a at 4: drove nothing; ",
-        ", receiver; Start of frame\n",
-    );
-    for (phase, word) in PHASES {
-        let mut failure = IDLE;
-        failure.standing.phase = *phase;
-        assert!(rt;
-            has_words(rt.alloc(), failure, before, word, behind)?,
-            "{word}"
-        );
-    }
-    Ok(())
-}
-
-const RULES: &[(Rule, &str)] = &[
-    (Rule::Joining, "Joining"),
-    (Rule::StartOfFrame, "Start of frame"),
-    (Rule::KeptFrame, "Kept frame"),
-    (Rule::Intermission, "Intermission"),
-    (Rule::SuspendTransmission, "Suspend transmission"),
-    (Rule::BusOff, "Bus off"),
-    (Rule::Arbitration, "Arbitration"),
-    (Rule::StuffPlaces, "Stuff places"),
-    (Rule::FixedForm, "Fixed form"),
-    (Rule::Acknowledgement, "Acknowledgement"),
-    (Rule::RefusedCheckSequence, "Refused check sequence"),
-    (Rule::DominantLastLevel, "Dominant last level"),
-    (Rule::ErrorFlags, "Error flags"),
-    (Rule::ErrorInAnOwnFlag, "Error in an own flag"),
-    (Rule::BehindAFlag, "Behind a flag"),
-    (Rule::Delimiter, "Delimiter"),
-    (Rule::OverloadFlags, "Overload flags"),
-    (Rule::OwnOverloadFrames, "Own overload frames"),
-];
-
-#[test]
-fn names_of_rules(rt: HostRuntime) -> Result<(), AllocError> {
-    let before = "fail a at 4: drove nothing; idle, receiver; ";
-    for (rule, name) in RULES {
-        let mut failure = IDLE;
-        failure.standing.rule = *rule;
-        assert!(rt;
-            has_words(rt.alloc(), failure, before, name, "\n")?,
-            "{name}"
-        );
-    }
-    Ok(())
-}
-
-/// Whether a failure with this difference is told by these words.
-fn is_told(alloc: Global, difference: Difference, words: &str) -> Result<bool, AllocError> {
-    let mut failure = IDLE;
-    failure.difference = difference;
-    let behind = "; idle, receiver; Start of frame\n";
-    has_words(alloc, failure, "fail a at 4: ", words, behind)
-}
-
-/// The level that is told, the one that is due, and the words.
-const LEVELS: &[(Option<Level>, Option<Level>, &str)] = &[
-    (
-        Some(Level::Dominant),
-        Some(Level::Recessive),
-        "drove 0 not 1",
-    ),
-    (
-        Some(Level::Recessive),
-        Some(Level::Dominant),
-        "drove 1 not 0",
-    ),
-    (None, Some(Level::Dominant), "drove nothing"),
-    (Some(Level::Dominant), None, "drove too long"),
-];
-
-#[test]
-fn other_levels(rt: HostRuntime) -> Result<(), AllocError> {
-    for (told, ought, words) in LEVELS {
-        let difference = Difference::Level {
-            told: *told,
-            ought: *ought,
-        };
-        assert!(rt; is_told(rt.alloc(), difference, words)?, "{words}");
-    }
-    Ok(())
-}
-
-/// The words of the event that is told, those of the one that is due, and what is said.
-const EVENTS: &[(&str, &str, &str)] = &[
-    (
-        "lost",
-        "sent S 123 D 1 c3",
-        "told lost not sent S 123 D 1 c3",
-    ),
-    ("", "overload", "told nothing not overload"),
-    ("off", "", "told off not nothing"),
-];
-
-#[test]
-fn other_events(rt: HostRuntime) -> Result<(), AllocError> {
-    for (told, ought, words) in EVENTS {
-        let difference = Difference::Event {
-            told: read_event(told),
-            ought: read_event(ought),
-        };
-        assert!(rt; is_told(rt.alloc(), difference, words)?, "{words}");
-    }
-    Ok(())
-}
-
-const ONE: Counters = Counters {
-    transmit: 96,
-    receive: 0,
-};
-
-const OTHER: Counters = Counters {
-    transmit: 8,
-    receive: 128,
-};
-
-#[test]
-fn other_counters(rt: HostRuntime) -> Result<(), AllocError> {
-    let difference = Difference::Counters {
-        told: ONE,
-        ought: OTHER,
-    };
-    assert!(rt; is_told(rt.alloc(), difference, "counted 96 0 not 8 128")?);
-    Ok(())
-}
-
-#[test]
-fn another_end(rt: HostRuntime) -> Result<(), AllocError> {
-    let difference = Difference::End {
-        told: Ending {
-            state: State::Active,
-            counters: ONE,
-        },
-        ought: Ending {
-            state: State::Passive,
-            counters: OTHER,
-        },
-    };
-    assert!(rt; is_told(rt.alloc(), difference, "end active 96 0 not passive 8 128")?);
     Ok(())
 }
 
