@@ -12,6 +12,7 @@ import sys
 import threading
 import tomllib
 import unittest
+from collections.abc import Callable
 from typing import Optional
 
 HERE = pathlib.Path(__file__).resolve().parent
@@ -200,10 +201,11 @@ class Refusals(unittest.TestCase):
 
     def test_types(self) -> None:
         """What is no frame, no number, no bytes at all."""
-        for call, *words in (
-            (encode, 1), (encode, None), (Port().offer, "S 123 D 0"), (Frame, None), (Frame, "1"), (Frame, 1, 5), (Frame, 1, "5"),
-            (decode, "01"), (Port, "1"),
-        ):
+        calls: list[tuple[Callable[..., object], list[object]]] = [
+            (encode, [1]), (encode, [None]), (Port().offer, ["S 123 D 0"]), (decode, ["01"]), (Port, ["1"]),
+            (Frame, [None]), (Frame, ["1"]), (Frame, [1, 5]), (Frame, [1, "5"]),
+        ]
+        for call, words in calls:
             with self.assertRaises(TypeError):
                 call(*words)
 
@@ -213,14 +215,16 @@ class Refusals(unittest.TestCase):
             again = pickle.loads(pickle.dumps(error))
             self.assertEqual((type(again), str(again), again.__dict__), (type(error), str(error), error.__dict__))
         port = Port()
-        for copied in (copy.copy, copy.deepcopy, pickle.dumps):
+        copies: list[Callable[[Port], object]] = [copy.copy, copy.deepcopy, pickle.dumps]
+        for copied in copies:
             with self.assertRaises(TypeError):
                 copied(port)
         self.assertEqual(port.drive(), 1)
 
     def test_threads(self) -> None:
         """A call waits for that of another thread."""
-        port, errors = Port(), []
+        port = Port()
+        errors: list[Refused] = []
 
         def use() -> None:
             try:
