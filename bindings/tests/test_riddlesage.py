@@ -266,8 +266,9 @@ class Refusals(unittest.TestCase):
         with Port() as port:
             self.assertEqual(port.state, State.ERROR_ACTIVE)
         port.close()
-        for call, *words in ((port.drive,), (port.sample, 1), (port.run, b"\x01"), (port.offer, Frame(0)), (port.hold, 0)):
-            self.refused(Status.NO_PORT, call, *words)
+        self.refused(Status.NO_PORT, port.drive)
+        for call, word in ((port.sample, 1), (port.run, b"\x01"), (port.offer, Frame(0)), (port.hold, 0)):
+            self.refused(Status.NO_PORT, call, word)
         for name in ("counters", "state", "log", "missed"):
             self.refused(Status.NO_PORT, getattr, port, name)
 
@@ -275,7 +276,8 @@ class Refusals(unittest.TestCase):
         """Levels with no frame."""
         with self.assertRaises(Fault) as caught:
             decode(bytes(6))
-        self.assertEqual(("STUFF", 5, "stuff at 5"), (caught.exception.name, caught.exception.place, str(caught.exception)))
+        fault = caught.exception
+        self.assertEqual(("STUFF", 5, "stuff at 5"), (fault.name, fault.place, str(fault)))
         with self.assertRaises(Fault) as caught:
             decode(b"")
         self.assertEqual(("SHORT", 0), (caught.exception.name, caught.exception.place))
