@@ -202,8 +202,8 @@ for _name, _parameters in _PARAMETERS.items():
     _function.argtypes = _parameters
     _function.restype = ctypes.c_int
 
-# These two are called in each bit time. Their arguments are made once for each port, as the right types, so that no call
-# has to convert them.
+# These two are called in each bit time. Their arguments are made once for each port, as the right types, so that no
+# call has to convert them.
 _drive = _lib.riddlesage_port_drive
 _sample = _lib.riddlesage_port_sample
 
@@ -326,7 +326,8 @@ class Heard:
 class Port:
     """A controller with a queue of frames to send and a log of the frames that were on the bus.
 
-    Threads may share a port: each call waits until that of another thread has ended. A port is neither copied nor pickled.
+    Threads may share a port: each call waits until that of another thread has ended. A port is neither copied nor
+    pickled.
     """
 
     def __init__(self, queue: int = 16, log: int = 64, *, joining: bool = False) -> None:

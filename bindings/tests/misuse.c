@@ -175,6 +175,24 @@ static void exact_lists(riddlesage_port *port)
   }
 }
 
+/* No frame has more levels, so none behind them is read. */
+static void behind_the_longest(void)
+{
+  static const char frame_001[] = "00000100000101000001000100010000100111011111111";
+  uint8_t in[RIDDLESAGE_MOST_LEVELS + 43];
+
+  memset(in, 7, sizeof in);
+  memset(in, 0, RIDDLESAGE_MOST_LEVELS);
+  WANT(STUFF, riddlesage_decode(in, sizeof in, &heard, &place));
+  want(place == 5 ? RIDDLESAGE_OK : RIDDLESAGE_STUFF, RIDDLESAGE_OK, "the place of the sixth level", __LINE__);
+  for (count = 0; count < sizeof frame_001 - 1; count++)
+    in[count] = (uint8_t)(frame_001[count] - '0');
+  WANT(OK, riddlesage_decode(in, sizeof in, &heard, &place));
+  want(place == count ? RIDDLESAGE_OK : RIDDLESAGE_SHORT, RIDDLESAGE_OK, "the length of a frame", __LINE__);
+  in[RIDDLESAGE_MOST_LEVELS - 1] = 7;
+  WANT(BAD_LEVEL, riddlesage_decode(in, sizeof in, &heard, &place));
+}
+
 static void handles(void)
 {
   riddlesage_port port = RIDDLESAGE_PORT_INIT, zeros, copy, garbage;
@@ -189,6 +207,9 @@ static void handles(void)
   WANT(MOVED, riddlesage_port_free(&garbage));
 
   WANT(OK, riddlesage_port_idle(&port, 1, 1));
+  count = 9;
+  WANT(OK, riddlesage_port_log_length(&port, &count));
+  want(count == 0 ? RIDDLESAGE_OK : RIDDLESAGE_NO_ENTRY, RIDDLESAGE_OK, "the log of a new port", __LINE__);
   copy = port;
   call_all(&copy, RIDDLESAGE_MOVED);
   WANT(MOVED, riddlesage_port_joining(&copy, 1, 1));
@@ -231,6 +252,7 @@ int main(void)
   WANT_SAME(nothing_heard, heard);
   WANT_SAME(nothing_told, told);
   exact_lists(&port);
+  behind_the_longest();
   WANT(OK, riddlesage_port_free(&port));
   if (riddlesage_status_name((riddlesage_status)19) != NULL || riddlesage_event_name((riddlesage_event)12) != NULL)
     wrong++;

@@ -12,6 +12,7 @@ import sys
 import threading
 import tomllib
 import unittest
+from collections.abc import Callable
 from typing import Optional
 
 HERE = pathlib.Path(__file__).resolve().parent
@@ -200,10 +201,11 @@ class Refusals(unittest.TestCase):
 
     def test_types(self) -> None:
         """What is no frame, no number, no bytes at all."""
-        for call, *words in (
-            (encode, 1), (encode, None), (Port().offer, "S 123 D 0"), (Frame, None), (Frame, "1"), (Frame, 1, 5), (Frame, 1, "5"),
-            (decode, "01"), (Port, "1"),
-        ):
+        calls: list[tuple[Callable[..., object], list[object]]] = [
+            (encode, [1]), (encode, [None]), (Port().offer, ["S 123 D 0"]), (decode, ["01"]), (Port, ["1"]),
+            (Frame, [None]), (Frame, ["1"]), (Frame, [1, 5]), (Frame, [1, "5"]),
+        ]
+        for call, words in calls:
             with self.assertRaises(TypeError):
                 call(*words)
 
@@ -213,14 +215,16 @@ class Refusals(unittest.TestCase):
             again = pickle.loads(pickle.dumps(error))
             self.assertEqual((type(again), str(again), again.__dict__), (type(error), str(error), error.__dict__))
         port = Port()
-        for copied in (copy.copy, copy.deepcopy, pickle.dumps):
+        copies: list[Callable[[Port], object]] = [copy.copy, copy.deepcopy, pickle.dumps]
+        for copied in copies:
             with self.assertRaises(TypeError):
                 copied(port)
         self.assertEqual(port.drive(), 1)
 
     def test_threads(self) -> None:
         """A call waits for that of another thread."""
-        port, errors = Port(), []
+        port = Port()
+        errors: list[Refused] = []
 
         def use() -> None:
             try:
@@ -262,8 +266,9 @@ class Refusals(unittest.TestCase):
         with Port() as port:
             self.assertEqual(port.state, State.ERROR_ACTIVE)
         port.close()
-        for call, *words in ((port.drive,), (port.sample, 1), (port.run, b"\x01"), (port.offer, Frame(0)), (port.hold, 0)):
-            self.refused(Status.NO_PORT, call, *words)
+        self.refused(Status.NO_PORT, port.drive)
+        for call, word in ((port.sample, 1), (port.run, b"\x01"), (port.offer, Frame(0)), (port.hold, 0)):
+            self.refused(Status.NO_PORT, call, word)
         for name in ("counters", "state", "log", "missed"):
             self.refused(Status.NO_PORT, getattr, port, name)
 
@@ -271,7 +276,8 @@ class Refusals(unittest.TestCase):
         """Levels with no frame."""
         with self.assertRaises(Fault) as caught:
             decode(bytes(6))
-        self.assertEqual(("STUFF", 5, "stuff at 5"), (caught.exception.name, caught.exception.place, str(caught.exception)))
+        fault = caught.exception
+        self.assertEqual(("STUFF", 5, "stuff at 5"), (fault.name, fault.place, str(fault)))
         with self.assertRaises(Fault) as caught:
             decode(b"")
         self.assertEqual(("SHORT", 0), (caught.exception.name, caught.exception.place))

@@ -3,6 +3,7 @@ import { pathToFileURL } from 'node:url';
 import { Browser } from './browser.mjs';
 import { accessTests } from './access.mjs';
 import { busTests } from './bus.mjs';
+import { callTests } from './calls.mjs';
 import { decodeTests } from './decode.mjs';
 import { encodeTests } from './encode.mjs';
 import { pageTests } from './page.mjs';
@@ -15,7 +16,7 @@ for (const signal of ['SIGINT', 'SIGTERM']) process.on(signal, () => browser.clo
 let passed = 0;
 let failed = 0;
 
-for (const [name, test] of [...pageTests, ...encodeTests, ...decodeTests, ...busTests, ...accessTests]) {
+for (const [name, test] of [...pageTests, ...callTests, ...encodeTests, ...decodeTests, ...busTests, ...accessTests]) {
   const pages = [];
   const open = async (how) => {
     const page = await browser.open(place.address, how);

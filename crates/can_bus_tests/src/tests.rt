@@ -2,6 +2,7 @@ mod course;
 mod crowd;
 mod disturbed;
 mod lines;
+mod passages;
 mod played;
 mod ports;
 mod quiet;

@@ -24,8 +24,6 @@ mod coding;
 mod plain;
 mod ports;
 mod status;
-#[cfg(test)]
-mod tests;
 mod told;
 
 pub use bit_times::{can_c_drive, can_c_run, can_c_sample};

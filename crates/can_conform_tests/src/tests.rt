@@ -1,27 +1,41 @@
+//! Cases and what comes of them, in texts.
+//!
+//! A case is a text of parts with `, ` between them: how it starts, `idle` or `joining`, and what the tester does, a `0`,
+//! a `1` or an `f` a bit time, so often where `*` says so; and frames that are offered, `offer TIME FRAME`, and overload
+//! frames that are asked for, `hold TIME COUNT`. A line that begins with `#` says what the rows behind it are.
+
 mod runs;
 mod standings;
 mod verdicts;
 
-use can_conform::{Failure, Script, Start, TesterLevel, Timed, Transcript, Verdict, expect, judge};
+use can_conform::{Script, Start, TesterLevel, Timed, Transcript, Verdict, expect, judge};
 use can_frame::{Frame, Level};
+use can_mac::Event;
 use std::alloc::{AllocError, Global};
-use std::process::Abort;
 use std::test::Fail;
 
-/// The level of a `0` or a `1`.
-fn level_of(byte: u8) -> Level {
-    Level::from_bool(byte == b'1')
+/// Levels: texts with a space between them, so often where `*` says so.
+fn push_levels(text: &mut String, levels: &str) -> Result<(), Fail> {
+    for piece in levels.split(' ') {
+        match piece.split_once('*') {
+            Some((levels, times)) => {
+                for _ in 0..times.parse::<u32>()? {
+                    text.push_str(levels)?;
+                }
+            }
+            None => text.push_str(piece)?,
+        }
+    }
+    Ok(())
 }
 
-/// Levels, each text so many times.
-pub fn levels(alloc: Global, texts: &[(&str, usize)]) -> Result<Vec<Level>, AllocError> {
+/// The levels of such a text.
+pub fn levels(alloc: Global, levels: &str) -> Result<Vec<Level>, Fail> {
+    let mut text = String::new(alloc);
+    push_levels(&mut text, levels)?;
     let mut levels = Vec::new(alloc);
-    for (text, times) in texts {
-        for _ in 0..*times {
-            for byte in text.bytes() {
-                levels.push(level_of(byte))?;
-            }
-        }
+    for byte in text.as_str().bytes() {
+        levels.push(Level::from_bool(byte == b'1'))?;
     }
     Ok(levels)
 }
@@ -35,77 +49,80 @@ fn tester_of(byte: u8) -> TesterLevel {
     }
 }
 
-/// A case to which nothing is offered: what the tester does, each text so many times.
-pub fn script(alloc: Global, start: Start, texts: &[(&str, usize)]) -> Result<Script, AllocError> {
+fn tester(alloc: Global, levels: &str) -> Result<Vec<TesterLevel>, Fail> {
+    let mut text = String::new(alloc);
+    push_levels(&mut text, levels)?;
     let mut tester = Vec::new(alloc);
-    for (text, times) in texts {
-        for _ in 0..*times {
-            for byte in text.bytes() {
-                tester.push(tester_of(byte))?;
-            }
+    for byte in text.as_str().bytes() {
+        tester.push(tester_of(byte))?;
+    }
+    Ok(tester)
+}
+
+/// A time, and what stands behind it.
+pub fn timed(text: &str) -> Result<(u32, &str), Fail> {
+    let (time, rest) = text.split_once(' ').ok_or("nothing behind a time")?;
+    Ok((time.parse::<u32>()?, rest))
+}
+
+fn add(alloc: Global, script: &mut Script, part: &str) -> Result<(), Fail> {
+    let (what, rest) = part.split_once(' ').ok_or("a part of one word")?;
+    if what == "offer" {
+        let (time, frame) = timed(rest)?;
+        let told = Frame::from_text(frame.as_bytes())?;
+        script.offers.push(Timed { time, told })?;
+    } else if what == "hold" {
+        let (time, count) = timed(rest)?;
+        let told = count.parse::<u8>()?;
+        script.holds.push(Timed { time, told })?;
+    } else {
+        script.tester = tester(alloc, rest)?;
+        if what == "joining" {
+            script.start = Start::Joining;
         }
     }
-    Ok(Script {
-        start,
-        tester,
+    Ok(())
+}
+
+/// The case of a text.
+fn case(alloc: Global, text: &str) -> Result<Script, Fail> {
+    let mut script = Script {
+        start: Start::Idle,
+        tester: Vec::new(alloc),
         offers: Vec::new(alloc),
         holds: Vec::new(alloc),
-    })
-}
-
-/// The standard data frame 000 without data.
-pub fn frame() -> Result<Frame, Fail> {
-    Ok(Frame::from_text(b"S 000 D 0")?)
-}
-
-/// A case of an idle controller to which this frame is offered at a time.
-pub fn offering(alloc: Global, time: u32, texts: &[(&str, usize)]) -> Result<Script, Fail> {
-    let mut script = script(alloc, Start::Idle, texts)?;
-    let told = frame()?;
-    script.offers.push(Timed { time, told })?;
+    };
+    for part in text.split(", ") {
+        add(alloc, &mut script, part)?;
+    }
     Ok(script)
 }
 
 /// What the reference does in a case.
-pub fn expected(rt: &impl Abort, alloc: Global, script: &Script) -> Result<Transcript, AllocError> {
-    assert!(rt; script.tester.len() < 10_000);
-    expect(alloc, script)
+pub fn expected(alloc: Global, text: &str) -> Result<Transcript, Fail> {
+    let script = case(alloc, text)?;
+    if script.tester.len() >= 10_000 {
+        return Err("a case that is too long".into());
+    }
+    Ok(expect(alloc, &script)?)
 }
 
-/// What the judge says.
-fn judged(
-    rt: &impl Abort,
-    alloc: Global,
-    script: &Script,
-    transcript: &Transcript,
-) -> Result<Verdict, AllocError> {
-    assert!(rt; script.tester.len() < 10_000);
-    assert!(rt; transcript.is_told());
-    judge(alloc, script, transcript)
+/// What the judge says of what is told of a case, which it only asks where it is a transcript.
+pub fn judged(alloc: Global, text: &str, told: &Transcript) -> Result<Option<Verdict>, Fail> {
+    let script = case(alloc, text)?;
+    if script.tester.len() >= 10_000 {
+        return Err("a case that is too long".into());
+    }
+    if !told.is_told() {
+        return Ok(None);
+    }
+    Ok(Some(judge(alloc, &script, told)?))
 }
 
-/// Whether the judge lets a transcript pass.
-pub fn passes(
-    rt: &impl Abort,
-    alloc: Global,
-    script: &Script,
-    transcript: &Transcript,
-) -> Result<bool, AllocError> {
-    Ok(match judged(rt, alloc, script, transcript)? {
-        Verdict::Pass => true,
-        Verdict::Fail(_) => false,
-    })
-}
-
-/// The judge's failure, if it finds one.
-pub fn failure(
-    rt: &impl Abort,
-    alloc: Global,
-    script: &Script,
-    transcript: &Transcript,
-) -> Result<Option<Failure>, AllocError> {
-    Ok(match judged(rt, alloc, script, transcript)? {
-        Verdict::Pass => None,
-        Verdict::Fail(failure) => Some(failure),
-    })
+/// An event, by its name.
+pub fn push_event(text: &mut String, event: &Event) -> Result<(), AllocError> {
+    match event {
+        Event::Received(frame) => write!(text, "Received({})", frame.to_text().as_str()),
+        _ => write!(text, "{event:?}"),
+    }
 }

@@ -3,6 +3,12 @@ ghost use Rattle.can_frame.specs.Ident.{IsIdent};
 
 use std::marker::Model;
 
+/// How many standard identifiers there are.
+const STANDARD_COUNT: u16 = 0x800;
+
+/// How many extended identifiers there are.
+const EXTENDED_COUNT: u32 = 0x2000_0000;
+
 /// An identifier of 11 bits (standard) or 29 bits (extended). (Bosch CAN 2.0 part B, section
 /// 3.2.1) All 2^11 and 2^29 numbers are identifiers.
 #[derive(Clone, Copy, Debug, PartialEq, Eq)]
@@ -29,7 +35,7 @@ impl Id {
         ensures none { IsNone result ↔ (2 ^ 11 ≤ raw) }
         ensures some { IfSome result (λ id. id ≡ record { raw = raw; extended = false }) }
     {
-        if raw < 0x800 {
+        if raw < STANDARD_COUNT {
             Some(Id {
                 raw: u32::from(raw),
                 extended: false,
@@ -44,7 +50,7 @@ impl Id {
         ensures none { IsNone result ↔ (2 ^ 29 ≤ raw) }
         ensures some { IfSome result (λ id. id ≡ record { raw = raw; extended = true }) }
     {
-        if raw < 0x2000_0000 {
+        if raw < EXTENDED_COUNT {
             Some(Id {
                 raw,
                 extended: true,

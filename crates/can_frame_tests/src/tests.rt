@@ -7,24 +7,33 @@ use std::test::Fail;
 
 mod text;
 
-fn standard(raw: u16) -> Result<Id, Fail> {
-    Ok(Id::standard(raw).ok_or("no standard identifier")?)
+fn frame_of(text: &str) -> Option<Frame> {
+    Frame::from_text(text.as_bytes()).ok()
 }
 
-fn extended(raw: u32) -> Result<Id, Fail> {
-    Ok(Id::extended(raw).ok_or("no extended identifier")?)
+fn id_of(extended: bool, raw: u32) -> Option<Id> {
+    if extended {
+        Id::extended(raw)
+    } else {
+        u16::try_from(raw).ok().and_then(Id::standard)
+    }
 }
 
-// Dominant is the bit 0 and recessive the bit 1.
+/// Each level, the bit that it is, and the other level.
+const LEVELS: &[(Level, bool, Level)] = &[
+    (Level::Dominant, false, Level::Recessive),
+    (Level::Recessive, true, Level::Dominant),
+];
+
 #[test]
 fn levels(rt: HostRuntime) {
-    for (level, bit, other) in [
-        (Level::Dominant, false, Level::Recessive),
-        (Level::Recessive, true, Level::Dominant),
-    ] {
-        assert_eq!(rt; Level::from_bool(bit), level);
-        assert_eq!(rt; level.is_recessive(), bit);
-        assert_eq!(rt; level.opposite(), other);
+    for (level, bit, other) in LEVELS {
+        assert!(rt;
+            Level::from_bool(*bit) == *level
+                && level.is_recessive() == *bit
+                && level.opposite() == *other,
+            "{level:?}"
+        );
     }
     assert!(rt; Level::Dominant < Level::Recessive);
 }
@@ -32,89 +41,169 @@ fn levels(rt: HostRuntime) {
 // A frame ends with ACK delimiter, end of frame and intermission, an error frame with delimiter and intermission.
 #[test]
 fn an_idle_row_ends_each_frame(rt: HostRuntime) {
-    assert_eq!(rt; IDLE_ROW, 1 + 7 + 3);
-    assert_eq!(rt; IDLE_ROW, 8 + 3);
+    assert!(rt; IDLE_ROW == 1 + 7 + 3 && IDLE_ROW == 8 + 3);
+}
+
+/// Whether an identifier is extended, the identifier as a number, and whether it is one.
+const IDENTIFIERS: &[(bool, u32, bool)] = &[
+    (false, 0x7ff, true),
+    (false, 0x800, false),
+    (true, 0x1fff_ffff, true),
+    (true, 0x2000_0000, false),
+];
+
+/// The number and the kind that an identifier tells.
+fn told(id: Id) -> (bool, u32) {
+    (id.is_extended(), id.raw())
 }
 
 #[test]
-fn identifiers(rt: HostRuntime) -> Result<(), Fail> {
-    assert_eq!(rt; Id::standard(0x800), None);
-    assert_eq!(rt; Id::extended(0x2000_0000), None);
-    assert_eq!(rt; standard(0x7ff)?.raw(), 0x7ff);
-    assert!(rt; !standard(0x7ff)?.is_extended());
-    assert_eq!(rt; extended(0x1fff_ffff)?.raw(), 0x1fff_ffff);
-    assert!(rt; extended(0x1fff_ffff)?.is_extended());
-    assert!(rt; standard(0x123)? != extended(0x123)?);
-    Ok(())
+fn identifiers(rt: HostRuntime) {
+    for (extended, raw, is_one) in IDENTIFIERS {
+        let expected = if *is_one {
+            Some((*extended, *raw))
+        } else {
+            None
+        };
+        assert!(rt; id_of(*extended, *raw).map(told) == expected, "{raw:x}");
+    }
+    assert!(rt; id_of(false, 0x123) != id_of(true, 0x123));
+}
+
+/// Whether the identifier 123 is extended, a data length code, and the data, or none for a remote frame; and the
+/// frame of these, or why there is none.
+const MADE: &[(bool, u8, Option<&[u8]>, Result<&str, FrameFault>)] = &[
+    (
+        true,
+        12,
+        Some(&[1, 2, 3, 4, 5, 6, 7, 8]),
+        Ok("E 00000123 D 12 0102030405060708"),
+    ),
+    (true, 3, None, Ok("E 00000123 R 3")),
+    (false, 16, Some(&[]), Err(FrameFault::DlcAbove15)),
+    (false, 16, None, Err(FrameFault::DlcAbove15)),
+    (false, 2, Some(&[1]), Err(FrameFault::WrongByteCount)),
+    (false, 12, Some(&[1]), Err(FrameFault::WrongByteCount)),
+];
+
+fn is_made(
+    extended: bool,
+    dlc: u8,
+    data: Option<&[u8]>,
+    expected: Result<&str, FrameFault>,
+) -> bool {
+    let Some(id) = id_of(extended, 0x123) else {
+        return false;
+    };
+    let made = match data {
+        Some(bytes) => Frame::data(id, dlc, bytes),
+        None => Frame::remote(id, dlc),
+    };
+    match (made, expected) {
+        (Ok(frame), Ok(text)) => frame.to_text().as_str() == text,
+        (Err(fault), Err(other)) => fault == other,
+        _ => false,
+    }
 }
 
 #[test]
-fn refused(rt: HostRuntime) -> Result<(), Fail> {
-    let id = standard(0x123)?;
-    assert_eq!(rt; Frame::data(id, 16, &[]), Err(FrameFault::DlcAbove15));
-    assert_eq!(rt; Frame::data(id, 2, &[1]), Err(FrameFault::WrongByteCount));
-    assert_eq!(rt; Frame::data(id, 12, &[1]), Err(FrameFault::WrongByteCount));
-    assert_eq!(rt; Frame::remote(id, 16), Err(FrameFault::DlcAbove15));
-    Ok(())
+fn frames(rt: HostRuntime) {
+    for (row, (extended, dlc, data, expected)) in MADE.iter().enumerate() {
+        assert!(rt; is_made(*extended, *dlc, *data, *expected), "row {row}");
+    }
+}
+
+/// Frames that differ in their data length code, in their kind, in their data, or in the kind of their identifier.
+const DIFFERENT: &[(&str, &str)] = &[
+    (
+        "E 00000123 D 12 0102030405060708",
+        "E 00000123 D 8 0102030405060708",
+    ),
+    ("E 00000123 R 3", "E 00000123 R 4"),
+    ("E 00000123 D 0", "E 00000123 R 0"),
+    ("E 00000123 D 1 00", "E 00000123 D 0"),
+    ("E 00000123 D 0", "S 123 D 0"),
+];
+
+fn differ(one: &str, other: &str) -> bool {
+    match (frame_of(one), frame_of(other)) {
+        (Some(frame), Some(different)) => frame != different,
+        _ => false,
+    }
 }
 
 #[test]
-fn parts(rt: HostRuntime) -> Result<(), Fail> {
-    let id = extended(0x123)?;
-    let bytes = [1, 2, 3, 4, 5, 6, 7, 8];
-    let twelve = Frame::data(id, 12, &bytes)?;
-    assert_eq!(rt; twelve.id(), id);
-    assert!(rt; twelve.is_extended() && !twelve.is_remote());
-    assert_eq!(rt; twelve.dlc(), 12);
-    assert_eq!(rt; twelve.bytes(), bytes.as_slice());
-    assert!(rt; twelve != Frame::data(id, 8, &bytes)?);
-
-    let remote = Frame::remote(id, 3)?;
-    assert!(rt; remote.is_remote() && remote.bytes().is_empty());
-    assert_eq!(rt; remote.dlc(), 3);
-    assert!(rt; remote != Frame::remote(id, 4)?);
-    assert!(rt; Frame::data(id, 0, &[])? != Frame::remote(id, 0)?);
-    assert!(rt; Frame::data(id, 1, &[0])? != Frame::data(id, 0, &[])?);
-    Ok(())
+fn different_frames(rt: HostRuntime) {
+    for (one, other) in DIFFERENT {
+        assert!(rt; differ(*one, *other), "{one}");
+    }
 }
 
-// The bytes of a number, the highest first, are the data bytes; a DLC above 8 means eight of them.
+/// Whether a frame has this text, and these eight bytes that hold its data.
+fn holds(frame: Frame, text: &str, octets: [u8; 8]) -> bool {
+    frame.to_text().as_str() == text && frame.octets() == octets
+}
+
+// The bytes of a number, the highest first, are the data bytes; a data length code above 8 means eight of them.
 #[test]
 fn data_of_a_number(rt: HostRuntime) -> Result<(), Fail> {
-    let id = standard(0x123)?;
-    let none = Frame::data_of_number(id, 0, 0);
-    assert_eq!(rt; none, Frame::data(id, 0, &[])?);
-    assert_eq!(rt; none.octets(), [0; 8]);
-    let two = Frame::data_of_number(id, 2, 0xaa55);
-    assert_eq!(rt; two, Frame::data(id, 2, &[0xaa, 0x55])?);
-    assert_eq!(rt; two.octets(), [0xaa, 0x55, 0, 0, 0, 0, 0, 0]);
-    let bytes = [1, 2, 3, 4, 5, 6, 7, 8];
-    for dlc in [8, 12] {
-        let whole = Frame::data_of_number(id, dlc, 0x0102_0304_0506_0708);
-        assert_eq!(rt; whole, Frame::data(id, dlc, &bytes)?);
-        assert_eq!(rt; whole.octets(), bytes);
-    }
+    let id = Id::standard(0x123).ok_or("an identifier of 11 bits")?;
+    let (whole, bytes) = (0x0102_0304_0506_0708, [1, 2, 3, 4, 5, 6, 7, 8]);
+    assert!(rt;
+        holds(Frame::data_of_number(id, 0, 0), "S 123 D 0", [0; 8])
+            && holds(
+                Frame::data_of_number(id, 2, 0xaa55),
+                "S 123 D 2 aa55",
+                [0xaa, 0x55, 0, 0, 0, 0, 0, 0]
+            )
+            && holds(
+                Frame::data_of_number(id, 8, whole),
+                "S 123 D 8 0102030405060708",
+                bytes
+            )
+            && holds(
+                Frame::data_of_number(id, 12, whole),
+                "S 123 D 12 0102030405060708",
+                bytes
+            )
+    );
     Ok(())
 }
 
-#[test]
-fn keys(rt: HostRuntime) -> Result<(), Fail> {
-    let ascending = [
-        Frame::data(standard(0)?, 0, &[])?.key(),
-        Frame::data(extended(0)?, 0, &[])?.key(),
-        Frame::remote(extended(0)?, 0)?.key(),
-        Frame::data(standard(1)?, 0, &[])?.key(),
-        Frame::data(standard(0x123)?, 0, &[])?.key(),
-        Frame::remote(standard(0x123)?, 0)?.key(),
-        Frame::data(extended(0x048c_0000)?, 0, &[])?.key(),
-    ];
-    for (lesser, greater) in ascending.iter().zip(ascending.iter().skip(1)) {
-        assert!(rt; lesser < greater, "{lesser:?} and {greater:?}");
-        assert!(rt; lesser != greater, "{lesser:?} and {greater:?}");
+/// Frames, in the order in which they win.
+const ASCENDING: &[&str] = &[
+    "S 000 D 0",
+    "E 00000000 D 0",
+    "E 00000000 R 0",
+    "S 001 D 0",
+    "S 123 D 0",
+    "S 123 R 0",
+    "E 048c0000 D 0",
+];
+
+/// Whether a frame has the lesser key.
+fn goes_before(lesser: &str, greater: &str) -> bool {
+    match (frame_of(lesser), frame_of(greater)) {
+        (Some(lesser), Some(greater)) => {
+            lesser.key() < greater.key() && lesser.key() != greater.key()
+        }
+        _ => false,
     }
-    let one = Frame::data(standard(1)?, 1, &[5])?.key();
-    assert!(rt; one == Frame::data(standard(1)?, 0, &[])?.key());
-    Ok(())
+}
+
+fn has_same_key(one: &str, other: &str) -> bool {
+    match (frame_of(one), frame_of(other)) {
+        (Some(one), Some(other)) => one.key() == other.key(),
+        _ => false,
+    }
+}
+
+#[test]
+fn keys(rt: HostRuntime) {
+    for (lesser, greater) in ASCENDING.iter().zip(ASCENDING.iter().skip(1)) {
+        assert!(rt; goes_before(*lesser, *greater), "{lesser} and {greater}");
+    }
+    assert!(rt; has_same_key("S 001 D 1 05", "S 001 D 0"));
 }
 
 // The definition of the arbitration field, at one frame of each kind.
@@ -139,17 +228,20 @@ fn same_event(a: &Event, b: &Event) -> bool
     a == b
 }
 
+/// Whether events are the same exactly where their kinds and their frames are.
+fn events_are_told_apart(one: &str, other: &str) -> bool {
+    match (frame_of(one), frame_of(other)) {
+        (Some(frame), Some(different)) => {
+            same_event(&Event::Sent(frame), &Event::Sent(frame))
+                && !same_event(&Event::Sent(frame), &Event::Received(frame))
+                && !same_event(&Event::Sent(frame), &Event::Sent(different))
+        }
+        _ => false,
+    }
+}
+
 #[test]
-fn events(rt: HostRuntime) -> Result<(), Fail> {
+fn events(rt: HostRuntime) {
     fields();
-    let frame = Frame::data(standard(1)?, 1, &[5])?;
-    assert!(rt; same_event(&Event::Sent(frame), &Event::Sent(frame)));
-    assert!(rt; !same_event(&Event::Sent(frame), &Event::Received(frame)));
-    assert!(rt;
-        !same_event(
-            &Event::Sent(frame),
-            &Event::Sent(Frame::data(standard(1)?, 1, &[6])?)
-        )
-    );
-    Ok(())
+    assert!(rt; events_are_told_apart("S 001 D 1 05", "S 001 D 1 06"));
 }

@@ -1,13 +1,13 @@
-//! Kit documents that are answered.
-mod documents;
-mod expecting;
-mod judging;
+//! Kit documents that are answered, one of each kind: more documents and their answers are those of tests/documents, which are
+//! played through the program.
 mod tables;
 
-use can_hold::Document;
-use can_stream::{Field, KitField, TraceFault};
+use can_hold::{Document, expected, judged};
+use can_stream::{CaseField, Field, KitField, TraceFault};
+use can_verdict::Tally;
 use std::alloc::{AllocError, Global};
 use std::test::Fail;
+use tables::{ACK_UNSEEN, ACK_UNSEEN_STORED, FORM_ERROR, FORM_ERROR_TOLD, START, START_STORED};
 
 /// The parts of a text, one behind another.
 fn joined(alloc: Global, parts: &[&str]) -> Result<String, AllocError> {
@@ -18,10 +18,71 @@ fn joined(alloc: Global, parts: &[&str]) -> Result<String, AllocError> {
     Ok(text)
 }
 
-/// The text with another one in the place of the first that is `old`.
-fn changed(alloc: Global, text: &str, old: &str, new: &str) -> Result<String, Fail> {
-    let (before, behind) = text.split_once(old).ok_or("not in the text")?;
-    Ok(joined(alloc, &[before, new, behind])?)
+#[test]
+fn two_cases_and_the_transcript_of_one(rt: HostRuntime) -> Result<(), Fail> {
+    let alloc = rt.alloc();
+    let text = joined(alloc, &[START_STORED, FORM_ERROR, START])?;
+    let document = Document::from_text(alloc, text.as_bytes())?;
+    let names: Vec<&str> = document
+        .cases
+        .iter()
+        .map(|case| case.name.as_str())
+        .collect(alloc)?;
+    let said = ["rx-form-error-s-crcdelim", "start-first"];
+    assert_eq!(rt; names.as_slice(), said.as_slice());
+    assert_eq!(rt; document.transcripts.len(), 1);
+    let told = document.transcripts.first().ok_or("none")?;
+    assert_eq!(rt; (told.case, told.transcript.drove.len()), (1, 68));
+    Ok(())
+}
+
+#[test]
+fn the_answer_for_one_case(rt: HostRuntime) -> Result<(), Fail> {
+    let alloc = rt.alloc();
+    let ought = joined(alloc, &[FORM_ERROR, FORM_ERROR_TOLD])?;
+    assert_eq!(rt;
+        expected(alloc, FORM_ERROR.as_bytes())?.as_slice(),
+        ought.as_bytes()
+    );
+    Ok(())
+}
+
+/// What is said of the transcripts, in their order; the second one drives a level too late.
+const LINES: &str = "pass start-first
+fail rx-ack-unseen-standard at 52: drove 1 not 0; ack-slot, receiver; Acknowledgement
+pass rx-form-error-s-crcdelim
+passed 2 failed 1 void 0 skipped 0 of 3
+";
+
+#[test]
+fn lines_in_the_order_of_transcripts(rt: HostRuntime) -> Result<(), Fail> {
+    let alloc = rt.alloc();
+    let (before, behind) = ACK_UNSEEN_STORED
+        .split_once("1*52 0")
+        .ok_or("other levels")?;
+    let text = joined(
+        alloc,
+        &[
+            START_STORED,
+            FORM_ERROR,
+            ACK_UNSEEN,
+            before,
+            "1*53 ",
+            behind,
+            START,
+            FORM_ERROR_TOLD,
+        ],
+    )?;
+    let judgement = judged(alloc, text.as_bytes())?;
+    assert_eq!(rt; judgement.lines.as_slice(), LINES.as_bytes());
+    let tally = Tally {
+        passed: 2,
+        failed: 1,
+        void: 0,
+        skipped: 0,
+    };
+    assert_eq!(rt; judgement.tally, tally);
+    Ok(())
 }
 
 /// The fault that tells this field.
@@ -29,7 +90,14 @@ fn told(wrong: KitField) -> TraceFault {
     TraceFault::ScenarioField(Field::Kit(wrong))
 }
 
-/// Why a document is refused.
-fn refusal(alloc: Global, text: &[u8]) -> Result<TraceFault, Fail> {
-    Ok(Document::from_text(alloc, text).err().ok_or("taken")?)
+#[test]
+fn documents_that_are_refused(rt: HostRuntime) -> Result<(), Fail> {
+    let alloc = rt.alloc();
+    let text = joined(alloc, &["transcript = []\n", FORM_ERROR])?;
+    let refused = expected(alloc, text.as_bytes()).err().ok_or("taken")?;
+    assert_eq!(rt; refused, told(KitField::Transcripts));
+    let refused = judged(alloc, b"case = [1]").err().ok_or("taken")?;
+    let part = CaseField::Table;
+    assert_eq!(rt; refused, told(KitField::Case { number: 0, part }));
+    Ok(())
 }

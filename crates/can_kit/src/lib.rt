@@ -29,8 +29,6 @@ mod laws;
 mod lists;
 mod naming;
 mod tester;
-#[cfg(test)]
-mod tests;
 mod timed;
 mod words;
 

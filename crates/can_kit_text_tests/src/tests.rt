@@ -7,222 +7,270 @@ use can_kit_text::{
 };
 use can_mac::{ErrorKind, Event};
 use std::alloc::{AllocError, Global};
-use std::test::Fail;
 
-/// These levels as tokens.
-fn tokens(alloc: Global, digits: &str) -> Result<Vec<u8>, AllocError> {
-    let levels: Vec<Level> = digits
-        .bytes()
-        .map(|byte| Level::from_bool(byte == b'1'))
-        .collect(alloc)?;
-    let mut out = Vec::new(alloc);
-    push_levels(&mut out, &levels)?;
-    Ok(out)
-}
+/// Levels, and the tokens that say them: runs of eight and more are counted.
+const TOKENS: &[(&str, &str)] = &[
+    ("", ""),
+    ("0", "0"),
+    ("1111111", "1111111"),
+    ("11111111", "1*8"),
+    ("0000000011111111", "0*8 1*8"),
+    ("01111111100", "0 1*8 00"),
+    ("1111111110101", "1*9 0101"),
+    ("00000001111111000000000", "00000001111111 0*9"),
+];
 
-#[test]
-fn runs_of_eight_and_more_are_counted(rt: HostRuntime) -> Result<(), Fail> {
-    for (digits, text) in [
-        ("", ""),
-        ("0", "0"),
-        ("1111111", "1111111"),
-        ("11111111", "1*8"),
-        ("0000000011111111", "0*8 1*8"),
-        ("01111111100", "0 1*8 00"),
-        ("1111111110101", "1*9 0101"),
-        ("00000001111111000000000", "00000001111111 0*9"),
-    ] {
-        assert_eq!(rt; tokens(rt.alloc(), digits)?.as_slice(), text.as_bytes());
-    }
-    Ok(())
-}
-
-#[test]
-fn words_of_events(rt: HostRuntime) -> Result<(), Fail> {
-    let frame = Frame::from_text(b"S 123 D 1 c3")?;
-    for (event, text) in [
-        (Event::Sent(frame), "sent S 123 D 1 c3"),
-        (Event::Received(frame), "received S 123 D 1 c3"),
-        (Event::Lost, "lost"),
-        (Event::Error(ErrorKind::Stuff), "error stuff"),
-        (Event::Error(ErrorKind::Bit), "error bit"),
-        (Event::Error(ErrorKind::Form), "error form"),
-        (Event::Error(ErrorKind::Crc), "error crc"),
-        (Event::Error(ErrorKind::Ack), "error ack"),
-        (Event::Overload, "overload"),
-        (Event::WentOff, "off"),
-        (Event::Recovered, "recovered"),
-    ] {
-        let mut out = Vec::new(rt.alloc());
-        push_event(&mut out, &event)?;
-        assert_eq!(rt; out.as_slice(), text.as_bytes());
-    }
-    Ok(())
-}
-
-#[test]
-fn a_state_and_its_counters(rt: HostRuntime) -> Result<(), Fail> {
-    let mut out = Vec::new(rt.alloc());
-    for (state, count) in [
-        (State::Active, 0),
-        (State::Passive, 128),
-        (State::BusOff, 256),
-    ] {
-        push_state(&mut out, state)?;
-        push_text(&mut out, b" ")?;
-        push_number(&mut out, count)?;
-        push_text(&mut out, b";")?;
-    }
-    assert_eq!(rt; out.as_slice(), b"active 0;passive 128;off 256;".as_slice());
-    Ok(())
-}
-
-/// The digits of the levels that a text says; nothing where it says none.
-fn read(alloc: Global, text: &str) -> Result<Option<Vec<u8>>, AllocError> {
+/// The levels of digits.
+fn levels_of(alloc: Global, digits: &str) -> Result<Vec<Level>, AllocError> {
     let mut levels = Vec::new(alloc);
-    if !read_levels(&mut levels, 100_000, text)? {
-        return Ok(None);
+    for digit in digits.as_bytes() {
+        levels.push(Level::from_bool(*digit == b'1'))?;
     }
-    Ok(Some(digits_of(alloc, &levels)?))
+    Ok(levels)
 }
 
-/// The digits of levels.
-fn digits_of(alloc: Global, levels: &[Level]) -> Result<Vec<u8>, AllocError> {
-    levels
-        .iter()
-        .map(|level| if level.is_recessive() { b'1' } else { b'0' })
-        .collect(alloc)
+/// Whether levels are these digits.
+fn are_digits(levels: &[Level], digits: &str) -> bool {
+    if levels.len() != digits.len() {
+        return false;
+    }
+    for (level, digit) in levels.iter().zip(digits.as_bytes()) {
+        if level.is_recessive() != (*digit == b'1') {
+            return false;
+        }
+    }
+    true
+}
+
+/// Whether the levels of these digits are written as a text.
+fn are_written(alloc: Global, digits: &str, text: &str) -> Result<bool, AllocError> {
+    let mut out = Vec::new(alloc);
+    push_levels(&mut out, &levels_of(alloc, digits)?)?;
+    Ok(out.as_slice() == text.as_bytes())
 }
 
 #[test]
-fn texts_that_say_levels(rt: HostRuntime) -> Result<(), Fail> {
-    for (text, digits) in [
-        ("0", "0"),
-        ("110", "110"),
-        ("0 1*17", "011111111111111111"),
-        ("1*3 000000 1*2", "11100000011"),
-        ("  01  0*1 ", "010"),
-    ] {
-        let read = read(rt.alloc(), text)?.ok_or("no levels")?;
-        assert_eq!(rt; read.as_slice(), digits.as_bytes());
-    }
-    let most = read(rt.alloc(), "1*100000")?.ok_or("no levels")?;
-    assert_eq!(rt; most.len(), 100_000);
-    Ok(())
-}
-
-/// Behind two levels that are there; a text that says none may have appended some.
-#[test]
-fn levels_as_far_as_there_is_room(rt: HostRuntime) -> Result<(), Fail> {
-    let alloc = rt.alloc();
-    for (most, text, says, kept) in [
-        (6, "0101", true, "110101"),
-        (5, "0101", true, "11010"),
-        (3, "0 1*100000 1*100000", true, "110"),
-        (5, "1*100000 0", true, "11111"),
-        (2, "1*8", true, "11"),
-        (2, " ", false, "11"),
-        (4, "0*8 2", false, "1100"),
-    ] {
-        let mut levels = Vec::new(alloc);
-        levels.push(Level::Recessive)?;
-        levels.push(Level::Recessive)?;
-        assert_eq!(rt; read_levels(&mut levels, most, text)?, says, "{text}");
-        let digits = digits_of(alloc, &levels)?;
-        assert_eq!(rt; digits.as_slice(), kept.as_bytes(), "{text}");
+fn runs_of_eight_and_more_are_counted(rt: HostRuntime) -> Result<(), AllocError> {
+    for (digits, text) in TOKENS {
+        assert!(rt; are_written(rt.alloc(), digits, text)?, "{digits}");
     }
     Ok(())
 }
 
+/// Levels that are there, how many there may be, a text, whether it says levels, and the levels behind it. A text that
+/// says none may have appended some.
+const READ: &[(&str, usize, &str, bool, &str)] = &[
+    ("", 100_000, "0", true, "0"),
+    ("", 100_000, "110", true, "110"),
+    ("", 100_000, "0 1*17", true, "011111111111111111"),
+    ("", 100_000, "1*3 000000 1*2", true, "11100000011"),
+    ("", 100_000, "  01  0*1 ", true, "010"),
+    ("11", 6, "0101", true, "110101"),
+    ("11", 5, "0101", true, "11010"),
+    ("11", 3, "0 1*100000 1*100000", true, "110"),
+    ("11", 5, "1*100000 0", true, "11111"),
+    ("11", 2, "1*8", true, "11"),
+    ("11", 2, " ", false, "11"),
+    ("11", 4, "0*8 2", false, "1100"),
+];
+
+/// Whether a text is read so behind levels that are there.
+fn is_read(
+    alloc: Global,
+    before: &str,
+    most: usize,
+    text: &str,
+    says: bool,
+    behind: &str,
+) -> Result<bool, AllocError> {
+    let mut levels = levels_of(alloc, before)?;
+    if levels.len() > most {
+        return Ok(false);
+    }
+    let said = read_levels(&mut levels, most, text)?;
+    Ok(said == says && are_digits(&levels, behind))
+}
+
 #[test]
-fn texts_that_say_none(rt: HostRuntime) -> Result<(), Fail> {
-    for text in [
-        "",
-        " ",
-        "2",
-        "0 2",
-        "1*",
-        "*3",
-        "1*0",
-        "1*03",
-        "1*+3",
-        "1*-3",
-        "1*100001",
-        "2*3",
-        "11*3",
-        "1*3*3",
-        "1 *3",
-        "1\t0",
-        "1*4294967297",
-    ] {
-        assert!(rt; read(rt.alloc(), text)?.is_none(), "{text}");
+fn levels_as_far_as_there_is_room(rt: HostRuntime) -> Result<(), AllocError> {
+    for (before, most, text, says, behind) in READ {
+        assert!(rt;
+            is_read(rt.alloc(), before, *most, text, *says, behind)?,
+            "{text}"
+        );
     }
     Ok(())
 }
 
+/// How many levels a text says, if it says levels.
+fn count_in(alloc: Global, text: &str) -> Result<Option<usize>, AllocError> {
+    let mut levels = Vec::new(alloc);
+    let said = read_levels(&mut levels, 100_000, text)?;
+    Ok(said.then_some(levels.len()))
+}
+
+/// Texts that say no levels, and one that says as many as a document may have.
+const COUNTED: &[(&str, Option<usize>)] = &[
+    ("1*100000", Some(100_000)),
+    ("", None),
+    (" ", None),
+    ("2", None),
+    ("0 2", None),
+    ("1*", None),
+    ("*3", None),
+    ("1*0", None),
+    ("1*03", None),
+    ("1*+3", None),
+    ("1*-3", None),
+    ("1*100001", None),
+    ("2*3", None),
+    ("11*3", None),
+    ("1*3*3", None),
+    ("1 *3", None),
+    ("1\t0", None),
+    ("1*4294967297", None),
+];
+
 #[test]
-fn texts_of_events(rt: HostRuntime) -> Result<(), Fail> {
-    let standard = Frame::from_text(b"S 123 D 1 c3")?;
-    let extended = Frame::from_text(b"E 0a5a5a5a R 8")?;
-    let empty = Frame::from_text(b"S 7ff D 0")?;
-    for (text, event) in [
-        ("sent S 123 D 1 c3", Event::Sent(standard)),
-        ("received E 0a5a5a5a R 8", Event::Received(extended)),
-        ("received S 7ff D 0", Event::Received(empty)),
-        ("lost", Event::Lost),
-        ("error stuff", Event::Error(ErrorKind::Stuff)),
-        ("error bit", Event::Error(ErrorKind::Bit)),
-        ("error form", Event::Error(ErrorKind::Form)),
-        ("error crc", Event::Error(ErrorKind::Crc)),
-        ("error ack", Event::Error(ErrorKind::Ack)),
-        ("overload", Event::Overload),
-        ("off", Event::WentOff),
-        ("recovered", Event::Recovered),
-    ] {
-        assert_eq!(rt; read_event(text), Some(event), "{text}");
+fn texts_that_say_none(rt: HostRuntime) -> Result<(), AllocError> {
+    for (text, count) in COUNTED {
+        assert_eq!(rt; count_in(rt.alloc(), text)?, *count, "{text}");
     }
     Ok(())
 }
 
+/// What the words of an event are read as.
+#[derive(Clone, Copy)]
+enum Named<'a> {
+    /// The frame of this text was sent.
+    Sent(&'a str),
+    /// The frame of this text was received.
+    Received(&'a str),
+    Lost,
+    Error(ErrorKind),
+    Overload,
+    WentOff,
+    Recovered,
+}
+
+impl Named<'_> {
+    fn event(self) -> Option<Event> {
+        match self {
+            Named::Sent(text) => Some(Event::Sent(Frame::from_text(text.as_bytes()).ok()?)),
+            Named::Received(text) => {
+                Some(Event::Received(Frame::from_text(text.as_bytes()).ok()?))
+            }
+            Named::Lost => Some(Event::Lost),
+            Named::Error(kind) => Some(Event::Error(kind)),
+            Named::Overload => Some(Event::Overload),
+            Named::WentOff => Some(Event::WentOff),
+            Named::Recovered => Some(Event::Recovered),
+        }
+    }
+}
+
+/// Words, and the event.
+const EVENTS: &[(&str, Named)] = &[
+    ("sent S 123 D 1 c3", Named::Sent("S 123 D 1 c3")),
+    ("received S 123 D 1 c3", Named::Received("S 123 D 1 c3")),
+    ("received E 0a5a5a5a R 8", Named::Received("E 0a5a5a5a R 8")),
+    ("received S 7ff D 0", Named::Received("S 7ff D 0")),
+    ("lost", Named::Lost),
+    ("error stuff", Named::Error(ErrorKind::Stuff)),
+    ("error bit", Named::Error(ErrorKind::Bit)),
+    ("error form", Named::Error(ErrorKind::Form)),
+    ("error crc", Named::Error(ErrorKind::Crc)),
+    ("error ack", Named::Error(ErrorKind::Ack)),
+    ("overload", Named::Overload),
+    ("off", Named::WentOff),
+    ("recovered", Named::Recovered),
+];
+
+/// Whether these are the words of an event, both ways.
+fn are_words(alloc: Global, text: &str, event: Option<Event>) -> Result<bool, AllocError> {
+    let Some(event) = event else {
+        return Ok(false);
+    };
+    let mut out = Vec::new(alloc);
+    push_event(&mut out, &event)?;
+    Ok(out.as_slice() == text.as_bytes() && read_event(text) == Some(event))
+}
+
 #[test]
-fn texts_of_no_event(rt: HostRuntime) -> Result<(), Fail> {
-    for text in [
-        "",
-        "sent",
-        "sent ",
-        "sent S 800 D 0",
-        "sent S 123 D 1 C3",
-        "sent  S 123 D 1 c3",
-        "sent S 123 D 1 c3 ",
-        "Sent S 123 D 1 c3",
-        "received lost",
-        "lost ",
-        " lost",
-        "error",
-        "error ",
-        "error stuffing",
-        "error overload",
-        "passive",
-        "recovered S 123 D 1 c3",
-    ] {
-        assert_eq!(rt; read_event(text), None, "{text}");
+fn words_of_events(rt: HostRuntime) -> Result<(), AllocError> {
+    for (text, named) in EVENTS {
+        assert!(rt; are_words(rt.alloc(), text, named.event())?, "{text}");
     }
     Ok(())
 }
 
+/// Texts of no event.
+const NO_EVENTS: &[&str] = &[
+    "",
+    "sent",
+    "sent ",
+    "sent S 800 D 0",
+    "sent S 123 D 1 C3",
+    "sent  S 123 D 1 c3",
+    "sent S 123 D 1 c3 ",
+    "Sent S 123 D 1 c3",
+    "received lost",
+    "lost ",
+    " lost",
+    "error",
+    "error ",
+    "error stuffing",
+    "error overload",
+    "passive",
+    "recovered S 123 D 1 c3",
+];
+
 #[test]
-fn words_of_states(rt: HostRuntime) -> Result<(), Fail> {
-    for (word, state) in [
-        ("active", Some(State::Active)),
-        ("passive", Some(State::Passive)),
-        ("off", Some(State::BusOff)),
-        ("", None),
-        ("Active", None),
-        ("error active", None),
-        ("off ", None),
-        ("bus-off", None),
-    ] {
-        assert_eq!(rt; read_state(word), state, "{word}");
+fn texts_of_no_event(rt: HostRuntime) {
+    for text in NO_EVENTS {
+        assert!(rt; read_event(text).is_none(), "{text}");
+    }
+}
+
+/// Words, and the state.
+const STATES: &[(&str, Option<State>)] = &[
+    ("active", Some(State::Active)),
+    ("passive", Some(State::Passive)),
+    ("off", Some(State::BusOff)),
+    ("", None),
+    ("Active", None),
+    ("error active", None),
+    ("off ", None),
+    ("bus-off", None),
+];
+
+#[test]
+fn words_of_states(rt: HostRuntime) {
+    for (word, state) in STATES {
+        assert_eq!(rt; read_state(word), *state, "{word}");
+    }
+}
+
+/// A state, a number, and both as they are written, one behind another.
+const WRITTEN: &[(State, u64, &str)] = &[
+    (State::Active, 0, "active 0"),
+    (State::Passive, 128, "passive 128"),
+    (State::BusOff, 256, "off 256"),
+];
+
+/// Whether a state and a number are written so.
+fn is_written(alloc: Global, state: State, count: u64, text: &str) -> Result<bool, AllocError> {
+    let mut out = Vec::new(alloc);
+    push_state(&mut out, state)?;
+    push_text(&mut out, b" ")?;
+    push_number(&mut out, count)?;
+    Ok(out.as_slice() == text.as_bytes())
+}
+
+#[test]
+fn a_state_and_its_counters(rt: HostRuntime) -> Result<(), AllocError> {
+    for (state, count, text) in WRITTEN {
+        assert!(rt; is_written(rt.alloc(), *state, *count, text)?, "{text}");
     }
     Ok(())
 }

@@ -23,8 +23,6 @@ mod frames;
 mod lines;
 mod plain;
 mod scenarios;
-#[cfg(test)]
-mod tests;
 mod text;
 mod traces;
 mod wires;

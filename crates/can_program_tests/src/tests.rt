@@ -1,10 +1,12 @@
 //! Faults, their lines and statuses.
 ghost use Rattle.std.specs.Prelude.{◌≡◌, false};
 
+use RunFault::{Memory, Stream, Usage, VectorsDiffer};
 use can_program::{RunFault, conclude, refuse, words_or_status, write_help};
 use can_stream::pieces::{ROOM, Stop, Taker, writer_of};
 use can_stream::{Field, KitField, PortField, ToWrite, TraceFault, TranscriptField};
 use std::alloc::Global;
+use std::io;
 use std::io::{Error, ErrorKind};
 use std::test::Fail;
 
@@ -15,113 +17,121 @@ fn errors(alloc: Global, room: usize) -> ToWrite<Taker>
     writer_of(alloc, 512, room, Stop::Nothing)
 }
 
-#[test]
-fn each_fault_has_a_line_and_a_status(rt: HostRuntime) -> Result<(), Fail> {
-    let log = TraceFault::ScenarioField(Field::Port {
-        number: 0,
-        part: PortField::Log,
-    });
-    let longest = TraceFault::ScenarioField(Field::Kit(KitField::Transcript {
-        number: usize::MAX,
-        part: TranscriptField::Change(usize::MAX),
-    }));
-    for (fault, status, line) in [
-        (
-            RunFault::Stream(TraceFault::BadByte { place: 13 }),
-            1,
-            "canbit: P1 byte 13\n",
-        ),
-        (RunFault::Stream(log), 1, "canbit: P2 port[0].log\n"),
-        (
-            RunFault::Stream(longest),
-            1,
-            "canbit: P2 transcript[18446744073709551615].counters[18446744073709551615]\n",
-        ),
-        (RunFault::Stream(TraceFault::Long), 1, "canbit: P6 long\n"),
-        (RunFault::VectorsDiffer, 1, "canbit: vectors differ\n"),
-        (RunFault::Usage, 2, "canbit: usage\n"),
-        (RunFault::Stream(TraceFault::Read), 3, "canbit: P3 read\n"),
-        (RunFault::Stream(TraceFault::Write), 3, "canbit: P4 write\n"),
-        (RunFault::Memory, 4, "canbit: P5 memory\n"),
-        (
-            RunFault::Stream(TraceFault::Memory),
-            4,
-            "canbit: P5 memory\n",
-        ),
-    ] {
-        let mut told = errors(rt.alloc(), ROOM);
-        assert_eq!(rt; refuse("canbit", fault, &mut told), status, "{fault}");
-        assert_eq!(rt; told.into_inner().taken.as_slice(), line.as_bytes());
-        let mut full = errors(rt.alloc(), 3);
-        assert_eq!(rt;
-            conclude("canbit", Err(fault), &mut full),
-            status,
-            "{fault}"
-        );
-    }
-    Ok(())
+/// What a run came to, its status, and the line that is told of it.
+const ENDINGS: &[(Result<(), RunFault>, u8, &str)] = &[
+    (Ok(()), 0, ""),
+    (
+        Err(Stream(TraceFault::BadByte { place: 13 })),
+        1,
+        "canbit: P1 byte 13\n",
+    ),
+    (
+        Err(Stream(TraceFault::ScenarioField(Field::Port {
+            number: 0,
+            part: PortField::Log,
+        }))),
+        1,
+        "canbit: P2 port[0].log\n",
+    ),
+    // the longest line
+    (
+        Err(Stream(TraceFault::ScenarioField(Field::Kit(KitField::Transcript {
+            number: usize::MAX,
+            part: TranscriptField::Change(usize::MAX),
+        })))),
+        1,
+        "canbit: P2 transcript[18446744073709551615].counters[18446744073709551615]\n",
+    ),
+    (Err(Stream(TraceFault::Long)), 1, "canbit: P6 long\n"),
+    (Err(VectorsDiffer), 1, "canbit: vectors differ\n"),
+    (Err(Usage), 2, "canbit: usage\n"),
+    (Err(Stream(TraceFault::Read)), 3, "canbit: P3 read\n"),
+    (Err(Stream(TraceFault::Write)), 3, "canbit: P4 write\n"),
+    (Err(Memory), 4, "canbit: P5 memory\n"),
+    (Err(Stream(TraceFault::Memory)), 4, "canbit: P5 memory\n"),
+];
+
+/// Whether a run ends with this status and this line.
+fn ends_with(alloc: Global, outcome: Result<(), RunFault>, status: u8, line: &str) -> bool {
+    let mut told = errors(alloc, ROOM);
+    let found = conclude("canbit", outcome, &mut told);
+    found == status && told.into_inner().taken.as_slice() == line.as_bytes()
+}
+
+/// Whether a fault has this status, also where there is no room for its line.
+fn is_refused_with(alloc: Global, fault: RunFault, status: u8) -> bool {
+    let mut full = errors(alloc, 3);
+    refuse("canbit", fault, &mut full) == status
 }
 
 #[test]
-fn what_is_done_has_no_line(rt: HostRuntime) {
-    let mut told = errors(rt.alloc(), ROOM);
-    assert_eq!(rt; conclude("canhold", Ok(()), &mut told), 0);
-    assert_eq!(rt; told.into_inner().taken.len(), 0);
+fn each_ending_has_a_line_and_a_status(rt: HostRuntime) {
+    for (outcome, status, line) in ENDINGS {
+        assert!(rt; ends_with(rt.alloc(), *outcome, *status, *line), "{line}");
+        if let Err(fault) = outcome {
+            assert!(rt; is_refused_with(rt.alloc(), *fault, *status), "{line}");
+        }
+    }
+    assert!(rt; RunFault::from(TraceFault::Long) == Stream(TraceFault::Long));
+}
+
+/// Whether help comes to this, and as much of it is written, where the writer takes so many bytes.
+fn helps(alloc: Global, room: usize, outcome: Result<(), RunFault>, written: &[u8]) -> bool {
+    let mut output = errors(alloc, room);
+    let found = write_help("Usage\n", &mut output);
+    found == outcome && output.into_inner().taken.as_slice() == written
 }
 
 #[test]
 fn help_is_written_or_the_writer_failed(rt: HostRuntime) {
-    let mut output = errors(rt.alloc(), ROOM);
-    assert_eq!(rt; write_help("Usage\n", &mut output), Ok(()));
-    assert_eq!(rt; output.into_inner().taken.as_slice(), b"Usage\n".as_slice());
-    let mut full = errors(rt.alloc(), 3);
-    let failed = Err(RunFault::Stream(TraceFault::Write));
-    assert_eq!(rt; write_help("Usage\n", &mut full), failed);
+    assert!(rt; helps(rt.alloc(), ROOM, Ok(()), b"Usage\n"));
+    assert!(rt; helps(rt.alloc(), 3, Err(Stream(TraceFault::Write)), b"Usa"));
+}
+
+/// Why words could not be read, the fault of that, its status and its line. Words that are not UTF-8 are no want of
+/// memory.
+const UNREAD: &[(ErrorKind, RunFault, u8, &[u8])] = &[
+    (ErrorKind::InvalidData, Usage, 2, b"canhold: usage\n"),
+    (ErrorKind::OutOfMemory, Memory, 4, b"canhold: P5 memory\n"),
+];
+
+/// What a run goes on with or ends with, and the line that is told.
+fn words(alloc: Global, read: io::Result<Vec<String>>) -> (Result<Vec<String>, u8>, Vec<u8>) {
+    let mut told = errors(alloc, ROOM);
+    let words = words_or_status("canhold", read, &mut told);
+    (words, told.into_inner().taken)
+}
+
+/// Whether the run ends with this status and this line.
+fn ends_unread(alloc: Global, kind: ErrorKind, status: u8, line: &[u8]) -> bool {
+    let (words, told) = words(alloc, Err(Error::from(kind)));
+    words.err() == Some(status) && told.as_slice() == line
 }
 
 #[test]
-fn a_stream_fault_is_one_of_a_run(rt: HostRuntime) {
-    let fault = TraceFault::Long;
-    assert_eq!(rt; RunFault::from(fault), RunFault::Stream(fault));
-}
-
-/// Words that are not UTF-8 are no want of memory.
-#[test]
-fn words_that_could_not_be_read(rt: HostRuntime) {
-    for (kind, fault) in [
-        (ErrorKind::InvalidData, RunFault::Usage),
-        (ErrorKind::OutOfMemory, RunFault::Memory),
-    ] {
-        assert_eq!(rt; RunFault::of_words(&Error::from(kind)), fault);
+fn words_that_could_not_be_read_end_the_run(rt: HostRuntime) {
+    for (kind, fault, status, line) in UNREAD {
+        assert!(rt;
+            RunFault::of_words(&Error::from(*kind)) == *fault,
+            "{fault}"
+        );
+        assert!(rt; ends_unread(rt.alloc(), *kind, *status, *line), "{fault}");
     }
 }
 
 /// Words that were read are handed on, and nothing is told.
 #[test]
 fn words_that_were_read(rt: HostRuntime) -> Result<(), Fail> {
-    let mut words = Vec::new(rt.alloc());
-    words.push(String::from_str(rt.alloc(), "canbit")?)?;
-    words.push(String::from_str(rt.alloc(), "encode")?)?;
-    let mut told = errors(rt.alloc(), ROOM);
-    let read = words_or_status("canbit", Ok(words), &mut told).expect(&rt, "the words");
-    assert_eq!(rt; read.len(), 2);
-    for (word, given) in read.iter().zip(["canbit", "encode"]) {
-        assert_eq!(rt; word.as_str(), given);
+    let given = ["canbit", "encode"];
+    let mut read = Vec::new(rt.alloc());
+    for word in given {
+        read.push(String::from_str(rt.alloc(), word)?)?;
     }
-    assert_eq!(rt; told.into_inner().taken.len(), 0);
+    let (words, told) = words(rt.alloc(), Ok(read));
+    let words = words.expect(&rt, "the words");
+    assert!(rt; told.is_empty() && words.len() == given.len());
+    for (word, given) in words.iter().zip(given) {
+        assert!(rt; word.as_str() == given);
+    }
     Ok(())
-}
-
-/// Where they could not be read, the run ends with the line and the status of that fault.
-#[test]
-fn words_that_could_not_be_read_end_the_run(rt: HostRuntime) {
-    for (kind, status, line) in [
-        (ErrorKind::InvalidData, 2, "canhold: usage\n"),
-        (ErrorKind::OutOfMemory, 4, "canhold: P5 memory\n"),
-    ] {
-        let mut told = errors(rt.alloc(), ROOM);
-        let read = words_or_status("canhold", Err(Error::from(kind)), &mut told);
-        assert_eq!(rt; read.err(), Some(status));
-        assert_eq!(rt; told.into_inner().taken.as_slice(), line.as_bytes());
-    }
 }

@@ -5,6 +5,19 @@ use can_toml::{
     number_or, read_document, required_number, three_of, truth, two_of, whole_number,
 };
 use std::test::Fail;
+use toml::{Table, Value};
+
+/// Bytes that are no document.
+const REFUSED: &[&[u8]] = &[b"bits = ", b"bits", b"a = 1\na = 1\n", b"# \xff\n"];
+
+#[test]
+fn bytes_that_are_no_document(rt: HostRuntime) {
+    for bytes in REFUSED {
+        let refused = read_document(rt.alloc(), *bytes).err();
+        assert!(rt; refused == Some(DocumentFault::NoDocument));
+    }
+    assert!(rt; read_document(rt.alloc(), b"").is_ok());
+}
 
 const DOCUMENT: &[u8] = br#"
 bits = 93
@@ -18,82 +31,139 @@ three = [1, 2, 3]
 hold = 2
 "#;
 
-#[test]
-fn bytes_that_are_no_document(rt: HostRuntime) -> Result<(), Fail> {
-    let alloc = rt.alloc();
-    for text in [
-        b"bits = ".as_slice(),
-        b"bits",
-        b"a = 1\na = 1\n",
-        b"# \xff\n",
-    ] {
-        let refused = read_document(alloc, text).err().ok_or("read")?;
-        assert_eq!(rt; refused, DocumentFault::NoDocument);
+/// What a field of the document is.
+struct Row {
+    name: &'static str,
+    whole_number: Option<u64>,
+    /// The number, if it is at most 92.
+    low_number: Option<u64>,
+    truth: Option<bool>,
+    frame: Option<&'static str>,
+    /// How many elements it has.
+    elements: Option<usize>,
+    is_table: bool,
+}
+
+/// A field that is nothing of all that.
+const NOTHING: Row = Row {
+    name: "",
+    whole_number: None,
+    low_number: None,
+    truth: None,
+    frame: None,
+    elements: None,
+    is_table: false,
+};
+
+const FIELDS: &[Row] = &[
+    Row {
+        name: "bits",
+        whole_number: Some(93),
+        ..NOTHING
+    },
+    Row {
+        name: "below",
+        ..NOTHING
+    },
+    Row {
+        name: "join",
+        truth: Some(true),
+        ..NOTHING
+    },
+    Row {
+        name: "name",
+        frame: Some("S 123 D 1 c3"),
+        ..NOTHING
+    },
+    Row {
+        name: "pair",
+        elements: Some(2),
+        ..NOTHING
+    },
+    Row {
+        name: "three",
+        elements: Some(3),
+        ..NOTHING
+    },
+    Row {
+        name: "port",
+        is_table: true,
+        ..NOTHING
+    },
+];
+
+fn frame_of(text: &str) -> Option<Frame> {
+    Frame::from_text(text.as_bytes()).ok()
+}
+
+/// Whether a value has the parts of a row.
+fn is_so(value: &Value, row: &Row) -> bool {
+    whole_number(value) == row.whole_number
+        && number(value, 92) == row.low_number
+        && frame(value) == row.frame.and_then(frame_of)
+        && elements_of(value).map(<[Value]>::len) == row.elements
+        && two_of(value).is_some() == (row.elements == Some(2))
+        && three_of(value).is_some() == (row.elements == Some(3))
+        && fields_of(value).is_some() == row.is_table
+}
+
+/// Whether a field has them.
+fn has(document: &Table, row: &Row) -> bool {
+    match field(document, row.name) {
+        Some(value) => is_so(value, row) && truth(document, row.name) == row.truth,
+        None => false,
     }
-    assert!(rt; read_document(alloc, b"").is_ok());
-    Ok(())
 }
 
 #[test]
-fn fields_and_tables(rt: HostRuntime) -> Result<(), Fail> {
+fn fields(rt: HostRuntime) -> Result<(), Fail> {
     let document = read_document(rt.alloc(), DOCUMENT).map_err(|_| "refused")?;
+    for row in FIELDS {
+        assert!(rt; has(&document, row), "{}", row.name);
+    }
+    Ok(())
+}
+
+/// Whether a number is told up to its limit, and the values in arrays and tables are those that stand there.
+fn values_are_within(document: &Table) -> Option<bool> {
+    let (time, text) = two_of(field(document, "pair")?)?;
+    let (first, second, third) = three_of(field(document, "three")?)?;
+    let port = fields_of(field(document, "port")?)?;
+    Some(
+        number(field(document, "bits")?, 93) == Some(93)
+            && whole_number(time) == Some(7)
+            && frame(text) == frame_of("S 001 D 0")
+            && whole_number(first) == Some(1)
+            && whole_number(second) == Some(2)
+            && whole_number(third) == Some(3)
+            && required_number(port, "hold", 2) == Some(2),
+    )
+}
+
+/// Whether numbers that are asked for with a limit and a usual value are those of the document.
+fn numbers_are_told(document: &Table) -> bool {
+    number_or(document, "speed", 4, 9) == Some(4)
+        && number_or(document, "bits", 4, 99) == Some(93)
+        && number_or(document, "name", 4, 99).is_none()
+        && required_number(document, "speed", 9).is_none()
+}
+
+/// Whether fields that are not there are told as such, and those that may be left out as what is usual.
+fn others_are_missing(document: &Table) -> bool {
     let known = ["bits", "below", "join", "name", "pair", "three", "port"];
-    assert!(rt; has_only(&document, &known));
-    assert!(rt; !has_only(&document, &["bits", "port"]));
-    assert!(rt; field(&document, "Bits").is_none());
-    let port = fields_of(field(&document, "port").ok_or("port")?).ok_or("table")?;
-    assert_eq!(rt; required_number(port, "hold", 2).ok_or("hold")?, 2);
-    assert!(rt; fields_of(field(&document, "bits").ok_or("bits")?).is_none());
-    Ok(())
+    has_only(document, &known)
+        && !has_only(document, &["bits", "port"])
+        && field(document, "Bits").is_none()
+        && truth(document, "listen") == Some(false)
+        && elements_or_none(document, "queue").map(<[Value]>::len) == Some(0)
+        && elements_or_none(document, "bits").is_none()
 }
 
 #[test]
-fn numbers_and_truth_values(rt: HostRuntime) -> Result<(), Fail> {
+fn what_stands_in_a_document(rt: HostRuntime) -> Result<(), Fail> {
     let document = read_document(rt.alloc(), DOCUMENT).map_err(|_| "refused")?;
-    let bits = field(&document, "bits").ok_or("bits")?;
-    assert_eq!(rt; whole_number(bits).ok_or("bits")?, 93);
-    assert_eq!(rt; number(bits, 93).ok_or("bits")?, 93);
-    assert!(rt; number(bits, 92).is_none());
-    assert!(rt; whole_number(field(&document, "below").ok_or("below")?).is_none());
-    assert!(rt; required_number(&document, "speed", 9).is_none());
-    assert_eq!(rt; number_or(&document, "speed", 4, 9).ok_or("speed")?, 4);
-    assert_eq!(rt; number_or(&document, "bits", 4, 99).ok_or("bits")?, 93);
-    assert!(rt; number_or(&document, "name", 4, 99).is_none());
-    assert!(rt; truth(&document, "join").ok_or("join")?);
-    assert!(rt; !truth(&document, "listen").ok_or("listen")?);
-    assert!(rt; truth(&document, "bits").is_none());
-    Ok(())
-}
-
-#[test]
-fn arrays_and_frames(rt: HostRuntime) -> Result<(), Fail> {
-    let document = read_document(rt.alloc(), DOCUMENT).map_err(|_| "refused")?;
-    let name = field(&document, "name").ok_or("name")?;
-    assert_eq!(rt;
-        frame(name).ok_or("frame")?,
-        Frame::from_text(b"S 123 D 1 c3")?
-    );
-    let (time, text) = two_of(field(&document, "pair").ok_or("pair")?).ok_or("two")?;
-    assert_eq!(rt; whole_number(time).ok_or("time")?, 7);
-    assert_eq!(rt;
-        frame(text).ok_or("frame")?,
-        Frame::from_text(b"S 001 D 0")?
-    );
-    assert!(rt; frame(time).is_none());
-    let three = field(&document, "three").ok_or("three")?;
-    assert!(rt; two_of(three).is_none());
-    let (first, second, third) = three_of(three).ok_or("three")?;
-    for (value, number) in [(first, 1), (second, 2), (third, 3)] {
-        assert_eq!(rt; whole_number(value).ok_or("number")?, number);
-    }
-    assert!(rt; three_of(name).is_none());
-    assert!(rt; three_of(field(&document, "pair").ok_or("pair")?).is_none());
-    assert_eq!(rt; elements_of(three).ok_or("array")?.len(), 3);
-    assert!(rt; elements_of(name).is_none());
-    assert_eq!(rt;
-        elements_or_none(&document, "queue").ok_or("queue")?.len(),
-        0
-    );
-    assert!(rt; elements_or_none(&document, "bits").is_none());
+    assert!(rt; values_are_within(&document) == Some(true));
+    assert!(rt; numbers_are_told(&document));
+    assert!(rt; others_are_missing(&document));
     Ok(())
 }

@@ -7,49 +7,28 @@ use can_mac::{ErrorKind, Event};
 use can_stream::{KitField, TranscriptField};
 use can_toml::{elements_or_none, read_document};
 use can_transcript::{Told, read_transcripts};
-use std::alloc::Global;
-use std::process::Abort;
-use std::test::Fail;
+use std::alloc::{AllocError, Global};
 
-/// The cases of the documents.
-const CASES: &[u8] = b"case = [{ name = \"one\" }, { name = \"two\" }, { name = \"one\" }]";
+/// The cases of each document.
+const CASES: &str = "case = [{ name = \"one\" }, { name = \"two\" }, { name = \"one\" }]\n";
 
-/// Reads the transcripts of a document of these cases.
-fn read(alloc: Global, text: &str) -> Result<Result<Vec<Told>, KitFault>, Fail> {
-    let cases = read_document(alloc, CASES).map_err(|_| "no document of cases")?;
-    let document = read_document(alloc, text.as_bytes()).map_err(|_| "no document")?;
-    let cases = elements_or_none(&cases, "case").ok_or("no cases")?;
-    let values = elements_or_none(&document, "transcript").ok_or("no transcripts")?;
-    Ok(read_transcripts(alloc, cases, values))
-}
-
-/// The transcripts of a document that is not refused.
-fn taken(alloc: Global, text: &str) -> Result<Vec<Told>, Fail> {
-    Ok(read(alloc, text)?.map_err(|_| "refused")?)
-}
-
-/// The refusal of a document of transcripts.
-fn refusal(alloc: Global, text: &str) -> Result<KitFault, Fail> {
-    Ok(read(alloc, text)?.err().ok_or("taken")?)
-}
-
-/// The refusal of something of the transcript of this number.
-fn refused(number: usize, part: TranscriptField) -> KitFault {
-    KitFault::Field(KitField::Transcript { number, part })
-}
-
-/// Behind this front, each text is refused as something of the first transcript.
-fn are_refused(
-    rt: &impl Abort,
-    alloc: Global,
-    front: &str,
-    rows: &[(&str, TranscriptField)],
-) -> Result<(), Fail> {
-    for (fields, part) in rows {
-        let text = format!(in alloc; "{front}{fields}\n")?;
-        assert_eq!(rt; refusal(alloc, &text)?, refused(0, *part), "{fields}");
+/// Those cases and the parts of a text, one behind another.
+fn document(alloc: Global, parts: &[&str]) -> Result<String, AllocError> {
+    let mut text = String::from_str(alloc, CASES)?;
+    for part in parts {
+        text.push_str(part)?;
     }
-    Ok(())
+    Ok(text)
+}
+
+/// What is read of the transcripts of a document; nothing where it is none, or a list is none.
+fn read(alloc: Global, text: &str) -> Option<Result<Vec<Told>, KitFault>> {
+    let Ok(document) = read_document(alloc, text.as_bytes()) else {
+        return None;
+    };
+    let cases = elements_or_none(&document, "case")?;
+    let values = elements_or_none(&document, "transcript")?;
+    Some(read_transcripts(alloc, cases, values))
 }
 
 const TWO_TRANSCRIPTS: &str = r#"
@@ -75,116 +54,150 @@ drove = []
 events = []
 "#;
 
-fn counters(transmit: u16, receive: u16) -> Counters {
-    Counters { transmit, receive }
+/// What a transcript tells: the number of its case, its levels as digits, its events as words, counters and end.
+struct Values<'a> {
+    case: usize,
+    drove: &'a str,
+    events: Option<&'a [(u32, &'a str)]>,
+    counters: Option<&'a [(u32, Counters)]>,
+    end: Option<Ending>,
 }
 
-/// Whether of these levels those are recessive that are told so.
-fn are_recessive(levels: &[Level], told: &[bool]) -> bool {
-    if levels.len() != told.len() {
+/// What those two tell.
+const VALUES: &[Values] = &[
+    Values {
+        case: 1,
+        drove: "111111111001",
+        events: Some(&[
+            (3, "received S 123 D 1 c3"),
+            (4, "error crc"),
+            (100_000, "lost"),
+        ]),
+        counters: Some(&[
+            (
+                4,
+                Counters {
+                    transmit: 0,
+                    receive: 1,
+                },
+            ),
+            (
+                7,
+                Counters {
+                    transmit: 65_535,
+                    receive: 256,
+                },
+            ),
+        ]),
+        end: Some(Ending {
+            state: State::Passive,
+            counters: Counters {
+                transmit: 7,
+                receive: 128,
+            },
+        }),
+    },
+    Values {
+        case: 0,
+        drove: "",
+        events: Some(&[]),
+        counters: None,
+        end: None,
+    },
+];
+
+/// Whether levels are these digits.
+fn are_digits(levels: &[Level], digits: &str) -> bool {
+    if levels.len() != digits.len() {
         return false;
     }
-    for (level, told) in levels.iter().zip(told) {
-        if level.is_recessive() != *told {
+    for (level, digit) in levels.iter().zip(digits.as_bytes()) {
+        if level.is_recessive() != (*digit == b'1') {
             return false;
         }
     }
     true
 }
 
-/// Whether these are the times and what is told at them.
-fn are_told<T: Copy + PartialEq>(told: &Option<Vec<Timed<T>>>, rows: &[(u32, T)]) -> bool {
-    let Some(told) = told else {
-        return false;
+/// The event of these words: a frame that was received, or one of two others.
+fn event_of(words: &str) -> Option<Event> {
+    match words {
+        "lost" => Some(Event::Lost),
+        "error crc" => Some(Event::Error(ErrorKind::Crc)),
+        _ => {
+            let text = words.strip_prefix("received ")?;
+            Some(Event::Received(Frame::from_text(text.as_bytes()).ok()?))
+        }
+    }
+}
+
+/// Whether these are the events and their times.
+fn are_events(told: &Option<Vec<Timed<Event>>>, events: Option<&[(u32, &str)]>) -> bool {
+    let (Some(told), Some(events)) = (told, events) else {
+        return told.is_none() && events.is_none();
     };
-    if told.len() != rows.len() {
+    if told.len() != events.len() {
         return false;
     }
-    for (one, row) in told.iter().zip(rows) {
-        if one.time != row.0 || one.told != row.1 {
+    for (one, (time, words)) in told.iter().zip(events) {
+        if one.time != *time || Some(one.told) != event_of(words) {
             return false;
         }
     }
     true
 }
 
-/// The levels of the first transcript: nine and three.
-const DROVE: &[bool] = &[
-    true, true, true, true, true, true, true, true, true, false, false, true,
-];
-
-#[test]
-fn the_first_transcript_value_by_value(rt: HostRuntime) -> Result<(), Fail> {
-    let transcripts = taken(rt.alloc(), TWO_TRANSCRIPTS)?;
-    assert_eq!(rt; transcripts.len(), 2);
-    let told = &transcripts[0];
-    assert_eq!(rt; told.case, 1);
-    assert!(rt; are_recessive(&told.transcript.drove, DROVE));
-    let end = Ending {
-        state: State::Passive,
-        counters: counters(7, 128),
+/// Whether these are the changes of counters and their times.
+fn are_changes(told: &Option<Vec<Timed<Counters>>>, changes: Option<&[(u32, Counters)]>) -> bool {
+    let (Some(told), Some(changes)) = (told, changes) else {
+        return told.is_none() && changes.is_none();
     };
-    assert_eq!(rt; told.transcript.end, Some(end));
-    Ok(())
+    if told.len() != changes.len() {
+        return false;
+    }
+    for (one, (time, counters)) in told.iter().zip(changes) {
+        if one.time != *time || one.told != *counters {
+            return false;
+        }
+    }
+    true
 }
 
-#[test]
-fn events_and_counters_with_their_times(rt: HostRuntime) -> Result<(), Fail> {
-    let transcripts = taken(rt.alloc(), TWO_TRANSCRIPTS)?;
-    let told = &transcripts.first().ok_or("none")?.transcript;
-    let frame = Frame::from_text(b"S 123 D 1 c3")?;
-    let events = [
-        (3, Event::Received(frame)),
-        (4, Event::Error(ErrorKind::Crc)),
-        (100_000, Event::Lost),
-    ];
-    assert!(rt; are_told(&told.events, &events));
-    let changes = [(4, counters(0, 1)), (7, counters(65_535, 256))];
-    assert!(rt; are_told(&told.counters, &changes));
-    Ok(())
+fn tells(told: &Told, values: &Values) -> bool {
+    told.case == values.case
+        && are_digits(&told.transcript.drove, values.drove)
+        && are_events(&told.transcript.events, values.events)
+        && are_changes(&told.transcript.counters, values.counters)
+        && told.transcript.end == values.end
 }
 
-#[test]
-fn the_second_transcript_value_by_value(rt: HostRuntime) -> Result<(), Fail> {
-    let transcripts = taken(rt.alloc(), TWO_TRANSCRIPTS)?;
-    assert_eq!(rt; transcripts.len(), 2);
-    let other = &transcripts[1];
-    assert_eq!(rt; other.case, 0);
-    assert_eq!(rt; other.transcript.drove.len(), 0);
-    assert!(rt; are_told(&other.transcript.events, &[]));
-    assert!(rt; other.transcript.counters.is_none());
-    assert!(rt; other.transcript.end.is_none());
-    Ok(())
+/// Whether transcripts tell these values.
+fn tell(transcripts: &[Told], values: &[Values]) -> bool {
+    if transcripts.len() != values.len() {
+        return false;
+    }
+    for (told, values) in transcripts.iter().zip(values) {
+        if !tells(told, values) {
+            return false;
+        }
+    }
+    true
 }
 
+/// Documents, and what their transcripts tell.
+const SAID: &[(&[&str], &[Values])] = &[(&[TWO_TRANSCRIPTS], VALUES), (&[], &[])];
+
 #[test]
-fn no_transcripts(rt: HostRuntime) -> Result<(), Fail> {
-    assert_eq!(rt; taken(rt.alloc(), "")?.len(), 0);
+fn transcripts_value_by_value(rt: HostRuntime) -> Result<(), AllocError> {
+    for (parts, values) in SAID {
+        let text = document(rt.alloc(), parts)?;
+        let said = match read(rt.alloc(), &text) {
+            Some(Ok(transcripts)) => tell(&transcripts, values),
+            _ => false,
+        };
+        assert!(rt; said, "{text}");
+    }
     Ok(())
-}
-
-#[test]
-fn a_transcript_that_is_no_table(rt: HostRuntime) -> Result<(), Fail> {
-    let told = refusal(rt.alloc(), "transcript = [1]")?;
-    assert_eq!(rt; told, refused(0, TranscriptField::Table));
-    Ok(())
-}
-
-/// Fields, and what is refused of a transcript with these.
-const NAMING: &[(&str, TranscriptField)] = &[
-    ("speed = 1", TranscriptField::Unknown),
-    ("", TranscriptField::Version),
-    ("version = 2", TranscriptField::Version),
-    ("version = \"1\"\ncase = \"none\"", TranscriptField::Version),
-    ("version = 1", TranscriptField::Case),
-    ("version = 1\ncase = \"three\"", TranscriptField::Case),
-    ("version = 1\ncase = 1", TranscriptField::Case),
-    ("version = 1\ncase = \"\"", TranscriptField::Case),
-];
-
-#[test]
-fn what_names_a_transcript(rt: HostRuntime) -> Result<(), Fail> {
-    are_refused(&rt, rt.alloc(), "[[transcript]]\n", NAMING)
 }
 
 /// A transcript of each case.
@@ -192,138 +205,236 @@ const ONE: &str = "[[transcript]]\nversion = 1\ncase = \"one\"\ndrove = []\n";
 
 const TWO: &str = "[[transcript]]\nversion = 1\ncase = \"two\"\ndrove = []\n";
 
+/// The first fields of a transcript, and those with levels.
+const NAMED: &str = "[[transcript]]\nversion = 1\ncase = \"one\"\n";
+
+const DROVE: &str = "[[transcript]]\nversion = 1\ncase = \"one\"\ndrove = [\"01\"]\n";
+
+/// The parts of a document, the number of the transcript that is refused, and for what.
+const REFUSED: &[(&[&str], usize, TranscriptField)] = &[
+    (&["transcript = [1]"], 0, TranscriptField::Table),
+    // two transcripts of one case
+    (&[ONE, TWO, ONE], 2, TranscriptField::Case),
+    (&[ONE, TWO, TWO], 2, TranscriptField::Case),
+    // what names it
+    (
+        &["[[transcript]]\n", "speed = 1"],
+        0,
+        TranscriptField::Unknown,
+    ),
+    (&["[[transcript]]\n", ""], 0, TranscriptField::Version),
+    (
+        &["[[transcript]]\n", "version = 2"],
+        0,
+        TranscriptField::Version,
+    ),
+    (
+        &["[[transcript]]\n", "version = \"1\"\ncase = \"none\""],
+        0,
+        TranscriptField::Version,
+    ),
+    (
+        &["[[transcript]]\n", "version = 1"],
+        0,
+        TranscriptField::Case,
+    ),
+    (
+        &["[[transcript]]\n", "version = 1\ncase = \"three\""],
+        0,
+        TranscriptField::Case,
+    ),
+    (
+        &["[[transcript]]\n", "version = 1\ncase = 1"],
+        0,
+        TranscriptField::Case,
+    ),
+    (
+        &["[[transcript]]\n", "version = 1\ncase = \"\""],
+        0,
+        TranscriptField::Case,
+    ),
+    // the levels that were driven
+    (&[NAMED, ""], 0, TranscriptField::Drove),
+    (&[NAMED, "drove = \"01\""], 0, TranscriptField::Drove),
+    (
+        &[NAMED, "drove = [\"01\", \"\"]"],
+        0,
+        TranscriptField::Levels(1),
+    ),
+    (
+        &[NAMED, "drove = [\"01\", \"f\"]"],
+        0,
+        TranscriptField::Levels(1),
+    ),
+    (&[NAMED, "drove = [1]"], 0, TranscriptField::Levels(0)),
+    (
+        &[NAMED, "drove = [\"1*60000\", \"1*40001\"]"],
+        0,
+        TranscriptField::Drove,
+    ),
+    (
+        &[NAMED, "drove = [\"1*100000 1*100000\", \"1*100000\"]"],
+        0,
+        TranscriptField::Drove,
+    ),
+    (
+        &[NAMED, "drove = [\"1*100000 1*100000\", \"\"]"],
+        0,
+        TranscriptField::Levels(1),
+    ),
+    // events, counters and the end
+    (&[DROVE, "events = 1"], 0, TranscriptField::Events),
+    (
+        &[DROVE, "events = [[3, \"lose\"]]"],
+        0,
+        TranscriptField::Event(0),
+    ),
+    (&[DROVE, "events = [[3, 3]]"], 0, TranscriptField::Event(0)),
+    (
+        &[DROVE, "events = [[3], [2, \"lost\"]]"],
+        0,
+        TranscriptField::Event(0),
+    ),
+    (
+        &[DROVE, "events = [3, \"lost\"]"],
+        0,
+        TranscriptField::Event(0),
+    ),
+    (
+        &[DROVE, "events = [[-1, \"lost\"]]"],
+        0,
+        TranscriptField::Event(0),
+    ),
+    (
+        &[DROVE, "events = [[100001, \"lost\"]]"],
+        0,
+        TranscriptField::Event(0),
+    ),
+    (
+        &[DROVE, "events = [[3, \"lost\"], [3, \"off\"]]"],
+        0,
+        TranscriptField::Event(1),
+    ),
+    (&[DROVE, "counters = true"], 0, TranscriptField::Counters),
+    (
+        &[DROVE, "counters = [[3, 0, 65536]]"],
+        0,
+        TranscriptField::Change(0),
+    ),
+    (
+        &[DROVE, "counters = [[3, 65536, 0]]"],
+        0,
+        TranscriptField::Change(0),
+    ),
+    (
+        &[DROVE, "counters = [[3, 0]]"],
+        0,
+        TranscriptField::Change(0),
+    ),
+    (
+        &[DROVE, "counters = [[3, 0, 1, 2]]"],
+        0,
+        TranscriptField::Change(0),
+    ),
+    (
+        &[DROVE, "counters = [[3, 0, 1], [2, 0, 2]]"],
+        0,
+        TranscriptField::Change(1),
+    ),
+    (&[DROVE, "end = []"], 0, TranscriptField::End),
+    (&[DROVE, "end = [\"active\", 0]"], 0, TranscriptField::End),
+    (
+        &[DROVE, "end = [\"bus-off\", 0, 0]"],
+        0,
+        TranscriptField::End,
+    ),
+    (&[DROVE, "end = [0, 0, 0]"], 0, TranscriptField::End),
+    (
+        &[DROVE, "end = [\"active\", 0, 65536]"],
+        0,
+        TranscriptField::End,
+    ),
+    (
+        &[DROVE, "events = 1\ncounters = 1\nend = 1"],
+        0,
+        TranscriptField::Events,
+    ),
+    (
+        &[DROVE, "counters = 1\nend = 1"],
+        0,
+        TranscriptField::Counters,
+    ),
+];
+
+/// Whether a document is refused for this part of the transcript of this number.
+fn is_refused(alloc: Global, text: &str, number: usize, part: TranscriptField) -> bool {
+    match read(alloc, text) {
+        Some(Err(fault)) => fault == KitFault::Field(KitField::Transcript { number, part }),
+        _ => false,
+    }
+}
+
 #[test]
-fn two_transcripts_of_one_case(rt: HostRuntime) -> Result<(), Fail> {
-    for again in [ONE, TWO] {
-        let text = format!(in rt.alloc(); "{ONE}{TWO}{again}")?;
-        let told = refusal(rt.alloc(), &text)?;
-        assert_eq!(rt; told, refused(2, TranscriptField::Case));
+fn first_field_that_is_refused(rt: HostRuntime) -> Result<(), AllocError> {
+    for (parts, number, part) in REFUSED {
+        let text = document(rt.alloc(), parts)?;
+        assert!(rt; is_refused(rt.alloc(), &text, *number, *part), "{text}");
     }
     Ok(())
 }
 
-/// Levels that are refused.
-const LEVELS: &[(&str, TranscriptField)] = &[
-    ("", TranscriptField::Drove),
-    ("drove = \"01\"", TranscriptField::Drove),
-    ("drove = [\"01\", \"\"]", TranscriptField::Levels(1)),
-    ("drove = [\"01\", \"f\"]", TranscriptField::Levels(1)),
-    ("drove = [1]", TranscriptField::Levels(0)),
-    ("drove = [\"1*60000\", \"1*40001\"]", TranscriptField::Drove),
+/// A list that may be as long as this, and no longer: its front, a piece, how many pieces it has, and what is told,
+/// which at the limit is its first element.
+const LONG_LISTS: &[(&str, &str, usize, TranscriptField)] = &[
+    ("drove = [", "\"\", ", 4096, TranscriptField::Levels(0)),
+    ("drove = [", "\"\", ", 4097, TranscriptField::Drove),
     (
-        "drove = [\"1*100000 1*100000\", \"1*100000\"]",
-        TranscriptField::Drove,
+        "drove = []\nevents = [",
+        "0, ",
+        100_000,
+        TranscriptField::Event(0),
     ),
     (
-        "drove = [\"1*100000 1*100000\", \"\"]",
-        TranscriptField::Levels(1),
+        "drove = []\nevents = [",
+        "0, ",
+        100_001,
+        TranscriptField::Events,
     ),
 ];
 
-#[test]
-fn levels_that_were_driven(rt: HostRuntime) -> Result<(), Fail> {
-    are_refused(
-        &rt,
-        rt.alloc(),
-        "[[transcript]]\nversion = 1\ncase = \"one\"\n",
-        LEVELS,
-    )
-}
-
-#[test]
-fn as_many_levels_as_there_may_be(rt: HostRuntime) -> Result<(), Fail> {
-    let most = "transcript = [{ version = 1, case = \"one\", drove = [\"1*60000\", \"1*40000\"] }]";
-    let transcripts = taken(rt.alloc(), most)?;
-    let told = transcripts.first().ok_or("none")?;
-    assert_eq!(rt; told.transcript.drove.len(), 100_000);
-    Ok(())
-}
-
-/// Events, counters and ends that are refused.
-const TIMED: &[(&str, TranscriptField)] = &[
-    ("events = 1", TranscriptField::Events),
-    ("events = [[3, \"lose\"]]", TranscriptField::Event(0)),
-    ("events = [[3, 3]]", TranscriptField::Event(0)),
-    ("events = [[3], [2, \"lost\"]]", TranscriptField::Event(0)),
-    ("events = [3, \"lost\"]", TranscriptField::Event(0)),
-    ("events = [[-1, \"lost\"]]", TranscriptField::Event(0)),
-    ("events = [[100001, \"lost\"]]", TranscriptField::Event(0)),
-    (
-        "events = [[3, \"lost\"], [3, \"off\"]]",
-        TranscriptField::Event(1),
-    ),
-    ("counters = true", TranscriptField::Counters),
-    ("counters = [[3, 0, 65536]]", TranscriptField::Change(0)),
-    ("counters = [[3, 65536, 0]]", TranscriptField::Change(0)),
-    ("counters = [[3, 0]]", TranscriptField::Change(0)),
-    ("counters = [[3, 0, 1, 2]]", TranscriptField::Change(0)),
-    (
-        "counters = [[3, 0, 1], [2, 0, 2]]",
-        TranscriptField::Change(1),
-    ),
-    ("end = []", TranscriptField::End),
-    ("end = [\"active\", 0]", TranscriptField::End),
-    ("end = [\"bus-off\", 0, 0]", TranscriptField::End),
-    ("end = [0, 0, 0]", TranscriptField::End),
-    ("end = [\"active\", 0, 65536]", TranscriptField::End),
-    ("events = 1\ncounters = 1\nend = 1", TranscriptField::Events),
-    ("counters = 1\nend = 1", TranscriptField::Counters),
-];
-
-#[test]
-fn events_counters_and_the_end(rt: HostRuntime) -> Result<(), Fail> {
-    are_refused(
-        &rt,
-        rt.alloc(),
-        "[[transcript]]\nversion = 1\ncase = \"one\"\ndrove = [\"01\"]\n",
-        TIMED,
-    )
-}
-
-/// A list that may be as long as this, and no longer. What is told at the limit is its first element.
-struct Limit<'a> {
-    front: &'a str,
-    piece: &'a str,
-    most: usize,
-    at_most: TranscriptField,
-    beyond: TranscriptField,
-}
-
-const LIMITS: &[Limit] = &[
-    Limit {
-        front: "drove = [",
-        piece: "\"\", ",
-        most: 4096,
-        at_most: TranscriptField::Levels(0),
-        beyond: TranscriptField::Drove,
-    },
-    Limit {
-        front: "drove = []\nevents = [",
-        piece: "0, ",
-        most: 100_000,
-        at_most: TranscriptField::Event(0),
-        beyond: TranscriptField::Events,
-    },
-];
-
-/// A transcript whose last list has so many pieces.
-fn with_pieces(alloc: Global, limit: &Limit, pieces: usize) -> Result<String, Fail> {
-    let mut text = String::from_str(alloc, "[[transcript]]\nversion = 1\ncase = \"one\"\n")?;
-    text.push_str(limit.front)?;
-    for _ in 0..pieces {
-        text.push_str(limit.piece)?;
+/// A text with so many pieces behind it, and the end of a list.
+fn with_pieces(mut text: String, piece: &str, count: usize) -> Result<String, AllocError> {
+    for _ in 0..count {
+        text.push_str(piece)?;
     }
     text.push_str("]\n")?;
     Ok(text)
 }
 
 #[test]
-fn limits_of_length(rt: HostRuntime) -> Result<(), Fail> {
-    for limit in LIMITS {
-        let text = with_pieces(rt.alloc(), limit, limit.most)?;
-        assert_eq!(rt; refusal(rt.alloc(), &text)?, refused(0, limit.at_most));
-        let text = with_pieces(rt.alloc(), limit, limit.most.saturating_add(1))?;
-        assert_eq!(rt; refusal(rt.alloc(), &text)?, refused(0, limit.beyond));
+fn lists_that_are_too_long(rt: HostRuntime) -> Result<(), AllocError> {
+    for (front, piece, count, part) in LONG_LISTS {
+        let begun = document(rt.alloc(), &[NAMED, *front])?;
+        let text = with_pieces(begun, piece, *count)?;
+        assert!(rt; is_refused(rt.alloc(), &text, 0, *part), "{front} {count}");
     }
+    Ok(())
+}
+
+/// Whether a document has one transcript, with so many levels.
+fn has_levels(alloc: Global, text: &str, count: usize) -> bool {
+    match read(alloc, text) {
+        Some(Ok(transcripts)) => match transcripts.as_slice() {
+            [told] => told.transcript.drove.len() == count,
+            _ => false,
+        },
+        _ => false,
+    }
+}
+
+#[test]
+fn as_many_levels_as_there_may_be(rt: HostRuntime) -> Result<(), AllocError> {
+    let text = document(rt.alloc(), &[NAMED, "drove = [\"1*60000\", \"1*40000\"]\n"])?;
+    assert!(rt; has_levels(rt.alloc(), &text, 100_000));
     Ok(())
 }

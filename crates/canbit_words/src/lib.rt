@@ -11,8 +11,6 @@
 
 mod help;
 mod subcommands;
-#[cfg(test)]
-mod tests;
 mod words;
 
 pub use subcommands::Chosen;

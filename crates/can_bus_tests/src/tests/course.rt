@@ -1,263 +1,222 @@
-//! Courses: rows that say what a bus records, and what its ports come to and drive.
+//! Courses: texts that say what a bus records, and what its ports come to and drive.
+//!
+//! A course has a line for each port, `port` or `joining port`, and behind a colon the frames that wait there and the
+//! overload frames that it is asked for, `hold`, or that it does not grant, `no hold`; one for each hit, `at` a bit time,
+//! `in` an attempt with an offset, or in the `view` of a port at a bit time; and one for each frame that is offered `at` a
+//! bit time. What it claims stands behind `records`, the levels, or behind `=>`: what each port stands at `after` so many
+//! bit times, what it drives from then on without further hits, or what all of them drive then, some of them offered
+//! frames; and how many offers full queues give back. Each claim is found by a run of its own. A blank line stands
+//! between courses, and `#` begins a line that says what comes.
 
 use super::lines::{
-    KINDS, Kinds, bus_of, driven, drives, line, offer, offer_all, ports_for, recorded, standing,
+    KINDS, Kinds, bus_of, driven, drives, frame, line, offer, span, standing, text_of,
 };
-use can_bus::{Bus, Hit};
+use can_bus::{Bus, Hit, Offer};
+use can_frame::Level;
 use can_node::{EitherNode, Port};
-use std::alloc::{AllocError, Global};
+use std::alloc::Global;
 use std::process::Abort;
 use std::test::Fail;
 
-/// Hits of one kind.
-#[derive(Clone, Copy)]
-pub enum Hits {
-    /// The wire in each bit time from one up to before another.
-    At(u64, u64),
-    /// The wire in each attempt from one up to before another, at this offset.
-    In(u64, u64, u64),
-    /// In a bit time, what the port of this number samples.
-    View(u64, usize),
-}
-
-/// A lone sender that counts eight errors again and again.
-#[derive(Clone, Copy)]
-pub struct Climb {
-    /// After so many bit times the first error has not been counted, and one later it has.
-    pub first: usize,
-    /// From one error to the next.
-    pub every: usize,
-    pub errors: usize,
-    /// The TEC before the first.
-    pub transmit: usize,
-}
-
-/// Frames that are offered between two bit times, and what the ports drive then.
-#[derive(Clone, Copy)]
-pub struct Start {
-    pub times: usize,
-    /// Port and frame.
-    pub offers: &'static [(usize, &'static str)],
-    /// A level of each port.
-    pub drives: &'static str,
-}
-
-/// A run of a new bus. What it comes to after each number of bit times is found by a run of its own.
-#[derive(Clone, Copy)]
-pub struct Course {
-    pub name: &'static str,
-    /// An idle port for each of these queues, offered its frames in turn. There is room for one more.
-    pub queues: &'static [&'static [&'static str]],
-    /// How many ports join behind these.
-    pub joining: usize,
-    /// Overload frames that are asked for: the port, how many, and whether it grants them.
-    pub holds: &'static [(usize, u8, bool)],
-    pub hits: &'static [Hits],
-    /// The recorded levels: texts, and how often each stands there.
-    pub levels: &'static [(&'static str, usize)],
-    /// Numbers of bit times, and what the ports have come to.
-    pub stands: &'static [(usize, &'static str)],
-    pub climbs: &'static [Climb],
-    /// Numbers of bit times, and what a port drives from then on, without further hits.
-    pub drives: &'static [(usize, usize, &'static str)],
-    pub starts: &'static [Start],
-}
-
-/// No ports, and no claims of them.
-pub const COURSE: Course = Course {
-    name: "",
-    queues: &[],
-    joining: 0,
-    holds: &[],
-    hits: &[],
-    levels: &[],
-    stands: &[],
-    climbs: &[],
-    drives: &[],
-    starts: &[],
-};
+/// How many frames may wait at a port, but at one of which it is said otherwise.
+const QUEUE_ROOM: usize = 20;
 
 /// The courses hold of ports of each kind.
-pub fn hold(rt: &impl Abort, alloc: Global, courses: &[Course]) -> Result<(), Fail> {
-    for course in courses {
+pub fn hold(rt: &impl Abort, alloc: Global, courses: &str) -> Result<(), Fail> {
+    for course in courses.split("\n\n") {
         for kinds in KINDS {
-            records(rt, alloc, kinds, course)?;
-            comes_to(rt, alloc, kinds, course)?;
-            climbs(rt, alloc, kinds, course)?;
-            drives_on(rt, alloc, kinds, course)?;
-            starts(rt, alloc, kinds, course)?;
+            holds(rt, alloc, kinds, course)?;
         }
     }
     Ok(())
 }
 
-fn same(rt: &impl Abort, course: &Course, kinds: Kinds, times: usize, found: &str, want: &str) {
-    assert_eq!(rt;
-        found,
-        want,
-        "{}, {kinds:?} ports, {times} bit times",
-        course.name
-    );
-}
-
-fn records(rt: &impl Abort, alloc: Global, kinds: Kinds, course: &Course) -> Result<(), Fail> {
-    let want = line(alloc, course.levels)?;
-    let mut bus = course.bus(alloc, kinds)?;
-    let levels = recorded(alloc, &mut bus, course.hits(alloc)?.as_slice(), want.len())?;
-    same(
-        rt,
-        course,
-        kinds,
-        want.len(),
-        levels.as_str(),
-        want.as_str(),
-    );
-    Ok(())
-}
-
-fn comes_to(rt: &impl Abort, alloc: Global, kinds: Kinds, course: &Course) -> Result<(), Fail> {
-    for (times, want) in course.stands {
-        stands(rt, alloc, kinds, course, *times, want)?;
-    }
-    Ok(())
-}
-
-fn stands(
-    rt: &impl Abort,
-    alloc: Global,
-    kinds: Kinds,
-    course: &Course,
-    times: usize,
-    want: &str,
-) -> Result<(), Fail> {
-    let bus = course.bus_after(alloc, kinds, times)?;
-    same(
-        rt,
-        course,
-        kinds,
-        times,
-        standing(alloc, &bus)?.as_str(),
-        want,
-    );
-    Ok(())
-}
-
-fn climbs(rt: &impl Abort, alloc: Global, kinds: Kinds, course: &Course) -> Result<(), Fail> {
-    for climb in course.climbs {
-        for error in 0..climb.errors {
-            let times = climb
-                .first
-                .saturating_add(climb.every.saturating_mul(error));
-            let transmit = climb.transmit.saturating_add(error.saturating_mul(8));
-            let after = transmit.saturating_add(8);
-            stands_alone(rt, alloc, kinds, course, times, transmit)?;
-            stands_alone(rt, alloc, kinds, course, times.saturating_add(1), after)?;
+fn holds(rt: &impl Abort, alloc: Global, kinds: Kinds, course: &str) -> Result<(), Fail> {
+    for claim in course.lines() {
+        if let Some(levels) = claim.strip_prefix("records ") {
+            let want = line(alloc, levels)?;
+            let (found, _) = records(alloc, kinds, course, want.len())?;
+            assert_eq!(rt;
+                found.as_str(),
+                want.as_str(),
+                "{course} by {kinds:?} ports"
+            );
+        } else if let Some((what, want)) = claim.split_once(" => ") {
+            let found = comes_to(alloc, kinds, course, what, want.len())?;
+            assert_eq!(rt;
+                found.as_str(),
+                want,
+                "{what} in {course} by {kinds:?} ports"
+            );
         }
     }
     Ok(())
 }
 
-/// The only port stands at this count of transmit errors.
-fn stands_alone(
-    rt: &impl Abort,
+/// The levels of so many bit times, and how many offers full queues give back.
+pub fn records(
     alloc: Global,
     kinds: Kinds,
-    course: &Course,
+    course: &str,
     times: usize,
-    transmit: usize,
-) -> Result<(), Fail> {
-    let state = match transmit {
-        0..=127 => "active",
-        128..=255 => "passive",
-        _ => "off",
+) -> Result<(String, usize), Fail> {
+    let mut bus = bus_of(ports(alloc, kinds, course)?)?;
+    runs(alloc, &mut bus, course, times)
+}
+
+/// What a claim is of: `after` so many bit times, and what is done then; or `refused in` so many.
+pub fn comes_to(
+    alloc: Global,
+    kinds: Kinds,
+    course: &str,
+    what: &str,
+    length: usize,
+) -> Result<String, Fail> {
+    if let Some(times) = what.strip_prefix("refused in ") {
+        let (_, refused) = records(alloc, kinds, course, times.parse::<usize>()?)?;
+        return Ok(format!(in alloc; "{refused}")?);
+    }
+    let what = what.strip_prefix("after ").ok_or("no claim")?;
+    let (times, then) = what.split_once(", ").unwrap_or((what, ""));
+    let mut bus = bus_of(ports(alloc, kinds, course)?)?;
+    let _levels = runs(alloc, &mut bus, course, times.parse::<usize>()?)?;
+    does(alloc, &mut bus, then, length)
+}
+
+/// What the bus does behind the run, or nothing: then how its ports stand.
+fn does(
+    alloc: Global,
+    bus: &mut Bus<EitherNode>,
+    then: &str,
+    length: usize,
+) -> Result<String, Fail> {
+    if then.is_empty() {
+        return standing(alloc, bus);
+    }
+    if let Some(node) = then.strip_prefix("port ") {
+        return driven(alloc, bus, node.parse::<usize>()?, length);
+    }
+    for part in then.split(", ") {
+        if let Some(text) = part.strip_prefix("offer ") {
+            let (node, text) = text.split_once(' ').ok_or("an offer of no frame")?;
+            offer(bus, node.parse::<usize>()?, text)?;
+        }
+    }
+    drives(alloc, bus.ports())
+}
+
+/// The ports of a course.
+pub fn ports(alloc: Global, kinds: Kinds, course: &str) -> Result<Vec<EitherNode>, Fail> {
+    let mut ports = Vec::new(alloc);
+    for line in course.lines() {
+        if line.starts_with("port") || line.starts_with("joining port") {
+            let port = port(alloc, kinds, ports.len(), line)?;
+            ports.push(port)?;
+        }
+    }
+    Ok(ports)
+}
+
+fn port(alloc: Global, kinds: Kinds, node: usize, line: &str) -> Result<EitherNode, Fail> {
+    let (head, queue) = line.split_once(": ").unwrap_or((line, ""));
+    let mut port = match head {
+        "joining port" => kinds.joining(alloc, node, QUEUE_ROOM)?,
+        "port with room for one" => kinds.idle(alloc, node, 1)?,
+        _ => kinds.idle(alloc, node, QUEUE_ROOM)?,
     };
-    let want = format!(in alloc; "{state} {transmit} 0")?;
-    stands(rt, alloc, kinds, course, times, want.as_str())
-}
-
-fn drives_on(rt: &impl Abort, alloc: Global, kinds: Kinds, course: &Course) -> Result<(), Fail> {
-    for (times, node, want) in course.drives {
-        let mut bus = course.bus_after(alloc, kinds, *times)?;
-        let levels = driven(alloc, &mut bus, *node, want.len())?;
-        same(rt, course, kinds, *times, levels.as_str(), want);
+    for item in queue.split(", ") {
+        ask(&mut port, item)?;
     }
-    Ok(())
+    Ok(port)
 }
 
-fn starts(rt: &impl Abort, alloc: Global, kinds: Kinds, course: &Course) -> Result<(), Fail> {
-    for start in course.starts {
-        let mut bus = course.bus_after(alloc, kinds, start.times)?;
-        for (node, frame) in start.offers {
-            offer(&mut bus, *node, frame)?;
+/// Queues a frame, or asks for overload frames.
+fn ask(port: &mut EitherNode, item: &str) -> Result<(), Fail> {
+    let is_done = if let Some(count) = item.strip_prefix("hold ") {
+        port.hold(count.parse::<u8>()?)
+    } else if let Some(count) = item.strip_prefix("no hold ") {
+        !port.hold(count.parse::<u8>()?)
+    } else {
+        item.is_empty() || port.offer(frame(item)?).is_ok()
+    };
+    if is_done {
+        Ok(())
+    } else {
+        Err("another answer of a port".into())
+    }
+}
+
+/// Runs the bus for so many bit times, and gives the levels, and how many offers full queues gave back.
+pub fn runs(
+    alloc: Global,
+    bus: &mut Bus<EitherNode>,
+    course: &str,
+    times: usize,
+) -> Result<(String, usize), Fail> {
+    let mut rec = [Level::Dominant].repeat(alloc, times)?;
+    let offers = offers(alloc, course)?;
+    let refused = if offers.is_empty() {
+        bus.run(hits(alloc, course)?.as_slice(), &mut rec)?;
+        0
+    } else {
+        bus.play(&offers, &mut rec)?
+    };
+    Ok((text_of(alloc, &rec)?, refused))
+}
+
+/// The offers of a course, in their order.
+pub fn offers(alloc: Global, course: &str) -> Result<Vec<Offer>, Fail> {
+    let mut offers = Vec::new(alloc);
+    for line in course.lines() {
+        if let Some(text) = line.strip_prefix("at ") {
+            offers.push(offer_of(text)?)?;
         }
-        let levels = drives(alloc, bus.ports())?;
-        same(
-            rt,
-            course,
-            kinds,
-            start.times,
-            levels.as_str(),
-            start.drives,
-        );
     }
-    Ok(())
+    Ok(offers)
 }
 
-impl Course {
-    fn bus(&self, alloc: Global, kinds: Kinds) -> Result<Bus<EitherNode>, Fail> {
-        let mut bus = bus_of(self.ports(alloc, kinds)?)?;
-        offer_all(&mut bus, self.queues)?;
-        for (node, wish, is_granted) in self.holds {
-            let port = bus.port_mut(*node).ok_or("no such port")?;
-            if port.hold(*wish) != *is_granted {
-                return Err("another answer to a wish".into());
-            }
-        }
-        Ok(bus)
-    }
-
-    fn ports(&self, alloc: Global, kinds: Kinds) -> Result<Vec<EitherNode>, AllocError> {
-        let mut ports = ports_for(alloc, kinds, self.queues)?;
-        for _ in 0..self.joining {
-            ports.push(kinds.joining(alloc, ports.len(), 1)?)?;
-        }
-        Ok(ports)
-    }
-
-    fn hits(&self, alloc: Global) -> Result<Vec<Hit>, AllocError> {
-        hits_of(alloc, self.hits)
-    }
-
-    /// The bus behind so many bit times with the hits.
-    fn bus_after(
-        &self,
-        alloc: Global,
-        kinds: Kinds,
-        times: usize,
-    ) -> Result<Bus<EitherNode>, Fail> {
-        let mut bus = self.bus(alloc, kinds)?;
-        let _levels = recorded(alloc, &mut bus, self.hits(alloc)?.as_slice(), times)?;
-        Ok(bus)
-    }
+fn offer_of(text: &str) -> Result<Offer, Fail> {
+    let (time, text) = text.split_once(" offer ").ok_or("no offer")?;
+    let (node, text) = text.split_once(' ').ok_or("an offer of no frame")?;
+    Ok(Offer {
+        time: time.parse::<u64>()?,
+        node: node.parse::<usize>()?,
+        frame: frame(text)?,
+    })
 }
 
-/// Each of these hits, in their order.
-pub fn hits_of(alloc: Global, rows: &[Hits]) -> Result<Vec<Hit>, AllocError> {
+/// The hits of a course, in their order.
+pub fn hits(alloc: Global, course: &str) -> Result<Vec<Hit>, Fail> {
     let mut hits = Vec::new(alloc);
-    for row in rows {
-        match *row {
-            Hits::At(from, to) => {
-                for time in from..to {
-                    hits.push(Hit::At(time))?;
-                }
-            }
-            Hits::In(from, to, offset) => {
-                for attempt in from..to {
-                    hits.push(Hit::In { attempt, offset })?;
-                }
-            }
-            Hits::View(time, node) => hits.push(Hit::View { time, node })?,
+    for line in course.lines() {
+        if let Some(text) = line.strip_prefix("hit ") {
+            push_hits(&mut hits, text)?;
         }
     }
     Ok(hits)
+}
+
+/// The hits of a line: at each of some bit times, in each of some attempts, or in a view.
+fn push_hits(hits: &mut Vec<Hit>, text: &str) -> Result<(), Fail> {
+    let (kind, numbers) = text.split_once(' ').ok_or("a hit of no kind")?;
+    let (first, second) = numbers.split_once(' ').unwrap_or((numbers, "0"));
+    let (from, to) = span(first)?;
+    for number in from..to {
+        hits.push(hit(kind, number, second)?)?;
+    }
+    Ok(())
+}
+
+fn hit(kind: &str, number: u64, second: &str) -> Result<Hit, Fail> {
+    Ok(match kind {
+        "at" => Hit::At(number),
+        "in" => Hit::In {
+            attempt: number,
+            offset: second.parse::<u64>()?,
+        },
+        _ => Hit::View {
+            time: number,
+            node: second.parse::<usize>()?,
+        },
+    })
 }

@@ -7,18 +7,55 @@ use can_node::{EitherNode, Entry, PackedNode, PlainNode, Port};
 use std::alloc::{AllocError, Global};
 use std::test::Fail;
 
-/// The levels of the standard data frames 000, 001 and 009 without data, acknowledged.
-pub const WIRE_000: &str = "00000100000100000100000100000100000100001011111111";
-
-pub const WIRE_001: &str = "00000100000101000001000100010000100111011111111";
-
-pub const WIRE_009: &str = "0000010001001000001001111100000110000011011111111";
-
 /// Three recessive levels between a frame and what comes next.
 pub const INTERMISSION: &str = "111";
 
-/// The eight recessive levels of a delimiter behind a flag, and an intermission.
-pub const DELIMITER_AND_INTERMISSION: &str = "11111111111";
+/// Levels that have a name in texts. The frames are acknowledged, as spelled by an encoder that is none of this
+/// repository's.
+const NAMES: &str = "
+# standard data frames without data, by their identifiers
+WIRE_000 00000100000100000100000100000100000100001011111111
+WIRE_001 00000100000101000001000100010000100111011111111
+WIRE_009 0000010001001000001001111100000110000011011111111
+WIRE_123 000100100011000001001101000010110001011111111
+# standard remote frames without data
+WIRE_REMOTE_000 0000010000010010010000010011111000001101011111111
+WIRE_REMOTE_123 000100100011100000100011011100111011011111111
+# the extended data frame 048c0000, and the extended data frame and remote frame 00000000, without data
+WIRE_EXTENDED 000100100011110000010000010000010000010000011011110001101111011111111
+WIRE_EXTENDED_ZERO 00000100000100110000010000010000010000010000011000110000100001011111111
+WIRE_REMOTE_ZERO 0000010000010011000001000001000001000100000100110101110101011011111111
+# three recessive levels between a frame and what comes next
+INTERMISSION 111
+# the eight recessive levels of a delimiter behind a flag, and an intermission
+DELIMITER_AND_INTERMISSION 11111111111
+# an attempt at WIRE_000 whose level 16, the fifth dominant one in a row, is recessive: the sender's flag, the
+# receiver's, delimiter and intermission
+BROKEN_AT_16 0000010000010000100000000000011111111111
+# six dominant levels of a frame, of which the last, a stuff bit, was inverted, and six of the error flags
+BROKEN 000000000000
+# WIRE_000 up to its ACK slot, which stays recessive
+UNACKNOWLEDGED 000001000001000001000001000001000001000011
+# the same, an active error flag, delimiter and intermission: 59 levels
+ACTIVE_ATTEMPT 00000100000100000100000100000100000100001100000011111111111
+# the same, a passive error flag, delimiter, intermission and suspension: 67 levels
+PASSIVE_ATTEMPT 0000010000010000010000010000010000010000111111111111111111111111111
+PASSIVE_FLAG 111111
+# how long an error passive sender waits behind an intermission
+SUSPENSION 11111111
+";
+
+/// The levels of a name; a text that is none stands for itself.
+pub fn levels_of(name: &str) -> &str {
+    for line in NAMES.lines() {
+        if let Some((named, levels)) = line.split_once(' ')
+            && named == name
+        {
+            return levels;
+        }
+    }
+    name
+}
 
 /// More entries than any of these logs gets.
 const LOG_ROOM: usize = 70;
@@ -32,15 +69,25 @@ pub fn text_of(alloc: Global, levels: &[Level]) -> Result<String, AllocError> {
     Ok(text)
 }
 
-/// These texts, each as often as it says.
-pub fn line(alloc: Global, parts: &[(&str, usize)]) -> Result<String, AllocError> {
+/// Levels and names of levels with a space between them, each as often as `*` says.
+pub fn line(alloc: Global, pieces: &str) -> Result<String, Fail> {
     let mut text = String::new(alloc);
-    for (part, count) in parts {
-        for _ in 0..*count {
-            text.push_str(part)?;
+    for piece in pieces.split(' ') {
+        let (levels, times) = piece.split_once('*').unwrap_or((piece, "1"));
+        for _ in 0..times.parse::<u32>()? {
+            text.push_str(levels_of(levels))?;
         }
     }
     Ok(text)
+}
+
+/// A number, or the numbers from one up to before another.
+pub fn span(text: &str) -> Result<(u64, u64), Fail> {
+    if let Some((from, to)) = text.split_once("..") {
+        return Ok((from.parse::<u64>()?, to.parse::<u64>()?));
+    }
+    let number = text.parse::<u64>()?;
+    Ok((number, number.saturating_add(1)))
 }
 
 pub fn frame(text: &str) -> Result<Frame, Fail> {
@@ -70,7 +117,7 @@ impl Kinds {
     }
 
     /// The port of this number, idle, with room for so many frames that wait.
-    fn idle(self, alloc: Global, node: usize, room: usize) -> Result<EitherNode, AllocError> {
+    pub fn idle(self, alloc: Global, node: usize, room: usize) -> Result<EitherNode, AllocError> {
         Ok(if self.is_packed(node) {
             EitherNode::Packed(PackedNode::new(alloc, room, LOG_ROOM)?)
         } else {
@@ -121,36 +168,6 @@ pub fn idle_ports(
         ports.push(kinds.idle(alloc, node, room)?)?;
     }
     Ok(ports)
-}
-
-/// An idle port for each of these queues, with room for its frames and one more.
-pub fn ports_for(
-    alloc: Global,
-    kinds: Kinds,
-    queues: &[&[&str]],
-) -> Result<Vec<EitherNode>, AllocError> {
-    let mut ports = Vec::new(alloc);
-    for (node, queue) in queues.iter().enumerate() {
-        ports.push(kinds.idle(alloc, node, queue.len().saturating_add(1))?)?;
-    }
-    Ok(ports)
-}
-
-/// Queues the frames of each of these queues at its port.
-pub fn offer_all<P: Port>(bus: &mut Bus<P>, queues: &[&[&str]]) -> Result<(), Fail> {
-    for (node, queue) in queues.iter().enumerate() {
-        for text in *queue {
-            offer(bus, node, text)?;
-        }
-    }
-    Ok(())
-}
-
-/// An idle port for each of these queues, offered its frames in turn. There is room for one more.
-pub fn bus_with(alloc: Global, kinds: Kinds, queues: &[&[&str]]) -> Result<Bus<EitherNode>, Fail> {
-    let mut bus = bus_of(ports_for(alloc, kinds, queues)?)?;
-    offer_all(&mut bus, queues)?;
-    Ok(bus)
 }
 
 /// Runs the bus for so many bit times, and gives the levels that were recorded.

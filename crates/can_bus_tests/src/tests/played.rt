@@ -1,250 +1,154 @@
 //! Frames that are offered while the bus runs: when they go out, and which offers are refused.
 
-use super::lines::{
-    INTERMISSION, KINDS, Kinds, WIRE_000, WIRE_001, WIRE_009, bus_of, drives, frame, idle_ports,
-    line, offer, standing, text_of,
-};
-use can_bus::{Bus, BusFault, Offer};
+use super::course::{hold, offers};
+use super::lines::{Kinds, bus_of, drives, idle_ports, offer};
+use can_bus::Bus;
 use can_frame::Level;
 use can_node::EitherNode;
 use std::alloc::Global;
 use std::process::Abort;
 use std::test::Fail;
 
-/// Time, port and frame of an offer.
-type OfferText = (u64, usize, &'static str);
+const PLAYED: &str = "
+# 000 waits behind 001, whose start of frame is at 0
+port
+port
+at 0 offer 0 S 001 D 0
+at 1 offer 1 S 000 D 0
+records WIRE_001 INTERMISSION WIRE_000 INTERMISSION
+refused in 103 => 0
+after 103 => active 0 0, sent S 001 D 0, took S 000 D 0 | active 0 0, took S 001 D 0, sent S 000 D 0
 
-/// What is played on two idle ports, and what comes of it.
-struct Row {
-    /// How many frames may wait at each port.
-    room: usize,
-    offers: &'static [OfferText],
-    /// The recorded levels: texts, and how often each stands there.
-    levels: &'static [(&'static str, usize)],
-    /// How many offers full queues give back.
-    refused: usize,
-    /// What the ports come to after so many bit times.
-    stands: &'static [(usize, &'static str)],
-}
+# the bus is free from 50 on: 000, which is offered then, goes before 009
+port
+port
+at 0 offer 0 S 001 D 0
+at 49 offer 1 S 009 D 0
+at 50 offer 0 S 000 D 0
+records WIRE_001 INTERMISSION WIRE_000 INTERMISSION WIRE_009 INTERMISSION
+refused in 155 => 0
+after 151 => active 0 0, sent S 001 D 0, sent S 000 D 0, took S 009 D 0 | active 0 0, took S 001 D 0, took S 000 D 0
+after 152 => active 0 0, sent S 001 D 0, sent S 000 D 0, took S 009 D 0 | active 0 0, took S 001 D 0, took S 000 D 0, sent S 009 D 0
 
-const ROWS: [Row; 7] = [
-    // 000 waits behind 001, whose start of frame is at 0
-    Row {
-        room: 2,
-        offers: &[(0, 0, "S 001 D 0"), (1, 1, "S 000 D 0")],
-        levels: &[
-            (WIRE_001, 1),
-            (INTERMISSION, 1),
-            (WIRE_000, 1),
-            (INTERMISSION, 1),
-        ],
-        refused: 0,
-        stands: &[(
-            103,
-            "active 0 0, sent S 001 D 0, took S 000 D 0 | \
-             active 0 0, took S 001 D 0, sent S 000 D 0",
-        )],
-    },
-    // the bus is free from 50 on: 000, which is offered then, goes before 009
-    Row {
-        room: 2,
-        offers: &[
-            (0, 0, "S 001 D 0"),
-            (49, 1, "S 009 D 0"),
-            (50, 0, "S 000 D 0"),
-        ],
-        levels: &[
-            (WIRE_001, 1),
-            (INTERMISSION, 1),
-            (WIRE_000, 1),
-            (INTERMISSION, 1),
-            (WIRE_009, 1),
-            (INTERMISSION, 1),
-        ],
-        refused: 0,
-        stands: &[
-            (
-                151,
-                "active 0 0, sent S 001 D 0, sent S 000 D 0, took S 009 D 0 | \
-                 active 0 0, took S 001 D 0, took S 000 D 0",
-            ),
-            (
-                152,
-                "active 0 0, sent S 001 D 0, sent S 000 D 0, took S 009 D 0 | \
-                 active 0 0, took S 001 D 0, took S 000 D 0, sent S 009 D 0",
-            ),
-        ],
-    },
-    // the bus rests before each of the two
-    Row {
-        room: 2,
-        offers: &[(3, 0, "S 000 D 0"), (100, 1, "S 001 D 0")],
-        levels: &[
-            ("1", 3),
-            (WIRE_000, 1),
-            ("1", 47),
-            (WIRE_001, 1),
-            (INTERMISSION, 1),
-        ],
-        refused: 0,
-        stands: &[(
-            150,
-            "active 0 0, sent S 000 D 0, took S 001 D 0 | \
-             active 0 0, took S 000 D 0, sent S 001 D 0",
-        )],
-    },
-    // the bus rests for a thousand bit times
-    Row {
-        room: 2,
-        offers: &[(1000, 1, "S 001 D 0")],
-        levels: &[("1", 1000), (WIRE_001, 1), (INTERMISSION, 1)],
-        refused: 0,
-        stands: &[(
-            1050,
-            "active 0 0, took S 001 D 0 | active 0 0, sent S 001 D 0",
-        )],
-    },
-    // all at time 0, as if they had waited before
-    Row {
-        room: 2,
-        offers: &[(0, 0, "S 001 D 0"), (0, 1, "S 000 D 0")],
-        levels: &[
-            (WIRE_000, 1),
-            (INTERMISSION, 1),
-            (WIRE_001, 1),
-            (INTERMISSION, 1),
-        ],
-        refused: 0,
-        stands: &[
-            (
-                99,
-                "active 0 0, took S 000 D 0 | \
-                 active 0 0, sent S 000 D 0, took S 001 D 0",
-            ),
-            (
-                100,
-                "active 0 0, took S 000 D 0, sent S 001 D 0 | \
-                 active 0 0, sent S 000 D 0, took S 001 D 0",
-            ),
-            (
-                103,
-                "active 0 0, took S 000 D 0, sent S 001 D 0 | \
-                 active 0 0, sent S 000 D 0, took S 001 D 0",
-            ),
-        ],
-    },
-    // there is room for one: the first is kept, though the second would go before it
-    Row {
-        room: 1,
-        offers: &[(0, 0, "S 001 D 0"), (0, 0, "S 000 D 0")],
-        levels: &[(WIRE_001, 1), (INTERMISSION, 1)],
-        refused: 1,
-        stands: &[(
-            50,
-            "active 0 0, sent S 001 D 0 | active 0 0, took S 001 D 0",
-        )],
-    },
-    // an offer behind the last bit time
-    Row {
-        room: 2,
-        offers: &[(150, 0, "S 001 D 0")],
-        levels: &[("1", 150)],
-        refused: 0,
-        stands: &[(150, "active 0 0 | active 0 0")],
-    },
-];
+# the bus rests before each of the two
+port
+port
+at 3 offer 0 S 000 D 0
+at 100 offer 1 S 001 D 0
+records 1*3 WIRE_000 1*47 WIRE_001 INTERMISSION
+refused in 150 => 0
+after 150 => active 0 0, sent S 000 D 0, took S 001 D 0 | active 0 0, took S 000 D 0, sent S 001 D 0
 
-fn two_ports(alloc: Global, kinds: Kinds, room: usize) -> Result<Bus<EitherNode>, Fail> {
-    bus_of(idle_ports(alloc, kinds, 2, room)?)
-}
+# the bus rests for a thousand bit times
+port
+port
+at 1000 offer 1 S 001 D 0
+records 1*1000 WIRE_001 INTERMISSION
+refused in 1050 => 0
+after 1050 => active 0 0, took S 001 D 0 | active 0 0, sent S 001 D 0
 
-fn offers_of(alloc: Global, texts: &[OfferText]) -> Result<Vec<Offer>, Fail> {
-    let mut offers = Vec::new(alloc);
-    for (time, node, text) in texts {
-        offers.push(Offer {
-            time: *time,
-            node: *node,
-            frame: frame(text)?,
-        })?;
-    }
-    Ok(offers)
-}
+# all at time 0, as if they had waited before
+port
+port
+at 0 offer 0 S 001 D 0
+at 0 offer 1 S 000 D 0
+records WIRE_000 INTERMISSION WIRE_001 INTERMISSION
+refused in 103 => 0
+after 99 => active 0 0, took S 000 D 0 | active 0 0, sent S 000 D 0, took S 001 D 0
+after 100 => active 0 0, took S 000 D 0, sent S 001 D 0 | active 0 0, sent S 000 D 0, took S 001 D 0
+after 103 => active 0 0, took S 000 D 0, sent S 001 D 0 | active 0 0, sent S 000 D 0, took S 001 D 0
 
-fn play_row(rt: &impl Abort, alloc: Global, kinds: Kinds, row: &Row) -> Result<(), Fail> {
-    let offers = offers_of(alloc, row.offers)?;
-    let want = line(alloc, row.levels)?;
-    let mut bus = two_ports(alloc, kinds, row.room)?;
-    let mut rec = [Level::Dominant].repeat(alloc, want.len())?;
-    assert_eq!(rt; bus.play(&offers, &mut rec), Ok(row.refused), "{kinds:?}");
-    assert_eq!(rt; text_of(alloc, &rec)?.as_str(), want.as_str(), "{kinds:?}");
-    for (times, want) in row.stands {
-        let mut bus = two_ports(alloc, kinds, row.room)?;
-        let mut rec = [Level::Dominant].repeat(alloc, *times)?;
-        let _refused = bus.play(&offers, &mut rec)?;
-        assert_eq!(rt;
-            standing(alloc, &bus)?.as_str(),
-            *want,
-            "{kinds:?} after {times} bit times"
-        );
-    }
-    Ok(())
-}
+# there is room for one: the first is kept, though the second would go before it
+port with room for one
+port with room for one
+at 0 offer 0 S 001 D 0
+at 0 offer 0 S 000 D 0
+records WIRE_001 INTERMISSION
+refused in 50 => 1
+after 50 => active 0 0, sent S 001 D 0 | active 0 0, took S 001 D 0
+
+# an offer behind the last bit time
+port
+port
+at 150 offer 0 S 001 D 0
+records 1*150
+refused in 150 => 0
+after 150 => active 0 0 | active 0 0
+";
 
 #[test]
 fn offers_go_out_when_the_bus_is_free(rt: HostRuntime) -> Result<(), Fail> {
-    for row in &ROWS {
-        for kinds in KINDS {
-            play_row(&rt, rt.alloc(), kinds, row)?;
-        }
-    }
-    Ok(())
+    hold(&rt, rt.alloc(), PLAYED)
 }
+
+fn two_ports(alloc: Global) -> Result<Bus<EitherNode>, Fail> {
+    bus_of(idle_ports(alloc, Kinds::InTurn, 2, 2)?)
+}
+
+const BEHIND_THE_END: &str = "
+at 150 offer 0 S 001 D 0
+at 151 offer 1 S 000 D 0
+";
 
 /// Each queue takes as many frames behind the call as an empty one.
 #[test]
 fn offers_behind_the_end_are_not_made(rt: HostRuntime) -> Result<(), Fail> {
-    let alloc = rt.alloc();
-    let mut bus = two_ports(alloc, Kinds::InTurn, 2)?;
-    let offers = offers_of(alloc, &[(150, 0, "S 001 D 0"), (151, 1, "S 000 D 0")])?;
+    let mut bus = two_ports(rt.alloc())?;
+    let offers = offers(rt.alloc(), BEHIND_THE_END)?;
     assert_eq!(rt; bus.play(&offers, &mut [Level::Dominant; 150]), Ok(0));
-    assert_eq!(rt; drives(alloc, bus.ports())?.as_str(), "11");
-    for node in 0..2usize {
-        for _ in 0..2u32 {
-            offer(&mut bus, node, "S 009 D 0")?;
-        }
+    assert_eq!(rt; drives(rt.alloc(), bus.ports())?.as_str(), "11");
+    for node in [0usize, 0, 1, 1] {
+        offer(&mut bus, node, "S 009 D 0")?;
     }
+    Ok(())
+}
+
+/// Offers that are refused, and why, with a blank line between them.
+const REFUSED: &str = "
+# of the second offer the order is wrong, and so is the port
+at 5 offer 0 S 001 D 0
+at 3 offer 2 S 000 D 0
+NotRising
+
+at 0 offer 2 S 001 D 0
+NoSuchPort
+
+# behind the last bit time
+at 0 offer 0 S 001 D 0
+at 9 offer 2 S 000 D 0
+NoSuchPort
+
+at 9 offer 0 S 001 D 0
+at 8 offer 0 S 000 D 0
+NotRising
+";
+
+/// What comes of offers over slots of such levels, and whether these and what the ports drive stay.
+fn refusal(alloc: Global, course: &str, level: Level) -> Result<(String, bool), Fail> {
+    let mut bus = two_ports(alloc)?;
+    let mut rec = [level; 3];
+    let fault = match bus.play(&offers(alloc, course)?, &mut rec) {
+        Ok(refused) => format!(in alloc; "{refused} refused")?,
+        Err(fault) => format!(in alloc; "{fault:?}")?,
+    };
+    let stays = rec == [level; 3] && drives(alloc, bus.ports())?.as_str() == "11";
+    Ok((fault, stays))
+}
+
+fn are_refused(rt: &impl Abort, alloc: Global, course: &str, level: Level) -> Result<(), Fail> {
+    let (fault, stays) = refusal(alloc, course, level)?;
+    assert!(rt;
+        stays && course.trim().ends_with(fault.as_str()),
+        "{course}"
+    );
     Ok(())
 }
 
 #[test]
 fn refused_offers_run_nothing(rt: HostRuntime) -> Result<(), Fail> {
-    let alloc = rt.alloc();
-    let rows: [(&[OfferText], BusFault); 4] = [
-        // of the second offer the order is wrong, and so is the port
-        (
-            &[(5, 0, "S 001 D 0"), (3, 2, "S 000 D 0")],
-            BusFault::NotRising,
-        ),
-        (&[(0, 2, "S 001 D 0")], BusFault::NoSuchPort),
-        // behind the last bit time
-        (
-            &[(0, 0, "S 001 D 0"), (9, 2, "S 000 D 0")],
-            BusFault::NoSuchPort,
-        ),
-        (
-            &[(9, 0, "S 001 D 0"), (8, 0, "S 000 D 0")],
-            BusFault::NotRising,
-        ),
-    ];
-    for (texts, fault) in rows {
-        let offers = offers_of(alloc, texts)?;
-        for level in [Level::Dominant, Level::Recessive] {
-            let mut bus = two_ports(alloc, Kinds::InTurn, 2)?;
-            let mut rec = [level; 3];
-            assert_eq!(rt; bus.play(&offers, &mut rec), Err(fault), "{texts:?}");
-            assert_eq!(rt; rec, [level; 3], "{texts:?}");
-            assert_eq!(rt; drives(alloc, bus.ports())?.as_str(), "11", "{texts:?}");
-        }
+    for course in REFUSED.split("\n\n") {
+        are_refused(&rt, rt.alloc(), course, Level::Dominant)?;
+        are_refused(&rt, rt.alloc(), course, Level::Recessive)?;
     }
     Ok(())
 }

@@ -1,299 +1,264 @@
 //! How many ports a bus has, which hits it refuses, and how attempts are counted from run to run.
 
-use super::course::{COURSE, Course, Hits, hits_of, hold};
-use super::lines::{
-    DELIMITER_AND_INTERMISSION, INTERMISSION, KINDS, Kinds, WIRE_001, bus_of, bus_with, drives,
-    frame, idle_ports, line, offer, recorded,
-};
-use can_bus::{Bus, BusFault, Hit};
+use super::course::{hits, hold, ports, runs};
+use super::lines::{KINDS, Kinds, bus_of, drives, frame, idle_ports, levels_of, line, offer};
+use can_bus::Bus;
 use can_frame::Level;
 use can_node::{EitherNode, Port};
 use std::alloc::Global;
 use std::process::Abort;
 use std::test::Fail;
 
-/// A sender with the frame of `WIRE_001`, and a receiver.
-const SENDER_AND_RECEIVER: &[&[&str]] = &[&["S 001 D 0"], &[]];
-
-/// The sixth level of a frame of many dominant levels is a stuff bit: inverted, it is an error to all
-/// ports at once.
-const DOMINANT_STUFF_BIT: Hits = Hits::In(0, 1, 5);
-
-/// Six dominant levels of the frame, of which the last was inverted, and six of the error flags.
-const BROKEN: &str = "000000000000";
-
-/// So many idle ports make a bus or do not, and are given back.
-fn makes_a_bus(
-    rt: &impl Abort,
-    alloc: Global,
-    kinds: Kinds,
-    count: usize,
-    want: Result<(), BusFault>,
-) -> Result<(), Fail> {
-    match Bus::new(idle_ports(alloc, kinds, count, 1)?) {
+/// What comes of so many idle ports: how many the bus has and gives back, or why there is none, and how many come back.
+fn made(alloc: Global, kinds: Kinds, count: usize) -> Result<String, Fail> {
+    Ok(match Bus::new(idle_ports(alloc, kinds, count, 1)?) {
         Ok(bus) => {
-            assert_eq!(rt; Ok(()), want, "{count}");
-            assert_eq!(rt; bus.ports().len(), count);
-            assert_eq!(rt; bus.into_ports().len(), count);
+            let there = bus.ports().len();
+            format!(in alloc; "{there} {}", bus.into_ports().len())?
         }
-        Err((fault, ports)) => {
-            assert_eq!(rt; Err(fault), want, "{count}");
-            assert_eq!(rt; ports.len(), count);
-        }
-    }
-    Ok(())
+        Err((fault, ports)) => format!(in alloc; "{fault:?} {}", ports.len())?,
+    })
 }
 
-const COUNTS: &[(usize, Result<(), BusFault>)] = &[
-    (0, Err(BusFault::NoPort)),
-    (1, Ok(())),
-    (64, Ok(())),
-    (65, Err(BusFault::TooManyPorts)),
+const COUNTS: [(usize, &str); 4] = [
+    (0, "NoPort 0"),
+    (1, "1 1"),
+    (64, "64 64"),
+    (65, "TooManyPorts 65"),
 ];
 
 #[test]
 fn one_to_64_ports_make_a_bus(rt: HostRuntime) -> Result<(), Fail> {
     for kinds in KINDS {
         for (count, want) in COUNTS {
-            makes_a_bus(&rt, rt.alloc(), kinds, *count, *want)?;
+            assert_eq!(rt; made(rt.alloc(), kinds, count)?.as_str(), want);
         }
     }
     Ok(())
+}
+
+/// So many ports, of which every second one has a frame to send.
+fn every_second_sends(alloc: Global, kinds: Kinds, count: usize) -> Result<Vec<EitherNode>, Fail> {
+    let mut ports = idle_ports(alloc, kinds, count, 1)?;
+    for (node, port) in ports.iter_mut().enumerate() {
+        if node % 2 == 0 && port.offer(frame("S 001 D 0")?).is_err() {
+            return Err("a full queue".into());
+        }
+    }
+    Ok(ports)
+}
+
+/// What ports drive that were too many.
+fn driven_back(alloc: Global, ports: Vec<EitherNode>) -> Result<String, Fail> {
+    match Bus::new(ports) {
+        Ok(_) => Err("a bus of 65 ports".into()),
+        Err((_, back)) => drives(alloc, &back),
+    }
 }
 
 /// Every second of 65 ports has a frame to send, and so drives the start of a frame. That tells the
 /// ports that come back from those that went in, and their order.
 #[test]
 fn ports_that_are_too_many_come_back_as_they_were(rt: HostRuntime) -> Result<(), Fail> {
+    let want = line(rt.alloc(), "01*32 0")?;
     for kinds in KINDS {
-        let mut ports = idle_ports(rt.alloc(), kinds, 65, 1)?;
-        for (node, port) in ports.iter_mut().enumerate() {
-            if node % 2 == 0 {
-                assert_eq!(rt; port.offer(frame("S 001 D 0")?), Ok(()));
-            }
-        }
-        let Err((fault, back)) = Bus::new(ports) else {
-            return Err("a bus of 65 ports".into());
-        };
-        assert_eq!(rt; fault, BusFault::TooManyPorts);
-        let starts = "01".repeat(rt.alloc(), 32)?;
-        let want = format!(in rt.alloc(); "{starts}0")?;
-        assert_eq!(rt; drives(rt.alloc(), &back)?.as_str(), want.as_str());
+        let ports = every_second_sends(rt.alloc(), kinds, 65)?;
+        let back = driven_back(rt.alloc(), ports)?;
+        assert_eq!(rt; back.as_str(), want.as_str());
     }
     Ok(())
 }
 
-const REFUSED: &[(&[Hit], BusFault)] = &[
-    (&[Hit::At(5), Hit::At(5)], BusFault::NotRising),
-    (&[Hit::View { time: 0, node: 2 }], BusFault::NoSuchPort),
-    (
-        &[
-            Hit::At(0),
-            Hit::View { time: 0, node: 0 },
-            Hit::In {
-                attempt: 0,
-                offset: 0,
-            },
-        ],
-        BusFault::NotRising,
-    ),
-    // of the second hit the order is wrong, and so is the port
-    (
-        &[
-            Hit::View { time: 1, node: 0 },
-            Hit::View { time: 0, node: 2 },
-        ],
-        BusFault::NotRising,
-    ),
-];
+/// A sender with the frame of `WIRE_001`, and a receiver.
+const SENDER_AND_RECEIVER: &str = "port: S 001 D 0\nport";
 
-/// The hits are refused, and a slice of such levels is as it was.
-fn is_refused<P: Port>(
-    rt: &impl Abort,
-    bus: &mut Bus<P>,
-    hits: &[Hit],
-    fault: BusFault,
+/// Hits that are refused, and why, with a blank line between them.
+const REFUSED: &str = "
+hit at 5
+hit at 5
+NotRising
+
+hit view 0 2
+NoSuchPort
+
+hit at 0
+hit view 0 0
+hit in 0 0
+NotRising
+
+# of the second hit the order is wrong, and so is the port
+hit view 1 0
+hit view 0 2
+NotRising
+";
+
+/// Why hits are refused over a slice of such levels, and whether these stay.
+fn refusal(
+    alloc: Global,
+    bus: &mut Bus<EitherNode>,
+    course: &str,
     level: Level,
-) {
+) -> Result<(String, bool), Fail> {
     let mut rec = [level; 3];
-    assert_eq!(rt; bus.run(hits, &mut rec), Err(fault), "{hits:?}");
-    assert_eq!(rt; rec, [level; 3], "{hits:?}");
+    let fault = match bus.run(&hits(alloc, course)?, &mut rec) {
+        Ok(()) => format!(in alloc; "none")?,
+        Err(fault) => format!(in alloc; "{fault:?}")?,
+    };
+    Ok((fault, rec == [level; 3]))
+}
+
+fn are_refused(
+    rt: &impl Abort,
+    alloc: Global,
+    bus: &mut Bus<EitherNode>,
+    level: Level,
+) -> Result<(), Fail> {
+    for course in REFUSED.split("\n\n") {
+        let (fault, stays) = refusal(alloc, bus, course, level)?;
+        assert!(rt;
+            stays && course.trim().ends_with(fault.as_str()),
+            "{course}"
+        );
+    }
+    Ok(())
 }
 
 #[test]
 fn refused_hits_run_nothing(rt: HostRuntime) -> Result<(), Fail> {
     for kinds in KINDS {
-        let mut bus = bus_with(rt.alloc(), kinds, SENDER_AND_RECEIVER)?;
-        for (hits, fault) in REFUSED {
-            is_refused(&rt, &mut bus, hits, *fault, Level::Dominant);
-            is_refused(&rt, &mut bus, hits, *fault, Level::Recessive);
-        }
-        let levels = recorded(rt.alloc(), &mut bus, &[], 47)?;
-        assert_eq!(rt; levels.as_str(), WIRE_001);
+        let mut bus = bus_of(ports(rt.alloc(), kinds, SENDER_AND_RECEIVER)?)?;
+        are_refused(&rt, rt.alloc(), &mut bus, Level::Dominant)?;
+        are_refused(&rt, rt.alloc(), &mut bus, Level::Recessive)?;
+        let (levels, _) = runs(rt.alloc(), &mut bus, "", 47)?;
+        assert_eq!(rt; levels.as_str(), levels_of("WIRE_001"));
     }
     Ok(())
+}
+
+/// Whether the second port is lent and a third is not, and what the ports drive that are given back.
+fn lent(alloc: Global, kinds: Kinds) -> Result<String, Fail> {
+    let mut bus = bus_of(ports(alloc, kinds, SENDER_AND_RECEIVER)?)?;
+    let second = bus.port_mut(1).is_some();
+    let third = bus.port_mut(2).is_some();
+    let drives = drives(alloc, &bus.into_ports())?;
+    Ok(format!(in alloc; "{second} {third} {drives}")?)
 }
 
 #[test]
 fn ports_are_lent_by_number_and_given_back_in_order(rt: HostRuntime) -> Result<(), Fail> {
     for kinds in KINDS {
-        let mut bus = bus_with(rt.alloc(), kinds, SENDER_AND_RECEIVER)?;
-        assert!(rt; bus.port_mut(1).is_some());
-        assert!(rt; bus.port_mut(2).is_none());
-        assert_eq!(rt; drives(rt.alloc(), &bus.into_ports())?.as_str(), "01");
+        assert_eq!(rt; lent(rt.alloc(), kinds)?.as_str(), "true false 01");
     }
     Ok(())
 }
 
-const HIT_ATTEMPTS: &[Course] = &[
-    Course {
-        name: "a hit in the first attempt",
-        queues: SENDER_AND_RECEIVER,
-        hits: &[DOMINANT_STUFF_BIT],
-        levels: &[
-            (BROKEN, 1),
-            (DELIMITER_AND_INTERMISSION, 1),
-            (WIRE_001, 1),
-            (INTERMISSION, 1),
-        ],
-        ..COURSE
-    },
-    Course {
-        name: "a hit in two attempts",
-        queues: SENDER_AND_RECEIVER,
-        hits: &[DOMINANT_STUFF_BIT, Hits::In(1, 2, 5)],
-        levels: &[
-            (BROKEN, 1),
-            (DELIMITER_AND_INTERMISSION, 1),
-            (BROKEN, 1),
-            (DELIMITER_AND_INTERMISSION, 1),
-            (WIRE_001, 1),
-            (INTERMISSION, 1),
-        ],
-        ..COURSE
-    },
-];
+/// The sixth level of a frame of many dominant levels is a stuff bit: inverted, it is an error to all
+/// ports at once.
+const HIT_ATTEMPTS: &str = "
+# a hit in the first attempt
+port: S 001 D 0
+port
+hit in 0 5
+records BROKEN DELIMITER_AND_INTERMISSION WIRE_001 INTERMISSION
+
+# a hit in two attempts
+port: S 001 D 0
+port
+hit in 0 5
+hit in 1 5
+records BROKEN DELIMITER_AND_INTERMISSION BROKEN DELIMITER_AND_INTERMISSION WIRE_001 INTERMISSION
+";
 
 #[test]
 fn a_hit_in_each_attempt(rt: HostRuntime) -> Result<(), Fail> {
     hold(&rt, rt.alloc(), HIT_ATTEMPTS)
 }
 
-/// One of several runs of a bus.
-#[derive(Clone, Copy)]
-struct Run {
-    /// What ports are offered before it: port and frame.
-    offers: &'static [(usize, &'static str)],
-    hits: &'static [Hits],
-    /// The recorded levels: texts, and how often each stands there.
-    levels: &'static [(&'static str, usize)],
-}
-
-impl Run {
-    fn goes(&self, rt: &impl Abort, alloc: Global, bus: &mut Bus<EitherNode>) -> Result<(), Fail> {
-        for (node, frame) in self.offers {
-            offer(bus, *node, frame)?;
+/// A run of a bus: frames that ports are offered before it, hits, and the recorded levels.
+fn goes(rt: &impl Abort, alloc: Global, bus: &mut Bus<EitherNode>, run: &str) -> Result<(), Fail> {
+    let mut want = String::new(alloc);
+    for part in run.lines() {
+        if let Some(text) = part.strip_prefix("offer 0 ") {
+            offer(bus, 0, text)?;
+        } else if let Some(levels) = part.strip_prefix("records ") {
+            want = line(alloc, levels)?;
         }
-        let want = line(alloc, self.levels)?;
-        let hits = hits_of(alloc, self.hits)?;
-        let levels = recorded(alloc, bus, hits.as_slice(), want.len())?;
-        assert_eq!(rt; levels.as_str(), want.as_str());
-        Ok(())
     }
+    let (levels, _) = runs(alloc, bus, run, want.len())?;
+    assert_eq!(rt; levels.as_str(), want.as_str(), "{run}");
+    Ok(())
 }
 
-/// A bus with these queues goes through these runs, one after another.
-fn go(rt: &impl Abort, alloc: Global, queues: &[&[&str]], runs: &[Run]) -> Result<(), Fail> {
+/// A bus with these ports goes through these runs, one after another, with a blank line between them.
+fn go(rt: &impl Abort, alloc: Global, course: &str, text: &str) -> Result<(), Fail> {
     for kinds in KINDS {
-        let mut bus = bus_with(alloc, kinds, queues)?;
-        for run in runs {
-            run.goes(rt, alloc, &mut bus)?;
+        let mut bus = bus_of(ports(alloc, kinds, course)?)?;
+        for run in text.split("\n\n") {
+            goes(rt, alloc, &mut bus, run)?;
         }
     }
     Ok(())
 }
 
-const BROKEN_RUN: Run = Run {
-    offers: &[],
-    hits: &[DOMINANT_STUFF_BIT],
-    levels: &[(BROKEN, 1), (DELIMITER_AND_INTERMISSION, 1)],
-};
+const BROKEN_TWICE: &str = "
+hit in 0 5
+records BROKEN DELIMITER_AND_INTERMISSION
+
+hit in 0 5
+records BROKEN DELIMITER_AND_INTERMISSION
+";
 
 /// The second attempt of the bus is the first of its second run.
 #[test]
 fn attempts_are_counted_in_each_run(rt: HostRuntime) -> Result<(), Fail> {
-    let runs = [BROKEN_RUN, BROKEN_RUN];
-    go(&rt, rt.alloc(), SENDER_AND_RECEIVER, &runs)
+    go(&rt, rt.alloc(), SENDER_AND_RECEIVER, BROKEN_TWICE)
 }
 
-const AT_REST: &[Run] = &[
-    Run {
-        offers: &[],
-        hits: &[],
-        levels: &[("11111", 1)],
-    },
-    Run {
-        offers: &[(0, "S 001 D 0")],
-        hits: &[DOMINANT_STUFF_BIT],
-        levels: &[(BROKEN, 1), (DELIMITER_AND_INTERMISSION, 1)],
-    },
-];
+const AT_REST: &str = "
+records 11111
+
+offer 0 S 001 D 0
+hit in 0 5
+records BROKEN DELIMITER_AND_INTERMISSION
+";
 
 /// Five more recessive levels behind the eleven of a new bus.
 #[test]
 fn an_attempt_begins_however_long_the_bus_has_rested(rt: HostRuntime) -> Result<(), Fail> {
-    go(&rt, rt.alloc(), &[&[], &[]], AT_REST)
+    go(&rt, rt.alloc(), "port\nport", AT_REST)
 }
 
-const REST_ENDED: &[Run] = &[
-    // the dominant level at 5 is recorded, and no port sees it
-    Run {
-        offers: &[],
-        hits: &[Hits::At(5, 6), Hits::View(5, 0), Hits::View(5, 1)],
-        levels: &[("1111101111", 1)],
-    },
-    Run {
-        offers: &[],
-        hits: &[],
-        levels: &[("1111111", 1)],
-    },
-    Run {
-        offers: &[(0, "S 001 D 0")],
-        hits: &[DOMINANT_STUFF_BIT],
-        levels: &[(BROKEN, 1), (DELIMITER_AND_INTERMISSION, 1)],
-    },
-];
+const REST_ENDED: &str = "
+# the dominant level at 5 is recorded, and no port sees it
+hit at 5
+hit view 5 0
+hit view 5 1
+records 1111101111
+
+records 1111111
+
+offer 0 S 001 D 0
+hit in 0 5
+records BROKEN DELIMITER_AND_INTERMISSION
+";
 
 /// Behind a dominant level the bus rests again after eleven recessive ones, four and seven in two runs, though its
 /// ports are idle all the time.
 #[test]
 fn a_bus_rests_after_eleven_recessive_levels_of_two_runs(rt: HostRuntime) -> Result<(), Fail> {
-    go(&rt, rt.alloc(), &[&[], &[]], REST_ENDED)
+    go(&rt, rt.alloc(), "port\nport", REST_ENDED)
 }
 
 /// The frame of `WIRE_001`, cut behind its tenth level.
-const WITHIN: &[Run] = &[
-    Run {
-        offers: &[],
-        hits: &[],
-        levels: &[("0000010000", 1)],
-    },
-    Run {
-        offers: &[],
-        hits: &[DOMINANT_STUFF_BIT],
-        levels: &[
-            ("0101000001000100010000100111011111111", 1),
-            (INTERMISSION, 1),
-            (BROKEN, 1),
-            (DELIMITER_AND_INTERMISSION, 1),
-            (WIRE_001, 1),
-            (INTERMISSION, 1),
-        ],
-    },
-];
+const WITHIN: &str = "
+records 0000010000
+
+hit in 0 5
+records 0101000001000100010000100111011111111 INTERMISSION BROKEN DELIMITER_AND_INTERMISSION WIRE_001 INTERMISSION
+";
 
 /// A run that begins within a frame is at no attempt until the next frame begins.
 #[test]
 fn a_run_may_begin_within_a_frame(rt: HostRuntime) -> Result<(), Fail> {
-    go(&rt, rt.alloc(), &[&["S 001 D 0", "S 001 D 0"], &[]], WITHIN)
+    go(&rt, rt.alloc(), "port: S 001 D 0, S 001 D 0\nport", WITHIN)
 }

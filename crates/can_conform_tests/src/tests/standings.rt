@@ -1,330 +1,232 @@
 //! Where the reference stands at the bit times of some cases: phase, part, rule and last event, each worked out by
 //! hand from docs/ACCESS.md and docs/CONFORMANCE.md.
-use crate::tests::{expected, failure, offering, script};
-use Part::{Receiver, Sender};
-use can_conform::{Part, PhaseName, Rule, Script, Start, Timed};
-use can_frame::{Frame, Level};
-use can_mac::{ErrorKind, Event};
-use std::alloc::Global;
+//!
+//! Behind a line that begins with `case` each row says where the reference stands before a bit time of it. The standard
+//! data frame 000 without data is `000001*6` and, up to the CRC delimiter, `00001`.
+use crate::tests::{expected, judged, timed};
+use can_conform::{Failure, Standing, Transcript, Verdict};
+use std::alloc::{AllocError, Global};
 use std::process::Abort;
 use std::test::Fail;
 
-/// A bit time, and where the reference stands before it.
-type Row = (u32, PhaseName, Part, Rule);
+/// The transcript of a case, with the level of a bit time turned.
+fn turned(alloc: Global, case: &str, time: u32) -> Result<Transcript, Fail> {
+    let mut told = expected(alloc, case)?;
+    let level = told.drove.get_mut(time as usize).ok_or("no such time")?;
+    *level = level.opposite();
+    Ok(told)
+}
 
-/// The standard data frame 000 without data from its start on, as its sender drives it up to the CRC delimiter.
-const PART: (&str, usize) = ("000001", 6);
+/// The first difference of that transcript.
+fn failure(alloc: Global, case: &str, time: u32) -> Result<Failure, Fail> {
+    let told = turned(alloc, case, time)?;
+    match judged(alloc, case, &told)? {
+        Some(Verdict::Fail(failure)) => Ok(failure),
+        _ => Err("it passed".into()),
+    }
+}
 
-const REST: (&str, usize) = ("00001", 1);
+fn text_of(alloc: Global, standing: &Standing) -> Result<String, AllocError> {
+    let Standing {
+        phase,
+        part,
+        rule,
+        ..
+    } = *standing;
+    format!(in alloc; "{phase:?} {part:?} {rule:?}")
+}
 
 /// A level that is turned in the transcript of the run is the first difference, and the verdict tells where the
 /// reference stands before it.
-fn hold(rt: &impl Abort, alloc: Global, case: &Script, rows: &[Row]) -> Result<(), Fail> {
-    for (time, phase, part, rule) in rows {
-        let mut told = expected(rt, alloc, case)?;
-        let place = *time as usize;
-        assert!(rt; place < told.drove.len());
-        told.drove[place] = match told.drove[place] {
-            Level::Dominant => Level::Recessive,
-            Level::Recessive => Level::Dominant,
-        };
-        let failure = failure(rt, alloc, case, &told)?.ok_or("it passed")?;
-        assert_eq!(rt; failure.time, *time);
-        assert_eq!(rt; failure.standing.phase, *phase, "at {time}");
-        assert_eq!(rt; failure.standing.part, *part, "at {time}");
-        assert_eq!(rt; failure.standing.rule, *rule, "at {time}");
+fn stands(rt: &impl Abort, alloc: Global, case: &str, row: &str) -> Result<(), Fail> {
+    let (time, want) = timed(row)?;
+    let failure = failure(alloc, case, time)?;
+    assert_eq!(rt; failure.time, time, "{case}");
+    let found = text_of(alloc, &failure.standing)?;
+    assert_eq!(rt; found.as_str(), want, "{row} of {case}");
+    Ok(())
+}
+
+/// The rows of a case.
+fn hold_of(rt: &impl Abort, alloc: Global, case: &str, rows: &str) -> Result<(), Fail> {
+    for row in rows.lines() {
+        if !row.is_empty() && !row.starts_with('#') {
+            stands(rt, alloc, case, row)?;
+        }
     }
     Ok(())
 }
 
-/// Where a receiver stands in a frame that begins at 1.
-const RECEIVES: &[Row] = &[
-    (0, PhaseName::Idle, Receiver, Rule::StartOfFrame),
-    (1, PhaseName::Idle, Receiver, Rule::StartOfFrame),
-    (2, PhaseName::Stuffed(1), Receiver, Rule::StuffPlaces),
-    // a stuff bit is no unstuffed level
-    (6, PhaseName::Stuffed(5), Receiver, Rule::StuffPlaces),
-    (7, PhaseName::Stuffed(5), Receiver, Rule::StuffPlaces),
-    (40, PhaseName::Stuffed(33), Receiver, Rule::StuffPlaces),
-    (41, PhaseName::CrcDelimiter, Receiver, Rule::FixedForm),
-    (42, PhaseName::AckSlot, Receiver, Rule::Acknowledgement),
-    (43, PhaseName::AckDelimiter, Receiver, Rule::FixedForm),
-    (44, PhaseName::EndOfFrame(0), Receiver, Rule::FixedForm),
-    (50, PhaseName::EndOfFrame(6), Receiver, Rule::FixedForm),
-    (51, PhaseName::Intermission(0), Receiver, Rule::Intermission),
-    (53, PhaseName::Intermission(2), Receiver, Rule::Intermission),
-    (54, PhaseName::Idle, Receiver, Rule::StartOfFrame),
-];
-
-#[test]
-fn a_receiver_from_idle_to_idle(rt: HostRuntime) -> Result<(), Fail> {
-    let case = script(rt.alloc(), Start::Idle, &[("1", 1), PART, REST, ("1", 14)])?;
-    hold(&rt, rt.alloc(), &case, RECEIVES)
+fn hold(rt: &impl Abort, alloc: Global, text: &str) -> Result<(), Fail> {
+    for part in text.split("\ncase ") {
+        if let Some((case, rows)) = part.split_once('\n') {
+            hold_of(rt, alloc, case, rows)?;
+        }
+    }
+    Ok(())
 }
 
-/// Where a sender stands whose frame is not acknowledged.
-const SENDS: &[Row] = &[
-    (0, PhaseName::Idle, Receiver, Rule::StartOfFrame),
-    (1, PhaseName::Stuffed(1), Sender, Rule::Arbitration),
-    (5, PhaseName::Stuffed(5), Sender, Rule::StuffPlaces),
-    (6, PhaseName::Stuffed(5), Sender, Rule::Arbitration),
-    // RTR
-    (14, PhaseName::Stuffed(12), Sender, Rule::Arbitration),
-    // IDE
-    (15, PhaseName::Stuffed(13), Sender, Rule::KeptFrame),
-    (40, PhaseName::CrcDelimiter, Sender, Rule::FixedForm),
-    (41, PhaseName::AckSlot, Sender, Rule::Acknowledgement),
-    (42, PhaseName::ActiveFlag(0), Sender, Rule::Acknowledgement),
-    (43, PhaseName::ActiveFlag(1), Sender, Rule::ErrorFlags),
-    (48, PhaseName::BehindFlag(0), Sender, Rule::BehindAFlag),
-    (49, PhaseName::Delimiter(1), Sender, Rule::Delimiter),
-    (55, PhaseName::Delimiter(7), Sender, Rule::Delimiter),
-    (56, PhaseName::Intermission(0), Sender, Rule::Intermission),
-    (59, PhaseName::Idle, Receiver, Rule::StartOfFrame),
-];
+const ROWS: &str = "
+# a receiver from idle to idle, of a frame that begins at 1
+case idle 1 000001*6 00001 1*14
+0 Idle Receiver StartOfFrame
+1 Idle Receiver StartOfFrame
+2 Stuffed(1) Receiver StuffPlaces
+# a stuff bit is no unstuffed level
+6 Stuffed(5) Receiver StuffPlaces
+7 Stuffed(5) Receiver StuffPlaces
+40 Stuffed(33) Receiver StuffPlaces
+41 CrcDelimiter Receiver FixedForm
+42 AckSlot Receiver Acknowledgement
+43 AckDelimiter Receiver FixedForm
+44 EndOfFrame(0) Receiver FixedForm
+50 EndOfFrame(6) Receiver FixedForm
+51 Intermission(0) Receiver Intermission
+53 Intermission(2) Receiver Intermission
+54 Idle Receiver StartOfFrame
+# a sender whose frame is not acknowledged, from idle to its flag
+case idle 1*60, offer 0 S 000 D 0
+0 Idle Receiver StartOfFrame
+1 Stuffed(1) Sender Arbitration
+5 Stuffed(5) Sender StuffPlaces
+6 Stuffed(5) Sender Arbitration
+# RTR
+14 Stuffed(12) Sender Arbitration
+# IDE
+15 Stuffed(13) Sender KeptFrame
+40 CrcDelimiter Sender FixedForm
+41 AckSlot Sender Acknowledgement
+42 ActiveFlag(0) Sender Acknowledgement
+43 ActiveFlag(1) Sender ErrorFlags
+48 BehindFlag(0) Sender BehindAFlag
+49 Delimiter(1) Sender Delimiter
+55 Delimiter(7) Sender Delimiter
+56 Intermission(0) Sender Intermission
+59 Idle Receiver StartOfFrame
+# two overload frames of a receiver behind a frame
+case idle 000001*6 00001 1*40, hold 0 2
+50 OverloadFlag(0) Receiver OwnOverloadFrames
+51 OverloadFlag(1) Receiver OverloadFlags
+56 BehindFlag(0) Receiver BehindAFlag
+63 Delimiter(7) Receiver Delimiter
+64 OverloadFlag(0) Receiver OwnOverloadFrames
+# a controller that joins, and sees a dominant level at 3
+case joining 1*3 0 1*12
+0 Joining(0) Receiver Joining
+3 Joining(3) Receiver Joining
+4 Joining(0) Receiver Joining
+14 Joining(10) Receiver Joining
+15 Idle Receiver StartOfFrame
+# the sender of an extended frame, which loses at SRR, the 13th unstuffed level, behind two stuff bits
+case idle 000001*6 00001 1*4, offer 0 E 00000000 D 0
+14 Stuffed(12) Sender Arbitration
+15 Stuffed(13) Receiver StuffPlaces
+";
 
 #[test]
-fn a_sender_from_idle_to_its_flag(rt: HostRuntime) -> Result<(), Fail> {
-    let case = offering(rt.alloc(), 0, &[("1", 60)])?;
-    hold(&rt, rt.alloc(), &case, SENDS)
+fn standings(rt: HostRuntime) -> Result<(), Fail> {
+    hold(&rt, rt.alloc(), ROWS)
 }
 
-/// What the tester does to an idle receiver, each text so many times; the time at which a flag begins; the flag, and
-/// the rule that started it.
-const STARTED_FLAGS: &[(&[(&str, usize)], u32, PhaseName, Rule)] = &[
-    // six dominant levels
-    (
-        &[("0", 6), ("1", 2), ("1", 0), ("1", 0), ("1", 0)],
-        6,
-        PhaseName::ActiveFlag(0),
-        Rule::StuffPlaces,
-    ),
-    // the CRC delimiter
-    (
-        &[PART, ("0000", 1), ("0", 1), ("1", 2), ("1", 0)],
-        41,
-        PhaseName::ActiveFlag(0),
-        Rule::FixedForm,
-    ),
-    // the ACK slot, in which it doesn't see its own acknowledgement
-    (
-        &[PART, REST, ("f", 1), ("1", 2), ("1", 0)],
-        42,
-        PhaseName::ActiveFlag(0),
-        Rule::Acknowledgement,
-    ),
-    // the ACK delimiter
-    (
-        &[PART, REST, ("1", 1), ("0", 1), ("1", 2)],
-        43,
-        PhaseName::ActiveFlag(0),
-        Rule::FixedForm,
-    ),
-    // the last level of the check sequence is wrong
-    (
-        &[PART, ("00011", 1), ("0", 1), ("1", 2), ("1", 0)],
-        43,
-        PhaseName::ActiveFlag(0),
-        Rule::RefusedCheckSequence,
-    ),
-    // the sixth level of the end of frame, and the seventh
-    (
-        &[PART, REST, ("1", 7), ("0", 1), ("1", 2)],
-        49,
-        PhaseName::ActiveFlag(0),
-        Rule::FixedForm,
-    ),
-    (
-        &[PART, REST, ("1", 8), ("0", 1), ("1", 2)],
-        50,
-        PhaseName::OverloadFlag(0),
-        Rule::DominantLastLevel,
-    ),
-    // intermission, its first two levels
-    (
-        &[PART, REST, ("1", 9), ("0", 1), ("1", 2)],
-        51,
-        PhaseName::OverloadFlag(0),
-        Rule::Intermission,
-    ),
-    (
-        &[PART, REST, ("1", 10), ("0", 1), ("1", 2)],
-        52,
-        PhaseName::OverloadFlag(0),
-        Rule::Intermission,
-    ),
-    // its own flag
-    (
-        &[("0", 6), ("1", 2), ("f", 1), ("1", 2), ("1", 0)],
-        9,
-        PhaseName::ActiveFlag(0),
-        Rule::ErrorInAnOwnFlag,
-    ),
-    // its delimiter, from 12 on: the seventh level, and the eighth
-    (
-        &[("0", 6), ("1", 6), ("1", 6), ("0", 1), ("1", 2)],
-        19,
-        PhaseName::ActiveFlag(0),
-        Rule::Delimiter,
-    ),
-    (
-        &[("0", 6), ("1", 6), ("1", 7), ("0", 1), ("1", 2)],
-        20,
-        PhaseName::OverloadFlag(0),
-        Rule::Delimiter,
-    ),
-];
+/// What the tester does to an idle receiver, the time at which a flag begins, and the rule that started it.
+const STARTED_FLAGS: &str = "
+# six dominant levels
+case idle 0*6 1*2
+6 ActiveFlag(0) Receiver StuffPlaces
+# the CRC delimiter
+case idle 000001*6 0000 0 1*2
+41 ActiveFlag(0) Receiver FixedForm
+# the ACK slot, in which it doesn't see its own acknowledgement
+case idle 000001*6 00001 f 1*2
+42 ActiveFlag(0) Receiver Acknowledgement
+# the ACK delimiter
+case idle 000001*6 00001 1 0 1*2
+43 ActiveFlag(0) Receiver FixedForm
+# the last level of the check sequence is wrong
+case idle 000001*6 00011 0 1*2
+43 ActiveFlag(0) Receiver RefusedCheckSequence
+# the sixth level of the end of frame, and the seventh
+case idle 000001*6 00001 1*7 0 1*2
+49 ActiveFlag(0) Receiver FixedForm
+case idle 000001*6 00001 1*8 0 1*2
+50 OverloadFlag(0) Receiver DominantLastLevel
+# intermission, its first two levels
+case idle 000001*6 00001 1*9 0 1*2
+51 OverloadFlag(0) Receiver Intermission
+case idle 000001*6 00001 1*10 0 1*2
+52 OverloadFlag(0) Receiver Intermission
+# its own flag
+case idle 0*6 1*2 f 1*2
+9 ActiveFlag(0) Receiver ErrorInAnOwnFlag
+# its delimiter, from 12 on: the seventh level, and the eighth
+case idle 0*6 1*6 1*6 0 1*2
+19 ActiveFlag(0) Receiver Delimiter
+case idle 0*6 1*6 1*7 0 1*2
+20 OverloadFlag(0) Receiver Delimiter
+";
 
 #[test]
 fn flags_by_the_rule_that_started_them(rt: HostRuntime) -> Result<(), Fail> {
-    for (texts, time, phase, rule) in STARTED_FLAGS {
-        let case = script(rt.alloc(), Start::Idle, *texts)?;
-        hold(&rt, rt.alloc(), &case, &[(*time, *phase, Receiver, *rule)])?;
-    }
-    Ok(())
+    hold(&rt, rt.alloc(), STARTED_FLAGS)
 }
 
-/// What the tester does to a sender, the time at which its flag begins, and the rule that started it.
-const SENDERS_FLAGS: &[(&[(&str, usize)], u32, Rule)] = &[
-    // its start of frame isn't seen
-    (&[("f", 1), ("1", 3)], 1, Rule::StartOfFrame),
-    // nor is a dominant level of the identifier
-    (&[("111f", 1), ("1", 3)], 4, Rule::Arbitration),
-    // a stuff bit of the identifier is overridden
-    (&[("111110", 1), ("1", 3)], 6, Rule::StuffPlaces),
-];
-
-/// Where a receiver stands with two overload frames of its own behind a frame.
-const OVERLOADS: &[Row] = &[
-    (
-        50,
-        PhaseName::OverloadFlag(0),
-        Receiver,
-        Rule::OwnOverloadFrames,
-    ),
-    (
-        51,
-        PhaseName::OverloadFlag(1),
-        Receiver,
-        Rule::OverloadFlags,
-    ),
-    (56, PhaseName::BehindFlag(0), Receiver, Rule::BehindAFlag),
-    (63, PhaseName::Delimiter(7), Receiver, Rule::Delimiter),
-    (
-        64,
-        PhaseName::OverloadFlag(0),
-        Receiver,
-        Rule::OwnOverloadFrames,
-    ),
-];
+/// The same of a sender.
+const FLAGS_OF_SENDERS: &str = "
+# its start of frame isn't seen
+case idle f 1*3, offer 0 S 000 D 0
+1 ActiveFlag(0) Sender StartOfFrame
+# nor is a dominant level of the identifier
+case idle 111f 1*3, offer 0 S 000 D 0
+4 ActiveFlag(0) Sender Arbitration
+# a stuff bit of the identifier is overridden
+case idle 111110 1*3, offer 0 S 000 D 0
+6 ActiveFlag(0) Sender StuffPlaces
+";
 
 #[test]
 fn flags_of_senders(rt: HostRuntime) -> Result<(), Fail> {
-    let flag = PhaseName::ActiveFlag(0);
-    for (texts, time, rule) in SENDERS_FLAGS {
-        let case = offering(rt.alloc(), 0, *texts)?;
-        hold(&rt, rt.alloc(), &case, &[(*time, flag, Sender, *rule)])?;
-    }
+    hold(&rt, rt.alloc(), FLAGS_OF_SENDERS)
+}
+
+/// A missing acknowledgement at 41 brings TEC to 8, and the dominant levels behind the flag, from 48 on, to 8 more for each
+/// eight: to error passive, or to 256 with the 248th, at 295.
+const COUNTED_UP: &str = "
+case idle 1*48 0*120 1*70, offer 0 S 000 D 0
+47 ActiveFlag(5) Sender ErrorFlags
+48 BehindFlag(0) Sender BehindAFlag
+51 BehindFlag(3) Sender BehindAFlag
+168 BehindFlag(0) Sender BehindAFlag
+176 Intermission(0) Sender Intermission
+179 Suspend(0) Sender SuspendTransmission
+186 Suspend(7) Sender SuspendTransmission
+187 Idle Receiver StartOfFrame
+# the next frame, from 187 on, isn't acknowledged either
+228 AckSlot Sender Acknowledgement
+229 PassiveFlag(0) Sender Acknowledgement
+230 PassiveFlag(1) Sender ErrorFlags
+234 PassiveFlag(5) Sender ErrorFlags
+235 BehindFlag(0) Sender BehindAFlag
+case idle 1*48 0*248 1*30, offer 0 S 000 D 0
+295 BehindFlag(7) Sender BehindAFlag
+296 BusOff(0) Receiver BusOff
+306 BusOff(0) Receiver BusOff
+307 BusOff(1) Receiver BusOff
+318 BusOff(2) Receiver BusOff
+";
+
+#[test]
+fn a_sender_suspends_and_goes_bus_off(rt: HostRuntime) -> Result<(), Fail> {
+    hold(&rt, rt.alloc(), COUNTED_UP)
+}
+
+/// A frame that begins too early: the event behind which it is.
+#[test]
+fn the_last_event_is_told(rt: HostRuntime) -> Result<(), Fail> {
+    let failure = failure(rt.alloc(), "idle 1*48 0*120 1*70, offer 0 S 000 D 0", 186)?;
+    let since = format!(in rt.alloc(); "{:?}", failure.standing.since)?;
+    assert_eq!(rt;
+        since.as_str(),
+        "Some(Timed { time: 41, told: Error(Ack) })"
+    );
     Ok(())
-}
-
-#[test]
-fn own_overload_frames(rt: HostRuntime) -> Result<(), Fail> {
-    let mut case = script(rt.alloc(), Start::Idle, &[PART, REST, ("1", 40)])?;
-    case.holds.push(Timed { time: 0, told: 2 })?;
-    hold(&rt, rt.alloc(), &case, OVERLOADS)
-}
-
-/// Where a controller stands that joins, and sees a dominant level at 3.
-const JOINS: &[Row] = &[
-    (0, PhaseName::Joining(0), Receiver, Rule::Joining),
-    (3, PhaseName::Joining(3), Receiver, Rule::Joining),
-    (4, PhaseName::Joining(0), Receiver, Rule::Joining),
-    (14, PhaseName::Joining(10), Receiver, Rule::Joining),
-    (15, PhaseName::Idle, Receiver, Rule::StartOfFrame),
-];
-
-/// Where the sender of an extended frame stands, which loses at SRR, the 13th unstuffed level, behind two stuff bits.
-const LOSES: &[Row] = &[
-    (14, PhaseName::Stuffed(12), Sender, Rule::Arbitration),
-    (15, PhaseName::Stuffed(13), Receiver, Rule::StuffPlaces),
-];
-
-#[test]
-fn joining(rt: HostRuntime) -> Result<(), Fail> {
-    let case = script(rt.alloc(), Start::Joining, &[("1", 3), ("0", 1), ("1", 12)])?;
-    hold(&rt, rt.alloc(), &case, JOINS)
-}
-
-#[test]
-fn lost_arbitration(rt: HostRuntime) -> Result<(), Fail> {
-    let mut case = script(rt.alloc(), Start::Idle, &[PART, REST, ("1", 4)])?;
-    let told = Frame::from_text(b"E 00000000 D 0")?;
-    case.offers.push(Timed { time: 0, told })?;
-    hold(&rt, rt.alloc(), &case, LOSES)
-}
-
-/// Where a sender stands that becomes error passive.
-const SUSPENDS: &[Row] = &[
-    (47, PhaseName::ActiveFlag(5), Sender, Rule::ErrorFlags),
-    (48, PhaseName::BehindFlag(0), Sender, Rule::BehindAFlag),
-    (51, PhaseName::BehindFlag(3), Sender, Rule::BehindAFlag),
-    (168, PhaseName::BehindFlag(0), Sender, Rule::BehindAFlag),
-    (176, PhaseName::Intermission(0), Sender, Rule::Intermission),
-    (
-        179,
-        PhaseName::Suspend(0),
-        Sender,
-        Rule::SuspendTransmission,
-    ),
-    (
-        186,
-        PhaseName::Suspend(7),
-        Sender,
-        Rule::SuspendTransmission,
-    ),
-    (187, PhaseName::Idle, Receiver, Rule::StartOfFrame),
-    // the next frame, from 187 on, isn't acknowledged either
-    (228, PhaseName::AckSlot, Sender, Rule::Acknowledgement),
-    (
-        229,
-        PhaseName::PassiveFlag(0),
-        Sender,
-        Rule::Acknowledgement,
-    ),
-    (230, PhaseName::PassiveFlag(1), Sender, Rule::ErrorFlags),
-    (234, PhaseName::PassiveFlag(5), Sender, Rule::ErrorFlags),
-    (235, PhaseName::BehindFlag(0), Sender, Rule::BehindAFlag),
-];
-
-/// A missing acknowledgement at 41 brings TEC to 8, and the dominant levels behind the flag, from 48 on, to 8 more
-/// for each eight.
-#[test]
-fn a_passive_sender_suspends(rt: HostRuntime) -> Result<(), Fail> {
-    let case = offering(rt.alloc(), 0, &[("1", 48), ("0", 120), ("1", 70)])?;
-    hold(&rt, rt.alloc(), &case, SUSPENDS)?;
-    // a frame that begins too early: the event behind which it is
-    let mut told = expected(&rt, rt.alloc(), &case)?;
-    *told.drove.get_mut(186).ok_or("a level")? = Level::Dominant;
-    let failure = failure(&rt, rt.alloc(), &case, &told)?.ok_or("it passed")?;
-    let since = failure.standing.since.ok_or("no event")?;
-    assert_eq!(rt; since.time, 41);
-    assert_eq!(rt; since.told, Event::Error(ErrorKind::Ack));
-    Ok(())
-}
-
-/// Where a sender stands that goes bus off.
-const GOES_OFF: &[Row] = &[
-    (295, PhaseName::BehindFlag(7), Sender, Rule::BehindAFlag),
-    (296, PhaseName::BusOff(0), Receiver, Rule::BusOff),
-    (306, PhaseName::BusOff(0), Receiver, Rule::BusOff),
-    (307, PhaseName::BusOff(1), Receiver, Rule::BusOff),
-    (318, PhaseName::BusOff(2), Receiver, Rule::BusOff),
-];
-
-/// TEC is 8 with the missing acknowledgement, and 256 with the 248th dominant level behind the flag, at 295.
-#[test]
-fn bus_off_by_its_rows(rt: HostRuntime) -> Result<(), Fail> {
-    let case = offering(rt.alloc(), 0, &[("1", 48), ("0", 248), ("1", 30)])?;
-    hold(&rt, rt.alloc(), &case, GOES_OFF)
 }

@@ -1,306 +1,210 @@
 //! Verdicts on transcripts of one case, whose run is worked out by hand: a dominant CRC delimiter at 45.
-use crate::tests::{failure, levels, passes, script};
-use can_conform::{
-    Counters, Difference, Ending, Failure, Part, PhaseName, Rule, Script, Start, Timed, Transcript,
-};
+//!
+//! A row has what a transcript tells otherwise than the run, with `; ` between what it tells of levels, of events and so on;
+//! and behind `=>` the time of the first difference, and what is told then and what ought to be.
+use crate::tests::{expected, judged, levels, timed};
+use can_conform::{Counters, Ending, Failure, Standing, Timed, Transcript, Verdict};
 use can_fault::State;
-use can_frame::Level;
 use can_mac::{ErrorKind, Event};
 use std::alloc::{AllocError, Global};
+use std::process::Abort;
 use std::test::Fail;
 
-/// A frame whose CRC delimiter, at 45, is dominant. Behind it come the receiver's flag, a delimiter from 52 on,
+/// A frame whose CRC delimiter, at 45, is dominant. Behind it come the receiver's flag, from 46 on, a delimiter from 52 on,
 /// intermission from 60 on, and three levels at idle.
-pub const FORM_ERROR: &[(&str, usize)] = &[
-    ("110001001000110000010101001011110110010010111", 1),
-    ("0", 1),
-    ("1", 20),
-];
+pub const FORM_ERROR: &str = "idle 110001001000110000010101001011110110010010111 0 1*20";
 
-/// What its receiver drives: the flag begins at 46.
-const DROVE: &[(&str, usize)] = &[("1", 46), ("0", 6), ("1", 14)];
-
-/// The same without the flag's fifth level.
-const SHORT_FLAG: &[(&str, usize)] = &[("1", 46), ("0", 4), ("1", 1), ("0", 1), ("1", 14)];
-
-fn counters(transmit: u16, receive: u16) -> Counters {
-    Counters { transmit, receive }
+fn event_named(name: &str) -> Result<Event, Fail> {
+    match name {
+        "form" => Ok(Event::Error(ErrorKind::Form)),
+        "stuff" => Ok(Event::Error(ErrorKind::Stuff)),
+        "lost" => Ok(Event::Lost),
+        _ => Err("no event of a row".into()),
+    }
 }
 
-fn case(alloc: Global) -> Result<Script, AllocError> {
-    script(alloc, Start::Idle, FORM_ERROR)
-}
-
-/// The transcript of the run, but for these levels.
-fn driving(alloc: Global, drove: &[(&str, usize)]) -> Result<Transcript, AllocError> {
+/// Times and events.
+fn events(alloc: Global, rows: &str) -> Result<Vec<Timed<Event>>, Fail> {
     let mut events = Vec::new(alloc);
-    events.push(Timed {
-        time: 45,
-        told: Event::Error(ErrorKind::Form),
-    })?;
-    let mut changes = Vec::new(alloc);
-    changes.push(Timed {
-        time: 45,
-        told: counters(0, 1),
-    })?;
-    Ok(Transcript {
-        drove: levels(alloc, drove)?,
-        events: Some(events),
-        counters: Some(changes),
-        end: Some(Ending {
-            state: State::Active,
-            counters: counters(0, 1),
-        }),
+    for row in rows.split(", ") {
+        let (time, name) = timed(row)?;
+        let told = event_named(name)?;
+        events.push(Timed { time, told })?;
+    }
+    Ok(events)
+}
+
+/// TEC and REC.
+fn counters(text: &str) -> Result<Counters, Fail> {
+    let (transmit, receive) = text.split_once(' ').ok_or("one counter")?;
+    Ok(Counters {
+        transmit: transmit.parse::<u16>()?,
+        receive: receive.parse::<u16>()?,
     })
 }
 
-/// The transcript of the run.
-fn transcript(alloc: Global) -> Result<Transcript, AllocError> {
-    driving(alloc, DROVE)
-}
-
-/// The same with these events alone.
-fn telling(alloc: Global, rows: &[(u32, Seen)]) -> Result<Transcript, AllocError> {
-    let mut transcript = transcript(alloc)?;
-    let mut events = Vec::new(alloc);
-    for (time, told) in rows {
-        events.push(Timed {
-            time: *time,
-            told: event(*told),
-        })?;
-    }
-    transcript.events = Some(events);
-    Ok(transcript)
-}
-
-/// The same with these changes of a counter alone.
-fn counting(alloc: Global, rows: &[(u32, Counts)]) -> Result<Transcript, AllocError> {
-    let mut transcript = transcript(alloc)?;
+/// Times and counters.
+fn changes(alloc: Global, rows: &str) -> Result<Vec<Timed<Counters>>, Fail> {
     let mut changes = Vec::new(alloc);
-    for (time, told) in rows {
-        changes.push(Timed {
-            time: *time,
-            told: counters(told.0, told.1),
-        })?;
+    for row in rows.split(", ") {
+        let (time, text) = timed(row)?;
+        let told = counters(text)?;
+        changes.push(Timed { time, told })?;
     }
-    transcript.counters = Some(changes);
-    Ok(transcript)
+    Ok(changes)
 }
 
-/// Levels that differ: what is told, and what ought to be.
-fn levels_told(failure: &Failure) -> Option<(Option<Level>, Option<Level>)> {
-    match failure.difference {
-        Difference::Level { told, ought } => Some((told, ought)),
-        _ => None,
-    }
+/// A state, and counters.
+fn end(text: &str) -> Result<Ending, Fail> {
+    let (state, text) = text.split_once(' ').ok_or("no counters")?;
+    let counters = counters(text)?;
+    let state = if state == "passive" {
+        State::Passive
+    } else {
+        State::Active
+    };
+    Ok(Ending { state, counters })
 }
 
-/// Events that differ.
-fn events_told(failure: &Failure) -> Option<(Option<Event>, Option<Event>)> {
-    match failure.difference {
-        Difference::Event { told, ought } => Some((told, ought)),
-        _ => None,
+/// Has a transcript tell something otherwise.
+fn alter(alloc: Global, told: &mut Transcript, part: &str) -> Result<(), Fail> {
+    if let Some(text) = part.strip_prefix("drove ") {
+        told.drove = levels(alloc, text)?;
+    } else if let Some(rows) = part.strip_prefix("events ") {
+        told.events = Some(events(alloc, rows)?);
+    } else if let Some(rows) = part.strip_prefix("counters ") {
+        told.counters = Some(changes(alloc, rows)?);
+    } else if let Some(text) = part.strip_prefix("end ") {
+        told.end = Some(end(text)?);
+    } else {
+        leave_out(alloc, told, part)?;
     }
+    Ok(())
 }
 
-/// Counters that differ.
-fn counters_told(failure: &Failure) -> Option<(Counters, Counters)> {
-    match failure.difference {
-        Difference::Counters { told, ought } => Some((told, ought)),
-        _ => None,
+/// Has a transcript tell nothing of events, of counters or of its end, or that there were none.
+fn leave_out(alloc: Global, told: &mut Transcript, part: &str) -> Result<(), Fail> {
+    match part {
+        "no events" => told.events = Some(Vec::new(alloc)),
+        "no counters" => told.counters = Some(Vec::new(alloc)),
+        "untold events" => told.events = None,
+        "untold counters" => told.counters = None,
+        "untold end" => told.end = None,
+        _ => return Err("no part of a transcript".into()),
     }
+    Ok(())
 }
+
+/// The transcript of the run, but for these parts.
+fn telling(alloc: Global, parts: &str) -> Result<Transcript, Fail> {
+    let mut told = expected(alloc, FORM_ERROR)?;
+    if parts != "the run" {
+        for part in parts.split("; ") {
+            alter(alloc, &mut told, part)?;
+        }
+    }
+    Ok(told)
+}
+
+/// What the judge says, as text.
+fn verdict(alloc: Global, parts: &str) -> Result<String, Fail> {
+    let told = telling(alloc, parts)?;
+    Ok(match judged(alloc, FORM_ERROR, &told)? {
+        None => format!(in alloc; "no transcript")?,
+        Some(Verdict::Pass) => format!(in alloc; "pass")?,
+        Some(Verdict::Fail(failure)) => failure_text(alloc, &failure)?,
+    })
+}
+
+/// The first difference, and where the reference stands before it.
+fn failure_text(alloc: Global, failure: &Failure) -> Result<String, AllocError> {
+    let Standing {
+        phase,
+        part,
+        rule,
+        ..
+    } = failure.standing;
+    let difference = failure.difference;
+    format!(in alloc;
+        "{} {difference:?} at {phase:?} {part:?} {rule:?}",
+        failure.time
+    )
+}
+
+fn hold(rt: &impl Abort, alloc: Global, rows: &str) -> Result<(), Fail> {
+    for row in rows.lines() {
+        if !row.is_empty() && !row.starts_with('#') {
+            let (parts, want) = row.split_once(" => ").ok_or("a row without a verdict")?;
+            let found = verdict(alloc, parts)?;
+            assert!(rt; found.as_str().starts_with(want), "{row}: {found}");
+        }
+    }
+    Ok(())
+}
+
+const PASSES: &str = "
+the run => pass
+drove 1*46 0*6 1*14; events 45 form; counters 45 0 1; end active 0 1 => pass
+# what is left out is not judged
+untold events; untold counters; untold end => pass
+";
 
 #[test]
 fn the_transcript_of_the_run_passes(rt: HostRuntime) -> Result<(), Fail> {
-    let told = transcript(rt.alloc())?;
-    assert!(rt; passes(&rt, rt.alloc(), &case(rt.alloc())?, &told)?);
-    Ok(())
+    hold(&rt, rt.alloc(), PASSES)
 }
+
+const DIFFERS: &str = "
+# the fifth level of the flag
+drove 1*46 0*4 1 0 1*14 => 50 Level { told: Some(Recessive), ought: Some(Dominant) }
+drove 1*4 => 4 Level { told: None, ought: Some(Recessive) }
+drove 1*46 0*6 1*15 => 66 Level { told: Some(Recessive), ought: None }
+no events => 45 Event { told: None, ought: Some(Error(Form)) }
+events 45 stuff => 45 Event { told: Some(Error(Stuff)), ought: Some(Error(Form)) }
+events 46 form => 45 Event { told: None, ought: Some(Error(Form)) }
+events 44 form => 44 Event { told: Some(Error(Form)), ought: None }
+events 45 form, 46 form => 46 Event { told: Some(Error(Form)), ought: None }
+events 45 form, 70 lost => 70 Event { told: Some(Lost), ought: None }
+no counters => 45 Counters { told: Counters { transmit: 0, receive: 0 }, ought: Counters { transmit: 0, receive: 1 } }
+counters 45 0 2 => 45 Counters { told: Counters { transmit: 0, receive: 2 }, ought: Counters { transmit: 0, receive: 1 } }
+counters 45 8 1 => 45 Counters { told: Counters { transmit: 8, receive: 1 }, ought: Counters { transmit: 0, receive: 1 } }
+counters 46 0 1 => 45 Counters { told: Counters { transmit: 0, receive: 0 }, ought: Counters { transmit: 0, receive: 1 } }
+counters 45 0 1, 60 0 0 => 60 Counters { told: Counters { transmit: 0, receive: 0 }, ought: Counters { transmit: 0, receive: 1 } }
+";
 
 #[test]
-fn what_is_left_out_is_not_judged(rt: HostRuntime) -> Result<(), Fail> {
-    let told = Transcript {
-        drove: levels(rt.alloc(), DROVE)?,
-        events: None,
-        counters: None,
-        end: None,
-    };
-    assert!(rt; passes(&rt, rt.alloc(), &case(rt.alloc())?, &told)?);
-    Ok(())
+fn the_first_difference_is_told(rt: HostRuntime) -> Result<(), Fail> {
+    hold(&rt, rt.alloc(), DIFFERS)
 }
 
-/// Levels that a transcript tells, the time of the first that differs, what is told then and what ought to be.
-const LEVELS: &[(&[(&str, usize)], u32, Option<Level>, Option<Level>)] = &[
-    (
-        SHORT_FLAG,
-        50,
-        Some(Level::Recessive),
-        Some(Level::Dominant),
-    ),
-    (&[("1", 4)], 4, None, Some(Level::Recessive)),
-    (
-        &[("1", 46), ("0", 6), ("1", 15)],
-        66,
-        Some(Level::Recessive),
-        None,
-    ),
-];
+/// The end comes behind all else; and a level before an event, and an event before counters.
+const IN_ORDER: &str = "
+end passive 0 1 => 66 End { told: Ending { state: Passive, counters: Counters { transmit: 0, receive: 1 } }, ought: Ending { state: Active, counters: Counters { transmit: 0, receive: 1 } } } at Idle Receiver StartOfFrame
+end active 0 0 => 66 End { told: Ending { state: Active, counters: Counters { transmit: 0, receive: 0 } }, ought: Ending { state: Active, counters: Counters { transmit: 0, receive: 1 } } } at Idle Receiver StartOfFrame
+drove 1*45 0*7 1*14; no events; no counters => 45 Level { told: Some(Dominant), ought: Some(Recessive) }
+no events; no counters => 45 Event { told: None, ought: Some(Error(Form)) } at CrcDelimiter Receiver FixedForm
+";
 
 #[test]
-fn levels_differ(rt: HostRuntime) -> Result<(), Fail> {
-    for (drove, time, told, ought) in LEVELS {
-        let transcript = driving(rt.alloc(), *drove)?;
-        let failure = failure(&rt, rt.alloc(), &case(rt.alloc())?, &transcript)?;
-        let failure = failure.ok_or("it passed")?;
-        assert_eq!(rt; failure.time, *time);
-        assert_eq!(rt; levels_told(&failure), Some((*told, *ought)), "at {time}");
-    }
-    Ok(())
+fn differences_of_one_time_are_told_in_order(rt: HostRuntime) -> Result<(), Fail> {
+    hold(&rt, rt.alloc(), IN_ORDER)
 }
 
-/// An event of a row.
-#[derive(Clone, Copy)]
-enum Seen {
-    Form,
-    Stuff,
-    Lost,
-}
-
-fn event(seen: Seen) -> Event {
-    match seen {
-        Seen::Form => Event::Error(ErrorKind::Form),
-        Seen::Stuff => Event::Error(ErrorKind::Stuff),
-        Seen::Lost => Event::Lost,
-    }
-}
-
-fn event_or_none(seen: Option<Seen>) -> Option<Event> {
-    match seen {
-        Some(seen) => Some(event(seen)),
-        None => None,
-    }
-}
-
-/// Events that a transcript tells, the time of the first that differs, what is told then and what ought to be.
-const EVENTS: &[(&[(u32, Seen)], u32, Option<Seen>, Option<Seen>)] = &[
-    (&[], 45, None, Some(Seen::Form)),
-    (
-        &[(45, Seen::Stuff)],
-        45,
-        Some(Seen::Stuff),
-        Some(Seen::Form),
-    ),
-    (&[(46, Seen::Form)], 45, None, Some(Seen::Form)),
-    (&[(44, Seen::Form)], 44, Some(Seen::Form), None),
-    (
-        &[(45, Seen::Form), (46, Seen::Form)],
-        46,
-        Some(Seen::Form),
-        None,
-    ),
-    (
-        &[(45, Seen::Form), (70, Seen::Lost)],
-        70,
-        Some(Seen::Lost),
-        None,
-    ),
-];
-
-#[test]
-fn events_differ(rt: HostRuntime) -> Result<(), Fail> {
-    for (rows, time, told, ought) in EVENTS {
-        let transcript = telling(rt.alloc(), *rows)?;
-        let failure = failure(&rt, rt.alloc(), &case(rt.alloc())?, &transcript)?;
-        let failure = failure.ok_or("it passed")?;
-        assert_eq!(rt; failure.time, *time);
-        let events = (event_or_none(*told), event_or_none(*ought));
-        assert_eq!(rt; events_told(&failure), Some(events), "at {time}");
-    }
-    Ok(())
-}
-
-/// The transmit and the receive error counter.
-type Counts = (u16, u16);
-
-/// Changes that a transcript tells, the time of the first that differs, what is told then and what ought to be.
-const CHANGES: &[(&[(u32, Counts)], u32, Counts, Counts)] = &[
-    (&[], 45, (0, 0), (0, 1)),
-    (&[(45, (0, 2))], 45, (0, 2), (0, 1)),
-    (&[(45, (8, 1))], 45, (8, 1), (0, 1)),
-    (&[(46, (0, 1))], 45, (0, 0), (0, 1)),
-    (&[(45, (0, 1)), (60, (0, 0))], 60, (0, 0), (0, 1)),
-];
-
-#[test]
-fn counters_differ(rt: HostRuntime) -> Result<(), Fail> {
-    for (rows, time, told, ought) in CHANGES {
-        let transcript = counting(rt.alloc(), *rows)?;
-        let failure = failure(&rt, rt.alloc(), &case(rt.alloc())?, &transcript)?;
-        let failure = failure.ok_or("it passed")?;
-        assert_eq!(rt; failure.time, *time);
-        let differing = (counters(told.0, told.1), counters(ought.0, ought.1));
-        assert_eq!(rt; counters_told(&failure), Some(differing), "at {time}");
-    }
-    Ok(())
-}
-
-/// Ends that a transcript tells, none of which ought to be.
-const ENDS: &[(State, Counts)] = &[(State::Passive, (0, 1)), (State::Active, (0, 0))];
-
-#[test]
-fn the_end_differs_behind_all_else(rt: HostRuntime) -> Result<(), Fail> {
-    for (state, counts) in ENDS {
-        let mut transcript = transcript(rt.alloc())?;
-        transcript.end = Some(Ending {
-            state: *state,
-            counters: counters(counts.0, counts.1),
-        });
-        let failure = failure(&rt, rt.alloc(), &case(rt.alloc())?, &transcript)?;
-        let failure = failure.ok_or("it passed")?;
-        assert_eq!(rt; failure.time, 66);
-        assert!(rt; matches!(failure.difference, Difference::End { .. }));
-        assert_eq!(rt; failure.standing.phase, PhaseName::Idle);
-        assert_eq!(rt; failure.standing.rule, Rule::StartOfFrame);
-    }
-    Ok(())
-}
-
-#[test]
-fn a_level_comes_before_an_event_and_an_event_before_counters(rt: HostRuntime) -> Result<(), Fail> {
-    let mut told = driving(rt.alloc(), &[("1", 45), ("0", 7), ("1", 14)])?;
-    told.events = Some(Vec::new(rt.alloc()));
-    told.counters = Some(Vec::new(rt.alloc()));
-    let case = case(rt.alloc())?;
-    let level = failure(&rt, rt.alloc(), &case, &told)?.ok_or("it passed")?;
-    assert_eq!(rt; level.time, 45);
-    assert!(rt; levels_told(&level).is_some());
-    told.drove = levels(rt.alloc(), DROVE)?;
-    let event = failure(&rt, rt.alloc(), &case, &told)?.ok_or("it passed")?;
-    assert_eq!(rt; event.time, 45);
-    assert!(rt; events_told(&event).is_some());
-    assert_eq!(rt; event.standing.phase, PhaseName::CrcDelimiter);
-    assert_eq!(rt; event.standing.part, Part::Receiver);
-    assert_eq!(rt; event.standing.rule, Rule::FixedForm);
-    Ok(())
-}
-
-/// Two times, and whether they rise.
-const TIMES: &[(u32, u32, bool)] = &[
-    (1, 2, true),
-    (2, 2, false),
-    (2, 1, false),
-    (1, u32::MAX - 1, true),
-    (1, u32::MAX, false),
-];
+/// Times that rise, and such as do not.
+const TIMES: &str = "
+events 1 lost, 2 lost => 1 Event { told: Some(Lost), ought: None }
+events 2 lost, 2 lost => no transcript
+events 2 lost, 1 lost => no transcript
+events 1 lost, 4294967294 lost => 1 Event { told: Some(Lost), ought: None }
+events 1 lost, 4294967295 lost => no transcript
+counters 1 0 1, 2 0 2 => 1 Counters { told: Counters { transmit: 0, receive: 1 }, ought: Counters { transmit: 0, receive: 0 } }
+counters 2 0 1, 2 0 2 => no transcript
+counters 2 0 1, 1 0 2 => no transcript
+counters 1 0 1, 4294967294 0 2 => 1 Counters { told: Counters { transmit: 0, receive: 1 }, ought: Counters { transmit: 0, receive: 0 } }
+counters 1 0 1, 4294967295 0 2 => no transcript
+";
 
 #[test]
 fn times_that_do_not_rise_are_no_transcript(rt: HostRuntime) -> Result<(), Fail> {
-    for (first, second, is_told) in TIMES {
-        let events = telling(rt.alloc(), &[(*first, Seen::Lost), (*second, Seen::Lost)])?;
-        assert_eq!(rt; events.is_told(), *is_told, "at {first} and {second}");
-        let changes = counting(rt.alloc(), &[(*first, (0, 1)), (*second, (0, 2))])?;
-        assert_eq!(rt; changes.is_told(), *is_told, "at {first} and {second}");
-    }
-    Ok(())
+    hold(&rt, rt.alloc(), TIMES)
 }

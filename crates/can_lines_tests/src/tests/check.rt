@@ -1,9 +1,12 @@
-//! Lines of vectors, whole and in pieces, and streams that fail in mid-line.
-use super::bad_line;
-use can_frame::TextFaultKind;
-use can_lines::check_lines;
-use can_stream::pieces::{ROOM, Stop, reader_of, writer_of};
-use can_stream::{Sink, Source, TraceFault};
+//! Lines of vectors.
+use super::{
+    Fault, Lines, Outcome, Setting, always_answers, answers, fails_to_read, fails_to_write,
+};
+use Fault::{Byte, Line};
+use can_frame::TextFaultKind::{Identifier, Trailing};
+use can_stream::TraceFault;
+use can_stream::pieces::Stop;
+use std::alloc::Global;
 use std::io::ErrorKind;
 
 /// The levels of `S 001 D 0`, then with the ACK slot dominant.
@@ -11,153 +14,157 @@ const VECTORS: &[u8] = b"S 001 D 0 = 0000010000010100000100010001000010011111111
 S 001 D 0 = 00000100000101000001000100010000100111011111111
 ";
 
-#[test]
-fn checks(rt: HostRuntime) {
-    let byte = |place| Err(TraceFault::BadByte { place });
-    for (text, outcome, verdicts) in [
-        (b"".as_slice(), Ok((0, 0)), b"passed 0 of 0\n".as_slice()),
-        (VECTORS, Ok((1, 2)), b"ok\ndiffers at 38\npassed 1 of 2\n"),
-        (&VECTORS[..59], Ok((1, 1)), b"ok\npassed 1 of 1\n"),
-        // a level less, a level more, and the last one inverted
-        (
-            &VECTORS[..58],
-            Ok((0, 1)),
-            b"differs at 46\npassed 0 of 1\n",
-        ),
-        (
-            b"S 001 D 0 = 000001000001010000010001000100001001111111111111",
-            Ok((0, 1)),
-            b"differs at 47\npassed 0 of 1\n",
-        ),
-        (
-            b"S 001 D 0 = 00000100000101000001000100010000100111111111110",
-            Ok((0, 1)),
-            b"differs at 46\npassed 0 of 1\n",
-        ),
-        (
-            b"S 001 D 0 = ",
-            Ok((0, 1)),
-            b"differs at 0\npassed 0 of 1\n",
-        ),
-        (
-            b"S 001 D 0",
-            Err(bad_line(1, TextFaultKind::Trailing, 9)),
-            b"",
-        ),
-        (
-            b"S 001 D 0 =",
-            Err(bad_line(1, TextFaultKind::Trailing, 9)),
-            b"",
-        ),
-        (
-            b"S 800 D 0 = x",
-            Err(bad_line(1, TextFaultKind::Identifier, 2)),
-            b"",
-        ),
-        (
-            b"S 001 D 0 = \nS 800 D 0 = x\n",
-            Err(bad_line(2, TextFaultKind::Identifier, 2)),
-            b"differs at 0\n",
-        ),
-        (b"S 001 D 0 = 0 1", byte(13), b""),
-        (
-            b"S 001 D 0 = \nS 001 D 0 = 01x\nS 800 D 0\n",
-            byte(27),
-            b"differs at 0\n",
-        ),
-    ] {
-        for piece in [1, 2, 3, 7, 8192] {
-            for taken in [1, 2, 512] {
-                let mut reader = reader_of(text, piece, Stop::Nothing);
-                let mut writer = writer_of(rt.alloc(), taken, ROOM, Stop::Nothing);
-                assert_eq!(rt;
-                    check_lines(&mut reader, &mut writer),
-                    outcome,
-                    "pieces of {piece}"
-                );
-                assert_eq!(rt;
-                    writer.into_inner().taken.as_slice(),
-                    verdicts,
-                    "writes of {taken}"
-                );
-            }
-        }
+/// How many vectors agreed and how many there were, or what is wrong with a text.
+type Counts = Result<(u64, u64), Fault>;
+
+/// Texts, what each comes to, and what is written of it.
+const CHECKED: &[(&[u8], Counts, &[u8])] = &[
+    (b"", Ok((0, 0)), b"passed 0 of 0\n"),
+    (VECTORS, Ok((1, 2)), b"ok\ndiffers at 38\npassed 1 of 2\n"),
+    (
+        b"S 001 D 0 = 00000100000101000001000100010000100111111111111",
+        Ok((1, 1)),
+        b"ok\npassed 1 of 1\n",
+    ),
+    // a level less, a level more, the last one inverted, and none
+    (
+        b"S 001 D 0 = 0000010000010100000100010001000010011111111111",
+        Ok((0, 1)),
+        b"differs at 46\npassed 0 of 1\n",
+    ),
+    (
+        b"S 001 D 0 = 000001000001010000010001000100001001111111111111",
+        Ok((0, 1)),
+        b"differs at 47\npassed 0 of 1\n",
+    ),
+    (
+        b"S 001 D 0 = 00000100000101000001000100010000100111111111110",
+        Ok((0, 1)),
+        b"differs at 46\npassed 0 of 1\n",
+    ),
+    (
+        b"S 001 D 0 = ",
+        Ok((0, 1)),
+        b"differs at 0\npassed 0 of 1\n",
+    ),
+    // bad frame texts
+    (b"S 001 D 0", Err(Line(1, Trailing, 9)), b""),
+    (b"S 001 D 0 =", Err(Line(1, Trailing, 9)), b""),
+    (b"S 800 D 0 = x", Err(Line(1, Identifier, 2)), b""),
+    (
+        b"S 001 D 0 = \nS 800 D 0 = x\n",
+        Err(Line(2, Identifier, 2)),
+        b"differs at 0\n",
+    ),
+    // bytes that are no levels
+    (b"S 001 D 0 = 0 1", Err(Byte(13)), b""),
+    (
+        b"S 001 D 0 = \nS 001 D 0 = 01x\nS 800 D 0\n",
+        Err(Byte(27)),
+        b"differs at 0\n",
+    ),
+];
+
+fn outcome_of(counts: Counts) -> Outcome {
+    match counts {
+        Ok(counts) => Ok(Some(counts)),
+        Err(fault) => Err(fault.told()),
     }
 }
 
-/// 157 levels are taken, whatever they are, and no more.
 #[test]
-fn many_levels(rt: HostRuntime) {
+fn lines(rt: HostRuntime) {
+    for (row, (text, counts, written)) in CHECKED.iter().enumerate() {
+        let outcome = outcome_of(*counts);
+        assert!(rt;
+            always_answers(rt.alloc(), Lines::Check, *text, outcome, *written),
+            "row {row}"
+        );
+    }
+}
+
+/// The first bytes of a line, how many bytes the line has with dominant levels behind them, and what it comes to.
+/// Levels are taken up to 157, the most that a frame has.
+const LONG: &[(&[u8], usize, Counts)] = &[
+    (b"S 001 D 0 = ", 169, Ok((0, 1))),
+    (b"S 001 D 0 = ", 170, Err(Byte(169))),
+    (b"S 001 D 0 = ", 1000, Err(Byte(169))),
+    // behind the longest text
+    (b"E 18db33f1 D 15 0011223344556677 = ", 193, Err(Byte(192))),
+];
+
+/// Whether a long line comes to this.
+fn comes_to(alloc: Global, first: &[u8], length: usize, piece: usize, outcome: Outcome) -> bool {
     let mut text = [b'0'; 1000];
-    text[..12].copy_from_slice(b"S 001 D 0 = ");
-    for piece in [1, 7, 8192] {
-        for (length, outcome) in [
-            (169, Ok((0, 1))),
-            (170, Err(TraceFault::BadByte { place: 169 })),
-            (1000, Err(TraceFault::BadByte { place: 169 })),
-        ] {
-            let mut reader = reader_of(&text[..length], piece, Stop::Nothing);
-            let mut writer = writer_of(rt.alloc(), 512, ROOM, Stop::Nothing);
-            assert_eq!(rt; check_lines(&mut reader, &mut writer), outcome);
-        }
+    for (byte, given) in text.iter_mut().zip(first) {
+        *byte = *given;
     }
-    // the same behind the longest text
-    let mut longest = [b'0'; 193];
-    longest[..35].copy_from_slice(b"E 18db33f1 D 15 0011223344556677 = ");
-    let mut reader = reader_of(&longest, 193, Stop::Nothing);
-    let mut writer = writer_of(rt.alloc(), 512, ROOM, Stop::Nothing);
-    let byte = Err(TraceFault::BadByte { place: 192 });
-    assert_eq!(rt; check_lines(&mut reader, &mut writer), byte);
+    let how = Setting::new(Lines::Check, piece, 512);
+    super::run(alloc, &text[..length.min(1000)], how).outcome == outcome
 }
 
-/// A bad byte comes before a failed read, and a bad frame text only where its line has ended.
 #[test]
-fn failing_reads_of_vectors(rt: HostRuntime) {
-    for (text, fault) in [
-        (b"S 001 D 0 = \nS 001 D 0 = 0".as_slice(), TraceFault::Read),
-        (b"S 001 D 0 = \nS 001 D", TraceFault::Read),
-        (b"S 001 D 0 = \nS 800 D 0 = x", TraceFault::Read),
-        (
-            b"S 001 D 0 = \nS 001 D 0 = 0 ",
-            TraceFault::BadByte { place: 26 },
-        ),
-    ] {
+fn long_lines(rt: HostRuntime) {
+    for (first, length, counts) in LONG {
+        for piece in [1, 7, 193, 8192] {
+            assert!(rt;
+                comes_to(rt.alloc(), *first, *length, piece, outcome_of(*counts)),
+                "{length} bytes"
+            );
+        }
+    }
+}
+
+/// Texts behind which a read fails, and the fault of each. A bad byte comes before it, and a bad frame text only where
+/// its line has ended.
+const CUT: &[(&[u8], TraceFault)] = &[
+    (b"S 001 D 0 = \nS 001 D 0 = 0", TraceFault::Read),
+    (b"S 001 D 0 = \nS 001 D", TraceFault::Read),
+    (b"S 001 D 0 = \nS 800 D 0 = x", TraceFault::Read),
+    (
+        b"S 001 D 0 = \nS 001 D 0 = 0 ",
+        TraceFault::BadByte { place: 26 },
+    ),
+];
+
+#[test]
+fn failing_reads(rt: HostRuntime) {
+    for (row, (text, fault)) in CUT.iter().enumerate() {
         for piece in [1, 2, 3, 7, 8192] {
-            let mut reader = reader_of(text, piece, Stop::Fails(ErrorKind::Interrupted));
-            let mut writer = writer_of(rt.alloc(), 512, ROOM, Stop::Nothing);
-            assert_eq!(rt; check_lines(&mut reader, &mut writer), Err(fault));
-            assert!(rt; reader.failed() && !reader.ended() && !writer.failed());
-            assert_eq!(rt; reader.into_inner().stops, 1);
-            assert_eq!(rt;
-                writer.into_inner().taken.as_slice(),
-                b"differs at 0\n".as_slice()
+            let how = Setting {
+                end: Stop::Fails(ErrorKind::Interrupted),
+                ..Setting::new(Lines::Check, piece, 512)
+            };
+            assert!(rt;
+                fails_to_read(rt.alloc(), *text, how, *fault, b"differs at 0\n"),
+                "row {row}"
             );
         }
     }
 }
 
-/// What was taken is a beginning of the answer, also where a byte of the open line is bad.
+/// Texts, their whole answers, and the room for each. What was taken is a beginning of the answer, also where a byte
+/// of the open line is bad.
+const FULL: &[(&[u8], &[u8], usize)] = &[
+    (VECTORS, b"ok\ndiffers at 38\npassed 1 of 2\n", 0),
+    (VECTORS, b"ok\ndiffers at 38\npassed 1 of 2\n", 3),
+    (VECTORS, b"ok\ndiffers at 38\npassed 1 of 2\n", 17),
+    (VECTORS, b"ok\ndiffers at 38\npassed 1 of 2\n", 30),
+    (b"S 001 D 0 = \nS 001 D 0 = x", b"differs at 0\n", 12),
+];
+
 #[test]
-fn failing_writes_of_verdicts(rt: HostRuntime) {
-    let whole = b"ok\ndiffers at 38\npassed 1 of 2\n".as_slice();
-    for size in [1, 2, 512] {
-        for (text, answer, room) in [
-            (VECTORS, whole, 0),
-            (VECTORS, whole, 3),
-            (VECTORS, whole, 17),
-            (VECTORS, whole, 30),
-            (b"S 001 D 0 = \nS 001 D 0 = x", b"differs at 0\n", 12),
-        ] {
-            let mut reader = reader_of(text, 8192, Stop::Nothing);
-            let mut writer = writer_of(rt.alloc(), size, room, Stop::Nothing);
-            assert_eq!(rt;
-                check_lines(&mut reader, &mut writer),
-                Err(TraceFault::Write)
+fn failing_writes(rt: HostRuntime) {
+    for (text, answer, room) in FULL {
+        for size in [1, 2, 512] {
+            let how = Setting {
+                room: *room,
+                ..Setting::new(Lines::Check, 8192, size)
+            };
+            assert!(rt;
+                fails_to_write(rt.alloc(), *text, how, *answer),
+                "{room} bytes"
             );
-            let writer = writer.into_inner();
-            assert_eq!(rt; writer.stops, 1);
-            assert_eq!(rt; writer.taken.len(), room);
-            assert!(rt; answer.starts_with(&writer.taken));
         }
     }
 }

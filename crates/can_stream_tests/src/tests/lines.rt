@@ -2,92 +2,125 @@
 use can_stream::line::{Line, push, push_named};
 use can_stream::pieces::{ROOM, Stop, reader_of, writer_of};
 use can_stream::{Inbox, LineReader, Outbox, Sink, Source, TraceFault, write_all};
+use std::alloc::Global;
 use std::io::ErrorKind;
-use std::test::Fail;
 
-/// Of each line the first bytes are kept, wherever the text is cut. The last lacks its end.
-#[test]
-fn lines_of_pieces(rt: HostRuntime) -> Result<(), Fail> {
-    for size in [1, 3, 8192] {
-        let mut reader = reader_of(b"ab\nlonger\nc", size, Stop::Nothing);
-        let mut writer = writer_of(rt.alloc(), ROOM, ROOM, Stop::Nothing);
-        let mut out = Outbox::new();
-        let mut lines: LineReader<4> = LineReader::new();
-        assert_eq!(rt; lines.place(), 0);
-        assert!(rt; lines.next_line(&mut reader, &mut writer, &mut out)?);
-        assert_eq!(rt; lines.line(), b"ab".as_slice());
-        assert!(rt; lines.next_line(&mut reader, &mut writer, &mut out)?);
-        assert_eq!(rt; lines.line(), b"long".as_slice());
-        assert!(rt; !lines.next_line(&mut reader, &mut writer, &mut out)?);
-        assert_eq!(rt; lines.line(), b"c".as_slice());
-        assert!(rt; reader.ended());
+/// Whether of each line of a text the first bytes are kept, where the text comes in such pieces. The last lacks its
+/// end.
+fn keeps_lines(alloc: Global, piece: usize) -> Result<bool, TraceFault> {
+    let mut reader = reader_of(b"ab\nlonger\nc", piece, Stop::Nothing);
+    let mut writer = writer_of(alloc, ROOM, ROOM, Stop::Nothing);
+    let mut out = Outbox::new();
+    let mut lines: LineReader<4> = LineReader::new();
+    if lines.place() != 0
+        || !lines.next_line(&mut reader, &mut writer, &mut out)?
+        || lines.line() != b"ab".as_slice()
+    {
+        return Ok(false);
     }
-    Ok(())
+    if !lines.next_line(&mut reader, &mut writer, &mut out)? || lines.line() != b"long".as_slice() {
+        return Ok(false);
+    }
+    let is_closed = lines.next_line(&mut reader, &mut writer, &mut out)?;
+    Ok(!is_closed && lines.line() == b"c".as_slice() && reader.ended())
 }
 
-/// What waits is written before a read, and the bytes that came are used from their front.
 #[test]
-fn what_waits_is_written_before_a_read(rt: HostRuntime) -> Result<(), Fail> {
+fn lines_of_pieces(rt: HostRuntime) {
+    for piece in [1, 3, 8192] {
+        assert_eq!(rt;
+            keeps_lines(rt.alloc(), piece),
+            Ok(true),
+            "pieces of {piece}"
+        );
+    }
+}
+
+/// Whether what waits is written before a read, and the bytes that came are used from their front.
+fn writes_before_a_read(alloc: Global) -> Result<bool, TraceFault> {
     let mut reader = reader_of(b"abc", 8192, Stop::Fails(ErrorKind::Interrupted));
-    let mut writer = writer_of(rt.alloc(), ROOM, ROOM, Stop::Nothing);
+    let mut writer = writer_of(alloc, ROOM, ROOM, Stop::Nothing);
     let mut out = Outbox::new();
     out.put(&mut writer, b"kn")?;
     out.put(&mut writer, b"own")?;
     let mut inbox = Inbox::new();
-    assert_eq!(rt;
-        inbox.flush_and_fill(&mut reader, &mut writer, &mut out)?,
-        3
-    );
-    assert_eq!(rt; inbox.unread(), b"abc".as_slice());
-    assert_eq!(rt; inbox.place(), 0);
+    let count = inbox.flush_and_fill(&mut reader, &mut writer, &mut out)?;
+    if count != 3 || inbox.unread() != b"abc".as_slice() || inbox.place() != 0 {
+        return Ok(false);
+    }
     inbox.consume(3);
-    assert_eq!(rt; inbox.place(), 3);
+    let is_at_its_end = inbox.place() == 3;
     let outcome = inbox.flush_and_fill(&mut reader, &mut writer, &mut out);
-    assert_eq!(rt; outcome, Err(TraceFault::Read));
-    assert_eq!(rt; writer.into_inner().taken.as_slice(), b"known".as_slice());
-    Ok(())
+    let written = writer.into_inner().taken;
+    Ok(
+        is_at_its_end
+            && outcome == Err(TraceFault::Read)
+            && written.as_slice() == b"known".as_slice(),
+    )
 }
 
-/// Nothing is read where what waits can't be written.
 #[test]
-fn no_read_behind_a_failed_write(rt: HostRuntime) -> Result<(), Fail> {
+fn what_waits_is_written_before_a_read(rt: HostRuntime) {
+    assert_eq!(rt; writes_before_a_read(rt.alloc()), Ok(true));
+}
+
+/// Whether nothing is read where what waits can't be written.
+fn reads_nothing(alloc: Global, stop: Stop) -> Result<bool, TraceFault> {
+    let mut reader = reader_of(b"", 1, Stop::Nothing);
+    let mut writer = writer_of(alloc, ROOM, 2, stop);
+    let mut out = Outbox::new();
+    out.put(&mut writer, b"known")?;
+    let outcome = Inbox::new().flush_and_fill(&mut reader, &mut writer, &mut out);
+    let failed = writer.failed();
+    let written = writer.into_inner().taken;
+    Ok(
+        outcome == Err(TraceFault::Write)
+            && failed
+            && reader.into_inner().stops == 0
+            && written.as_slice() == b"kn".as_slice(),
+    )
+}
+
+#[test]
+fn no_read_behind_a_failed_write(rt: HostRuntime) {
     for stop in [Stop::Nothing, Stop::Fails(ErrorKind::BrokenPipe)] {
-        let mut reader = reader_of(b"", 1, Stop::Nothing);
-        let mut writer = writer_of(rt.alloc(), ROOM, 2, stop);
-        let mut out = Outbox::new();
-        out.put(&mut writer, b"known")?;
-        let outcome = Inbox::new().flush_and_fill(&mut reader, &mut writer, &mut out);
-        assert_eq!(rt; outcome, Err(TraceFault::Write));
-        assert!(rt; writer.failed());
-        assert_eq!(rt; reader.into_inner().stops, 0);
-        assert_eq!(rt; writer.into_inner().taken.as_slice(), b"kn".as_slice());
+        assert_eq!(rt; reads_nothing(rt.alloc(), stop), Ok(true));
     }
-    Ok(())
 }
 
-/// A sink that takes a few bytes at a time gets them all, in their order.
+/// What a sink has taken that takes a few bytes at a time.
+fn taken(alloc: Global, size: usize, bytes: &[u8]) -> Result<Vec<u8>, TraceFault> {
+    let mut writer = writer_of(alloc, size, ROOM, Stop::Nothing);
+    write_all(&mut writer, bytes)?;
+    Ok(writer.into_inner().taken)
+}
+
+/// It gets them all, in their order.
 #[test]
-fn writes_of_pieces(rt: HostRuntime) -> Result<(), Fail> {
+fn writes_of_pieces(rt: HostRuntime) {
     for size in [1, 3, 8192] {
-        let mut writer = writer_of(rt.alloc(), size, ROOM, Stop::Nothing);
-        write_all(&mut writer, b"abcdefg")?;
-        assert_eq!(rt; writer.into_inner().taken.as_slice(), b"abcdefg".as_slice());
+        let taken = taken(rt.alloc(), size, b"abcdefg");
+        assert!(rt;
+            taken.is_ok_and(|taken| taken.as_slice() == b"abcdefg".as_slice()),
+            "pieces of {size}"
+        );
     }
-    Ok(())
 }
 
-/// Where room lacks in the buffer, the sink gets what waits, and no more.
-#[test]
-fn a_full_buffer(rt: HostRuntime) -> Result<(), Fail> {
-    let mut writer = writer_of(rt.alloc(), ROOM, ROOM, Stop::Nothing);
+/// What the sink gets where room lacks in the buffer for one byte more.
+fn written_by_a_full_buffer(alloc: Global) -> Result<Vec<u8>, TraceFault> {
+    let mut writer = writer_of(alloc, ROOM, ROOM, Stop::Nothing);
     let mut out = Outbox::new();
     out.put(&mut writer, &[b'a'; 65_536])?;
     out.put(&mut writer, b"b")?;
-    assert_eq!(rt;
-        writer.into_inner().taken.as_slice(),
-        [b'a'; 65_536].as_slice()
-    );
-    Ok(())
+    Ok(writer.into_inner().taken)
+}
+
+/// That is what waited, and no more.
+#[test]
+fn a_full_buffer(rt: HostRuntime) {
+    let written = written_by_a_full_buffer(rt.alloc());
+    assert!(rt; written.is_ok_and(|written| written.as_slice() == [b'a'; 65_536].as_slice()));
 }
 
 #[test]
@@ -96,6 +129,5 @@ fn a_line_put_together(rt: HostRuntime) {
     push_named(&mut line, b"port ", 0);
     push_named(&mut line, b" tec ", 18_446_744_073_709_551_615);
     push(&mut line, b"\n");
-    let text = b"port 0 tec 18446744073709551615\n".as_slice();
-    assert_eq!(rt; line.as_slice(), text);
+    assert!(rt; line.as_slice() == b"port 0 tec 18446744073709551615\n".as_slice());
 }

@@ -1,4 +1,5 @@
 //! What `encode` lays out eight levels in a step, beside the plain form, which stuffs them one by one.
+use super::Levels;
 use can_frame::{Frame, Id, Level};
 use can_wire::{Heard, LONGEST_WIRE, PlainBits, encode, encode_into, head_and_crc, stuff};
 use std::test::Fail;
@@ -12,42 +13,57 @@ fn drawn(state: &mut u32) -> u32 {
     *state >> 16
 }
 
-/// A frame of any kind. Half of those with data have equal bits there, which are stuffed most.
-fn any_frame(state: &mut u32) -> Result<Frame, Fail> {
+fn any_id(state: &mut u32) -> Option<Id> {
     let number = drawn(state);
-    let id = if drawn(state) % 2 == 0 {
+    if drawn(state) % 2 == 0 {
         Id::standard((number % 2048) as u16)
     } else {
         Id::extended(((drawn(state) % 8192) << 16) | (number % 65536))
-    };
-    let id = id.ok_or("an identifier")?;
-    let dlc = (drawn(state) % 16) as u8;
-    if drawn(state) % 10 == 0 {
-        return Ok(Frame::remote(id, dlc)?);
     }
+}
+
+/// Eight bytes. Half of them are equal bits, which are stuffed most.
+fn any_bytes(state: &mut u32) -> [u8; 8] {
     let fill = [None, None, Some(0x00), Some(0xff)][(drawn(state) % 4) as usize];
-    let mut data = [0; 8];
-    for byte in &mut data {
+    let mut bytes = [0; 8];
+    for byte in &mut bytes {
         *byte = fill.unwrap_or((drawn(state) % 256) as u8);
     }
-    let len = usize::from(dlc).min(8);
-    Ok(Frame::data(id, dlc, &data[..len])?)
+    bytes
+}
+
+/// A frame of any kind.
+fn any_frame(state: &mut u32) -> Option<Frame> {
+    let id = any_id(state)?;
+    let dlc = (drawn(state) % 16) as u8;
+    if drawn(state) % 10 == 0 {
+        return Frame::remote(id, dlc).ok();
+    }
+    let bytes = any_bytes(state);
+    Frame::data(id, dlc, &bytes[..usize::from(dlc).min(8)]).ok()
+}
+
+/// Whether the levels of a frame are those of the plain form, as a list and in an array.
+fn is_as_one_by_one(frame: Frame) -> bool {
+    let unstuffed: PlainBits = head_and_crc(&Heard::unacknowledged(frame));
+    let mut expected = Levels::new();
+    for level in stuff(unstuffed.as_slice())
+        .iter()
+        .chain(&[Level::Recessive; 10])
+    {
+        let _ = expected.try_push(*level);
+    }
+    let mut array = [Level::Dominant; LONGEST_WIRE];
+    let count = encode_into(&frame, &mut array);
+    encode(&frame).as_slice() == expected.as_slice() && &array[..count] == expected.as_slice()
 }
 
 #[test]
 fn as_one_by_one(rt: HostRuntime) -> Result<(), Fail> {
     let mut state = 1;
     for _ in 0..FRAMES {
-        let frame = any_frame(&mut state)?;
-        let unstuffed: PlainBits = head_and_crc(&Heard::unacknowledged(frame));
-        let stuffed = stuff(unstuffed.as_slice());
-        let levels = encode(&frame);
-        let (part, tail) = levels.split_at_checked(stuffed.len()).ok_or("a tail")?;
-        assert!(rt; part == stuffed.as_slice());
-        assert!(rt; tail == [Level::Recessive; 10].as_slice());
-        let mut array = [Level::Dominant; LONGEST_WIRE];
-        let count = encode_into(&frame, &mut array);
-        assert!(rt; &array[..count] == levels.as_slice());
+        let frame = any_frame(&mut state).ok_or("a frame")?;
+        assert!(rt; is_as_one_by_one(frame));
     }
     Ok(())
 }

@@ -1,4 +1,4 @@
-use Rattle.std.proofs.Common.{◌≡◌, ◌+◌, refl, subst, ap, ◌∙◌, arith}
+use Rattle.std.proofs.Common.{◌≡◌, ◌+◌, refl, subst, ap, ◌∙◌, arith, rules}
 use Rattle.can_conform.specs.Runs.{moment_at}
 use Rattle.can_conform.specs.Transcripts.{AgreesAt}
 use Rattle.can_conform.specs.Walks.{Stands}
@@ -38,3 +38,6 @@ pub concluded-requires-clause-stands : goal.concluded-requires-clause-stands
 concluded-requires-clause-stands c =
     let same : c.horizon-time-end.result ≡ c.loop-time.time = omega arith in
     stands-past c.args.script.now c.loop-time.time (node_port c.loop-time.bench.node) c.loop-time.bench.rule c.loop-time.bench.since (omega (arith, same, c.horizon-time-end.ensures.bits)) c.loop-time.invariant.stands
+
+pub returns-in-Some : goal.returns-in-Some
+returns-in-Some c = search rules

@@ -1,0 +1,5 @@
+use Rattle.std.proofs.Common.{rules}
+use Rattle.can_conform.proofs.standing.rule_behind.Goals as goal
+
+pub returns-in-Some-Error : goal.returns-in-Some-Error
+returns-in-Some-Error g c = search rules

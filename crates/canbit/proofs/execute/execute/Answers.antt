@@ -1,5 +1,0 @@
-use Rattle.std.proofs.Common.{rules}
-use Rattle.canbit.proofs.execute.execute.Goals as goal
-
-pub returns-in-Ok-clause-input_refused : goal.returns-in-Ok-clause-input_refused
-returns-in-Ok-clause-input_refused g c = search rules

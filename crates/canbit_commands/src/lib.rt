@@ -1,0 +1,15 @@
+//! What `canbit` does, over any reader and writers: a subcommand's input, its answer, the line of its fault and the
+//! exit status.
+//!
+//! | File | What it has | Defined in |
+//! |---|---|---|
+//! | `program.rt` | [`execute`], what the words ask for is done: for each status what was read and written; [`NAME`] | `specs/Answers.antt` |
+//! | `run.rt` | a scenario is read and run, and its report written | `specs/Answers.antt` |
+//!
+//! Which subcommand the words of the command line name is told by the crate `canbit_words`.
+#![tactic(auto)]
+
+mod program;
+mod run;
+
+pub use program::{NAME, execute};

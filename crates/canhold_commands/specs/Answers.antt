@@ -1,0 +1,78 @@
+-- What each subcommand has written for what it read, for each outcome. (docs/CONFORMANCE.md, "Line by line",
+-- "What is expected", "What is judged")
+use Rattle.std.specs.Prelude.{ℕ, ◌≡◌, ◌==◌, Bool, true, false, List, [], ◌++◌, Result, Ok, Err}
+use Rattle.toml.specs.Data.{Data}
+use Rattle.can_adapter.specs.Plays.{Plays}
+use Rattle.can_hold.specs.Documents.{document_demands, IsFirstWrong}
+use Rattle.can_hold.specs.Expectations.{cases_alone_demands, IsExpected}
+use Rattle.can_hold.specs.Judgements.{IsJudged}
+use Rattle.can_stream.specs.declared.fault.TraceFault.TheVariants.{BadByte, ScenarioField, Read, Write, Memory as OutOfMemory, Long, FrameLine}
+use Rattle.can_stream.specs.declared.field.Field.{Field}
+use Rattle.can_stream.specs.declared.field.Field.TheVariants.{Kit}
+use Rattle.can_stream.specs.declared.kit_field.KitField.{KitField}
+use Rattle.can_toml.specs.Demands.{Demands}
+use Rattle.can_verdict.specs.declared.tally.Tally.{Tally}
+use Rattle.can_program.specs.declared.fault.RunFault.{RunFault}
+use Rattle.can_program.specs.declared.fault.RunFault.TheVariants.{Usage, VectorsDiffer, TranscriptsDiffer, Memory, Stream}
+use Rattle.canhold_commands.specs.declared.words.Chosen.{Chosen}
+use Rattle.canhold_commands.specs.declared.words.Chosen.TheVariants.{Play, Document}
+use Rattle.canhold_commands.specs.declared.words.Question.{Question}
+use Rattle.canhold_commands.specs.declared.words.Question.TheVariants.{Expect, Judge}
+
+-- ---- lines that are played
+
+-- the reference has played the runner's lines
+abbrev pub PlaysLines : Result (Unit {0}) RunFault → List ℕ → List ℕ → Type 0
+PlaysLines (Ok done) input output = Plays (Ok done) input output
+PlaysLines (Err (Stream fault)) input output = Plays (Err fault) input output
+PlaysLines (Err Usage) input output = ⊥
+PlaysLines (Err VectorsDiffer) input output = ⊥
+PlaysLines (Err TranscriptsDiffer) input output = ⊥
+PlaysLines (Err Memory) input output = ⊥
+
+-- ---- documents that are answered
+
+-- the answer to a document, and whether all its transcripts agree with the reference
+abbrev pub IsAnswerTo : Question → List ℕ → List ℕ → Bool → Type 0
+IsAnswerTo Expect input answer agrees = IsExpected input answer × (agrees ≡ true)
+IsAnswerTo Judge input answer agrees = (tally : Tally) × IsJudged input answer tally × (agrees ≡ (tally.failed == 0))
+
+-- what is demanded of the document
+abbrev pub demands_of : Question → Data → Demands KitField
+demands_of Expect = cases_alone_demands
+demands_of Judge = document_demands
+
+-- nothing is written
+abbrev pub WritesNothing : List ℕ → List ℕ → Type 0
+WritesNothing input output = output ≡ []
+
+-- the document is refused for this field, and nothing is written
+abbrev pub Refuses : Question → KitField → List ℕ → List ℕ → Type 0
+Refuses question wrong input output = IsFirstWrong (demands_of question) wrong input × WritesNothing input output
+
+-- the whole answer is written
+abbrev pub Answers : Question → Bool → List ℕ → List ℕ → Type 0
+Answers question agrees input output = IsAnswerTo question input output agrees
+
+-- a beginning of the answer is written
+pub record BeginsAnswer (question : Question) (input output : List ℕ) : Type 0 where
+  pub answer : List ℕ
+  pub agrees : Bool
+  pub is : IsAnswerTo question input answer agrees
+  pub rest : List ℕ
+  pub all : answer ≡ output ++ rest
+
+-- the document has been answered
+abbrev pub AnswersDocument : Question → Result (Unit {0}) RunFault → List ℕ → List ℕ → Type 0
+AnswersDocument question (Ok done) = Answers question true
+AnswersDocument question (Err TranscriptsDiffer) = Answers question false
+AnswersDocument question (Err (Stream (ScenarioField (Kit wrong)))) = Refuses question wrong
+AnswersDocument question (Err (Stream Read)) = WritesNothing
+AnswersDocument question (Err (Stream Write)) = BeginsAnswer question
+AnswersDocument question (Err (Stream OutOfMemory)) = WritesNothing
+AnswersDocument question (Err _) = λ input output. ⊥
+
+-- what is written where the subcommand ends so
+abbrev pub Does : Chosen → Result (Unit {0}) RunFault → List ℕ → List ℕ → Type 0
+Does Play = PlaysLines
+Does (Document question) = AnswersDocument question

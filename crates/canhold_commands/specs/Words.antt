@@ -1,0 +1,33 @@
+-- What the words of a command line ask for. (docs/CONFORMANCE.md, "Line by line")
+use Rattle.std.specs.Prelude.{ℕ, ◌≡◌, ◌||◌, if◌then◌else◌, List, [], ◌∷◌, Option, Some, None, codes, map, string_bytes}
+use Rattle.std.specs.Str.{bytes_eq}
+use Rattle.std.specs.declared.alloc.Global.{Global}
+use Rattle.std.specs.declared.string.String.{String}
+use Rattle.canhold_commands.specs.declared.words.Asked.{Asked}
+use Rattle.canhold_commands.specs.declared.words.Asked.TheVariants.{Run, Help}
+use Rattle.canhold_commands.specs.declared.words.Chosen.{Chosen}
+use Rattle.canhold_commands.specs.declared.words.Chosen.TheVariants.{Play, Document}
+use Rattle.canhold_commands.specs.declared.words.Question.TheVariants.{Expect, Judge}
+
+-- the words as texts
+abbrev pub texts_of : List (String Global) → List (List ℕ)
+texts_of words = map string_bytes words
+
+-- what one word asks for: it names a subcommand, or asks for help
+abbrev pub asked_word : List ℕ → Option Asked
+asked_word word =
+    if bytes_eq word (codes "play") then Some (Run Play)
+    else if bytes_eq word (codes "expect") then Some (Run (Document Expect))
+    else if bytes_eq word (codes "judge") then Some (Run (Document Judge))
+    else (if bytes_eq word (codes "help") || (bytes_eq word (codes "--help") || bytes_eq word (codes "-h")) then Some Help else None)
+
+-- what the words ask for: the program's name, whatever it is, and one word
+abbrev pub asked_by : List (List ℕ) → Option Asked
+asked_by [] = None
+asked_by (name ∷ []) = None
+asked_by (name ∷ word ∷ []) = asked_word word
+asked_by (name ∷ word ∷ other ∷ words) = None
+
+-- they ask for this subcommand
+abbrev pub AsksFor : Chosen → List (List ℕ) → Type 0
+AsksFor chosen words = asked_by words ≡ Some (Run chosen)

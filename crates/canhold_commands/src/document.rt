@@ -1,0 +1,73 @@
+//! Answering the kit document that a reader tells.
+ghost use Rattle.std.specs.Prelude.{◌≡◌, ◌⊎◌, ◌↔◌, ℕ, false, IfErr, IfOk, IsErrOf, IsTrue};
+ghost use Rattle.can_stream.specs.Told.{Told};
+ghost use Rattle.can_stream.specs.declared.field.Field.TheVariants.{Kit};
+ghost use Rattle.can_stream.specs.declared.kit_field.KitField.{KitField};
+ghost use Rattle.can_hold.specs.Documents.{IsFieldOrMemory, IsFirstWrong};
+ghost use Rattle.canhold_commands.specs.Answers.{demands_of, Answers, BeginsAnswer, IsAnswerTo, Refuses, WritesNothing};
+
+use crate::words::Question;
+use can_hold::{expected, judged};
+use can_stream::{Sink, Source, TraceFault, read_whole, write_all};
+use std::alloc::Global;
+
+/// Reads a kit document up to the reader's end, and writes the answer to the question. It answers whether
+/// all transcripts that were judged agree with the reference. Nothing is written where the reader failed,
+/// the document is refused, or memory ran out.
+pub fn answer_document<R: Source, W: Sink>(
+    alloc: Global,
+    question: Question,
+    r: &mut R,
+    w: &mut W,
+) -> Result<bool, TraceFault>
+    requires reader_unfailed { R.has_failed r.old ≡ false }
+    requires reader_unended { R.has_ended r.old ≡ false }
+    requires writer_unfailed { W.has_failed w.old ≡ false }
+
+    // What was written of what was read.
+    ensures ok { IfOk result (λ agrees. Told R.remaining r.old r.new W.contents w.old w.new (Answers question agrees)) }
+    ensures field { (wrong : KitField) → IsErrOf result (TraceFault.ScenarioField (Kit wrong)) →
+        Told R.remaining r.old r.new W.contents w.old w.new (Refuses question wrong) }
+    ensures read { IsErrOf result TraceFault.Read → Told R.remaining r.old r.new W.contents w.old w.new WritesNothing }
+    ensures write { IsErrOf result TraceFault.Write → Told R.remaining r.old r.new W.contents w.old w.new (BeginsAnswer question) }
+    ensures memory { IsErrOf result TraceFault.Memory → Told R.remaining r.old r.new W.contents w.old w.new WritesNothing }
+    ensures other { IfErr result (λ fault. IsFieldOrMemory fault ⊎ (fault ≡ TraceFault.Read) ⊎ (fault ≡ TraceFault.Write)) }
+
+    // What the reader and the writer came to.
+    ensures read_failed { IsErrOf result TraceFault.Read ↔ IsTrue (R.has_failed r.new) }
+    ensures write_failed { IsErrOf result TraceFault.Write ↔ IsTrue (W.has_failed w.new) }
+{
+    let text = read_whole(alloc, r)?;
+    let answer = answer_to(alloc, question, text.as_slice())?;
+    write_all(w, answer.bytes.as_slice())?;
+    Ok(answer.agrees)
+}
+
+/// The answer to a document.
+#[derive(Drop)]
+struct Answer {
+    bytes: Vec<u8>,
+    /// Whether all transcripts that were judged agree with the reference.
+    agrees: bool,
+}
+
+/// The answer to the document that the bytes are.
+fn answer_to(alloc: Global, question: Question, text: &[u8]) -> Result<Answer, TraceFault>
+    ensures found { IfOk result (λ answer. IsAnswerTo question text.now answer.bytes.items answer.agrees) }
+    ensures wrong { (wrong : KitField) → IsErrOf result (TraceFault.ScenarioField (Kit wrong)) → IsFirstWrong (demands_of question) wrong text.now }
+    ensures other { IfErr result IsFieldOrMemory }
+{
+    match question {
+        Question::Expect => Ok(Answer {
+            bytes: expected(alloc, text)?,
+            agrees: true,
+        }),
+        Question::Judge => {
+            let judgement = judged(alloc, text)?;
+            Ok(Answer {
+                agrees: judgement.tally.failed == 0,
+                bytes: judgement.lines,
+            })
+        }
+    }
+}

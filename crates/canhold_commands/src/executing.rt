@@ -1,0 +1,117 @@
+//! What the program does, over any streams.
+ghost use Rattle.std.specs.Prelude.{◌≡◌, ◌≢◌, ◌⊎◌, ◌<◌, ◌++◌, false, Option, Result, IsTrue, ℕ, List};
+ghost use Rattle.std.specs.Io.KnownBytes.{Appends};
+ghost use Rattle.can_stream.specs.Told.{Told};
+ghost use Rattle.can_stream.specs.Outbox.{TakesFront};
+ghost use Rattle.canhold_commands.specs.Answers.{AnswersDocument, Does};
+ghost use Rattle.can_program.specs.Status.{exit_status};
+ghost use Rattle.canhold_commands.specs.Words.{AsksFor, asked_by, texts_of};
+
+use crate::document::answer_document;
+use crate::help::HELP;
+use crate::words::{Asked, Chosen, Question, read_words};
+use can_adapter::play_lines;
+use can_program::{RunFault, conclude, refuse, write_help};
+use can_stream::{Sink, Source};
+use std::alloc::Global;
+
+/// The program's name, before the line of a fault.
+pub const NAME: &str = "canhold";
+
+/// Does what the words ask, and answers the exit status. The first of the words is the program's name. The
+/// subcommand reads `r` and writes its answer to `w`; the text of help goes to `w`, and the line of a fault
+/// to `e`.
+///
+/// | Status | Line | Why |
+/// |---|---|---|
+/// | 0 | none | all was done, and all that was judged passes |
+/// | 1 | `canhold: P2 case[3].tester[1]`, `canhold: P6 long` | the document or the input is refused |
+/// | 1 | `canhold: transcripts differ` | all was done, and some transcript does not pass |
+/// | 2 | `canhold: usage` | the words are refused |
+/// | 3 | `canhold: P3 read`, `canhold: P4 write` | `r` or `w` failed |
+/// | 4 | `canhold: P5 memory` | memory ran out |
+pub fn execute<R: Source, W: Sink, E: Sink>(
+    alloc: Global,
+    words: &[String],
+    r: &mut R,
+    w: &mut W,
+    e: &mut E,
+) -> u8
+    requires reader_unfailed { R.has_failed r.old ≡ false }
+    requires reader_unended { R.has_ended r.old ≡ false }
+    requires writer_unfailed { W.has_failed w.old ≡ false }
+    ensures status { result < 5 }
+
+    // What the subcommand wrote of what it read, by the outcome that the status tells.
+    ensures told { (chosen : Chosen) → AsksFor chosen (texts_of words.now)
+        → (outcome : Result (Unit {0}) RunFault) × (result ≡ exit_status outcome)
+        × Told R.remaining r.old r.new W.contents w.old w.new (Does chosen outcome) }
+
+    // A stream's failure is told, and nothing else is told so.
+    ensures stream_failed { result ≡ 3 → IsTrue (R.has_failed r.new) ⊎ IsTrue (W.has_failed w.new) }
+    ensures write_told { IsTrue (W.has_failed w.new) → result ≡ 3 }
+    ensures read_told { IsTrue (R.has_failed r.new) → result ≡ 3 }
+
+    // Help is written where the words ask for it, and other words are refused.
+    ensures help_status { asked_by (texts_of words.now) ≡ Option.Some Asked.Help → (result ≡ 0) ⊎ (result ≡ 3) }
+    ensures helped { asked_by (texts_of words.now) ≡ Option.Some Asked.Help → result ≡ 0
+        → Appends (W.contents w.old) (W.contents w.new) HELP.now }
+    ensures refused { asked_by (texts_of words.now) ≡ Option.None → result ≡ 2 }
+    ensures misuse { result ≡ 2 → asked_by (texts_of words.now) ≡ Option.None }
+
+    // Nothing else is read or written.
+    ensures untouched { result ≡ 2 → (r.new ≡ r.old) × (w.new ≡ w.old) }
+    ensures help_reads_nothing { asked_by (texts_of words.now) ≡ Option.Some Asked.Help → r.new ≡ r.old }
+    ensures no_fault_line { result ≡ 0 → e.new ≡ e.old }
+{
+    match read_words(words) {
+        Some(Asked::Run(chosen)) => conclude(NAME, answer(alloc, chosen, r, w), e),
+        Some(Asked::Help) => conclude(NAME, write_help(HELP, w), e),
+        None => refuse(NAME, RunFault::Usage, e),
+    }
+}
+
+/// Does what the subcommand asks.
+fn answer<R: Source, W: Sink>(
+    alloc: Global,
+    chosen: Chosen,
+    r: &mut R,
+    w: &mut W,
+) -> Result<(), RunFault>
+    requires reader_unfailed { R.has_failed r.old ≡ false }
+    requires reader_unended { R.has_ended r.old ≡ false }
+    requires writer_unfailed { W.has_failed w.old ≡ false }
+    ensures told { Told R.remaining r.old r.new W.contents w.old w.new (Does chosen result) }
+    ensures stream_failed { exit_status result ≡ 3 → IsTrue (R.has_failed r.new) ⊎ IsTrue (W.has_failed w.new) }
+    ensures write_told { IsTrue (W.has_failed w.new) → exit_status result ≡ 3 }
+    ensures read_told { IsTrue (R.has_failed r.new) → exit_status result ≡ 3 }
+    ensures no_misuse { exit_status result ≢ 2 }
+{
+    match chosen {
+        Chosen::Play => Ok(play_lines(alloc, r, w)?),
+        Chosen::Document(question) => answered(alloc, question, r, w),
+    }
+}
+
+/// Answers the document that the reader tells.
+fn answered<R: Source, W: Sink>(
+    alloc: Global,
+    question: Question,
+    r: &mut R,
+    w: &mut W,
+) -> Result<(), RunFault>
+    requires reader_unfailed { R.has_failed r.old ≡ false }
+    requires reader_unended { R.has_ended r.old ≡ false }
+    requires writer_unfailed { W.has_failed w.old ≡ false }
+    ensures told { Told R.remaining r.old r.new W.contents w.old w.new (AnswersDocument question result) }
+    ensures stream_failed { exit_status result ≡ 3 → IsTrue (R.has_failed r.new) ⊎ IsTrue (W.has_failed w.new) }
+    ensures write_told { IsTrue (W.has_failed w.new) → exit_status result ≡ 3 }
+    ensures read_told { IsTrue (R.has_failed r.new) → exit_status result ≡ 3 }
+    ensures no_misuse { exit_status result ≢ 2 }
+{
+    if answer_document(alloc, question, r, w)? {
+        Ok(())
+    } else {
+        Err(RunFault::TranscriptsDiffer)
+    }
+}

@@ -1,0 +1,20 @@
+//! What the program `canhold` does with the words of its command line, over any reader and writers.
+//!
+//! | File | What it has | Defined in |
+//! |---|---|---|
+//! | `words.rt` | [`Asked`], what the words of a command line ask for: a subcommand, [`Chosen`], or the help text | `specs/Words.antt` |
+//! | `help.rt` | [`HELP`], the help text | |
+//! | `document.rt` | a kit document in, the answer to it out | `specs/Answers.antt` |
+//! | `executing.rt` | [`execute`], what a run does, its fault line and its exit status | `specs/Answers.antt` |
+//!
+//! The contract of `execute` says for each outcome what was read and written.
+#![tactic(auto)]
+
+mod document;
+mod executing;
+mod help;
+mod words;
+
+pub use executing::{NAME, execute};
+pub use help::HELP;
+pub use words::{Asked, Chosen, Question};

@@ -1,0 +1,52 @@
+//! What the words of a command line ask for.
+ghost use Rattle.std.specs.Prelude.{◌≡◌};
+ghost use Rattle.canhold_commands.specs.Words.{asked_by, asked_word, texts_of};
+
+/// What is asked of a kit document.
+#[derive(Clone, Copy, Debug, PartialEq, Eq)]
+pub enum Question {
+    /// What the reference does in each of its cases.
+    Expect,
+    /// Whether its transcripts tell what the reference does.
+    Judge,
+}
+
+/// A subcommand.
+#[derive(Clone, Copy, Debug, PartialEq, Eq)]
+pub enum Chosen {
+    /// A kit document in, an answer out.
+    Document(Question),
+    /// A runner's lines in, the reference's answers out.
+    Play,
+}
+
+/// What is asked for.
+#[derive(Clone, Copy, Debug, PartialEq, Eq)]
+pub enum Asked {
+    Run(Chosen),
+    Help,
+}
+
+/// What the words ask for, the first of which is the program's name: a subcommand by its name, or the help
+/// text. Other words are no use of the program.
+pub fn read_words(words: &[String]) -> Option<Asked>
+    ensures { result ≡ asked_by (texts_of words.now) }
+{
+    match words {
+        [_, word] => read_word(word.as_str()),
+        _ => None,
+    }
+}
+
+/// What one word asks for.
+fn read_word(word: &str) -> Option<Asked>
+    ensures { result ≡ asked_word word.now }
+{
+    match word {
+        "play" => Some(Asked::Run(Chosen::Play)),
+        "expect" => Some(Asked::Run(Chosen::Document(Question::Expect))),
+        "judge" => Some(Asked::Run(Chosen::Document(Question::Judge))),
+        "help" | "--help" | "-h" => Some(Asked::Help),
+        _ => None,
+    }
+}

@@ -1,0 +1,147 @@
+// The calls of the module, one by one: rows that were worked out by hand, as docs/ and the README show them.
+import assert from 'node:assert/strict';
+
+/** `S 000 D 0` as its sender drives it. */
+const WIRE = '00000100000100000100000100000100000100001111111111';
+
+/** Two ports for 60 bit times, of which the first sends `S 000 D 0`; and the report. */
+const SCENARIO = 'version = 1\nbits = 60\n[[port]]\nqueue = ["S 000 D 0"]\n[[port]]\nlog = 0\n';
+const REPORT = `bits 60
+000001000001000001000001000001000001000010111111111111111111
+port 0 active tec 0 rec 0 missed 0
+  sent S 000 D 0
+port 1 active tec 0 rec 0 missed 1
+`;
+
+/** What a call is given: a text, levels by their digits, bytes; room for so many bytes; a place for a number, or what is told. */
+const text = (letters) => ({ bytes: [...letters].map((letter) => letter.charCodeAt(0)) });
+const levels = (digits) => ({ bytes: [...digits].map(Number) });
+const bytes = (...those) => ({ bytes: those });
+const room = (name, size, item = 1) => ({ name, size, item });
+const number = (name) => ({ name, size: 8 });
+const size = (value) => ({ value });
+const LINES = { name: 'lines', size: 9 + 33554432 };
+const WRONG = { name: 'wrong', size: 24 };
+
+/** What a port does in a bit time, in ten bytes. */
+const time = (at, field) => `times ${10 * at + { transmit: 0, receive: 2, stage: 4, sends: 5, drove: 6, saw: 7, brought: 8 }[field]}`;
+
+const encode = (letters, most) => ['page_encode', [text(letters), room('levels', most), number('count'), number('place')]];
+const frameText = (identifier, extended, remote, dlc, data, most = 32) =>
+  ['page_frame_text', [identifier, extended, remote, dlc, bytes(...data), room('text', most), number('count')]];
+const levelsOf = (letters) => ['page_levels', [text(letters), room('levels', 8), number('count'), number('place')]];
+const marks = (digits, most = 157) => ['page_marks', [levels(digits), room('fields', most), room('stuffed', 157), number('count')]];
+const run = (letters) => ['page_run', [text(letters), LINES, WRONG]];
+const portTimes = (letters, port, most) => ['page_port_times', [text(letters), size(port), room('times', most, 10), number('count')]];
+
+/**
+ * A call, its answer, and what is then written: under a name a number, the front of a room, or all lines; under a name and
+ * a place the byte that stands there. A number that is not written stays 99, and a byte 9.
+ */
+const ROWS = [
+  [...encode('S 000 D 0', 157), 0, { count: 50, place: 99, levels: [...WIRE].map(Number), 'levels 50': 9 }],
+  [...encode('S 000 D 0', 156), 1, { count: 99, place: 99, 'levels 0': 9 }],
+  [...encode('', 157), 11, { count: 99, place: 0 }],
+  [...encode('T 000 D 0', 157), 11, { count: 99, place: 0 }],
+  [...encode('S 800 D 0', 157), 12, { count: 99, place: 2 }],
+  [...encode('S 123 X 0', 157), 13, { count: 99, place: 6 }],
+  [...encode('S 123 D 16', 157), 14, { count: 99, place: 9 }],
+  [...encode('S 123 D 1 g0', 157), 15, { count: 99, place: 10 }],
+  [...encode('S 123 R 16', 157), 16, { count: 99, place: 9 }],
+
+  [...frameText(0x123, 0, 0, 2, [0xaa, 0x55]), 0, { count: 14, text: text('S 123 D 2 aa55').bytes }],
+  [...frameText(0x18db33f1, 1, 1, 8, []), 0, { count: 14, text: text('E 18db33f1 R 8').bytes }],
+  [...frameText(0x7ff, 0, 0, 0, []), 0, { count: 9, text: text('S 7ff D 0').bytes }],
+  [...frameText(0x800, 0, 0, 0, []), 3, { count: 99 }],
+  [...frameText(0x20000000, 1, 0, 0, []), 3, { count: 99 }],
+  [...frameText(0, 0, 0, 16, []), 4, { count: 99 }],
+  [...frameText(0, 0, 0, 1, []), 5, { count: 99 }],
+  [...frameText(0, 0, 1, 1, [0]), 5, { count: 99 }],
+  [...frameText(0, 0, 0, 0, [], 8), 1, { count: 99 }],
+
+  [...levelsOf('1 0\r\n1'), 0, { count: 3, place: 99, levels: [1, 0, 1] }],
+  [...levelsOf('10 2'), 2, { count: 2, place: 3, levels: [1, 0] }],
+  [...levelsOf('101010101'), 1, {}],
+
+  [...marks(WIRE), 0, {
+    count: 50, 'fields 0': 0, 'fields 13': 1, 'fields 14': 3, 'fields 15': 5, 'fields 16': 7, 'fields 18': 8, 'fields 22': 10, 'fields 40': 11,
+    'fields 41': 12, 'fields 42': 13, 'fields 43': 14, 'stuffed 4': 0, 'stuffed 5': 1, 'stuffed 17': 1, 'stuffed 49': 0,
+  }],
+  // up to the data of `S 555 D 1 aa`, with a stuff bit in its DLC, and one level of its check sequence
+  [...marks('01010101010100000101101010100'), 0, {
+    count: 29, 'stuffed 16': 0, 'stuffed 17': 1, 'stuffed 18': 0, 'fields 12': 3, 'fields 17': 8, 'fields 19': 8, 'fields 20': 9, 'fields 27': 9, 'fields 28': 10,
+  }],
+  // an extended frame up to its DLC, `E 15555555`
+  [...marks('010101010101110101010101010101010000'), 0, { count: 36, 'fields 12': 4, 'fields 13': 5, 'fields 31': 1, 'fields 32': 3, 'fields 33': 6, 'fields 34': 7 }],
+  // up to SRR alone
+  [...marks('0101010101011'), 0, { count: 13, 'fields 11': 1, 'fields 12': 2 }],
+  ['page_marks', [bytes(0, 2), room('fields', 157), room('stuffed', 157), number('count')], 2, { count: 99 }],
+  [...marks('01', 156), 1, { count: 99 }],
+
+  [...run(SCENARIO), 0, { lines: REPORT }],
+  ...[
+    ['version', 0, 0, 0], ['version = 3', 2, 0, 0], ['version = 1\nbits = 1', 4, 0, 0],
+    ['version = 1\nbits = 1\n[[port]]\n[[port]]\nqueue = ["S 000 D 0", ""]', 8, 1, 1],
+    ['version = 1\nbits = 1\n[[port]]\nhold = 3', 11, 0, 0], ['version = 1\nbits = 1\nin = 1\n[[port]]', 13, 0, 0],
+    ['version = 1\nbits = 1\nview = [[0, 0], [0, 1]]\n[[port]]', 17, 1, 0],
+  ].map(([document, field, place, element]) => [...run(document), 6, { 'wrong 16': field, 'wrong 0': place, 'wrong 8': element }]),
+
+  [...portTimes(SCENARIO, 0, 60), 0, {
+    count: 60, [time(0, 'stage')]: 1, [time(0, 'sends')]: 0, [time(0, 'drove')]: 0, [time(0, 'saw')]: 0, [time(1, 'stage')]: 2, [time(1, 'sends')]: 1,
+    // the ACK slot is left recessive, and seen dominant
+    [time(41, 'stage')]: 4, [time(41, 'drove')]: 1, [time(41, 'saw')]: 0,
+    [time(49, 'stage')]: 6, [time(49, 'brought')]: 1, [time(50, 'stage')]: 12, [time(49, 'transmit')]: 0, [time(49, 'receive')]: 0,
+  }],
+  [...portTimes(SCENARIO, 2, 60), 7, { count: 99 }],
+  [...portTimes(SCENARIO, 0, 59), 1, { count: 99 }],
+  [...portTimes('bits = 1', 0, 60), 6, { count: 99 }],
+];
+
+/** What the calls of rows answer and write, by the module's bytes: the same names as the rows want. It runs in the page. */
+export async function play(module, rows) {
+  const { instance: { exports } } = await WebAssembly.instantiate(module, {});
+  const memory = new Uint8Array(exports.memory.buffer);
+  const numberAt = (at) => Number(new DataView(memory.buffer).getBigUint64(at, true));
+  return rows.map(([call, given, , wanted]) => {
+    const rooms = {};
+    let next = Math.ceil(Number(exports.__heap_base.value) / 16) * 16;
+    const take = (count, byte) => {
+      const at = next;
+      memory.fill(byte, at, at + count);
+      next = Math.ceil((at + count) / 16) * 16;
+      return at;
+    };
+    const words = given.flatMap((it) => {
+      if (typeof it === 'number') return [it];
+      if (it.value !== undefined) return [BigInt(it.value)];
+      if (it.bytes) {
+        const at = take(it.bytes.length, 0);
+        memory.set(it.bytes, at);
+        return [BigInt(at), BigInt(it.bytes.length)];
+      }
+      rooms[it.name] = take(it.size * (it.item ?? 1), it.item ? 9 : 0);
+      if (it.item) return [BigInt(rooms[it.name]), BigInt(it.size)];
+      if (it.size === 8) memory[rooms[it.name]] = 99;
+      return [BigInt(rooms[it.name])];
+    });
+    exports.page_heap_begin(BigInt(next));
+    const answer = exports[call](...words);
+    const read = (name, want) => {
+      const [room, place] = name.split(' ');
+      if (place !== undefined) return memory[rooms[room] + Number(place)];
+      if (Array.isArray(want)) return [...memory.slice(rooms[room], rooms[room] + want.length)];
+      if (typeof want === 'number') return numberAt(rooms[room]);
+      return String.fromCharCode(...memory.slice(rooms[room] + 9, rooms[room] + 9 + numberAt(rooms[room])));
+    };
+    return [answer, Object.fromEntries(Object.entries(wanted).map(([name, want]) => [name, read(name, want)]))];
+  });
+}
+
+export const callTests = [
+  ['each call answers its rows', async ({ open }) => {
+    const page = await open();
+    const module = "Uint8Array.from(atob(document.getElementById('module').textContent.trim()), (letter) => letter.charCodeAt(0))";
+    const answers = await page.get(`(${play})(${module}, ${JSON.stringify(ROWS)})`);
+    for (const [index, [call, given, answer, wanted]] of ROWS.entries()) assert.deepEqual(answers[index], [answer, wanted], `${call} ${JSON.stringify(given)}`);
+  }],
+];
