@@ -78,7 +78,8 @@ export class Browser {
     this.process.kill();
     return new Promise((resolve) => {
       this.process.on('exit', () => {
-        rmSync(this.profile, { recursive: true, force: true, maxRetries: 5 });
+        // its helpers may write there a little longer than it lives
+        rmSync(this.profile, { recursive: true, force: true, maxRetries: 20, retryDelay: 100 });
         resolve();
       });
     });
