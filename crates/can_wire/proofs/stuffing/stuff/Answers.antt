@@ -1,4 +1,5 @@
 use Rattle.std.proofs.Common.{◌≡◌, [], ◌++◌, rules, subst, sym, ◌∙◌, ap, arith}
+use Rattle.std.proofs.lemmas.Grind.{common_steps}
 use Rattle.std.proofs.lemmas.List.{append-nil, drop_all}
 use Rattle.can_wire.specs.Stuffing.{Stuffs, stuffed, stuffed_from}
 use Rattle.can_wire.proofs.StuffingLemmas.{length-stuffed, Stuffs-stuffed, stuffed-only, room_for_one, room_for_two}
@@ -30,3 +31,6 @@ returns-clause-stuffs c = subst (Stuffs c.args.levels.now) (sym (computed c)) (S
 
 pub returns-clause-only : goal.returns-clause-only
 returns-clause-only c = λ b s. stuffed-only c.args.levels.now b s ∙ sym (computed c)
+
+pub loop-level-preserved : goal.loop-level-preserved
+loop-level-preserved c = grind (arith, common_steps)

@@ -1,4 +1,4 @@
-use Rattle.std.proofs.Common.{◌≡◌, ◌≢◌, ◌<◌, ◌+◌, [], ◌∷◌, ◌++◌, take, not, refl, sym, ◌∙◌, ap, subst, arith}
+use Rattle.std.proofs.Common.{◌≡◌, ◌≢◌, ◌<◌, ◌+◌, [], ◌∷◌, ◌++◌, take, not, refl, sym, ◌∙◌, ap, subst, arith, rules}
 use Rattle.std.proofs.lemmas.Bool.{false_from_ne_true, both_ways, not-true, not-false}
 use Rattle.std.specs.Result.{is_err}
 use Rattle.can_frame.specs.declared.level.Level.TheVariants.{Recessive}
@@ -106,3 +106,9 @@ returns-clause-more g c =
           (recessive_heard k c.self.inside.acked x few no_slot no_last (sym w.if-is_recessive.ensures) ∙ ap (λ t. t ++ x ∷ []) behind_is) refl
           )
     ]
+
+pub returns-then-is_err-clause-more : goal.returns-then-is_err-clause-more
+returns-then-is_err-clause-more g c = search rules
+
+pub returns-then-not-check_agrees-clause-more : goal.returns-then-not-check_agrees-clause-more
+returns-then-not-check_agrees-clause-more g c = search rules

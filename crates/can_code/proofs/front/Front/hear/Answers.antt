@@ -1,4 +1,4 @@
-use Rattle.std.proofs.Common.{◌≡◌, ◌≢◌, ◌++◌, ◌∷◌, [], ◌⊎◌, true, false, not, length, ap, ◌∙◌, sym}
+use Rattle.std.proofs.Common.{◌≡◌, ◌≢◌, ◌++◌, ◌∷◌, [], ◌⊎◌, true, false, not, length, ap, ◌∙◌, sym, rules}
 use Rattle.std.specs.Option.{is_some}
 use Rattle.std.proofs.lemmas.Bool.{eqb-false}
 use Rattle.can_wire.specs.Layout.{data_place}
@@ -47,3 +47,9 @@ invariant_of-self-else-is_none g c =
       rw (c.push.ensures, c.and-self-inside.ensures) (IsFront-bit front c.self.invariant.0 not_due partial c.args.level),
       rw c.push.ensures (TellsLength-push front.unstuffed c.args.level inside.length (c.is_none.ensures ∙ ap not c.if-is_none.false) c.self.invariant.1),
     )
+
+pub returns-then-eq-clause-error : goal.returns-then-eq-clause-error
+returns-then-eq-clause-error g c = search rules
+
+pub returns-then-eq-clause-ok : goal.returns-then-eq-clause-ok
+returns-then-eq-clause-ok g c = search rules
