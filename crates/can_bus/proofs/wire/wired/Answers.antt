@@ -16,3 +16,6 @@ loop-vector-preserved c =
     let within : c.loop-vector.vector-index < length c.args.levels.now / 32 = omega (arith, c.as_chunks.ensures.front_len, c.loop-vector-test.true) in
     chunk_recessive wired wired_is c.args.levels.now 32 (length c.args.levels.now / 32) c.loop-vector.vector-index c.as_chunks.result.0.now _ c.wired_lanes.result
     c.as_chunks.ensures.front within c.loop-vector.invariant c.wired_lanes.ensures (sym c.is_recessive.ensures ∙ high)
+
+pub returns : goal.returns
+returns c = search rules
