@@ -1,7 +1,3 @@
-mod hits;
+mod documents;
 mod port_times;
 mod reports;
-mod run;
-mod scenario;
-mod timed;
-mod writers;

@@ -1,156 +1,128 @@
 //! What ports do in each bit time, as docs/ACCESS.md says it.
-use can_frame::Level::{self, Dominant, Recessive};
-use can_mac::ErrorKind;
-use can_scenario::{Brought, PortTime, Scenario, Stage, told_times};
+use can_scenario::{PortTime, Scenario, told_times};
 use std::alloc::Global;
 use std::process::Abort;
 use std::test::Fail;
 
-/// Something that is said of a port in one bit time.
-#[derive(Clone, Copy)]
-enum Said {
-    Is(Stage),
-    Sends(bool),
-    Receive(u16),
-    Drove(Level),
-    Saw(Level),
-    Brought(Brought),
-}
+/// Documents, and behind each a port, how many bit times there are, and what is said of some of them.
+const ROWS: &str = r#"
+# The last bit of the identifiers stands behind two stuff bits: there the port with the worse frame sends recessive, sees
+# dominant, and goes on as a receiver. The frame of the other port is 50 levels long, and is taken at its last but one. Its
+# own follows behind the intermission.
+version = 1
+bits = 60
+[[port]]
+queue = ["S 001 D 0"]
+[[port]]
+queue = ["S 000 D 0"]
+=> 0 60
+0 stage: Idle
+0 sends: false
+0 drove: Dominant
+1 stage: StuffedPart
+1 sends: true
+13 drove: Recessive
+13 saw: Dominant
+13 brought: Lost
+13 sends: true
+14 sends: false
+48 brought: Received
+49 stage: EndOfFrame
+50 stage: Intermission
+53 stage: Idle
+53 drove: Dominant
+54 sends: true
 
-/// Whether it is so.
-fn is_so(said: Said, time: &PortTime) -> bool {
-    match said {
-        Said::Is(stage) => time.stage == stage,
-        Said::Sends(sends) => time.sends == sends,
-        Said::Receive(counter) => time.receive == counter,
-        Said::Drove(level) => time.drove == level,
-        Said::Saw(level) => time.saw == level,
-        Said::Brought(brought) => time.brought == brought,
-    }
-}
+# The port alone sees the last but one level of a frame dominant. It has a form error, a flag of six levels, and one error
+# counted.
+version = 1
+bits = 70
+view = [[48, 1]]
+[[port]]
+queue = ["S 000 D 0"]
+[[port]]
+[[port]]
+=> 1 70
+47 saw: Recessive
+48 saw: Dominant
+48 brought: Error(Form)
+49 stage: ErrorFlag
+49 drove: Dominant
+54 stage: ErrorFlag
+55 stage: AfterFlag
+48 receive: 0,
+49 receive: 1,
+
+# Another port takes the frame.
+version = 1
+bits = 70
+view = [[48, 1]]
+[[port]]
+queue = ["S 000 D 0"]
+[[port]]
+[[port]]
+=> 2 70
+48 saw: Recessive
+48 brought: Received
+
+# A port that is offered a frame while the bus runs, and one that joins.
+version = 2
+bits = 30
+[[port]]
+queue = [[7, "S 000 D 0"]]
+[[port]]
+join = true
+=> 0 30
+6 drove: Recessive
+7 drove: Dominant
+8 sends: true
+
+version = 2
+bits = 30
+[[port]]
+queue = [[7, "S 000 D 0"]]
+[[port]]
+join = true
+=> 1 30
+0 stage: Joining
+29 stage: Joining
+7 drove: Recessive
+"#;
 
 /// What the port of this number does.
-fn times_of(
-    rt: &impl Abort,
-    alloc: Global,
-    text: &[u8],
-    node: usize,
-) -> Result<Vec<PortTime>, Fail> {
-    let scenario = Scenario::from_text(alloc, text)?;
-    assert!(rt; node < scenario.port_count());
+fn times_of(alloc: Global, document: &str, node: usize) -> Result<Vec<PortTime>, Fail> {
+    let scenario = Scenario::from_text(alloc, document.as_bytes())?;
+    if node >= scenario.port_count() {
+        return Err("no such port".into());
+    }
     Ok(told_times(alloc, &scenario, node)?)
 }
 
-/// A run of so many bit times, in which of the port of a number this is said at these times.
-struct Row<'a> {
-    text: &'a str,
-    bits: usize,
-    node: usize,
-    said: &'a [(usize, Said)],
+/// Whether this is so at the bit time that stands before it.
+fn is_so(alloc: Global, times: &[PortTime], said: &str) -> Result<bool, Fail> {
+    let (at, what) = said.split_once(' ').ok_or("nothing is said")?;
+    let time = times.get(at.parse::<usize>()?).ok_or("no such bit time")?;
+    let text = format!(in alloc; "{time:?}")?;
+    Ok(text.find(what).is_some())
 }
 
-/// All that is said in the row is so.
-fn assert_so(rt: &impl Abort, alloc: Global, row: &Row) -> Result<(), Fail> {
-    let times = times_of(rt, alloc, row.text.as_bytes(), row.node)?;
-    assert_eq!(rt; times.len(), row.bits);
-    for (at, said) in row.said {
-        let time = times.get(*at).ok_or("no such bit time")?;
-        assert!(rt; is_so(*said, time), "at {at}");
+/// All that is said in a row is so.
+fn hold(rt: &impl Abort, alloc: Global, row: &str) -> Result<(), Fail> {
+    let (document, rest) = row.split_once("\n=> ").ok_or("no port")?;
+    let (head, said) = rest.split_once('\n').ok_or("nothing is said")?;
+    let (node, bits) = head.split_once(' ').ok_or("no number of bit times")?;
+    let times = times_of(alloc, document, node.parse::<usize>()?)?;
+    assert!(rt; times.len() == bits.parse::<usize>()?);
+    for line in said.lines() {
+        assert!(rt; is_so(alloc, &times, line)?, "{line} in {document}");
     }
     Ok(())
 }
 
-/// The last bit of the identifiers stands behind two stuff bits: there the port with the worse frame sends recessive,
-/// sees dominant, and goes on as a receiver.
-const LOSES: Row<'static> = Row {
-    text: "version = 1\nbits = 60\n[[port]]\nqueue = [\"S 001 D 0\"]\n[[port]]\nqueue = [\"S 000 D 0\"]\n",
-    bits: 60,
-    node: 0,
-    said: &[
-        (0, Said::Is(Stage::Idle)),
-        (0, Said::Sends(false)),
-        (0, Said::Drove(Dominant)),
-        (1, Said::Is(Stage::StuffedPart)),
-        (1, Said::Sends(true)),
-        (13, Said::Drove(Recessive)),
-        (13, Said::Saw(Dominant)),
-        (13, Said::Brought(Brought::Lost)),
-        (13, Said::Sends(true)),
-        (14, Said::Sends(false)),
-        // the frame of the other port is 50 levels long, and is taken at its last but one
-        (48, Said::Brought(Brought::Received)),
-        (49, Said::Is(Stage::EndOfFrame)),
-        (50, Said::Is(Stage::Intermission)),
-        // its own follows behind the intermission
-        (53, Said::Is(Stage::Idle)),
-        (53, Said::Drove(Dominant)),
-        (54, Said::Sends(true)),
-    ],
-};
-
-/// The document of a port that alone sees the last but one level of a frame dominant.
-const DISTURBED_TEXT: &str =
-    "version = 1\nbits = 70\nview = [[48, 1]]\n[[port]]\nqueue = [\"S 000 D 0\"]\n[[port]]\n[[port]]\n";
-
-/// It has a form error, a flag of six levels, and one error counted.
-const DISTURBED: Row<'static> = Row {
-    text: DISTURBED_TEXT,
-    bits: 70,
-    node: 1,
-    said: &[
-        (47, Said::Saw(Recessive)),
-        (48, Said::Saw(Dominant)),
-        (48, Said::Brought(Brought::Error(ErrorKind::Form))),
-        (49, Said::Is(Stage::ErrorFlag)),
-        (49, Said::Drove(Dominant)),
-        (54, Said::Is(Stage::ErrorFlag)),
-        (55, Said::Is(Stage::AfterFlag)),
-        (48, Said::Receive(0)),
-        (49, Said::Receive(1)),
-    ],
-};
-
-/// Another port takes the frame.
-const UNDISTURBED: Row<'static> = Row {
-    text: DISTURBED_TEXT,
-    bits: 70,
-    node: 2,
-    said: &[
-        (48, Said::Saw(Recessive)),
-        (48, Said::Brought(Brought::Received)),
-    ],
-};
-
-/// The document of a port that is offered a frame while the bus runs, and one that joins.
-const OFFERED_TEXT: &str =
-    "version = 2\nbits = 30\n[[port]]\nqueue = [[7, \"S 000 D 0\"]]\n[[port]]\njoin = true\n";
-
-const OFFERED: Row<'static> = Row {
-    text: OFFERED_TEXT,
-    bits: 30,
-    node: 0,
-    said: &[
-        (6, Said::Drove(Recessive)),
-        (7, Said::Drove(Dominant)),
-        (8, Said::Sends(true)),
-    ],
-};
-
-const JOINS: Row<'static> = Row {
-    text: OFFERED_TEXT,
-    bits: 30,
-    node: 1,
-    said: &[
-        (0, Said::Is(Stage::Joining)),
-        (29, Said::Is(Stage::Joining)),
-        (7, Said::Drove(Recessive)),
-    ],
-};
-
 #[test]
 fn what_ports_do(rt: HostRuntime) -> Result<(), Fail> {
-    for row in [&LOSES, &DISTURBED, &UNDISTURBED, &OFFERED, &JOINS] {
-        assert_so(&rt, rt.alloc(), row)?;
+    for row in ROWS.split("\n\n") {
+        hold(&rt, rt.alloc(), row)?;
     }
     Ok(())
 }
