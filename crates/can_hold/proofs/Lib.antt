@@ -1,3 +1,4 @@
 mod DocumentParts
 mod CasesAlone
 mod CountedVerdicts
+mod Rows

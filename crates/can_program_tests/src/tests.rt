@@ -1,7 +1,7 @@
 //! Faults, their lines and statuses.
 ghost use Rattle.std.specs.Prelude.{◌≡◌, false};
 
-use RunFault::{Memory, Stream, Usage, VectorsDiffer};
+use RunFault::{Memory, NothingJudged, Stream, TranscriptsDiffer, Usage, VectorsDiffer};
 use can_program::{RunFault, conclude, refuse, words_or_status, write_help};
 use can_stream::pieces::{ROOM, Stop, Taker, writer_of};
 use can_stream::{Field, KitField, PortField, ToWrite, TraceFault, TranscriptField};
@@ -44,11 +44,13 @@ const ENDINGS: &[(Result<(), RunFault>, u8, &str)] = &[
     ),
     (Err(Stream(TraceFault::Long)), 1, "canbit: P6 long\n"),
     (Err(VectorsDiffer), 1, "canbit: vectors differ\n"),
+    (Err(TranscriptsDiffer), 1, "canbit: transcripts differ\n"),
     (Err(Usage), 2, "canbit: usage\n"),
     (Err(Stream(TraceFault::Read)), 3, "canbit: P3 read\n"),
     (Err(Stream(TraceFault::Write)), 3, "canbit: P4 write\n"),
     (Err(Memory), 4, "canbit: P5 memory\n"),
     (Err(Stream(TraceFault::Memory)), 4, "canbit: P5 memory\n"),
+    (Err(NothingJudged), 5, "canbit: nothing judged\n"),
 ];
 
 /// Whether a run ends with this status and this line.
