@@ -2,3 +2,4 @@ mod DocumentParts
 mod CasesAlone
 mod CountedVerdicts
 mod Rows
+mod TablesByNumber

@@ -7,8 +7,8 @@ ghost use Rattle.can_hold.specs.Documents.{IsFieldOrMemory, IsFirstWrong};
 ghost use Rattle.canhold_commands.specs.Answers.{demands_of, finding_of, Answers, BeginsAnswer, IsAnswerTo, Refuses, WritesNothing};
 
 use crate::words::Question;
-use can_hold::{expected, judged};
-use can_stream::{Sink, Source, TraceFault, read_whole, write_all};
+use can_hold::{case_of, expected, judged};
+use can_stream::{Field, Sink, Source, TraceFault, read_whole, write_all};
 use can_verdict::Tally;
 use std::alloc::Global;
 
@@ -25,12 +25,13 @@ pub enum Finding {
 
 /// Reads a kit document up to the reader's end, and writes the answer to the question. It answers what was
 /// found in the document. Nothing is written where the reader failed, the document is refused, or memory ran
-/// out.
+/// out. `of` becomes the name of the case for which the document is refused, if there is one.
 pub fn answer_document<R: Source, W: Sink>(
     alloc: Global,
     question: Question,
     r: &mut R,
     w: &mut W,
+    of: &mut String,
 ) -> Result<Finding, TraceFault>
     requires reader_unfailed { R.has_failed r.old ≡ false }
     requires reader_unended { R.has_ended r.old ≡ false }
@@ -50,7 +51,7 @@ pub fn answer_document<R: Source, W: Sink>(
     ensures write_failed { IsErrOf result TraceFault.Write ↔ IsTrue (W.has_failed w.new) }
 {
     let text = read_whole(alloc, r)?;
-    let answer = answer_to(alloc, question, text.as_slice())?;
+    let answer = answer_or_name(alloc, question, text.as_slice(), of)?;
     write_all(w, answer.bytes.as_slice())?;
     Ok(answer.finding)
 }
@@ -60,6 +61,26 @@ pub fn answer_document<R: Source, W: Sink>(
 struct Answer {
     bytes: Vec<u8>,
     finding: Finding,
+}
+
+/// The answer to the document that the bytes are. `of` becomes the name of the case for which it is refused.
+fn answer_or_name(
+    alloc: Global,
+    question: Question,
+    text: &[u8],
+    of: &mut String,
+) -> Result<Answer, TraceFault>
+    ensures found { IfOk result (λ answer. IsAnswerTo question text.now answer.bytes.items answer.finding) }
+    ensures wrong { (wrong : KitField) → IsErrOf result (TraceFault.ScenarioField (Kit wrong)) → IsFirstWrong (demands_of question) wrong text.now }
+    ensures other { IfErr result IsFieldOrMemory }
+{
+    let answer = answer_to(alloc, question, text);
+    if let Err(TraceFault::ScenarioField(Field::Kit(wrong))) = answer {
+        if let Some(name) = case_of(alloc, text, wrong) {
+            *of = name;
+        }
+    }
+    answer
 }
 
 /// The answer to the document that the bytes are.

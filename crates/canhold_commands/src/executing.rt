@@ -11,7 +11,7 @@ use crate::document::{Finding, answer_document};
 use crate::help::HELP;
 use crate::words::{Asked, Chosen, Question, read_words};
 use can_adapter::play_lines;
-use can_program::{RunFault, conclude, refuse, write_help};
+use can_program::{RunFault, conclude, conclude_of, refuse, write_help};
 use can_stream::{Sink, Source};
 use std::alloc::Global;
 
@@ -25,7 +25,7 @@ pub const NAME: &str = "canhold";
 /// | Status | Line | Why |
 /// |---|---|---|
 /// | 0 | none | all was done, and all that was judged passes; some was, where it was asked for |
-/// | 1 | `canhold: P2 case[3].tester[1]`, `canhold: P6 long` | the document or the input is refused |
+/// | 1 | `canhold: P2 case[3].tester[1] of start-first`, `canhold: P6 long` | the document or the input is refused |
 /// | 1 | `canhold: transcripts differ` | all was done, and some transcript does not pass |
 /// | 2 | `canhold: usage` | the words are refused |
 /// | 3 | `canhold: P3 read`, `canhold: P4 write` | `r` or `w` failed |
@@ -66,18 +66,23 @@ pub fn execute<R: Source, W: Sink, E: Sink>(
     ensures no_fault_line { result ≡ 0 → e.new ≡ e.old }
 {
     match read_words(words) {
-        Some(Asked::Run(chosen)) => conclude(NAME, answer(alloc, chosen, r, w), e),
+        Some(Asked::Run(chosen)) => {
+            let mut of = String::new(alloc);
+            let outcome = answer(alloc, chosen, r, w, &mut of);
+            conclude_of(NAME, outcome, of.as_str(), e)
+        }
         Some(Asked::Help) => conclude(NAME, write_help(HELP, w), e),
         None => refuse(NAME, RunFault::Usage, e),
     }
 }
 
-/// Does what the subcommand asks.
+/// Does what the subcommand asks. `of` becomes the name of the case for which a document is refused.
 fn answer<R: Source, W: Sink>(
     alloc: Global,
     chosen: Chosen,
     r: &mut R,
     w: &mut W,
+    of: &mut String,
 ) -> Result<(), RunFault>
     requires reader_unfailed { R.has_failed r.old ≡ false }
     requires reader_unended { R.has_ended r.old ≡ false }
@@ -90,7 +95,7 @@ fn answer<R: Source, W: Sink>(
 {
     match chosen {
         Chosen::Play => Ok(play_lines(alloc, r, w)?),
-        Chosen::Document(question) => answered(alloc, question, r, w),
+        Chosen::Document(question) => answered(alloc, question, r, w, of),
     }
 }
 
@@ -100,6 +105,7 @@ fn answered<R: Source, W: Sink>(
     question: Question,
     r: &mut R,
     w: &mut W,
+    of: &mut String,
 ) -> Result<(), RunFault>
     requires reader_unfailed { R.has_failed r.old ≡ false }
     requires reader_unended { R.has_ended r.old ≡ false }
@@ -110,7 +116,7 @@ fn answered<R: Source, W: Sink>(
     ensures read_told { IsTrue (R.has_failed r.new) → exit_status result ≡ 3 }
     ensures no_misuse { exit_status result ≢ 2 }
 {
-    match answer_document(alloc, question, r, w)? {
+    match answer_document(alloc, question, r, w, of)? {
         Finding::Agree => Ok(()),
         Finding::Differ => Err(RunFault::TranscriptsDiffer),
         Finding::Nothing => Err(RunFault::NothingJudged),

@@ -34,7 +34,8 @@ A line that is none of these is answered by a line that begins with error.
 
 Faults, on standard error as canhold: P3 read:
   P2 FIELD           the document's first field that isn't as it has to be, as
-                     P2 case[3].tester[1]; nothing has been written
+                     P2 case[3].tester[1], and behind it of CASE, where its table
+                     says the case's name; nothing has been written
   P3 read, P4 write  standard input could not be read, standard output not be written
   P5 memory          no memory for the words of the command line, a document or a case
   P6 long            the runner's lines have more than 2^63 bytes
