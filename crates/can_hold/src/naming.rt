@@ -17,9 +17,9 @@ use toml::Table;
 /// How many bytes the name of a case may have.
 const LONGEST_NAME: usize = 80;
 
-/// The name of the case that this field of the kit document that the bytes are is of, for whom reads of a refusal: its
-/// table says it, or that of its transcript. There is none where the field is of no case, where its table says no
-/// name of 1 to 80 letters from a to z, digits and hyphens, and where memory runs out.
+/// The name of the case of this field in the kit document that the bytes are, as its table says it, or that of its
+/// transcript. There is none where the field is of no case, where the table says no name of 1 to 80 letters from a to
+/// z, digits and hyphens, and where memory runs out.
 pub fn case_of(alloc: Global, text: &[u8], wrong: KitField) -> Option<String>
     ensures { IfSome result (λ name. IsCaseIn text.now wrong (string_bytes name)) }
 {
