@@ -1,3 +1,5 @@
 mod DocumentParts
 mod CasesAlone
 mod CountedVerdicts
+mod Rows
+mod TablesByNumber

@@ -1,7 +1,7 @@
 -- What `canhold judge` writes: a line for each transcript of the document, and the count.
 -- (docs/CONFORMANCE.md, "What is judged")
-use Rattle.std.specs.Prelude.{ℕ, ◌≡◌, ◌+◌, List, [], ◌∷◌, ◌++◌, Some}
-use Rattle.std.specs.List.{slice_get}
+use Rattle.std.specs.Prelude.{ℕ, ◌≡◌, ◌==◌, ◌+◌, Bool, not, List, [], ◌∷◌, ◌++◌, count_by, length, Some}
+use Rattle.std.specs.List.{list_any, range_with_len, slice_get}
 use Rattle.std.specs.String.{string_bytes}
 use Rattle.can_conform.specs.declared.judging.Verdict.{Verdict}
 use Rattle.can_conform.specs.declared.judging.Verdict.TheVariants.{Pass, Fail}
@@ -9,7 +9,7 @@ use Rattle.can_conform.specs.Verdicts.{IsVerdict}
 use Rattle.can_kit.specs.declared.case.Case.{Case}
 use Rattle.can_transcript.specs.declared.told.Told.{Told}
 use Rattle.can_verdict.specs.declared.tally.Tally.{Tally}
-use Rattle.can_verdict.specs.Counts.{count_line}
+use Rattle.can_verdict.specs.Counts.{cases_in, count_line}
 use Rattle.can_verdict.specs.Verdicts.{verdict_line}
 use Rattle.can_hold.specs.declared.document.Document.{Document}
 use Rattle.can_hold.specs.Documents.{IsKitText}
@@ -24,6 +24,14 @@ no_cases = record { passed = 0; failed = 0; void = 0; skipped = 0 }
 abbrev pub counted : Tally → Verdict → Tally
 counted tally Pass = record { passed = tally.passed + 1; failed = tally.failed; void = tally.void; skipped = tally.skipped }
 counted tally (Fail failure) = record { passed = tally.passed; failed = tally.failed + 1; void = tally.void; skipped = tally.skipped }
+
+-- one of the transcripts is of the case at this place
+abbrev pub has_one : List Told → ℕ → Bool
+has_one transcripts place = list_any (λ told. told.case == place) transcripts
+
+-- how many of the document's cases have no transcript
+abbrev pub cases_without : Document → ℕ
+cases_without document = count_by (λ place. not (has_one document.transcripts.items place)) (range_with_len 0 (length document.cases.items))
 
 -- ---- the lines
 
@@ -49,11 +57,13 @@ AddVerdicts cases (told ∷ transcripts) before after =
     (case : Case) × (slice_get cases told.case ≡ Some case) × (between : Lines)
     × AddsVerdict case told before between × AddVerdicts cases transcripts between after
 
--- the answer is a line for each transcript of the document, and behind them this count
+-- the answer is a line for each transcript of the document, and behind them this count of their verdicts, and of the
+-- cases without a transcript
 pub record IsAnswer (document : Document) (answer : List ℕ) (tally : Tally) : Type 0 where
   pub lines : List ℕ
   pub verdicts : AddVerdicts document.cases.items document.transcripts.items (lines_of [] no_cases) (lines_of lines tally)
-  pub all : answer ≡ lines ++ count_line tally
+  pub each : cases_in tally ≡ length document.transcripts.items
+  pub all : answer ≡ lines ++ count_line tally (cases_without document)
 
 -- the bytes are a kit document with this answer
 abbrev pub IsJudged : (bytes answer : List ℕ) (tally : Tally) → Type 0

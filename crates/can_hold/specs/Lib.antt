@@ -2,3 +2,4 @@
 pub mod Documents
 pub mod Expectations
 pub mod Judgements
+pub mod CaseNames

@@ -7,7 +7,7 @@ ghost use Rattle.can_stream.specs.declared.kit_field.KitField.{KitField as Wrong
 ghost use Rattle.can_stream.specs.declared.field.Field.TheVariants.{Kit};
 ghost use Rattle.can_kit.specs.Cases.{most_bits};
 ghost use Rattle.can_hold.specs.Documents.{document_demands, IsFieldOrMemory, IsFirstWrong};
-ghost use Rattle.can_hold.specs.Judgements.{counted as counted_as, lines_of, no_cases, AddVerdicts, AddsVerdict, IsAnswer, IsJudged};
+ghost use Rattle.can_hold.specs.Judgements.{cases_without as without_in, counted as counted_as, has_one as is_one, lines_of, no_cases, AddVerdicts, AddsVerdict, IsAnswer, IsJudged};
 
 use crate::document::Document;
 use can_conform::{Verdict, judge};
@@ -20,7 +20,8 @@ use std::alloc::{AllocError, Global};
 /// What is said of the transcripts of a document.
 #[derive(Debug, Drop)]
 pub struct Judgement {
-    /// A line for each transcript, in their order, and behind them the count. Each ends with 0x0a.
+    /// A line for each transcript, in their order, and behind them the count, which also says how many cases have
+    /// no transcript. Each ends with 0x0a.
     pub lines: Vec<u8>,
     /// How many transcripts have which verdict; none is void or skipped.
     pub tally: Tally,
@@ -52,8 +53,25 @@ fn judge_all(alloc: Global, document: &Document) -> Result<Judgement, AllocError
 {
     let mut lines = Vec::new(alloc);
     let tally = push_verdicts(alloc, &mut lines, &document.cases, &document.transcripts)?;
-    push_count(&mut lines, tally)?;
+    push_count(&mut lines, tally, cases_without(document) as u64)?;
     Ok(Judgement { lines, tally })
+}
+
+/// How many cases of a document have no transcript.
+fn cases_without(document: &Document) -> usize
+    ensures { result ≡ without_in document.now }
+{
+    let transcripts = document.transcripts.as_slice();
+    (0..document.cases.len())
+        .filter(|place| !has_one(*place, transcripts))
+        .count()
+}
+
+/// Whether one of the transcripts is of the case at this place.
+fn has_one(place: usize, transcripts: &[Told]) -> bool
+    ensures { result ≡ is_one transcripts.now place }
+{
+    transcripts.iter().any(|told| told.case == place)
 }
 
 /// Appends a line for each transcript, of one of these cases, and counts the verdicts.

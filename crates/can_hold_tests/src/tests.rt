@@ -85,6 +85,23 @@ fn lines_in_the_order_of_transcripts(rt: HostRuntime) -> Result<(), Fail> {
     Ok(())
 }
 
+/// Whether so much is said of a document of these parts.
+fn judges(alloc: Global, parts: &[&str], lines: &str) -> Result<bool, AllocError> {
+    let text = joined(alloc, parts)?;
+    Ok(judged(alloc, text.as_bytes()).is_ok_and(|it| it.lines.as_slice() == lines.as_bytes()))
+}
+
+#[test]
+fn cases_without_a_transcript(rt: HostRuntime) -> Result<(), AllocError> {
+    let some =
+        "pass start-first\npassed 1 failed 0 void 0 skipped 0 of 1, 2 without a transcript\n";
+    let none = "passed 0 failed 0 void 0 skipped 0 of 0, 1 without a transcript\n";
+    let parts = [FORM_ERROR, START, ACK_UNSEEN, START_STORED];
+    assert!(rt; judges(rt.alloc(), &parts, some)?);
+    assert!(rt; judges(rt.alloc(), &[FORM_ERROR], none)?);
+    Ok(())
+}
+
 /// The fault that tells this field.
 fn told(wrong: KitField) -> TraceFault {
     TraceFault::ScenarioField(Field::Kit(wrong))

@@ -19,6 +19,9 @@ pub enum RunFault {
     /// Not all transcripts tell what the reference does.
     #[error("transcripts differ")]
     TranscriptsDiffer,
+    /// There was no transcript to judge.
+    #[error("nothing judged")]
+    NothingJudged,
     /// Memory ran out in reading the words.
     #[error("P5 memory")]
     Memory,
@@ -52,7 +55,7 @@ impl RunFault {
         }
     }
 
-    /// The exit status, 1 to 4.
+    /// The exit status, 1 to 5.
     pub fn status(self) -> u8
         ensures { result ≡ status_of self }
     {
@@ -68,6 +71,7 @@ impl RunFault {
             RunFault::Usage => 2,
             RunFault::Stream(TraceFault::Read | TraceFault::Write) => 3,
             RunFault::Memory | RunFault::Stream(TraceFault::Memory) => 4,
+            RunFault::NothingJudged => 5,
         }
     }
 }

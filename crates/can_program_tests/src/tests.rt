@@ -1,8 +1,8 @@
 //! Faults, their lines and statuses.
 ghost use Rattle.std.specs.Prelude.{◌≡◌, false};
 
-use RunFault::{Memory, Stream, Usage, VectorsDiffer};
-use can_program::{RunFault, conclude, refuse, words_or_status, write_help};
+use RunFault::{Memory, NothingJudged, Stream, TranscriptsDiffer, Usage, VectorsDiffer};
+use can_program::{RunFault, conclude, conclude_of, refuse, words_or_status, write_help};
 use can_stream::pieces::{ROOM, Stop, Taker, writer_of};
 use can_stream::{Field, KitField, PortField, ToWrite, TraceFault, TranscriptField};
 use std::alloc::Global;
@@ -44,11 +44,13 @@ const ENDINGS: &[(Result<(), RunFault>, u8, &str)] = &[
     ),
     (Err(Stream(TraceFault::Long)), 1, "canbit: P6 long\n"),
     (Err(VectorsDiffer), 1, "canbit: vectors differ\n"),
+    (Err(TranscriptsDiffer), 1, "canbit: transcripts differ\n"),
     (Err(Usage), 2, "canbit: usage\n"),
     (Err(Stream(TraceFault::Read)), 3, "canbit: P3 read\n"),
     (Err(Stream(TraceFault::Write)), 3, "canbit: P4 write\n"),
     (Err(Memory), 4, "canbit: P5 memory\n"),
     (Err(Stream(TraceFault::Memory)), 4, "canbit: P5 memory\n"),
+    (Err(NothingJudged), 5, "canbit: nothing judged\n"),
 ];
 
 /// Whether a run ends with this status and this line.
@@ -73,6 +75,30 @@ fn each_ending_has_a_line_and_a_status(rt: HostRuntime) {
         }
     }
     assert!(rt; RunFault::from(TraceFault::Long) == Stream(TraceFault::Long));
+}
+
+/// A name of 80 letters, and the longest line, which ends with it.
+const OF: &str = "xxxxxxxxxxxxxxxxxxxxxxxxxxxxxxxxxxxxxxxxxxxxxxxxxxxxxxxxxxxxxxxxxxxxxxxxxxxxxxxx";
+
+const LONGEST: &str =
+    "canhold: P2 transcript[18446744073709551615].counters[18446744073709551615] of xxxxxxxxxxxxxxxxxxxxxxxxxxxxxxxxxxxxxxxxxxxxxxxxxxxxxxxxxxxxxxxxxxxxxxxxxxxxxxxx\n";
+
+/// Whether a fault of this is told by this line.
+fn tells_of(alloc: Global, of: &str, line: &str) -> bool {
+    let part = TranscriptField::Change(usize::MAX);
+    let wrong = KitField::Transcript {
+        number: usize::MAX,
+        part,
+    };
+    let fault = Stream(TraceFault::ScenarioField(Field::Kit(wrong)));
+    let mut told = errors(alloc, ROOM);
+    let status = conclude_of("canhold", Err(fault), of, &mut told);
+    status == 1 && told.into_inner().taken.as_slice() == line.as_bytes()
+}
+
+#[test]
+fn what_a_fault_is_of_stands_behind_it(rt: HostRuntime) {
+    assert!(rt; tells_of(rt.alloc(), OF, LONGEST));
 }
 
 /// Whether help comes to this, and as much of it is written, where the writer takes so many bytes.

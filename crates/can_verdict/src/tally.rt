@@ -1,6 +1,6 @@
 //! How many cases have which verdict.
 ghost use Rattle.std.specs.Prelude.{◌≡◌, ◌++◌, decimal, OnOk};
-ghost use Rattle.can_verdict.specs.Counts.{cases_in, count_line};
+ghost use Rattle.can_verdict.specs.Counts.{cases_in, count_line, verdicts_text, without_text};
 
 use can_kit_text::{push_number, push_text};
 use std::alloc::AllocError;
@@ -36,16 +36,36 @@ impl Tally {
     }
 }
 
-/// Appends the line that counts the cases of a run: `passed 1 failed 1 void 0 skipped 0 of 2` and 0x0a.
-pub fn push_count(out: &mut Vec<u8>, tally: Tally) -> Result<(), AllocError>
-    ensures { OnOk result (out.new.items ≡ out.old.items ++ count_line tally) }
+/// Appends the line that counts the cases of a run, `passed 1 failed 1 void 0 skipped 0 of 2`, and 0x0a. Of cases
+/// that have no transcript, and so no verdict, it says how many there are: `, 3 without a transcript`.
+pub fn push_count(out: &mut Vec<u8>, tally: Tally, without: u64) -> Result<(), AllocError>
+    ensures { OnOk result (out.new.items ≡ out.old.items ++ count_line tally without) }
+{
+    push_verdicts(out, tally)?;
+    push_without(out, without)?;
+    push_text(out, b"\n")
+}
+
+/// Appends how many cases have which verdict, and how many these are.
+fn push_verdicts(out: &mut Vec<u8>, tally: Tally) -> Result<(), AllocError>
+    ensures { OnOk result (out.new.items ≡ out.old.items ++ verdicts_text tally) }
 {
     push_number_behind(out, b"passed ", u64::from(tally.passed))?;
     push_number_behind(out, b" failed ", u64::from(tally.failed))?;
     push_number_behind(out, b" void ", u64::from(tally.void))?;
     push_number_behind(out, b" skipped ", u64::from(tally.skipped))?;
-    push_number_behind(out, b" of ", tally.cases())?;
-    push_text(out, b"\n")
+    push_number_behind(out, b" of ", tally.cases())
+}
+
+/// Appends how many cases have no transcript, or nothing where each has one.
+fn push_without(out: &mut Vec<u8>, without: u64) -> Result<(), AllocError>
+    ensures { OnOk result (out.new.items ≡ out.old.items ++ without_text without) }
+{
+    if without == 0 {
+        return Ok(());
+    }
+    push_number_behind(out, b", ", without)?;
+    push_text(out, b" without a transcript")
 }
 
 /// Appends a word and a number.

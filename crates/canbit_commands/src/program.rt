@@ -111,6 +111,7 @@ fn answer<R: Source, W: Sink>(
     ensures read_told { IsTrue (R.has_failed r.new) → (exit_status result ≡ 3)
         ⊎ ((exit_status result ≡ 1) × ((place : ℕ)
         × Told R.remaining r.old r.new W.contents w.old w.new (HasBadByte chosen place))) }
+    ensures status { exit_status result < 5 }
     ensures no_misuse { exit_status result ≢ 2 }
     ensures unwritten { exit_status result ≡ 4 → w.new ≡ w.old }
     ensures memory { exit_status result ≡ 4 → chosen ≡ Chosen.Run }

@@ -1,6 +1,9 @@
 //! What the help texts say behind the lines that `clap` writes itself. Each fault's code is explained
 //! where it can come; docs/CODES.md says what to do about it.
 
+/// The line of usage of the program.
+pub const USAGE: &str = "canbit <COMMAND> [--help]";
+
 /// Of the program.
 pub const PROGRAM: &str = "\
 Each subcommand reads standard input and writes standard output, as
@@ -11,7 +14,7 @@ canbit COMMAND --help has the form of both. A fault is one line on standard erro
 Exit status:
   0  all done, and all vectors passed; or help was asked for
   1  the input has a fault, or some vector differs
-  2  canbit: usage: no subcommand, an unknown one, or words behind it
+  2  canbit: usage: no subcommand, an unknown one, or other words than --help behind it
   3  standard input could not be read, or standard output not be written
   4  no memory";
 

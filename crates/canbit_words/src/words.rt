@@ -6,7 +6,7 @@ ghost use Rattle.clap.specs.declared.builder.command.Command.TheViews.{out-Comma
 ghost use Rattle.canbit_words.specs.Subcommands.{canbit, name_of};
 ghost use Rattle.canbit_words.specs.Words.{AsksFor, AsksForHelp, IsMisuse, faults_in, named_in, texts_of};
 
-use crate::help::PROGRAM;
+use crate::help::{PROGRAM, USAGE};
 use crate::subcommands::Chosen;
 use clap::error::{Error, ErrorKind};
 use clap::{ArgMatches, Command};
@@ -50,6 +50,7 @@ fn command<'a>(alloc: Global) -> Result<Command<'a>, AllocError>
 {
     let mut command = Command::new(alloc, "canbit")
         .about("Codes, decodes and checks frames of a classical CAN bus, and runs scenarios")
+        .override_usage(USAGE)
         .after_help(PROGRAM)
         .subcommand_required(true);
     for chosen in Chosen::ALL {

@@ -1,6 +1,6 @@
 -- What each subcommand has written for what it read, for each outcome. (docs/CONFORMANCE.md, "Line by line",
 -- "What is expected", "What is judged")
-use Rattle.std.specs.Prelude.{ℕ, ◌≡◌, ◌==◌, Bool, true, false, List, [], ◌++◌, Result, Ok, Err}
+use Rattle.std.specs.Prelude.{ℕ, ◌≡◌, ◌==◌, if◌then◌else◌, List, [], ◌++◌, Result, Ok, Err}
 use Rattle.toml.specs.Data.{Data}
 use Rattle.can_adapter.specs.Plays.{Plays}
 use Rattle.can_hold.specs.Documents.{document_demands, IsFirstWrong}
@@ -12,8 +12,11 @@ use Rattle.can_stream.specs.declared.field.Field.TheVariants.{Kit}
 use Rattle.can_stream.specs.declared.kit_field.KitField.{KitField}
 use Rattle.can_toml.specs.Demands.{Demands}
 use Rattle.can_verdict.specs.declared.tally.Tally.{Tally}
+use Rattle.can_verdict.specs.Counts.{cases_in}
 use Rattle.can_program.specs.declared.fault.RunFault.{RunFault}
-use Rattle.can_program.specs.declared.fault.RunFault.TheVariants.{Usage, VectorsDiffer, TranscriptsDiffer, Memory, Stream}
+use Rattle.can_program.specs.declared.fault.RunFault.TheVariants.{Usage, VectorsDiffer, TranscriptsDiffer, NothingJudged, Memory, Stream}
+use Rattle.canhold_commands.specs.declared.document.Finding.{Finding}
+use Rattle.canhold_commands.specs.declared.document.Finding.TheVariants.{Agree, Differ, Nothing}
 use Rattle.canhold_commands.specs.declared.words.Chosen.{Chosen}
 use Rattle.canhold_commands.specs.declared.words.Chosen.TheVariants.{Play, Document}
 use Rattle.canhold_commands.specs.declared.words.Question.{Question}
@@ -28,14 +31,19 @@ PlaysLines (Err (Stream fault)) input output = Plays (Err fault) input output
 PlaysLines (Err Usage) input output = ⊥
 PlaysLines (Err VectorsDiffer) input output = ⊥
 PlaysLines (Err TranscriptsDiffer) input output = ⊥
+PlaysLines (Err NothingJudged) input output = ⊥
 PlaysLines (Err Memory) input output = ⊥
 
 -- ---- documents that are answered
 
--- the answer to a document, and whether all its transcripts agree with the reference
-abbrev pub IsAnswerTo : Question → List ℕ → List ℕ → Bool → Type 0
-IsAnswerTo Expect input answer agrees = IsExpected input answer × (agrees ≡ true)
-IsAnswerTo Judge input answer agrees = (tally : Tally) × IsJudged input answer tally × (agrees ≡ (tally.failed == 0))
+-- what is found by verdicts of this count: there are none, none failed, or some did
+abbrev pub finding_of : Tally → Finding
+finding_of tally = if cases_in tally == 0 then Nothing else (if tally.failed == 0 then Agree else Differ)
+
+-- the answer to a document, and what is found in it
+abbrev pub IsAnswerTo : Question → List ℕ → List ℕ → Finding → Type 0
+IsAnswerTo Expect input answer finding = IsExpected input answer × (finding ≡ Agree)
+IsAnswerTo Judge input answer finding = (tally : Tally) × IsJudged input answer tally × (finding ≡ finding_of tally)
 
 -- what is demanded of the document
 abbrev pub demands_of : Question → Data → Demands KitField
@@ -51,21 +59,22 @@ abbrev pub Refuses : Question → KitField → List ℕ → List ℕ → Type 0
 Refuses question wrong input output = IsFirstWrong (demands_of question) wrong input × WritesNothing input output
 
 -- the whole answer is written
-abbrev pub Answers : Question → Bool → List ℕ → List ℕ → Type 0
-Answers question agrees input output = IsAnswerTo question input output agrees
+abbrev pub Answers : Question → Finding → List ℕ → List ℕ → Type 0
+Answers question finding input output = IsAnswerTo question input output finding
 
 -- a beginning of the answer is written
 pub record BeginsAnswer (question : Question) (input output : List ℕ) : Type 0 where
   pub answer : List ℕ
-  pub agrees : Bool
-  pub is : IsAnswerTo question input answer agrees
+  pub finding : Finding
+  pub is : IsAnswerTo question input answer finding
   pub rest : List ℕ
   pub all : answer ≡ output ++ rest
 
 -- the document has been answered
 abbrev pub AnswersDocument : Question → Result (Unit {0}) RunFault → List ℕ → List ℕ → Type 0
-AnswersDocument question (Ok done) = Answers question true
-AnswersDocument question (Err TranscriptsDiffer) = Answers question false
+AnswersDocument question (Ok done) = Answers question Agree
+AnswersDocument question (Err TranscriptsDiffer) = Answers question Differ
+AnswersDocument question (Err NothingJudged) = Answers question Nothing
 AnswersDocument question (Err (Stream (ScenarioField (Kit wrong)))) = Refuses question wrong
 AnswersDocument question (Err (Stream Read)) = WritesNothing
 AnswersDocument question (Err (Stream Write)) = BeginsAnswer question

@@ -1,5 +1,5 @@
 -- What the words of a command line ask for. (docs/CONFORMANCE.md, "Line by line")
-use Rattle.std.specs.Prelude.{ℕ, ◌≡◌, ◌||◌, if◌then◌else◌, List, [], ◌∷◌, Option, Some, None, codes, map, string_bytes}
+use Rattle.std.specs.Prelude.{ℕ, ◌≡◌, Bool, ◌&&◌, ◌||◌, if◌then◌else◌, List, [], ◌∷◌, Option, Some, None, codes, map, string_bytes}
 use Rattle.std.specs.Str.{bytes_eq}
 use Rattle.std.specs.declared.alloc.Global.{Global}
 use Rattle.std.specs.declared.string.String.{String}
@@ -21,12 +21,22 @@ asked_word word =
     else if bytes_eq word (codes "judge") then Some (Run (Document Judge))
     else (if bytes_eq word (codes "help") || (bytes_eq word (codes "--help") || bytes_eq word (codes "-h")) then Some Help else None)
 
--- what the words ask for: the program's name, whatever it is, and one word
+-- a word that names a subcommand
+abbrev pub is_subcommand : List ℕ → Bool
+is_subcommand word = bytes_eq word (codes "play") || (bytes_eq word (codes "expect") || bytes_eq word (codes "judge"))
+
+-- what two words ask for: help, where the second asks for it behind a subcommand
+abbrev pub asked_words : List ℕ → List ℕ → Option Asked
+asked_words word option =
+    if is_subcommand word && (bytes_eq option (codes "--help") || bytes_eq option (codes "-h")) then Some Help else None
+
+-- what the words ask for: the program's name, whatever it is, and one word or two
 abbrev pub asked_by : List (List ℕ) → Option Asked
 asked_by [] = None
 asked_by (name ∷ []) = None
 asked_by (name ∷ word ∷ []) = asked_word word
-asked_by (name ∷ word ∷ other ∷ words) = None
+asked_by (name ∷ word ∷ option ∷ []) = asked_words word option
+asked_by (name ∷ word ∷ option ∷ other ∷ words) = None
 
 -- they ask for this subcommand
 abbrev pub AsksFor : Chosen → List (List ℕ) → Type 0

@@ -4,28 +4,41 @@ ghost use Rattle.can_stream.specs.Told.{Told};
 ghost use Rattle.can_stream.specs.declared.field.Field.TheVariants.{Kit};
 ghost use Rattle.can_stream.specs.declared.kit_field.KitField.{KitField};
 ghost use Rattle.can_hold.specs.Documents.{IsFieldOrMemory, IsFirstWrong};
-ghost use Rattle.canhold_commands.specs.Answers.{demands_of, Answers, BeginsAnswer, IsAnswerTo, Refuses, WritesNothing};
+ghost use Rattle.canhold_commands.specs.Answers.{demands_of, finding_of, Answers, BeginsAnswer, IsAnswerTo, Refuses, WritesNothing};
 
 use crate::words::Question;
-use can_hold::{expected, judged};
-use can_stream::{Sink, Source, TraceFault, read_whole, write_all};
+use can_hold::{case_of, expected, judged};
+use can_stream::{Field, Sink, Source, TraceFault, read_whole, write_all};
+use can_verdict::Tally;
 use std::alloc::Global;
 
-/// Reads a kit document up to the reader's end, and writes the answer to the question. It answers whether
-/// all transcripts that were judged agree with the reference. Nothing is written where the reader failed,
-/// the document is refused, or memory ran out.
+/// What was found in a document.
+#[derive(Clone, Copy, Debug, PartialEq, Eq)]
+pub enum Finding {
+    /// All transcripts that were judged agree with the reference.
+    Agree,
+    /// Some transcript does not.
+    Differ,
+    /// There was no transcript to judge.
+    Nothing,
+}
+
+/// Reads a kit document up to the reader's end, and writes the answer to the question. It answers what was
+/// found in the document. Nothing is written where the reader failed, the document is refused, or memory ran
+/// out. `of` becomes the name of the case for which the document is refused, if there is one.
 pub fn answer_document<R: Source, W: Sink>(
     alloc: Global,
     question: Question,
     r: &mut R,
     w: &mut W,
-) -> Result<bool, TraceFault>
+    of: &mut String,
+) -> Result<Finding, TraceFault>
     requires reader_unfailed { R.has_failed r.old ≡ false }
     requires reader_unended { R.has_ended r.old ≡ false }
     requires writer_unfailed { W.has_failed w.old ≡ false }
 
     // What was written of what was read.
-    ensures ok { IfOk result (λ agrees. Told R.remaining r.old r.new W.contents w.old w.new (Answers question agrees)) }
+    ensures ok { IfOk result (λ finding. Told R.remaining r.old r.new W.contents w.old w.new (Answers question finding)) }
     ensures field { (wrong : KitField) → IsErrOf result (TraceFault.ScenarioField (Kit wrong)) →
         Told R.remaining r.old r.new W.contents w.old w.new (Refuses question wrong) }
     ensures read { IsErrOf result TraceFault.Read → Told R.remaining r.old r.new W.contents w.old w.new WritesNothing }
@@ -38,36 +51,68 @@ pub fn answer_document<R: Source, W: Sink>(
     ensures write_failed { IsErrOf result TraceFault.Write ↔ IsTrue (W.has_failed w.new) }
 {
     let text = read_whole(alloc, r)?;
-    let answer = answer_to(alloc, question, text.as_slice())?;
+    let answer = answer_or_name(alloc, question, text.as_slice(), of)?;
     write_all(w, answer.bytes.as_slice())?;
-    Ok(answer.agrees)
+    Ok(answer.finding)
 }
 
 /// The answer to a document.
 #[derive(Drop)]
 struct Answer {
     bytes: Vec<u8>,
-    /// Whether all transcripts that were judged agree with the reference.
-    agrees: bool,
+    finding: Finding,
+}
+
+/// The answer to the document that the bytes are. `of` becomes the name of the case for which it is refused.
+fn answer_or_name(
+    alloc: Global,
+    question: Question,
+    text: &[u8],
+    of: &mut String,
+) -> Result<Answer, TraceFault>
+    ensures found { IfOk result (λ answer. IsAnswerTo question text.now answer.bytes.items answer.finding) }
+    ensures wrong { (wrong : KitField) → IsErrOf result (TraceFault.ScenarioField (Kit wrong)) → IsFirstWrong (demands_of question) wrong text.now }
+    ensures other { IfErr result IsFieldOrMemory }
+{
+    let answer = answer_to(alloc, question, text);
+    if let Err(TraceFault::ScenarioField(Field::Kit(wrong))) = answer {
+        if let Some(name) = case_of(alloc, text, wrong) {
+            *of = name;
+        }
+    }
+    answer
 }
 
 /// The answer to the document that the bytes are.
 fn answer_to(alloc: Global, question: Question, text: &[u8]) -> Result<Answer, TraceFault>
-    ensures found { IfOk result (λ answer. IsAnswerTo question text.now answer.bytes.items answer.agrees) }
+    ensures found { IfOk result (λ answer. IsAnswerTo question text.now answer.bytes.items answer.finding) }
     ensures wrong { (wrong : KitField) → IsErrOf result (TraceFault.ScenarioField (Kit wrong)) → IsFirstWrong (demands_of question) wrong text.now }
     ensures other { IfErr result IsFieldOrMemory }
 {
     match question {
         Question::Expect => Ok(Answer {
             bytes: expected(alloc, text)?,
-            agrees: true,
+            finding: Finding::Agree,
         }),
         Question::Judge => {
             let judgement = judged(alloc, text)?;
             Ok(Answer {
-                agrees: judgement.tally.failed == 0,
+                finding: found(judgement.tally),
                 bytes: judgement.lines,
             })
         }
+    }
+}
+
+/// What was found where so many transcripts have which verdict.
+fn found(tally: Tally) -> Finding
+    ensures { result ≡ finding_of tally }
+{
+    if tally.cases() == 0 {
+        Finding::Nothing
+    } else if tally.failed == 0 {
+        Finding::Agree
+    } else {
+        Finding::Differ
     }
 }

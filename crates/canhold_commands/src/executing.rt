@@ -7,11 +7,11 @@ ghost use Rattle.canhold_commands.specs.Answers.{AnswersDocument, Does};
 ghost use Rattle.can_program.specs.Status.{exit_status};
 ghost use Rattle.canhold_commands.specs.Words.{AsksFor, asked_by, texts_of};
 
-use crate::document::answer_document;
+use crate::document::{Finding, answer_document};
 use crate::help::HELP;
 use crate::words::{Asked, Chosen, Question, read_words};
 use can_adapter::play_lines;
-use can_program::{RunFault, conclude, refuse, write_help};
+use can_program::{RunFault, conclude, conclude_of, refuse, write_help};
 use can_stream::{Sink, Source};
 use std::alloc::Global;
 
@@ -24,12 +24,13 @@ pub const NAME: &str = "canhold";
 ///
 /// | Status | Line | Why |
 /// |---|---|---|
-/// | 0 | none | all was done, and all that was judged passes |
-/// | 1 | `canhold: P2 case[3].tester[1]`, `canhold: P6 long` | the document or the input is refused |
+/// | 0 | none | all was done, and all that was judged passes; some was, where it was asked for |
+/// | 1 | `canhold: P2 case[3].tester[1] of start-first`, `canhold: P6 long` | the document or the input is refused |
 /// | 1 | `canhold: transcripts differ` | all was done, and some transcript does not pass |
 /// | 2 | `canhold: usage` | the words are refused |
 /// | 3 | `canhold: P3 read`, `canhold: P4 write` | `r` or `w` failed |
 /// | 4 | `canhold: P5 memory` | memory ran out |
+/// | 5 | `canhold: nothing judged` | all was done, and there was no transcript to judge |
 pub fn execute<R: Source, W: Sink, E: Sink>(
     alloc: Global,
     words: &[String],
@@ -40,7 +41,7 @@ pub fn execute<R: Source, W: Sink, E: Sink>(
     requires reader_unfailed { R.has_failed r.old ≡ false }
     requires reader_unended { R.has_ended r.old ≡ false }
     requires writer_unfailed { W.has_failed w.old ≡ false }
-    ensures status { result < 5 }
+    ensures status { result < 6 }
 
     // What the subcommand wrote of what it read, by the outcome that the status tells.
     ensures told { (chosen : Chosen) → AsksFor chosen (texts_of words.now)
@@ -65,18 +66,23 @@ pub fn execute<R: Source, W: Sink, E: Sink>(
     ensures no_fault_line { result ≡ 0 → e.new ≡ e.old }
 {
     match read_words(words) {
-        Some(Asked::Run(chosen)) => conclude(NAME, answer(alloc, chosen, r, w), e),
+        Some(Asked::Run(chosen)) => {
+            let mut of = String::new(alloc);
+            let outcome = answer(alloc, chosen, r, w, &mut of);
+            conclude_of(NAME, outcome, of.as_str(), e)
+        }
         Some(Asked::Help) => conclude(NAME, write_help(HELP, w), e),
         None => refuse(NAME, RunFault::Usage, e),
     }
 }
 
-/// Does what the subcommand asks.
+/// Does what the subcommand asks. `of` becomes the name of the case for which a document is refused.
 fn answer<R: Source, W: Sink>(
     alloc: Global,
     chosen: Chosen,
     r: &mut R,
     w: &mut W,
+    of: &mut String,
 ) -> Result<(), RunFault>
     requires reader_unfailed { R.has_failed r.old ≡ false }
     requires reader_unended { R.has_ended r.old ≡ false }
@@ -89,7 +95,7 @@ fn answer<R: Source, W: Sink>(
 {
     match chosen {
         Chosen::Play => Ok(play_lines(alloc, r, w)?),
-        Chosen::Document(question) => answered(alloc, question, r, w),
+        Chosen::Document(question) => answered(alloc, question, r, w, of),
     }
 }
 
@@ -99,6 +105,7 @@ fn answered<R: Source, W: Sink>(
     question: Question,
     r: &mut R,
     w: &mut W,
+    of: &mut String,
 ) -> Result<(), RunFault>
     requires reader_unfailed { R.has_failed r.old ≡ false }
     requires reader_unended { R.has_ended r.old ≡ false }
@@ -109,9 +116,9 @@ fn answered<R: Source, W: Sink>(
     ensures read_told { IsTrue (R.has_failed r.new) → exit_status result ≡ 3 }
     ensures no_misuse { exit_status result ≢ 2 }
 {
-    if answer_document(alloc, question, r, w)? {
-        Ok(())
-    } else {
-        Err(RunFault::TranscriptsDiffer)
+    match answer_document(alloc, question, r, w, of)? {
+        Finding::Agree => Ok(()),
+        Finding::Differ => Err(RunFault::TranscriptsDiffer),
+        Finding::Nothing => Err(RunFault::NothingJudged),
     }
 }

@@ -4,7 +4,7 @@
 pub const HELP: &str = "\
 The proved reference of the conformance kit for classical CAN controllers
 
-Usage: canhold COMMAND
+Usage: canhold COMMAND [--help]
 
 Commands:
   expect  Writes a kit document, and behind it what the reference does in its cases
@@ -18,8 +18,9 @@ levels, events, counters, the end. judge writes a line for each transcript,
 and the count:
   pass suspend-reception-at-4
   fail suspend-behind-error at 253: drove 0 not 1; suspend 7, sender; ...
-  passed 1 failed 1 void 0 skipped 0 of 2
+  passed 1 failed 1 void 0 skipped 0 of 2, 399 without a transcript
 A failure names the first difference, where the reference stands, and the rule.
+The count ends with how many cases have no transcript, where some have none.
 
 play reads standard input and answers each line before it reads on:
   case NAME START  begins a case, START is idle or joining; answer: ready
@@ -33,12 +34,14 @@ A line that is none of these is answered by a line that begins with error.
 
 Faults, on standard error as canhold: P3 read:
   P2 FIELD           the document's first field that isn't as it has to be, as
-                     P2 case[3].tester[1]; nothing has been written
+                     P2 case[3].tester[1], and behind it of CASE, where its table
+                     says the case's name; nothing has been written
   P3 read, P4 write  standard input could not be read, standard output not be written
   P5 memory          no memory for the words of the command line, a document or a case
   P6 long            the runner's lines have more than 2^63 bytes
   transcripts differ  not all transcripts pass
+  nothing judged      the document has no transcript
 
 Exit status: 0 all done, and all pass; 1 P2, P6, or not all pass; 2 wrong use;
-3 P3, P4; 4 P5
+3 P3, P4; 4 P5; 5 nothing judged
 ";

@@ -1,6 +1,6 @@
 //! What the words of a command line ask for.
 ghost use Rattle.std.specs.Prelude.{◌≡◌};
-ghost use Rattle.canhold_commands.specs.Words.{asked_by, asked_word, texts_of};
+ghost use Rattle.canhold_commands.specs.Words.{asked_by, asked_word, asked_words, texts_of};
 
 /// What is asked of a kit document.
 #[derive(Clone, Copy, Debug, PartialEq, Eq)]
@@ -28,12 +28,13 @@ pub enum Asked {
 }
 
 /// What the words ask for, the first of which is the program's name: a subcommand by its name, or the help
-/// text. Other words are no use of the program.
+/// text, also by an option behind a subcommand. Other words are no use of the program.
 pub fn read_words(words: &[String]) -> Option<Asked>
     ensures { result ≡ asked_by (texts_of words.now) }
 {
     match words {
         [_, word] => read_word(word.as_str()),
+        [_, word, option] => read_option(word.as_str(), option.as_str()),
         _ => None,
     }
 }
@@ -47,6 +48,16 @@ fn read_word(word: &str) -> Option<Asked>
         "expect" => Some(Asked::Run(Chosen::Document(Question::Expect))),
         "judge" => Some(Asked::Run(Chosen::Document(Question::Judge))),
         "help" | "--help" | "-h" => Some(Asked::Help),
+        _ => None,
+    }
+}
+
+/// What a subcommand and an option behind it ask for.
+fn read_option(word: &str, option: &str) -> Option<Asked>
+    ensures { result ≡ asked_words word.now option.now }
+{
+    match (word, option) {
+        ("play" | "expect" | "judge", "--help" | "-h") => Some(Asked::Help),
         _ => None,
     }
 }

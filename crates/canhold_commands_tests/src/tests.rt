@@ -77,6 +77,14 @@ const ANSWERED: &[Run] = &[
         ],
         told: "canhold: transcripts differ\n",
     },
+    Run {
+        words: &["judge"],
+        input: &[DOCUMENT],
+        streams: Streams::Whole,
+        status: 5,
+        written: &["passed 0 failed 0 void 0 skipped 0 of 0, 1 without a transcript\n"],
+        told: "canhold: nothing judged\n",
+    },
 ];
 
 const REFUSED: &[Run] = &[
@@ -184,6 +192,22 @@ const HELPED: &[Run] = &[
         written: &[HELP],
         told: "",
     },
+    Run {
+        words: &["judge", "--help"],
+        input: &[],
+        streams: Streams::Whole,
+        status: 0,
+        written: &[HELP],
+        told: "",
+    },
+    Run {
+        words: &["play", "-h"],
+        input: &[],
+        streams: Streams::Whole,
+        status: 0,
+        written: &[HELP],
+        told: "",
+    },
 ];
 
 /// Words that are no use of the program.
@@ -191,6 +215,22 @@ const MISUSED: &[Run] = &[
     Run {
         words: &["play", "now"],
         input: &["case a idle\n"],
+        streams: Streams::Whole,
+        status: 2,
+        written: &[],
+        told: "canhold: usage\n",
+    },
+    Run {
+        words: &["help", "--help"],
+        input: &[],
+        streams: Streams::Whole,
+        status: 2,
+        written: &[],
+        told: "canhold: usage\n",
+    },
+    Run {
+        words: &["judge", "--help", "-h"],
+        input: &[],
         streams: Streams::Whole,
         status: 2,
         written: &[],

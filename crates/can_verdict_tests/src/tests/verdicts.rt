@@ -415,7 +415,8 @@ fn lines_of_verdicts(rt: HostRuntime) -> Result<(), AllocError> {
     Ok(())
 }
 
-const COUNTS: &[(Tally, &str)] = &[
+/// How many cases have which verdict, how many have no transcript, and the line of that.
+const COUNTS: &[(Tally, u64, &str)] = &[
     (
         Tally {
             passed: 1,
@@ -423,7 +424,23 @@ const COUNTS: &[(Tally, &str)] = &[
             void: 0,
             skipped: 0,
         },
+        0,
         "passed 1 failed 1 void 0 skipped 0 of 2\n",
+    ),
+    (
+        Tally {
+            passed: 1,
+            failed: 1,
+            void: 0,
+            skipped: 0,
+        },
+        399,
+        "passed 1 failed 1 void 0 skipped 0 of 2, 399 without a transcript\n",
+    ),
+    (
+        Tally::NONE,
+        1,
+        "passed 0 failed 0 void 0 skipped 0 of 0, 1 without a transcript\n",
     ),
     (
         Tally {
@@ -432,6 +449,7 @@ const COUNTS: &[(Tally, &str)] = &[
             void: 3,
             skipped: 1,
         },
+        0,
         "passed 390 failed 4 void 3 skipped 1 of 398\n",
     ),
     (
@@ -441,21 +459,22 @@ const COUNTS: &[(Tally, &str)] = &[
             void: 1,
             skipped: 1,
         },
-        "passed 4294967295 failed 4294967295 void 1 skipped 1 of 8589934592\n",
+        u64::MAX,
+        "passed 4294967295 failed 4294967295 void 1 skipped 1 of 8589934592, 18446744073709551615 without a transcript\n",
     ),
 ];
 
 /// Whether this is the line of a count.
-fn is_counted(alloc: Global, tally: Tally, line: &str) -> Result<bool, AllocError> {
+fn is_counted(alloc: Global, tally: Tally, without: u64, line: &str) -> Result<bool, AllocError> {
     let mut out = Vec::new(alloc);
-    push_count(&mut out, tally)?;
+    push_count(&mut out, tally, without)?;
     Ok(out.as_slice() == line.as_bytes())
 }
 
 #[test]
 fn counts(rt: HostRuntime) -> Result<(), AllocError> {
-    for (tally, line) in COUNTS {
-        assert!(rt; is_counted(rt.alloc(), *tally, line)?, "{line}");
+    for (tally, without, line) in COUNTS {
+        assert!(rt; is_counted(rt.alloc(), *tally, *without, line)?, "{line}");
     }
     Ok(())
 }
