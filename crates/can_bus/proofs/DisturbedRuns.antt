@@ -11,10 +11,10 @@ use Rattle.can_frame.specs.Levels.{is_recessive}
 use Rattle.can_node.specs.Ports.{PortState, port_drives, port_run, port_step}
 use Rattle.can_bus.specs.declared.hit.Hit.{Hit}
 use Rattle.can_bus.specs.Disturbed.{level_then, ports_then, rest_before, begins_at, FallsOnWire, IsDisturbedRun, WasDisturbed}
-use Rattle.can_bus.specs.Run.{BusState, Course, all_sampled, attempt_now, begins_attempt, bus_after, bus_level, bus_run, bus_step, course, hits_view, hits_wire, inverted_if, recorded as recorded_by, rest_after, wired_level}
+use Rattle.can_bus.specs.Run.{BusState, CallState, all_sampled, attempt_now, begins_attempt, bus_after, bus_level, bus_run, bus_step, call_begun, hits_view, hits_wire, inverted_if, recorded as recorded_by, rest_after, wired_level}
 use Rattle.can_bus.specs.Wired.{wired as wired_of}
 use Rattle.can_bus.proofs.DisturbedTimes.{LatestIs, latest-none, latest-more, rest_before-none, rest_before-more, rest_after-capped, begins_attempt-capped, inverted-tells, inverted-told, view-decided, wire-decided}
-use Rattle.can_bus.proofs.StepLemmas.{course_more}
+use Rattle.can_bus.proofs.StepLemmas.{call_more}
 
 -- Ports that have seen so many levels.
 
@@ -54,19 +54,19 @@ ports_then-more hits t x k (p ∷ ports) (levels ∷ seen) long sees =
     (ports_then-more hits t x (k + 1) ports seen (λ port. long (suc port)) (λ port number own e. sees (suc port) number own (omega (arith, e))))
 
 -- what a port of this number sees in a bit time of a run
-abbrev view_of : List Hit → ℕ → Course → ℕ → Level
+abbrev view_of : List Hit → ℕ → CallState → ℕ → Level
 view_of hits t c port = inverted_if (list_any (hits_view t port) hits) (recorded_by hits c)
 
 module _ (hits : List Hit) (before : BusState) (wired recorded : List Level) (seen : List (List Level)) where
   -- a run has come to time t over these lists
-  record Stands (t : ℕ) (c : Course) : Type 0 where
+  record Stands (t : ℕ) (c : CallState) : Type 0 where
     ports : c.bus.ports ≡ ports_then t before.ports seen
     rest : c.bus.rest ≡ min (rest_before before.rest recorded t) 11
     time : c.time ≡ t
     latest : LatestIs before.rest wired recorded t c.latest
 
   -- the lists have the levels of this bit time
-  record Agrees (t : ℕ) (c : Course) : Type 0 where
+  record Agrees (t : ℕ) (c : CallState) : Type 0 where
     wires : level_then wired t ≡ wired_level c
     records : level_then recorded t ≡ recorded_by hits c
     views : (port : ℕ) (levels : List Level) → slice_get seen port ≡ Some levels → level_then levels t ≡ view_of hits t c port
@@ -84,7 +84,7 @@ module _ (hits : List Hit) (before : BusState) (wired recorded : List Level) (se
       let long : length (get_or seen port []) ≡ length recorded = fits.seen_long port [] inside in
       omega (arith, within, long, ap (λ own. length own) same)
 
-  stands-none : Fits → Stands 0 (course before)
+  stands-none : Fits → Stands 0 (call_begun before)
   stands-none fits = record {
     ports = ports_then-none before.ports seen fits.each_port;
     rest = omega (arith, fits.rest, rest_before-none before.rest recorded);
@@ -93,17 +93,17 @@ module _ (hits : List Hit) (before : BusState) (wired recorded : List Level) (se
   }
 
   -- an attempt begins in this bit time or not
-  begun_at : (t : ℕ) (c : Course) → Stands t c → level_then wired t ≡ wired_level c → begins_at before.rest wired recorded t ≡ begins_attempt c.bus.rest (wired_level c)
+  begun_at : (t : ℕ) (c : CallState) → Stands t c → level_then wired t ≡ wired_level c → begins_at before.rest wired recorded t ≡ begins_attempt c.bus.rest (wired_level c)
   unfolding begins_at
   begun_at t c stands here =
       ap (λ x. not (is_recessive x) && nat_le 11 (rest_before before.rest recorded t)) here
       ∙ sym (begins_attempt-capped (rest_before before.rest recorded t) (wired_level c)) ∙ ap (λ rest. begins_attempt rest (wired_level c)) (sym stands.rest)
 
-  latest_at : (t : ℕ) (c : Course) → Stands t c → level_then wired t ≡ wired_level c → LatestIs before.rest wired recorded (t + 1) (attempt_now c)
+  latest_at : (t : ℕ) (c : CallState) → Stands t c → level_then wired t ≡ wired_level c → LatestIs before.rest wired recorded (t + 1) (attempt_now c)
   latest_at t c stands here =
       latest-more before.rest wired recorded t (begins_attempt c.bus.rest (wired_level c)) c.latest (begun_at t c stands here) stands.latest
 
-  stands-more : Fits → (t : ℕ) (c : Course) → t < length recorded → Stands t c → Agrees t c → Stands (t + 1) (bus_step hits c)
+  stands-more : Fits → (t : ℕ) (c : CallState) → t < length recorded → Stands t c → Agrees t c → Stands (t + 1) (bus_step hits c)
   unfolding bus_step
   stands-more fits t c within stands agrees =
       let x : Level = recorded_by hits c in
@@ -119,46 +119,46 @@ module _ (hits : List Hit) (before : BusState) (wired recorded : List Level) (se
       }
 
   -- what the ports drive at this time
-  driven_at : (t : ℕ) (c : Course) → Stands t c → wired_level c ≡ wired_of (map port_drives (ports_then t before.ports seen))
+  driven_at : (t : ℕ) (c : CallState) → Stands t c → wired_level c ≡ wired_of (map port_drives (ports_then t before.ports seen))
   driven_at t c stands = ap (λ ports. wired_of (map port_drives ports)) stands.ports
 
   -- whether a hit falls on the wire at this time
-  hit_at : (t : ℕ) (c : Course) → Stands t c → level_then wired t ≡ wired_level c →
+  hit_at : (t : ℕ) (c : CallState) → Stands t c → level_then wired t ≡ wired_level c →
       (list_any (hits_wire c.time (attempt_now c)) hits ≡ true) ↔ Any (λ hit. FallsOnWire before.rest wired recorded hit t) hits
   hit_at t c stands here =
       subst (λ time. (list_any (hits_wire time (attempt_now c)) hits ≡ true) ↔ Any (λ hit. FallsOnWire before.rest wired recorded hit t) hits) (sym stands.time)
       (wire-decided before.rest wired recorded t (attempt_now c) hits (latest_at t c stands here))
 
-  record_at : (c : Course) → recorded_by hits c ≡ inverted_if (list_any (hits_wire c.time (attempt_now c)) hits) (wired_level c)
+  record_at : (c : CallState) → recorded_by hits c ≡ inverted_if (list_any (hits_wire c.time (attempt_now c)) hits) (wired_level c)
   unfolding recorded_by
   record_at c = refl
 
-  -- the course of the run, where the lists have its levels
-  abbrev course_at : ℕ → Course
-  course_at t = bus_after hits t (course before)
+  -- the state of the call, where the lists have its levels
+  abbrev call_at : ℕ → CallState
+  call_at t = bus_after hits t (call_begun before)
 
-  next_at : (t : ℕ) → bus_step hits (course_at t) ≡ course_at (t + 1)
-  next_at t = course_more hits t before (course_at t) (bus_step hits (course_at t)) refl refl
+  next_at : (t : ℕ) → bus_step hits (call_at t) ≡ call_at (t + 1)
+  next_at t = call_more hits t before (call_at t) (bus_step hits (call_at t)) refl refl
 
-  start_at : course before ≡ course_at 0
+  start_at : call_begun before ≡ call_at 0
   unfolding bus_after
   start_at = refl
 
-  stands_all : Fits → ((t : ℕ) → t < length recorded → Stands t (course_at t) → Agrees t (course_at t)) → (t : ℕ) → t ≤ length recorded → Stands t (course_at t)
+  stands_all : Fits → ((t : ℕ) → t < length recorded → Stands t (call_at t) → Agrees t (call_at t)) → (t : ℕ) → t ≤ length recorded → Stands t (call_at t)
   stands_all fits agrees zero h = subst (Stands 0) start_at (stands-none fits)
   stands_all fits agrees (suc t) h =
-      let last : Stands t (course_at t) = stands_all fits agrees t (omega (arith, h)) in
+      let last : Stands t (call_at t) = stands_all fits agrees t (omega (arith, h)) in
       let within : t < length recorded = omega (arith, h) in
-      subst (λ k. Stands k (course_at k)) (add-one t) (subst (Stands (t + 1)) (next_at t) (stands-more fits t (course_at t) within last (agrees t within last)))
+      subst (λ k. Stands k (call_at k)) (add-one t) (subst (Stands (t + 1)) (next_at t) (stands-more fits t (call_at t) within last (agrees t within last)))
 
   -- a disturbed run has the levels of the run
   fits_of : (after : BusState) → before.rest ≤ 11 → IsDisturbedRun hits before wired recorded seen after → Fits
   fits_of after rested run = record { long = run.long; seen_long = run.seen_long; each_port = run.each_port; rest = rested }
 
   agrees_of : (after : BusState) → IsDisturbedRun hits before wired recorded seen after →
-      (t : ℕ) → t < length recorded → Stands t (course_at t) → Agrees t (course_at t)
+      (t : ℕ) → t < length recorded → Stands t (call_at t) → Agrees t (call_at t)
   agrees_of after run t within stands =
-      let c = course_at t in
+      let c = call_at t in
       let here : level_then wired t ≡ wired_level c = run.drives t within ∙ sym (driven_at t c stands) in
       let told : level_then recorded t ≡ recorded_by hits c =
       inverted-told (list_any (hits_wire c.time (attempt_now c)) hits) (level_then wired t) (level_then recorded t) (hit_at t c stands here) (run.records t within)
@@ -172,17 +172,17 @@ module _ (hits : List Hit) (before : BusState) (wired recorded : List Level) (se
       }
 
   -- lists that have the levels of the run are a disturbed run
-  run_of : Fits → ((t : ℕ) → t < length recorded → Agrees t (course_at t)) → IsDisturbedRun hits before wired recorded seen (course_at (length recorded)).bus
+  run_of : Fits → ((t : ℕ) → t < length recorded → Agrees t (call_at t)) → IsDisturbedRun hits before wired recorded seen (call_at (length recorded)).bus
   run_of fits agrees =
       let stands = λ (t : ℕ) (within : t ≤ length recorded). stands_all fits (λ u inside _. agrees u inside) t within in
-      let whole : Stands (length recorded) (course_at (length recorded)) = stands (length recorded) (omega arith) in
+      let whole : Stands (length recorded) (call_at (length recorded)) = stands (length recorded) (omega arith) in
       record {
         long = fits.long;
         seen_long = fits.seen_long;
         each_port = fits.each_port;
-        drives = λ t within. (agrees t within).wires ∙ driven_at t (course_at t) (stands t (omega (arith, within)));
+        drives = λ t within. (agrees t within).wires ∙ driven_at t (call_at t) (stands t (omega (arith, within)));
         records = λ t within.
-            let c = course_at t in
+            let c = call_at t in
             let here = (agrees t within).wires in
             inverted-tells (list_any (hits_wire c.time (attempt_now c)) hits) (level_then wired t) (level_then recorded t)
             (hit_at t c (stands t (omega (arith, within))) here)
@@ -195,27 +195,27 @@ module _ (hits : List Hit) (before : BusState) (wired recorded : List Level) (se
       }
 
   -- each bit time of a disturbed run
-  agrees_all : (after : BusState) → before.rest ≤ 11 → IsDisturbedRun hits before wired recorded seen after → (t : ℕ) → t < length recorded → Agrees t (course_at t)
+  agrees_all : (after : BusState) → before.rest ≤ 11 → IsDisturbedRun hits before wired recorded seen after → (t : ℕ) → t < length recorded → Agrees t (call_at t)
   agrees_all after rested run t within =
       agrees_of after run t within (stands_all (fits_of after rested run) (agrees_of after run) t (omega (arith, within)))
 
   -- its end
-  stands_last : (after : BusState) → before.rest ≤ 11 → IsDisturbedRun hits before wired recorded seen after → Stands (length recorded) (course_at (length recorded))
+  stands_last : (after : BusState) → before.rest ≤ 11 → IsDisturbedRun hits before wired recorded seen after → Stands (length recorded) (call_at (length recorded))
   stands_last after rested run = stands_all (fits_of after rested run) (agrees_of after run) (length recorded) (omega arith)
 
 -- The levels of a run.
 
 -- the bus behind so many bit times
-abbrev course_then : List Hit → BusState → ℕ → Course
-course_then hits before t = bus_after hits t (course before)
+abbrev call_then : List Hit → BusState → ℕ → CallState
+call_then hits before t = bus_after hits t (call_begun before)
 
 -- the levels on the wire
 abbrev wires_of : List Hit → BusState → ℕ → List Level
-wires_of hits before n = map (λ t. wired_level (course_then hits before t)) (range_with_len 0 n)
+wires_of hits before n = map (λ t. wired_level (call_then hits before t)) (range_with_len 0 n)
 
 -- what the port of this number sees
 abbrev view_line : List Hit → BusState → ℕ → ℕ → List Level
-view_line hits before n port = map (λ t. view_of hits t (course_then hits before t) port) (range_with_len 0 n)
+view_line hits before n port = map (λ t. view_of hits t (call_then hits before t) port) (range_with_len 0 n)
 
 -- what each port sees
 abbrev views_of : List Hit → BusState → ℕ → List (List Level)
@@ -234,7 +234,7 @@ views_long hits before n port d inside =
     let most : length (views_of hits before n) ≡ length before.ports = length-map-range_with_len (view_line hits before n) 0 (length before.ports) in
     let within : port < length before.ports = omega (arith, inside, most) in
     ap (λ levels. length levels) (get_or-map-range_with_len (view_line hits before n) 0 (length before.ports) port port d within (omega arith))
-    ∙ length-map-range_with_len (λ t. view_of hits t (course_then hits before t) port) 0 n
+    ∙ length-map-range_with_len (λ t. view_of hits t (call_then hits before t) port) 0 n
 
 -- the run of a bus is a disturbed run
 pub run-disturbed : (hits : List Hit) (before : BusState) (recorded : List Level) → before.rest ≤ 11 →
@@ -244,7 +244,7 @@ run-disturbed hits before recorded rested told =
     let wired : List Level = wires_of hits before (length recorded) in
     let seen : List (List Level) = views_of hits before (length recorded) in
     let fits : Fits hits before wired recorded seen = record {
-      long = length-map-range_with_len (λ t. wired_level (course_then hits before t)) 0 (length recorded);
+      long = length-map-range_with_len (λ t. wired_level (call_then hits before t)) 0 (length recorded);
       seen_long = views_long hits before (length recorded);
       each_port = length-map-range_with_len (view_line hits before (length recorded)) 0 (length before.ports);
       rest = rested;
@@ -252,11 +252,11 @@ run-disturbed hits before recorded rested told =
       wired,
       seen,
       run_of hits before wired recorded seen fits (λ t within. record {
-        wires = get_or-map-range_with_len (λ u. wired_level (course_then hits before u)) 0 (length recorded) t t Recessive within (omega arith);
-        records = get_or_from_slice_get recorded t (recorded_by hits (course_then hits before t)) Recessive (told t within);
+        wires = get_or-map-range_with_len (λ u. wired_level (call_then hits before u)) 0 (length recorded) t t Recessive within (omega arith);
+        records = get_or_from_slice_get recorded t (recorded_by hits (call_then hits before t)) Recessive (told t within);
         views = λ port levels own.
             ap (λ own. level_then own t) (view_at hits before (length recorded) port levels own)
-            ∙ get_or-map-range_with_len (λ u. view_of hits u (course_then hits before u) port) 0 (length recorded) t t Recessive within (omega arith);
+            ∙ get_or-map-range_with_len (λ u. view_of hits u (call_then hits before u) port) 0 (length recorded) t t Recessive within (omega arith);
       }),
     )
 
@@ -265,7 +265,7 @@ pub disturbed-levels : (hits : List Hit) (before after : BusState) (recorded : L
     (t : ℕ) → t < length recorded → slice_get recorded t ≡ Some (bus_level hits t before)
 unfolding bus_level
 disturbed-levels hits before after recorded rested run t within =
-    let agrees : Agrees hits before run.0 recorded run.1 t (course_then hits before t) = agrees_all hits before run.0 recorded run.1 after rested run.2 t within in
+    let agrees : Agrees hits before run.0 recorded run.1 t (call_then hits before t) = agrees_all hits before run.0 recorded run.1 after rested run.2 t within in
     slice_get-get_or recorded t Recessive within ∙ ap Some agrees.records
 
 same_bus : (a b : BusState) → a.ports ≡ b.ports → a.rest ≡ b.rest → a ≡ b
@@ -277,8 +277,8 @@ pub disturbed-end : (hits : List Hit) (before after : BusState) (recorded : List
     after ≡ bus_run hits (length recorded) before
 unfolding bus_run
 disturbed-end hits before after recorded rested run =
-    let stands : Stands hits before run.0 recorded run.1 (length recorded) (course_then hits before (length recorded)) = stands_last hits before run.0 recorded run.1 after rested run.2 in
-    same_bus after (course_then hits before (length recorded)).bus (run.2.leads ∙ sym stands.ports) (run.2.keeps_rest ∙ sym stands.rest)
+    let stands : Stands hits before run.0 recorded run.1 (length recorded) (call_then hits before (length recorded)) = stands_last hits before run.0 recorded run.1 after rested run.2 in
+    same_bus after (call_then hits before (length recorded)).bus (run.2.leads ∙ sym stands.ports) (run.2.keeps_rest ∙ sym stands.rest)
 
 -- two disturbed runs of as many bit times are one
 pub disturbed-one : (hits : List Hit) (before one other : BusState) (wired wires recorded records : List Level) (seen views : List (List Level)) → before.rest ≤ 11 →
