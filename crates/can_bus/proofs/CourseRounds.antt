@@ -13,6 +13,7 @@ use Rattle.can_node.specs.Waiting.{IsWaiting}
 use Rattle.can_node.proofs.Arrivals.{GainingPort}
 use Rattle.can_node.proofs.FrameLeaves.{Sends, Receives, IsReady}
 use Rattle.can_node.proofs.WaitingLemmas.{Shares-same_field}
+use Rattle.can_bus.specs.CourseWaiting.{of_field}
 use Rattle.can_bus.specs.Quiet.{holds, queued}
 use Rattle.can_bus.specs.Schedule.{Timed, Lists, offered_by, without_offer}
 use Rattle.can_bus.proofs.Ascending.{Goes, Other}
@@ -25,7 +26,7 @@ use Rattle.can_bus.proofs.Rounds.{IsCalm, all-ready, frame-queued, sends-has}
 use Rattle.can_bus.proofs.QuietLine.{IsAtRest, calm-rests}
 use Rattle.can_bus.proofs.AttemptTallies.{Survives}
 use Rattle.can_bus.proofs.Repairs.{broken_levels}
-use Rattle.can_bus.proofs.Fields.{like, of_field, like-none, like-append, like-has, like-offered, field-moves, field-without, waiting-head, head-waits, without-front, without-behind, without-length}
+use Rattle.can_bus.proofs.Fields.{like, like-none, like-append, like-has, like-offered, field-moves, field-without, waiting-head, head-waits, without-front, without-behind, without-length}
 use Rattle.can_bus.proofs.CoursePorts.{CoursePort, IsCoursePort, queue-now, rested, port-rested, HasPart, others-own, behind_frame, port-behind, behind_hit, port-broken}
 
 -- ---- all ports

@@ -11,6 +11,7 @@ use Rattle.can_node.specs.Ports.{is_equal, same_field, waiting, without}
 use Rattle.can_node.specs.Waiting.{IsWaiting}
 use Rattle.can_node.proofs.WaitingLemmas.{same_field-Shares, Shares-same_field}
 use Rattle.can_node.proofs.WaitingLaws.{waiting-some, waiting-IsWaiting}
+use Rattle.can_bus.specs.CourseWaiting.{of_field}
 use Rattle.can_bus.specs.Quiet.{holds}
 use Rattle.can_bus.specs.Schedule.{Timed, Lists, offered_by, without_offer}
 use Rattle.can_bus.proofs.Ascending.{Goes, Other}
@@ -22,12 +23,9 @@ use Rattle.can_bus.proofs.QuietLogs.{other-test}
 
 -- ---- one field
 
--- frames, and offers, of the field of f
+-- frames of the field of f
 abbrev pub like : Parts → List Parts → List Parts
 like f frames = filter (same_field f) frames
-
-abbrev pub of_field : Parts → List Timed → List Timed
-of_field f offers = filter (λ x. same_field f x.frame) offers
 
 pub holds-same : (queue : List Parts) (f g : Parts) → arbitration_field f ≡ arbitration_field g → holds queue f ≡ holds queue g
 holds-same queue f g e = ap (λ field. list_any (λ x. is_equal (field_cmp field (arbitration_field x))) queue) e

@@ -7,6 +7,7 @@ use Rattle.can_frame.specs.Arbitration.{arbitration_field}
 use Rattle.can_node.specs.Ports.{PortState, IsPort}
 use Rattle.can_node.proofs.Arrivals.{GainingPort, gaining, gains, arrived}
 use Rattle.can_node.proofs.FramesWaiting.{AreFrames, AreFrames-from}
+use Rattle.can_bus.specs.CourseWaiting.{of_field}
 use Rattle.can_bus.specs.declared.hit.Hit.{Hit}
 use Rattle.can_bus.specs.declared.hit.Hit.TheVariants.{At, In, View}
 use Rattle.can_bus.specs.declared.offer.Offer.{Offer}
@@ -27,7 +28,6 @@ use Rattle.can_bus.proofs.OpenStart.{EachFrom, OfFrames, each-from, frames-first
 use Rattle.can_bus.proofs.PlayedRuns.{AreRoomy, all-taken, all_arrived, arriving, open_ports}
 use Rattle.can_bus.proofs.PortOffers.{port_offers}
 use Rattle.can_bus.proofs.QuietLogs.{holds-own}
-use Rattle.can_bus.proofs.Fields.{of_field}
 use Rattle.can_bus.proofs.HitRuns.{AreWithin}
 use Rattle.can_bus.proofs.HitWires.{HitWire}
 use Rattle.can_bus.proofs.RepairPlans.{Apart, apart-within, later-from}

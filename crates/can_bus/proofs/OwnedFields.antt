@@ -9,6 +9,7 @@ use Rattle.can_frame.specs.Parts.{Parts}
 use Rattle.can_frame.specs.Arbitration.{arbitration_field}
 use Rattle.can_node.specs.Ports.{PortState, same_field}
 use Rattle.can_node.proofs.WaitingLemmas.{same_field-Shares, Shares-same_field}
+use Rattle.can_bus.specs.CourseWaiting.{of_field}
 use Rattle.can_bus.specs.declared.offer.Offer.{Offer}
 use Rattle.can_bus.specs.Network.{FieldsAreOwned}
 use Rattle.can_bus.specs.Offers.{AreOffered}
@@ -17,7 +18,7 @@ use Rattle.can_bus.specs.Quiet.{holds, queued}
 use Rattle.can_bus.specs.Schedule.{Timed, Lists, frames_of}
 use Rattle.can_bus.proofs.Ascending.{Other}
 use Rattle.can_bus.proofs.Contests.{at-has}
-use Rattle.can_bus.proofs.Fields.{of_field, field-skip}
+use Rattle.can_bus.proofs.Fields.{field-skip}
 use Rattle.can_bus.proofs.Members.{map-stands, stands-back, stands-cases, stands-filter, stands-front, stands-here, stands-later, stands-map, stands-none}
 use Rattle.can_bus.proofs.PlayedRuns.{to-here, to-other}
 use Rattle.can_bus.proofs.PortOffers.{offered-names, port_offers}
