@@ -1,11 +1,11 @@
--- Several bit times of a call with offers and hits, before the first of which alone offers are made.
-use Rattle.std.proofs.Common.{◌≡◌, ℕ, zero, suc, ◌+◌, ◌<◌, ◌≤◌, List, refl, sym, ap, ◌∙◌, arith}
+-- Several bit times of a call with offers and hits, before the first of which alone offers are made; and a call without offers.
+use Rattle.std.proofs.Common.{◌≡◌, ℕ, zero, suc, ◌+◌, ◌<◌, ◌≤◌, List, [], refl, sym, ap, ◌∙◌, arith}
 use Rattle.can_node.specs.Ports.{PortState}
 use Rattle.can_bus.specs.declared.hit.Hit.{Hit}
 use Rattle.can_bus.specs.declared.offer.Offer.{Offer}
 use Rattle.can_bus.specs.Network.{call_after, call_level, call_refused, offered_now}
 use Rattle.can_bus.specs.Offers.{all_made, refused_at}
-use Rattle.can_bus.specs.Run.{BusState, CallState, bus_after, bus_step, call_begun, recorded}
+use Rattle.can_bus.specs.Run.{BusState, CallState, bus_after, bus_level, bus_run, bus_step, call_begun, recorded}
 
 module _ (offers : List Offer) (hits : List Hit) (bus : BusState) where
   pub call-time : (n : ℕ) → (call_after offers hits n bus).time ≡ n
@@ -61,3 +61,18 @@ module _ (offers : List Offer) (hits : List Hit) (bus : BusState) where
     pub refused-several : (n : ℕ) → 0 < n → n ≤ count → call_refused offers hits (i + n) bus ≡ call_refused offers hits i bus + refused_at offers i (call_after offers hits i bus).bus.ports
     refused-several zero some within = absurd (omega (arith, some))
     refused-several (suc n) some within = refused-on n within
+
+-- ---- a call without offers is a run
+
+pub call-run : (hits : List Hit) (n : ℕ) (bus : BusState) → call_after [] hits n bus ≡ bus_after hits n (call_begun bus)
+unfolding call_after bus_after
+call-run hits zero bus = refl
+call-run hits (suc n) bus = ap (λ c. bus_step hits (offered_now [] c)) (call-run hits n bus)
+
+pub call_level-run : (hits : List Hit) (t : ℕ) (bus : BusState) → call_level [] hits t bus ≡ bus_level hits t bus
+unfolding call_level bus_level
+call_level-run hits t bus = ap (λ c. recorded hits (offered_now [] c)) (call-run hits t bus)
+
+pub call_bus-run : (hits : List Hit) (n : ℕ) (bus : BusState) → (call_after [] hits n bus).bus ≡ bus_run hits n bus
+unfolding bus_run
+call_bus-run hits n bus = ap (λ (c : CallState). c.bus) (call-run hits n bus)

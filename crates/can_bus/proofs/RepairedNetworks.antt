@@ -15,6 +15,7 @@ use Rattle.can_bus.specs.Repair.{AreBorne, CountsAs, CountsFew, FallsInWindow, I
 use Rattle.can_bus.specs.RepairedLine.{repaired_line_at}
 use Rattle.can_bus.specs.Run.{BusState, CallState, bus_after, bus_level, bus_run, bus_step, call_begun, recorded}
 use Rattle.can_bus.specs.Schedule.{Timed, Lists, frames_of}
+use Rattle.can_bus.proofs.CallLemmas.{call_bus-run, call_level-run}
 use Rattle.can_bus.proofs.Contests.{AllPorts, Has, at-has, has-at}
 use Rattle.can_bus.proofs.CoursePlans.{AreLeft, plan-all, plan-count, plan-course, plan-ended, plan-frames, plan-hits, plan-tally, plan-track, plan_attempts}
 use Rattle.can_bus.proofs.Members.{map-stands, stands-map}
@@ -31,21 +32,6 @@ use Rattle.can_bus.proofs.RepairPlans.{Apart, windows-from}
 use Rattle.can_bus.proofs.Repairs.{Plan}
 use Rattle.can_bus.proofs.BorneHits.{fifteen-borne}
 use Rattle.can_bus.proofs.Rounds.{Round}
-
--- ---- without offers the run is that with hits
-
-pub call-run : (hits : List Hit) (n : ℕ) (bus : BusState) → call_after [] hits n bus ≡ bus_after hits n (call_begun bus)
-unfolding call_after bus_after
-call-run hits zero bus = refl
-call-run hits (suc n) bus = ap (λ c. bus_step hits (offered_now [] c)) (call-run hits n bus)
-
-pub call_level-run : (hits : List Hit) (t : ℕ) (bus : BusState) → call_level [] hits t bus ≡ bus_level hits t bus
-unfolding call_level bus_level
-call_level-run hits t bus = ap (λ c. recorded hits (offered_now [] c)) (call-run hits t bus)
-
-pub call_bus-run : (hits : List Hit) (n : ℕ) (bus : BusState) → (call_after [] hits n bus).bus ≡ bus_run hits n bus
-unfolding bus_run
-call_bus-run hits n bus = ap (λ (c : CallState). c.bus) (call-run hits n bus)
 
 -- ---- what a port has to send is what waits there
 

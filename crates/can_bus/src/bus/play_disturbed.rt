@@ -1,8 +1,10 @@
 //! A run of a bus to whose ports frames are offered meanwhile, and on which hits fall: a network.
 ghost use Rattle.std.specs.Prelude.{ℕ, ◌≡◌, ◌+◌, ◌<◌, ◌≤◌, ◌↔◌, ◌⊎◌, not, length, slice_get, Ok, Some, IsOk, OnOk, OnErr, IfErr, IfOk};
+ghost use Rattle.can_frame.specs.IdleRow.{idle_row};
 ghost use Rattle.can_frame.specs.Parts.{IsFrame};
 ghost use Rattle.can_bus.specs.declared.offer.Offer.{Offer as Asked};
 ghost use Rattle.can_bus.specs.Course.{AllEnded, course_at, hits_made};
+ghost use Rattle.can_bus.specs.DisturbedPlay.{WasPlayed};
 ghost use Rattle.can_bus.specs.Hits.{AreTaken, IsFirstHitFault};
 ghost use Rattle.can_bus.specs.Network.{AllCountAtMost, CountsAtMost, NetworkLogBegins, NetworkLogHas, NetworkLogWhole, NetworkTally, OnNetworkCall, StaysActive, call_after, call_level, call_refused};
 ghost use Rattle.can_bus.specs.Offers.{AreOffered, IsFirstOfferFault, all_made, is_full, made, refused_at};
@@ -99,6 +101,7 @@ impl<P: Port> Bus<P> {
             ⊎ (AreOffered (port_count self.old) offers.now × IsFirstHitFault (port_count self.old) hits.now fault)) }
         ensures bus { OnOk result (state_of P.port self.new ≡ (call_after offers.now hits.now (length rec.new) (state_of P.port self.old)).bus) }
         ensures levels { OnOk result (AreLevelsOf (λ t. call_level offers.now hits.now t (state_of P.port self.old)) rec.new) }
+        ensures disturbed { OnOk result (rest_of self.old ≤ idle_row → WasPlayed offers.now hits.now (state_of P.port self.old) rec.new (state_of P.port self.new)) }
         ensures count { IfOk result (λ count. count ≡ call_refused offers.now hits.now (length rec.new) (state_of P.port self.old)) }
         ensures known { IsOk result → (n : ℕ) (offer : Asked) → slice_get offers.now n ≡ Some offer → IsFrame offer.frame }
         ensures answer { OnNetworkCall offers.now hits.now (state_of P.port self.old) (λ course. result ≡ Ok 0) }

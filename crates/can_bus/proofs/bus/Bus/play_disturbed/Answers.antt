@@ -6,6 +6,7 @@ use Rattle.std.proofs.lemmas.List.{length-map}
 use Rattle.std.proofs.lemmas.Option.{slice_get-get_or}
 use Rattle.can_frame.specs.declared.level.Level.TheVariants.{Recessive}
 use Rattle.can_node.specs.Ports.{PortState}
+use Rattle.can_bus.specs.DisturbedPlay.{WasPlayed}
 use Rattle.can_bus.specs.declared.call.Call.{Call}
 use Rattle.can_bus.specs.Hits.{AreTaken}
 use Rattle.can_bus.specs.Network.{call_after, call_level, call_refused, offered_now}
@@ -13,6 +14,7 @@ use Rattle.can_bus.specs.Offers.{AreOffered, all_made, refused_at}
 use Rattle.can_bus.specs.Run.{CallState}
 use Rattle.can_bus.specs.State.{rest_of, state_of}
 use Rattle.can_bus.specs.Walks.{IsCall, IsReached, call_on}
+use Rattle.can_bus.proofs.DisturbedPlays.{call-played}
 use Rattle.can_bus.proofs.CallLemmas.{call-none, call-several, level-several, refused-none, refused-several}
 use Rattle.can_bus.proofs.HitOrder.{taken-rising}
 use Rattle.can_bus.proofs.NetworkCalls.{network-active, network-counts, network-has, network-logs, network-missed, network-refused, network-tally, network-track, network-whole, not-offered, not-taken}
@@ -209,6 +211,11 @@ returns-clause-bus g c =
 pub returns-clause-levels : goal.returns-clause-levels
 returns-clause-levels g c = λ t h.
     slice_get-get_or c.loop-place.rec t Recessive h ∙ ap Some (c.loop-place.invariant.levels t Recessive (omega arith))
+
+pub returns-clause-disturbed : goal.returns-clause-disturbed
+returns-clause-disturbed g c = λ rested.
+    subst (λ after. WasPlayed c.args.offers.now c.args.hits.now (state_of g.P.Port.port c.args.self.now) c.loop-place.rec after) (sym (returns-clause-bus g c))
+    (call-played c.args.offers.now c.args.hits.now (state_of g.P.Port.port c.args.self.now) c.loop-place.rec rested (returns-clause-levels g c))
 
 pub returns-clause-count : goal.returns-clause-count
 returns-clause-count g c =
