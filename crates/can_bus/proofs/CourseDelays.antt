@@ -1,13 +1,11 @@
 -- How long an offered frame waits at most, where frames are disturbed meanwhile.
-use Rattle.std.specs.Prelude.{filter, max, nat_lt, not, slice_get, take, ◌&&◌}
-use Rattle.std.proofs.Common.{◌≡◌, ℕ, zero, suc, ◌+◌, ◌<◌, ◌≤◌, Bool, true, false, cond, Option, Some, None, List, [], ◌∷◌, ◌++◌, length, map, refl, sym, ◌∙◌, ap, subst, inl, inr, arith}
+use Rattle.std.specs.Prelude.{filter, nat_lt, slice_get, take, ◌&&◌}
+use Rattle.std.proofs.Common.{◌≡◌, ℕ, zero, suc, ◌+◌, ◌<◌, ◌≤◌, Bool, true, cond, Option, Some, None, List, [], ◌∷◌, ◌++◌, length, map, refl, sym, ◌∙◌, ap, subst, inl, inr, arith}
 use Rattle.std.specs.List.{sum_by}
 use Rattle.std.proofs.lemmas.Bool.{cases_Bool, cases_lt, lt-ltb}
-use Rattle.std.proofs.lemmas.List.{length-append}
 use Rattle.std.proofs.lemmas.List.Sums.{sum_by-cons, sum_by-append}
 use Rattle.can_frame.specs.Parts.{Parts, IsFrame}
 use Rattle.can_frame.specs.Arbitration.{arbitration_field, Before}
-use Rattle.can_frame.proofs.BeforeLemmas.{Before-differs}
 use Rattle.can_wire.specs.Wire.{stuffed_part}
 use Rattle.can_mac.proofs.FrameParts.{length-wire}
 use Rattle.can_node.specs.Ports.{PortState, goes_before, same_field}
@@ -15,19 +13,18 @@ use Rattle.can_node.proofs.WaitingLemmas.{Wins-goes_before, Shares-same_field, s
 use Rattle.can_bus.specs.declared.hit.Hit.{Hit}
 use Rattle.can_bus.specs.declared.offer.Offer.{Offer}
 use Rattle.can_bus.specs.Course.{Transmission, IsCourse, over, sent, broken, IsMade, hit_time}
-use Rattle.can_bus.specs.CourseWaiting.{AreInTime, IsSentBy, attempts_between, going_before, hit_attempts, keeping, kept_times, left_behind, left_on, of_field, sent_attempts, was_hit}
+use Rattle.can_bus.specs.CourseWaiting.{AreInTime, IsSentBy, attempts_between, going_before, hit_attempts, keeping, kept_times, left_behind, left_on, of_field, sent_attempts}
 use Rattle.can_bus.specs.Offers.{AreOffered}
 use Rattle.can_bus.specs.OpenBus.{all_offers, offered_first, timed}
 use Rattle.can_bus.specs.Quiet.{queued}
 use Rattle.can_bus.specs.Repair.{IsInWindow}
-use Rattle.can_bus.specs.RepairedLine.{lateness}
 use Rattle.can_bus.specs.Schedule.{Timed, Lists, busy_time, without_offer}
 use Rattle.can_bus.specs.Waiting.{ahead_of, busy_times}
 use Rattle.can_bus.proofs.CourseTracks.{course-free}
-use Rattle.can_bus.proofs.CourseWaits.{Awaits, GoesFirst, IsOwn, awaits-listed, awaits-made, between-before, between-late, between-more, between-none, first-left, hit-awaits, next-first, others-kept, same-fields, sends-it, sent-cases, wait-exact, wait-first, wait-own}
+use Rattle.can_bus.proofs.CourseWaits.{Awaits, GoesFirst, IsOwn, awaits-listed, awaits-made, between-before, between-late, between-more, between-none, first-left, hit-awaits, next-first, others-kept, sends-it, sent-cases, wait-exact, wait-first, wait-own}
 use Rattle.can_bus.proofs.Fields.{field-more, field-skip, without-order}
 use Rattle.can_bus.proofs.Lateness.{late-behind, lateness-few}
-use Rattle.can_bus.proofs.Members.{map-stands, stands-filter, stands-here, stands-later}
+use Rattle.can_bus.proofs.Members.{stands-filter}
 use Rattle.can_bus.proofs.OfferLemmas.{offers-rise}
 use Rattle.can_bus.proofs.OfferTimes.{AreInOrder}
 use Rattle.can_bus.proofs.OwnedFields.{field-append, field-cases, field-none}

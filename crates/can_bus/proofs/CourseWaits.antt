@@ -1,22 +1,20 @@
 -- How long an offered frame waits until it is sent, where frames are disturbed meanwhile: exactly.
 use Rattle.std.specs.Prelude.{max, nat_le, nat_lt, filter, not, slice_get, ◌&&◌}
-use Rattle.std.proofs.Common.{◌≡◌, ℕ, zero, suc, ◌+◌, ◌-◌, ◌<◌, ◌≤◌, ◌⊎◌, Bool, true, false, cond, Option, Some, None, List, [], ◌∷◌, ◌++◌, length, refl, sym, ◌∙◌, ap, subst, inl, inr, arith}
+use Rattle.std.proofs.Common.{◌≡◌, ℕ, zero, suc, ◌+◌, ◌-◌, ◌<◌, ◌≤◌, ◌⊎◌, Bool, true, false, Some, None, List, [], ◌∷◌, ◌++◌, length, refl, sym, ◌∙◌, ap, subst, inl, inr, arith}
 use Rattle.std.proofs.lemmas.Bool.{cond-true, cond-false, cases_Bool, cases_lt, le-leb, lt-leb, lt-ltb, le-ltb}
 use Rattle.std.proofs.lemmas.List.Sums.{sum_by-cons}
 use Rattle.can_frame.specs.Parts.{Parts}
 use Rattle.can_frame.specs.Arbitration.{arbitration_field, field_cmp, Before}
 use Rattle.can_frame.proofs.FieldLemmas.{fields_ranked}
 use Rattle.can_node.specs.Ports.{is_equal, same_field}
-use Rattle.can_node.specs.Waiting.{IsWaiting}
 use Rattle.can_node.proofs.WaitingLemmas.{same_field-Shares, Shares-same_field}
 use Rattle.can_bus.specs.declared.hit.Hit.{Hit}
-use Rattle.can_bus.specs.Course.{Transmission, IsNext, IsCourse, over, sent, broken, IsMade, hit_time}
+use Rattle.can_bus.specs.Course.{Transmission, IsNext, IsCourse, over, sent, broken, IsMade}
 use Rattle.can_bus.specs.CourseWaiting.{attempts_between, keeping, kept_times, left_on, of_field, sends_of, was_hit}
-use Rattle.can_bus.specs.Schedule.{Timed, Lists, busy_time, offered_by, without_offer}
-use Rattle.can_bus.proofs.Ascending.{Other}
+use Rattle.can_bus.specs.Schedule.{Timed, Lists, offered_by, without_offer}
 use Rattle.can_bus.proofs.CourseTracks.{course-free}
 use Rattle.can_bus.proofs.Fields.{field-more, field-without, like-offered, waiting-head, without-behind, without-front, without-length, without-order}
-use Rattle.can_bus.proofs.Members.{stands-cases, stands-filter, stands-here, stands-later, stands-middle, filter-stands}
+use Rattle.can_bus.proofs.Members.{stands-cases, stands-filter, stands-middle, filter-stands}
 use Rattle.can_bus.proofs.NextStarts.{stands-offered}
 use Rattle.can_bus.proofs.OfferTimes.{AreInOrder, by-early, by-none}
 use Rattle.can_bus.proofs.OwnedFields.{field-append, field-cases, field-none}
@@ -215,11 +213,11 @@ module _ (free time : ℕ) (f : Parts) (left : List Timed) (course : List Transm
   without-it other after = elim (field-cases f before) [
     | inr has ↦ (after, without-front f before (x ∷ after) has.0 has.1 (Shares-same_field f has.0.frame has.2))
     | inl none ↦ (
-        without_offer f after,
-        without-behind f before (x ∷ after) none
-            ∙ ap (λ l. before ++ l) (first-stays f x after (other-test f x.frame (λ e. (let same : same_field x.frame f ≡ true = Shares-same_field x.frame f (sym e) in cc))))
-            ∙ ap (λ l. l ++ x ∷ without_offer f after) (sym (without-absent f before none)),
-      )
+      without_offer f after,
+      without-behind f before (x ∷ after) none
+          ∙ ap (λ l. before ++ l) (first-stays f x after (other-test f x.frame (λ e. (let same : same_field x.frame f ≡ true = Shares-same_field x.frame f (sym e) in cc))))
+          ∙ ap (λ l. l ++ x ∷ without_offer f after) (sym (without-absent f before none)),
+    )
   ]
 
   sends-apart : (waits : Awaits left (first ∷ course) x s before) → same_field x.frame f ≡ false → SendsOther
@@ -333,10 +331,10 @@ wait-own (over number free) order x s before waits = absurd (let h : None ≡ So
 wait-own (sent number free time f left course is unhit rest) order x s before waits =
     elim (sent-cases free time f left course is order x s before waits) [
       | inl here ↦ record {
-          frame = sym (ap (λ (z : Transmission). z.frame) here.same) ∙ here.frame;
-          unhit = sym (ap (λ (z : Transmission). z.hit) here.same);
-          in_time = subst (λ (z : Transmission). x.time ≤ z.time) here.same here.in_time;
-        }
+        frame = sym (ap (λ (z : Transmission). z.frame) here.same) ∙ here.frame;
+        unhit = sym (ap (λ (z : Transmission). z.hit) here.same);
+        in_time = subst (λ (z : Transmission). x.time ≤ z.time) here.same here.in_time;
+      }
       | inr later ↦ wait-own rest (without-order f left order) x s (without_offer f before) later
     ]
 wait-own (broken number free time f offset left course is struck window rest) order x s before waits =

@@ -1,24 +1,22 @@
 -- Ports that are made idle, with offers and hits as planned, are a network.
-use Rattle.std.specs.Prelude.{filter, nat_le, slice_get, max, option_map}
-use Rattle.std.proofs.Common.{◌≡◌, ℕ, zero, suc, ◌+◌, ◌*◌, ◌<◌, ◌≤◌, ◌⊎◌, true, Option, Some, None, List, [], ◌∷◌, ◌++◌, All, length, map, take, refl, sym, ap, subst, ◌∙◌, arith, inl, inr}
+use Rattle.std.specs.Prelude.{slice_get, max}
+use Rattle.std.proofs.Common.{◌≡◌, ℕ, zero, suc, ◌+◌, ◌≤◌, Option, Some, None, List, [], ◌∷◌, All, length, map, take, refl, sym, ap, subst, ◌∙◌, arith, inl, inr}
 use Rattle.std.proofs.lemmas.Bool.{le-leb}
 use Rattle.std.proofs.lemmas.List.{length-map}
 use Rattle.can_frame.specs.Parts.{Parts}
-use Rattle.can_frame.specs.Arbitration.{arbitration_field}
 use Rattle.can_node.specs.Ports.{PortState, waiting}
 use Rattle.can_node.specs.Waiting.{IsWaiting}
 use Rattle.can_node.proofs.WaitingLaws.{waiting-IsWaiting}
 use Rattle.can_bus.specs.declared.hit.Hit.{Hit}
 use Rattle.can_bus.specs.declared.offer.Offer.{Offer}
-use Rattle.can_bus.specs.Course.{HitInWindows, IsCourse, IsMade, Transmission, attempt_of, broken, course_from, course_of, course_tally, hit_time, hits_made, over, sent}
-use Rattle.can_bus.specs.Network.{AllCountAtMost, AreInAttempts, CourseIsBorne, CountsAtMost, FieldsAreOwned, IsFit, IsNetworkCall, counters_of}
+use Rattle.can_bus.specs.Course.{HitInWindows, IsCourse, Transmission, attempt_of, broken, course_from, course_of, course_tally, hit_time, hits_made, over, sent}
+use Rattle.can_bus.specs.Network.{AllCountAtMost, AreInAttempts, CourseIsBorne, FieldsAreOwned, IsNetworkCall, counters_of}
 use Rattle.can_bus.specs.NetworkPlans.{AllInWindow, AreNoEarlier, IsNetworkPlan, network_course, offered_again, two_ports}
-use Rattle.can_bus.specs.Offers.{AreOffered, is_no_earlier, offer_names_port}
+use Rattle.can_bus.specs.Offers.{AreOffered, offer_names_port}
 use Rattle.can_bus.specs.OpenBus.{all_offers, offered_to, own_offers, timed}
 use Rattle.can_bus.specs.Plans.{PlannedPort, planned, ready_port}
 use Rattle.can_bus.specs.Quiet.{IsQuietPort, holds}
-use Rattle.can_bus.specs.Repair.{AreApart, IsInWindow, IsLow, Tally, hit_of, hits_before, tallied}
-use Rattle.can_bus.specs.Run.{BusState}
+use Rattle.can_bus.specs.Repair.{AreApart, IsInWindow, Tally, hit_of, hits_before, tallied}
 use Rattle.can_bus.specs.Schedule.{Timed, Lists, busy_time, earliest, frames_of, offered_by, without_offer}
 use Rattle.can_bus.proofs.BorneHits.{Few, few-tallied}
 use Rattle.can_bus.proofs.CourseLaws.{course-there}

@@ -1,6 +1,6 @@
 -- A call with hits that are repaired is a network to which nothing is offered: what its theorem says is told from the network's.
 use Rattle.std.specs.Prelude.{slice_index_or, slice_get}
-use Rattle.std.proofs.Common.{◌≡◌, ℕ, zero, suc, ◌+◌, ◌≤◌, Some, None, List, [], ◌++◌, length, take, refl, sym, ap, subst, ◌∙◌, arith, inl, inr}
+use Rattle.std.proofs.Common.{◌≡◌, ℕ, ◌+◌, ◌≤◌, Some, None, List, [], ◌++◌, length, take, refl, sym, ap, subst, ◌∙◌, arith, inl, inr}
 use Rattle.std.proofs.lemmas.List.{append-nil, length-map}
 use Rattle.can_frame.specs.declared.level.Level.TheVariants.{Recessive}
 use Rattle.can_frame.specs.Parts.{Parts}
@@ -8,12 +8,12 @@ use Rattle.can_node.specs.Ports.{PortState, IsPort}
 use Rattle.can_bus.specs.declared.hit.Hit.{Hit}
 use Rattle.can_bus.specs.declared.hit.Hit.TheVariants.{At, In, View}
 use Rattle.can_bus.specs.Course.{AllEnded, Transmission, course_at, course_tally, frames_sent}
-use Rattle.can_bus.specs.Network.{AllCountAtMost, IsNetworkCall, counters_of, call_after, call_level, offered_now}
+use Rattle.can_bus.specs.Network.{AllCountAtMost, IsNetworkCall, counters_of, call_after}
 use Rattle.can_bus.specs.OpenBus.{all_offers, offered_first, own_offers}
 use Rattle.can_bus.specs.Quiet.{AreDifferent, AtEachPort, CountsNothing, IsPrefixOf, LogsBegin, LogsWhole, MissesNothing, marked, queued}
 use Rattle.can_bus.specs.Repair.{AreBorne, CountsAs, CountsFew, FallsInWindow, IsLow, IsRepairedCall, Tally, repaired_span, tally, tally_after}
 use Rattle.can_bus.specs.RepairedLine.{repaired_line_at}
-use Rattle.can_bus.specs.Run.{BusState, CallState, bus_after, bus_level, bus_run, bus_step, call_begun, recorded}
+use Rattle.can_bus.specs.Run.{BusState, bus_level, bus_run}
 use Rattle.can_bus.specs.Schedule.{Timed, Lists, frames_of}
 use Rattle.can_bus.proofs.CallLemmas.{call_bus-run, call_level-run}
 use Rattle.can_bus.proofs.Contests.{AllPorts, Has, at-has, has-at}
