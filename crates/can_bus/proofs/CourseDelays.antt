@@ -1,6 +1,6 @@
 -- How long an offered frame waits at most, where frames are disturbed meanwhile.
-use Rattle.std.specs.Prelude.{filter, nat_lt, slice_get, take, ◌&&◌}
-use Rattle.std.proofs.Common.{◌≡◌, ℕ, zero, suc, ◌+◌, ◌<◌, ◌≤◌, Bool, true, cond, Option, Some, None, List, [], ◌∷◌, ◌++◌, length, map, refl, sym, ◌∙◌, ap, subst, inl, inr, arith}
+use Rattle.std.specs.Prelude.{filter, nat_le, nat_lt, slice_get, take, ◌&&◌}
+use Rattle.std.proofs.Common.{◌≡◌, ℕ, zero, suc, ◌+◌, ◌-◌, ◌<◌, ◌≤◌, Bool, true, false, cond, Option, Some, None, List, [], ◌∷◌, ◌++◌, length, map, refl, sym, ◌∙◌, ap, subst, inl, inr, arith}
 use Rattle.std.specs.List.{sum_by}
 use Rattle.std.proofs.lemmas.Bool.{cases_Bool, cases_lt, lt-ltb}
 use Rattle.std.proofs.lemmas.List.Sums.{sum_by-cons, sum_by-append}
@@ -12,19 +12,19 @@ use Rattle.can_node.specs.Ports.{PortState, goes_before, same_field}
 use Rattle.can_node.proofs.WaitingLemmas.{Wins-goes_before, Shares-same_field, same_field-Shares}
 use Rattle.can_bus.specs.declared.hit.Hit.{Hit}
 use Rattle.can_bus.specs.declared.offer.Offer.{Offer}
-use Rattle.can_bus.specs.Course.{Transmission, IsCourse, over, sent, broken, IsMade, hit_time}
+use Rattle.can_bus.specs.Course.{Transmission, IsCourse, over, sent, broken, IsMade, hit_time, unhit}
 use Rattle.can_bus.specs.CourseWaiting.{AreInTime, IsSentBy, attempts_between, going_before, hit_attempts, keeping, kept_times, left_behind, left_on, of_field, sent_attempts}
 use Rattle.can_bus.specs.Offers.{AreOffered}
 use Rattle.can_bus.specs.OpenBus.{all_offers, offered_first, timed}
 use Rattle.can_bus.specs.Quiet.{queued}
 use Rattle.can_bus.specs.Repair.{IsInWindow}
 use Rattle.can_bus.specs.Schedule.{Timed, Lists, busy_time, without_offer}
-use Rattle.can_bus.specs.Waiting.{ahead_of, busy_times}
+use Rattle.can_bus.specs.Waiting.{ahead_of, busy_times, left_at, starts_between}
 use Rattle.can_bus.proofs.CourseTracks.{course-free}
-use Rattle.can_bus.proofs.CourseWaits.{Awaits, GoesFirst, IsOwn, awaits-listed, awaits-made, between-before, between-late, between-more, between-none, first-left, hit-awaits, next-first, others-kept, sends-it, sent-cases, wait-exact, wait-first, wait-own}
-use Rattle.can_bus.proofs.Fields.{field-more, field-skip, without-order}
+use Rattle.can_bus.proofs.CourseWaits.{Awaits, FieldsInOrder, GoesFirst, IsOwn, awaits-listed, awaits-made, between-before, between-late, between-more, between-none, fields-without, first-left, hit-awaits, next-first, others-kept, sends-it, sent-cases, wait-exact, wait-first, wait-own}
+use Rattle.can_bus.proofs.Fields.{field-more, field-skip}
 use Rattle.can_bus.proofs.Lateness.{late-behind, lateness-few}
-use Rattle.can_bus.proofs.Members.{stands-filter}
+use Rattle.can_bus.proofs.Members.{filter-stands, stands-filter}
 use Rattle.can_bus.proofs.OfferLemmas.{offers-rise}
 use Rattle.can_bus.proofs.OfferTimes.{AreInOrder}
 use Rattle.can_bus.proofs.OwnedFields.{field-append, field-cases, field-none}
@@ -38,9 +38,19 @@ parted [] n x at = absurd (let h : None ≡ Some x = at in cc)
 parted (y ∷ offers) zero x at = let e : y ≡ x = (let h : Some y ≡ Some x = at in cc) in (offers, ap (λ z. z ∷ offers) e)
 parted (y ∷ offers) (suc n) x at = let rest = parted offers n x at in (rest.0, ap (λ l. y ∷ l) rest.1)
 
-in-order : (offers : List Timed) → AreInTime offers → AreInOrder offers
-in-order [] rise = tt
-in-order (x ∷ offers) rise = (λ y there. rise 0 (suc there.0) x y (omega arith) refl there.1, in-order offers (λ m n y z less a b. rise (suc m) (suc n) y z (omega (arith, less)) a b))
+in-order : (offers : List Timed) → AreInTime offers → FieldsInOrder offers
+in-order [] rise f = tt
+in-order (x ∷ offers) rise f =
+    let rest : AreInOrder (of_field f offers) = in-order offers (λ m n y z less a b. rise (suc m) (suc n) y z (omega (arith, less)) a b) f in
+    elim (cases_Bool (same_field f x.frame)) [
+      | inl same ↦
+          subst AreInOrder (sym (field-more f x offers same))
+          ((λ y there.
+          let own = filter-stands (λ z. same_field f z.frame) offers y there in
+          rise 0 (suc own.0.0) x y (omega arith) refl own.0.1 (sym (same_field-Shares f x.frame same) ∙ same_field-Shares f y.frame own.1)),
+          rest)
+      | inr other ↦ subst AreInOrder (sym (field-skip f x offers other)) rest
+    ]
 
 some-first : (own : List Timed) (y : Timed) → Lists own y → (x : Timed) × (more : List Timed) × (own ≡ x ∷ more)
 some-first [] y there = absurd (let h : None ≡ Some y = there.1 in cc)
@@ -131,7 +141,7 @@ module _ (weight : Parts → ℕ) where
       let e : some.0 ≡ y = cc in
       (some.1, some.2 ∙ ap (λ w. w ∷ some.1) e)
 
-  late-weigh : {hits : List Hit} {number free : ℕ} {left : List Timed} {course : List Transmission} → IsCourse hits number free left course → AreInOrder left →
+  late-weigh : {hits : List Hit} {number free : ℕ} {left : List Timed} {course : List Transmission} → IsCourse hits number free left course → FieldsInOrder left →
       (x : Timed) (s : Transmission) (before : List Timed) → Awaits left course x s before → ((z : Transmission) → IsMade course z → x.time ≤ z.time) → sent_weight course x s ≤ ahead_weight left before x s
   late-weigh (over number free) order x s before waits from = absurd (let h : None ≡ Some s = waits.turn in cc)
   late-weigh (sent number free time f left course is unhit rest) order x s before waits from =
@@ -148,7 +158,7 @@ module _ (weight : Parts → ℕ) where
         | inl sends ↦ ends sends.same
         | inr later ↦
             let goes : time < s.time = omega (arith, course-free rest s (awaits-made later).0) in
-            let behind = late-weigh rest (without-order f left order) x s (without_offer f before) later (λ z made. from z (inr made)) in
+            let behind = late-weigh rest (fields-without f left order) x s (without_offer f before) later (λ z made. from z (inr made)) in
             let one = sent-more time f course x s here goes in
             let fewer = never-more free time f left course x s before head.offer head.more head.first in
             elim (cases_Bool (same_field x.frame f)) [
@@ -186,7 +196,7 @@ module _ (weight : Parts → ℕ) where
   late-going left before course x s from less =
       subst (λ l. sent_weight course x s ≤ ahead_weight (left_behind left l) (left_behind before l) x s) (sym (between-none 0 x.time course from)) less
 
-  pub weigh-going : {hits : List Hit} {number free : ℕ} {left : List Timed} {course : List Transmission} → IsCourse hits number free left course → AreInOrder left →
+  pub weigh-going : {hits : List Hit} {number free : ℕ} {left : List Timed} {course : List Transmission} → IsCourse hits number free left course → FieldsInOrder left →
       (x : Timed) (s : Transmission) (before : List Timed) → Awaits left course x s before → sent_weight course x s ≤ going_weight left before course x s
   weigh-going (over number free) order x s before waits = absurd (let h : None ≡ Some s = waits.turn in cc)
   weigh-going (sent number free time f left course is unhit rest) order x s before waits =
@@ -201,7 +211,7 @@ module _ (weight : Parts → ℕ) where
         | inl early ↦ elim (sent-cases free time f left course is order x s before waits) [
           | inl sends ↦ absurd (let t = sends.in_time in omega (arith, t, early))
           | inr later ↦
-              let behind = weigh-going rest (without-order f left order) x s (without_offer f before) later in
+              let behind = weigh-going rest (fields-without f left order) x s (without_offer f before) later in
               let same = sent-before time f course x s None early in
               subst (λ l. sent_weight (a ∷ course) x s ≤ ahead_weight (left_behind left l) (left_behind before l) x s) (sym (between-more 0 x.time a course (omega arith) early))
               (omega (arith, behind, same))
@@ -271,7 +281,7 @@ course-costs (broken number free time f offset left course is struck window rest
 
 module _ (hits : List Hit) (offers : List Timed) (course : List Transmission) (is : IsCourse hits 0 0 offers course) (rise : AreInTime offers)
     (place : ℕ) (offer : Timed) (s : Transmission) (by : IsSentBy offers course place offer s) where
-  order : AreInOrder offers
+  order : FieldsInOrder offers
   order = in-order offers rise
 
   waits : Awaits offers course offer s (take place offers)
@@ -303,11 +313,11 @@ module _ (hits : List Hit) (offers : List Timed) (course : List Transmission) (i
 -- ---- the offers of a call come in time
 
 rise-first : (queue : List Parts) (behind : List Timed) → AreInTime behind → AreInTime (offered_first queue ++ behind)
-rise-first [] behind rise m n x y less a b = rise m n x y less a b
-rise-first (f ∷ queue) behind rise zero zero x y less a b = absurd (omega (arith, less))
-rise-first (f ∷ queue) behind rise zero (suc n) x y less a b = let e : record { time = 0; frame = f } ≡ x = (let h : Some (record { time = 0; frame = f }) ≡ Some x = a in cc) in subst (λ (z : Timed). z.time ≤ y.time) e (omega arith)
-rise-first (f ∷ queue) behind rise (suc m) zero x y less a b = absurd (omega (arith, less))
-rise-first (f ∷ queue) behind rise (suc m) (suc n) x y less a b = rise-first queue behind rise m n x y (omega (arith, less)) a b
+rise-first [] behind rise m n x y less a b same = rise m n x y less a b same
+rise-first (f ∷ queue) behind rise zero zero x y less a b same = absurd (omega (arith, less))
+rise-first (f ∷ queue) behind rise zero (suc n) x y less a b same = let e : record { time = 0; frame = f } ≡ x = (let h : Some (record { time = 0; frame = f }) ≡ Some x = a in cc) in subst (λ (z : Timed). z.time ≤ y.time) e (omega arith)
+rise-first (f ∷ queue) behind rise (suc m) zero x y less a b same = absurd (omega (arith, less))
+rise-first (f ∷ queue) behind rise (suc m) (suc n) x y less a b same = rise-first queue behind rise m n x y (omega (arith, less)) a b same
 
 timed-at : (offers : List Offer) (n : ℕ) (x : Timed) → slice_get (map timed offers) n ≡ Some x → (offer : Offer) × (slice_get offers n ≡ Some offer) × (offer.time ≡ x.time)
 timed-at [] n x at = absurd (let h : None ≡ Some x = at in cc)
@@ -316,8 +326,30 @@ timed-at (offer ∷ offers) (suc n) x at = timed-at offers n x at
 
 pub offers-in_time : (offers : List Offer) (ports : List PortState) → AreOffered (length ports) offers → AreInTime (all_offers offers ports)
 offers-in_time offers ports offered =
-    rise-first (queued ports) (map timed offers) (λ m n x y less a b.
+    rise-first (queued ports) (map timed offers) (λ m n x y less a b same.
     let one = timed-at offers m x a in
     let other = timed-at offers n y b in
     let t = offers-rise (length ports) offers offered m n one.0 other.0 (omega (arith, less)) one.1 other.1 in
     omega (arith, t, one.2, other.2))
+
+-- ---- without hits
+
+abbrev one_unhit : Timed → Transmission
+one_unhit s = record { time = s.time; frame = s.frame; hit = None }
+
+left-unhit : (t : ℕ) (starts : List Timed) → left_on t (unhit starts) ≡ left_at t starts
+left-unhit t [] = refl
+left-unhit t (s ∷ starts) = ap (cond (nat_lt s.time t && nat_lt t (s.time + busy_time s.frame)) (s.time + busy_time s.frame - t)) (left-unhit t starts)
+
+unhit-more : (s : Timed) (starts : List Timed) (some : List Transmission) (b : Bool) → kept_times some ≡ busy_times starts →
+    kept_times (cond b (one_unhit s ∷ some) some) ≡ busy_times (cond b (s ∷ starts) starts)
+unhit-more s starts some true same = omega (arith, same, sum_by-cons (λ (z : Transmission). keeping z.frame z.hit) (one_unhit s) some, sum_by-cons (λ (x : Timed). busy_time x.frame) s starts)
+unhit-more s starts some false same = same
+
+kept-unhit : (from until : ℕ) (starts : List Timed) → kept_times (attempts_between from until (unhit starts)) ≡ busy_times (starts_between from until starts)
+kept-unhit from until [] = refl
+kept-unhit from until (s ∷ starts) =
+    unhit-more s (starts_between from until starts) (attempts_between from until (unhit starts)) (nat_le from s.time && nat_lt s.time until) (kept-unhit from until starts)
+
+pub waits-unhit : (starts : List Timed) (t from until : ℕ) → (left_on t (unhit starts) ≡ left_at t starts) × (kept_times (attempts_between from until (unhit starts)) ≡ busy_times (starts_between from until starts))
+waits-unhit starts t from until = (left-unhit t starts, kept-unhit from until starts)

@@ -101,15 +101,12 @@ sends-made f course n s at =
 
 -- ---- the first offer of a field is the one whose frame waits
 
-field-order : (f : Parts) (left : List Timed) → AreInOrder left → AreInOrder (of_field f left)
-field-order f [] order = tt
-field-order f (x ∷ left) order = elim (cases_Bool (same_field f x.frame)) [
-  | inl same ↦
-      subst AreInOrder (sym (field-more f x left same))
-      ((λ y there. order.0 y (filter-stands (λ z. same_field f z.frame) left y there).0), field-order f left order.1)
-  | inr other ↦
-      subst AreInOrder (sym (cond-false (same_field f x.frame) (x ∷ of_field f left) (of_field f left) other)) (field-order f left order.1)
-]
+-- the offers of each field come in the order of time
+abbrev pub FieldsInOrder : List Timed → Type 0
+FieldsInOrder left = (f : Parts) → AreInOrder (of_field f left)
+
+pub fields-without : (f : Parts) (left : List Timed) → FieldsInOrder left → FieldsInOrder (without_offer f left)
+fields-without f left order g = subst AreInOrder (sym (field-without g f left)) (without-order f (of_field g left) (order g))
 
 pub same-fields : (f g : Parts) (left : List Timed) → arbitration_field f ≡ arbitration_field g → of_field f left ≡ of_field g left
 same-fields f g left e = ap (λ field. filter (λ x. is_equal (field_cmp field (arbitration_field x.frame))) left) e
@@ -138,10 +135,10 @@ first-of time f (x ∷ own) more behind order same offered = elim (cases_lt time
       (x, own, sym same, e, early)
 ]
 
-pub first-left : (free : ℕ) (left : List Timed) (time : ℕ) (f : Parts) → IsNext free left time f → AreInOrder left → IsFirstLeft time f left
+pub first-left : (free : ℕ) (left : List Timed) (time : ℕ) (f : Parts) → IsNext free left time f → FieldsInOrder left → IsFirstLeft time f left
 first-left free left time f is order =
     let head = waiting-head (offered_by time left) f is.waits in
-    let found = first-of time f (of_field f left) (of_field f left) head.0 (field-order f left order) refl (sym (like-offered f time left) ∙ head.1) in
+    let found = first-of time f (of_field f left) (of_field f left) head.0 (order f) refl (sym (like-offered f time left) ∙ head.1) in
     record { offer = found.0; more = found.1; first = found.2; frame = found.3; in_time = found.4 }
 
 -- ---- an offer that is left, with those before it and behind it, and the attempt that sends it
@@ -157,7 +154,7 @@ awaits-made {left} {before} {course} {x} {s} waits = sends-made x.frame course (
 pub awaits-listed : {left before : List Timed} {course : List Transmission} {x : Timed} {s : Transmission} → Awaits left course x s before → Lists left x
 awaits-listed {left} {before} {course} {x} {s} waits = subst (λ l. Lists l x) (sym waits.whole) (stands-middle before x waits.after)
 
-module _ (free time : ℕ) (f : Parts) (left : List Timed) (course : List Transmission) (is : IsNext free left time f) (order : AreInOrder left)
+module _ (free time : ℕ) (f : Parts) (left : List Timed) (course : List Transmission) (is : IsNext free left time f) (order : FieldsInOrder left)
     (x : Timed) (s : Transmission) (before : List Timed) where
   abbrev first : Transmission
   first = record { time = time; frame = f; hit = None }
@@ -301,7 +298,7 @@ exact-behind free left a course is behind x s listed made exact =
           ]
     ]
 
-pub wait-exact : {hits : List Hit} {number free : ℕ} {left : List Timed} {course : List Transmission} → IsCourse hits number free left course → AreInOrder left →
+pub wait-exact : {hits : List Hit} {number free : ℕ} {left : List Timed} {course : List Transmission} → IsCourse hits number free left course → FieldsInOrder left →
     (x : Timed) (s : Transmission) (before : List Timed) → Awaits left course x s before → IsExact free course x s
 wait-exact (over number free) order x s before waits = absurd (let h : None ≡ Some s = waits.turn in cc)
 wait-exact (sent number free time f left course is unhit rest) order x s before waits =
@@ -312,7 +309,7 @@ wait-exact (sent number free time f left course is unhit rest) order x s before 
           (exact-here free left a course is (λ z made. let h = course-free rest z made in omega (arith, h)) x (awaits-listed waits) here.in_time)
       | inr later ↦
           exact-behind free left a course is (course-free rest) x s (awaits-listed waits) (awaits-made later).0
-          (wait-exact rest (without-order f left order) x s (without_offer f before) later)
+          (wait-exact rest (fields-without f left order) x s (without_offer f before) later)
     ]
 wait-exact (broken number free time f offset left course is struck window rest) order x s before waits =
     let later = hit-awaits free time f left course is order x s before offset waits in
@@ -325,7 +322,7 @@ pub record IsOwn (x : Timed) (s : Transmission) : Type 0 where
   pub unhit : s.hit ≡ None
   pub in_time : x.time ≤ s.time
 
-pub wait-own : {hits : List Hit} {number free : ℕ} {left : List Timed} {course : List Transmission} → IsCourse hits number free left course → AreInOrder left →
+pub wait-own : {hits : List Hit} {number free : ℕ} {left : List Timed} {course : List Transmission} → IsCourse hits number free left course → FieldsInOrder left →
     (x : Timed) (s : Transmission) (before : List Timed) → Awaits left course x s before → IsOwn x s
 wait-own (over number free) order x s before waits = absurd (let h : None ≡ Some s = waits.turn in cc)
 wait-own (sent number free time f left course is unhit rest) order x s before waits =
@@ -335,7 +332,7 @@ wait-own (sent number free time f left course is unhit rest) order x s before wa
         unhit = sym (ap (λ (z : Transmission). z.hit) here.same);
         in_time = subst (λ (z : Transmission). x.time ≤ z.time) here.same here.in_time;
       }
-      | inr later ↦ wait-own rest (without-order f left order) x s (without_offer f before) later
+      | inr later ↦ wait-own rest (fields-without f left order) x s (without_offer f before) later
     ]
 wait-own (broken number free time f offset left course is struck window rest) order x s before waits =
     wait-own rest order x s before (hit-awaits free time f left course is order x s before offset waits)
@@ -354,7 +351,7 @@ next-first free left a is x listed early =
       | inr (inr before) ↦ absurd (is.waits.least at.0 x.frame at.1 before)
     ]
 
-pub wait-first : {hits : List Hit} {number free : ℕ} {left : List Timed} {course : List Transmission} → IsCourse hits number free left course → AreInOrder left →
+pub wait-first : {hits : List Hit} {number free : ℕ} {left : List Timed} {course : List Transmission} → IsCourse hits number free left course → FieldsInOrder left →
     (x : Timed) (s : Transmission) (before : List Timed) → Awaits left course x s before → (z : Transmission) → IsMade course z → x.time ≤ z.time → z.time < s.time → GoesFirst z x
 wait-first (over number free) order x s before waits z made from until = absurd made
 wait-first (sent number free time f left course is unhit rest) order x s before waits z (inl here) from until =
@@ -367,7 +364,7 @@ wait-first (sent number free time f left course is unhit rest) order x s before 
           let at : time ≡ s.time = ap (λ (y : Transmission). y.time) here.same in
           let k = course-free rest z made in
           absurd (omega (arith, at, k, until))
-      | inr later ↦ wait-first rest (without-order f left order) x s (without_offer f before) later z made from until
+      | inr later ↦ wait-first rest (fields-without f left order) x s (without_offer f before) later z made from until
     ]
 wait-first (broken number free time f offset left course is struck window rest) order x s before waits z (inl here) from until =
     let a : Transmission = record { time = time; frame = f; hit = Some offset } in

@@ -2,6 +2,7 @@
 -- (docs/BUS.md, "How long a frame waits on a network")
 use Rattle.std.specs.Prelude.{ℕ, ◌≡◌, ◌+◌, ◌-◌, ◌≤◌, ◌<◌, nat_le, nat_lt, not, Bool, true, false, ◌&&◌, if◌then◌else◌, List, [], ◌∷◌, ◌++◌, filter, length, slice_get, take, Option, Some, None}
 use Rattle.std.specs.List.{sum_by}
+use Rattle.can_frame.specs.Arbitration.{arbitration_field}
 use Rattle.can_frame.specs.Parts.{Parts}
 use Rattle.can_node.specs.Ports.{same_field}
 use Rattle.can_bus.specs.declared.hit.Hit.{Hit}
@@ -9,9 +10,10 @@ use Rattle.can_bus.specs.Course.{IsCourse, Transmission, hit_time}
 use Rattle.can_bus.specs.Schedule.{Timed, busy_time, without_offer}
 use Rattle.can_bus.specs.Waiting.{ahead_of}
 
--- none of the offers is made earlier than one before it
+-- of one arbitration field no offer is made earlier than one that stands before it
 abbrev pub AreInTime : List Timed → Type 0
-AreInTime offers = (m n : ℕ) (x y : Timed) → m < n → slice_get offers m ≡ Some x → slice_get offers n ≡ Some y → x.time ≤ y.time
+AreInTime offers = (m n : ℕ) (x y : Timed) → m < n → slice_get offers m ≡ Some x → slice_get offers n ≡ Some y →
+    arbitration_field x.frame ≡ arbitration_field y.frame → x.time ≤ y.time
 
 -- how long an attempt keeps the bus: its frame and the intermission, or what a hit makes of them
 abbrev pub keeping : Parts → Option ℕ → ℕ
@@ -74,7 +76,7 @@ going_before offers course place offer start =
     let begun = attempts_between 0 offer.time course in
     ahead_of offer.frame start (left_behind offers begun) ++ of_field offer.frame (left_behind (take place offers) begun)
 
--- what is claimed of each offer of a course, whose offers come in time, and of the attempt that sends it
+-- what is claimed of each offer of a course, whose offers of one field come in time, and of the attempt that sends it
 abbrev pub OnWait : (List Hit → List Timed → List Transmission → ℕ → Timed → Transmission → Type 0) → Type 0
 OnWait Claim = (hits : List Hit) (offers : List Timed) (course : List Transmission) → IsCourse hits 0 0 offers course → AreInTime offers →
     (place : ℕ) (offer : Timed) (s : Transmission) → IsSentBy offers course place offer s → Claim hits offers course place offer s

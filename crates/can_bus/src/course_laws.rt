@@ -13,7 +13,7 @@ ghost use Rattle.can_bus.specs.OpenBus.{all_offers};
 ghost use Rattle.can_bus.specs.Quiet.{AreDifferent, ascending};
 ghost use Rattle.can_bus.specs.Repair.{AreApart, FallInWindows, frame_of_attempt, hit_of};
 ghost use Rattle.can_bus.specs.Schedule.{AreAtOnce, IsScheduleOf, Lists, Timed, busy_time, frames_of, schedule};
-ghost use Rattle.can_bus.specs.Waiting.{busy_times};
+ghost use Rattle.can_bus.specs.Waiting.{busy_times, left_at, starts_between};
 
 /// Offers and hits, at most one in an attempt, have one course at most. It is the one that is computed, if in that
 /// one each attempt that is hit is so in the window of its frame.
@@ -41,8 +41,8 @@ pub fn a_course_at_once_ascends()
 /// A frame that is offered to a network is sent when what is left, as it is offered, of the attempt on the wire is over,
 /// and each attempt that starts meanwhile. Each of these wins arbitration against it, or sends a frame of its own field. So
 /// it waits no longer than the frames take that go before it and are offered before it starts, and the attempts that
-/// are hit meanwhile. A hit costs thirteen bit times at most: so much longer than its frame and intermission an attempt that is hit
-/// keeps the bus.
+/// are hit meanwhile. An attempt that is hit keeps the bus for at most thirteen bit times more than its frame and intermission.
+/// Without hits the terms are those of `waiting_is_bounded`.
 pub fn waiting_on_a_network_is_bounded()
     ensures in_time { (offers : List Offer) (ports : List PortState) → AreOffered (length ports) offers → AreInTime (all_offers offers ports) }
     ensures own { OnWait (λ hits offers course place offer s. (s.frame ≡ offer.frame) × (s.hit ≡ None) × (offer.time ≤ s.time)) }
@@ -54,6 +54,8 @@ pub fn waiting_on_a_network_is_bounded()
         s.time ≤ offer.time + left_on offer.time course + busy_times (going_before offers course place offer s.time) + kept_times (hit_attempts (attempts_between offer.time s.time course))) }
     ensures few { OnWait (λ hits offers course place offer s.
         length (sent_attempts (attempts_between offer.time s.time course)) ≤ length (going_before offers course place offer s.time)) }
+    ensures without_hits { (starts : List Timed) (t from until : ℕ) → (left_on t (unhit starts) ≡ left_at t starts)
+        × (kept_times (attempts_between from until (unhit starts)) ≡ busy_times (starts_between from until starts)) }
     ensures costs { (hits : List Disturbance) (offers : List Timed) (course : List Transmission) → IsCourse hits 0 0 offers course →
         (s : Transmission) → IsMade course s → IsFrame s.frame → keeping s.frame s.hit ≤ busy_time s.frame + 13 }
 {}

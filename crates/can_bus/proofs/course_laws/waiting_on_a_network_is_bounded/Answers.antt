@@ -1,4 +1,4 @@
-use Rattle.can_bus.proofs.CourseDelays.{bound, course-costs, exact, few, meanwhile, offers-in_time, own}
+use Rattle.can_bus.proofs.CourseDelays.{bound, course-costs, exact, few, meanwhile, offers-in_time, own, waits-unhit}
 use Rattle.can_bus.proofs.course_laws.waiting_on_a_network_is_bounded.Goals as goal
 
 pub returns : goal.returns
@@ -9,5 +9,6 @@ returns c = record {
   meanwhile = meanwhile;
   bound = bound;
   few = few;
+  without_hits = waits-unhit;
   costs = λ hits offers course is s made framed. course-costs is s made framed;
 }
