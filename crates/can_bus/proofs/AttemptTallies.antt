@@ -1,16 +1,16 @@
 -- What one attempt makes of the counters of a port: the tally, as long as the port is error active.
 use Rattle.std.specs.Prelude.{nat_lt, min, if◌then◌else◌}
-use Rattle.std.proofs.Common.{◌≡◌, ℕ, suc, ◌+◌, ◌-◌, ◌<◌, Bool, true, false, None, Some, refl, sym, ap, subst, ◌∙◌, arith, inl, inr}
+use Rattle.std.proofs.Common.{◌≡◌, ℕ, suc, ◌+◌, ◌-◌, ◌<◌, Bool, true, false, Some, refl, sym, ap, subst, ◌∙◌, arith, inl, inr}
 use Rattle.std.proofs.Math.Dec.{ltb, leb}
 use Rattle.std.proofs.lemmas.Bool.{cond-true, cond-false, cond_both, cases_lt, lt-ltb, le-ltb, leb-true, false_from_ne_true}
 use Rattle.can_frame.specs.Parts.{Parts}
 use Rattle.can_fault.specs.declared.cause.Cause.{Cause}
-use Rattle.can_fault.specs.declared.cause.Cause.TheVariants.{FrameSent, FrameReceived, ReceiverError, SenderError}
+use Rattle.can_fault.specs.declared.cause.Cause.TheVariants.{FrameReceived, ReceiverError, SenderError}
 use Rattle.can_fault.specs.Counters.{ConfineParts, changed, counted, is_bus_off, rec_after_reception}
 use Rattle.can_mac.specs.declared.phase.Role.TheVariants.{Receiver}
-use Rattle.can_mac.specs.Frames.{with_intermission, behind_part, counters_after, slot_place}
-use Rattle.can_node.specs.Ports.{PortState, waiting, port_run}
-use Rattle.can_node.proofs.FrameLeaves.{Sends, Receives, port_run-sent, port_run-received}
+use Rattle.can_mac.specs.Frames.{behind_part, counters_after, slot_place}
+use Rattle.can_node.specs.Ports.{PortState, waiting}
+use Rattle.can_node.proofs.FrameLeaves.{Sends, Receives}
 use Rattle.can_bus.specs.Quiet.{holds}
 use Rattle.can_bus.specs.Repair.{Tally, IsLow, tallied}
 use Rattle.can_bus.proofs.Rounds.{IsWithin, within-received, sends-has}
@@ -20,17 +20,17 @@ use Rattle.can_bus.proofs.QuietLogs.{TakesPart, holds-own, holds-none, others-of
 
 module _ (h : ℕ) (c : ConfineParts) (within : IsWithin h c) where
   pub within-more : IsWithin (suc h) c
-  within-more = record { low_tec = within.low_tec; low_rec = within.low_rec; tec = omega (arith, within.tec); rec = omega (arith, within.rec) }
+  within-more = record { low_tec = within.low_tec; low_rec = within.low_rec; tec = omega (arith, within.tec); rec = omega (arith, within.rec); occurrences = within.occurrences; row = within.row }
 
   pub sender-within : c.tec + 8 < 128 → IsWithin (suc h) (counted SenderError c)
   sender-within low =
       cond_both {A = ConfineParts} (is_bus_off c) c (changed SenderError c) (IsWithin (suc h)) (λ e. within-more)
-      (λ e. record { low_tec = low; low_rec = within.low_rec; tec = omega (arith, within.tec); rec = omega (arith, within.rec) })
+      (λ e. record { low_tec = low; low_rec = within.low_rec; tec = omega (arith, within.tec); rec = omega (arith, within.rec); occurrences = within.occurrences; row = within.row })
 
   pub receiver-within : c.rec + 1 < 128 → IsWithin (suc h) (counted ReceiverError c)
   receiver-within low =
       cond_both {A = ConfineParts} (is_bus_off c) c (changed ReceiverError c) (IsWithin (suc h)) (λ e. within-more)
-      (λ e. record { low_tec = within.low_tec; low_rec = omega (arith, low); tec = omega (arith, within.tec); rec = omega (arith, within.rec) })
+      (λ e. record { low_tec = within.low_tec; low_rec = omega (arith, low); tec = omega (arith, within.tec); rec = omega (arith, within.rec); occurrences = within.occurrences; row = within.row })
 
 pub within-slot : (h : ℕ) (c : ConfineParts) (k : ℕ) → IsWithin h c → IsWithin h (counters_after Receiver c k)
 within-slot h c k within = cond_both {A = ConfineParts} (nat_lt k 2) c (counted FrameReceived c) (IsWithin h) (λ e. within) (λ e. within-received h c within)
@@ -46,7 +46,7 @@ on-bus h c within = false_from_ne_true (leb 256 c.tec) (λ e. omega (arith, leb-
 pub counted-on : (h : ℕ) (cause : Cause) (c : ConfineParts) → IsWithin h c → counted cause c ≡ changed cause c
 counted-on h cause c within = cond-false (is_bus_off c) c (changed cause c) (on-bus h c within)
 
-fewer-by-one : (h : ℕ) (c : ConfineParts) → IsWithin h c → rec_after_reception c.rec ≡ c.rec - 1
+pub fewer-by-one : (h : ℕ) (c : ConfineParts) → IsWithin h c → rec_after_reception c.rec ≡ c.rec - 1
 fewer-by-one h c within = cond-false (leb 128 c.rec) _ _ (false_from_ne_true (leb 128 c.rec) (λ e. omega (arith, leb-true 128 c.rec e, within.low_rec)))
 
 abbrev pub part-holds : (f : Parts) (p : PortState) → TakesPart f p → Bool
@@ -56,14 +56,6 @@ part-holds f p (inr receives) = false
 pub holds-part : (f : Parts) (p : PortState) (part : TakesPart f p) → holds p.queue f ≡ part-holds f p part
 holds-part f p (inl sends) = holds-own f p.queue (sends-has f p sends)
 holds-part f p (inr receives) = holds-none f p.queue (others-of f p.queue (waiting p.queue) refl receives.other)
-
-pub whole-tally : (h : ℕ) (f : Parts) (p : PortState) → IsWithin h p.mac.counters → (part : TakesPart f p) →
-    tally_of (port_run p (with_intermission f)).mac.counters ≡ tallied (part-holds f p part) f None (tally_of p.mac.counters)
-whole-tally h f p within (inl sends) =
-    ap (λ (q : PortState). tally_of q.mac.counters) (port_run-sent f p sends) ∙ ap tally_of (counted-on h FrameSent p.mac.counters within)
-whole-tally h f p within (inr receives) =
-    ap (λ (q : PortState). tally_of q.mac.counters) (port_run-received f p receives) ∙ ap tally_of (counted-on h FrameReceived p.mac.counters within)
-    ∙ ap (λ r. let t : Tally = record { tec = p.mac.counters.tec; rec = r } in t) (fewer-by-one h p.mac.counters within)
 
 -- behind the ACK slot a receiver has counted a reception
 pub slot-tally : (h : ℕ) (f : Parts) (o : ℕ) (c : ConfineParts) → IsWithin h c →

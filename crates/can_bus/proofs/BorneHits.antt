@@ -47,14 +47,14 @@ before-hit (In a offset ∷ hits) number =
           ]
     ]
 
-abbrev Few : ℕ → Tally → Type 0
+abbrev pub Few : ℕ → Tally → Type 0
 Few n t = (t.tec ≤ 8 * n) × (t.rec ≤ n)
 
 fewer-or-same : (b : Bool) (n : ℕ) → (if b then n - 1 else n) ≤ n
 fewer-or-same true n = omega arith
 fewer-or-same false n = omega arith
 
-few-tallied : (n m : ℕ) (holds_it : Bool) (f : Parts) (hit : Option ℕ) (t : Tally) → n ≤ m → ((o : ℕ) → hit ≡ Some o → suc n ≤ m) → Few n t → Few m (tallied holds_it f hit t)
+pub few-tallied : (n m : ℕ) (holds_it : Bool) (f : Parts) (hit : Option ℕ) (t : Tally) → n ≤ m → ((o : ℕ) → hit ≡ Some o → suc n ≤ m) → Few n t → Few m (tallied holds_it f hit t)
 few-tallied n m true f None t less more few = (omega (arith, few.0, less), omega (arith, few.1, less))
 few-tallied n m false f None t less more few = (omega (arith, few.0, less), omega (arith, few.1, less))
 few-tallied n m true f (Some o) t less more few = (omega (arith, few.0, more o refl), omega (arith, few.1, less))

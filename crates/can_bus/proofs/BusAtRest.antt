@@ -15,11 +15,10 @@ use Rattle.can_bus.specs.declared.hit.Hit.TheVariants.{At, In, View}
 use Rattle.can_bus.specs.declared.moment.Attempt.{Attempt}
 use Rattle.can_bus.specs.declared.call.Call.{Call}
 use Rattle.can_bus.specs.Hits.{is_above, is_pair_above}
-use Rattle.can_bus.specs.Run.{BusState, Course, wired_level, begins_attempt, following, aged, attempt_now, hits_wire, hits_view, inverted_if, all_sampled, rest_after, recorded, bus_step, bus_after, bus_level, course}
+use Rattle.can_bus.specs.Run.{BusState, CallState, wired_level, begins_attempt, following, aged, attempt_now, hits_wire, hits_view, inverted_if, all_sampled, rest_after, recorded, bus_step, bus_after}
 use Rattle.can_bus.specs.Wired.{wired}
 use Rattle.can_bus.specs.Walks.{AreBelow, AreRising, IsPassed, IsCall, in_next, is_hit, aged_by, never, rested, until_at, until_in, until_view}
 use Rattle.can_bus.proofs.CursorLemmas.{reach_none, reach_past, wire_found, attempt_found, view_found}
-use Rattle.can_bus.proofs.RunLemmas.{after_join}
 use Rattle.can_bus.proofs.StepLemmas.{at_next, view_next, view_later, within_next}
 
 -- ---- what lies behind a bit time lies behind the later ones
@@ -161,52 +160,52 @@ pub record IsResting (bus : BusState) : Type 0 where
   pub rest : bus.rest ≡ idle_row
   pub still : map (λ p. port_step p Recessive) bus.ports ≡ bus.ports
 
-attempt_rests : (c : Course) → wired_level c ≡ Recessive → attempt_now c ≡ aged c.latest
+attempt_rests : (c : CallState) → wired_level c ≡ Recessive → attempt_now c ≡ aged c.latest
 attempt_rests c w = ap (λ x. if begins_attempt c.bus.rest x then Some (following c.latest) else aged c.latest) w
 
-level_rests : (hits : List Hit) (c : Course) → IsResting c.bus → list_any (hits_wire c.time (aged c.latest)) hits ≡ false → recorded hits c ≡ Recessive
+level_rests : (hits : List Hit) (c : CallState) → IsResting c.bus → list_any (hits_wire c.time (aged c.latest)) hits ≡ false → recorded hits c ≡ Recessive
 unfolding recorded
 level_rests hits c h none =
     ap (λ l. inverted_if (list_any (hits_wire c.time l) hits) (wired_level c)) (attempt_rests c h.wired)
     ∙ ap (λ b. inverted_if b (wired_level c)) none ∙ h.wired
 
-step_rests : (hits : List Hit) (c : Course) → IsResting c.bus → list_any (hits_wire c.time (aged c.latest)) hits ≡ false → ((node : ℕ) → list_any (hits_view c.time node) hits ≡ false) →
+step_rests : (hits : List Hit) (c : CallState) → IsResting c.bus → list_any (hits_wire c.time (aged c.latest)) hits ≡ false → ((node : ℕ) → list_any (hits_view c.time node) hits ≡ false) →
     bus_step hits c ≡ record { bus = c.bus; time = c.time + 1; latest = aged c.latest }
 unfolding bus_step
 step_rests hits c h wire view =
-    ap (λ x. let d : Course = record { bus = record { ports = all_sampled hits c.time x 0 c.bus.ports; rest = rest_after c.bus.rest x }; time = c.time + 1; latest = attempt_now c } in d) (level_rests hits c h wire)
-    ∙ ap (λ ps. let d : Course = record { bus = record { ports = ps; rest = rest_after c.bus.rest Recessive }; time = c.time + 1; latest = attempt_now c } in d)
+    ap (λ x. let d : CallState = record { bus = record { ports = all_sampled hits c.time x 0 c.bus.ports; rest = rest_after c.bus.rest x }; time = c.time + 1; latest = attempt_now c } in d) (level_rests hits c h wire)
+    ∙ ap (λ ps. let d : CallState = record { bus = record { ports = ps; rest = rest_after c.bus.rest Recessive }; time = c.time + 1; latest = attempt_now c } in d)
     (sampled_rest hits c.time 0 c.bus.ports view h.still)
-    ∙ ap (λ r. let d : Course = record { bus = record { ports = c.bus.ports; rest = r }; time = c.time + 1; latest = attempt_now c } in d) full
-    ∙ ap (λ l. let d : Course = record { bus = c.bus; time = c.time + 1; latest = l } in d) (attempt_rests c h.wired)
+    ∙ ap (λ r. let d : CallState = record { bus = record { ports = c.bus.ports; rest = r }; time = c.time + 1; latest = attempt_now c } in d) full
+    ∙ ap (λ l. let d : CallState = record { bus = c.bus; time = c.time + 1; latest = l } in d) (attempt_rests c h.wired)
   where
     full : rest_after c.bus.rest Recessive ≡ c.bus.rest
     full = ap (λ r. min (r + 1) idle_row) h.rest ∙ sym h.rest
 
 -- no hit falls in so many bit times, in which no attempt begins
-pub record IsFree (hits : List Hit) (c : Course) (n : ℕ) : Type 0 where
+pub record IsFree (hits : List Hit) (c : CallState) (n : ℕ) : Type 0 where
   pub wire : (k : ℕ) → k < n → list_any (hits_wire (c.time + k) (aged_by (k + 1) c.latest)) hits ≡ false
   pub view : (k node : ℕ) → k < n → list_any (hits_view (c.time + k) node) hits ≡ false
 
-pub rested_none : (hits : List Hit) (c : Course) → bus_after hits 0 c ≡ rested 0 c
+pub rested_none : (hits : List Hit) (c : CallState) → bus_after hits 0 c ≡ rested 0 c
 unfolding bus_after
 rested_none hits c =
-    ap (λ l. let d : Course = record { bus = c.bus; time = c.time; latest = l } in d) (aged_none c.latest)
-    ∙ ap (λ t. let d : Course = record { bus = c.bus; time = t; latest = aged_by 0 c.latest } in d) (let e : c.time ≡ c.time + 0 = omega arith in e)
+    ap (λ l. let d : CallState = record { bus = c.bus; time = c.time; latest = l } in d) (aged_none c.latest)
+    ∙ ap (λ t. let d : CallState = record { bus = c.bus; time = t; latest = aged_by 0 c.latest } in d) (let e : c.time ≡ c.time + 0 = omega arith in e)
 
 -- so many bit times later nothing but the time has changed
-pub rests_on : (hits : List Hit) (c : Course) (n k : ℕ) → IsResting c.bus → IsFree hits c n → k ≤ n → bus_after hits k c ≡ rested k c
+pub rests_on : (hits : List Hit) (c : CallState) (n k : ℕ) → IsResting c.bus → IsFree hits c n → k ≤ n → bus_after hits k c ≡ rested k c
 unfolding bus_after
 rests_on hits c n zero h free within = rested_none hits c
 rests_on hits c n (suc k) h free within =
     ap (bus_step hits) (rests_on hits c n k h free (omega arith))
     ∙ step_rests hits (rested k c) h (ap (λ l. list_any (hits_wire (c.time + k) l) hits) (aged_more k c.latest) ∙ free.wire k (omega arith)) (λ node. free.view k node (omega arith))
-    ∙ ap (λ l. let d : Course = record { bus = c.bus; time = (c.time + k) + 1; latest = l } in d) (aged_more k c.latest)
-    ∙ ap (λ j. let d : Course = record { bus = c.bus; time = j; latest = aged_by (k + 1) c.latest } in d) (let e : (c.time + k) + 1 ≡ c.time + suc k = omega arith in e)
-    ∙ ap (λ j. let d : Course = record { bus = c.bus; time = c.time + suc k; latest = aged_by j c.latest } in d) (let e : k + 1 ≡ suc k = omega arith in e)
+    ∙ ap (λ l. let d : CallState = record { bus = c.bus; time = (c.time + k) + 1; latest = l } in d) (aged_more k c.latest)
+    ∙ ap (λ j. let d : CallState = record { bus = c.bus; time = j; latest = aged_by (k + 1) c.latest } in d) (let e : (c.time + k) + 1 ≡ c.time + suc k = omega arith in e)
+    ∙ ap (λ j. let d : CallState = record { bus = c.bus; time = c.time + suc k; latest = aged_by j c.latest } in d) (let e : k + 1 ≡ suc k = omega arith in e)
 
 -- and a recessive level is recorded in each
-pub rest_recorded : (hits : List Hit) (c : Course) (n k : ℕ) → IsResting c.bus → IsFree hits c n → k < n → recorded hits (bus_after hits k c) ≡ Recessive
+pub rest_recorded : (hits : List Hit) (c : CallState) (n k : ℕ) → IsResting c.bus → IsFree hits c n → k < n → recorded hits (bus_after hits k c) ≡ Recessive
 rest_recorded hits c n k h free within =
     ap (recorded hits) (rests_on hits c n k h free (omega arith))
     ∙ level_rests hits (rested k c) h (ap (λ l. list_any (hits_wire (c.time + k) l) hits) (aged_more k c.latest) ∙ free.wire k within)
@@ -239,24 +238,18 @@ still_more S f xs i d within before here = rw add-one (still_step S f xs i d wit
 
 -- ---- bit times one after another
 
-pub after_none : (hits : List Hit) (c : Course) → c ≡ bus_after hits 0 c
+pub after_none : (hits : List Hit) (c : CallState) → c ≡ bus_after hits 0 c
 unfolding bus_after
 after_none hits c = refl
 
-pub after_more : (hits : List Hit) (i : ℕ) (first c next : Course) → c ≡ bus_after hits i first → next ≡ bus_step hits c → next ≡ bus_after hits (i + 1) first
+pub after_more : (hits : List Hit) (i : ℕ) (first c next : CallState) → c ≡ bus_after hits i first → next ≡ bus_step hits c → next ≡ bus_after hits (i + 1) first
 unfolding bus_after
 after_more hits i first c next e f = rw add-one (f ∙ ap (bus_step hits) e)
 
-pub recorded_more : (hits : List Hit) (i : ℕ) (first c : Course) (rec : List Level) (x : Level) → i < length rec → c ≡ bus_after hits i first → x ≡ recorded hits c →
+pub recorded_more : (hits : List Hit) (i : ℕ) (first c : CallState) (rec : List Level) (x : Level) → i < length rec → c ≡ bus_after hits i first → x ≡ recorded hits c →
     ((t : ℕ) (d : Level) → t < i → get_or rec t d ≡ recorded hits (bus_after hits t first)) → (t : ℕ) (d : Level) → t < i + 1 → get_or (set rec i x) t d ≡ recorded hits (bus_after hits t first)
 recorded_more hits i first c rec x h e f before t d =
     below_more (λ n. get_or (set rec i x) n d ≡ recorded hits (bus_after hits n first)) i
     (λ n b. let ne : n ≢ i = omega arith in rw get_or-set_other (before n d b))
     (rw get_or-set_same (f ∙ ap (recorded hits) e))
     t
-
--- what is recorded behind so many bit times of a call
-pub level_joined : (hits : List Hit) (place k t : ℕ) (bus : BusState) (c : Course) (x : Level) → c ≡ bus_after hits place (course bus) → t ≡ place + k → x ≡ recorded hits (bus_after hits k c) → x ≡ bus_level hits t bus
-unfolding bus_level
-level_joined hits place k t bus c x e s f =
-    f ∙ ap (λ d. recorded hits (bus_after hits k d)) e ∙ ap (recorded hits) (sym (after_join hits place k (course bus))) ∙ ap (λ n. bus_level hits n bus) (sym s)

@@ -1,6 +1,6 @@
 -- What a walk along rising hits finds.
 use Rattle.std.specs.List.{list_any, slice_get}
-use Rattle.std.proofs.Common.{◌≡◌, ℕ, ◌+◌, ◌<◌, ◌≤◌, ◌⊎◌, Bool, true, false, ◌||◌, List, [], ◌∷◌, Option, Some, None, length, get_or, refl, sym, ◌∙◌, ap, subst, inl, inr, arith}
+use Rattle.std.proofs.Common.{◌≡◌, ℕ, ◌<◌, ◌≤◌, ◌⊎◌, Bool, true, false, ◌||◌, List, [], ◌∷◌, Option, Some, None, length, get_or, refl, sym, ◌∙◌, ap, subst, inl, inr, arith}
 use Rattle.std.proofs.lemmas.Bool.{cases_order}
 use Rattle.std.proofs.lemmas.Bool.Decides.{nat_tests}
 use Rattle.std.proofs.lemmas.List.Folds.{list_any_none}
@@ -16,17 +16,6 @@ use Rattle.can_bus.proofs.HitOrder.{above-transitive, above-other}
 -- nothing is passed at first
 pub below_none : (hits : List Hit) (q : Hit) → AreBelow hits 0 q
 below_none hits q n before h e = absurd (omega arith)
-
--- one hit more
-pub below_more : (hits : List Hit) (place : ℕ) (q d : Hit) → AreBelow hits place q → place < length hits → is_above q (get_or hits place d) ≡ true → AreBelow hits (place + 1) q
-below_more hits place q d below within above n before h e =
-    elim (cases_order n place) [
-      | inl same ↦ subst (λ x. is_above q x ≡ true) (ap (λ k. get_or hits k d) (sym same) ∙ get_or_from_slice_get hits n before d e) above
-      | inr other ↦ elim other [
-        | inl less ↦ below n before less e
-        | inr more ↦ absurd (omega arith)
-      ]
-    ]
 
 -- what lies below a hit lies below each that is above it
 pub below_above : (hits : List Hit) (place : ℕ) (q r : Hit) → is_above r q ≡ true → AreBelow hits place q → AreBelow hits place r

@@ -64,7 +64,7 @@ at-first (x ∷ own) = elim (cases_eq x.time 0) [
   | inr other ↦ at-other x own 0 other ∙ at-first own ∙ sym (by-late x own 0 (omega (arith, other)))
 ]
 
-by-none : (t s : ℕ) (own : List Timed) → t < s → AreFrom s own → offered_by t own ≡ []
+pub by-none : (t s : ℕ) (own : List Timed) → t < s → AreFrom s own → offered_by t own ≡ []
 by-none t s [] less from = refl
 by-none t s (x ∷ own) less from =
     by-late x own t (omega (arith, less, from x (stands-here x own))) ∙ by-none t s own less (λ y h. from y (stands-later x own y h))

@@ -31,7 +31,7 @@ length-to node (offer ∷ offers) = elim (cases_eq offer.node node) [
 ]
 
 -- nor has it more frames than all ports
-own-room : (offers : List Offer) (size : ℕ) (plans : List PlannedPort) → length (planned plans) ≤ size → All (λ plan. size + length offers ≤ plan.queue_room) plans →
+pub own-room : (offers : List Offer) (size : ℕ) (plans : List PlannedPort) → length (planned plans) ≤ size → All (λ plan. size + length offers ≤ plan.queue_room) plans →
     (node n : ℕ) (p : PortState) → slice_get (map ready_port plans) n ≡ Some p → length (own_offers offers node p) ≤ p.queue_room
 own-room offers size [] fits room node n p there = absurd (let h : None ≡ Some p = there in cc)
 own-room offers size (plan ∷ plans) fits room node zero p there =
@@ -46,28 +46,25 @@ own-room offers size (plan ∷ plans) fits room node zero p there =
 own-room offers size (plan ∷ plans) fits room node (suc n) p there =
     own-room offers size plans (omega (arith, fits, length-append plan.frames (planned plans))) (All-tail (λ plan. size + length offers ≤ plan.queue_room) plan plans room) node n p there
 
-module _ (offers : List Offer) (plans : List PlannedPort) (is : IsOpenPlan offers plans) where
+module _ (offers : List Offer) (plans : List PlannedPort) where
   abbrev ports : List PortState
   ports = map ready_port plans
-
-  offered : AreOffered (length ports) offers
-  offered = subst (λ n. AreOffered n offers) (sym (length-map plans ready_port)) is.offered
 
   all-frames : frames_of (all_offers offers ports) ≡ planned plans ++ map (λ (o : Offer). o.frame) offers
   all-frames =
       first-frames (queued ports) (map timed offers) ∙ ap (λ fs. fs ++ frames_of (map timed offers)) (ready-queued plans) ∙ ap (λ fs. planned plans ++ fs) (timed-frames offers)
 
-  size : length (all_offers offers ports) ≡ length (planned plans) + length offers
-  size =
+  pub all-size : length (all_offers offers ports) ≡ length (planned plans) + length offers
+  all-size =
       sym (length-map (all_offers offers ports) (λ (x : Timed). x.frame)) ∙ ap length all-frames
       ∙ length-append (planned plans) (map (λ (o : Offer). o.frame) offers) ∙ ap (λ n. length (planned plans) + n) (length-map offers (λ (o : Offer). o.frame))
 
-  pub open-made : IsOpenCall offers ports (schedule (all_offers offers ports))
-  open-made = record {
+  pub open-made : IsOpenPlan offers plans → IsOpenCall offers ports (schedule (all_offers offers ports))
+  open-made is = record {
     two = omega (arith, is.two, length-map plans ready_port);
     most = omega (arith, is.most, length-map plans ready_port);
-    offered = offered;
-    quiet = quiet-each (length (all_offers offers ports)) plans (subst (λ k. All (λ plan. k ≤ plan.log_room) plans) (sym size) is.logs);
+    offered = subst (λ n. AreOffered n offers) (sym (length-map plans ready_port)) is.offered;
+    quiet = quiet-each (length (all_offers offers ports)) plans (subst (λ k. All (λ plan. k ≤ plan.log_room) plans) (sym all-size) is.logs);
     room = λ n p there. own-room offers (length (planned plans)) plans (omega arith) is.queues n n p there;
     scheduled = one-schedule (all_offers offers ports) (subst AreDifferent (sym all-frames) is.different);
   }

@@ -19,7 +19,7 @@ port_offers offers node [] = []
 port_offers offers node (p ∷ ports) = own_offers offers node p ++ port_offers offers (node + 1) ports
 
 -- without offers
-no-offers : (node : ℕ) (ports : List PortState) → port_offers [] node ports ≡ offered_first (queued ports)
+pub no-offers : (node : ℕ) (ports : List PortState) → port_offers [] node ports ≡ offered_first (queued ports)
 no-offers node [] = refl
 no-offers node (p ∷ ports) =
     ap (λ own. own ++ port_offers [] (node + 1) ports) (append-nil (offered_first p.queue)) ∙ ap (λ l. offered_first p.queue ++ l) (no-offers (node + 1) ports)
@@ -64,7 +64,7 @@ module _ (offer : Offer) (offers : List Offer) where
 abbrev NamePorts : ℕ → List Offer → Type 0
 NamePorts ports offers = (n : ℕ) (offer : Offer) → slice_get offers n ≡ Some offer → offer.node < ports
 
-offered-names : (ports : ℕ) (offers : List Offer) → AreOffered ports offers → NamePorts ports offers
+pub offered-names : (ports : ℕ) (offers : List Offer) → AreOffered ports offers → NamePorts ports offers
 offered-names ports offers offered n offer there = ltb-true offer.node ports (offered n offer there).1
 
 by-port : (offers : List Offer) (ports : List PortState) → NamePorts (length ports) offers → IsPermutation (port_offers offers 0 ports) (offered_first (queued ports) ++ map timed offers)

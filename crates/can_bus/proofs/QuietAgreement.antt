@@ -13,7 +13,7 @@ use Rattle.can_bus.specs.Quiet.{IsQuietCall, ascending, queued, span, line_at, m
 use Rattle.can_bus.specs.Agreement.{IsQuietBus, AreAlike, LogsAgree, frames_logged}
 use Rattle.can_bus.proofs.Ascending.{ascending_there, ascending_permuted}
 use Rattle.can_bus.proofs.Contests.{AllPorts}
-use Rattle.can_bus.proofs.QuietBus.{call-line, quiet-whole}
+use Rattle.can_bus.proofs.QuietNetworks.{call-line, call-whole}
 use Rattle.can_bus.proofs.RunLemmas.{length-run}
 
 all-ports : (P : PortState → Type 0) (ports : List PortState) → All P ports → AllPorts P ports
@@ -50,7 +50,7 @@ module _ (bus : BusState) (is : IsQuietBus bus) where
       let p : PortState = get_or bus.ports k q in
       let long : span frames ≤ n = omega (arith, span-permuted (queued bus.ports) frames call.ascending.all) in
       let whole : q.log ≡ marked p.queue frames =
-      quiet-whole frames bus n valid is.quiet call.ascending long k p q (slice_get-get_or bus.ports k q before) there in
+      call-whole [] bus valid n (bus_run [] n bus) refl frames call long k p q (slice_get-get_or bus.ports k q before) there in
       ap (λ log. map (λ entry. entry.frame) log) whole ∙ marked-frames p.queue frames
 
 -- ---- two of them

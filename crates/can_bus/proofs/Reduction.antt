@@ -1,5 +1,5 @@
 -- A bus of any machines, reduced to one machine alone: a leader, and others that join it.
-use Rattle.std.proofs.Common.{◌≡◌, ◌<◌, ◌⊎◌, List, [], ◌∷◌, length, map, refl, sym, ap, subst, ◌∙◌, arith, inl, inr}
+use Rattle.std.proofs.Common.{◌≡◌, ◌<◌, ◌⊎◌, List, [], ◌∷◌, length, map, refl, ap, ◌∙◌, arith, inl, inr}
 use Rattle.std.proofs.lemmas.List.{length-map}
 use Rattle.can_frame.specs.declared.level.Level.{Level}
 use Rattle.can_frame.specs.declared.level.Level.TheVariants.{Dominant, Recessive}
@@ -102,15 +102,3 @@ reduction drive step (l ∷ ls) (x ∷ xs) ms n h =
 pub maps-alike : {L M N : Type 0} (f : L → M) (g : M → N) (h : L → N) → ((l : L) → g (f l) ≡ h l) → (ls : List L) → map g (map f ls) ≡ map h ls
 maps-alike f g h same [] = refl
 maps-alike f g h same (l ∷ ls) = ap (λ n. n ∷ map g (map f ls)) (same l) ∙ ap (λ ns. h l ∷ ns) (maps-alike f g h same ls)
-
--- Machines that are others in disguise: what holds of the wire of those holds of theirs.
-pub gives-as : {M N : Type 0} (drive : M → Level) (step : Level → M → M) (drive_as : N → Level) (step_as : Level → N → N) (as_other : M → N) →
-    ((m : M) → drive_as (as_other m) ≡ drive m) → ((x : Level) (m : M) → step_as x (as_other m) ≡ as_other (step x m)) →
-    (ls : List (Level × Level)) (ms : List M) → Gives drive_as step_as ls (map as_other ms) → Gives drive step ls ms
-gives-as drive step drive_as step_as as_other drives steps [] ms h = tt
-gives-as drive step drive_as step_as as_other drives steps (l ∷ ls) ms h = (
-  ap wired (sym (maps-alike as_other drive_as drive drives ms)) ∙ h.0,
-  gives-as drive step drive_as step_as as_other drives steps ls (map (step l.1) ms)
-      (subst (Gives drive_as step_as ls)
-      (maps-alike as_other (step_as l.1) (λ m. as_other (step l.1 m)) (steps l.1) ms ∙ sym (maps-alike (step l.1) as_other (λ m. as_other (step l.1 m)) (λ m. refl) ms)) h.1),
-)

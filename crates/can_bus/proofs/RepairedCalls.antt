@@ -73,7 +73,7 @@ made-call plans hits is windows apart borne = record {
 }
 
 -- a later attempt is above
-later-above : (a b : Hit) → IsLater 1 a b → is_above b a ≡ true
+pub later-above : (a b : Hit) → IsLater 1 a b → is_above b a ≡ true
 later-above (In attempt offset) (In other place) later = ap (λ b. b || (eqb attempt other && ltb offset place)) (lt-ltb attempt other (omega (arith, later)))
 later-above (In attempt offset) (At time) later = absurd later
 later-above (In attempt offset) (View time node) later = absurd later

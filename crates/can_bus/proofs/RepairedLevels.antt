@@ -1,7 +1,7 @@
 -- The levels that are recorded in a call with hits that are repaired: a function of its frames and its hits.
 use Rattle.std.specs.Prelude.{slice_index_or, slice_get}
 use Rattle.std.specs.List.{flat_map}
-use Rattle.std.proofs.Common.{◌≡◌, ℕ, zero, suc, ◌+◌, ◌-◌, ◌<◌, ◌≤◌, Option, Some, None, List, [], ◌∷◌, ◌++◌, length, take, replicate, refl, sym, ◌∙◌, ap, subst, arith, append_assoc}
+use Rattle.std.proofs.Common.{◌≡◌, ℕ, zero, suc, ◌+◌, ◌-◌, ◌<◌, ◌≤◌, Option, Some, None, List, [], ◌∷◌, ◌++◌, length, take, replicate, refl, sym, ◌∙◌, ap, arith, append_assoc}
 use Rattle.std.proofs.lemmas.List.{append-nil, take_all, take-append-le}
 use Rattle.std.proofs.lemmas.Grind.{flat_map-append}
 use Rattle.can_frame.specs.declared.level.Level.{Level}
@@ -14,22 +14,16 @@ use Rattle.can_mac.specs.Frames.{with_intermission}
 use Rattle.can_mac.proofs.FrameParts.{length-wire}
 use Rattle.can_mac.proofs.ErrorFrames.{in_flag, at_rest}
 use Rattle.can_mac.proofs.HitLevels.{IsHit, inverted, breaks-soon}
-use Rattle.can_node.specs.Ports.{IsPort}
 use Rattle.can_node.proofs.BrokenFrames.{seen_of}
 use Rattle.can_bus.specs.declared.hit.Hit.{Hit}
-use Rattle.can_bus.specs.Run.{BusState, course, bus_level}
 use Rattle.can_bus.specs.Quiet.{line_at}
-use Rattle.can_bus.specs.Repair.{IsRepairedCall, frame_of_attempt, hit_of}
+use Rattle.can_bus.specs.Repair.{frame_of_attempt, hit_of}
 use Rattle.can_bus.specs.RepairedLine.{struck, lateness, attempt_levels, first_attempts, repaired_line_at}
 use Rattle.can_bus.proofs.WireRuns.{undisturbed}
-use Rattle.can_bus.proofs.Contests.{AllPorts}
-use Rattle.can_bus.proofs.QuietLine.{filled}
-use Rattle.can_bus.proofs.HitRuns.{Fall, hit-levels}
 use Rattle.can_bus.proofs.BrokenOnBus.{broken-seen, dead_time, seen-append, seen-undisturbed}
-use Rattle.can_bus.proofs.Repairs.{broken_levels, Plan, done, whole, broken_off, plan_levels, resting, plan-gives, plan-falls}
-use Rattle.can_bus.proofs.RepairPlans.{Apart, apart-within, sends-below}
+use Rattle.can_bus.proofs.Repairs.{broken_levels, Plan, done, whole, broken_off, plan_levels}
+use Rattle.can_bus.proofs.RepairPlans.{Apart, sends-below}
 use Rattle.can_bus.proofs.RepairCounts.{none-stays}
-use Rattle.can_bus.proofs.RepairedBus.{none-falls, apart, round, two, are, attempts, bears, levels, size}
 use Rattle.can_bus.proofs.Lateness.{hit-level, lateness-breaks}
 
 -- ---- An attempt that is hit.
@@ -42,7 +36,7 @@ dead-seen : (j : ℕ) → seen_of (dead_time j) ≡ replicate (6 + j) Dominant +
 dead-seen j = seen-append (replicate (6 + j) in_flag) (replicate 11 at_rest) ∙ ap (λ xs. xs ++ replicate 11 Recessive) (seen-repeated (6 + j) in_flag)
 
 module _ (f : Parts) (is : IsFrame f) (o : ℕ) (hit : IsHit f o) where
-  broken-attempt : seen_of (broken_levels f is o hit) ≡ attempt_levels (Some f) (Some o)
+  pub broken-attempt : seen_of (broken_levels f is o hit) ≡ attempt_levels (Some f) (Some o)
   broken-attempt =
       let j = (breaks-soon f is o hit).0 in
       let w : List Level = take o (wire f) in
@@ -83,7 +77,7 @@ module _ (frames : List Parts) (hits : List Hit) (rising : Apart hits) where
       ∙ ap (λ xs. xs ++ seen_of rest) (sym (attempts-next number))
 
   -- a plan has the levels of all attempts
-  plan-attempts : {h : ℕ} {left : List Parts} {number : ℕ} (plan : Plan frames hits h left number) → number ≤ total →
+  pub plan-attempts : {h : ℕ} {left : List Parts} {number : ℕ} (plan : Plan frames hits h left number) → number ≤ total →
       first_attempts frames hits number ++ seen_of (plan_levels plan) ≡ first_attempts frames hits total
   plan-attempts (done h number end) within =
       append-nil (first_attempts frames hits number) ∙ sym (attempts-stay number (total - number) end)
@@ -130,29 +124,3 @@ unhit-line frames t =
     (ap (first_attempts frames []) (let e : length frames + 0 ≡ length frames = omega arith in e)
     ∙ unhit-attempts frames (length frames) (omega arith)
     ∙ ap (flat_map with_intermission) (take_all (length frames) frames (omega arith)))
-
--- ---- A call.
-
-module _ (hits : List Hit) (bus : BusState) (valid : AllPorts IsPort bus.ports) (frames : List Parts) (call : IsRepairedCall hits bus frames) (t : ℕ) where
-  abbrev all : List (Level × Level)
-  all = levels frames hits bus valid call (suc t)
-
-  all-seen : seen_of all ≡ first_attempts frames hits (length frames + length hits) ++ replicate (suc t) Recessive
-  all-seen =
-      let plan = attempts frames hits bus valid call in
-      seen-append (plan_levels plan) (resting (suc t))
-      ∙ ap (λ xs. seen_of (plan_levels plan) ++ xs) (seen-undisturbed (replicate (suc t) Recessive))
-      ∙ ap (λ xs. xs ++ replicate (suc t) Recessive) (plan-attempts frames hits (apart frames hits bus valid call) plan (omega arith))
-
-  -- the level that is recorded at time t
-  pub call-repaired_line : bus_level hits t bus ≡ repaired_line_at frames hits t
-  unfolding bus_level repaired_line_at
-  call-repaired_line =
-      let are_apart : Apart hits = apart frames hits bus valid call in
-      let plan = attempts frames hits bus valid call in
-      let fall : Fall hits None bus.rest all =
-      subst (λ r. Fall hits None r all) (sym call.rest) (plan-falls frames hits plan (are frames hits bus valid call) (suc t) None refl (λ e. none-falls hits (apart-within hits are_apart))) in
-      hit-levels hits (apart-within hits are_apart) all (course bus) t Recessive
-      (plan-gives frames hits plan (suc t) bus.ports (two frames hits bus valid call) (round frames hits bus valid call) (bears frames hits bus valid call)) fall (omega (arith, size frames hits bus valid call (suc t)))
-      ∙ ap (λ xs. slice_index_or xs t Recessive) all-seen
-      ∙ filled (first_attempts frames hits (length frames + length hits)) (suc t) t

@@ -1,7 +1,7 @@
 -- One bit time of a call.
 use Rattle.std.specs.Prelude.{if◌then◌else◌}
 use Rattle.std.specs.List.{list_any}
-use Rattle.std.proofs.Common.{◌≡◌, ◌≢◌, ℕ, ◌+◌, ◌<◌, Bool, true, false, List, [], ◌∷◌, ◌≤◌, Option, Some, None, length, map, get_or, set, refl, ap, sym, ◌∙◌, arith, add-one, get_or-set_other, get_or-set_same, below_more}
+use Rattle.std.proofs.Common.{◌≡◌, ℕ, ◌+◌, ◌<◌, Bool, true, false, List, [], ◌∷◌, ◌≤◌, Option, Some, None, length, map, refl, ap, sym, ◌∙◌, arith, add-one}
 use Rattle.std.proofs.lemmas.Bool.{lt-ltb}
 use Rattle.std.proofs.lemmas.Bool.Decides.{nat_tests}
 use Rattle.can_frame.specs.declared.level.Level.{Level}
@@ -11,7 +11,7 @@ use Rattle.can_bus.specs.declared.hit.Hit.TheVariants.{At, In, View}
 use Rattle.can_bus.specs.declared.moment.Attempt.{Attempt}
 use Rattle.can_bus.specs.Hits.{is_pair_above}
 use Rattle.can_bus.specs.Wired.{wired}
-use Rattle.can_bus.specs.Run.{BusState, Course, course, begins_attempt, following, aged, hits_view, hits_wire, inverted_if, all_sampled, rest_after, recorded, bus_step, bus_after, bus_level, bus_run}
+use Rattle.can_bus.specs.Run.{BusState, CallState, call_begun, begins_attempt, following, aged, hits_view, hits_wire, inverted_if, all_sampled, rest_after, recorded, bus_step, bus_after}
 use Rattle.can_bus.specs.Walks.{AreBelow, IsPassed, IsCall, first_call, in_now, in_next}
 use Rattle.can_bus.proofs.CursorLemmas.{below_none, below_above, reach_none, view_found}
 
@@ -65,7 +65,7 @@ pub step_is : (hits : List Hit) (ports next : List PortState) (rest time : ℕ) 
     ≡ bus_step hits (record { bus = record { ports = ports; rest = rest }; time = time; latest = latest }))
 unfolding recorded bus_step
 step_is hits ports next rest time latest now w x a b d e =
-    let c : Course = record { bus = record { ports = ports; rest = rest }; time = time; latest = latest } in
+    let c : CallState = record { bus = record { ports = ports; rest = rest }; time = time; latest = latest } in
     let n : now ≡ (if begins_attempt rest (wired (map port_drives ports)) then Some (following latest) else aged latest) =
     b ∙ ap (λ v. if begins_attempt rest v then Some (following latest) else aged latest) a in
     let r : x ≡ recorded hits c = d ∙ ap (λ m. inverted_if (list_any (hits_wire time m) hits) w) n
@@ -76,28 +76,10 @@ step_is hits ports next rest time latest now w x a b d e =
           ∙ ap (λ m. record { bus = record { ports = all_sampled hits time (recorded hits c) 0 ports; rest = rest_after rest (recorded hits c) }; time = time + 1; latest = m }) n,
     )
 
--- the course of a call, a bit time further
-pub course_more : (hits : List Hit) (i : ℕ) (bus : BusState) (c next : Course) → c ≡ bus_after hits i (course bus) → next ≡ bus_step hits c → next ≡ bus_after hits (i + 1) (course bus)
+-- a call, a bit time further
+pub call_more : (hits : List Hit) (i : ℕ) (bus : BusState) (c next : CallState) → c ≡ bus_after hits i (call_begun bus) → next ≡ bus_step hits c → next ≡ bus_after hits (i + 1) (call_begun bus)
 unfolding bus_after
-course_more hits i bus c next e f = rw add-one (f ∙ ap (bus_step hits) e)
-
-pub course_none : (hits : List Hit) (bus : BusState) → course bus ≡ bus_after hits 0 (course bus)
-unfolding bus_after
-course_none hits bus = refl
-
--- one level more is recorded
-pub level_more : (hits : List Hit) (i : ℕ) (bus : BusState) (c : Course) (rec : List Level) (x : Level) → i < length rec → c ≡ bus_after hits i (course bus) → x ≡ recorded hits c →
-    ((t : ℕ) (d : Level) → t < i → get_or rec t d ≡ bus_level hits t bus) → (t : ℕ) (d : Level) → t < i + 1 → get_or (set rec i x) t d ≡ bus_level hits t bus
-unfolding bus_level
-level_more hits i bus c rec x h e f before t d =
-    below_more (λ n. get_or (set rec i x) n d ≡ bus_level hits n bus) i
-    (λ n b. let ne : n ≢ i = omega arith in rw get_or-set_other (before n d b))
-    (rw get_or-set_same (f ∙ ap (recorded hits) e))
-    t
-
-pub run_is : (hits : List Hit) (n : ℕ) (bus : BusState) (c : Course) → c ≡ bus_after hits n (course bus) → c.bus ≡ bus_run hits n bus
-unfolding bus_run
-run_is hits n bus c e = ap (λ (k : Course). k.bus) e
+call_more hits i bus c next e f = rw add-one (f ∙ ap (bus_step hits) e)
 
 -- a call begins
 pub first_ready : (hits : List Hit) → IsCall hits first_call

@@ -25,10 +25,10 @@ both false b e = let h : false ≡ true = e in cc
 -- ---- frames that start, weighed against frames that are offered
 
 module _ (weight : Parts → ℕ) where
-  abbrev weigh : List Timed → ℕ
+  abbrev pub weigh : List Timed → ℕ
   weigh timed = sum_by (λ (x : Timed). weight x.frame) timed
 
-  weigh-passed : (b : Bool) (x : Timed) (timed : List Timed) → weigh (cond b (x ∷ timed) timed) ≡ cond b (weight x.frame) 0 + weigh timed
+  pub weigh-passed : (b : Bool) (x : Timed) (timed : List Timed) → weigh (cond b (x ∷ timed) timed) ≡ cond b (weight x.frame) 0 + weigh timed
   weigh-passed true x timed = sum_by-cons (λ (y : Timed). weight y.frame) x timed
   weigh-passed false x timed = omega arith
 
@@ -68,7 +68,7 @@ module _ (weight : Parts → ℕ) where
       (λ s x there listed_later. each s x (stands-later start starts s there) (rest-left start.frame left rest others x listed_later)) in
       omega (arith, weigh-passed (chosen start) start (filter chosen starts), weigh-taken counted start.frame left rest others)
 
-length-weigh : (timed : List Timed) → sum_by (λ (x : Timed). 1) timed ≡ length timed
+pub length-weigh : (timed : List Timed) → sum_by (λ (x : Timed). 1) timed ≡ length timed
 length-weigh [] = refl
 length-weigh (x ∷ timed) = omega (arith, sum_by-cons (λ (y : Timed). 1) x timed, length-weigh timed)
 

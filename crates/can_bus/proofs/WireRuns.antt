@@ -1,7 +1,5 @@
 -- A wire without disturbances, with machines of any kind on it, over levels that it is known to have.
-use Rattle.std.specs.Prelude.{slice_index_or}
-use Rattle.std.proofs.Common.{◌≡◌, ℕ, zero, suc, ◌+◌, ◌<◌, ◌≤◌, List, [], ◌∷◌, length, map, take, refl, ap, sym, ◌∙◌, subst, arith}
-use Rattle.std.proofs.lemmas.List.{length-take-le}
+use Rattle.std.proofs.Common.{◌≡◌, ℕ, zero, suc, ◌+◌, ◌<◌, List, [], ◌∷◌, length, map, take, ap, sym, ◌∙◌, subst, arith}
 use Rattle.can_frame.specs.declared.level.Level.{Level}
 use Rattle.can_wire.specs.Layout.{level_at}
 use Rattle.can_bus.specs.Wired.{over, wired}
@@ -45,39 +43,12 @@ module _ {M : Type 0} (drive : M → Level) (step : Level → M → M) where
   wire_runs-joined zero n w = ap (λ k. wire_run drive step k w) (let e : 0 + n ≡ n = omega arith in e)
   wire_runs-joined (suc m) n w = ap (λ k. wire_run drive step k w) (let e : suc m + n ≡ suc (m + n) = omega arith in e) ∙ wire_runs-joined m n (wire_step drive step w)
 
-  -- one bit time, where the level is known
-  wire_step-known : (x : Level) (w : Wire M) → wire_level drive w ≡ x → wire_step drive step w ≡ record { machines = map (step x) w.machines; rest = rest_after w.rest x }
-  wire_step-known x w e = ap (λ y. let v : Wire M = record { machines = map (step y) w.machines; rest = rest_after w.rest y } in v) e
-
-  -- the wire after levels that it is known to have
-  pub gives-run : (levels : List Level) (w : Wire M) → Gives drive step (undisturbed levels) w.machines →
-      wire_run drive step (length levels) w ≡ record { machines = all_after step levels w.machines; rest = rest_run w.rest levels }
-  gives-run [] w gives = refl
-  gives-run (x ∷ levels) w gives =
-      ap (wire_run drive step (length levels)) (wire_step-known x w gives.0)
-      ∙ gives-run levels (record { machines = map (step x) w.machines; rest = rest_after w.rest x }) gives.1
-
-  -- those levels
-  pub gives-levels : (levels : List Level) (w : Wire M) (t : ℕ) (d : Level) → Gives drive step (undisturbed levels) w.machines → t < length levels →
-      wire_level drive (wire_run drive step t w) ≡ slice_index_or levels t d
-  gives-levels [] w t d gives within = absurd (omega (arith, within))
-  gives-levels (x ∷ levels) w zero d gives within = gives.0
-  gives-levels (x ∷ levels) w (suc t) d gives within =
-      ap (λ v. wire_level drive (wire_run drive step t v)) (wire_step-known x w gives.0)
-      ∙ gives-levels levels (record { machines = map (step x) w.machines; rest = rest_after w.rest x }) t d gives.1 (omega (arith, within))
-
   -- the first of these levels
   pub gives-take : (n : ℕ) (levels : List Level) (ms : List M) → Gives drive step (undisturbed levels) ms → Gives drive step (undisturbed (take n levels)) ms
   gives-take zero [] ms h = tt
   gives-take zero (x ∷ levels) ms h = tt
   gives-take (suc n) [] ms h = tt
   gives-take (suc n) (x ∷ levels) ms h = (h.0, gives-take n levels (map (step x) ms) h.1)
-
-  -- the wire after some of them
-  pub gives-part : (n : ℕ) (levels : List Level) (w : Wire M) → n ≤ length levels → Gives drive step (undisturbed levels) w.machines →
-      wire_run drive step n w ≡ record { machines = all_after step (take n levels) w.machines; rest = rest_run w.rest (take n levels) }
-  gives-part n levels w within gives =
-      ap (λ k. wire_run drive step k w) (sym (length-take-le n levels within)) ∙ gives-run (take n levels) w (gives-take n levels w.machines gives)
 
   -- a machine that goes through known states leads, or joins
   pub leads-through : (levels own : List Level) (s : ℕ → M) → length own ≡ length levels → ((o : ℕ) → o < length levels → step (level_at levels o) (s o) ≡ s (suc o)) →

@@ -18,18 +18,18 @@ pub record BusState : Type 0 where
   pub ports : List PortState
   pub rest : ℕ
 
--- a call in its course: the bus, the bit time, and the latest attempt of the call
-pub record Course : Type 0 where
+-- how far a call is: the bus, the bit time, and the latest attempt of the call
+pub record CallState : Type 0 where
   pub bus : BusState
   pub time : ℕ
   pub latest : Option Attempt
 
 -- a call begins
-abbrev pub course : BusState → Course
-course bus = record { bus = bus; time = 0; latest = None }
+abbrev pub call_begun : BusState → CallState
+call_begun bus = record { bus = bus; time = 0; latest = None }
 
 -- what the ports drive together
-abbrev pub wired_level : Course → Level
+abbrev pub wired_level : CallState → Level
 wired_level c = wired (map port_drives c.bus.ports)
 
 -- an attempt begins at a wired dominant level that follows eleven recessive recorded ones
@@ -48,7 +48,7 @@ aged None = None
 aged (Some a) = Some (record { number = a.number; offset = a.offset + 1 })
 
 -- the latest attempt in this bit time
-abbrev pub attempt_now : Course → Option Attempt
+abbrev pub attempt_now : CallState → Option Attempt
 attempt_now c = if begins_attempt c.bus.rest (wired_level c) then Some (following c.latest) else aged c.latest
 
 -- the attempt has this number, and began so many bit times ago
@@ -72,7 +72,7 @@ abbrev pub inverted_if : Bool → Level → Level
 inverted_if hit x = if hit then opposite x else x
 
 -- the recorded level: the wired one, inverted once if any hit falls on it
-unfoldable pub recorded : List Hit → Course → Level
+unfoldable pub recorded : List Hit → CallState → Level
 recorded hits c = inverted_if (list_any (hits_wire c.time (attempt_now c)) hits) (wired_level c)
 
 -- each port, the first of which has this number, after it has sampled the level
@@ -87,7 +87,7 @@ rest_after rest Dominant = 0
 rest_after rest Recessive = min (rest + 1) idle_row
 
 -- one bit time
-unfoldable pub bus_step : List Hit → Course → Course
+unfoldable pub bus_step : List Hit → CallState → CallState
 bus_step hits c = record {
   bus = record { ports = all_sampled hits c.time (recorded hits c) 0 c.bus.ports; rest = rest_after c.bus.rest (recorded hits c) };
   time = c.time + 1;
@@ -95,13 +95,13 @@ bus_step hits c = record {
 }
 
 -- so many bit times
-unfoldable pub bus_after : List Hit → ℕ → Course → Course
+unfoldable pub bus_after : List Hit → ℕ → CallState → CallState
 bus_after hits zero c = c
 bus_after hits (suc n) c = bus_step hits (bus_after hits n c)
 
 -- the level that is recorded at time t of a call
 unfoldable pub bus_level : List Hit → ℕ → BusState → Level
-bus_level hits t bus = recorded hits (bus_after hits t (course bus))
+bus_level hits t bus = recorded hits (bus_after hits t (call_begun bus))
 
 -- the recorded levels are those of this line, which has one for each time
 abbrev pub AreLevelsOf : (ℕ → Level) → List Level → Type 0
@@ -109,4 +109,4 @@ AreLevelsOf line recorded = (t : ℕ) → t < length recorded → slice_get reco
 
 -- the bus after n bit times of a call
 unfoldable pub bus_run : List Hit → ℕ → BusState → BusState
-bus_run hits n bus = (bus_after hits n (course bus)).bus
+bus_run hits n bus = (bus_after hits n (call_begun bus)).bus

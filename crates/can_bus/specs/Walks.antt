@@ -7,7 +7,7 @@ use Rattle.can_bus.specs.declared.offer.Offer.{Offer}
 use Rattle.can_bus.specs.declared.call.Call.{Call}
 use Rattle.can_bus.specs.declared.cursor.Cursor.{Cursor}
 use Rattle.can_bus.specs.Hits.{is_above}
-use Rattle.can_bus.specs.Run.{BusState, Course}
+use Rattle.can_bus.specs.Run.{BusState, CallState}
 
 -- the second hit is the first
 abbrev pub is_hit : Hit → Hit → Bool
@@ -62,9 +62,9 @@ pub record IsReached (offers : List Offer) (place time : ℕ) : Type 0 where
   pub passed : (n : ℕ) (offer : Offer) → n < place → slice_get offers n ≡ Some offer → offer.time < time
   pub ahead : (n : ℕ) (offer : Offer) → place ≤ n → slice_get offers n ≡ Some offer → time ≤ offer.time
 
--- a call in its course on this bus
-abbrev pub course_in : BusState → Call → Course
-course_in bus call = record { bus = bus; time = call.time; latest = call.latest }
+-- how far a call on this bus is
+abbrev pub call_on : BusState → Call → CallState
+call_on bus call = record { bus = bus; time = call.time; latest = call.latest }
 
 -- the attempt so many bit times later
 abbrev pub aged_by : ℕ → Option Attempt → Option Attempt
@@ -98,6 +98,6 @@ until_view time (Some (At t)) = 0
 until_view time (Some (In number offset)) = 0
 until_view time (Some (View t node)) = t - time
 
--- the course of a call in which the bus has rested for so many bit times
-abbrev pub rested : ℕ → Course → Course
+-- a call in which the bus has rested for so many bit times
+abbrev pub rested : ℕ → CallState → CallState
 rested n c = record { bus = c.bus; time = c.time + n; latest = aged_by n c.latest }

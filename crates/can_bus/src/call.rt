@@ -7,7 +7,7 @@ use crate::cursor::Cursor;
 use crate::hit::Hit;
 use crate::moment::Attempt;
 
-/// A call of `run` in its course: the bit time, the latest attempt, and how far the hits of each kind
+/// How far a call is: the bit time, the latest attempt, and how far the hits of each kind
 /// have been passed.
 #[derive(Clone, Copy)]
 pub(crate) struct Call {

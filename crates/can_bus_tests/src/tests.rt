@@ -2,6 +2,7 @@ mod course;
 mod crowd;
 mod disturbed;
 mod lines;
+mod networks;
 mod passages;
 mod played;
 mod ports;

@@ -22,7 +22,7 @@ use Rattle.can_bus.proofs.Ascending.{different_permuted}
 use Rattle.can_bus.proofs.Contests.{AllPorts}
 use Rattle.can_bus.proofs.Members.{stands-permuted}
 use Rattle.can_bus.proofs.OfferLemmas.{length-all_made}
-use Rattle.can_bus.proofs.OpenCalls.{open-counters, open-missed, open-track, open-whole}
+use Rattle.can_bus.proofs.OpenNetworks.{open-counters, open-missed, open-track, open-whole}
 use Rattle.can_bus.proofs.OpenStart.{OfFrames}
 use Rattle.can_bus.proofs.RunLemmas.{length-run}
 use Rattle.can_bus.proofs.Schedules.{one-schedule}

@@ -14,7 +14,7 @@ use Rattle.can_node.specs.Ports.{PortState, port_step}
 use Rattle.can_bus.specs.declared.hit.Hit.{Hit}
 use Rattle.can_bus.specs.declared.offer.Offer.{Offer}
 use Rattle.can_bus.specs.Offers.{AreOffered, all_made, made, played, played_level, with_offer}
-use Rattle.can_bus.specs.Run.{BusState, all_sampled, bus_after, bus_level, bus_run, bus_step, course, hits_view, inverted_if, recorded}
+use Rattle.can_bus.specs.Run.{BusState, all_sampled, bus_after, bus_level, bus_run, bus_step, call_begun, hits_view, inverted_if, recorded}
 use Rattle.can_scenario.specs.PortTimes.{AreSeen, bus_by, first_port, level_seen, offers_meanwhile, own_made, seen_by, told, told_from}
 use Rattle.can_scenario.specs.Report.{level_by, levels_until, made_bus, made_port, recorded_levels, waiting_bus, waiting_port}
 use Rattle.can_scenario.specs.ScenarioOffers.{scenario_offers}
@@ -61,23 +61,23 @@ sampled-at hits time x k (q ∷ ports) (suc n) p at =
 
 -- ---- one bit time
 
-after-time : (hits : List Hit) (t : ℕ) (bus : BusState) → (bus_after hits t (course bus)).time ≡ t
+after-time : (hits : List Hit) (t : ℕ) (bus : BusState) → (bus_after hits t (call_begun bus)).time ≡ t
 unfolding bus_after bus_step
 after-time hits zero bus = refl
-after-time hits (suc t) bus = let e : (bus_after hits t (course bus)).time ≡ t = after-time hits t bus in omega (arith, e)
+after-time hits (suc t) bus = let e : (bus_after hits t (call_begun bus)).time ≡ t = after-time hits t bus in omega (arith, e)
 
 disturbed-next : (hits : List Hit) (t : ℕ) (bus : BusState) (n : ℕ) (p : PortState) → slice_get (bus_run hits t bus).ports n ≡ Some p →
     slice_get (bus_run hits (suc t) bus).ports n ≡ Some (port_step p (inverted_if (list_any (hits_view t n) hits) (bus_level hits t bus)))
 unfolding bus_run bus_after bus_step bus_level
 disturbed-next hits t bus n p at =
-    let c = bus_after hits t (course bus) in
+    let c = bus_after hits t (call_begun bus) in
     sampled-at hits c.time (recorded hits c) 0 c.bus.ports n p at
     ∙ ap (λ m. Some (port_step p (inverted_if (list_any (hits_view c.time m) hits) (recorded hits c)))) (zero-add n)
     ∙ ap (λ time. Some (port_step p (inverted_if (list_any (hits_view time n) hits) (recorded hits c)))) (after-time hits t bus)
 
 plain-next : (bus : BusState) (n : ℕ) (p : PortState) → slice_get bus.ports n ≡ Some p → slice_get (bus_run [] 1 bus).ports n ≡ Some (port_step p (bus_level [] 0 bus))
 unfolding bus_run bus_after bus_step bus_level
-plain-next bus n p at = sampled-at [] 0 (recorded [] (course bus)) 0 bus.ports n p at
+plain-next bus n p at = sampled-at [] 0 (recorded [] (call_begun bus)) 0 bus.ports n p at
 
 played-next : (offers : List Offer) (t : ℕ) (bus : BusState) (n : ℕ) (p : PortState) → slice_get (all_made offers t (played offers t bus).ports) n ≡ Some p →
     slice_get (played offers (suc t) bus).ports n ≡ Some (port_step p (played_level offers t bus))

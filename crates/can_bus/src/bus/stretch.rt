@@ -4,7 +4,7 @@ ghost use Rattle.can_frame.specs.declared.level.Level.TheVariants.{Recessive};
 ghost use Rattle.can_node.specs.Ports.{port_drives, port_step};
 ghost use Rattle.can_bus.specs.Run.{bus_after, recorded};
 ghost use Rattle.can_bus.specs.State.{port_states, state_of};
-ghost use Rattle.can_bus.specs.Walks.{AreRising, IsCall, course_in, rested};
+ghost use Rattle.can_bus.specs.Walks.{AreRising, IsCall, call_on, rested};
 ghost use Rattle.can_bus.specs.Wired.{wired as wired_of};
 
 use crate::bus::Bus;
@@ -35,8 +35,8 @@ impl<P: Port> Bus<P> {
         requires time { call.old.time + length rec.old < 2 ^ 64 }
         ensures some { 1 ≤ result }
         ensures most { result ≤ length rec.old }
-        ensures levels { (t : ℕ) (d : Level) → t < result → slice_index_or rec.new t d ≡ recorded hits.now (bus_after hits.now t (course_in (state_of P.port self.old) call.old)) }
-        ensures after { course_in (state_of P.port self.new) call.new ≡ bus_after hits.now result (course_in (state_of P.port self.old) call.old) }
+        ensures levels { (t : ℕ) (d : Level) → t < result → slice_index_or rec.new t d ≡ recorded hits.now (bus_after hits.now t (call_on (state_of P.port self.old) call.old)) }
+        ensures after { call_on (state_of P.port self.new) call.new ≡ bus_after hits.now result (call_on (state_of P.port self.old) call.old) }
         ensures driven { driven.new ≡ wired_of (map port_drives (port_states P.port self.new)) }
         ensures call { IsCall hits.now call.new }
         ensures time { call.new.time ≡ call.old.time + result }
@@ -59,8 +59,8 @@ impl<P: Port> Bus<P> {
         requires rising { AreRising hits.now }
         requires call { IsCall hits.now call.old }
         requires time { call.old.time + length rec.old < 2 ^ 64 }
-        ensures levels { (t : ℕ) (d : Level) → t < length rec.old → slice_index_or rec.new t d ≡ recorded hits.now (bus_after hits.now t (course_in (state_of P.port self.old) call.old)) }
-        ensures after { course_in (state_of P.port self.new) call.new ≡ bus_after hits.now (length rec.old) (course_in (state_of P.port self.old) call.old) }
+        ensures levels { (t : ℕ) (d : Level) → t < length rec.old → slice_index_or rec.new t d ≡ recorded hits.now (bus_after hits.now t (call_on (state_of P.port self.old) call.old)) }
+        ensures after { call_on (state_of P.port self.new) call.new ≡ bus_after hits.now (length rec.old) (call_on (state_of P.port self.old) call.old) }
         ensures driven { driven.new ≡ wired_of (map port_drives (port_states P.port self.new)) }
         ensures call { IsCall hits.now call.new }
         ensures time { call.new.time ≡ call.old.time + length rec.old }
@@ -80,8 +80,8 @@ impl<P: Port> Bus<P> {
         requires time { call.now.time + most < 2 ^ 64 }
         requires some { 0 < most }
         ensures most { result ≤ most }
-        ensures levels { (n : ℕ) → n < result → recorded hits.now (bus_after hits.now n (course_in (state_of P.port self.now) call.now)) ≡ Recessive }
-        ensures after { bus_after hits.now result (course_in (state_of P.port self.now) call.now) ≡ rested result (course_in (state_of P.port self.now) call.now) }
+        ensures levels { (n : ℕ) → n < result → recorded hits.now (bus_after hits.now n (call_on (state_of P.port self.now) call.now)) ≡ Recessive }
+        ensures after { bus_after hits.now result (call_on (state_of P.port self.now) call.now) ≡ rested result (call_on (state_of P.port self.now) call.now) }
     {
         if driven.is_recessive() && self.rest == IDLE_ROW && all_rest(self.ports.as_slice()) {
             return call.undisturbed(hits, most);

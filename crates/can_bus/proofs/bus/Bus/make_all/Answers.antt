@@ -3,7 +3,7 @@ use Rattle.std.proofs.Common.{◌≡◌, ◌<◌, ◌≤◌, ◌+◌, true, fals
 use Rattle.std.proofs.lemmas.Bool.Decides.{nat_tests}
 use Rattle.std.proofs.lemmas.List.{length-map}
 use Rattle.std.proofs.lemmas.Option.{slice_get_read, slice_get_within, get_or_from_slice_get}
-use Rattle.can_bus.specs.declared.bus.play.Progress.{Progress}
+use Rattle.can_bus.specs.declared.bus.play_disturbed.Progress.{Progress}
 use Rattle.can_bus.specs.declared.offer.Offer.{Offer}
 use Rattle.can_bus.specs.Offers.{all_made, is_full, made, refused_at}
 use Rattle.can_bus.proofs.OfferLemmas.{IsWithin, within-first, within-more, within-last, front_none, next_made, rest_none, length-made, one_refused, none_refused, one_at_most}

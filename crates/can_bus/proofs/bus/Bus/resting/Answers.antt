@@ -3,7 +3,7 @@ use Rattle.can_frame.specs.declared.level.Level.TheVariants.{Recessive}
 use Rattle.can_frame.specs.IdleRow.{idle_row}
 use Rattle.can_node.specs.Ports.{port_step}
 use Rattle.can_bus.specs.State.{state_of}
-use Rattle.can_bus.specs.Walks.{course_in}
+use Rattle.can_bus.specs.Walks.{call_on}
 use Rattle.can_bus.proofs.BusAtRest.{IsResting, rest_recorded, rested_none, rests_on, told_recessive}
 use Rattle.can_bus.proofs.bus.Bus.resting.Goals as goal
 
@@ -17,7 +17,7 @@ returns-then-all_rest-clause-levels g c = λ n h.
       rest = row;
       still = subst (λ xs. map (λ p. port_step p Recessive) (map g.P.Port.port xs) ≡ map g.P.Port.port xs) c.as_slice.ensures.value (c.all_rest.ensures told);
     } in
-    rest_recorded c.args.hits.now (course_in (state_of g.P.Port.port c.args.self.now) c.args.call.now) c.undisturbed.result n resting
+    rest_recorded c.args.hits.now (call_on (state_of g.P.Port.port c.args.self.now) c.args.call.now) c.undisturbed.result n resting
     (record { wire = c.undisturbed.ensures.wire; view = c.undisturbed.ensures.view }) h
 
 pub returns-then-all_rest-clause-after : goal.returns-then-all_rest-clause-after
@@ -30,8 +30,8 @@ returns-then-all_rest-clause-after g c =
       rest = row;
       still = subst (λ xs. map (λ p. port_step p Recessive) (map g.P.Port.port xs) ≡ map g.P.Port.port xs) c.as_slice.ensures.value (c.all_rest.ensures told);
     } in
-    rests_on c.args.hits.now (course_in (state_of g.P.Port.port c.args.self.now) c.args.call.now) c.undisturbed.result c.undisturbed.result resting
+    rests_on c.args.hits.now (call_on (state_of g.P.Port.port c.args.self.now) c.args.call.now) c.undisturbed.result c.undisturbed.result resting
     (record { wire = c.undisturbed.ensures.wire; view = c.undisturbed.ensures.view }) (omega arith)
 
 pub returns-clause-after : goal.returns-clause-after
-returns-clause-after g c = rested_none c.args.hits.now (course_in (state_of g.P.Port.port c.args.self.now) c.args.call.now)
+returns-clause-after g c = rested_none c.args.hits.now (call_on (state_of g.P.Port.port c.args.self.now) c.args.call.now)

@@ -1,7 +1,7 @@
 use Rattle.std.proofs.Common.{◌≡◌, ◌+◌, ◌++◌, refl, List, length, map, take, drop, arith, sym, ap, subst, ◌∙◌}
 use Rattle.std.proofs.lemmas.List.{take_at}
 use Rattle.can_node.specs.Ports.{PortState}
-use Rattle.can_bus.specs.Run.{Course, begins_attempt, inverted_if, all_sampled, rest_after}
+use Rattle.can_bus.specs.Run.{CallState, begins_attempt, inverted_if, all_sampled, rest_after}
 use Rattle.can_bus.specs.Walks.{AreBelow, IsPassed, in_now}
 use Rattle.can_bus.proofs.StepLemmas.{within_now, within_next, at_next, passed_more, step_is}
 use Rattle.can_bus.proofs.bus.Bus.step.Goals as goal
@@ -42,9 +42,9 @@ returns-clause-after g c =
     c.attempt_now-call.ensures
     (c.inverted_if-level.ensures ∙ ap (λ b. inverted_if b c.args.driven.now) c.hits_wire-hit.ensures.result)
     sampled in
-    ap (λ r. let after : Course = record { bus = record { ports = next; rest = r }; time = c.hits_wire-hit.new.self.time + 1; latest = c.hits_wire-hit.new.self.latest } in after) c.rest_after-self.ensures
-    ∙ ap (λ t. let after : Course = record { bus = record { ports = next; rest = rest_after c.args.self.now.rest level }; time = t + 1; latest = c.hits_wire-hit.new.self.latest } in after) c.hits_wire-hit.ensures.time
-    ∙ ap (λ l. let after : Course = record { bus = record { ports = next; rest = rest_after c.args.self.now.rest level }; time = c.args.call.now.time + 1; latest = l } in after) c.hits_wire-hit.ensures.latest
+    ap (λ r. let after : CallState = record { bus = record { ports = next; rest = r }; time = c.hits_wire-hit.new.self.time + 1; latest = c.hits_wire-hit.new.self.latest } in after) c.rest_after-self.ensures
+    ∙ ap (λ t. let after : CallState = record { bus = record { ports = next; rest = rest_after c.args.self.now.rest level }; time = t + 1; latest = c.hits_wire-hit.new.self.latest } in after) c.hits_wire-hit.ensures.time
+    ∙ ap (λ l. let after : CallState = record { bus = record { ports = next; rest = rest_after c.args.self.now.rest level }; time = c.args.call.now.time + 1; latest = l } in after) c.hits_wire-hit.ensures.latest
     ∙ both.1
 
 pub returns-clause-call : goal.returns-clause-call

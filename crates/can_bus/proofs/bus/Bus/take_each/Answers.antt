@@ -1,7 +1,7 @@
 use Rattle.std.proofs.Common.{◌≡◌, ◌+◌, length, arith, refl, ap, ◌∙◌, length-set}
 use Rattle.can_bus.specs.Run.{bus_after}
 use Rattle.can_bus.specs.State.{state_of}
-use Rattle.can_bus.specs.Walks.{course_in}
+use Rattle.can_bus.specs.Walks.{call_on}
 use Rattle.can_bus.proofs.BusAtRest.{after_none, after_more, recorded_more}
 use Rattle.can_bus.proofs.bus.Bus.take_each.Goals as goal
 
@@ -13,7 +13,7 @@ step-requires-clause-call g c = c.loop-slot.invariant.call
 
 pub loop-slot-init : goal.loop-slot-init
 loop-slot-init g c = record {
-  course = after_none c.args.hits.now (course_in (state_of g.P.Port.port c.args.self.now) c.args.call.now);
+  state = after_none c.args.hits.now (call_on (state_of g.P.Port.port c.args.self.now) c.args.call.now);
   levels = λ t d h. absurd (omega arith);
   driven = c.requires.driven;
   call = c.requires.call;
@@ -25,8 +25,8 @@ pub loop-slot-preserved : goal.loop-slot-preserved
 loop-slot-preserved g c =
     let time : c.loop-slot.call.time ≡ c.args.call.now.time + c.loop-slot.slot-index = c.loop-slot.invariant.time in
     record {
-      course = after_more c.args.hits.now c.loop-slot.slot-index _ _ _ c.loop-slot.invariant.course c.step.ensures.after;
-      levels = recorded_more c.args.hits.now c.loop-slot.slot-index _ _ c.loop-slot.rec c.step.result (omega arith) c.loop-slot.invariant.course c.step.ensures.level c.loop-slot.invariant.levels;
+      state = after_more c.args.hits.now c.loop-slot.slot-index _ _ _ c.loop-slot.invariant.state c.step.ensures.after;
+      levels = recorded_more c.args.hits.now c.loop-slot.slot-index _ _ c.loop-slot.rec c.step.result (omega arith) c.loop-slot.invariant.state c.step.ensures.level c.loop-slot.invariant.levels;
       driven = c.step.ensures.driven;
       call = c.step.ensures.call;
       time = omega (arith, c.step.ensures.time, time);
@@ -39,4 +39,4 @@ returns-clause-levels g c = λ t d h. c.loop-slot.invariant.levels t d (omega ar
 pub returns-clause-after : goal.returns-clause-after
 returns-clause-after g c =
     let size : c.loop-slot.slot-index ≡ length c.args.rec.now = omega (arith, c.loop-slot.invariant.size) in
-    c.loop-slot.invariant.course ∙ ap (λ n. bus_after c.args.hits.now n (course_in (state_of g.P.Port.port c.args.self.now) c.args.call.now)) size
+    c.loop-slot.invariant.state ∙ ap (λ n. bus_after c.args.hits.now n (call_on (state_of g.P.Port.port c.args.self.now) c.args.call.now)) size

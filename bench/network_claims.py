@@ -1,0 +1,120 @@
+"""What the theorem on a network claims of a call of `Bus::play_disturbed`, worked out from the offers, the hits, and
+what the ports had before: which attempt sends which frame when, the levels, the logs and the counters.
+
+Standard library only, written from docs/FRAMES.md and the section "Networks" of docs/BUS.md: no port, no phase and no
+step. Levels are 0 (dominant) and 1 (recessive)."""
+
+from typing import NamedTuple
+
+from repair_claims import DELIMITER_AND_INTERMISSION, DOMINANT, INTERMISSION, RECESSIVE, arbitration_field, lateness, spelled
+
+
+class Offer(NamedTuple):
+    time: int
+    node: int
+    frame: tuple
+
+
+class Attempt(NamedTuple):
+    """When it starts, the offer that it sends, where it is hit, if it is, and its levels, intermission included."""
+
+    time: int
+    offer: Offer
+    offset: int | None
+    levels: list
+
+    def ended(self):
+        """When its wire has ended: where it is hit, with its last level."""
+        return self.time + len(self.levels) - (0 if self.offset is not None else len(INTERMISSION))
+
+
+def attempt_levels(frame, offset):
+    wire = spelled(frame).wire
+    if offset is None:
+        return wire + INTERMISSION
+    flags = [DOMINANT] * (6 + lateness(spelled(frame), offset))
+    return wire[:offset] + [1 - wire[offset]] + flags + DELIMITER_AND_INTERMISSION
+
+
+def course(offers, hits):
+    """The attempts of these offers, which stand in the order of their times. `hits` has the offset of each attempt that
+    is hit."""
+    attempts, left, free = [], list(offers), 0
+    while left:
+        time = max(free, min(offer.time for offer in left))
+        offered = [offer for offer in left if offer.time <= time]
+        # the least field, and of its offers the first
+        offer = min(offered, key=lambda offer: arbitration_field(offer.frame))
+        offset = hits.get(len(attempts))
+        levels = attempt_levels(offer.frame, offset)
+        attempts.append(Attempt(time, offer, offset, levels))
+        if offset is None:
+            left.remove(offer)
+        free = time + len(levels)
+    return attempts
+
+
+def are_in_windows(attempts):
+    return all(attempt.offset is None or attempt.offset in spelled(attempt.offer.frame).window for attempt in attempts)
+
+
+def line(attempts, length):
+    levels = [RECESSIVE] * length
+    for attempt in attempts:
+        for place, level in enumerate(attempt.levels):
+            if attempt.time + place < length:
+                levels[attempt.time + place] = level
+    return levels
+
+
+def log(attempts, node, time=None):
+    """The entries of a port, frames and whether they were sent: of the attempts whose wire has ended by a time."""
+    return [
+        (attempt.offer.frame, attempt.offer.node == node)
+        for attempt in attempts
+        if attempt.offset is None and (time is None or attempt.ended() <= time)
+    ]
+
+
+def tallies(attempts, counters):
+    """The counters of each port, (TEC, REC), after each number of attempts, from these on."""
+    tallies = [list(counters)]
+    for attempt in attempts:
+        slot = len(spelled(attempt.offer.frame).wire) - 9
+        after = []
+        for node, (tec, rec) in enumerate(tallies[-1]):
+            sends = node == attempt.offer.node
+            if attempt.offset is None:
+                tec, rec = (max(tec - 1, 0), rec) if sends else (tec, max(rec - 1, 0))
+            elif sends:
+                tec += 8
+            else:
+                rec = (max(rec - 1, 0) if attempt.offset > slot else rec) + 1
+            after.append((tec, rec))
+        tallies.append(after)
+    return tallies
+
+
+def are_borne(tallies):
+    return all(counter < 128 for tally in tallies for port in tally for counter in port)
+
+
+def waiting_bounds(offers, attempts):
+    """Of each offer that is sent: when its attempt starts, and when it starts at most."""
+    fields = {}
+    for place, offer in enumerate(offers):
+        fields.setdefault(tuple(arbitration_field(offer.frame)), []).append(place)
+    for field, places in fields.items():
+        sends = [a for a in attempts if a.offset is None and tuple(arbitration_field(a.offer.frame)) == field]
+        for place, attempt in zip(places, sends):
+            offer = offers[place]
+            left = next((a.time + len(a.levels) - offer.time for a in attempts if a.time < offer.time < a.time + len(a.levels)), 0)
+            sent = {id(a.offer) for a in attempts if a.offset is None and a.time < offer.time}
+            ahead = sum(
+                len(spelled(o.frame).wire) + 3
+                for n, o in enumerate(offers)
+                if id(o) not in sent
+                and ((arbitration_field(o.frame) < list(field) and o.time < attempt.time) or (n < place and tuple(arbitration_field(o.frame)) == field))
+            )
+            hit = sum(len(a.levels) for a in attempts if a.offset is not None and offer.time <= a.time < attempt.time)
+            yield attempt.time, offer.time + left + ahead + hit

@@ -1,0 +1,68 @@
+-- A call with offers and hits, where it has no offers or no hits: it is the run, or what is played.
+use Rattle.std.proofs.Common.{◌≡◌, ℕ, zero, suc, ◌+◌, Some, None, Ok, Err, List, [], length, map, refl, sym, ap, subst, ◌∙◌}
+use Rattle.std.proofs.lemmas.List.{length-map}
+use Rattle.std.specs.Prelude.{◌↔◌, IfOk, IsOk, OnOk, Result}
+use Rattle.can_node.specs.Ports.{PortState, port_drives}
+use Rattle.can_bus.specs.declared.offer.Offer.{Offer}
+use Rattle.can_bus.specs.Hits.{AreTaken}
+use Rattle.can_bus.specs.Network.{call_after, call_refused, offered_now}
+use Rattle.can_bus.specs.Offers.{AreOffered, all_made, played, refused, refused_at}
+use Rattle.can_bus.specs.Run.{BusState, CallState, bus_step, recorded, rest_after}
+use Rattle.can_bus.specs.Wired.{wired}
+use Rattle.can_bus.proofs.CallLemmas.{call-time}
+use Rattle.can_bus.proofs.HitRuns.{all-see}
+use Rattle.can_bus.proofs.PlainRuns.{run_one, sees}
+
+pub no-hits : (ports : ℕ) → AreTaken ports []
+no-hits ports place hit at = absurd (let h : None ≡ Some hit = at in cc)
+
+-- ---- what holds of an answer
+
+pub offers-taken : {X T E : Type 0} (state : X → PortState) (xs : List X) (offers : List Offer) (r : Result T E) → (IsOk r ↔ (AreOffered (length xs) offers × AreTaken (length xs) [])) →
+    AreOffered (length (map state xs)) offers → IsOk r
+offers-taken state xs offers r taken offered = taken.1 (subst (λ n. AreOffered n offers) (length-map xs state) offered, no-hits (length xs))
+
+pub on-ok : {T E : Type 0} (r : Result T E) (A B : Type 0) → (A → B) → OnOk r A → OnOk r B
+on-ok (Ok x) A B k h = k h
+on-ok (Err e) A B k h = h
+
+pub if-ok : {T E : Type 0} (r : Result T E) (P Q : T → Type 0) → ((x : T) → P x → Q x) → IfOk r P → IfOk r Q
+if-ok (Ok x) P Q k h = k x h
+if-ok (Err e) P Q k h = h
+
+pub ok-on : {T E : Type 0} (r : Result T E) (A : Type 0) → IsOk r → OnOk r A → A
+ok-on (Ok x) A ok h = h
+ok-on (Err e) A ok h = cc
+
+pub ok-is : {E : Type 0} (r : Result ℕ E) (n : ℕ) → IsOk r → IfOk r (λ count. count ≡ n) → r ≡ Ok n
+ok-is (Ok x) n ok h = ap Ok h
+ok-is (Err e) n ok h = cc
+
+-- ---- without hits
+
+plain-bus : (c : CallState) → (bus_step [] c).bus ≡ record { ports = map (sees (wired (map port_drives c.bus.ports))) c.bus.ports; rest = rest_after c.bus.rest (wired (map port_drives c.bus.ports)) }
+unfolding bus_step recorded
+plain-bus c =
+    let x = wired (map port_drives c.bus.ports) in
+    ap (λ ps. let b : BusState = record { ports = ps; rest = rest_after c.bus.rest x } in b) (all-see [] tt c.time 0 x c.bus.ports)
+
+module _ (offers : List Offer) (bus : BusState) where
+  pub played-call : (n : ℕ) → played offers n bus ≡ (call_after offers [] n bus).bus
+  unfolding played call_after
+  played-call zero = refl
+  played-call (suc n) =
+      let before : BusState = played offers n bus in
+      let now : CallState = offered_now offers (call_after offers [] n bus) in
+      let same : record before { ports = all_made offers n before.ports } ≡ now.bus =
+      ap (λ (b : BusState). record b { ports = all_made offers n b.ports }) (played-call n)
+      ∙ ap (λ t. record (call_after offers [] n bus).bus { ports = all_made offers t (call_after offers [] n bus).bus.ports }) (sym (call-time offers [] bus n)) in
+      run_one (record before { ports = all_made offers n before.ports })
+      ∙ ap (λ (b : BusState). let x = wired (map port_drives b.ports) in let next : BusState = record { ports = map (sees x) b.ports; rest = rest_after b.rest x } in next) same
+      ∙ sym (plain-bus now)
+
+  pub refused-call : (n : ℕ) → refused offers n bus ≡ call_refused offers [] n bus
+  unfolding refused call_refused
+  refused-call zero = refl
+  refused-call (suc n) =
+      ap (λ k. k + refused_at offers n (played offers n bus).ports) (refused-call n)
+      ∙ ap (λ (b : BusState). call_refused offers [] n bus + refused_at offers n b.ports) (played-call n)

@@ -1,0 +1,355 @@
+-- How long an offered frame waits at most, where frames are disturbed meanwhile.
+use Rattle.std.specs.Prelude.{filter, nat_le, nat_lt, slice_get, take, ◌&&◌}
+use Rattle.std.proofs.Common.{◌≡◌, ℕ, zero, suc, ◌+◌, ◌-◌, ◌<◌, ◌≤◌, Bool, true, false, cond, Option, Some, None, List, [], ◌∷◌, ◌++◌, length, map, refl, sym, ◌∙◌, ap, subst, inl, inr, arith}
+use Rattle.std.specs.List.{sum_by}
+use Rattle.std.proofs.lemmas.Bool.{cases_Bool, cases_lt, lt-ltb}
+use Rattle.std.proofs.lemmas.List.Sums.{sum_by-cons, sum_by-append}
+use Rattle.can_frame.specs.Parts.{Parts, IsFrame}
+use Rattle.can_frame.specs.Arbitration.{arbitration_field, Before}
+use Rattle.can_wire.specs.Wire.{stuffed_part}
+use Rattle.can_mac.proofs.FrameParts.{length-wire}
+use Rattle.can_node.specs.Ports.{PortState, goes_before, same_field}
+use Rattle.can_node.proofs.WaitingLemmas.{Wins-goes_before, Shares-same_field, same_field-Shares}
+use Rattle.can_bus.specs.declared.hit.Hit.{Hit}
+use Rattle.can_bus.specs.declared.offer.Offer.{Offer}
+use Rattle.can_bus.specs.Course.{Transmission, IsCourse, over, sent, broken, IsMade, hit_time, unhit}
+use Rattle.can_bus.specs.CourseWaiting.{AreInTime, IsSentBy, attempts_between, going_before, hit_attempts, keeping, kept_times, left_behind, left_on, of_field, sent_attempts}
+use Rattle.can_bus.specs.Offers.{AreOffered}
+use Rattle.can_bus.specs.OpenBus.{all_offers, offered_first, timed}
+use Rattle.can_bus.specs.Quiet.{queued}
+use Rattle.can_bus.specs.Repair.{IsInWindow}
+use Rattle.can_bus.specs.Schedule.{Timed, Lists, busy_time, without_offer}
+use Rattle.can_bus.specs.Waiting.{ahead_of, busy_times, left_at, starts_between}
+use Rattle.can_bus.proofs.CourseTracks.{course-free}
+use Rattle.can_bus.proofs.CourseWaits.{Awaits, FieldsInOrder, GoesFirst, IsOwn, awaits-listed, awaits-made, between-before, between-late, between-more, between-none, fields-without, first-left, hit-awaits, next-first, others-kept, sends-it, sent-cases, wait-exact, wait-first, wait-own}
+use Rattle.can_bus.proofs.Fields.{field-more, field-skip}
+use Rattle.can_bus.proofs.Lateness.{late-behind, lateness-few}
+use Rattle.can_bus.proofs.Members.{filter-stands, stands-filter}
+use Rattle.can_bus.proofs.OfferLemmas.{offers-rise}
+use Rattle.can_bus.proofs.OfferTimes.{AreInOrder}
+use Rattle.can_bus.proofs.OwnedFields.{field-append, field-cases, field-none}
+use Rattle.can_bus.proofs.OwnOffers.{first-out, first-stays}
+use Rattle.can_bus.proofs.WaitBounds.{length-weigh, weigh, weigh-passed}
+
+-- ---- the list of offers, parted
+
+parted : (offers : List Timed) (n : ℕ) (x : Timed) → slice_get offers n ≡ Some x → (after : List Timed) × (offers ≡ take n offers ++ x ∷ after)
+parted [] n x at = absurd (let h : None ≡ Some x = at in cc)
+parted (y ∷ offers) zero x at = let e : y ≡ x = (let h : Some y ≡ Some x = at in cc) in (offers, ap (λ z. z ∷ offers) e)
+parted (y ∷ offers) (suc n) x at = let rest = parted offers n x at in (rest.0, ap (λ l. y ∷ l) rest.1)
+
+in-order : (offers : List Timed) → AreInTime offers → FieldsInOrder offers
+in-order [] rise f = tt
+in-order (x ∷ offers) rise f =
+    let rest : AreInOrder (of_field f offers) = in-order offers (λ m n y z less a b. rise (suc m) (suc n) y z (omega (arith, less)) a b) f in
+    elim (cases_Bool (same_field f x.frame)) [
+      | inl same ↦
+          subst AreInOrder (sym (field-more f x offers same))
+          ((λ y there.
+          let own = filter-stands (λ z. same_field f z.frame) offers y there in
+          rise 0 (suc own.0.0) x y (omega arith) refl own.0.1 (sym (same_field-Shares f x.frame same) ∙ same_field-Shares f y.frame own.1)),
+          rest)
+      | inr other ↦ subst AreInOrder (sym (field-skip f x offers other)) rest
+    ]
+
+some-first : (own : List Timed) (y : Timed) → Lists own y → (x : Timed) × (more : List Timed) × (own ≡ x ∷ more)
+some-first [] y there = absurd (let h : None ≡ Some y = there.1 in cc)
+some-first (x ∷ own) y there = (x, own, refl)
+
+-- ---- what an attempt takes from the offers
+
+module _ (weight : Parts → ℕ) where
+  weigh-first : (test : Timed → Bool) (f : Parts) (left : List Timed) (y : Timed) (more : List Timed) → of_field f left ≡ y ∷ more →
+      weigh weight (filter test left) ≡ cond (test y) (weight y.frame) 0 + weigh weight (filter test (without_offer f left))
+  weigh-first test f [] y more e = absurd (let h : [] ≡ y ∷ more = e in cc)
+  weigh-first test f (z ∷ left) y more e = elim (cases_Bool (same_field f z.frame)) [
+    | inl same ↦
+        let both : z ∷ of_field f left ≡ y ∷ more = sym (field-more f z left same) ∙ e in
+        let one : z ≡ y = cc in
+        weigh-passed weight (test z) z (filter test left)
+        ∙ ap (λ (w : Timed). cond (test w) (weight w.frame) 0 + weigh weight (filter test left)) one
+        ∙ ap (λ l. cond (test y) (weight y.frame) 0 + weigh weight (filter test l)) (sym (first-out f z left same))
+    | inr other ↦
+        let behind = weigh-first test f left y more (sym (field-skip f z left other) ∙ e) in
+        let here = weigh-passed weight (test z) z (filter test left) in
+        let stays = ap (λ l. weigh weight (filter test l)) (first-stays f z left other) ∙ weigh-passed weight (test z) z (filter test (without_offer f left)) in
+        omega (arith, behind, here, stays)
+  ]
+
+  -- what the attempts weigh that send a frame meanwhile
+  abbrev sent_weight : List Transmission → Timed → Transmission → ℕ
+  sent_weight course x s = sum_by (λ (z : Transmission). weight z.frame) (sent_attempts (attempts_between x.time s.time course))
+
+  -- and what goes before an offer, of these that are left
+  abbrev ahead_weight : List Timed → List Timed → Timed → Transmission → ℕ
+  ahead_weight left before x s = weigh weight (ahead_of x.frame s.time left) + weigh weight (of_field x.frame before)
+
+  module _ (time : ℕ) (f : Parts) (course : List Transmission) (x : Timed) (s : Transmission) where
+    abbrev here : Option ℕ → Transmission
+    here hit = record { time = time; frame = f; hit = hit }
+
+    sent-more : x.time ≤ time → time < s.time → sent_weight (here None ∷ course) x s ≡ weight f + sent_weight course x s
+    sent-more from until =
+        ap (λ l. sum_by (λ (z : Transmission). weight z.frame) (sent_attempts l)) (between-more x.time s.time (here None) course from until)
+        ∙ sum_by-cons (λ (z : Transmission). weight z.frame) (here None) (sent_attempts (attempts_between x.time s.time course))
+
+    sent-before : (hit : Option ℕ) → time < x.time → sent_weight (here hit ∷ course) x s ≡ sent_weight course x s
+    sent-before hit early = ap (λ l. sum_by (λ (z : Transmission). weight z.frame) (sent_attempts l)) (between-before x.time s.time (here hit) course early)
+
+    sent-hit : (offset : ℕ) → x.time ≤ time → sent_weight (here (Some offset) ∷ course) x s ≡ sent_weight course x s
+    sent-hit offset from = elim (cases_lt time s.time) [
+      | inl until ↦ ap (λ l. sum_by (λ (z : Transmission). weight z.frame) (sent_attempts l)) (between-more x.time s.time (here (Some offset)) course from until)
+      | inr late ↦ ap (λ l. sum_by (λ (z : Transmission). weight z.frame) (sent_attempts l)) (between-late x.time s.time (here (Some offset)) course late)
+    ]
+
+  sent-none : (course : List Transmission) (x : Timed) (s : Transmission) → ((z : Transmission) → IsMade course z → s.time ≤ z.time) → sent_weight course x s ≡ 0
+  sent-none course x s late = ap (λ l. sum_by (λ (z : Transmission). weight z.frame) (sent_attempts l)) (between-none x.time s.time course late)
+
+  -- ---- once the offer is made
+
+  module _ (free time : ℕ) (f : Parts) (left : List Timed) (course : List Transmission) (x : Timed) (s : Transmission) (before : List Timed) where
+    abbrev tested : Timed → Bool
+    tested = λ y. goes_before y.frame x.frame && nat_lt y.time s.time
+
+    -- an attempt that wins arbitration takes away one offer that was counted
+    wins-less : (y : Timed) (more : List Timed) → of_field f left ≡ y ∷ more → y.frame ≡ f → y.time < s.time → Before (arbitration_field f) (arbitration_field x.frame) →
+        weigh weight (ahead_of x.frame s.time left) ≡ weight f + weigh weight (ahead_of x.frame s.time (without_offer f left))
+    wins-less y more first frame early goes =
+        let passes : tested y ≡ true =
+        ap (λ b. b && nat_lt y.time s.time) (Wins-goes_before y.frame x.frame (subst (λ g. Before (arbitration_field g) (arbitration_field x.frame)) (sym frame) goes)) ∙ lt-ltb y.time s.time early in
+        weigh-first tested f left y more first
+        ∙ ap (λ b. cond b (weight y.frame) 0 + weigh weight (ahead_of x.frame s.time (without_offer f left))) passes
+        ∙ ap (λ g. weight g + weigh weight (ahead_of x.frame s.time (without_offer f left))) frame
+
+    -- any takes away none too many
+    never-more : (y : Timed) (more : List Timed) → of_field f left ≡ y ∷ more → weigh weight (ahead_of x.frame s.time (without_offer f left)) ≤ weigh weight (ahead_of x.frame s.time left)
+    never-more y more first = omega (arith, weigh-first tested f left y more first)
+
+    -- one of its own field takes away one that stands before it
+    own-less : (y : Timed) (more : List Timed) → of_field f before ≡ y ∷ more → y.frame ≡ f → same_field x.frame f ≡ true →
+        weigh weight (of_field x.frame before) ≡ weight f + weigh weight (of_field x.frame (without_offer f before))
+    own-less y more first frame same =
+        weigh-first (λ z. same_field x.frame z.frame) f before y more first
+        ∙ ap (λ b. cond b (weight y.frame) 0 + weigh weight (of_field x.frame (without_offer f before))) (ap (same_field x.frame) frame ∙ same)
+        ∙ ap (λ g. weight g + weigh weight (of_field x.frame (without_offer f before))) frame
+
+  one-before : (f : Parts) (left before rest : List Timed) (y : Timed) (more : List Timed) → left ≡ before ++ rest → of_field f left ≡ y ∷ more → (z : Timed) → Lists (of_field f before) z →
+      (others : List Timed) × (of_field f before ≡ y ∷ others)
+  one-before f left before rest y more whole first z there =
+      let some = some-first (of_field f before) z there in
+      let both : some.0 ∷ (some.1 ++ of_field f rest) ≡ y ∷ more = ap (λ l. l ++ of_field f rest) (sym some.2) ∙ sym (field-append f before rest) ∙ ap (of_field f) (sym whole) ∙ first in
+      let e : some.0 ≡ y = cc in
+      (some.1, some.2 ∙ ap (λ w. w ∷ some.1) e)
+
+  late-weigh : {hits : List Hit} {number free : ℕ} {left : List Timed} {course : List Transmission} → IsCourse hits number free left course → FieldsInOrder left →
+      (x : Timed) (s : Transmission) (before : List Timed) → Awaits left course x s before → ((z : Transmission) → IsMade course z → x.time ≤ z.time) → sent_weight course x s ≤ ahead_weight left before x s
+  late-weigh (over number free) order x s before waits from = absurd (let h : None ≡ Some s = waits.turn in cc)
+  late-weigh (sent number free time f left course is unhit rest) order x s before waits from =
+      let a : Transmission = record { time = time; frame = f; hit = None } in
+      let here : x.time ≤ time = from a (inl refl) in
+      let head = first-left free left time f is order in
+      let ends : (other : a ≡ s) → sent_weight (a ∷ course) x s ≤ ahead_weight left before x s = λ same.
+      let at : time ≡ s.time = ap (λ (z : Transmission). z.time) same in
+      let none = sent-none (a ∷ course) x s (λ z made. elim made [
+        | inl e ↦ let k : time ≡ z.time = ap (λ (w : Transmission). w.time) e in omega arith
+        | inr behind ↦ let k = course-free rest z behind in omega (arith, k, at)
+      ]) in omega (arith, none) in
+      elim (sent-cases free time f left course is order x s before waits) [
+        | inl sends ↦ ends sends.same
+        | inr later ↦
+            let goes : time < s.time = omega (arith, course-free rest s (awaits-made later).0) in
+            let behind = late-weigh rest (fields-without f left order) x s (without_offer f before) later (λ z made. from z (inr made)) in
+            let one = sent-more time f course x s here goes in
+            let fewer = never-more free time f left course x s before head.offer head.more head.first in
+            elim (cases_Bool (same_field x.frame f)) [
+              | inr other ↦ elim (next-first free left a is x (awaits-listed waits) here) [
+                | inl wins ↦
+                    let less = wins-less free time f left course x s before head.offer head.more head.first head.frame (let t = head.in_time in omega (arith, t, goes)) wins in
+                    let kept = ap (weigh weight) (others-kept free time f left course is order x s before other) in
+                    omega (arith, behind, one, less, kept)
+                | inr shares ↦ (let same : same_field x.frame f ≡ true = Shares-same_field x.frame f (sym shares) in cc)
+              ]
+              | inl same ↦ elim (field-cases x.frame before) [
+                | inl none ↦ ends (sends-it free time f left course is order x s before waits same (field-none x.frame before none)).same
+                | inr has ↦
+                    let there : Lists (of_field f before) has.0 =
+                    stands-filter (λ z. same_field f z.frame) before has.0 has.1 (Shares-same_field f has.0.frame (sym (same_field-Shares x.frame f same) ∙ has.2)) in
+                    let own = one-before f left before (x ∷ waits.after) head.offer head.more waits.whole head.first has.0 there in
+                    let less = own-less free time f left course x s before head.offer own.0 own.1 head.frame same in
+                    omega (arith, behind, one, less, fewer)
+              ]
+            ]
+      ]
+  late-weigh (broken number free time f offset left course is struck window rest) order x s before waits from =
+      let a : Transmission = record { time = time; frame = f; hit = Some offset } in
+      let behind = late-weigh rest order x s before (hit-awaits free time f left course is order x s before offset waits) (λ z made. from z (inr made)) in
+      omega (arith, behind, sent-hit time f course x s offset (from a (inl refl)))
+
+  -- ---- from the begin of the course on
+
+  abbrev going_weight : List Timed → List Timed → List Transmission → Timed → Transmission → ℕ
+  going_weight left before course x s = ahead_weight (left_behind left (attempts_between 0 x.time course)) (left_behind before (attempts_between 0 x.time course)) x s
+
+  -- where no attempt has been made by then
+  late-going : (left before : List Timed) (course : List Transmission) (x : Timed) (s : Transmission) → ((z : Transmission) → IsMade course z → x.time ≤ z.time) →
+      sent_weight course x s ≤ ahead_weight left before x s → sent_weight course x s ≤ going_weight left before course x s
+  late-going left before course x s from less =
+      subst (λ l. sent_weight course x s ≤ ahead_weight (left_behind left l) (left_behind before l) x s) (sym (between-none 0 x.time course from)) less
+
+  pub weigh-going : {hits : List Hit} {number free : ℕ} {left : List Timed} {course : List Transmission} → IsCourse hits number free left course → FieldsInOrder left →
+      (x : Timed) (s : Transmission) (before : List Timed) → Awaits left course x s before → sent_weight course x s ≤ going_weight left before course x s
+  weigh-going (over number free) order x s before waits = absurd (let h : None ≡ Some s = waits.turn in cc)
+  weigh-going (sent number free time f left course is unhit rest) order x s before waits =
+      let a : Transmission = record { time = time; frame = f; hit = None } in
+      elim (cases_lt time x.time) [
+        | inr from ↦
+            let all : (z : Transmission) → IsMade (a ∷ course) z → x.time ≤ z.time = λ z made. elim made [
+              | inl e ↦ let k : time ≡ z.time = ap (λ (w : Transmission). w.time) e in omega arith
+              | inr behind ↦ let k = course-free rest z behind in omega (arith, k, from)
+            ] in
+            late-going left before (a ∷ course) x s all (late-weigh (sent number free time f left course is unhit rest) order x s before waits all)
+        | inl early ↦ elim (sent-cases free time f left course is order x s before waits) [
+          | inl sends ↦ absurd (let t = sends.in_time in omega (arith, t, early))
+          | inr later ↦
+              let behind = weigh-going rest (fields-without f left order) x s (without_offer f before) later in
+              let same = sent-before time f course x s None early in
+              subst (λ l. sent_weight (a ∷ course) x s ≤ ahead_weight (left_behind left l) (left_behind before l) x s) (sym (between-more 0 x.time a course (omega arith) early))
+              (omega (arith, behind, same))
+        ]
+      ]
+  weigh-going (broken number free time f offset left course is struck window rest) order x s before waits =
+      let a : Transmission = record { time = time; frame = f; hit = Some offset } in
+      elim (cases_lt time x.time) [
+        | inr from ↦
+            let all : (z : Transmission) → IsMade (a ∷ course) z → x.time ≤ z.time = λ z made. elim made [
+              | inl e ↦ let k : time ≡ z.time = ap (λ (w : Transmission). w.time) e in omega arith
+              | inr behind ↦ let k = course-free rest z behind in omega (arith, k, from)
+            ] in
+            late-going left before (a ∷ course) x s all (late-weigh (broken number free time f offset left course is struck window rest) order x s before waits all)
+        | inl early ↦
+            let behind = weigh-going rest order x s before (hit-awaits free time f left course is order x s before offset waits) in
+            let same = sent-before time f course x s (Some offset) early in
+            subst (λ l. sent_weight (a ∷ course) x s ≤ ahead_weight (left_behind left l) (left_behind before l) x s) (sym (between-more 0 x.time a course (omega arith) early))
+            (omega (arith, behind, same))
+      ]
+
+-- ---- attempts that send a frame, and attempts that are hit
+
+kept-one : (time : ℕ) (f : Parts) (hit : Option ℕ) (course : List Transmission) →
+    kept_times course ≡ sum_by (λ (z : Transmission). busy_time z.frame) (sent_attempts course) + kept_times (hit_attempts course) →
+    kept_times (record { time = time; frame = f; hit = hit } ∷ course) ≡
+    sum_by (λ (z : Transmission). busy_time z.frame) (sent_attempts (record { time = time; frame = f; hit = hit } ∷ course)) + kept_times (hit_attempts (record { time = time; frame = f; hit = hit } ∷ course))
+kept-one time f None course rest =
+    let a : Transmission = record { time = time; frame = f; hit = None } in
+    omega (arith, rest, sum_by-cons (λ (z : Transmission). keeping z.frame z.hit) a course, sum_by-cons (λ (z : Transmission). busy_time z.frame) a (sent_attempts course))
+kept-one time f (Some offset) course rest =
+    let a : Transmission = record { time = time; frame = f; hit = Some offset } in
+    omega (arith, rest, sum_by-cons (λ (z : Transmission). keeping z.frame z.hit) a course, sum_by-cons (λ (z : Transmission). keeping z.frame z.hit) a (hit_attempts course))
+
+kept-parts : (course : List Transmission) → kept_times course ≡ sum_by (λ (z : Transmission). busy_time z.frame) (sent_attempts course) + kept_times (hit_attempts course)
+kept-parts [] = refl
+kept-parts (s ∷ course) = kept-one s.time s.frame s.hit course (kept-parts course)
+
+length-sent : (course : List Transmission) → sum_by (λ (z : Transmission). 1) course ≡ length course
+length-sent [] = refl
+length-sent (s ∷ course) = omega (arith, sum_by-cons (λ (z : Transmission). 1) s course, length-sent course)
+
+-- a hit in the window costs thirteen bit times at most
+hit-cost : (f : Parts) (offset : ℕ) → IsFrame f → IsInWindow f offset → hit_time f offset ≤ busy_time f + 13
+hit-cost f zero is window = absurd (omega (arith, window.behind_field))
+hit-cost f (suc o) is window = elim (cases_lt (suc o) (length (stuffed_part f))) [
+  | inl within ↦ omega (arith, within, lateness-few f (suc o), length-wire f)
+  | inr past ↦ omega (arith, late-behind f is (suc o) (omega arith) past, window.before_last, length-wire f)
+]
+
+keeping-le : (f : Parts) (hit : Option ℕ) → IsFrame f → ((offset : ℕ) → hit ≡ Some offset → IsInWindow f offset) → keeping f hit ≤ busy_time f + 13
+keeping-le f None is window = omega arith
+keeping-le f (Some offset) is window = hit-cost f offset is (window offset refl)
+
+pub course-costs : {hits : List Hit} {number free : ℕ} {left : List Timed} {course : List Transmission} → IsCourse hits number free left course → (s : Transmission) → IsMade course s → IsFrame s.frame →
+    keeping s.frame s.hit ≤ busy_time s.frame + 13
+course-costs (over number free) s made framed = absurd made
+course-costs (sent number free time f left course is unhit rest) s (inl here) framed =
+    subst (λ (z : Transmission). keeping z.frame z.hit ≤ busy_time z.frame + 13) here (omega arith)
+course-costs (sent number free time f left course is unhit rest) s (inr made) framed = course-costs rest s made framed
+course-costs (broken number free time f offset left course is struck window rest) s (inl here) framed =
+    subst (λ (z : Transmission). keeping z.frame z.hit ≤ busy_time z.frame + 13) here
+    (hit-cost f offset (subst (λ (z : Transmission). IsFrame z.frame) (sym here) framed) window)
+course-costs (broken number free time f offset left course is struck window rest) s (inr made) framed = course-costs rest s made framed
+
+-- ---- the wait, told from a course
+
+module _ (hits : List Hit) (offers : List Timed) (course : List Transmission) (is : IsCourse hits 0 0 offers course) (rise : AreInTime offers)
+    (place : ℕ) (offer : Timed) (s : Transmission) (by : IsSentBy offers course place offer s) where
+  order : FieldsInOrder offers
+  order = in-order offers rise
+
+  waits : Awaits offers course offer s (take place offers)
+  waits = let parts = parted offers place offer by.is_offer in record { after = parts.0; whole = parts.1; turn = by.is_attempt }
+
+  pub own : IsOwn offer s
+  own = wait-own is order offer s (take place offers) waits
+
+  pub exact : s.time ≡ offer.time + left_on offer.time course + kept_times (attempts_between offer.time s.time course)
+  exact = let wait = wait-exact is order offer s (take place offers) waits in omega arith
+
+  pub meanwhile : (z : Transmission) → IsMade course z → offer.time ≤ z.time → z.time < s.time → GoesFirst z offer
+  meanwhile = wait-first is order offer s (take place offers) waits
+
+  going : (weight : Parts → ℕ) →
+      sum_by (λ (z : Transmission). weight z.frame) (sent_attempts (attempts_between offer.time s.time course)) ≤ sum_by (λ (x : Timed). weight x.frame) (going_before offers course place offer s.time)
+  going weight =
+      let begun = attempts_between 0 offer.time course in
+      let less = weigh-going weight is order offer s (take place offers) waits in
+      let both = sum_by-append (λ (x : Timed). weight x.frame) (ahead_of offer.frame s.time (left_behind offers begun)) (of_field offer.frame (left_behind (take place offers) begun)) in
+      omega (arith, less, both)
+
+  pub bound : s.time ≤ offer.time + left_on offer.time course + busy_times (going_before offers course place offer s.time) + kept_times (hit_attempts (attempts_between offer.time s.time course))
+  bound = omega (arith, exact, kept-parts (attempts_between offer.time s.time course), going busy_time)
+
+  pub few : length (sent_attempts (attempts_between offer.time s.time course)) ≤ length (going_before offers course place offer s.time)
+  few = omega (arith, going (λ f. 1), length-sent (sent_attempts (attempts_between offer.time s.time course)), length-weigh (going_before offers course place offer s.time))
+
+-- ---- the offers of a call come in time
+
+rise-first : (queue : List Parts) (behind : List Timed) → AreInTime behind → AreInTime (offered_first queue ++ behind)
+rise-first [] behind rise m n x y less a b same = rise m n x y less a b same
+rise-first (f ∷ queue) behind rise zero zero x y less a b same = absurd (omega (arith, less))
+rise-first (f ∷ queue) behind rise zero (suc n) x y less a b same = let e : record { time = 0; frame = f } ≡ x = (let h : Some (record { time = 0; frame = f }) ≡ Some x = a in cc) in subst (λ (z : Timed). z.time ≤ y.time) e (omega arith)
+rise-first (f ∷ queue) behind rise (suc m) zero x y less a b same = absurd (omega (arith, less))
+rise-first (f ∷ queue) behind rise (suc m) (suc n) x y less a b same = rise-first queue behind rise m n x y (omega (arith, less)) a b same
+
+timed-at : (offers : List Offer) (n : ℕ) (x : Timed) → slice_get (map timed offers) n ≡ Some x → (offer : Offer) × (slice_get offers n ≡ Some offer) × (offer.time ≡ x.time)
+timed-at [] n x at = absurd (let h : None ≡ Some x = at in cc)
+timed-at (offer ∷ offers) zero x at = (offer, refl, let e : timed offer ≡ x = (let h : Some (timed offer) ≡ Some x = at in cc) in ap (λ (z : Timed). z.time) e)
+timed-at (offer ∷ offers) (suc n) x at = timed-at offers n x at
+
+pub offers-in_time : (offers : List Offer) (ports : List PortState) → AreOffered (length ports) offers → AreInTime (all_offers offers ports)
+offers-in_time offers ports offered =
+    rise-first (queued ports) (map timed offers) (λ m n x y less a b same.
+    let one = timed-at offers m x a in
+    let other = timed-at offers n y b in
+    let t = offers-rise (length ports) offers offered m n one.0 other.0 (omega (arith, less)) one.1 other.1 in
+    omega (arith, t, one.2, other.2))
+
+-- ---- without hits
+
+abbrev one_unhit : Timed → Transmission
+one_unhit s = record { time = s.time; frame = s.frame; hit = None }
+
+left-unhit : (t : ℕ) (starts : List Timed) → left_on t (unhit starts) ≡ left_at t starts
+left-unhit t [] = refl
+left-unhit t (s ∷ starts) = ap (cond (nat_lt s.time t && nat_lt t (s.time + busy_time s.frame)) (s.time + busy_time s.frame - t)) (left-unhit t starts)
+
+unhit-more : (s : Timed) (starts : List Timed) (some : List Transmission) (b : Bool) → kept_times some ≡ busy_times starts →
+    kept_times (cond b (one_unhit s ∷ some) some) ≡ busy_times (cond b (s ∷ starts) starts)
+unhit-more s starts some true same = omega (arith, same, sum_by-cons (λ (z : Transmission). keeping z.frame z.hit) (one_unhit s) some, sum_by-cons (λ (x : Timed). busy_time x.frame) s starts)
+unhit-more s starts some false same = same
+
+kept-unhit : (from until : ℕ) (starts : List Timed) → kept_times (attempts_between from until (unhit starts)) ≡ busy_times (starts_between from until starts)
+kept-unhit from until [] = refl
+kept-unhit from until (s ∷ starts) =
+    unhit-more s (starts_between from until starts) (attempts_between from until (unhit starts)) (nat_le from s.time && nat_lt s.time until) (kept-unhit from until starts)
+
+pub waits-unhit : (starts : List Timed) (t from until : ℕ) → (left_on t (unhit starts) ≡ left_at t starts) × (kept_times (attempts_between from until (unhit starts)) ≡ busy_times (starts_between from until starts))
+waits-unhit starts t from until = (left-unhit t starts, kept-unhit from until starts)

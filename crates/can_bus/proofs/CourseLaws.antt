@@ -1,0 +1,154 @@
+-- Offers and hits have exactly one course, if each hit falls in the window of the frame that its attempt sends.
+use Rattle.std.specs.Prelude.{max}
+use Rattle.std.proofs.Common.{◌≡◌, ℕ, zero, suc, ◌+◌, ◌≤◌, Option, Some, None, List, [], ◌∷◌, length, refl, sym, ap, subst, ◌∙◌, arith, inl, inr}
+use Rattle.can_frame.specs.Parts.{Parts}
+use Rattle.can_frame.specs.Arbitration.{arbitration_field}
+use Rattle.can_node.specs.Ports.{waiting}
+use Rattle.can_node.specs.Waiting.{IsWaiting}
+use Rattle.can_node.proofs.WaitingLaws.{waiting-IsWaiting, waiting-some, waits}
+use Rattle.can_node.proofs.WaitingLemmas.{Shares-same_field}
+use Rattle.can_bus.specs.declared.hit.Hit.{Hit}
+use Rattle.can_bus.specs.Course.{HitInWindows, IsCourse, IsNext, Transmission, attempt_of, broken, course_from, course_of, hit_time, over, sent}
+use Rattle.can_bus.specs.Repair.{IsInWindow, hit_of, hits_before}
+use Rattle.can_bus.specs.Schedule.{Timed, busy_time, earliest, offered_by, without_offer}
+use Rattle.can_bus.proofs.Fields.{without-length}
+use Rattle.can_bus.proofs.NextStarts.{earliest-each, earliest-is, offered-stands, stands-offered}
+use Rattle.can_bus.proofs.RepairPlans.{Apart, few-before, hit-cases, struck-before, unhit-before}
+
+-- ---- it is one
+
+module _ (free : ℕ) (left : List Timed) (t u : ℕ) (f g : Parts) (one : IsNext free left t f) (other : IsNext free left u g) where
+  no-later : t ≤ u
+  no-later =
+      let there = offered-stands u left g (other.waits.place, other.waits.stands) in
+      let soon = one.soon there.0 there.1 in
+      omega (arith, soon, there.2, other.is_free)
+
+next-time : (free : ℕ) (left : List Timed) (t u : ℕ) (f g : Parts) → IsNext free left t f → IsNext free left u g → t ≡ u
+next-time free left t u f g one other = omega (arith, no-later free left t u f g one other, no-later free left u t g f other one)
+
+-- ---- there is one
+
+-- where offers are left one of them waits at the earliest time
+frame-there : (free : ℕ) (x : Timed) (others : List Timed) → (f : Parts) × (waiting (offered_by (max free (earliest x others)) (x ∷ others)) ≡ Some f)
+frame-there free x others =
+    let time = max free (earliest x others) in
+    let first = earliest-is x others in
+    let at = stands-offered time (x ∷ others) first.0 first.1 (let e = first.2 in omega arith) in
+    waiting-some (offered_by time (x ∷ others)) at.0 first.0.frame at.1
+
+module _ (free : ℕ) (x : Timed) (others : List Timed) (f : Parts) (waits : waiting (offered_by (max free (earliest x others)) (x ∷ others)) ≡ Some f) where
+  abbrev left : List Timed
+  left = x ∷ others
+
+  abbrev time : ℕ
+  time = max free (earliest x others)
+
+  next-there : IsNext free left time f
+  next-there = record {
+    is_free = omega arith;
+    soon = λ y there. let each = earliest-each x others y there in omega arith;
+    waits = waiting-IsWaiting (offered_by time left) f waits;
+  }
+
+  one-less : length left ≡ suc (length (without_offer f left))
+  one-less =
+      let is : IsWaiting (offered_by time left) f = waiting-IsWaiting (offered_by time left) f waits in
+      let there = offered-stands time left f (is.place, is.stands) in
+      without-length f left there.0 there.1 (Shares-same_field f there.0.frame (sym (ap arbitration_field there.3)))
+
+module _ (hits : List Hit) (apart : Apart hits) where
+  there-from : (count number free : ℕ) (left : List Timed) → length left + length hits ≤ count + hits_before hits number → HitInWindows (course_from count hits number free left) →
+      IsCourse hits number free left (course_from count hits number free left)
+  there-from zero number free [] enough windows = over number free
+  there-from (suc count) number free [] enough windows = over number free
+  there-from zero number free (x ∷ others) enough windows = absurd (omega (arith, enough, few-before hits number))
+  there-from (suc count) number free (x ∷ others) enough windows =
+      let first = frame-there free x others in
+      let f = first.0 in
+      let left : List Timed = x ∷ others in
+      let time : ℕ = max free (earliest x others) in
+      let is : IsNext free left time f = next-there free x others f first.1 in
+      let behind : Parts → List Transmission = λ g. course_from count hits (number + 1) (time + busy_time g) (without_offer g left) in
+      let again : Parts → ℕ → List Transmission = λ g o. course_from count hits (number + 1) (time + hit_time g o) left in
+      elim (hit-cases (hit_of hits number)) [
+        | inl unhit ↦
+            let same : course_from (suc count) hits number free left ≡ record { time = time; frame = f; hit = None } ∷ behind f =
+            ap (λ h. attempt_of behind again time h (waiting (offered_by time left))) unhit ∙ ap (attempt_of behind again time None) first.1 in
+            let all : HitInWindows (record { time = time; frame = f; hit = None } ∷ behind f) = subst HitInWindows same windows in
+            subst (IsCourse hits number free left) (sym same)
+            (sent number free time f left (behind f) is unhit
+            (there-from count (number + 1) (time + busy_time f) (without_offer f left) (omega (arith, enough, one-less free x others f first.1, unhit-before hits number apart unhit))
+            (λ s o made e. all s o (inr made) e)))
+        | inr struck ↦
+            let o = struck.0 in
+            let same : course_from (suc count) hits number free left ≡ record { time = time; frame = f; hit = Some o } ∷ again f o =
+            ap (λ h. attempt_of behind again time h (waiting (offered_by time left))) struck.1 ∙ ap (attempt_of behind again time (Some o)) first.1 in
+            let all : HitInWindows (record { time = time; frame = f; hit = Some o } ∷ again f o) = subst HitInWindows same windows in
+            subst (IsCourse hits number free left) (sym same)
+            (broken number free time f o left (again f o) is struck.1 (all (record { time = time; frame = f; hit = Some o }) o (inl refl) refl)
+            (there-from count (number + 1) (time + hit_time f o) left (omega (arith, enough, struck-before hits number o apart struck.1))
+            (λ s p made e. all s p (inr made) e)))
+      ]
+
+  pub course-there : (offers : List Timed) → HitInWindows (course_of hits offers) → IsCourse hits 0 0 offers (course_of hits offers)
+  unfolding course_of
+  course-there offers windows = there-from (length offers + length hits) 0 0 offers (omega arith) windows
+
+-- so it is the one that is computed
+course-windows : {hits : List Hit} {number free : ℕ} {left : List Timed} {course : List Transmission} → IsCourse hits number free left course → HitInWindows course
+course-windows (over number free) s o made e = absurd made
+course-windows (sent number free time f left course is unhit rest) s o (inl here) e = let same : None ≡ Some o = ap (λ (x : Transmission). x.hit) here ∙ e in cc
+course-windows (sent number free time f left course is unhit rest) s o (inr made) e = course-windows rest s o made e
+course-windows (broken number free time f offset left course is struck window rest) s o (inl here) e =
+    let same : Some offset ≡ Some o = ap (λ (x : Transmission). x.hit) here ∙ e in
+    let place : offset ≡ o = cc in
+    subst (λ k. IsInWindow s.frame k) place (subst (λ g. IsInWindow g offset) (ap (λ (x : Transmission). x.frame) here) window)
+course-windows (broken number free time f offset left course is struck window rest) s o (inr made) e = course-windows rest s o made e
+
+-- ---- and no other
+
+none-next : (free t : ℕ) (f : Parts) → IsNext free [] t f → ⊥
+none-next free t f is = let h : None ≡ Some f = is.waits.stands in cc
+
+module _ (hits : List Hit) (count number free : ℕ) (x : Timed) (others : List Timed) (time : ℕ) (f : Parts) (is : IsNext free (x ∷ others) time f) where
+  abbrev all_left : List Timed
+  all_left = x ∷ others
+
+  first-time : time ≡ max free (earliest x others)
+  first-time = let first = frame-there free x others in next-time free all_left time (max free (earliest x others)) f first.0 is (next-there free x others first.0 first.1)
+
+  first-waits : waiting (offered_by (max free (earliest x others)) all_left) ≡ Some f
+  first-waits = ap (λ k. waiting (offered_by k all_left)) (sym first-time) ∙ (waits (offered_by time all_left) f).1 is.waits
+
+  abbrev behind_at : ℕ → Parts → List Transmission
+  behind_at k g = course_from count hits (number + 1) (k + busy_time g) (without_offer g all_left)
+
+  abbrev again_at : ℕ → Parts → ℕ → List Transmission
+  again_at k g o = course_from count hits (number + 1) (k + hit_time g o) all_left
+
+  first-made : (hit : Option ℕ) → hit_of hits number ≡ hit → course_from (suc count) hits number free all_left ≡ attempt_of (behind_at time) (again_at time) time hit (Some f)
+  first-made hit e =
+      ap (λ h. attempt_of (behind_at (max free (earliest x others))) (again_at (max free (earliest x others))) (max free (earliest x others)) h (waiting (offered_by (max free (earliest x others)) all_left))) e
+      ∙ ap (attempt_of (behind_at (max free (earliest x others))) (again_at (max free (earliest x others))) (max free (earliest x others)) hit) first-waits
+      ∙ ap (λ k. attempt_of (behind_at k) (again_at k) k hit (Some f)) (sym first-time)
+
+pub course-is : {hits : List Hit} {number free : ℕ} {left : List Timed} {course : List Transmission} (count : ℕ) → Apart hits → IsCourse hits number free left course →
+    length left + length hits ≤ count + hits_before hits number → course ≡ course_from count hits number free left
+course-is zero apart (over number free) enough = refl
+course-is (suc count) apart (over number free) enough = refl
+course-is count apart (sent number free time f [] course is unhit rest) enough = absurd (none-next free time f is)
+course-is count apart (broken number free time f offset [] course is struck window rest) enough = absurd (none-next free time f is)
+course-is {hits} zero apart (sent number free time f (x ∷ others) course is unhit rest) enough = absurd (omega (arith, enough, few-before hits number))
+course-is {hits} zero apart (broken number free time f offset (x ∷ others) course is struck window rest) enough = absurd (omega (arith, enough, few-before hits number))
+course-is {hits} (suc count) apart (sent number free time f (x ∷ others) course is unhit rest) enough =
+    let less = one-less free x others f (first-waits hits count number free x others time f is) in
+    ap (λ l. let s : Transmission = record { time = time; frame = f; hit = None } in s ∷ l) (course-is count apart rest (omega (arith, enough, less, unhit-before hits number apart unhit)))
+    ∙ sym (first-made hits count number free x others time f is None unhit)
+course-is {hits} (suc count) apart (broken number free time f offset (x ∷ others) course is struck window rest) enough =
+    ap (λ l. let s : Transmission = record { time = time; frame = f; hit = Some offset } in s ∷ l) (course-is count apart rest (omega (arith, enough, struck-before hits number offset apart struck)))
+    ∙ sym (first-made hits count number free x others time f is (Some offset) struck)
+
+pub course-only : (hits : List Hit) (offers : List Timed) (course : List Transmission) → Apart hits → IsCourse hits 0 0 offers course → (course ≡ course_of hits offers) × HitInWindows course
+unfolding course_of
+course-only hits offers course apart is = (course-is (length offers + length hits) apart is (omega arith), course-windows is)

@@ -1,0 +1,274 @@
+use Rattle.std.specs.Prelude.{Ok}
+use Rattle.std.proofs.Common.{ℕ, List, ◌≡◌, ◌+◌, ◌-◌, ◌<◌, ◌≤◌, true, false, Some, length, map, get_or, inl, inr, arith, rules, refl, sym, ap, subst, ◌∙◌}
+use Rattle.std.proofs.lemmas.Bool.{cases_lt}
+use Rattle.std.proofs.lemmas.Grind.{elements}
+use Rattle.std.proofs.lemmas.List.{length-map}
+use Rattle.std.proofs.lemmas.Option.{slice_get-get_or}
+use Rattle.can_frame.specs.declared.level.Level.TheVariants.{Recessive}
+use Rattle.can_node.specs.Ports.{PortState}
+use Rattle.can_bus.specs.DisturbedPlay.{WasPlayed}
+use Rattle.can_bus.specs.declared.call.Call.{Call}
+use Rattle.can_bus.specs.Hits.{AreTaken}
+use Rattle.can_bus.specs.Network.{call_after, call_level, call_refused, offered_now}
+use Rattle.can_bus.specs.Offers.{AreOffered, all_made, refused_at}
+use Rattle.can_bus.specs.Run.{CallState}
+use Rattle.can_bus.specs.State.{rest_of, state_of}
+use Rattle.can_bus.specs.Walks.{IsCall, IsReached, call_on}
+use Rattle.can_bus.proofs.DisturbedPlays.{call-played}
+use Rattle.can_bus.proofs.CallLemmas.{call-none, call-several, level-several, refused-none, refused-several}
+use Rattle.can_bus.proofs.HitOrder.{taken-rising}
+use Rattle.can_bus.proofs.NetworkCalls.{network-active, network-counts, network-has, network-logs, network-missed, network-refused, network-tally, network-track, network-whole, not-offered, not-taken}
+use Rattle.can_bus.proofs.OfferLemmas.{reached-first, reached-between, none-between, length-all_made}
+use Rattle.can_bus.proofs.QuietStart.{valid-ports}
+use Rattle.can_bus.proofs.RunLemmas.{length-after}
+use Rattle.can_bus.proofs.StepLemmas.{first_ready}
+use Rattle.can_bus.proofs.bus.Bus.play_disturbed.Goals as goal
+
+pub returns-in_err-check-clause-taken : goal.returns-in_err-check-clause-taken
+returns-in_err-check-clause-taken g c =
+    let size : c.len.result ≡ length c.args.self.now.ports.items = search rules in
+    let untaken : AreOffered (length c.args.self.now.ports.items) c.args.offers.now → ⊥ =
+    λ offered. let e : false ≡ true = c.in_err-check.ensures.taken.1 (subst (λ n. AreOffered n c.args.offers.now) (sym size) offered) in cc in
+    (search rules, λ both. absurd (untaken both.0))
+
+pub returns-in_err-check-clause-answer : goal.returns-in_err-check-clause-answer
+returns-in_err-check-clause-answer g c = λ course call.
+    let size : c.len.result ≡ length c.args.self.now.ports.items = search rules in
+    let untaken : AreOffered c.len.result c.args.offers.now → ⊥ = λ offered. let e : false ≡ true = c.in_err-check.ensures.taken.1 offered in cc in
+    absurd (not-offered g.P.Port.port c.args.self.now.ports.items c.len.result (rest_of c.args.self.now) c.args.offers.now c.args.hits.now course size untaken call)
+
+pub returns-in_err-check-clause-course : goal.returns-in_err-check-clause-course
+returns-in_err-check-clause-course g c = λ course call t within.
+    let size : c.len.result ≡ length c.args.self.now.ports.items = search rules in
+    let untaken : AreOffered c.len.result c.args.offers.now → ⊥ = λ offered. let e : false ≡ true = c.in_err-check.ensures.taken.1 offered in cc in
+    absurd (not-offered g.P.Port.port c.args.self.now.ports.items c.len.result (rest_of c.args.self.now) c.args.offers.now c.args.hits.now course size untaken call)
+
+pub returns-in_err-check-clause-network_has : goal.returns-in_err-check-clause-network_has
+returns-in_err-check-clause-network_has g c = λ course call.
+    let size : c.len.result ≡ length c.args.self.now.ports.items = search rules in
+    let untaken : AreOffered c.len.result c.args.offers.now → ⊥ = λ offered. let e : false ≡ true = c.in_err-check.ensures.taken.1 offered in cc in
+    absurd (not-offered g.P.Port.port c.args.self.now.ports.items c.len.result (rest_of c.args.self.now) c.args.offers.now c.args.hits.now course size untaken call)
+
+pub returns-in_err-check-clause-network_whole : goal.returns-in_err-check-clause-network_whole
+returns-in_err-check-clause-network_whole g c = λ course call past.
+    let size : c.len.result ≡ length c.args.self.now.ports.items = search rules in
+    let untaken : AreOffered c.len.result c.args.offers.now → ⊥ = λ offered. let e : false ≡ true = c.in_err-check.ensures.taken.1 offered in cc in
+    absurd (not-offered g.P.Port.port c.args.self.now.ports.items c.len.result (rest_of c.args.self.now) c.args.offers.now c.args.hits.now course size untaken call)
+
+pub returns-in_err-check-clause-network_tally : goal.returns-in_err-check-clause-network_tally
+returns-in_err-check-clause-network_tally g c = λ course call past.
+    let size : c.len.result ≡ length c.args.self.now.ports.items = search rules in
+    let untaken : AreOffered c.len.result c.args.offers.now → ⊥ = λ offered. let e : false ≡ true = c.in_err-check.ensures.taken.1 offered in cc in
+    absurd (not-offered g.P.Port.port c.args.self.now.ports.items c.len.result (rest_of c.args.self.now) c.args.offers.now c.args.hits.now course size untaken call)
+
+pub returns-in_err-check-clause-network_active : goal.returns-in_err-check-clause-network_active
+returns-in_err-check-clause-network_active g c = λ course call.
+    let size : c.len.result ≡ length c.args.self.now.ports.items = search rules in
+    let untaken : AreOffered c.len.result c.args.offers.now → ⊥ = λ offered. let e : false ≡ true = c.in_err-check.ensures.taken.1 offered in cc in
+    absurd (not-offered g.P.Port.port c.args.self.now.ports.items c.len.result (rest_of c.args.self.now) c.args.offers.now c.args.hits.now course size untaken call)
+
+pub returns-in_err-check-2-clause-taken : goal.returns-in_err-check-2-clause-taken
+returns-in_err-check-2-clause-taken g c =
+    let size : c.len-2.result ≡ length c.args.self.now.ports.items = search rules in
+    let untaken : AreTaken (length c.args.self.now.ports.items) c.args.hits.now → ⊥ =
+    λ taken. let e : false ≡ true = c.in_err-check-2.ensures.taken.1 (subst (λ n. AreTaken n c.args.hits.now) (sym size) taken) in cc in
+    (search rules, λ both. absurd (untaken both.1))
+
+pub returns-in_err-check-2-clause-fault : goal.returns-in_err-check-2-clause-fault
+returns-in_err-check-2-clause-fault g c =
+    let size : c.len.result ≡ length c.args.self.now.ports.items = search rules in
+    let offered : AreOffered (length c.args.self.now.ports.items) c.args.offers.now = subst (λ n. AreOffered n c.args.offers.now) size (c.in_ok-check.ensures.taken.0 (refl {a = true})) in
+    search rules
+
+pub returns-in_err-check-2-clause-answer : goal.returns-in_err-check-2-clause-answer
+returns-in_err-check-2-clause-answer g c = λ course call.
+    let untaken : AreTaken c.len-2.result c.args.hits.now → ⊥ = λ taken. let e : false ≡ true = c.in_err-check-2.ensures.taken.1 taken in cc in
+    absurd (not-taken g.P.Port.port c.args.self.now.ports.items c.len-2.result (rest_of c.args.self.now) c.args.offers.now c.args.hits.now course untaken call)
+
+pub returns-in_err-check-2-clause-course : goal.returns-in_err-check-2-clause-course
+returns-in_err-check-2-clause-course g c = λ course call t within.
+    let untaken : AreTaken c.len-2.result c.args.hits.now → ⊥ = λ taken. let e : false ≡ true = c.in_err-check-2.ensures.taken.1 taken in cc in
+    absurd (not-taken g.P.Port.port c.args.self.now.ports.items c.len-2.result (rest_of c.args.self.now) c.args.offers.now c.args.hits.now course untaken call)
+
+pub returns-in_err-check-2-clause-network_has : goal.returns-in_err-check-2-clause-network_has
+returns-in_err-check-2-clause-network_has g c = λ course call.
+    let untaken : AreTaken c.len-2.result c.args.hits.now → ⊥ = λ taken. let e : false ≡ true = c.in_err-check-2.ensures.taken.1 taken in cc in
+    absurd (not-taken g.P.Port.port c.args.self.now.ports.items c.len-2.result (rest_of c.args.self.now) c.args.offers.now c.args.hits.now course untaken call)
+
+pub returns-in_err-check-2-clause-network_whole : goal.returns-in_err-check-2-clause-network_whole
+returns-in_err-check-2-clause-network_whole g c = λ course call past.
+    let untaken : AreTaken c.len-2.result c.args.hits.now → ⊥ = λ taken. let e : false ≡ true = c.in_err-check-2.ensures.taken.1 taken in cc in
+    absurd (not-taken g.P.Port.port c.args.self.now.ports.items c.len-2.result (rest_of c.args.self.now) c.args.offers.now c.args.hits.now course untaken call)
+
+pub returns-in_err-check-2-clause-network_tally : goal.returns-in_err-check-2-clause-network_tally
+returns-in_err-check-2-clause-network_tally g c = λ course call past.
+    let untaken : AreTaken c.len-2.result c.args.hits.now → ⊥ = λ taken. let e : false ≡ true = c.in_err-check-2.ensures.taken.1 taken in cc in
+    absurd (not-taken g.P.Port.port c.args.self.now.ports.items c.len-2.result (rest_of c.args.self.now) c.args.offers.now c.args.hits.now course untaken call)
+
+pub returns-in_err-check-2-clause-network_active : goal.returns-in_err-check-2-clause-network_active
+returns-in_err-check-2-clause-network_active g c = λ course call.
+    let untaken : AreTaken c.len-2.result c.args.hits.now → ⊥ = λ taken. let e : false ≡ true = c.in_err-check-2.ensures.taken.1 taken in cc in
+    absurd (not-taken g.P.Port.port c.args.self.now.ports.items c.len-2.result (rest_of c.args.self.now) c.args.offers.now c.args.hits.now course untaken call)
+
+pub returns-clause-taken : goal.returns-clause-taken
+returns-clause-taken g c =
+    let size : c.len.result ≡ length c.args.self.now.ports.items = search rules in
+    let size_again : c.len-2.result ≡ length c.args.self.now.ports.items = search rules in (
+      λ e. (
+        subst (λ n. AreOffered n c.args.offers.now) size (c.in_ok-check.ensures.taken.0 (refl {a = true})),
+        subst (λ n. AreTaken n c.args.hits.now) size_again (c.in_ok-check-2.ensures.taken.0 (refl {a = true})),
+      ),
+      λ both. refl {a = true},
+    )
+
+pub loop-place-init : goal.loop-place-init
+loop-place-init g c =
+    let bus = state_of g.P.Port.port c.args.self.now in
+    record {
+      state = ap (λ (k : Call). let now : CallState = record { bus = state_of g.P.Port.port c.args.self.now; time = k.time; latest = k.latest } in now) c.new-call.ensures
+          ∙ sym (call-none c.args.offers.now c.args.hits.now bus);
+      levels = λ t d h. absurd (omega arith);
+      count = refused-none c.args.offers.now c.args.hits.now bus;
+      reached = reached-first c.args.offers.now;
+      refused = omega arith;
+      size = refl;
+      call = subst (IsCall c.args.hits.now) (sym c.new-call.ensures) (first_ready c.args.hits.now);
+      time = ap (λ (k : Call). k.time) c.new-call.ensures;
+      long = refl;
+      within = omega arith;
+    }
+
+pub make_all-requires-clause-offered : goal.make_all-requires-clause-offered
+make_all-requires-clause-offered g c =
+    let size : c.len.result ≡ length c.args.self.now.ports.items = search rules in
+    subst (λ n. AreOffered n c.args.offers.now) (size ∙ sym c.loop-place.invariant.size) (c.in_ok-check.ensures.taken.0 (refl {a = true}))
+
+pub until_offer-count-requires-clause-offered : goal.until_offer-count-requires-clause-offered
+until_offer-count-requires-clause-offered g c =
+    let S = g.P.Port.port in
+    let size : c.len.result ≡ length c.args.self.now.ports.items = search rules in
+    let made : length c.make_all.new.self.ports.items ≡ length c.args.self.now.ports.items =
+    sym (length-map c.make_all.new.self.ports.items S) ∙ ap length c.make_all.ensures.ports ∙ length-all_made c.args.offers.now _ (map S c.loop-place.self.ports.items)
+    ∙ length-map c.loop-place.self.ports.items S ∙ c.loop-place.invariant.size in
+    subst (λ n. AreOffered n c.args.offers.now) (size ∙ sym made) (c.in_ok-check.ensures.taken.0 (refl {a = true}))
+
+pub go_on-place-requires-clause-rising : goal.go_on-place-requires-clause-rising
+go_on-place-requires-clause-rising g c = taken-rising c.len-2.result c.args.hits.now (c.in_ok-check-2.ensures.taken.0 (refl {a = true}))
+
+pub loop-place-preserved : goal.loop-place-preserved
+loop-place-preserved g c =
+    let S = g.P.Port.port in
+    let offers = c.args.offers.now in
+    let hits = c.args.hits.now in
+    let bus = state_of g.P.Port.port c.args.self.now in
+    let before : CallState = call_on (state_of g.P.Port.port c.loop-place.self) c.loop-place.call in
+    let start = call_on (state_of g.P.Port.port c.make_all.new.self) c.loop-place.call in
+    let time : c.loop-place.call.time ≡ c.loop-place.place = c.loop-place.invariant.time in
+    let size : length c.loop-place.rec ≡ length c.args.rec.now = c.loop-place.invariant.long in
+    let some : 1 ≤ c.go_on-place.result = c.go_on-place.ensures.some in
+    let few : c.go_on-place.result ≤ c.until_offer-count.result = first_of (omega arith, grind (arith, elements), search rules) in
+    let first : IsReached c.args.offers.now c.make_all.new.progress.place (c.loop-place.place + 1) = subst (λ t. IsReached offers c.make_all.new.progress.place (t + 1)) time c.make_all.ensures.reached in
+    let last : IsReached c.args.offers.now c.make_all.new.progress.place (c.loop-place.place + c.until_offer-count.result) =
+    subst (λ t. IsReached offers c.make_all.new.progress.place (t + c.until_offer-count.result)) time c.until_offer-count.ensures.reached in
+    let state-is : before ≡ call_after offers hits c.loop-place.place bus = c.loop-place.invariant.state in
+    let made : start ≡ offered_now offers (call_after offers hits c.loop-place.place bus) =
+    ap (λ ps. let k : CallState = record { bus = record { ports = ps; rest = c.make_all.new.self.rest }; time = c.loop-place.call.time; latest = c.loop-place.call.latest } in k) c.make_all.ensures.ports
+    ∙ ap (λ r. let k : CallState = record { bus = record { ports = all_made offers c.loop-place.call.time (map S c.loop-place.self.ports.items); rest = r }; time = c.loop-place.call.time; latest = c.loop-place.call.latest } in k) c.make_all.ensures.rest
+    ∙ ap (offered_now offers) state-is in
+    let none : (t : ℕ) (ports : List PortState) → c.loop-place.place < t → t < c.loop-place.place + c.until_offer-count.result → (all_made offers t ports ≡ ports) × (refused_at offers t ports ≡ 0) = λ t ports after before. none-between offers c.make_all.new.progress.place c.loop-place.place c.until_offer-count.result t ports first last after before in
+    record {
+      state = c.go_on-place.ensures.after ∙ sym (call-several offers hits bus c.loop-place.place c.until_offer-count.result start made none c.go_on-place.result (omega arith) few);
+      levels = λ t d h. elim (cases_lt t c.loop-place.place) [
+        | inl early ↦
+            let before : get_or c.loop-place.rec t d ≡ call_level c.args.offers.now c.args.hits.now t (state_of g.P.Port.port c.args.self.now) = c.loop-place.invariant.levels t d early in
+            first_of (grind (arith, elements), search rules)
+        | inr late ↦
+            let behind : t ≡ c.loop-place.place + (t - c.loop-place.place) = omega arith in
+            let now : get_or c.go_on-place.new.rec (t - c.loop-place.place) d ≡ call_level c.args.offers.now c.args.hits.now t (state_of g.P.Port.port c.args.self.now) =
+            c.go_on-place.ensures.levels (t - c.loop-place.place) d (omega arith)
+            ∙ level-several offers hits bus c.loop-place.place c.until_offer-count.result start made none (t - c.loop-place.place) t (omega arith) behind in
+            first_of (grind (arith, elements), search rules)
+      ];
+      count = c.make_all.ensures.count ∙ ap (λ t. c.loop-place.progress.refused + refused_at offers t (map S c.loop-place.self.ports.items)) time
+          ∙ ap (λ k. k + refused_at offers c.loop-place.place (map S c.loop-place.self.ports.items)) c.loop-place.invariant.count
+          ∙ ap (λ (k : CallState). call_refused offers hits c.loop-place.place bus + refused_at offers c.loop-place.place k.bus.ports) state-is
+          ∙ sym (refused-several offers hits bus c.loop-place.place c.until_offer-count.result start made none c.go_on-place.result (omega arith) few);
+      reached = reached-between offers c.make_all.new.progress.place c.loop-place.place c.until_offer-count.result c.go_on-place.result first last (omega arith) few;
+      refused = c.make_all.ensures.refused;
+      size = sym (length-map c.go_on-place.new.self.ports.items S) ∙ ap (λ (k : CallState). length k.bus.ports) c.go_on-place.ensures.after ∙ length-after hits c.go_on-place.result _
+          ∙ ap length c.make_all.ensures.ports ∙ length-all_made offers _ (map S c.loop-place.self.ports.items) ∙ length-map c.loop-place.self.ports.items S ∙ c.loop-place.invariant.size;
+      call = c.go_on-place.ensures.call;
+      time = omega (arith, c.go_on-place.ensures.time, time);
+      long = first_of (omega arith, grind (arith, elements), search rules);
+      within = first_of (omega arith, search rules);
+    }
+
+pub returns-clause-bus : goal.returns-clause-bus
+returns-clause-bus g c =
+    let size : c.loop-place.place ≡ length c.loop-place.rec = omega arith in
+    ap (λ (k : CallState). k.bus) c.loop-place.invariant.state ∙ ap (λ n. (call_after c.args.offers.now c.args.hits.now n (state_of g.P.Port.port c.args.self.now)).bus) size
+
+pub returns-clause-levels : goal.returns-clause-levels
+returns-clause-levels g c = λ t h.
+    slice_get-get_or c.loop-place.rec t Recessive h ∙ ap Some (c.loop-place.invariant.levels t Recessive (omega arith))
+
+pub returns-clause-disturbed : goal.returns-clause-disturbed
+returns-clause-disturbed g c = λ rested.
+    subst (λ after. WasPlayed c.args.offers.now c.args.hits.now (state_of g.P.Port.port c.args.self.now) c.loop-place.rec after) (sym (returns-clause-bus g c))
+    (call-played c.args.offers.now c.args.hits.now (state_of g.P.Port.port c.args.self.now) c.loop-place.rec rested (returns-clause-levels g c))
+
+pub returns-clause-count : goal.returns-clause-count
+returns-clause-count g c =
+    let size : c.loop-place.place ≡ length c.loop-place.rec = omega arith in
+    c.loop-place.invariant.count ∙ ap (λ n. call_refused c.args.offers.now c.args.hits.now n (state_of g.P.Port.port c.args.self.now)) size
+
+-- ---- a network
+
+pub returns-clause-answer : goal.returns-clause-answer
+returns-clause-answer g c = λ course call.
+    ap Ok (c.loop-place.invariant.count ∙ network-refused c.args.offers.now c.args.hits.now course (state_of g.P.Port.port c.args.self.now) (valid-ports g.P.Port.port (λ x. g.met.P.Port.valid x) c.args.self.now.ports.items)
+    (c.in_ok-check.ensures.known (refl {a = true})) call c.loop-place.place)
+
+pub returns-clause-course : goal.returns-clause-course
+returns-clause-course g c = λ course call t within.
+    returns-clause-levels g c t within
+    ∙ ap Some (network-track c.args.offers.now c.args.hits.now course (state_of g.P.Port.port c.args.self.now) (valid-ports g.P.Port.port (λ x. g.met.P.Port.valid x) c.args.self.now.ports.items)
+    (c.in_ok-check.ensures.known (refl {a = true})) call t)
+
+pub returns-clause-network_logs : goal.returns-clause-network_logs
+returns-clause-network_logs g c = λ course call.
+    network-logs c.args.offers.now c.args.hits.now course (state_of g.P.Port.port c.args.self.now) (valid-ports g.P.Port.port (λ x. g.met.P.Port.valid x) c.args.self.now.ports.items)
+    (c.in_ok-check.ensures.known (refl {a = true})) call _ _ (returns-clause-bus g c)
+
+pub returns-clause-network_has : goal.returns-clause-network_has
+returns-clause-network_has g c = λ course call.
+    network-has c.args.offers.now c.args.hits.now course (state_of g.P.Port.port c.args.self.now) (valid-ports g.P.Port.port (λ x. g.met.P.Port.valid x) c.args.self.now.ports.items)
+    (c.in_ok-check.ensures.known (refl {a = true})) call _ _ (returns-clause-bus g c)
+
+pub returns-clause-network_whole : goal.returns-clause-network_whole
+returns-clause-network_whole g c = λ course call past.
+    network-whole c.args.offers.now c.args.hits.now course (state_of g.P.Port.port c.args.self.now) (valid-ports g.P.Port.port (λ x. g.met.P.Port.valid x) c.args.self.now.ports.items)
+    (c.in_ok-check.ensures.known (refl {a = true})) call _ _ (returns-clause-bus g c) past
+
+pub returns-clause-network_tally : goal.returns-clause-network_tally
+returns-clause-network_tally g c = λ course call past.
+    network-tally c.args.offers.now c.args.hits.now course (state_of g.P.Port.port c.args.self.now) (valid-ports g.P.Port.port (λ x. g.met.P.Port.valid x) c.args.self.now.ports.items)
+    (c.in_ok-check.ensures.known (refl {a = true})) call _ _ (returns-clause-bus g c) past
+
+pub returns-clause-network_active : goal.returns-clause-network_active
+returns-clause-network_active g c = λ course call.
+    network-active c.args.offers.now c.args.hits.now course (state_of g.P.Port.port c.args.self.now) (valid-ports g.P.Port.port (λ x. g.met.P.Port.valid x) c.args.self.now.ports.items)
+    (c.in_ok-check.ensures.known (refl {a = true})) call _ _ (returns-clause-bus g c)
+
+pub returns-clause-network_counts : goal.returns-clause-network_counts
+returns-clause-network_counts g c = λ course call errors few.
+    network-counts c.args.offers.now c.args.hits.now course (state_of g.P.Port.port c.args.self.now) (valid-ports g.P.Port.port (λ x. g.met.P.Port.valid x) c.args.self.now.ports.items)
+    (c.in_ok-check.ensures.known (refl {a = true})) call _ _ (returns-clause-bus g c) errors few
+
+pub returns-clause-network_missed : goal.returns-clause-network_missed
+returns-clause-network_missed g c = λ course call.
+    network-missed c.args.offers.now c.args.hits.now course (state_of g.P.Port.port c.args.self.now) (valid-ports g.P.Port.port (λ x. g.met.P.Port.valid x) c.args.self.now.ports.items)
+    (c.in_ok-check.ensures.known (refl {a = true})) call _ _ (returns-clause-bus g c)
+
+pub returns-clause-known : goal.returns-clause-known
+returns-clause-known g c = c.in_ok-check.ensures.known

@@ -1,0 +1,129 @@
+-- The course of a bus to which frames are offered while it goes on, and on which frames are disturbed and sent again: which frame
+-- each attempt sends, when it starts, and where it is hit. It knows no port, no phase and no counter.
+-- (docs/BUS.md, "The course"; Bosch CAN 2.0 part B, sections 2, 3.2.1, 3.2.3, 3.2.5 and 6)
+use Rattle.std.specs.Prelude.{ℕ, ◌≡◌, ◌+◌, ◌-◌, ◌≤◌, zero, suc, max, nat_lt, nat_le, ◌&&◌, if◌then◌else◌, ◌⊎◌, List, [], ◌∷◌, filter, length, map, slice_index_or, Option, Some, None}
+use Rattle.can_frame.specs.declared.level.Level.{Level}
+use Rattle.can_frame.specs.declared.level.Level.TheVariants.{Recessive}
+use Rattle.can_frame.specs.Parts.{Parts}
+use Rattle.can_wire.specs.Wire.{wire}
+use Rattle.can_node.specs.Ports.{waiting}
+use Rattle.can_node.specs.Waiting.{IsWaiting}
+use Rattle.can_bus.specs.declared.hit.Hit.{Hit}
+use Rattle.can_bus.specs.Quiet.{holds}
+use Rattle.can_bus.specs.Repair.{IsInWindow, Tally, hit_of, tallied}
+use Rattle.can_bus.specs.RepairedLine.{attempt_levels, lateness}
+use Rattle.can_bus.specs.Schedule.{Timed, Lists, busy_time, earliest, offered_by, without_offer}
+
+-- an attempt to send a frame: when it starts, which frame, and which of its levels is hit, if one is
+pub record Transmission : Type 0 where
+  pub time : ℕ
+  pub frame : Parts
+  pub hit : Option ℕ
+
+-- How long an attempt that is hit at this level keeps the bus: the levels before it, the level itself, the error flags, which are six
+-- levels and as many more as the receivers are late, and eleven levels of delimiter and intermission. (3.2.3, 3.2.5)
+abbrev pub hit_time : Parts → ℕ → ℕ
+hit_time f offset = offset + 18 + lateness f offset
+
+-- The next attempt sends f at this time, where these offers are left and the bus is free from a time on.
+pub record IsNext (free : ℕ) (left : List Timed) (time : ℕ) (f : Parts) : Type 0 where
+  -- the bus is free by then
+  pub is_free : free ≤ time
+  -- it starts no later than the bus is free and any frame that is left is offered (3.2.5)
+  pub soon : (x : Timed) → Lists left x → time ≤ max free x.time
+  -- of the frames that are offered by then it sends the one that wins arbitration, of those of its field the first (2, 3.2.1)
+  pub waits : IsWaiting (offered_by time left) f
+
+-- The course from the attempt of this number on, where these offers are left and the bus is free from this time on: one attempt after
+-- another, until no offer is left. One that isn't hit takes away the first offer of its arbitration field. One that is hit, in the window
+-- of its frame, takes none away: its frame is sent again (6). Behind each the bus is free when its last level is over.
+pub data IsCourse (hits : List Hit) : ℕ → ℕ → List Timed → List Transmission → Type 0 where
+  over : (number free : ℕ) → IsCourse hits number free [] []
+  sent : (number free time : ℕ) (f : Parts) (left : List Timed) (course : List Transmission) → IsNext free left time f → hit_of hits number ≡ None →
+      IsCourse hits (number + 1) (time + busy_time f) (without_offer f left) course →
+      IsCourse hits number free left (record { time = time; frame = f; hit = None } ∷ course)
+  broken : (number free time : ℕ) (f : Parts) (offset : ℕ) (left : List Timed) (course : List Transmission) → IsNext free left time f → hit_of hits number ≡ Some offset →
+      IsInWindow f offset → IsCourse hits (number + 1) (time + hit_time f offset) left course →
+      IsCourse hits number free left (record { time = time; frame = f; hit = Some offset } ∷ course)
+
+-- What is told of it.
+
+-- it is one of these attempts
+abbrev pub IsMade : List Transmission → Transmission → Type 0
+IsMade [] s = ⊥
+IsMade (x ∷ course) s = (x ≡ s) ⊎ IsMade course s
+
+-- with its frame in front, if it isn't hit
+abbrev pub and_sent : Option ℕ → Parts → List Parts → List Parts
+and_sent None f frames = f ∷ frames
+and_sent (Some offset) f frames = frames
+
+-- the frames of the attempts that aren't hit, in their order
+abbrev pub frames_sent : List Transmission → List Parts
+frames_sent [] = []
+frames_sent (s ∷ course) = and_sent s.hit s.frame (frames_sent course)
+
+-- one more, if it is hit
+abbrev pub and_hit : Option ℕ → ℕ → ℕ
+and_hit None hits = hits
+and_hit (Some offset) hits = hits + 1
+
+-- the starts of a schedule, as attempts that aren't hit
+abbrev pub unhit : List Timed → List Transmission
+unhit starts = map (λ (s : Timed). let x : Transmission = record { time = s.time; frame = s.frame; hit = None } in x) starts
+
+-- how many of them are hit
+abbrev pub hits_made : List Transmission → ℕ
+hits_made [] = 0
+hits_made (s ∷ course) = and_hit s.hit (hits_made course)
+
+-- the level at a time: those of each attempt from its start on, and recessive elsewhere
+unfoldable pub course_at : List Transmission → ℕ → Level
+course_at [] t = Recessive
+course_at (s ∷ course) t =
+    let levels = attempt_levels (Some s.frame) s.hit in
+    if nat_le s.time t && nat_lt t (s.time + length levels) then slice_index_or levels (t - s.time) Recessive else course_at course t
+
+-- how long an attempt lasts: as long as the wire of its frame, or as what a hit makes of it keeps the bus
+abbrev pub lasting : Parts → Option ℕ → ℕ
+lasting f None = length (wire f)
+lasting f (Some offset) = hit_time f offset
+
+-- the attempts that have ended by this time
+abbrev pub ended_by : ℕ → List Transmission → List Transmission
+ended_by t course = filter (λ s. nat_le (s.time + lasting s.frame s.hit) t) course
+
+-- all of them have
+abbrev pub AllEnded : List Transmission → ℕ → Type 0
+AllEnded course t = (s : Transmission) → IsMade course s → s.time + lasting s.frame s.hit ≤ t
+
+-- what they make of the counters of a port that has these frames to send (8)
+abbrev pub course_tally : List Parts → List Transmission → Tally → Tally
+course_tally queue [] t = t
+course_tally queue (s ∷ course) t = course_tally queue course (tallied (holds queue s.frame) s.frame s.hit t)
+
+-- The same, computed.
+
+-- an attempt at this time to send the frame that waits, and those behind it: as where it isn't hit, or as where it is
+abbrev pub attempt_of : (Parts → List Transmission) → (Parts → ℕ → List Transmission) → ℕ → Option ℕ → Option Parts → List Transmission
+attempt_of behind again time hit None = []
+attempt_of behind again time None (Some f) = record { time = time; frame = f; hit = None } ∷ behind f
+attempt_of behind again time (Some offset) (Some f) = record { time = time; frame = f; hit = Some offset } ∷ again f offset
+
+-- so many attempts at most, the first of which has this number, from a time on at which the bus is free
+abbrev pub course_from : ℕ → List Hit → ℕ → ℕ → List Timed → List Transmission
+course_from zero hits number free left = []
+course_from (suc count) hits number free [] = []
+course_from (suc count) hits number free (x ∷ others) =
+    let left = x ∷ others in
+    let time = max free (earliest x others) in
+    attempt_of (λ f. course_from count hits (number + 1) (time + busy_time f) (without_offer f left))
+    (λ f offset. course_from count hits (number + 1) (time + hit_time f offset) left) time (hit_of hits number) (waiting (offered_by time left))
+
+-- one attempt for each offer, and one more for each hit, at most
+unfoldable pub course_of : List Hit → List Timed → List Transmission
+course_of hits offers = course_from (length offers + length hits) hits 0 0 offers
+
+-- each hit falls in the window of the frame that its attempt sends
+abbrev pub HitInWindows : List Transmission → Type 0
+HitInWindows course = (s : Transmission) (offset : ℕ) → IsMade course s → s.hit ≡ Some offset → IsInWindow s.frame offset

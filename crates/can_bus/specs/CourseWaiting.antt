@@ -1,0 +1,82 @@
+-- How long an offered frame waits until it is sent, where frames are disturbed meanwhile, told from a course.
+-- (docs/BUS.md, "How long a frame waits on a network")
+use Rattle.std.specs.Prelude.{ℕ, ◌≡◌, ◌+◌, ◌-◌, ◌≤◌, ◌<◌, nat_le, nat_lt, not, Bool, true, false, ◌&&◌, if◌then◌else◌, List, [], ◌∷◌, ◌++◌, filter, length, slice_get, take, Option, Some, None}
+use Rattle.std.specs.List.{sum_by}
+use Rattle.can_frame.specs.Arbitration.{arbitration_field}
+use Rattle.can_frame.specs.Parts.{Parts}
+use Rattle.can_node.specs.Ports.{same_field}
+use Rattle.can_bus.specs.declared.hit.Hit.{Hit}
+use Rattle.can_bus.specs.Course.{IsCourse, Transmission, hit_time}
+use Rattle.can_bus.specs.Schedule.{Timed, busy_time, without_offer}
+use Rattle.can_bus.specs.Waiting.{ahead_of}
+
+-- of one arbitration field no offer is made earlier than one that stands before it
+abbrev pub AreInTime : List Timed → Type 0
+AreInTime offers = (m n : ℕ) (x y : Timed) → m < n → slice_get offers m ≡ Some x → slice_get offers n ≡ Some y →
+    arbitration_field x.frame ≡ arbitration_field y.frame → x.time ≤ y.time
+
+-- how long an attempt keeps the bus: its frame and the intermission, or what a hit makes of them
+abbrev pub keeping : Parts → Option ℕ → ℕ
+keeping f None = busy_time f
+keeping f (Some offset) = hit_time f offset
+
+-- how long these attempts keep it, one after another
+abbrev pub kept_times : List Transmission → ℕ
+kept_times course = sum_by (λ s. keeping s.frame s.hit) course
+
+-- What is left at this time of the attempt on the wire: none where the bus is free. One that starts right then is not on the wire yet.
+abbrev pub left_on : ℕ → List Transmission → ℕ
+left_on t [] = 0
+left_on t (s ∷ course) =
+    let over = s.time + keeping s.frame s.hit in
+    if nat_lt s.time t && nat_lt t over then over - t else left_on t course
+
+-- the attempts that start from one time on, and before another
+abbrev pub attempts_between : ℕ → ℕ → List Transmission → List Transmission
+attempts_between from until course = filter (λ s. nat_le from s.time && nat_lt s.time until) course
+
+-- a level of it was hit
+abbrev pub was_hit : Option ℕ → Bool
+was_hit None = false
+was_hit (Some offset) = true
+
+-- those that are hit, and those that send their frames
+abbrev pub hit_attempts : List Transmission → List Transmission
+hit_attempts course = filter (λ s. was_hit s.hit) course
+
+abbrev pub sent_attempts : List Transmission → List Transmission
+sent_attempts course = filter (λ s. not (was_hit s.hit)) course
+
+-- the offers of one arbitration field, and the attempts that send a frame of it
+abbrev pub of_field : Parts → List Timed → List Timed
+of_field f offers = filter (λ x. same_field f x.frame) offers
+
+abbrev pub sends_of : Parts → List Transmission → List Transmission
+sends_of f course = filter (λ s. same_field f s.frame && not (was_hit s.hit)) course
+
+-- The attempt sends the offer at this place: of those that send a frame of its field, it is the one before which as many are made as
+-- offers of the field stand before the offer.
+pub record IsSentBy (offers : List Timed) (course : List Transmission) (place : ℕ) (offer : Timed) (s : Transmission) : Type 0 where
+  pub is_offer : slice_get offers place ≡ Some offer
+  pub is_attempt : slice_get (sends_of offer.frame course) (length (of_field offer.frame (take place offers))) ≡ Some s
+
+-- what an attempt leaves of the offers, and what attempts leave, one after another
+abbrev pub left_by : Parts → Option ℕ → List Timed → List Timed
+left_by f None offers = without_offer f offers
+left_by f (Some offset) offers = offers
+
+abbrev pub left_behind : List Timed → List Transmission → List Timed
+left_behind offers [] = offers
+left_behind offers (s ∷ course) = left_behind (left_by s.frame s.hit offers) course
+
+-- The offers that go before the one at this place, which starts at this time, of those that are left when it is made: those that win
+-- arbitration against it and are made before it starts, and those of its field that stand before it.
+abbrev pub going_before : List Timed → List Transmission → ℕ → Timed → ℕ → List Timed
+going_before offers course place offer start =
+    let begun = attempts_between 0 offer.time course in
+    ahead_of offer.frame start (left_behind offers begun) ++ of_field offer.frame (left_behind (take place offers) begun)
+
+-- what is claimed of each offer of a course, whose offers of one field come in time, and of the attempt that sends it
+abbrev pub OnWait : (List Hit → List Timed → List Transmission → ℕ → Timed → Transmission → Type 0) → Type 0
+OnWait Claim = (hits : List Hit) (offers : List Timed) (course : List Transmission) → IsCourse hits 0 0 offers course → AreInTime offers →
+    (place : ℕ) (offer : Timed) (s : Transmission) → IsSentBy offers course place offer s → Claim hits offers course place offer s

@@ -1,0 +1,55 @@
+-- A disturbed run to whose ports frames are offered meanwhile, said of whole lists of levels: those on the wire, those recorded, and those
+-- that each port saw. (docs/BUS.md, "Runs")
+use Rattle.std.specs.Prelude.{ℕ, ◌≡◌, ◌↔◌, ◌+◌, ◌<◌, ◌==◌, min, ◌&&◌, if◌then◌else◌, List, [], ◌∷◌, All, length, map, slice_get, take, Some}
+use Rattle.std.specs.List.{Any, Contains}
+use Rattle.can_frame.specs.declared.level.Level.{Level}
+use Rattle.can_frame.specs.Levels.{opposite}
+use Rattle.can_frame.specs.IdleRow.{idle_row}
+use Rattle.can_node.specs.Ports.{PortState, port_drives, port_step}
+use Rattle.can_bus.specs.declared.hit.Hit.{Hit}
+use Rattle.can_bus.specs.declared.hit.Hit.TheVariants.{View}
+use Rattle.can_bus.specs.declared.offer.Offer.{Offer}
+use Rattle.can_bus.specs.Disturbed.{FallsOnWire, level_then, rest_before}
+use Rattle.can_bus.specs.Offers.{with_offer}
+use Rattle.can_bus.specs.Run.{BusState}
+use Rattle.can_bus.specs.Wired.{wired as wired_of}
+
+-- the port of this number, with what it is offered at time t
+abbrev pub given : List Offer → ℕ → ℕ → PortState → PortState
+given [] t node p = p
+given (offer ∷ offers) t node p = given offers t node (if (offer.time == t) && (offer.node == node) then with_offer offer.frame p else p)
+
+-- the same port, from time t on, after it has seen these levels: before each it is given what it is offered
+abbrev pub port_played : List Offer → ℕ → ℕ → PortState → List Level → PortState
+port_played offers t node p [] = p
+port_played offers t node p (x ∷ levels) = port_played offers (t + 1) node (port_step (given offers t node p) x) levels
+
+-- each port, of which the first has this number, with what it is offered at time t
+abbrev pub all_given : List Offer → ℕ → ℕ → List PortState → List PortState
+all_given offers t node [] = []
+all_given offers t node (p ∷ ports) = given offers t node p ∷ all_given offers t (node + 1) ports
+
+-- each of them, after the first t of the levels that it saw
+abbrev pub played_then : List Offer → ℕ → ℕ → List PortState → List (List Level) → List PortState
+played_then offers t node [] seen = []
+played_then offers t node (p ∷ ports) [] = []
+played_then offers t node (p ∷ ports) (levels ∷ seen) = port_played offers 0 node p (take t levels) ∷ played_then offers t (node + 1) ports seen
+
+-- a run of a bus from one state to another with these offers and under these hits, by its lists of levels: as `IsDisturbedRun`, but that
+-- each port drives with what it is offered at that time (`drives`), and is led through what it is offered and what it saw (`leads`)
+pub record IsDisturbedPlay (offers : List Offer) (hits : List Hit) (before : BusState) (wired recorded : List Level) (seen : List (List Level)) (after : BusState) : Type 0 where
+  pub long : length wired ≡ length recorded
+  pub seen_long : All (λ levels. length levels ≡ length recorded) seen
+  pub each_port : length seen ≡ length before.ports
+  pub drives : (t : ℕ) → t < length recorded → level_then wired t ≡ wired_of (map port_drives (all_given offers t 0 (played_then offers t 0 before.ports seen)))
+  pub records : (t : ℕ) → t < length recorded →
+      (level_then recorded t ≡ opposite (level_then wired t)) ↔ Any (λ hit. FallsOnWire before.rest wired recorded hit t) hits
+  pub sees : (port t : ℕ) (levels : List Level) → slice_get seen port ≡ Some levels → t < length recorded →
+      (level_then levels t ≡ opposite (level_then recorded t)) ↔ Contains hits (View t port)
+  pub leads : after.ports ≡ played_then offers (length recorded) 0 before.ports seen
+  pub keeps_rest : after.rest ≡ min (rest_before before.rest recorded (length recorded)) idle_row
+
+-- there are levels on the wire, and levels that the ports saw, with which these recorded ones are such a run
+abbrev pub WasPlayed : List Offer → List Hit → BusState → List Level → BusState → Type 0
+WasPlayed offers hits before recorded after =
+    (wired : List Level) × (seen : List (List Level)) × IsDisturbedPlay offers hits before wired recorded seen after

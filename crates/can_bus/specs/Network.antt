@@ -1,0 +1,120 @@
+-- A network: a bus to whose ports frames are offered while it goes on, each arbitration field at one port, and on which frames are
+-- disturbed and sent again. (docs/BUS.md, "Networks"; Bosch CAN 2.0 part B, sections 2, 3.2.5, 6 and 8)
+use Rattle.std.specs.Prelude.{ℕ, zero, suc, ◌≡◌, ◌≢◌, ◌+◌, ◌*◌, ◌<◌, ◌≤◌, List, ◌++◌, length, slice_get, take, Some}
+use Rattle.can_frame.specs.declared.level.Level.{Level}
+use Rattle.can_frame.specs.Arbitration.{arbitration_field}
+use Rattle.can_frame.specs.IdleRow.{idle_row}
+use Rattle.can_fault.specs.declared.state.State.TheVariants.{Active}
+use Rattle.can_fault.specs.Counters.{state_of}
+use Rattle.can_mac.specs.declared.phase.Phase.TheVariants.{Idle}
+use Rattle.can_node.specs.Ports.{PortState}
+use Rattle.can_bus.specs.declared.hit.Hit.{Hit}
+use Rattle.can_bus.specs.declared.hit.Hit.TheVariants.{In}
+use Rattle.can_bus.specs.declared.offer.Offer.{Offer}
+use Rattle.can_bus.specs.Course.{IsCourse, Transmission, course_tally, ended_by, frames_sent}
+use Rattle.can_bus.specs.Offers.{AreOffered, all_made, refused_at}
+use Rattle.can_bus.specs.OpenBus.{QueuesHaveRoom, all_offers, own_offers}
+use Rattle.can_bus.specs.Quiet.{IsPrefixOf, marked}
+use Rattle.can_bus.specs.Repair.{AreApart, IsLow, Tally}
+use Rattle.can_bus.specs.Run.{BusState, CallState, bus_step, call_begun, recorded}
+use Rattle.can_bus.specs.Schedule.{Lists, Timed, frames_of}
+
+-- The call, one bit time after another.
+
+-- with the offers of its bit time made
+abbrev pub offered_now : List Offer → CallState → CallState
+offered_now offers c = record c { bus = record c.bus { ports = all_made offers c.time c.bus.ports } }
+
+-- the call after n bit times
+unfoldable pub call_after : List Offer → List Hit → ℕ → BusState → CallState
+call_after offers hits zero bus = call_begun bus
+call_after offers hits (suc n) bus = bus_step hits (offered_now offers (call_after offers hits n bus))
+
+-- the level that is recorded at time t
+unfoldable pub call_level : List Offer → List Hit → ℕ → BusState → Level
+call_level offers hits t bus = recorded hits (offered_now offers (call_after offers hits t bus))
+
+-- how many offers of the first n bit times find a full queue
+unfoldable pub call_refused : List Offer → List Hit → ℕ → BusState → ℕ
+call_refused offers hits zero bus = 0
+call_refused offers hits (suc n) bus = call_refused offers hits n bus + refused_at offers n (call_after offers hits n bus).bus.ports
+
+-- What is asked of it.
+
+-- the counters of a port
+abbrev pub counters_of : PortState → Tally
+counters_of p = record { tec = p.mac.counters.tec; rec = p.mac.counters.rec }
+
+-- an idle port that is error active and asks for no overload frame, with room in its log for so many entries more
+pub record IsFit (entries : ℕ) (p : PortState) : Type 0 where
+  pub idle : p.mac.phase ≡ Idle
+  pub low : IsLow (counters_of p)
+  pub unasked : p.mac.overloads.pending ≡ 0
+  pub room : length p.log + entries ≤ p.log_room
+
+-- each arbitration field belongs to one port: no two ports have frames of one field to send
+abbrev pub FieldsAreOwned : List Offer → List PortState → Type 0
+FieldsAreOwned offers ports = (m n : ℕ) (p q : PortState) → m < n → slice_get ports m ≡ Some p → slice_get ports n ≡ Some q →
+    (x y : Timed) → Lists (own_offers offers m p) x → Lists (own_offers offers n q) y → arbitration_field x.frame ≢ arbitration_field y.frame
+
+-- each hit falls within an attempt
+abbrev pub AreInAttempts : List Hit → Type 0
+AreInAttempts hits = (n : ℕ) (hit : Hit) → slice_get hits n ≡ Some hit → (attempt offset : ℕ) × (hit ≡ In attempt offset)
+
+-- the tally of each port stays that of an error active one, behind each attempt
+abbrev pub CourseIsBorne : List Offer → List PortState → List Transmission → Type 0
+CourseIsBorne offers ports course = (n : ℕ) (p : PortState) → slice_get ports n ≡ Some p → (number : ℕ) → number ≤ length course →
+    IsLow (course_tally (frames_of (own_offers offers n p)) (take number course) (counters_of p))
+
+-- A call on a bus at rest, with these offers and hits, whose attempts are this course.
+pub record IsNetworkCall (offers : List Offer) (hits : List Hit) (bus : BusState) (course : List Transmission) : Type 0 where
+  pub two : 2 ≤ length bus.ports
+  pub most : length bus.ports ≤ 64
+  pub rest : bus.rest ≡ idle_row
+  -- the offers come in the order of their times, each to a port that is there
+  pub offered : AreOffered (length bus.ports) offers
+  pub fit : (n : ℕ) (p : PortState) → slice_get bus.ports n ≡ Some p → IsFit (length (all_offers offers bus.ports)) p
+  pub room : QueuesHaveRoom offers bus.ports
+  -- no two ports share an arbitration field, which may come back at its own
+  pub owned : FieldsAreOwned offers bus.ports
+  -- at most one hit in an attempt, in the order of attempts
+  pub within : AreInAttempts hits
+  pub apart : AreApart 1 hits
+  -- the attempts to send all frames
+  pub is_course : IsCourse hits 0 0 (all_offers offers bus.ports) course
+  pub borne : CourseIsBorne offers bus.ports course
+
+-- what is claimed of a network call, with its course
+abbrev pub OnNetworkCall : List Offer → List Hit → BusState → (List Transmission → Type 0) → Type 0
+OnNetworkCall offers hits bus Claim = (course : List Transmission) → IsNetworkCall offers hits bus course → Claim course
+
+-- What is promised, of a port of this number before and after.
+
+-- the log begins with what it was, and goes on with the frames that are sent, as far as it goes: each marked as sent where the port had it to send
+abbrev pub NetworkLogBegins : List Offer → List Transmission → ℕ → PortState → PortState → Type 0
+NetworkLogBegins offers course node p q = IsPrefixOf q.log (p.log ++ marked (frames_of (own_offers offers node p)) (frames_sent course))
+
+-- it has each frame whose wire has ended by this time
+abbrev pub NetworkLogHas : List Offer → List Transmission → ℕ → ℕ → PortState → PortState → Type 0
+NetworkLogHas offers course t node p q = IsPrefixOf (p.log ++ marked (frames_of (own_offers offers node p)) (frames_sent (ended_by t course))) q.log
+
+-- it has all of them
+abbrev pub NetworkLogWhole : List Offer → List Transmission → ℕ → PortState → PortState → Type 0
+NetworkLogWhole offers course node p q = q.log ≡ p.log ++ marked (frames_of (own_offers offers node p)) (frames_sent course)
+
+-- it is error active
+abbrev pub StaysActive : PortState → PortState → Type 0
+StaysActive p q = state_of q.mac.counters ≡ Active
+
+-- it has counted so many errors at most
+pub record CountsAtMost (errors : ℕ) (p : PortState) : Type 0 where
+  pub tec : p.mac.counters.tec ≤ 8 * errors
+  pub rec : p.mac.counters.rec ≤ errors
+
+-- each port has
+abbrev pub AllCountAtMost : ℕ → List PortState → Type 0
+AllCountAtMost errors ports = (n : ℕ) (p : PortState) → slice_get ports n ≡ Some p → CountsAtMost errors p
+
+-- its counters are those of the tally
+abbrev pub NetworkTally : List Offer → List Transmission → ℕ → PortState → PortState → Type 0
+NetworkTally offers course node p q = counters_of q ≡ course_tally (frames_of (own_offers offers node p)) course (counters_of p)

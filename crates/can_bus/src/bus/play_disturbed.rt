@@ -1,0 +1,143 @@
+//! A run of a bus to whose ports frames are offered meanwhile, and on which hits fall: a network.
+ghost use Rattle.std.specs.Prelude.{ℕ, ◌≡◌, ◌+◌, ◌<◌, ◌≤◌, ◌↔◌, ◌⊎◌, not, length, slice_get, Ok, Some, IsOk, OnOk, OnErr, IfErr, IfOk};
+ghost use Rattle.can_frame.specs.IdleRow.{idle_row};
+ghost use Rattle.can_frame.specs.Parts.{IsFrame};
+ghost use Rattle.can_bus.specs.declared.offer.Offer.{Offer as Asked};
+ghost use Rattle.can_bus.specs.Course.{AllEnded, course_at, hits_made};
+ghost use Rattle.can_bus.specs.DisturbedPlay.{WasPlayed};
+ghost use Rattle.can_bus.specs.Hits.{AreTaken, IsFirstHitFault};
+ghost use Rattle.can_bus.specs.Network.{AllCountAtMost, CountsAtMost, NetworkLogBegins, NetworkLogHas, NetworkLogWhole, NetworkTally, OnNetworkCall, StaysActive, call_after, call_level, call_refused};
+ghost use Rattle.can_bus.specs.Offers.{AreOffered, IsFirstOfferFault, all_made, is_full, made, refused_at};
+ghost use Rattle.can_bus.specs.Quiet.{AtEachPort, MissesNothing, AtEachNode};
+ghost use Rattle.can_bus.specs.Run.{AreLevelsOf};
+ghost use Rattle.can_bus.specs.State.{port_count, port_states, rest_of, state_of};
+ghost use Rattle.can_bus.specs.Walks.{IsReached};
+
+use crate::bus::Bus;
+use crate::call::Call;
+use crate::check::check;
+use crate::fault::BusFault;
+use crate::hit::Hit;
+use crate::offer::Offer;
+use crate::wire::wired_level;
+use can_frame::Level;
+use can_node::Port;
+
+/// How far the offers of a call are made: those before this place, of which so many found a full queue.
+#[derive(Clone, Copy)]
+struct Progress {
+    place: usize,
+    refused: usize,
+}
+
+impl<P: Port> Bus<P> {
+    /// Makes an offer to its port, and answers whether the queue had room for it.
+    fn make(&mut self, offer: Offer) -> bool
+        requires named { offer.node < port_count self.old }
+        ensures ports { port_states P.port self.new ≡ made offer 0 (port_states P.port self.old) }
+        ensures rest { rest_of self.new ≡ rest_of self.old }
+        ensures answer { result ≡ not (is_full offer.node (port_states P.port self.old)) }
+    {
+        self.ports[offer.node].offer(offer.frame).is_ok()
+    }
+
+    /// Makes the offers of this time, in their order.
+    fn make_all(&mut self, offers: &[Offer], time: u64, progress: &mut Progress)
+        requires offered { AreOffered (port_count self.old) offers.now }
+        requires reached { IsReached offers.now progress.old.place time }
+        requires refused { progress.old.refused ≤ progress.old.place }
+        ensures ports { port_states P.port self.new ≡ all_made offers.now time (port_states P.port self.old) }
+        ensures rest { rest_of self.new ≡ rest_of self.old }
+        ensures count { progress.new.refused ≡ progress.old.refused + refused_at offers.now time (port_states P.port self.old) }
+        ensures reached { IsReached offers.now progress.new.place (time + 1) }
+        ensures refused { progress.new.refused ≤ progress.new.place }
+    {
+        while progress.place < offers.len() && offers[progress.place].time == time {
+            if !self.make(offers[progress.place]) {
+                progress.refused += 1;
+            }
+            progress.place += 1;
+        }
+    }
+
+    /// How many bit times from this one on, whose offers are made, come before the next offer, `most` at most.
+    fn until_offer(&self, offers: &[Offer], progress: &Progress, time: u64, most: usize) -> usize
+        requires offered { AreOffered (port_count self.now) offers.now }
+        requires reached { IsReached offers.now progress.now.place (time + 1) }
+        requires some { 0 < most }
+        ensures some { 0 < result }
+        ensures most { result ≤ most }
+        ensures reached { IsReached offers.now progress.now.place (time + result) }
+    {
+        if progress.place < offers.len() {
+            (offers[progress.place].time - time).min(most as u64) as usize
+        } else {
+            most
+        }
+    }
+
+    /// Runs as many bit times as `rec` is long, with offers and with hits, and records a level in each. Offers are made
+    /// as by `play`, and hits fall as in `run`. The answer is how many of the offers a full queue gave back.
+    ///
+    /// The offers must come in order and the hits rise, and all must name ports that there are: else the first offer
+    /// that doesn't is told, or the first hit, nothing has run, and `rec` and all ports are as they were. It takes no
+    /// memory.
+    ///
+    /// On a network, a bus at rest of two ports or more that are idle, error active and ask for no overload frame, with
+    /// room in each queue for all that its port is offered and in each log for all frames, where each arbitration field
+    /// belongs to one port, and at most one hit falls in an attempt, in the window of its frame, and no port counts
+    /// up to 128: the attempts are those of the course, and so are the recorded levels. Behind what it named before, each
+    /// log names the frames of the attempts that aren't hit, in their order, as sent at the port that had the frame and
+    /// as received at each other port; each whose wire has ended is there. Behind the last attempt all are, and the
+    /// counters are those of the tally. No offer is given back, all ports stay error active, and no entry is missed.
+    pub fn play_disturbed(
+        &mut self,
+        offers: &[Offer],
+        hits: &[Hit],
+        rec: &mut [Level],
+    ) -> Result<usize, BusFault>
+        ensures taken { IsOk result ↔ (AreOffered (port_count self.old) offers.now × AreTaken (port_count self.old) hits.now) }
+        ensures fault { IfErr result (λ fault. IsFirstOfferFault (port_count self.old) offers.now fault
+            ⊎ (AreOffered (port_count self.old) offers.now × IsFirstHitFault (port_count self.old) hits.now fault)) }
+        ensures bus { OnOk result (state_of P.port self.new ≡ (call_after offers.now hits.now (length rec.new) (state_of P.port self.old)).bus) }
+        ensures levels { OnOk result (AreLevelsOf (λ t. call_level offers.now hits.now t (state_of P.port self.old)) rec.new) }
+        ensures disturbed { OnOk result (rest_of self.old ≤ idle_row → WasPlayed offers.now hits.now (state_of P.port self.old) rec.new (state_of P.port self.new)) }
+        ensures count { IfOk result (λ count. count ≡ call_refused offers.now hits.now (length rec.new) (state_of P.port self.old)) }
+        ensures known { IsOk result → (n : ℕ) (offer : Asked) → slice_get offers.now n ≡ Some offer → IsFrame offer.frame }
+        ensures answer { OnNetworkCall offers.now hits.now (state_of P.port self.old) (λ course. result ≡ Ok 0) }
+        ensures course { OnNetworkCall offers.now hits.now (state_of P.port self.old) (λ course. AreLevelsOf (course_at course) rec.new) }
+        ensures network_logs { OnNetworkCall offers.now hits.now (state_of P.port self.old) (λ course.
+            AtEachNode (NetworkLogBegins offers.now course) (port_states P.port self.old) (port_states P.port self.new)) }
+        ensures network_has { OnNetworkCall offers.now hits.now (state_of P.port self.old) (λ course.
+            AtEachNode (NetworkLogHas offers.now course (length rec.new)) (port_states P.port self.old) (port_states P.port self.new)) }
+        ensures network_whole { OnNetworkCall offers.now hits.now (state_of P.port self.old) (λ course. AllEnded course (length rec.new) →
+            AtEachNode (NetworkLogWhole offers.now course) (port_states P.port self.old) (port_states P.port self.new)) }
+        ensures network_tally { OnNetworkCall offers.now hits.now (state_of P.port self.old) (λ course. AllEnded course (length rec.new) →
+            AtEachNode (NetworkTally offers.now course) (port_states P.port self.old) (port_states P.port self.new)) }
+        ensures network_active { OnNetworkCall offers.now hits.now (state_of P.port self.old) (λ course.
+            AtEachPort StaysActive (port_states P.port self.old) (port_states P.port self.new)) }
+        ensures network_counts { OnNetworkCall offers.now hits.now (state_of P.port self.old) (λ course. (errors : ℕ) → AllCountAtMost errors (port_states P.port self.old) →
+            AtEachPort (λ p q. CountsAtMost (errors + hits_made course) q) (port_states P.port self.old) (port_states P.port self.new)) }
+        ensures network_missed { OnNetworkCall offers.now hits.now (state_of P.port self.old) (λ course.
+            AtEachPort MissesNothing (port_states P.port self.old) (port_states P.port self.new)) }
+        ensures unchanged { OnErr result (self.new ≡ self.old) }
+        ensures unrecorded { OnErr result (rec.new ≡ rec.old) }
+    {
+        check(offers, self.ports.len())?;
+        check(hits, self.ports.len())?;
+        let mut call = Call::new();
+        let mut progress = Progress {
+            place: 0,
+            refused: 0,
+        };
+        let mut place = 0;
+        while place < rec.len() {
+            self.make_all(offers, call.time, &mut progress);
+            let mut driven = wired_level(self.ports.as_slice());
+            let count = self.until_offer(offers, &progress, call.time, rec.len() - place);
+            let end = place + count;
+            place += self.go_on(hits, &mut call, &mut driven, &mut rec[place..end]);
+        }
+        Ok(progress.refused)
+    }
+}

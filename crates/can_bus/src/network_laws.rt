@@ -1,0 +1,39 @@
+//! Laws of networks, each a function that does nothing and ensures it.
+ghost use Rattle.std.specs.Prelude.{◌≡◌, ◌≤◌, ℕ, List, length, map};
+ghost use Rattle.can_frame.specs.declared.level.Level.{Level};
+ghost use Rattle.can_frame.specs.Parts.{Parts};
+ghost use Rattle.can_frame.specs.IdleRow.{idle_row};
+ghost use Rattle.can_bus.specs.declared.hit.Hit.{Hit as Disturbance};
+ghost use Rattle.can_bus.specs.declared.offer.Offer.{Offer};
+ghost use Rattle.can_bus.specs.DisturbedPlay.{IsDisturbedPlay, WasPlayed};
+ghost use Rattle.can_bus.specs.Network.{AreInAttempts, IsNetworkCall, call_after, call_level};
+ghost use Rattle.can_bus.specs.NetworkPlans.{AllInWindow, AreNoEarlier, IsNetworkPlan, network_course, offered_again, two_ports};
+ghost use Rattle.can_bus.specs.Plans.{PlannedPort, ready_port};
+ghost use Rattle.can_bus.specs.Repair.{AreApart};
+ghost use Rattle.can_bus.specs.Run.{AreLevelsOf, BusState};
+
+/// A call, bit time by bit time, is a disturbed play over whole lists of levels, whatever its offers and hits: with the
+/// levels that it records there are levels on the wire and levels that the ports saw. The recorded levels and
+/// the end of every disturbed play are those of the call, and there is one for each number of bit times.
+pub fn a_call_is_a_disturbed_play()
+    ensures exists { (offers : List Offer) (hits : List Disturbance) (bus : BusState) (recorded : List Level) → bus.rest ≤ idle_row →
+        AreLevelsOf (λ t. call_level offers hits t bus) recorded →
+        WasPlayed offers hits bus recorded (call_after offers hits (length recorded) bus).bus }
+    ensures levels { (offers : List Offer) (hits : List Disturbance) (bus after : BusState) (recorded : List Level) → bus.rest ≤ idle_row → WasPlayed offers hits bus recorded after →
+        AreLevelsOf (λ t. call_level offers hits t bus) recorded }
+    ensures bus { (offers : List Offer) (hits : List Disturbance) (bus after : BusState) (recorded : List Level) → bus.rest ≤ idle_row → WasPlayed offers hits bus recorded after →
+        after ≡ (call_after offers hits (length recorded) bus).bus }
+    ensures one { (offers : List Offer) (hits : List Disturbance) (bus one other : BusState) (wired wires recorded records : List Level) (seen views : List (List Level)) → bus.rest ≤ idle_row →
+        IsDisturbedPlay offers hits bus wired recorded seen one → IsDisturbedPlay offers hits bus wires records views other → length recorded ≡ length records →
+        (recorded ≡ records) × (one ≡ other) × (wired ≡ wires) × (seen ≡ views) }
+{}
+
+/// A call on a new bus of ports that are made idle and offered frames, as in `a_quiet_bus_can_be_made`, with offers to them and
+/// hits as planned, is one on a network. So is one of a frame that is offered to its port again and again, at any times
+/// in order, and is disturbed up to fifteen times, at most once an attempt, anywhere in its window.
+pub fn a_network_can_be_made()
+    ensures call { (offers : List Offer) (hits : List Disturbance) (plans : List PlannedPort) → IsNetworkPlan offers hits plans →
+        IsNetworkCall offers hits (record { ports = map ready_port plans; rest = idle_row }) (network_course offers hits (map ready_port plans)) }
+    ensures comes_back { (f : Parts) (times : List ℕ) (hits : List Disturbance) → AreNoEarlier times → AreInAttempts hits → AreApart 1 hits →
+        AllInWindow f hits → length hits ≤ 15 → IsNetworkPlan (offered_again f times) hits (two_ports (length times)) }
+{}
