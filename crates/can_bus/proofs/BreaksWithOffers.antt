@@ -27,8 +27,7 @@ use Rattle.can_node.proofs.GainingBreaks.{put, gained, gained-more, gaining_run-
 use Rattle.can_bus.specs.Wired.{over}
 use Rattle.can_bus.proofs.Reduction.{Gives, Leads, Joins, AllJoin, OneLeads, reduction}
 use Rattle.can_bus.proofs.WireRuns.{undisturbed, gives-take}
-use Rattle.can_bus.proofs.FrameOnBus.{AllReceive, OneSends, gaining_sees, ports_of, receiver-joins, frame-gives}
-use Rattle.can_bus.proofs.GainingRuns.{all_after-gaining}
+use Rattle.can_bus.proofs.FrameOnBus.{AllReceive, OneSends, gaining_sees, ports_of, receiver-joins, frame-gives, all_after-gaining}
 use Rattle.can_bus.proofs.HitWires.{gives-behind}
 use Rattle.can_bus.proofs.Contests.{AllPorts}
 use Rattle.can_bus.proofs.AttemptHits.{length-undisturbed}

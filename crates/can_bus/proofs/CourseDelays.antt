@@ -29,7 +29,6 @@ use Rattle.can_bus.proofs.OfferLemmas.{offers-rise}
 use Rattle.can_bus.proofs.OfferTimes.{AreInOrder}
 use Rattle.can_bus.proofs.OwnedFields.{field-append, field-cases, field-none}
 use Rattle.can_bus.proofs.OwnOffers.{first-out, first-stays}
-use Rattle.can_bus.proofs.WaitBounds.{length-weigh, weigh, weigh-passed}
 
 -- ---- the list of offers, parted
 
@@ -44,22 +43,37 @@ in-order (x ∷ offers) rise f =
     let rest : AreInOrder (of_field f offers) = in-order offers (λ m n y z less a b. rise (suc m) (suc n) y z (omega (arith, less)) a b) f in
     elim (cases_Bool (same_field f x.frame)) [
       | inl same ↦
-          subst AreInOrder (sym (field-more f x offers same))
-          ((λ y there.
-          let own = filter-stands (λ z. same_field f z.frame) offers y there in
-          rise 0 (suc own.0.0) x y (omega arith) refl own.0.1 (sym (same_field-Shares f x.frame same) ∙ same_field-Shares f y.frame own.1)),
-          rest)
+          subst AreInOrder (sym (field-more f x offers same)) (
+            (λ y there.
+                let own = filter-stands (λ z. same_field f z.frame) offers y there in
+                rise 0 (suc own.0.0) x y (omega arith) refl own.0.1 (sym (same_field-Shares f x.frame same) ∙ same_field-Shares f y.frame own.1)),
+            rest,
+          )
       | inr other ↦ subst AreInOrder (sym (field-skip f x offers other)) rest
     ]
 
-some-first : (own : List Timed) (y : Timed) → Lists own y → (x : Timed) × (more : List Timed) × (own ≡ x ∷ more)
+pub some-first : (own : List Timed) (y : Timed) → Lists own y → (x : Timed) × (more : List Timed) × (own ≡ x ∷ more)
 some-first [] y there = absurd (let h : None ≡ Some y = there.1 in cc)
 some-first (x ∷ own) y there = (x, own, refl)
+
+-- ---- frames, weighed
+
+module _ (weight : Parts → ℕ) where
+  abbrev pub weigh : List Timed → ℕ
+  weigh timed = sum_by (λ (x : Timed). weight x.frame) timed
+
+  pub weigh-passed : (b : Bool) (x : Timed) (timed : List Timed) → weigh (cond b (x ∷ timed) timed) ≡ cond b (weight x.frame) 0 + weigh timed
+  weigh-passed true x timed = sum_by-cons (λ (y : Timed). weight y.frame) x timed
+  weigh-passed false x timed = omega arith
+
+pub length-weigh : (timed : List Timed) → sum_by (λ (x : Timed). 1) timed ≡ length timed
+length-weigh [] = refl
+length-weigh (x ∷ timed) = omega (arith, sum_by-cons (λ (y : Timed). 1) x timed, length-weigh timed)
 
 -- ---- what an attempt takes from the offers
 
 module _ (weight : Parts → ℕ) where
-  weigh-first : (test : Timed → Bool) (f : Parts) (left : List Timed) (y : Timed) (more : List Timed) → of_field f left ≡ y ∷ more →
+  pub weigh-first : (test : Timed → Bool) (f : Parts) (left : List Timed) (y : Timed) (more : List Timed) → of_field f left ≡ y ∷ more →
       weigh weight (filter test left) ≡ cond (test y) (weight y.frame) 0 + weigh weight (filter test (without_offer f left))
   weigh-first test f [] y more e = absurd (let h : [] ≡ y ∷ more = e in cc)
   weigh-first test f (z ∷ left) y more e = elim (cases_Bool (same_field f z.frame)) [
@@ -262,10 +276,6 @@ hit-cost f (suc o) is window = elim (cases_lt (suc o) (length (stuffed_part f)))
   | inr past ↦ omega (arith, late-behind f is (suc o) (omega arith) past, window.before_last, length-wire f)
 ]
 
-keeping-le : (f : Parts) (hit : Option ℕ) → IsFrame f → ((offset : ℕ) → hit ≡ Some offset → IsInWindow f offset) → keeping f hit ≤ busy_time f + 13
-keeping-le f None is window = omega arith
-keeping-le f (Some offset) is window = hit-cost f offset is (window offset refl)
-
 pub course-costs : {hits : List Hit} {number free : ℕ} {left : List Timed} {course : List Transmission} → IsCourse hits number free left course → (s : Transmission) → IsMade course s → IsFrame s.frame →
     keeping s.frame s.hit ≤ busy_time s.frame + 13
 course-costs (over number free) s made framed = absurd made
@@ -296,7 +306,7 @@ module _ (hits : List Hit) (offers : List Timed) (course : List Transmission) (i
   pub meanwhile : (z : Transmission) → IsMade course z → offer.time ≤ z.time → z.time < s.time → GoesFirst z offer
   meanwhile = wait-first is order offer s (take place offers) waits
 
-  going : (weight : Parts → ℕ) →
+  pub going : (weight : Parts → ℕ) →
       sum_by (λ (z : Transmission). weight z.frame) (sent_attempts (attempts_between offer.time s.time course)) ≤ sum_by (λ (x : Timed). weight x.frame) (going_before offers course place offer s.time)
   going weight =
       let begun = attempts_between 0 offer.time course in

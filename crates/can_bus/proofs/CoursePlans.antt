@@ -25,14 +25,13 @@ use Rattle.can_bus.proofs.Contests.{Has, at-has, has-at, own-waits}
 use Rattle.can_bus.proofs.CourseTracks.{length-broken, track-behind, track-on}
 use Rattle.can_bus.proofs.Members.{stands-here}
 use Rattle.can_bus.proofs.NextStarts.{AreApart, left-cases, offered-stands, others-without, rest-apart, rest-other, stands-offered}
-use Rattle.can_bus.proofs.OpenBus.{length-busy}
 use Rattle.can_bus.proofs.RepairCounts.{tally-next}
 use Rattle.can_bus.proofs.RepairedLevels.{broken-attempt}
-use Rattle.can_bus.proofs.RepairLogs.{plan_tally}
 use Rattle.can_bus.proofs.RepairPlans.{Apart}
-use Rattle.can_bus.proofs.Repairs.{Plan, broken_levels, broken_off, done, plan_levels, whole}
+use Rattle.can_bus.proofs.Repairs.{Plan, broken_levels, broken_off, done, plan_levels, whole, plan_tally}
 use Rattle.can_bus.proofs.Rounds.{rising-goes}
 use Rattle.can_bus.proofs.WireRuns.{undisturbed}
+use Rattle.can_bus.proofs.Tracks.{length-busy}
 
 -- its attempts, from this time on
 abbrev pub plan_attempts : {all : List Parts} {hits : List Hit} {h : ℕ} {frames : List Parts} {number : ℕ} → Plan all hits h frames number → ℕ → List Transmission

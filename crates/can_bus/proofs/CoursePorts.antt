@@ -15,9 +15,8 @@ use Rattle.can_node.proofs.FrameLeaves.{Sends, Receives, sent_port, received_por
 use Rattle.can_bus.specs.Quiet.{holds}
 use Rattle.can_bus.specs.Schedule.{Timed, Lists, frames_of, offered_by, without_offer}
 use Rattle.can_bus.proofs.Ascending.{Other}
-use Rattle.can_bus.proofs.OfferTimes.{AreInOrder}
+use Rattle.can_bus.proofs.OfferTimes.{AreInOrder, frames-offered, queue-later}
 use Rattle.can_bus.proofs.OwnOffers.{without-absent, without-frames}
-use Rattle.can_bus.proofs.OpenPorts.{frames-offered, queue-later}
 use Rattle.can_bus.proofs.Rounds.{IsWithin, IsCalm, calm-sent, calm-received}
 use Rattle.can_bus.proofs.QuietLine.{IsAtRest, rest-step}
 use Rattle.can_bus.proofs.QuietLogs.{TakesPart}

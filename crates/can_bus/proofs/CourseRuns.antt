@@ -28,13 +28,10 @@ use Rattle.can_bus.proofs.AttemptTallies.{Survives}
 use Rattle.can_bus.proofs.BreaksWithOffers.{gaining-broken-gives}
 use Rattle.can_bus.proofs.BrokenOnBus.{seen-undisturbed}
 use Rattle.can_bus.proofs.Contests.{AllPorts}
-use Rattle.can_bus.proofs.FrameOnBus.{gaining_sees, ports_of, frame-gives}
-use Rattle.can_bus.proofs.GainingRuns.{all_after-gaining}
+use Rattle.can_bus.proofs.FrameOnBus.{gaining_sees, ports_of, frame-gives, all_after-gaining}
 use Rattle.can_bus.proofs.HitRuns.{falls, latest_after, latest_now}
 use Rattle.can_bus.proofs.HitWires.{HitWire, hit_seen, hit_step, hit_run, hit_runs-joined, hit_step-known, hit_seen-known, hits-part, hits-all, hits-levels}
 use Rattle.can_bus.proofs.Members.{stands-none}
-use Rattle.can_bus.proofs.OpenBus.{length-busy}
-use Rattle.can_bus.proofs.QuietBus.{part-meets}
 use Rattle.can_bus.proofs.QuietLine.{IsAtRest, rest-wired}
 use Rattle.can_bus.proofs.Reduction.{Gives, maps-alike}
 use Rattle.can_bus.proofs.RepairedBus.{seen-first, seen-size}
@@ -48,6 +45,8 @@ use Rattle.can_bus.proofs.CourseLogs.{Becomes, becomes-now, becomes-rested, beco
 use Rattle.can_bus.proofs.CoursePorts.{CoursePort, IsCoursePort, HasPart, behind_frame, behind_hit, rested, rested-turned, takes-part}
 use Rattle.can_bus.proofs.CourseRounds.{CourseRound, NoneWaits, SendsOne, machines_of, ports_now, all-calm, next-frame, next-left, one-parts, one-sends, round-behind, round-broken, round-rested, round-rests, round-sends}
 use Rattle.can_bus.proofs.CourseTracks.{course-free, length-broken, track-behind, track-on, track-rests}
+use Rattle.can_bus.proofs.QuietLogs.{part-meets}
+use Rattle.can_bus.proofs.Tracks.{length-busy}
 
 -- at each of the ports, before and after
 abbrev pub Each : (CoursePort → PortState → Type 0) → List CoursePort → List PortState → Type 0

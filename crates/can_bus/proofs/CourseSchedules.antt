@@ -12,9 +12,8 @@ use Rattle.can_bus.specs.Schedule.{Timed, IsSchedule, over as none, next, busy_t
 use Rattle.can_bus.proofs.CourseTracks.{track-before, track-behind, track-on}
 use Rattle.can_bus.proofs.Members.{stands-here, stands-later}
 use Rattle.can_bus.proofs.NextStarts.{AreApart, next-waits, rest-apart, rest-without}
-use Rattle.can_bus.proofs.OpenBus.{length-busy, track-frame}
 use Rattle.can_bus.proofs.Schedules.{starts-free}
-use Rattle.can_bus.proofs.Tracks.{track-before as before_start, track-behind as behind_start}
+use Rattle.can_bus.proofs.Tracks.{track-before as before_start, track-behind as behind_start, length-busy, track-frame}
 
 -- its starts are attempts
 pub schedule-course : {free : ℕ} {left starts : List Timed} (number : ℕ) → IsSchedule free left starts → AreApart left → IsCourse [] number free left (unhit starts)
@@ -47,7 +46,7 @@ unhit-track (next free left rest start starts is others more) t =
         | inl within ↦
             let k : ℕ = t - start.time in
             track-on s (unhit starts) t begun within
-            ∙ sym (track-frame 0 start starts (starts-free more) k (omega (arith, begun, within)))
+            ∙ sym (track-frame start starts (starts-free more) k (omega (arith, begun, within)))
             ∙ ap (track_at (start ∷ starts)) (let e : start.time + k ≡ t = omega (arith, begun) in e)
         | inr past ↦
             track-behind s (unhit starts) t past ∙ behind

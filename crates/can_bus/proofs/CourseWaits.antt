@@ -75,10 +75,10 @@ module _ (f : Parts) (time : ℕ) (g : Parts) (course : List Transmission) where
   abbrev one_sent : Transmission
   one_sent = record { time = time; frame = g; hit = None }
 
-  sends-more : same_field f g ≡ true → sends_of f (one_sent ∷ course) ≡ one_sent ∷ sends_of f course
+  pub sends-more : same_field f g ≡ true → sends_of f (one_sent ∷ course) ≡ one_sent ∷ sends_of f course
   sends-more same = cond-true (same_field f g && true) (one_sent ∷ sends_of f course) (sends_of f course) (ap (λ b. b && true) same)
 
-  sends-other : same_field f g ≡ false → sends_of f (one_sent ∷ course) ≡ sends_of f course
+  pub sends-other : same_field f g ≡ false → sends_of f (one_sent ∷ course) ≡ sends_of f course
   sends-other other = cond-false (same_field f g && true) (one_sent ∷ sends_of f course) (sends_of f course) (ap (λ b. b && true) other)
 
   sends-hit : (offset : ℕ) → sends_of f (record { time = time; frame = g; hit = Some offset } ∷ course) ≡ sends_of f course

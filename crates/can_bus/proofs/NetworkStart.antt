@@ -22,8 +22,7 @@ use Rattle.can_bus.specs.Schedule.{Timed, Lists, frames_of, offered_by}
 use Rattle.can_bus.proofs.Contests.{AllPorts, has-at}
 use Rattle.can_bus.proofs.Members.{stands-map}
 use Rattle.can_bus.proofs.OfferLemmas.{offers-rise}
-use Rattle.can_bus.proofs.OfferTimes.{AreInOrder, offered-arrived, offered_by-append, offered_by-first}
-use Rattle.can_bus.proofs.OpenPorts.{frames-offered}
+use Rattle.can_bus.proofs.OfferTimes.{AreInOrder, offered-arrived, offered_by-append, offered_by-first, frames-offered}
 use Rattle.can_bus.proofs.OpenStart.{EachFrom, OfFrames, each-from, frames-first, frames-to, order-of, rooms}
 use Rattle.can_bus.proofs.PlayedRuns.{AreRoomy, all-taken, all_arrived, arriving, open_ports}
 use Rattle.can_bus.proofs.PortOffers.{port_offers}

@@ -1,14 +1,15 @@
 -- The frames that are offered to a port, in order of time: which are offered by a time, and which at it.
 use Rattle.std.specs.Prelude.{filter}
-use Rattle.std.proofs.Common.{◌≡◌, ◌≢◌, ℕ, zero, suc, ◌<◌, ◌≤◌, List, [], ◌∷◌, ◌++◌, length, refl, sym, ap, ◌∙◌, arith, inl, inr, append_assoc}
+use Rattle.std.proofs.Common.{◌≡◌, ◌≢◌, ℕ, zero, suc, ◌<◌, ◌≤◌, List, [], ◌∷◌, ◌++◌, length, refl, sym, ap, ◌∙◌, arith, inl, inr, append_assoc, ◌+◌, subst}
 use Rattle.std.proofs.Math.Dec.{eqb, leb}
 use Rattle.std.proofs.lemmas.Bool.{cond-true, cond-false, cases_eq, cases_lt, le-leb, lt-leb, eq-eqb, ne_eqb}
 use Rattle.std.proofs.lemmas.List.{append-nil}
 use Rattle.can_frame.specs.Parts.{Parts}
-use Rattle.can_node.proofs.Arrivals.{arrived}
+use Rattle.can_node.proofs.Arrivals.{arrived, later_by, later_by-at}
 use Rattle.can_bus.specs.Schedule.{Timed, Lists, frames_of, offered_by}
 use Rattle.can_bus.specs.OpenBus.{offered_first}
 use Rattle.can_bus.proofs.Members.{stands-here, stands-later}
+use Rattle.can_node.proofs.FramesWaiting.{AreFrames}
 
 -- those that are offered at this time
 abbrev pub offered_at : List Timed → ℕ → List Parts
@@ -96,3 +97,25 @@ offered-arrived own order (suc t) =
     sym (append_assoc (offered_at own 0) (arrived (offered_at own) t) (offered_at own (suc t)))
     ∙ ap (λ fs. fs ++ offered_at own (suc t)) (offered-arrived own order t)
     ∙ at-next own order t
+
+pub frames-offered : (t : ℕ) (own : List Timed) → AreFrames (frames_of own) → AreFrames (offered_by t own)
+frames-offered t [] are = tt
+frames-offered t (x ∷ own) are = elim (cases_lt t x.time) [
+  | inl late ↦ subst AreFrames (sym (by-late x own t late)) (frames-offered t own are.1)
+  | inr early ↦ subst AreFrames (sym (by-early x own t early)) (are.0, frames-offered t own are.1)
+]
+
+arrived-more : (n m : ℕ) (arrives : ℕ → List Parts) → arrived arrives (n + m) ≡ arrived arrives n ++ arrived (later_by n arrives) m
+arrived-more n zero arrives = ap (arrived arrives) (let e : n + 0 ≡ n = omega arith in e) ∙ sym (append-nil (arrived arrives n))
+arrived-more n (suc m) arrives =
+    ap (arrived arrives) (let e : n + suc m ≡ suc (n + m) = omega arith in e)
+    ∙ ap (λ a. a ++ arrives (suc (n + m))) (arrived-more n m arrives)
+    ∙ append_assoc (arrived arrives n) (arrived (later_by n arrives) m) (arrives (suc (n + m)))
+    ∙ ap (λ b. arrived arrives n ++ (arrived (later_by n arrives) m ++ b)) (ap arrives (let e : suc (n + m) ≡ n + suc m = omega arith in e) ∙ sym (later_by-at n (suc m) arrives))
+
+-- n bit times later, in which what has arrived waits behind this queue
+pub queue-later : (now n : ℕ) (arrives : ℕ → List Parts) (queue : List Parts) (own : List Timed) → ((m : ℕ) → queue ++ arrived arrives m ≡ offered_by (now + m) own) →
+    (m : ℕ) → (queue ++ arrived arrives n) ++ arrived (later_by n arrives) m ≡ offered_by ((now + n) + m) own
+queue-later now n arrives queue own is m =
+    append_assoc queue (arrived arrives n) (arrived (later_by n arrives) m) ∙ ap (λ fs. queue ++ fs) (sym (arrived-more n m arrives)) ∙ is (n + m)
+    ∙ ap (λ t. offered_by t own) (let e : now + (n + m) ≡ (now + n) + m = omega arith in e)

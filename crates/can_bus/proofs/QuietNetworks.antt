@@ -8,10 +8,9 @@ use Rattle.can_bus.specs.Repair.{IsRepairedCall}
 use Rattle.can_bus.specs.Run.{BusState, bus_level, bus_run}
 use Rattle.can_bus.proofs.Contests.{AllPorts}
 use Rattle.can_bus.proofs.OpenNetworks.{at_rest, plain-level, plain-ports}
-use Rattle.can_bus.proofs.PlayLemmas.{played-quiet, played_level-quiet}
 use Rattle.can_bus.proofs.RepairedCalls.{quiet-span, repaired-call}
 use Rattle.can_bus.proofs.RepairedLevels.{unhit-line}
-use Rattle.can_bus.proofs.CallLemmas.{call_bus-run, call_level-run}
+use Rattle.can_bus.proofs.CallLemmas.{call_bus-run, call_level-run, played-quiet, played_level-quiet}
 use Rattle.can_bus.proofs.RepairedNetworks.{repaired-line, repaired-logs, repaired-missed, repaired-unmoved, repaired-whole}
 
 -- ---- the bus has rested

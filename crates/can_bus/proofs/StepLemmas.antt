@@ -1,7 +1,7 @@
 -- One bit time of a call.
 use Rattle.std.specs.Prelude.{if◌then◌else◌}
 use Rattle.std.specs.List.{list_any}
-use Rattle.std.proofs.Common.{◌≡◌, ℕ, ◌+◌, ◌<◌, Bool, true, false, List, [], ◌∷◌, ◌≤◌, Option, Some, None, length, map, refl, ap, sym, ◌∙◌, arith, add-one}
+use Rattle.std.proofs.Common.{◌≡◌, ℕ, ◌+◌, ◌<◌, Bool, true, false, List, [], ◌∷◌, ◌≤◌, Option, Some, None, length, map, refl, ap, sym, ◌∙◌, arith}
 use Rattle.std.proofs.lemmas.Bool.{lt-ltb}
 use Rattle.std.proofs.lemmas.Bool.Decides.{nat_tests}
 use Rattle.can_frame.specs.declared.level.Level.{Level}
@@ -11,7 +11,7 @@ use Rattle.can_bus.specs.declared.hit.Hit.TheVariants.{At, In, View}
 use Rattle.can_bus.specs.declared.moment.Attempt.{Attempt}
 use Rattle.can_bus.specs.Hits.{is_pair_above}
 use Rattle.can_bus.specs.Wired.{wired}
-use Rattle.can_bus.specs.Run.{BusState, CallState, call_begun, begins_attempt, following, aged, hits_view, hits_wire, inverted_if, all_sampled, rest_after, recorded, bus_step, bus_after}
+use Rattle.can_bus.specs.Run.{CallState, begins_attempt, following, aged, hits_view, hits_wire, inverted_if, all_sampled, rest_after, recorded, bus_step}
 use Rattle.can_bus.specs.Walks.{AreBelow, IsPassed, IsCall, first_call, in_now, in_next}
 use Rattle.can_bus.proofs.CursorLemmas.{below_none, below_above, reach_none, view_found}
 
@@ -75,11 +75,6 @@ step_is hits ports next rest time latest now w x a b d e =
           ∙ ap (λ v. record { bus = record { ports = all_sampled hits time v 0 ports; rest = rest_after rest v }; time = time + 1; latest = now }) r
           ∙ ap (λ m. record { bus = record { ports = all_sampled hits time (recorded hits c) 0 ports; rest = rest_after rest (recorded hits c) }; time = time + 1; latest = m }) n,
     )
-
--- a call, a bit time further
-pub call_more : (hits : List Hit) (i : ℕ) (bus : BusState) (c next : CallState) → c ≡ bus_after hits i (call_begun bus) → next ≡ bus_step hits c → next ≡ bus_after hits (i + 1) (call_begun bus)
-unfolding bus_after
-call_more hits i bus c next e f = rw add-one (f ∙ ap (bus_step hits) e)
 
 -- a call begins
 pub first_ready : (hits : List Hit) → IsCall hits first_call

@@ -1,13 +1,17 @@
 -- The track of a schedule: each wire from its start on, and recessive levels elsewhere.
-use Rattle.std.proofs.Common.{◌≡◌, ℕ, ◌+◌, ◌-◌, ◌<◌, ◌≤◌, Bool, List, [], ◌∷◌, length, refl, ◌∙◌, ap, subst, inl, inr, arith}
+use Rattle.std.proofs.Common.{◌≡◌, ℕ, ◌+◌, ◌-◌, ◌<◌, ◌≤◌, Bool, List, [], ◌∷◌, length, refl, ◌∙◌, ap, subst, inl, inr, arith, sym}
 use Rattle.std.specs.Prelude.{slice_index_or, nat_lt, nat_le, ◌&&◌}
-use Rattle.std.proofs.lemmas.Bool.{cond-true, cond-false, cases_Bool, le-leb, leb-true, leb-false, lt-leb, lt-ltb, le-ltb}
+use Rattle.std.proofs.lemmas.Bool.{cond-true, cond-false, cases_Bool, le-leb, leb-true, leb-false, lt-leb, lt-ltb, le-ltb, cases_lt}
 use Rattle.can_frame.specs.declared.level.Level.{Level}
 use Rattle.can_frame.specs.declared.level.Level.TheVariants.{Recessive}
 use Rattle.can_wire.specs.Wire.{wire}
-use Rattle.can_bus.specs.Schedule.{Timed, Lists, IsSchedule, over, next, track_at}
+use Rattle.can_bus.specs.Schedule.{Timed, Lists, IsSchedule, over, next, track_at, busy_time}
 use Rattle.can_bus.proofs.Members.{stands-none, stands-here, stands-later, stands-cases}
 use Rattle.can_bus.proofs.Schedules.{starts-free}
+use Rattle.std.proofs.lemmas.List.{get_or_past, length-append}
+use Rattle.can_frame.specs.Parts.{Parts}
+use Rattle.can_mac.specs.Frames.{with_intermission}
+use Rattle.can_bus.proofs.QuietLine.{filled}
 
 -- ---- one start in front
 
@@ -63,3 +67,27 @@ track-wires (next free left rest start starts is others more) s there k less =
     first within =
         track-on start starts (start.time + k) (omega arith) (omega arith)
         ∙ ap (λ n. slice_index_or (wire start.frame) n Recessive) (let e : start.time + k - start.time ≡ k = omega arith in e)
+
+-- ---- the track over a frame and its intermission
+
+pub length-busy : (f : Parts) → length (with_intermission f) ≡ busy_time f
+length-busy f = length-append (wire f) (Recessive ∷ Recessive ∷ Recessive ∷ [])
+
+module _ (start : Timed) (starts : List Timed) where
+  abbrev frame : Parts
+  frame = start.frame
+
+  pub track-frame : ((s : Timed) → Lists starts s → start.time + busy_time frame ≤ s.time) → (k : ℕ) → k < length (with_intermission frame) →
+      track_at (start ∷ starts) (start.time + k) ≡ slice_index_or (with_intermission frame) k Recessive
+  track-frame late k within =
+      let size = length-busy frame in
+      elim (cases_lt k (length (wire frame))) [
+        | inl inside ↦
+            track-on start starts (start.time + k) (omega arith) (omega (arith, inside))
+            ∙ ap (λ o. slice_index_or (wire frame) o Recessive) (let e : (start.time + k) - start.time ≡ k = omega arith in e)
+            ∙ sym (filled (wire frame) 3 k)
+        | inr past ↦
+            track-behind start starts (start.time + k) (omega (arith, past))
+            ∙ track-rests starts (start.time + k) (λ s there begun. omega (arith, begun, late s there, size, within))
+            ∙ sym (filled (wire frame) 3 k ∙ get_or_past (wire frame) k Recessive past)
+      ]

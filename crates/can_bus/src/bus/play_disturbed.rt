@@ -19,7 +19,6 @@ use crate::check::check;
 use crate::fault::BusFault;
 use crate::hit::Hit;
 use crate::offer::Offer;
-use crate::wire::wired_level;
 use can_frame::Level;
 use can_node::Port;
 
@@ -90,6 +89,7 @@ impl<P: Port> Bus<P> {
     /// log names the frames of the attempts that aren't hit, in their order, as sent at the port that had the frame and
     /// as received at each other port; each whose wire has ended is there. Behind the last attempt all are, and the
     /// counters are those of the tally. No offer is given back, all ports stay error active, and no entry is missed.
+    #[inline(always)]
     pub fn play_disturbed(
         &mut self,
         offers: &[Offer],
@@ -133,10 +133,10 @@ impl<P: Port> Bus<P> {
         let mut place = 0;
         while place < rec.len() {
             self.make_all(offers, call.time, &mut progress);
-            let mut driven = wired_level(self.ports.as_slice());
             let count = self.until_offer(offers, &progress, call.time, rec.len() - place);
             let end = place + count;
-            place += self.go_on(hits, &mut call, &mut driven, &mut rec[place..end]);
+            self.go_through(hits, &mut call, &mut rec[place..end]);
+            place = end;
         }
         Ok(progress.refused)
     }

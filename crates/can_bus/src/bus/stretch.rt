@@ -10,6 +10,7 @@ ghost use Rattle.can_bus.specs.Wired.{wired as wired_of};
 use crate::bus::Bus;
 use crate::call::Call;
 use crate::hit::Hit;
+use crate::wire::wired_level;
 use can_frame::{IDLE_ROW, Level};
 use can_node::Port;
 
@@ -18,10 +19,28 @@ use can_node::Port;
 const STRETCH: usize = 32;
 
 impl<P: Port> Bus<P> {
+    /// Runs as many bit times as `rec` is long, by stretches, and records a level in each.
+    #[inline(always)]
+    pub(super) fn go_through(&mut self, hits: &[Hit], call: &mut Call, rec: &mut [Level])
+        requires rising { AreRising hits.now }
+        requires call { IsCall hits.now call.old }
+        requires time { call.old.time + length rec.old < 2 ^ 64 }
+        ensures levels { (t : ℕ) (d : Level) → t < length rec.old → slice_index_or rec.new t d ≡ recorded hits.now (bus_after hits.now t (call_on (state_of P.port self.old) call.old)) }
+        ensures after { call_on (state_of P.port self.new) call.new ≡ bus_after hits.now (length rec.old) (call_on (state_of P.port self.old) call.old) }
+        ensures call { IsCall hits.now call.new }
+        ensures time { call.new.time ≡ call.old.time + length rec.old }
+    {
+        let mut driven = wired_level(self.ports.as_slice());
+        let mut place = 0;
+        while place < rec.len() {
+            place += self.go_on(hits, call, &mut driven, &mut rec[place..]);
+        }
+    }
+
     /// Runs some bit times, one or more and at most as many as `rec` is long, and records a level in each. The answer
     /// is how many they are. A bus at rest takes no time a port.
     #[inline(always)]
-    pub(super) fn go_on(
+    fn go_on(
         &mut self,
         hits: &[Hit],
         call: &mut Call,
