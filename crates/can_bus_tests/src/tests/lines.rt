@@ -1,14 +1,10 @@
-//! Buses made from texts of frames, and texts of what their wires and ports come to.
+//! Texts of levels, of frames' levels by their names, and of what ports come to.
 
-use can_bus::{Bus, Hit};
 use can_fault::State;
-use can_frame::{Frame, Level};
-use can_node::{EitherNode, Entry, PackedNode, PlainNode, Port};
+use can_frame::Level;
+use can_node::{EitherNode, Entry, Port};
 use std::alloc::{AllocError, Global};
 use std::test::Fail;
-
-/// Three recessive levels between a frame and what comes next.
-pub const INTERMISSION: &str = "111";
 
 /// Levels that have a name in texts. The frames are acknowledged, as spelled by an encoder that is none of this
 /// repository's.
@@ -46,7 +42,7 @@ SUSPENSION 11111111
 ";
 
 /// The levels of a name; a text that is none stands for itself.
-pub fn levels_of(name: &str) -> &str {
+fn levels_of(name: &str) -> &str {
     for line in NAMES.lines() {
         if let Some((named, levels)) = line.split_once(' ')
             && named == name
@@ -55,18 +51,6 @@ pub fn levels_of(name: &str) -> &str {
         }
     }
     name
-}
-
-/// More entries than any of these logs gets.
-const LOG_ROOM: usize = 70;
-
-/// These levels as a text of `0`, dominant, and `1`, recessive.
-pub fn text_of(alloc: Global, levels: &[Level]) -> Result<String, AllocError> {
-    let mut text = String::new(alloc);
-    for level in levels {
-        text.push(if level.is_recessive() { '1' } else { '0' })?;
-    }
-    Ok(text)
 }
 
 /// Levels and names of levels with a space between them, each as often as `*` says.
@@ -81,145 +65,39 @@ pub fn line(alloc: Global, pieces: &str) -> Result<String, Fail> {
     Ok(text)
 }
 
-/// A number, or the numbers from one up to before another.
-pub fn span(text: &str) -> Result<(u64, u64), Fail> {
-    if let Some((from, to)) = text.split_once("..") {
-        return Ok((from.parse::<u64>()?, to.parse::<u64>()?));
-    }
-    let number = text.parse::<u64>()?;
-    Ok((number, number.saturating_add(1)))
+/// The digit of a level: `0` is dominant, and `1` is recessive.
+fn digit(level: Level) -> char {
+    if level.is_recessive() { '1' } else { '0' }
 }
 
-pub fn frame(text: &str) -> Result<Frame, Fail> {
-    Ok(Frame::from_text(text.as_bytes())?)
-}
-
-/// Of what kinds the ports of a bus are.
-#[derive(Clone, Copy, Debug, PartialEq, Eq)]
-pub enum Kinds {
-    Plain,
-    Packed,
-    /// Plain and packed ones in turn.
-    InTurn,
-}
-
-/// Each row holds of each of them.
-pub const KINDS: [Kinds; 3] = [Kinds::Plain, Kinds::Packed, Kinds::InTurn];
-
-impl Kinds {
-    /// Whether the port of this number holds the unstuffed levels in a register.
-    fn is_packed(self, node: usize) -> bool {
-        match self {
-            Kinds::Plain => false,
-            Kinds::Packed => true,
-            Kinds::InTurn => node % 2 == 1,
-        }
+pub fn text_of(alloc: Global, levels: &[Level]) -> Result<String, AllocError> {
+    let mut text = String::new(alloc);
+    for level in levels {
+        text.push(digit(*level))?;
     }
-
-    /// The port of this number, idle, with room for so many frames that wait.
-    pub fn idle(self, alloc: Global, node: usize, room: usize) -> Result<EitherNode, AllocError> {
-        Ok(if self.is_packed(node) {
-            EitherNode::Packed(PackedNode::new(alloc, room, LOG_ROOM)?)
-        } else {
-            EitherNode::Plain(PlainNode::new(alloc, room, LOG_ROOM)?)
-        })
-    }
-
-    /// The same of a port that joins.
-    pub fn joining(
-        self,
-        alloc: Global,
-        node: usize,
-        room: usize,
-    ) -> Result<EitherNode, AllocError> {
-        Ok(if self.is_packed(node) {
-            EitherNode::Packed(PackedNode::joining(alloc, room, LOG_ROOM)?)
-        } else {
-            EitherNode::Plain(PlainNode::joining(alloc, room, LOG_ROOM)?)
-        })
-    }
-}
-
-/// Queues a frame at the port of this number.
-pub fn offer<P: Port>(bus: &mut Bus<P>, node: usize, text: &str) -> Result<(), Fail> {
-    let port = bus.port_mut(node).ok_or("no such port")?;
-    match port.offer(frame(text)?) {
-        Ok(()) => Ok(()),
-        Err(_) => Err("a full queue".into()),
-    }
-}
-
-pub fn bus_of<P: Port + Drop>(ports: Vec<P>) -> Result<Bus<P>, Fail> {
-    match Bus::new(ports) {
-        Ok(bus) => Ok(bus),
-        Err((fault, _)) => Err(fault.into()),
-    }
-}
-
-/// So many idle ports, each with room for so many frames that wait.
-pub fn idle_ports(
-    alloc: Global,
-    kinds: Kinds,
-    count: usize,
-    room: usize,
-) -> Result<Vec<EitherNode>, AllocError> {
-    let mut ports = Vec::new(alloc);
-    for node in 0..count {
-        ports.push(kinds.idle(alloc, node, room)?)?;
-    }
-    Ok(ports)
-}
-
-/// Runs the bus for so many bit times, and gives the levels that were recorded.
-pub fn recorded<P: Port>(
-    alloc: Global,
-    bus: &mut Bus<P>,
-    hits: &[Hit],
-    times: usize,
-) -> Result<String, Fail> {
-    let mut rec = [Level::Dominant].repeat(alloc, times)?;
-    bus.run(hits, &mut rec)?;
-    Ok(text_of(alloc, &rec)?)
-}
-
-/// Runs the bus for so many bit times without hits, and gives the levels that one port drove.
-pub fn driven<P: Port>(
-    alloc: Global,
-    bus: &mut Bus<P>,
-    node: usize,
-    times: usize,
-) -> Result<String, Fail> {
-    let mut levels = Vec::new(alloc);
-    for _ in 0..times {
-        let port = bus.ports().get(node).ok_or("no such port")?;
-        levels.push(port.drive())?;
-        bus.run(&[], &mut [Level::Dominant])?;
-    }
-    Ok(text_of(alloc, &levels)?)
+    Ok(text)
 }
 
 /// What each port drives now, as a text of as many levels as there are ports.
-pub fn drives<P: Port>(alloc: Global, ports: &[P]) -> Result<String, Fail> {
-    let mut levels = Vec::new(alloc);
+pub fn drives(alloc: Global, ports: &[EitherNode]) -> Result<String, AllocError> {
+    let mut text = String::new(alloc);
     for port in ports {
-        levels.push(port.drive())?;
+        text.push(digit(port.drive()))?;
     }
-    Ok(text_of(alloc, &levels)?)
+    Ok(text)
 }
 
 /// Of each port its state, its counters (TEC, then REC), and the entries of its log.
-pub fn standing<P: Port>(alloc: Global, bus: &Bus<P>) -> Result<String, Fail> {
+pub fn standing(alloc: Global, ports: &[EitherNode]) -> Result<String, AllocError> {
     let mut text = String::new(alloc);
-    for port in bus.ports() {
-        if !text.is_empty() {
-            text.push_str(" | ")?;
-        }
+    for port in ports {
+        text.push_str(if text.is_empty() { "" } else { " | " })?;
         push_standing(&mut text, port)?;
     }
     Ok(text)
 }
 
-fn push_standing<P: Port>(text: &mut String, port: &P) -> Result<(), Fail> {
+pub fn push_standing(text: &mut String, port: &EitherNode) -> Result<(), AllocError> {
     let state = match port.state() {
         State::Active => "active",
         State::Passive => "passive",
@@ -233,11 +111,7 @@ fn push_standing<P: Port>(text: &mut String, port: &P) -> Result<(), Fail> {
     Ok(())
 }
 
-fn push_entry(text: &mut String, entry: &Entry) -> Result<(), Fail> {
-    let what = if entry.sent { "sent" } else { "took" };
-    text.push_str(", ")?;
-    text.push_str(what)?;
-    text.push(' ')?;
-    text.push_str(entry.frame.to_text().as_str())?;
-    Ok(())
+fn push_entry(text: &mut String, entry: &Entry) -> Result<(), AllocError> {
+    text.push_str(if entry.sent { ", sent " } else { ", took " })?;
+    text.push_str(entry.frame.to_text().as_str())
 }

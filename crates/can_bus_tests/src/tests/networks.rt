@@ -1,25 +1,14 @@
 //! Networks: ports to which frames are offered while others are sent and disturbed.
-//!
-//! A network is told as a course is, with hits beside its offers. Calls that follow one another have `then` between them,
-//! and each but the last says `for` how many bit times it goes on. The claims are of the last: the levels that it
-//! `records`, and what each port stands at `after` so many bit times.
 
-use super::course::{hits, offers, ports};
-use super::lines::{KINDS, Kinds, bus_of, line, standing, text_of};
-use can_bus::Bus;
-use can_frame::Level;
-use can_node::EitherNode;
-use std::alloc::Global;
-use std::process::Abort;
-use std::test::Fail;
-
-const NETWORKS: &str = "
-# one identifier three times in a row at its owner, the second time with data: in the order of the offers
+/// Offers beside hits, and calls that follow one another.
+pub const NETWORKS: &str = "
+# one identifier three times in a row at its owner, the second time with data: in the order of the offers, undisturbed
 port
 port
 at 0 offer 0 S 001 D 0
 at 0 offer 0 S 001 D 1 55
 at 30 offer 0 S 001 D 0
+hit in 0..0 0
 records WIRE_001 INTERMISSION 00000100000101000001010101010101111101001010001011111111 INTERMISSION WIRE_001 INTERMISSION
 after 105 => active 0 0, sent S 001 D 0 | active 0 0, took S 001 D 0, took S 001 D 1 55
 after 106 => active 0 0, sent S 001 D 0, sent S 001 D 1 55 | active 0 0, took S 001 D 0, took S 001 D 1 55
@@ -128,81 +117,3 @@ records BROKEN_AT_16*16 SUSPENSION WIRE_000 INTERMISSION WIRE_000 INTERMISSION
 after 648 => passive 128 0 | active 0 16
 after 754 => active 126 0, sent S 000 D 0, sent S 000 D 0 | active 0 14, took S 000 D 0, took S 000 D 0
 ";
-
-#[test]
-fn networks_follow_their_courses(rt: HostRuntime) -> Result<(), Fail> {
-    for network in NETWORKS.split("\n\n") {
-        for kinds in KINDS {
-            holds(&rt, rt.alloc(), kinds, network)?;
-        }
-    }
-    Ok(())
-}
-
-fn holds(rt: &impl Abort, alloc: Global, kinds: Kinds, network: &str) -> Result<(), Fail> {
-    for claim in network.lines() {
-        if let Some(levels) = claim.strip_prefix("records ") {
-            let want = line(alloc, levels)?;
-            let (found, _) = comes_to(alloc, kinds, network, want.len())?;
-            assert_eq!(rt;
-                found.as_str(),
-                want.as_str(),
-                "{network} by {kinds:?} ports"
-            );
-        } else if let Some(claim) = claim.strip_prefix("after ") {
-            let (times, want) = claim.split_once(" => ").ok_or("no claim")?;
-            let (_, found) = comes_to(alloc, kinds, network, times.parse::<usize>()?)?;
-            assert_eq!(rt;
-                found.as_str(),
-                want,
-                "{times} in {network} by {kinds:?} ports"
-            );
-        }
-    }
-    Ok(())
-}
-
-/// What the last call of a network records in so many bit times, and how its ports stand then.
-fn comes_to(
-    alloc: Global,
-    kinds: Kinds,
-    network: &str,
-    times: usize,
-) -> Result<(String, String), Fail> {
-    let mut bus = bus_of(ports(alloc, kinds, network)?)?;
-    let mut last = network;
-    for call in network.split("\nthen\n") {
-        last = call;
-        if let Some(times) = length(call)? {
-            plays(alloc, &mut bus, call, times)?;
-        }
-    }
-    let levels = plays(alloc, &mut bus, last, times)?;
-    Ok((levels, standing(alloc, &bus)?))
-}
-
-/// How many bit times a call says that it goes on for.
-fn length(call: &str) -> Result<Option<usize>, Fail> {
-    for line in call.lines() {
-        if let Some(times) = line.strip_prefix("for ") {
-            return Ok(Some(times.parse::<usize>()?));
-        }
-    }
-    Ok(None)
-}
-
-/// Plays the offers and hits of a call, and gives the levels. No queue is full.
-fn plays(
-    alloc: Global,
-    bus: &mut Bus<EitherNode>,
-    call: &str,
-    times: usize,
-) -> Result<String, Fail> {
-    let mut rec = [Level::Dominant].repeat(alloc, times)?;
-    let offers = offers(alloc, call)?;
-    let hits = hits(alloc, call)?;
-    match bus.play_disturbed(&offers, &hits, &mut rec)? {
-        0 => Ok(text_of(alloc, &rec)?),
-        _ => Err("a full queue".into()),
-    }
-}

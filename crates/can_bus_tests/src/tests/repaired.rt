@@ -1,10 +1,7 @@
 //! Frames that are disturbed on the wire, at one place of an attempt, and sent again.
 
-use super::course::hold;
-use std::test::Fail;
-
 /// One hit or two, each in the window of its frame.
-const FEW_HITS: &str = "
+pub const FEW_HITS: &str = "
 # a reserved bit
 # Level 16 is the reserved bit. The receiver takes it, and then five levels of the sender's flag;
 # the sixth stands where a stuff bit should.
@@ -89,10 +86,10 @@ after 85 => active 16 0 | active 0 1
 after 155 => active 15 0, sent S 000 D 0 | active 0 0, took S 000 D 0
 ";
 
-/// A hit in each attempt, which begin at 0, 40, and so on. Behind the sixteenth, at 616, the sender is
-/// error passive. Its flag was decided before that and is active, but then it is in suspension from 640
-/// to 647. It sends its frame from 648 on, which makes it error active again.
-const MANY_HITS: &str = "
+/// A hit in each attempt, which begin at 0, 40, and so on. Behind the sixteenth, at 616, the sender is error passive.
+/// Its flag was decided before that and is active, but then it is in suspension from 640 to 647. It sends its frame
+/// from 648 on, which makes it error active again.
+pub const MANY_HITS: &str = "
 # fifteen attempts
 port: S 000 D 0
 port
@@ -122,7 +119,7 @@ after 617, port 0 => 00000011111111111111111111111110
 ";
 
 /// While both ports send: they err at different levels, and both count as senders, or not at all.
-const HITS_IN_ARBITRATION: &str = "
+pub const HITS_IN_ARBITRATION: &str = "
 # a level of the field
 # The second port drives dominant and has a bit error. The first drives recessive and goes on; at
 # 19 its stuff bit is overridden by the other's flag, behind its own RTR bit.
@@ -150,11 +147,3 @@ after 126 => active 0 0, took S 000 D 0, sent S 001 D 0 | active 0 0, sent S 000
 after 6, port 0 => 0000001
 after 6, port 1 => 0000001
 ";
-
-#[test]
-fn a_disturbed_frame_is_sent_again(rt: HostRuntime) -> Result<(), Fail> {
-    for courses in [FEW_HITS, MANY_HITS, HITS_IN_ARBITRATION] {
-        hold(&rt, rt.alloc(), courses)?;
-    }
-    Ok(())
-}

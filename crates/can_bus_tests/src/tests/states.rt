@@ -1,12 +1,12 @@
 //! Error passive ports, bus off and the way back, suspension, overload frames, and ports that join.
 
-use super::course::hold;
-use std::test::Fail;
-
-/// What a lone sender records: sixteen attempts of 59 levels while it is error active, from 0 to 885,
-/// and behind its first suspension, from 952 on, attempts of 67 levels.
-const LONE: &str = "
+/// What ports come to that are disturbed, alone, overloaded or new on the bus.
+pub const STATES: &str = "
 # a lone sender
+# What a lone sender records: sixteen attempts of 59 levels while it is error active, from 0 to 885, and behind its
+# first suspension, from 952 on, attempts of 67 levels. Nobody acknowledges: an error of eight in each attempt, with the
+# ACK slot, at 41. With the sixteenth, at 926, the sender is error passive; from then on it counts no missing
+# acknowledgement.
 port: S 000 D 0
 records ACTIVE_ATTEMPT*16 SUSPENSION PASSIVE_ATTEMPT*136
 after 926 => active 120 0
@@ -44,17 +44,10 @@ after 808 => active 104 0
 after 809 => active 112 0
 after 867 => active 112 0
 after 868 => active 120 0
-";
 
-/// Nobody acknowledges: an error of eight in each attempt, with the ACK slot, at 41. With the sixteenth,
-/// at 926, the sender is error passive; from then on it counts no missing acknowledgement.
-#[test]
-fn a_lone_sender_goes_passive_and_suspends(rt: HostRuntime) -> Result<(), Fail> {
-    hold(&rt, rt.alloc(), LONE)
-}
-
-const HIT_IN_A_PASSIVE_FLAG: &str = "
 # a passive flag
+# At 994 and 996 somebody drives dominant into the passive flag, which counts what the missing acknowledgement did not,
+# once. The flag is six equal levels from 997 on; delimiter, intermission and suspension end with 1010, 1013 and 1021.
 port: S 000 D 0
 hit at 994
 hit at 996
@@ -65,37 +58,23 @@ after 996 => passive 136 0
 after 997 => passive 136 0
 after 1022 => passive 136 0
 after 1064 => passive 136 0
-";
 
-/// At 994 and 996 somebody drives dominant into the passive flag, which counts what the missing
-/// acknowledgement did not, once. The flag is six equal levels from 997 on; delimiter, intermission
-/// and suspension end with 1010, 1013 and 1021.
-#[test]
-fn a_dominant_level_in_a_passive_flag_counts_once(rt: HostRuntime) -> Result<(), Fail> {
-    hold(&rt, rt.alloc(), HIT_IN_A_PASSIVE_FLAG)
-}
-
-const HIT_IN_A_SUSPENSION: &str = "
 # a suspension
+# A dominant level at 945, in the suspension from 944 to 951, begins a frame for the port, now a receiver. The sixth
+# recessive level behind it is a stuff error. Passive flag, delimiter and intermission end with 957, 965 and 968, and a
+# receiver doesn't suspend.
 port: S 000 D 0
 hit at 945
 records ACTIVE_ATTEMPT*16 10111111 PASSIVE_FLAG DELIMITER_AND_INTERMISSION UNACKNOWLEDGED
 after 951 => passive 128 0
 after 952 => passive 128 1
 after 969 => passive 128 1
-";
 
-/// A dominant level at 945, in the suspension from 944 to 951, begins a frame for the port, now a
-/// receiver. The sixth recessive level behind it is a stuff error. Passive flag, delimiter and
-/// intermission end with 957, 965 and 968, and a receiver doesn't suspend.
-#[test]
-fn a_frame_begins_in_a_suspension(rt: HostRuntime) -> Result<(), Fail> {
-    hold(&rt, rt.alloc(), HIT_IN_A_SUSPENSION)
-}
-
-/// The hits that take a lone sender off the bus: each level of 143 is inverted.
-const OFF_AND_BACK: &str = "
 # bus off
+# The hits that take a lone sender off the bus: each level of 143 is inverted. The start of frame and sixteen levels of
+# error flags are recessive: seventeen bit errors of eight. The flag that begins at 17 is passive, and is made of
+# dominant levels. Each eighth dominant level behind it counts eight, at 30, 38, and so on, up to 256 at 142. Then 128
+# times eleven recessive levels bring the port back, with 1550, and it sends at once.
 port: S 000 D 0
 hit at 0..143
 records 1*17 0*126 1*1408 UNACKNOWLEDGED
@@ -150,39 +129,22 @@ after 126 => passive 232 0
 after 127 => passive 240 0
 after 134 => passive 240 0
 after 135 => passive 248 0
-";
 
-/// The start of frame and sixteen levels of error flags are recessive: seventeen bit errors of eight.
-/// The flag that begins at 17 is passive, and is made of dominant levels. Each eighth dominant level
-/// behind it counts eight, at 30, 38, and so on, up to 256 at 142. Then 128 times eleven recessive
-/// levels bring the port back, with 1550, and it sends at once.
-#[test]
-fn a_port_goes_off_the_bus_and_comes_back(rt: HostRuntime) -> Result<(), Fail> {
-    hold(&rt, rt.alloc(), OFF_AND_BACK)
-}
-
-/// A sender of two frames, and a receiver that asks for one overload frame. A wish for three is
-/// refused, and leaves the first.
-const OVERLOADED: &str = "
 # an overloaded receiver
+# A sender of two frames, and a receiver that asks for one overload frame. A wish for three is refused, and leaves the
+# first. The overload flag of the receiver begins where the intermission would, at 50, and is answered by the sender's
+# from 51 on.
 port: S 000 D 0, S 001 D 0
 port: hold 1, no hold 3
 records WIRE_000 0000000 DELIMITER_AND_INTERMISSION WIRE_001 INTERMISSION
 after 118 => active 0 0, sent S 000 D 0, sent S 001 D 0 | active 0 0, took S 000 D 0, took S 001 D 0
 after 50, port 0 => 10000001
 after 50, port 1 => 00000011
-";
 
-/// The overload flag of the receiver begins where the intermission would, at 50, and is answered by the
-/// sender's from 51 on.
-#[test]
-fn a_receiver_holds_up_the_next_frame(rt: HostRuntime) -> Result<(), Fail> {
-    hold(&rt, rt.alloc(), OVERLOADED)
-}
-
-/// A sender of two frames, an idle receiver, and a port that joins.
-const JOINED: &str = "
 # a joining port
+# A sender of two frames, an idle receiver, and a port that joins. The eleventh recessive level in a row is the last of
+# the first intermission, at 52. A port that is offered a frame drives its start exactly where it is idle, and no longer
+# joining.
 port: S 000 D 0, S 001 D 0
 port
 joining port
@@ -191,10 +153,3 @@ after 103 => active 0 0, sent S 000 D 0, sent S 001 D 0 | active 0 0, took S 000
 after 52, offer 2 S 7ff D 0, drives => 111
 after 53, offer 2 S 7ff D 0, drives => 010
 ";
-
-/// The eleventh recessive level in a row is the last of the first intermission, at 52. A port that is
-/// offered a frame drives its start exactly where it is idle, and no longer joining.
-#[test]
-fn a_joining_port_misses_the_frame_that_goes_on(rt: HostRuntime) -> Result<(), Fail> {
-    hold(&rt, rt.alloc(), JOINED)
-}
