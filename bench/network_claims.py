@@ -6,7 +6,7 @@ step. Levels are 0 (dominant) and 1 (recessive)."""
 
 from typing import NamedTuple
 
-from repair_claims import DELIMITER_AND_INTERMISSION, DOMINANT, INTERMISSION, RECESSIVE, arbitration_field, lateness, spelled
+from repair_claims import DELIMITER_AND_INTERMISSION, DOMINANT, INTERMISSION, RECESSIVE, arbitration_field, counted, lateness, spelled
 
 
 class Offer(NamedTuple):
@@ -81,17 +81,9 @@ def tallies(attempts, counters):
     tallies = [list(counters)]
     for attempt in attempts:
         slot = len(spelled(attempt.offer.frame).wire) - 9
-        after = []
-        for node, (tec, rec) in enumerate(tallies[-1]):
-            sends = node == attempt.offer.node
-            if attempt.offset is None:
-                tec, rec = (max(tec - 1, 0), rec) if sends else (tec, max(rec - 1, 0))
-            elif sends:
-                tec += 8
-            else:
-                rec = (max(rec - 1, 0) if attempt.offset > slot else rec) + 1
-            after.append((tec, rec))
-        tallies.append(after)
+        tallies.append(
+            [counted(it, node == attempt.offer.node, attempt.offset, slot) for node, it in enumerate(tallies[-1])]
+        )
     return tallies
 
 

@@ -130,6 +130,16 @@ class Attempt(NamedTuple):
     late: int
 
 
+def counted(counters, sends, offset, slot):
+    """The counters of a port, (TEC, REC), behind an attempt at a frame with this ACK slot: hit at an offset, or at None."""
+    tec, rec = counters
+    if offset is None:
+        return (max(tec - 1, 0), rec) if sends else (tec, max(rec - 1, 0))
+    if sends:
+        return tec + 8, rec
+    return tec, (max(rec - 1, 0) if offset > slot else rec) + 1
+
+
 class Claims:
     """The claims for a list of frames in the order of arbitration, the port that holds each of them, and the hits:
     of each attempt that is hit its offset."""
@@ -160,16 +170,7 @@ class Claims:
         for attempt in self.attempts:
             holder = self.holders[attempt.frame]
             slot = len(self.spelled[attempt.frame].wire) - 9
-            after = []
-            for port, (tec, rec) in enumerate(tallies[-1]):
-                if attempt.offset is None:
-                    tec, rec = (max(tec - 1, 0), rec) if port == holder else (tec, max(rec - 1, 0))
-                elif port == holder:
-                    tec += 8
-                else:
-                    rec = (max(rec - 1, 0) if attempt.offset > slot else rec) + 1
-                after.append((tec, rec))
-            tallies.append(after)
+            tallies.append([counted(it, port == holder, attempt.offset, slot) for port, it in enumerate(tallies[-1])])
         return tallies
 
     def meets_premises(self):
