@@ -12,7 +12,7 @@ use crate::event::Event;
 use crate::moves::in_place::move_in_place;
 use crate::moves::{Hearing, MOST_OVERLOADS, Move, Stance, enter, follows, goes_on, next_move};
 use crate::phase::{Overloads, Phase, Role};
-use can_code::{FrameBits, Front, PackedBits, PlainBits};
+use can_code::{CheckedBits, FrameBits, Front, PlainBits};
 use can_fault::{Cause, Confine, State};
 use can_frame::{Frame, Level};
 use std::marker::Model;
@@ -33,8 +33,8 @@ pub struct MediumAccess<B: FrameBits> {
 /// The medium access of a controller that holds the unstuffed levels one by one.
 pub type Mac = MediumAccess<PlainBits>;
 
-/// The medium access of a controller that holds the unstuffed levels in a register.
-pub type PackedMac = MediumAccess<PackedBits>;
+/// The medium access of a controller that holds the unstuffed levels in a register, with their running CRC sequence.
+pub type PackedMac = MediumAccess<CheckedBits>;
 
 impl<B: FrameBits> Model for MediumAccess<B> {
     ghost use Rattle.can_mac.specs.State.{IsMac, MacState};

@@ -6,7 +6,7 @@ use crate::entry::Entry;
 use crate::log::Log;
 use crate::port::Port;
 use crate::queue::Queue;
-use can_code::{FrameBits, PackedBits, PlainBits};
+use can_code::{CheckedBits, FrameBits, PlainBits};
 use can_fault::State;
 use can_frame::{Frame, Level};
 use can_mac::{Event, MediumAccess, Phase};
@@ -25,8 +25,8 @@ pub struct Node<B: FrameBits> {
 /// A port that holds the unstuffed levels one by one.
 pub type PlainNode = Node<PlainBits>;
 
-/// A port that holds the unstuffed levels in a register.
-pub type PackedNode = Node<PackedBits>;
+/// A port that holds the unstuffed levels in a register, with their running CRC sequence.
+pub type PackedNode = Node<CheckedBits>;
 
 impl<B: FrameBits> Node<B> {
     ghost use Rattle.can_mac.specs.State.{idle, joining};

@@ -5,8 +5,8 @@ use Rattle.std.proofs.lemmas.List.{append-nil, drop_all, nil_from_length, get_or
 use Rattle.std.proofs.lemmas.Option.{slice_get-get_or, get_or_from_slice_get}
 use Rattle.can_frame.specs.declared.level.Level.{Level}
 use Rattle.can_frame.specs.declared.level.Level.TheVariants.{Recessive}
-use Rattle.can_wire.specs.declared.packed_bits.PackedBits.{PackedBits}
-use Rattle.can_wire.specs.contracts.packed_bits.PackedBitsFrameBits.TheImpl as packed_bits
+use Rattle.can_wire.specs.declared.checked_bits.CheckedBits.{CheckedBits}
+use Rattle.can_wire.specs.contracts.checked_bits.CheckedBitsFrameBits.TheImpl as checked_bits
 use Rattle.can_node.specs.declared.node.Node.{Node}
 use Rattle.can_node.specs.Ports.{PortState, IsPort}
 use Rattle.can_bus.specs.declared.hit.Hit.{Hit}
@@ -19,11 +19,11 @@ use Rattle.can_scenario.specs.declared.scenario.PortPlan.{PortPlan}
 use Rattle.can_scenario.specs.declared.scenario.Scenario.{Scenario}
 
 -- what a contract sees of a port with memory of its own
-abbrev pub node_port : Node PackedBits packed_bits.ghosts → PortState
+abbrev pub node_port : Node CheckedBits checked_bits.ghosts → PortState
 node_port n = record { mac = n.mac; queue = n.queue.frames.items; queue_room = n.queue.room; log = n.log.entries.items; log_room = n.log.room; missed = n.log.missed }
 
 -- it is a port
-pub node-valid : (n : Node PackedBits packed_bits.ghosts) → IsPort (node_port n)
+pub node-valid : (n : Node CheckedBits checked_bits.ghosts) → IsPort (node_port n)
 node-valid n = record { mac = n.kept; queued = n.queue.are_frames; logged = n.log.are_frames; queue_fits = n.queue.fits; log_fits = n.log.fits; missed_fits = n.log.counted }
 
 -- one port more is made

@@ -1,16 +1,18 @@
--- Eight levels in one step, by the table of the check sequences of bytes.
-use Rattle.std.proofs.Common.{◌≡◌, ℕ, ◌/◌, ◌^◌, ◌<◌, List, length, map, get_or, refl, sym, ◌∙◌, ap, arith}
+-- Up to eight levels in one step, by the table of the check sequences of bytes.
+use Rattle.std.proofs.Common.{◌≡◌, ℕ, ◌+◌, ◌-◌, ◌*◌, ◌/◌, ◌%◌, ◌^◌, ◌<◌, ◌≤◌, length, map, get_or, refl, sym, ◌∙◌, ap, arith}
 use Rattle.std.specs.Prelude.{bit_xor}
 use Rattle.std.specs.List.{range_with_len}
+use Rattle.std.proofs.Math.Nat.{div-lt_iff_lt-mul}
+use Rattle.std.proofs.Math.Pow.{pow-add, pow_mono}
+use Rattle.std.proofs.lemmas.Nat.{pow_pos, shr-shr, xor_lt}
 use Rattle.std.proofs.lemmas.List.FromFn.{get_or-map-range_with_len}
-use Rattle.can_frame.specs.declared.level.Level.{Level}
 use Rattle.can_frame.specs.Levels.{bits_of, number_from}
-use Rattle.can_wire.specs.Crc.{xor, crc_of}
+use Rattle.can_wire.specs.Crc.{crc_of}
 use Rattle.can_wire.specs.declared.crc_run.TheConstants.{CRC_OF_BYTES}
-use Rattle.can_wire.proofs.LevelLemmas.{bits_of-xor, bits_of-number_from, number_from-lt}
+use Rattle.can_wire.proofs.LevelLemmas.{length-bits_of, bits_of-append, bits_of-mod, bits_of-xor, bits_of-number_from, number_from-lt}
 use Rattle.can_wire.proofs.DivisionLemmas.{length-crc_of}
-use Rattle.can_wire.proofs.Register.{register}
-use Rattle.can_wire.proofs.RegisterWord.{moved, register-entry}
+use Rattle.can_wire.proofs.Register.{register, register-append}
+use Rattle.can_wire.proofs.RegisterWord.{moved, crc_of-wider, register-entry}
 
 -- the check sequence of the eight bits of a byte, as a number
 abbrev pub crc_of_byte : ℕ → ℕ
@@ -34,11 +36,33 @@ bits_of-crc_of_byte byte =
     let check = crc_of (bits_of 8 byte) in
     ap (λ n. bits_of n (number_from 0 check)) (sym (length-crc_of (bits_of 8 byte))) ∙ bits_of-number_from 0 check
 
--- eight levels in one step, as code takes it
-pub register-octet : (r byte : ℕ) (levels : List Level) → length levels ≡ 8 → byte ≡ number_from 0 levels
-    → bits_of 15 (bit_xor (moved 8 r) (crc_of_byte (bit_xor (r / 2 ^ 7) byte))) ≡ register (bits_of 15 r) levels
-register-octet r byte levels size byte_is =
-    let place = bit_xor (r / 2 ^ 7) byte in
-    let bits : bits_of 8 byte ≡ levels = ap (bits_of 8) byte_is ∙ ap (λ n. bits_of n (number_from 0 levels)) (sym size) ∙ bits_of-number_from 0 levels in
-    let sum : bits_of 8 place ≡ xor (bits_of 8 (r / 2 ^ 7)) levels = bits_of-xor 8 (r / 2 ^ 7) byte ∙ ap (xor (bits_of 8 (r / 2 ^ 7))) bits in
-    register-entry 7 8 r (crc_of_byte place) levels refl size (bits_of-crc_of_byte place ∙ ap crc_of sum)
+-- the place in the table where up to eight levels go into a register
+pub place-lt : (k r number : ℕ) → k ≤ 8 → r < 2 ^ 15 → number < 2 ^ k → bit_xor (r / 2 ^ (15 - k)) number < 2 ^ k
+place-lt k r number few small fits =
+    let size : k + (15 - k) ≡ 15 = omega (arith, few) in
+    let power : 2 ^ k * 2 ^ (15 - k) ≡ 2 ^ 15 = sym (pow-add 2 k (15 - k)) ∙ ap (λ e. 2 ^ e) size in
+    xor_lt k (r / 2 ^ (15 - k)) number ((div-lt_iff_lt-mul (pow_pos (15 - k))).1 (omega (arith, small, power))) fits
+
+pub place-within : (k r number : ℕ) → k ≤ 8 → r < 2 ^ 15 → number < 2 ^ k → bit_xor (r / 2 ^ (15 - k)) number < 256
+place-within k r number few small fits =
+    let power : 2 ^ k ≤ 2 ^ 8 = pow_mono few in
+    omega (arith, place-lt k r number few small fits, power)
+
+-- these levels in one step, as code takes it
+pub register-few : (k r number : ℕ) → k ≤ 8 → r < 2 ^ 15 → number < 2 ^ k
+    → bits_of 15 (bit_xor (moved k r) (crc_of_byte (bit_xor (r / 2 ^ (15 - k)) number))) ≡ register (bits_of 15 r) (bits_of k number)
+register-few k r number few small fits =
+    let n = 15 - k in
+    let place = bit_xor (r / 2 ^ n) number in
+    let size : n + k ≡ 15 = omega (arith, few) in
+    let entry = bits_of-crc_of_byte place ∙ crc_of-wider k 8 place few (place-lt k r number few small fits) ∙ ap crc_of (bits_of-xor k (r / 2 ^ n) number) in
+    register-entry n k r (crc_of_byte place) (bits_of k number) size (length-bits_of k number) entry
+
+-- k levels of a number more, behind the n before them
+pub register-more : (start r next number n k left : ℕ) → bits_of 15 r ≡ register (bits_of 15 start) (bits_of n (number / 2 ^ (left + k)))
+    → bits_of 15 next ≡ register (bits_of 15 r) (bits_of k (number / 2 ^ left % 2 ^ k)) → bits_of 15 next ≡ register (bits_of 15 start) (bits_of (n + k) (number / 2 ^ left))
+register-more start r next number n k left so_far step =
+    let x = number / 2 ^ left in
+    let first = bits_of 15 start in
+    step ∙ ap (register (bits_of 15 r)) (bits_of-mod k k x (omega arith)) ∙ ap (λ t. register t (bits_of k x)) (so_far ∙ ap (λ y. register first (bits_of n y)) (sym (shr-shr number left k)))
+    ∙ sym (register-append first (bits_of n (x / 2 ^ k)) (bits_of k x)) ∙ ap (register first) (sym (bits_of-append n k x))

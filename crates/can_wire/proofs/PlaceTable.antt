@@ -3,7 +3,7 @@ use Rattle.std.proofs.Common.{◌≡◌, ℕ, zero, suc, ◌+◌, ◌*◌, ◌-�
 use Rattle.std.specs.Prelude.{bit_xor}
 use Rattle.std.specs.Int.{byte_at, bytes_low_first, to_le_bytes, w128}
 use Rattle.std.specs.Int.Bits.{mask_lt}
-use Rattle.std.proofs.Math.Nat.{div-eq_of_lt, pow-suc}
+use Rattle.std.proofs.Math.Nat.{pow-suc}
 use Rattle.std.proofs.Math.Pow.{pow-add}
 use Rattle.std.proofs.lemmas.Nat.{xor_lt}
 use Rattle.std.proofs.lemmas.List.{get_or-append_right, get_or-map, length-map, length-replicate, replicate-append-replicate}
@@ -14,10 +14,10 @@ use Rattle.can_frame.specs.Levels.{bits_of}
 use Rattle.can_wire.specs.Crc.{xor, reduced, crc_of}
 use Rattle.can_wire.specs.declared.crc_places.TheConstants.{CRC_OF_PLACES}
 use Rattle.can_wire.specs.declared.crc_run.TheConstants.{CRC_OF_BYTES}
-use Rattle.can_wire.proofs.LevelLemmas.{length-bits_of, bits_of-append, bits_of-mod, bits_of-none, bits_of-xor}
+use Rattle.can_wire.proofs.LevelLemmas.{length-bits_of, bits_of-append, bits_of-mod, bits_of-xor}
 use Rattle.can_wire.proofs.XorLemmas.{xor_assoc, xor_comm, xor_zeros}
-use Rattle.can_wire.proofs.DivisionLemmas.{none, reduced-xor, reduced_none_front}
-use Rattle.can_wire.proofs.Register.{register, register-nil, register-append, register-crc_of}
+use Rattle.can_wire.proofs.DivisionLemmas.{none, reduced-xor}
+use Rattle.can_wire.proofs.Register.{register, crc_of-on, register-nil, register-append}
 use Rattle.can_wire.proofs.RegisterWord.{moved, register-fed}
 use Rattle.can_wire.proofs.CrcTable.{crc_of_byte, crc_of_byte-lt, bits_of-crc_of_byte, entry_is}
 
@@ -41,30 +41,10 @@ register-split r b =
     sym (ap (λ n. xor (reduced n (xor r zeros)) (reduced k levels)) size ∙ sym (reduced-xor k (xor r zeros) levels)
     ∙ ap (reduced k) (xor_assoc r zeros levels ∙ ap (xor r) (none-added b)))
 
--- a check sequence goes on as a register
-crc_of-on : (a b : List Level) → crc_of (a ++ b) ≡ register (crc_of a) b
-crc_of-on a b = sym (register-crc_of (a ++ b)) ∙ register-append (none 15) a b ∙ ap (λ r. register r b) (register-crc_of a)
-
 -- that of two lists is the sum of those of the first with dominant levels behind it and of the second
 crc_of-append : (k : ℕ) (a b : List Level) → length b ≡ k → crc_of (a ++ b) ≡ xor (crc_of (a ++ none k)) (crc_of b)
 crc_of-append k a b size =
     crc_of-on a b ∙ register-split (crc_of a) b ∙ ap (λ t. xor t (crc_of b)) (sym (crc_of-on a (none (length b)))) ∙ ap (λ n. xor (crc_of (a ++ none n)) (crc_of b)) size
-
--- dominant levels in front add nothing
-crc_of-behind_none : (k : ℕ) (b : List Level) → crc_of (none k ++ b) ≡ crc_of b
-unfolding crc_of
-crc_of-behind_none k b =
-    let nothing : crc_of (none k) ≡ none 15 =
-    ap (λ n. reduced n (none k ++ none 15)) (length-replicate k Dominant) ∙ reduced_none_front k (none 15) (omega arith) in
-    crc_of-on (none k) b ∙ ap (λ r. register r b) nothing ∙ register-crc_of b
-
--- so a number has one check sequence, with however many levels it is written
-pub crc_of-wider : (n k x : ℕ) → n ≤ k → x < 2 ^ n → crc_of (bits_of k x) ≡ crc_of (bits_of n x)
-crc_of-wider n k x h small =
-    let j = k - n in
-    let size : k ≡ j + n = omega arith in
-    let none_above : bits_of j (x / 2 ^ n) ≡ none j = ap (bits_of j) (div-eq_of_lt small) ∙ bits_of-none j in
-    ap (λ m. crc_of (bits_of m x)) size ∙ ap crc_of (bits_of-append j n x ∙ ap (λ t. t ++ bits_of n x) none_above) ∙ crc_of-behind_none j (bits_of n x)
 
 -- ---- the register as a number, over dominant levels
 

@@ -60,3 +60,15 @@ register-top top low b h k =
     ∙ ap (reduced (length sum)) (parts ∙ sym (xor-behind sum moved long))
     ∙ reduced-xor (length sum) (sum ++ none 15) (none (length sum) ++ moved)
     ∙ ap (xor (crc_of sum)) (reduced_none_front (length sum) moved long) ∙ xor_comm (crc_of sum) moved
+
+-- a check sequence goes on as a register
+pub crc_of-on : (a b : List Level) → crc_of (a ++ b) ≡ register (crc_of a) b
+crc_of-on a b = sym (register-crc_of (a ++ b)) ∙ register-append (none 15) a b ∙ ap (λ r. register r b) (register-crc_of a)
+
+-- dominant levels in front add nothing
+pub crc_of-behind_none : (k : ℕ) (b : List Level) → crc_of (none k ++ b) ≡ crc_of b
+unfolding crc_of
+crc_of-behind_none k b =
+    let nothing : crc_of (none k) ≡ none 15 =
+    ap (λ n. reduced n (none k ++ none 15)) (length-replicate k Dominant) ∙ reduced_none_front k (none 15) (omega arith) in
+    crc_of-on (none k) b ∙ ap (λ r. register r b) nothing ∙ register-crc_of b

@@ -1,5 +1,6 @@
 -- The register as a number of fifteen bits, and its steps as code takes them.
-use Rattle.std.proofs.Common.{◌≡◌, ℕ, zero, suc, ◌+◌, ◌*◌, ◌/◌, ◌%◌, ◌^◌, ◌<◌, ◌≤◌, List, [], ◌∷◌, ◌++◌, length, refl, sym, ◌∙◌, ap, arith}
+use Rattle.std.proofs.Common.{◌≡◌, ℕ, zero, suc, ◌+◌, ◌-◌, ◌*◌, ◌/◌, ◌%◌, ◌^◌, ◌<◌, ◌≤◌, List, [], ◌∷◌, ◌++◌, length, refl, sym, ◌∙◌, ap, arith}
+use Rattle.std.proofs.Math.Nat.{div-eq_of_lt}
 use Rattle.std.specs.Prelude.{bit_and, bit_xor}
 use mir.Val.{bool_byte}
 use Rattle.std.proofs.lemmas.Nat.{and_mask}
@@ -7,9 +8,9 @@ use Rattle.can_frame.specs.declared.level.Level.{Level}
 use Rattle.can_frame.specs.declared.level.Level.TheVariants.{Dominant, Recessive}
 use Rattle.can_frame.specs.Levels.{is_recessive, bits_of}
 use Rattle.can_wire.specs.Crc.{xor, crc_of}
-use Rattle.can_wire.proofs.LevelLemmas.{length-bits_of, bits_of-append, bits_of-mod, bits_of-shl, bits_of-xor}
+use Rattle.can_wire.proofs.LevelLemmas.{length-bits_of, bits_of-append, bits_of-mod, bits_of-none, bits_of-shl, bits_of-xor}
 use Rattle.can_wire.proofs.DivisionLemmas.{none}
-use Rattle.can_wire.proofs.Register.{register, register-top}
+use Rattle.can_wire.proofs.Register.{register, crc_of-behind_none, register-top}
 
 -- the register moved up by k places
 abbrev pub moved : ℕ → ℕ → ℕ
@@ -39,6 +40,14 @@ pub register-entry : (n k r entry : ℕ) (levels : List Level) → n + k ≡ 15 
     → bits_of 15 (bit_xor (moved k r) entry) ≡ register (bits_of 15 r) levels
 register-entry n k r entry levels h size e =
     bits_of-xor 15 (moved k r) entry ∙ ap (xor (bits_of 15 (moved k r))) e ∙ sym (register-moved n k r levels h size)
+
+-- a number has one check sequence, with however many levels it is written
+pub crc_of-wider : (n k x : ℕ) → n ≤ k → x < 2 ^ n → crc_of (bits_of k x) ≡ crc_of (bits_of n x)
+crc_of-wider n k x h small =
+    let j = k - n in
+    let size : k ≡ j + n = omega arith in
+    let none_above : bits_of j (x / 2 ^ n) ≡ none j = ap (bits_of j) (div-eq_of_lt small) ∙ bits_of-none j in
+    ap (λ m. crc_of (bits_of m x)) size ∙ ap crc_of (bits_of-append j n x ∙ ap (λ t. t ++ bits_of n x) none_above) ∙ crc_of-behind_none j (bits_of n x)
 
 -- The step by one level.
 

@@ -13,6 +13,9 @@ const LOWER_TERMS: u16 = 0x4599;
 /// The fifteen bits of the shift register.
 const REGISTER_BITS: u16 = 0x7fff;
 
+/// How many levels one step takes, at most.
+const OCTET: usize = 8;
+
 /// The CRC sequence of levels that come one by one: the shift register of Bosch CAN 2.0 part B,
 /// section 3.2.1.
 #[derive(Clone, Copy, Debug)]
@@ -60,6 +63,15 @@ impl CrcRun {
         self.register = shift_in_octet(self.register, octet);
     }
 
+    /// Takes the levels of the `count` lowest bits of a number, the highest first.
+    pub(crate) fn append(&mut self, number: u64, count: usize)
+        requires { count ≤ 64 }
+        ensures range { self.new < 2 ^ 15 }
+        ensures check { (levels : List Bit) → IsCrc levels (bits_of 15 self.old) → IsCrc (levels ++ bits_of count number) (bits_of 15 self.new) }
+    {
+        self.register = shift_in_bits(self.register, number, count);
+    }
+
     /// The CRC sequence, as a number of fifteen bits. Bit 14 is sent first.
     #[inline]
     pub fn value(&self) -> u16
@@ -76,19 +88,38 @@ fn shift_in_octet(register: u16, levels: &[Level; 8]) -> u16
     ensures range { result < 2 ^ 15 }
     ensures step { bits_of 15 result ≡ reduced (length levels.now) (xor (bits_of 15 register) (levels.now ++ replicate 15 Dominant)) }
 {
-    shift_in_byte(register, number_of(levels))
+    shift_in_few(register, number_of(levels), OCTET)
 }
 
-/// The register after the eight levels of a byte.
-#[inline]
-fn shift_in_byte(register: u16, byte: u16) -> u16
+/// The register after the levels of the lowest bits of a number.
+fn shift_in_bits(register: u16, number: u64, count: usize) -> u16
     requires register { register < 2 ^ 15 }
-    requires byte { byte < 2 ^ 8 }
+    requires width { count ≤ 64 }
     ensures range { result < 2 ^ 15 }
-    ensures step { (levels : List Bit) → length levels ≡ 8 → byte ≡ number_from 0 levels → bits_of 15 result ≡ reduced (length levels) (xor (bits_of 15 register) (levels ++ replicate 15 Dominant)) }
+    ensures step { let levels = bits_of count number in bits_of 15 result ≡ reduced (length levels) (xor (bits_of 15 register) (levels ++ replicate 15 Dominant)) }
 {
-    let place = (register >> 7) ^ byte;
-    ((register << 8) & REGISTER_BITS) ^ CRC_OF_BYTES[usize::from(place)]
+    let mut shifted = register;
+    let mut left = count;
+    while left > 0 {
+        let few = left.min(OCTET);
+        left -= few;
+        let levels = (number >> left) % (1 << few);
+        shifted = shift_in_few(shifted, levels as u16, few);
+    }
+    shifted
+}
+
+/// The register after the levels of a number of so many bits, eight at most.
+#[inline]
+fn shift_in_few(register: u16, number: u16, count: usize) -> u16
+    requires register { register < 2 ^ 15 }
+    requires few { count ≤ OCTET }
+    requires number { number < 2 ^ count }
+    ensures range { result < 2 ^ 15 }
+    ensures step { let levels = bits_of count number in bits_of 15 result ≡ reduced (length levels) (xor (bits_of 15 register) (levels ++ replicate 15 Dominant)) }
+{
+    let place = (register >> (15 - count)) ^ number;
+    ((register << count) & REGISTER_BITS) ^ CRC_OF_BYTES[usize::from(place)]
 }
 
 /// The number whose bits the levels are, the highest first.
@@ -104,6 +135,7 @@ fn number_of(levels: &[Level; 8]) -> u16
 }
 
 /// The register after one more level.
+#[inline]
 fn shift_in(register: u16, level: Level) -> u16
     requires { register < 2 ^ 15 }
     ensures range { result < 2 ^ 15 }

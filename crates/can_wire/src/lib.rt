@@ -16,6 +16,7 @@
 //! | `frame_bits.rt` | [`FrameBits`], the unstuffed levels of a frame that have been heard or laid out | |
 //! | `plain_bits.rt` | [`PlainBits`], these levels one by one | |
 //! | `packed_bits.rt`, `two_words.rt` | [`PackedBits`], these levels in a register | |
+//! | `checked_bits.rt` | [`CheckedBits`], these levels in a register, with their running CRC sequence | |
 //! | `layout.rt` | the head and the CRC sequence of what is heard, unstuffed | `specs/Heard.antt` |
 //! | `spelling.rt` | [`respell`], the levels that spell what is heard | `specs/Heard.antt` |
 //! | `encoding.rt` | [`encode`] and [`encode_into`], the levels that the sender of a frame drives | `specs/Wire.antt` |
@@ -29,6 +30,7 @@
 //! Crates above find lemmas in `proofs/`, which `proofs/Lib.antt` lists with what each file has.
 #![tactic(auto)]
 
+mod checked_bits;
 mod crc;
 mod crc_places;
 mod crc_run;
@@ -45,6 +47,7 @@ mod stuff_steps;
 mod stuffing;
 mod two_words;
 
+pub use checked_bits::CheckedBits;
 pub use crc::crc15;
 pub use crc_run::CrcRun;
 pub use encoding::{encode, encode_into};

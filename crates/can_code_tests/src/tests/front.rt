@@ -1,5 +1,5 @@
 use super::{FRAME_001, frame_of, level_of};
-use can_code::{FrameBits, Front, PackedBits, Place, PlainBits};
+use can_code::{CheckedBits, FrameBits, Front, PackedBits, Place, PlainBits};
 
 /// The front of a frame at the end of its stuffed part.
 fn front_of<B: FrameBits>(stuffed_part: &str) -> Option<Front<B>> {
@@ -27,5 +27,5 @@ fn ends<B: FrameBits>() -> bool {
 
 #[test]
 fn front_at_its_end(rt: HostRuntime) {
-    assert!(rt; ends::<PlainBits>() && ends::<PackedBits>());
+    assert!(rt; ends::<PlainBits>() && ends::<PackedBits>() && ends::<CheckedBits>());
 }

@@ -16,7 +16,7 @@ mod flags;
 mod frame_ends;
 mod own_overloads;
 
-use can_code::{FrameBits, PackedBits, PlainBits};
+use can_code::{CheckedBits, FrameBits, PlainBits};
 use can_frame::{Frame, Level};
 use can_mac::{ErrorKind, Event, MediumAccess};
 use std::alloc::{AllocError, Global};
@@ -77,7 +77,7 @@ fn levels_of(piece: &str) -> &str {
 /// Each row comes to what it says, at a controller of each kind.
 pub fn hold(rt: &impl Abort, alloc: Global, rows: &str) -> Result<(), Fail> {
     hold_of::<PlainBits>(rt, alloc, rows)?;
-    hold_of::<PackedBits>(rt, alloc, rows)
+    hold_of::<CheckedBits>(rt, alloc, rows)
 }
 
 fn hold_of<B: FrameBits>(rt: &impl Abort, alloc: Global, rows: &str) -> Result<(), Fail> {

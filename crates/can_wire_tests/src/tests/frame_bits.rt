@@ -1,7 +1,7 @@
 //! The forms in which a controller holds the unstuffed levels of a frame.
 use super::{KNOWN, Known, Levels, frame_of, levels_of};
 use can_frame::Level;
-use can_wire::{FrameBits, Heard, PackedBits, PlainBits, head_and_crc};
+use can_wire::{CheckedBits, FrameBits, Heard, PackedBits, PlainBits, head_and_crc};
 
 /// The unstuffed levels, of which the first is the start of frame, in this form.
 fn held<B: FrameBits>(levels: &[Level]) -> B {
@@ -113,7 +113,9 @@ fn holds_known<B: FrameBits>(known: &Known) -> bool {
 fn known_levels(rt: HostRuntime) {
     for known in KNOWN {
         assert!(rt;
-            holds_known::<PlainBits>(known) && holds_known::<PackedBits>(known),
+            holds_known::<PlainBits>(known)
+                && holds_known::<PackedBits>(known)
+                && holds_known::<CheckedBits>(known),
             "{}",
             known.frame
         );
@@ -125,7 +127,9 @@ fn known_levels(rt: HostRuntime) {
 fn a_check_sequence_alone(rt: HostRuntime) {
     let levels = "000000000000000";
     assert!(rt;
-        last_level_matters::<PlainBits>(levels) && last_level_matters::<PackedBits>(levels)
+        last_level_matters::<PlainBits>(levels)
+            && last_level_matters::<PackedBits>(levels)
+            && last_level_matters::<CheckedBits>(levels)
     );
 }
 
@@ -151,7 +155,9 @@ fn longest_lists(rt: HostRuntime) {
         "E 1fffffff D 15 ffffffffffffffff",
     ] {
         assert!(rt;
-            holds_all::<PlainBits>(text) && holds_all::<PackedBits>(text),
+            holds_all::<PlainBits>(text)
+                && holds_all::<PackedBits>(text)
+                && holds_all::<CheckedBits>(text),
             "{text}"
         );
     }

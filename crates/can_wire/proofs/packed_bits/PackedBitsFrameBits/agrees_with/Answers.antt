@@ -7,7 +7,7 @@ use Rattle.can_frame.specs.Levels.{bits_of, is_recessive}
 use Rattle.can_wire.specs.Crc.{crc_of}
 use Rattle.can_wire.proofs.CheckRuns.{IsCrc-zero, zero-IsCrc}
 use Rattle.can_wire.proofs.PackedLemmas.{bits_of-next, next-small}
-use Rattle.can_wire.proofs.PlaceTable.{crc_of-wider}
+use Rattle.can_wire.proofs.RegisterWord.{crc_of-wider}
 use Rattle.can_wire.proofs.packed_bits.PackedBitsFrameBits.agrees_with.Goals as goal
 
 pub overflow_mul-number : goal.overflow_mul-number

@@ -1,7 +1,7 @@
 use Rattle.std.proofs.Common.{◌≤◌, ◌^◌, length, ap, ◌∙◌, arith}
 use Rattle.std.proofs.Math.Pow.{pow_mono}
 use Rattle.can_wire.specs.Crc.{crc_of}
-use Rattle.can_wire.proofs.PlaceTable.{crc_of-wider}
+use Rattle.can_wire.proofs.RegisterWord.{crc_of-wider}
 use Rattle.can_wire.proofs.packed_bits.PackedBitsFrameBits.check.Goals as goal
 
 pub crc_of_number-requires : goal.crc_of_number-requires
