@@ -9,3 +9,4 @@ pub mod OneDecoding
 pub mod Rows
 pub mod FrameText
 pub mod SearchSteps
+pub mod SkippedBytes

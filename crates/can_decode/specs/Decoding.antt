@@ -79,6 +79,10 @@ pub record EndsWith (levels : List Level) (told found : List Finding) : Type 0 w
 
 -- ---- bytes
 
+-- bytes of trace text that are no levels
+abbrev pub AreSkipped : List ℕ → Type 0
+AreSkipped bytes = IsTraceText bytes × (levels_in bytes ≡ [])
+
 -- what a byte is in trace text
 abbrev pub IsByteAs : ℕ → TraceByte → Type 0
 IsByteAs byte (Digit level) = (is_trace_byte byte ≡ true) × (levels_of_byte byte ≡ level ∷ [])

@@ -10,6 +10,7 @@ ghost use Rattle.can_decode.specs.Decoding.{Decodes, Hears, HearsText, IsByteAs,
 
 use crate::finding::put_finding;
 use crate::idle::recessive_count;
+use crate::skipped::skipped_count;
 use crate::trace::Trace;
 use can_frame::Level;
 use can_stream::{Inbox, Outbox, Sink, Source, TraceFault};
@@ -130,8 +131,20 @@ fn hear_bytes<W: Sink>(
     Ok(())
 }
 
-/// Hears levels at the front of the bytes of which nothing is told, as many as it likes, and answers how many.
+/// Hears bytes at the front of which nothing is told, as many as it likes, and answers how many.
 fn hear_run(bytes: &[u8], trace: &mut Trace) -> usize
+    requires { trace.old.place + length bytes.now < 2 ^ 64 }
+    ensures within { result ≤ length bytes.now }
+    ensures text { IsTraceText (take result bytes.now) }
+    ensures hears { Hears trace.old trace.new (levels_in (take result bytes.now)) [] }
+    ensures place { trace.new.place ≤ trace.old.place + result }
+{
+    let skipped = skipped_count(bytes);
+    skipped + hear_levels(&bytes[skipped..], trace)
+}
+
+/// Hears levels at the front of the bytes of which nothing is told, as many as it likes, and answers how many.
+fn hear_levels(bytes: &[u8], trace: &mut Trace) -> usize
     requires { trace.old.place + length bytes.now < 2 ^ 64 }
     ensures within { result ≤ length bytes.now }
     ensures text { IsTraceText (take result bytes.now) }

@@ -11,6 +11,7 @@
 //! | `trace.rt` | a trace as it is heard, level by level | `specs/Decoding.antt` |
 //! | `searching.rt` | the search for an idle row behind a fault | `specs/Decoding.antt` |
 //! | `idle.rt` | rows of recessive levels, block by block | `specs/TraceText.antt` |
+//! | `skipped.rt` | blanks and line ends, block by block | `specs/TraceText.antt` |
 //! | `finding.rt` | what is told of a trace, and its line | `specs/Decoded.antt` |
 //! | `text.rt` | the text of a frame in its line | can_frame's `specs/Text.antt` |
 //! | `laws.rt` | that in each trace one list is found, and each input has one answer | `specs/Decoded.antt` |
@@ -27,6 +28,7 @@ mod finding;
 mod idle;
 mod laws;
 mod searching;
+mod skipped;
 mod text;
 mod trace;
 

@@ -39,6 +39,20 @@ const TRACES: &[(&[&[u8]], Option<u64>, &[u8])] = &[
         None,
         b"0 S 000 D 0 ack\n53 S 001 D 0 ack\n",
     ),
+    // in blocks, and more of them
+    (
+        &[
+            &[b'\n'; 69],
+            WIRE_000,
+            &[b' '; 132],
+            b"111",
+            &[b'\r'; 67],
+            WIRE_001,
+            &[b'\n'; 4],
+        ],
+        None,
+        b"0 S 000 D 0 ack\n53 S 001 D 0 ack\n",
+    ),
     // levels that a receiver takes at either value: r0, the last one, and the ACK slot
     (
         &[b"00000100000100001000001101101100101111011111111"],

@@ -1,28 +1,23 @@
-use Rattle.std.proofs.Common.{◌+◌}
+use Rattle.std.proofs.Common.{[], sym, subst}
 use Rattle.std.proofs.lemmas.List.{take_rest}
-use Rattle.can_decode.proofs.DecodeSteps.{Untold-then}
+use Rattle.can_decode.specs.Decoding.{Hears}
+use Rattle.can_decode.proofs.DecodeSteps.{Hears-none, Untold-then}
 use Rattle.can_decode.proofs.decode.hear_run.Goals as goal
 
 pub returns-clause-text : goal.returns-clause-text
 returns-clause-text c =
     let bytes = c.args.bytes.now in
-    let row = c.skip_row-row in
-    let start = c.hear_start in
-    let first = take_rest bytes row.result in
-    let second = take_rest bytes (row.result + start.result) in
-    let begun = Untold-then c.args.trace.now row.new.trace start.new.trace bytes row.result start.result row.ensures.text row.ensures.hears
-    (rw first at start.ensures.text) (rw first at start.ensures.hears) in
-    (Untold-then c.args.trace.now start.new.trace c.hear_run.new.self bytes (row.result + start.result) c.hear_run.result begun.0 begun.1
-    (rw second at c.hear_run.ensures.text) (rw second at c.hear_run.ensures.hears)).0
+    let trace = c.args.trace.now in
+    let skipped = c.skipped_count-skipped in
+    let rest = take_rest bytes skipped.result in
+    (Untold-then trace trace c.hear_levels.new.trace bytes skipped.result c.hear_levels.result skipped.ensures.skipped.0
+    (subst (λ l. Hears trace trace l []) (sym skipped.ensures.skipped.1) (Hears-none trace)) (rw rest at c.hear_levels.ensures.text) (rw rest at c.hear_levels.ensures.hears)).0
 
 pub returns-clause-hears : goal.returns-clause-hears
 returns-clause-hears c =
     let bytes = c.args.bytes.now in
-    let row = c.skip_row-row in
-    let start = c.hear_start in
-    let first = take_rest bytes row.result in
-    let second = take_rest bytes (row.result + start.result) in
-    let begun = Untold-then c.args.trace.now row.new.trace start.new.trace bytes row.result start.result row.ensures.text row.ensures.hears
-    (rw first at start.ensures.text) (rw first at start.ensures.hears) in
-    (Untold-then c.args.trace.now start.new.trace c.hear_run.new.self bytes (row.result + start.result) c.hear_run.result begun.0 begun.1
-    (rw second at c.hear_run.ensures.text) (rw second at c.hear_run.ensures.hears)).1
+    let trace = c.args.trace.now in
+    let skipped = c.skipped_count-skipped in
+    let rest = take_rest bytes skipped.result in
+    (Untold-then trace trace c.hear_levels.new.trace bytes skipped.result c.hear_levels.result skipped.ensures.skipped.0
+    (subst (λ l. Hears trace trace l []) (sym skipped.ensures.skipped.1) (Hears-none trace)) (rw rest at c.hear_levels.ensures.text) (rw rest at c.hear_levels.ensures.hears)).1
