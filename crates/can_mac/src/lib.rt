@@ -22,6 +22,10 @@
 //! Each function of `moves` has the cases of one definition, in the same order. Most levels need none of
 //! them: `goes_on` takes these in place, and makes no move.
 //!
+//! A move names what is counted, and can_fault counts it; a phase reads nothing of the counters but whether the
+//! controller is error passive. While the stuffed part of a frame goes on, its phase holds a front, which is heard
+//! in place.
+//!
 //! Crates above find lemmas in `proofs/`, which `proofs/Lib.antt` lists with what each file has.
 //! `Rows`, `RowsBetweenFrames`, `RowsOfArbitration`, `RowsOfFrameEnds` and `RowsOfFlags` compute the
 //! definitions on levels whose outcome is known: docs/ACCESS.md leads from each rule to its rows.

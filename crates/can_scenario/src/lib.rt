@@ -18,6 +18,12 @@
 //! | `report.rt` | the report of a run, put line by line | `specs/Report.antt` |
 //! | `laws.rt` | that documents have one reading, offers one order, none of them finds a full queue, frames of time 0 wait, and quiet scenarios have one report, however each port was offered its frames | `specs/Scenarios.antt`, `specs/ScenarioOffers.antt`, `specs/Report.antt`, `specs/QuietReport.antt` |
 //!
+//! `toml` makes a table of the text. What the table has to meet is a list of demands in the order in which they are
+//! tested; each step of the reading promises its part of that list, all met or the first that isn't, and
+//! `DemandLemmas` of can_toml puts the parts together. What the scenario then is stands beside it, as a relation.
+//! The bus is run once: without disturbances it is played with the offers, with disturbances it runs with the
+//! frames waiting.
+//!
 //! Of the lemmas, `HitLemmas` has the disturbances of a document, `ScenarioParts` what a port and a document come to;
 //! `ScenarioRows` has a few documents, and `OneScenario` that a document says at most one scenario. Of
 //! offers, `OfferOrder` has their order, `PlannedOffers` what each port is offered, and `RoomForAll` that no

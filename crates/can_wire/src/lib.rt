@@ -27,6 +27,16 @@
 //! bit stands behind five equal levels), and by a function that computes it. The calls promise
 //! that the two agree. How the levels are driven and heard one by one is `can_code`'s, which names these calls too.
 //!
+//! [`PlainBits`], [`PackedBits`] and [`CheckedBits`] each meet the contract of [`FrameBits`], and what stands above is
+//! generic over it. The plain form is the program that the definitions teach. In a packed one a push is a shift, and
+//! its CRC sequence comes from a table of what each byte adds at its place; a checked one keeps that sequence as the
+//! levels come. Levels are laid out over each by the same functions.
+//!
+//! [`encode`] lays out a register, and from there the stuff bits, eight levels in a step: a table says for the run
+//! before them what the levels of a byte become, and which row comes next. Each of its entries is computed on the
+//! definition (`stuffed_from`). [`encode_into`] leaves the levels in an array that the caller keeps, so that none
+//! is copied. [`stuff`] takes one level after another; a test holds one against the other.
+//!
 //! Crates above find lemmas in `proofs/`, which `proofs/Lib.antt` lists with what each file has.
 #![tactic(auto)]
 
