@@ -7,7 +7,7 @@ use can_frame::Level;
 use std::marker::Model;
 
 /// The unstuffed levels of a frame in a register, the last of them its lowest bit, and their running CRC sequence. A
-/// level more moves both up by one place: what comes level by level costs least so, and the end of the frame no more.
+/// level that comes moves both up by one place, so that the end of a frame is no more work than a level of it.
 #[derive(Debug, Drop)]
 pub struct CheckedBits {
     register: TwoWords,
