@@ -2,29 +2,30 @@ ghost use Rattle.std.specs.Prelude.{◌≡◌, ◌^◌, ◌<◌};
 
 use crate::crc_run::CrcRun;
 use crate::frame_bits::{FrameBits, START_OF_FRAME};
-use crate::packed_bits::PackedBits;
+use crate::two_words::TwoWords;
 use can_frame::Level;
 use std::marker::Model;
 
-/// The unstuffed levels of a frame in a register, and their running CRC sequence, which takes in each level as it
-/// comes: so the end of the frame is no more work than a level before it.
+/// The unstuffed levels of a frame in a register, the last of them its lowest bit, and their running CRC sequence. A
+/// level that comes moves both up by one place, so that the end of a frame is no more work than a level of it.
 #[derive(Debug, Drop)]
 pub struct CheckedBits {
-    levels: PackedBits,
+    register: TwoWords,
     run: CrcRun,
+    count: u8,
 }
 
 impl Model for CheckedBits {
-    ghost use Rattle.std.specs.Prelude.{List};
+    ghost use Rattle.std.specs.Prelude.{◌≤◌, ◌<◌, ◌^◌, List};
     ghost use Rattle.can_frame.specs.declared.level.Level.{Level};
     ghost use Rattle.can_frame.specs.Levels.{bits_of};
     ghost use Rattle.can_wire.specs.Crc.{IsCrc};
 
     ghost Value = { List Level };
 
-    ghost view = { λ a. a.levels };
+    ghost view = { λ a. bits_of a.count a.register };
 
-    ghost invariant = { λ a. IsCrc a.levels (bits_of 15 a.run) };
+    ghost invariant = { λ a. (1 ≤ a.count) × (a.count ≤ 118) × (a.register < 2 ^ a.count) × IsCrc (bits_of a.count a.register) (bits_of 15 a.run) };
 }
 
 impl FrameBits for CheckedBits {
@@ -34,36 +35,43 @@ impl FrameBits for CheckedBits {
         let mut run = CrcRun::new();
         run.push(START_OF_FRAME);
         CheckedBits {
-            levels: PackedBits::start(),
+            register: TwoWords::new(u128::from(START_OF_FRAME.is_recessive())),
             run,
+            count: 1,
         }
     }
 
     #[inline]
     fn push(&mut self, level: Level) {
-        self.levels.push(level);
+        let moved = 2 * self.register.number();
+        self.register = TwoWords::new(moved + u128::from(level.is_recessive()));
         self.run.push(level);
+        self.count += 1;
     }
 
     #[inline]
     fn append(&mut self, number: u64, count: usize) {
-        self.levels.append(number, count);
+        let moved = self.register.number() << count;
+        self.register = TwoWords::new(moved + u128::from(number));
         self.run.append(number, count);
+        self.count += count as u8;
     }
 
     #[inline]
     fn len(&self) -> usize {
-        self.levels.len()
+        usize::from(self.count)
     }
 
     #[inline]
     fn level_at(&self, place: usize) -> Level {
-        self.levels.level_at(place)
+        let behind = self.len() - 1 - place;
+        Level::from_bool((self.register.number() >> behind) % 2 == 1)
     }
 
     #[inline]
     fn number_at(&self, place: usize, count: usize) -> u64 {
-        self.levels.number_at(place, count)
+        let behind = self.len() - place - count;
+        ((self.register.number() >> behind) % (1 << count)) as u64
     }
 
     #[inline]

@@ -13,7 +13,7 @@ returns c =
     let check = c.value.result in
     let long : 15 ≤ length all = omega (arith, c.requires, length-append u (c.args.level ∷ [])) in
     let computed : bits_of 15 check ≡ crc_of all =
-    ap (bits_of 15) c.value.ensures.value ∙ IsCrc-only all _ (c.push.ensures.check u (IsCrc-same c.self.view_is c.self.invariant)) in (
+    ap (bits_of 15) c.value.ensures.value ∙ IsCrc-only all _ (c.push.ensures.check u (IsCrc-same c.self.view_is c.self.invariant.3)) in (
       λ equal. IsCrc-zero all long check computed (eqb-true check 0 equal),
       λ agrees. eq-eqb check 0 (zero-IsCrc all long check computed c.value.ensures.range agrees),
     )

@@ -6,4 +6,4 @@ use Rattle.can_wire.proofs.checked_bits.CheckedBitsFrameBits.check.Goals as goal
 
 pub returns-clause-computed : goal.returns-clause-computed
 returns-clause-computed c =
-    ap (bits_of 15) c.value.ensures.value ∙ IsCrc-only c.self.inside.levels (bits_of 15 c.self.inside.run) c.self.invariant ∙ ap crc_of c.self.view_is
+    ap (bits_of 15) c.value.ensures.value ∙ IsCrc-only (bits_of c.self.inside.count c.self.inside.register) (bits_of 15 c.self.inside.run) c.self.invariant.3 ∙ ap crc_of c.self.view_is
