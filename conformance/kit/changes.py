@@ -1,5 +1,6 @@
 """Mechanical changes of C sources: each number one more and one less, each comparison, operator and level turned, each
-statement left out, one at a time. They know nothing of CAN, and so try the cases without an opinion."""
+statement left out, one at a time. They know nothing of CAN, and so try the cases without an opinion.
+"""
 
 from __future__ import annotations
 
@@ -7,7 +8,7 @@ import os
 import re
 from collections import Counter
 from dataclasses import dataclass, replace
-from typing import Dict, Iterator
+from typing import Iterator
 
 _NUMBER = re.compile(r"(?<![\w.])(0x[0-9a-f]+|\d+)(?!\w)")
 _TURNED = (
@@ -34,7 +35,7 @@ class Change:
     new: str
     number: int = 1
 
-    def applied(self, texts: Dict[str, str]) -> Dict[str, str]:
+    def applied(self, texts: dict[str, str]) -> dict[str, str]:
         lines = texts[self.path].split("\n")
         lines[self.line] = self.new
         return {**texts, self.path: "\n".join(lines)}

@@ -4,12 +4,12 @@ from __future__ import annotations
 
 import re
 from dataclasses import dataclass, field
-from typing import Any, Callable, Dict, Iterable, List, Optional, Tuple
+from typing import Any, Callable, Iterable, Tuple
 
 from kit.frames import Frame
 from kit.levels import read_levels, write_levels
 
-loads: Callable[[str], Dict[str, Any]]
+loads: Callable[[str], dict[str, Any]]
 try:
     import tomllib
 
@@ -61,14 +61,14 @@ class Case:
 
     name: str
     family: str
-    tester: List[Tuple[str, str]]
+    tester: list[tuple[str, str]]
     purpose: str = ""
     start: str = "idle"
-    needs: List[str] = field(default_factory=list)
-    choices: List[str] = field(default_factory=list)
-    offers: List[Tuple[int, str]] = field(default_factory=list)
-    holds: List[Tuple[int, int]] = field(default_factory=list)
-    forced: List[int] = field(default_factory=list)
+    needs: list[str] = field(default_factory=list)
+    choices: list[str] = field(default_factory=list)
+    offers: list[tuple[int, str]] = field(default_factory=list)
+    holds: list[tuple[int, int]] = field(default_factory=list)
+    forced: list[int] = field(default_factory=list)
 
     @property
     def levels(self) -> str:
@@ -81,9 +81,9 @@ class Transcript:
 
     case: str
     drove: str
-    events: Optional[List[Event]] = None
-    counters: Optional[List[Tuple[int, int, int]]] = None
-    end: Optional[State] = None
+    events: list[Event] | None = None
+    counters: list[tuple[int, int, int]] | None = None
+    end: State | None = None
 
 
 def is_frame(text: Any) -> bool:
@@ -122,7 +122,7 @@ def _strings(values: Any, known: Iterable[str]) -> bool:
     return all(one < other for one, other in zip(places, places[1:]))
 
 
-def _levels_of(strings: Any, place: str, most: int) -> List[Tuple[str, str]]:
+def _levels_of(strings: Any, place: str, most: int) -> list[tuple[str, str]]:
     _require(isinstance(strings, list) and 1 <= len(strings) <= most, place)
     read = []
     for index, text in enumerate(strings):
@@ -134,8 +134,8 @@ def _levels_of(strings: Any, place: str, most: int) -> List[Tuple[str, str]]:
 
 
 def _rows(
-    table: Dict[str, Any], key: str, place: str, most: int, fits: Callable[[List[Any]], bool], strictly: bool
-) -> List[Any]:
+    table: dict[str, Any], key: str, place: str, most: int, fits: Callable[[list[Any]], bool], strictly: bool
+) -> list[Any]:
     """Rows of a list whose first element is a time below the case's bits; the times don't fall."""
     rows = table.get(key, [])
     _require(isinstance(rows, list) and len(rows) <= most, f"{place}.{key}")
@@ -147,7 +147,7 @@ def _rows(
     return [tuple(row) for row in rows]
 
 
-def _read_case(table: Any, place: str, names: Dict[str, Case]) -> Case:
+def _read_case(table: Any, place: str, names: dict[str, Case]) -> Case:
     _require(isinstance(table, dict), place)
     _require(all(key in _CASE_KEYS for key in table), f"{place}.key")
     _require(_is_number(table.get("version"), 1, 1), f"{place}.version")
@@ -169,10 +169,10 @@ def _read_case(table: Any, place: str, names: Dict[str, Case]) -> Case:
     case = Case(str(name), str(family), tester, purpose, table["start"], needs, choices)
     _require(len(case.levels) == bits, f"{place}.tester")
 
-    def is_offer(row: List[Any]) -> bool:
+    def is_offer(row: list[Any]) -> bool:
         return row[0] < len(case.levels) and len(row) == 2 and is_frame(row[1])
 
-    def is_hold(row: List[Any]) -> bool:
+    def is_hold(row: list[Any]) -> bool:
         return row[0] < len(case.levels) and len(row) == 2 and _is_number(row[1], 0, 2)
 
     case.offers = _rows(table, "offers", place, 256, is_offer, False)
@@ -188,11 +188,11 @@ def _read_case(table: Any, place: str, names: Dict[str, Case]) -> Case:
     return case
 
 
-def _is_count(row: List[Any]) -> bool:
+def _is_count(row: list[Any]) -> bool:
     return len(row) == 3 and all(_is_number(number, 0, 300) for number in row[1:])
 
 
-def _read_transcript(table: Any, place: str, names: Dict[str, Case], seen: Dict[str, Any]) -> Transcript:
+def _read_transcript(table: Any, place: str, names: dict[str, Case], seen: dict[str, Any]) -> Transcript:
     _require(isinstance(table, dict), place)
     _require(all(key in _TRANSCRIPT_KEYS for key in table), f"{place}.key")
     _require(_is_number(table.get("version"), 1, 1), f"{place}.version")
@@ -214,7 +214,7 @@ def _read_transcript(table: Any, place: str, names: Dict[str, Case], seen: Dict[
     return transcript
 
 
-def read_document(text: str, known: Iterable[Case] = ()) -> Tuple[List[Case], List[Transcript]]:
+def read_document(text: str, known: Iterable[Case] = ()) -> tuple[list[Case], list[Transcript]]:
     """The cases and transcripts of a document; transcripts may also name the cases that are known.
 
     Raises DocumentFault for the first field that is wrong.
@@ -227,12 +227,12 @@ def read_document(text: str, known: Iterable[Case] = ()) -> Tuple[List[Case], Li
     for key in ("case", "transcript"):
         rows = document.get(key, [])
         _require(isinstance(rows, list) and len(rows) <= MOST_CASES, key)
-    names: Dict[str, Case] = {}
+    names: dict[str, Case] = {}
     for index, table in enumerate(document.get("case", [])):
         case = _read_case(table, f"case[{index}]", names)
         names[case.name] = case
     reachable = {**{case.name: case for case in known}, **names}
-    transcripts: Dict[str, Transcript] = {}
+    transcripts: dict[str, Transcript] = {}
     for index, table in enumerate(document.get("transcript", [])):
         transcript = _read_transcript(table, f"transcript[{index}]", reachable, transcripts)
         transcripts[transcript.case] = transcript
@@ -246,7 +246,7 @@ def _array(values: Iterable[str]) -> str:
     return "[" + ", ".join(values) + "]"
 
 
-def _long_array(key: str, values: List[str]) -> List[str]:
+def _long_array(key: str, values: list[str]) -> list[str]:
     if not values:
         return [f"{key} = []"]
     return [f"{key} = ["] + [f"    {value}," for value in values] + ["]"]

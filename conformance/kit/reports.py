@@ -4,7 +4,7 @@ from __future__ import annotations
 
 import xml.etree.ElementTree as xml
 from dataclasses import dataclass
-from typing import Dict, Iterable, List
+from typing import Iterable
 
 from kit.documents import Case, Transcript
 from kit.playing import seen_levels
@@ -32,7 +32,7 @@ class Verdict:
 SHOWN_BEFORE, SHOWN_BEHIND = 40, 10
 
 
-def window_lines(case: Case, time: int, given: Transcript, expected: Transcript) -> List[str]:
+def window_lines(case: Case, time: int, given: Transcript, expected: Transcript) -> list[str]:
     """The levels around a bit time: what the tester drove, what the controller drove, and what was due."""
     front = max(0, time - SHOWN_BEFORE)
     end = time + SHOWN_BEHIND
@@ -50,9 +50,9 @@ def count_line(verdicts: Iterable[Verdict]) -> str:
     return f"{' '.join(counts)} of {len(kinds)}"
 
 
-def summary_lines(verdicts: Iterable[Verdict]) -> List[str]:
+def summary_lines(verdicts: Iterable[Verdict]) -> list[str]:
     """A line for each family, in the order of its first case."""
-    families: Dict[str, List[Verdict]] = {}
+    families: dict[str, list[Verdict]] = {}
     for verdict in verdicts:
         families.setdefault(verdict.case.family, []).append(verdict)
     width = max(map(len, families), default=0)
@@ -64,7 +64,8 @@ NOTHING_COMPARED = 5
 
 def exit_status(verdicts: Iterable[Verdict], only_plays: bool = False) -> int:
     """0 where all passed or were skipped, 1 where one failed, 3 where one is void, and 5 where none was compared with
-    anything; a run that only plays, to write transcripts, has to have played one."""
+    anything; a run that only plays, to write transcripts, has to have played one.
+    """
     kinds = {verdict.kind for verdict in verdicts}
     if "void" in kinds:
         return 3
@@ -78,7 +79,7 @@ def _shown(text: str) -> str:
     return "".join(letter if letter.isprintable() else "?" for letter in text)
 
 
-def write_junit(path: str, name: str, verdicts: List[Verdict]) -> None:
+def write_junit(path: str, name: str, verdicts: list[Verdict]) -> None:
     """Each family is a class, each case a test."""
     kinds = [verdict.kind for verdict in verdicts]
     suite = xml.Element(

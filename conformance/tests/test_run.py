@@ -8,7 +8,6 @@ import sys
 import tempfile
 import unittest
 import xml.etree.ElementTree as xml
-from typing import List
 
 TOP = os.path.dirname(os.path.dirname(os.path.realpath(__file__)))
 TRANSCRIPTS = os.path.join(TOP, "transcripts")
@@ -35,7 +34,7 @@ class Runs(unittest.TestCase):
     def path(self, name: str) -> str:
         return os.path.join(self.folder.name, name)
 
-    def run_kit(self, options: List[str], command: List[str]) -> "subprocess.CompletedProcess[str]":
+    def run_kit(self, options: list[str], command: list[str]) -> subprocess.CompletedProcess[str]:
         words = [os.path.join(TOP, "run"), "--expect", TRANSCRIPTS, *options, "--", *command]
         return subprocess.run([sys.executable, *words], capture_output=True, text=True, timeout=60)
 
@@ -56,13 +55,14 @@ class Runs(unittest.TestCase):
         elsewhere = ["--expect", os.path.join(TOP, "transcripts", "rx-dlc.toml")]
         told = "run: nothing was compared: no case was played that has an expected transcript\n"
         written = ["--transcripts", self.path("told.toml")]
-        for options, command, status in (
+        rows: list[tuple[list[str], list[str], int]] = [
             (["--expect", TRANSCRIPTS, "--without", "forced"], skipping, 5),
-            ([*elsewhere], silent, 5),
+            (elsewhere, silent, 5),
             ([], silent, 5),
             (written, silent, 0),
             (written, skipping, 5),
-        ):
+        ]
+        for options, command, status in rows:
             words = [os.path.join(TOP, "run"), "--only", "arbitration-equal-same", *options, "--", *command]
             run = subprocess.run([sys.executable, *words], capture_output=True, text=True, timeout=60)
             self.assertEqual((run.returncode, run.stderr), (status, told if status else ""))
