@@ -1,5 +1,7 @@
-"""What the theorem on a network claims of a call of `Bus::play_disturbed`, worked out from the offers, the hits, and
-what the ports had before: which attempt sends which frame when, the levels, the logs and the counters.
+"""What the theorem on a network claims of a call of `Bus::play_disturbed`.
+
+It is worked out from the offers, the hits, and what the ports had before: which attempt sends which frame when, the
+levels, the logs and the counters.
 
 Standard library only, written from docs/FRAMES.md and the section "Networks" of docs/BUS.md: no port, no phase and no
 step. Levels are 0 (dominant) and 1 (recessive).
@@ -26,6 +28,8 @@ from repair_claims import (
 
 
 class Offer(NamedTuple):
+    """At this time the port with this number is offered this frame."""
+
     time: int
     node: int
     frame: Frame
@@ -45,6 +49,7 @@ class Attempt(NamedTuple):
 
 
 def attempt_levels(frame: Frame, offset: int | None) -> list[int]:
+    """The levels of an attempt that is hit at an offset, or at none, intermission included."""
     wire = spelled(frame).wire
     if offset is None:
         return wire + INTERMISSION
@@ -53,9 +58,7 @@ def attempt_levels(frame: Frame, offset: int | None) -> list[int]:
 
 
 def course(offers: Iterable[Offer], hits: dict[int, int]) -> list[Attempt]:
-    """The attempts of these offers, which stand in the order of their times. `hits` has the offset of each attempt that
-    is hit.
-    """
+    """The attempts of these offers, which stand in the order of their times; each attempt that is hit has an offset."""
     attempts: list[Attempt] = []
     left, free = list(offers), 0
     while left:
@@ -73,10 +76,12 @@ def course(offers: Iterable[Offer], hits: dict[int, int]) -> list[Attempt]:
 
 
 def are_in_windows(attempts: Iterable[Attempt]) -> bool:
+    """Whether each hit is in the window of its attempt's frame."""
     return all(attempt.offset is None or attempt.offset in spelled(attempt.offer.frame).window for attempt in attempts)
 
 
 def line(attempts: Iterable[Attempt], length: int) -> list[int]:
+    """So many levels of the bus."""
     levels = [RECESSIVE] * length
     for attempt in attempts:
         for place, level in enumerate(attempt.levels):
@@ -106,6 +111,7 @@ def tallies(attempts: Iterable[Attempt], counters: Iterable[Counts]) -> list[lis
 
 
 def are_borne(tallies: Iterable[list[Counts]]) -> bool:
+    """Whether no counter comes to 128."""
     return all(counter < 128 for tally in tallies for port in tally for counter in port)
 
 

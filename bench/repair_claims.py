@@ -1,5 +1,7 @@
-"""What the theorem on a disturbed bus claims of a call of `Bus::run`, worked out from the frames that wait and the
-hits: where each attempt begins and what it has on the wire, the one list of every log, and what each port counts.
+"""What the theorem on a disturbed bus claims of a call of `Bus::run`.
+
+It is worked out from the frames that wait and the hits: where each attempt begins and what it has on the wire, the one
+list of every log, and what each port counts.
 
 Standard library only, written from docs/FRAMES.md and the section "A disturbed bus" of docs/BUS.md: no port, no
 phase and no step. Levels are 0 (dominant) and 1 (recessive).
@@ -21,6 +23,8 @@ Counts = tuple[int, int]
 
 
 class Frame(NamedTuple):
+    """A frame of any kind."""
+
     extended: bool
     identifier: int
     remote: bool
@@ -28,6 +32,7 @@ class Frame(NamedTuple):
     data: bytes
 
     def text(self) -> str:
+        """Its text, as docs/FORMATS.md has it."""
         head = f"E {self.identifier:08x}" if self.extended else f"S {self.identifier:03x}"
         words = [head, "R" if self.remote else "D", str(self.dlc)]
         return " ".join(words + ([self.data.hex()] if self.data else []))
@@ -53,6 +58,7 @@ def check_sequence(levels: list[int]) -> list[int]:
 
 
 def arbitration_field(frame: Frame) -> list[int]:
+    """The levels that arbitration compares."""
     if frame.extended:
         upper, lower = bits(frame.identifier >> 18, 11), bits(frame.identifier, 18)
         return upper + [RECESSIVE, RECESSIVE] + lower + [int(frame.remote)]
@@ -60,6 +66,7 @@ def arbitration_field(frame: Frame) -> list[int]:
 
 
 def unstuffed(frame: Frame) -> list[int]:
+    """The levels from SOF to the CRC sequence, without stuff bits."""
     reserved = [DOMINANT, DOMINANT] if frame.extended else [DOMINANT]
     head = [DOMINANT] + arbitration_field(frame) + reserved + bits(frame.dlc, 4)
     for byte in frame.data:
@@ -82,6 +89,7 @@ def is_stuff_place(levels: list[int]) -> bool:
 
 
 def spelled(frame: Frame) -> Spelled:
+    """The levels of a frame on the wire."""
     levels: list[int] = []
     stuff_places: set[int] = set()
     first = 0
@@ -134,9 +142,7 @@ def lateness(frame: Spelled, offset: int) -> int:
 
 
 class Attempt(NamedTuple):
-    """The frame that it sends, by its place in the list; when it begins; where it is hit, if it is, and how much
-    later the receivers err.
-    """
+    """The place of its frame, when it begins, where it is hit, if it is, and how much later the receivers err."""
 
     frame: int
     begin: int
@@ -145,7 +151,7 @@ class Attempt(NamedTuple):
 
 
 def counted(counters: Counts, sends: bool, offset: int | None, slot: int) -> Counts:
-    """The counters of a port, (TEC, REC), behind an attempt at a frame with this ACK slot: hit at an offset, or at None."""
+    """The counters of a port behind an attempt at a frame with this ACK slot, hit at this offset or not at all."""
     tec, rec = counters
     if offset is None:
         return (max(tec - 1, 0), rec) if sends else (tec, max(rec - 1, 0))
@@ -155,8 +161,9 @@ def counted(counters: Counts, sends: bool, offset: int | None, slot: int) -> Cou
 
 
 class Claims:
-    """The claims for a list of frames in the order of arbitration, the port that holds each of them, and the hits:
-    of each attempt that is hit its offset.
+    """The claims for a list of frames in the order of arbitration, the port that holds each of them, and the hits.
+
+    The hits have the offset of each attempt that is hit.
     """
 
     def __init__(self, ports: int, frames: list[Frame], holders: list[int], hits: dict[int, int]) -> None:
@@ -210,6 +217,7 @@ class Claims:
         return [18 + attempt.late for attempt in self.attempts if attempt.offset is not None]
 
     def level(self, time: int) -> int:
+        """The level of the bus in a bit time."""
         return self.line[time] if time < len(self.line) else RECESSIVE
 
     def log(self, port: int) -> list[Entry]:

@@ -1,14 +1,14 @@
-"""A classical CAN controller at whole bit times, as a golden model (Bosch CAN 2.0 part B, ISO 11898-1).
+r"""A classical CAN controller at whole bit times, as a golden model (Bosch CAN 2.0 part B, ISO 11898-1).
 
     >>> from riddlesage import Frame, Port, encode
     >>> sender, receiver = Port(), Port()
-    >>> sender.offer(Frame(0x123, b"\\xaa\\x55"))
+    >>> sender.offer(Frame(0x123, b"\xaa\x55"))
     >>> for _ in range(80):
     ...     bus = sender.drive() & receiver.drive()
     ...     for port in (sender, receiver):
     ...         told = port.sample(bus)
     >>> receiver.log
-    [Entry(frame=Frame(identifier=291, data=b'\\xaaU', extended=False, remote=False, dlc=2), sent=False)]
+    [Entry(frame=Frame(identifier=291, data=b'\xaaU', extended=False, remote=False, dlc=2), sent=False)]
 
 Levels are numbers: 0 is dominant, 1 recessive, and many of them are `bytes`. The calls are those of riddlesage.h, over
 `libriddlesage.so`, which is looked for at the environment variable RIDDLESAGE_LIBRARY, then beside this file, and then

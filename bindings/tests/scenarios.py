@@ -1,9 +1,11 @@
 #!/usr/bin/env python3
-"""Scenarios of `canbit run`: played by ports of the Python module, in plain lines for tests/scenario.c, and random ones.
+"""Scenarios of `canbit run`: played by ports of the Python module, told to tests/scenario.c, and random ones.
 
-scenarios.py report < SCENARIO     the report, as `canbit run` prints it
-scenarios.py plain < SCENARIO      the lines that tests/scenario.c reads
-scenarios.py random SEED BITS      a scenario of four ports with frames and disturbances of all kinds
+It writes one of these:
+
+    scenarios.py report < SCENARIO     the report, as `canbit run` prints it
+    scenarios.py plain < SCENARIO      the lines that tests/scenario.c reads
+    scenarios.py random SEED BITS      a scenario of four ports with frames and disturbances of all kinds
 """
 
 from __future__ import annotations

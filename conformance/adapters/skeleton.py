@@ -1,6 +1,7 @@
 #!/usr/bin/env python3
-"""An adapter to begin with: it speaks the line protocol, and the controller in it drives nothing yet. Fill Controller
-with calls of your own: a library, a simulator, a bench behind a serial line.
+"""An adapter to begin with: it speaks the line protocol, and the controller in it drives nothing yet.
+
+Fill Controller with calls of your own: a library, a simulator, a bench behind a serial line.
 """
 
 from __future__ import annotations
@@ -25,8 +26,10 @@ class Controller:
         return 1
 
     def sample(self, level: int) -> str | None:
-        """The bus has this level in this bit time. Returns the event, such as `error stuff`, if there is one and
-        your controller tells it; a controller that tells none returns None always.
+        """The bus has this level in this bit time.
+
+        Returns the event, such as `error stuff`, if there is one and your controller tells it; a controller that tells
+        none returns None always.
         """
         return None
 
@@ -69,6 +72,7 @@ def answer(controller: Controller, line: str) -> tuple[Controller, list[str]]:
 
 
 def main() -> None:
+    """Answers the runner line by line."""
     print("can-kit 1 skeleton of an adapter", flush=True)
     controller = Controller(False)
     for line in sys.stdin:

@@ -48,8 +48,9 @@ def break_delimiter(scene: Scene, frame: str, dominant: int) -> None:
 
 
 def raise_tec(scene: Scene, goal: int, frame: str = PROBE_FRAME) -> None:
-    """Errors in a frame that the controller is about to send, until the reference's TEC is the goal or the next
-    above that 8 at a time reach. The frame still waits behind it.
+    """Errors in a frame that the controller is about to send, until the reference's TEC is the goal.
+
+    Or it is the next above that 8 at a time reach. The frame still waits behind it.
     """
     while scene.tec < goal:
         missing = goal - scene.tec

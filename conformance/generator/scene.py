@@ -1,5 +1,7 @@
-"""A scene: one case while it is made. The tester's levels are played to the reference as they are added, so that
-later ones can follow what the controller did.
+"""A scene: one case while it is made.
+
+The tester's levels are played to the reference as they are added, so that later ones can follow what the controller
+did.
 """
 
 from __future__ import annotations
@@ -28,16 +30,19 @@ class Scene:
 
     @property
     def time(self) -> int:
+        """How many bit times have been played."""
         return len(self.drove)
 
     # what is handed to the controller
 
     def offer(self, frame: str) -> None:
+        """The controller is offered a frame."""
         self._resume()
         self.case.offers.append((self.time, frame))
         self._reference.offer(frame)
 
     def hold(self, wish: int) -> None:
+        """The controller is asked for so many overload frames."""
         self._resume()
         self.case.holds.append((self.time, wish))
         self._reference.hold(wish)
@@ -45,8 +50,9 @@ class Scene:
     # what the tester drives
 
     def play(self, levels: str, comment: str = "") -> str:
-        """Adds levels of the tester, `f` for a forced bit time. With a comment they begin a string of their own.
-        Returns what the controller drove.
+        """Adds levels of the tester, `f` for a forced bit time, and returns what the controller drove.
+
+        With a comment they begin a string of their own.
         """
         if not levels:
             return ""
@@ -110,10 +116,12 @@ class Scene:
 
     @property
     def tec(self) -> int:
+        """The reference's transmit error count."""
         return self.state()[1]
 
     @property
     def rec(self) -> int:
+        """The reference's receive error count."""
         return self.state()[2]
 
     # frames of the tester
@@ -126,8 +134,9 @@ class Scene:
         wire: Wire | None = None,
         hold: int | None = None,
     ) -> Wire:
-        """The tester sends a frame, the ACK slot recessive, or its levels before the place `upto`. Frames are
-        offered, or overload frames asked for, in its eighth level.
+        """The tester sends a frame, the ACK slot recessive, or its levels before the place `upto`.
+
+        Frames are offered, or overload frames asked for, in its eighth level.
         """
         wire = wire or Frame.parse(frame).wire()
         levels = wire.levels[:upto]
@@ -160,8 +169,9 @@ class Scene:
             raise ValueError(f"{self.case.name}: no frame begins")
 
     def begins(self, comment: str = "waits for the start of a frame") -> bool:
-        """Recessive levels until the controller would drive a dominant one. False where it drives none as long as
-        bus off lasts, or no frame waits any more.
+        """Recessive levels until the controller would drive a dominant one.
+
+        False where it drives none as long as bus off lasts, or no frame waits any more.
         """
         self._resume()
         for waited in range(LONGEST_WAIT):
@@ -229,6 +239,7 @@ class Scene:
         return [need for need in NEEDS if need in needs]
 
     def finished(self, choices: Sequence[str] = ()) -> tuple[Case, Transcript]:
+        """The case, and what the reference did in it."""
         self.case.needs = self.needed()
         self.case.choices = list(choices)
         return self.case, Transcript(self.case.name, self.drove, self.events or None, None, self.state())

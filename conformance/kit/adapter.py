@@ -41,13 +41,16 @@ def _is_number(word: str) -> bool:
 
 
 class Adapter:
-    """A running adapter. After a Void it has to be closed, and another one started. A carriage return before the end
-    of a line that it writes is passed over.
+    """A running adapter.
+
+    After a Void it has to be closed, and another one started. A carriage return before the end of a line that it writes
+    is passed over.
     """
 
     def __init__(self, command: Sequence[str], errors: IO[str] | None = None) -> None:
-        """Starts it, in a session of its own, so that what it starts can be ended with it. Its standard error is the
-        runner's, or goes to a file.
+        """Starts it, in a session of its own, so that what it starts can be ended with it.
+
+        Its standard error is the runner's, or goes to a file.
         """
         self._process = subprocess.Popen(
             list(command), stdin=subprocess.PIPE, stdout=subprocess.PIPE, stderr=errors, start_new_session=True
@@ -116,9 +119,11 @@ class Adapter:
             raise _is_other(answer.encode())
 
     def offer(self, frame: str) -> None:
+        """Offers the controller a frame."""
         self._write_line(f"offer {frame}")
 
     def hold(self, wish: int) -> None:
+        """Asks the controller for so many overload frames."""
         self._write_line(f"hold {wish}")
 
     def play(self, levels: str) -> tuple[str, list[Event]]:

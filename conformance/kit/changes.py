@@ -1,5 +1,7 @@
-"""Mechanical changes of C sources: each number one more and one less, each comparison, operator and level turned, each
-statement left out, one at a time. They know nothing of CAN, and so try the cases without an opinion.
+"""Mechanical changes of C sources, one at a time.
+
+Each number is made one more and one less, each comparison, operator and level turned, each statement left out. They
+know nothing of CAN, and so try the cases without an opinion.
 """
 
 from __future__ import annotations
@@ -36,6 +38,7 @@ class Change:
     number: int = 1
 
     def applied(self, texts: dict[str, str]) -> dict[str, str]:
+        """The sources with the change in them."""
         lines = texts[self.path].split("\n")
         lines[self.line] = self.new
         return {**texts, self.path: "\n".join(lines)}

@@ -1,5 +1,6 @@
-"""Compares a transcript with an expected one: the first difference in time. In one bit time a level comes
-before an event and an event before counters; the end is last.
+"""Compares a transcript with an expected one: the first difference in time.
+
+In one bit time a level comes before an event and an event before counters; the end is last.
 """
 
 from __future__ import annotations

@@ -72,6 +72,7 @@ class Case:
 
     @property
     def levels(self) -> str:
+        """What the tester drives, a level for each bit time."""
         return "".join(levels for levels, _ in self.tester)
 
 
@@ -86,14 +87,16 @@ class Transcript:
     end: State | None = None
 
 
-def is_frame(text: Any) -> bool:
+def is_frame(text: object) -> bool:
+    """Whether it is the text of a frame."""
     try:
         return isinstance(text, str) and Frame.parse(text) is not None
     except ValueError:
         return False
 
 
-def is_event(text: Any) -> bool:
+def is_event(text: object) -> bool:
+    """Whether it is an event as an adapter tells it."""
     if not isinstance(text, str):
         return False
     word, _, rest = text.partition(" ")
@@ -110,11 +113,23 @@ def _require(holds: bool, place: str) -> None:
         raise DocumentFault(place)
 
 
-def _is_number(value: Any, least: int, most: int) -> bool:
+def _table_of(value: object, place: str) -> dict[str, Any]:
+    if not isinstance(value, dict):
+        raise DocumentFault(place)
+    return value
+
+
+def _list_of(value: object, place: str, least: int, most: int) -> list[Any]:
+    if not isinstance(value, list) or not least <= len(value) <= most:
+        raise DocumentFault(place)
+    return value
+
+
+def _is_number(value: object, least: int, most: int) -> bool:
     return isinstance(value, int) and not isinstance(value, bool) and least <= value <= most
 
 
-def _strings(values: Any, known: Iterable[str]) -> bool:
+def _strings(values: object, known: Iterable[str]) -> bool:
     order = list(known)
     if not isinstance(values, list) or not all(value in order for value in values):
         return False
@@ -122,10 +137,9 @@ def _strings(values: Any, known: Iterable[str]) -> bool:
     return all(one < other for one, other in zip(places, places[1:]))
 
 
-def _levels_of(strings: Any, place: str, most: int) -> list[tuple[str, str]]:
-    _require(isinstance(strings, list) and 1 <= len(strings) <= most, place)
+def _levels_of(strings: object, place: str, most: int) -> list[tuple[str, str]]:
     read = []
-    for index, text in enumerate(strings):
+    for index, text in enumerate(_list_of(strings, place, 1, most)):
         try:
             read.append((read_levels(text), ""))
         except (ValueError, AttributeError):
@@ -137,8 +151,7 @@ def _rows(
     table: dict[str, Any], key: str, place: str, most: int, fits: Callable[[list[Any]], bool], strictly: bool
 ) -> list[Any]:
     """Rows of a list whose first element is a time below the case's bits; the times don't fall."""
-    rows = table.get(key, [])
-    _require(isinstance(rows, list) and len(rows) <= most, f"{place}.{key}")
+    rows = _list_of(table.get(key, []), f"{place}.{key}", 0, most)
     last = -1 if strictly else 0
     for index, row in enumerate(rows):
         good = isinstance(row, list) and bool(row) and _is_number(row[0], 0, MOST_BITS) and fits(row)
@@ -147,8 +160,8 @@ def _rows(
     return [tuple(row) for row in rows]
 
 
-def _read_case(table: Any, place: str, names: dict[str, Case]) -> Case:
-    _require(isinstance(table, dict), place)
+def _read_case(value: object, place: str, names: dict[str, Case]) -> Case:
+    table = _table_of(value, place)
     _require(all(key in _CASE_KEYS for key in table), f"{place}.key")
     _require(_is_number(table.get("version"), 1, 1), f"{place}.version")
     family, name = table.get("family"), table.get("name")
@@ -177,8 +190,7 @@ def _read_case(table: Any, place: str, names: dict[str, Case]) -> Case:
 
     case.offers = _rows(table, "offers", place, 256, is_offer, False)
     case.holds = _rows(table, "holds", place, 256, is_hold, False)
-    forced = table.get("forced", [])
-    _require(isinstance(forced, list) and len(forced) <= 4096, f"{place}.forced")
+    forced = _list_of(table.get("forced", []), f"{place}.forced", 0, 4096)
     for index, time in enumerate(forced):
         good = _is_number(time, 0, len(case.levels) - 1) and case.levels[time] == "1"
         _require(good and (index == 0 or time > forced[index - 1]), f"{place}.forced[{index}]")
@@ -192,8 +204,8 @@ def _is_count(row: list[Any]) -> bool:
     return len(row) == 3 and all(_is_number(number, 0, 300) for number in row[1:])
 
 
-def _read_transcript(table: Any, place: str, names: dict[str, Case], seen: dict[str, Any]) -> Transcript:
-    _require(isinstance(table, dict), place)
+def _read_transcript(value: object, place: str, names: dict[str, Case], seen: dict[str, Any]) -> Transcript:
+    table = _table_of(value, place)
     _require(all(key in _TRANSCRIPT_KEYS for key in table), f"{place}.key")
     _require(_is_number(table.get("version"), 1, 1), f"{place}.version")
     name = table.get("case")
@@ -225,8 +237,7 @@ def read_document(text: str, known: Iterable[Case] = ()) -> tuple[list[Case], li
         raise DocumentFault("toml") from None
     _require(all(key in ("case", "transcript") for key in document), "key")
     for key in ("case", "transcript"):
-        rows = document.get(key, [])
-        _require(isinstance(rows, list) and len(rows) <= MOST_CASES, key)
+        _list_of(document.get(key, []), key, 0, MOST_CASES)
     names: dict[str, Case] = {}
     for index, table in enumerate(document.get("case", [])):
         case = _read_case(table, f"case[{index}]", names)

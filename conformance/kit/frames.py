@@ -34,16 +34,20 @@ class Frame:
         return frame
 
     def data_bytes(self) -> int:
+        """How many bytes of data it has on the wire."""
         return 0 if self.remote else min(self.dlc, 8)
 
     def text(self) -> str:
+        """Its text, as docs/FORMATS.md has it."""
         head = f"E {self.identifier:08x}" if self.extended else f"S {self.identifier:03x}"
         data = f" {self.data.hex()}" if self.data else ""
         return f"{head} {'R' if self.remote else 'D'} {self.dlc}{data}"
 
     def wire(self, turned: str = "", **levels: str) -> Wire:
-        """Its levels. `srr`, `r1`, `r0` may be given another level; `turned` names a part, as `crc-14` or
-        `data-3`, of which that place is turned around behind the computing of the check sequence.
+        """Its levels, of which `srr`, `r1`, `r0` may be given another.
+
+        `turned` names a part, as `crc-14` or `data-3`, of which that place is turned around behind the computing of the
+        check sequence.
         """
         return Wire(self, turned, levels)
 
@@ -125,4 +129,5 @@ class Wire:
 
 
 def opposite(level: str) -> str:
+    """The other level."""
     return "1" if level == "0" else "0"

@@ -28,6 +28,7 @@ class Caught:
         return [case.name for case in self.cases.get(self.mistake.shows, [])]
 
     def families(self) -> list[str]:
+        """The families of these cases."""
         return sorted({case.family for case in self.cases.get(self.mistake.shows, [])})
 
     def fault(self) -> str:

@@ -54,8 +54,9 @@ class Model:
     texts: dict[str, str]
 
     def build(self, folder: str, patch: Patch | None = None) -> str:
-        """Builds the adapter in a folder of its own: the program's path. Raises NotBuilt, or ValueError where the
-        patch does not fit.
+        """Builds the adapter in a folder of its own: the program's path.
+
+        Raises NotBuilt, or ValueError where the patch does not fit.
         """
         texts = self.texts if patch is None else patch.applied(self.texts)
         _write(texts, folder)
@@ -69,8 +70,9 @@ class Model:
 
 @dataclass
 class CModel(Model):
-    """The small controller in C. What is compiled of it as it is is kept for the mistakes, each of which changes one
-    file or two.
+    """The small controller in C.
+
+    What is compiled of it as it is is kept for the mistakes, each of which changes one file or two.
     """
 
     objects: dict[str, str] = field(default_factory=dict)
@@ -109,9 +111,11 @@ class RustModel(Model):
 
 
 def controller() -> CModel:
+    """The small controller in C, as it is."""
     paths = glob.glob(os.path.join(REPOSITORY, CONTROLLER, "*.[ch]"))
     return CModel("controller", _read(sorted(os.path.relpath(path, REPOSITORY) for path in paths)))
 
 
 def simulator() -> RustModel:
+    """The plain simulator in Rust, as it is."""
     return RustModel("simulator", _read(SIMULATOR[:1]))

@@ -2,7 +2,7 @@
 
 from __future__ import annotations
 
-import xml.etree.ElementTree as xml
+import xml.etree.ElementTree as ET
 from dataclasses import dataclass
 from typing import Iterable
 
@@ -23,6 +23,7 @@ class Verdict:
     seconds: float = 0.0
 
     def line(self) -> str:
+        """The line that a run prints of it."""
         if self.kind == "fail":
             note = "".join(f"; choice {choice}" for choice in self.case.choices)
             return f"fail {self.case.name} at {self.detail}{note}"
@@ -63,8 +64,9 @@ NOTHING_COMPARED = 5
 
 
 def exit_status(verdicts: Iterable[Verdict], only_plays: bool = False) -> int:
-    """0 where all passed or were skipped, 1 where one failed, 3 where one is void, and 5 where none was compared with
-    anything; a run that only plays, to write transcripts, has to have played one.
+    """0 where all passed or were skipped, 1 where one failed, 3 where one is void, 5 where nothing was compared.
+
+    A run that only plays, to write transcripts, has to have played one.
     """
     kinds = {verdict.kind for verdict in verdicts}
     if "void" in kinds:
@@ -82,7 +84,7 @@ def _shown(text: str) -> str:
 def write_junit(path: str, name: str, verdicts: list[Verdict]) -> None:
     """Each family is a class, each case a test."""
     kinds = [verdict.kind for verdict in verdicts]
-    suite = xml.Element(
+    suite = ET.Element(
         "testsuite",
         name=_shown(name),
         tests=str(len(kinds)),
@@ -92,7 +94,7 @@ def write_junit(path: str, name: str, verdicts: list[Verdict]) -> None:
         time=f"{sum(verdict.seconds for verdict in verdicts):.3f}",
     )
     for verdict in verdicts:
-        test = xml.SubElement(
+        test = ET.SubElement(
             suite,
             "testcase",
             classname=verdict.case.family,
@@ -101,7 +103,7 @@ def write_junit(path: str, name: str, verdicts: list[Verdict]) -> None:
         )
         element = {"fail": "failure", "void": "error", "skip": "skipped"}.get(verdict.kind)
         if element is not None:
-            xml.SubElement(test, element, message=_shown(verdict.line())).text = verdict.case.purpose
-    root = xml.Element("testsuites")
+            ET.SubElement(test, element, message=_shown(verdict.line())).text = verdict.case.purpose
+    root = ET.Element("testsuites")
     root.append(suite)
-    xml.ElementTree(root).write(path, encoding="utf-8", xml_declaration=True)
+    ET.ElementTree(root).write(path, encoding="utf-8", xml_declaration=True)

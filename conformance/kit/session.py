@@ -24,8 +24,9 @@ class Played:
 
 
 class Session:
-    """An adapter's command, and the adapter while one runs. Once it has told an event, a case in which it tells none is
-    one in which it told that there were none.
+    """An adapter's command, and the adapter while one runs.
+
+    Once it has told an event, a case in which it tells none is one in which it told that there were none.
     """
 
     def __init__(self, command: Sequence[str], without: Sequence[str] = (), batch: int = MOST_LEVELS) -> None:

@@ -1,5 +1,6 @@
-"""Reads the part of TOML that kit documents use, for Python before 3.11: arrays of tables, and keys with
-strings, whole numbers and arrays of them.
+"""Reads the part of TOML that kit documents use, for Python before 3.11.
+
+It is arrays of tables, and keys with strings, whole numbers and arrays of them.
 """
 
 from __future__ import annotations

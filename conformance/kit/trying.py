@@ -11,8 +11,9 @@ SECONDS = 20
 
 
 def script(cases: list[Case]) -> str:
-    """All that a runner would write for the cases. It is sent at once, without waiting for answers: the adapters are
-    our own, and take lines one after another.
+    """All that a runner would write for the cases.
+
+    It is sent at once, without waiting for answers: the adapters are our own, and take lines one after another.
     """
     lines: list[str] = []
     for case in cases:
@@ -27,8 +28,9 @@ def script(cases: list[Case]) -> str:
 
 
 def answers(text: str, cases: list[Case]) -> list[Transcript]:
-    """The transcripts in an adapter's whole output. Raises ValueError where it ends before the cases do, or an
-    answer is an error.
+    """The transcripts in an adapter's whole output.
+
+    Raises ValueError where it ends before the cases do, or an answer is an error.
     """
     transcripts: list[Transcript] = []
     drove: str = ""

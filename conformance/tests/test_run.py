@@ -7,7 +7,7 @@ import subprocess
 import sys
 import tempfile
 import unittest
-import xml.etree.ElementTree as xml
+import xml.etree.ElementTree as ET
 
 TOP = os.path.dirname(os.path.dirname(os.path.realpath(__file__)))
 TRANSCRIPTS = os.path.join(TOP, "transcripts")
@@ -49,7 +49,7 @@ class Runs(unittest.TestCase):
         self.assertEqual((run.returncode, run.stdout.splitlines()[-1]), (3, "passed 0 failed 0 void 3 skipped 0 of 3"))
 
     def test_a_run_that_compares_nothing_does_not_pass(self) -> None:
-        """All cases are skipped, or there is no expected transcript; but a run that only writes transcripts plays alone."""
+        """All cases are skipped, or no transcript is expected; but a run that only writes transcripts plays alone."""
         skipping = ["sh", "-c", "printf 'can-kit 1 none\nskip all\n'; cat > /dev/null"]
         silent = [sys.executable, "-c", SILENT]
         elsewhere = ["--expect", os.path.join(TOP, "transcripts", "rx-dlc.toml")]
@@ -86,7 +86,7 @@ class Runs(unittest.TestCase):
         """An adapter's own words are in it, with marks in the place of what XML has no letters for."""
         command = ["sh", "-c", "printf 'error \\001 <why>\\n'"]
         self.run_kit(["--only", "rx-dlc-data-0", "--junit", self.path("report.xml")], command)
-        suite = xml.parse(self.path("report.xml")).getroot()[0]
+        suite = ET.parse(self.path("report.xml")).getroot()[0]
         self.assertEqual([suite.get(name) for name in ("tests", "failures", "errors", "skipped")], ["1", "0", "1", "0"])
         self.assertEqual(suite[0][0].get("message"), "void rx-dlc-data-0: error ? <why>")
 

@@ -1,6 +1,8 @@
-"""Random traffic for a controller: a tester that sends frames, whole and broken, listens, acknowledges or does not,
-and disturbs. What it does next follows from what the golden model did, so that frames really pass; what comes out is
-a case of the conformance kit, which says for each bit time what the tester drives.
+"""Random traffic for a controller.
+
+A tester sends frames, whole and broken, listens, acknowledges or does not, and disturbs. What it does next follows from
+what the golden model did, so that frames really pass; what comes out is a case of the conformance kit, which says for
+each bit time what the tester drives.
 """
 
 from __future__ import annotations
@@ -29,6 +31,7 @@ def arbitration_field(text: str) -> str:
 
 
 def first_difference(one: str, other: str) -> int | None:
+    """The first place in which they differ."""
     return next((place for place, (a, b) in enumerate(zip(one, other)) if a != b), None)
 
 
