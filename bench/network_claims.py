@@ -1,18 +1,38 @@
-"""What the theorem on a network claims of a call of `Bus::play_disturbed`, worked out from the offers, the hits, and
-what the ports had before: which attempt sends which frame when, the levels, the logs and the counters.
+"""What the theorem on a network claims of a call of `Bus::play_disturbed`.
+
+It is worked out from the offers, the hits, and what the ports had before: which attempt sends which frame when, the
+levels, the logs and the counters.
 
 Standard library only, written from docs/FRAMES.md and the section "Networks" of docs/BUS.md: no port, no phase and no
-step. Levels are 0 (dominant) and 1 (recessive)."""
+step. Levels are 0 (dominant) and 1 (recessive).
+"""
 
+from __future__ import annotations
+
+from collections.abc import Iterable, Iterator
 from typing import NamedTuple
 
-from repair_claims import DELIMITER_AND_INTERMISSION, DOMINANT, INTERMISSION, RECESSIVE, arbitration_field, counted, lateness, spelled
+from repair_claims import (
+    DELIMITER_AND_INTERMISSION,
+    DOMINANT,
+    INTERMISSION,
+    RECESSIVE,
+    Counts,
+    Entry,
+    Frame,
+    arbitration_field,
+    counted,
+    lateness,
+    spelled,
+)
 
 
 class Offer(NamedTuple):
+    """At this time the port with this number is offered this frame."""
+
     time: int
     node: int
-    frame: tuple
+    frame: Frame
 
 
 class Attempt(NamedTuple):
@@ -21,14 +41,15 @@ class Attempt(NamedTuple):
     time: int
     offer: Offer
     offset: int | None
-    levels: list
+    levels: list[int]
 
-    def ended(self):
+    def ended(self) -> int:
         """When its wire has ended: where it is hit, with its last level."""
         return self.time + len(self.levels) - (0 if self.offset is not None else len(INTERMISSION))
 
 
-def attempt_levels(frame, offset):
+def attempt_levels(frame: Frame, offset: int | None) -> list[int]:
+    """The levels of an attempt that is hit at an offset, or at none, intermission included."""
     wire = spelled(frame).wire
     if offset is None:
         return wire + INTERMISSION
@@ -36,10 +57,10 @@ def attempt_levels(frame, offset):
     return wire[:offset] + [1 - wire[offset]] + flags + DELIMITER_AND_INTERMISSION
 
 
-def course(offers, hits):
-    """The attempts of these offers, which stand in the order of their times. `hits` has the offset of each attempt that
-    is hit."""
-    attempts, left, free = [], list(offers), 0
+def course(offers: Iterable[Offer], hits: dict[int, int]) -> list[Attempt]:
+    """The attempts of these offers, which stand in the order of their times; each attempt that is hit has an offset."""
+    attempts: list[Attempt] = []
+    left, free = list(offers), 0
     while left:
         time = max(free, min(offer.time for offer in left))
         offered = [offer for offer in left if offer.time <= time]
@@ -54,11 +75,13 @@ def course(offers, hits):
     return attempts
 
 
-def are_in_windows(attempts):
+def are_in_windows(attempts: Iterable[Attempt]) -> bool:
+    """Whether each hit is in the window of its attempt's frame."""
     return all(attempt.offset is None or attempt.offset in spelled(attempt.offer.frame).window for attempt in attempts)
 
 
-def line(attempts, length):
+def line(attempts: Iterable[Attempt], length: int) -> list[int]:
+    """So many levels of the bus."""
     levels = [RECESSIVE] * length
     for attempt in attempts:
         for place, level in enumerate(attempt.levels):
@@ -67,7 +90,7 @@ def line(attempts, length):
     return levels
 
 
-def log(attempts, node, time=None):
+def log(attempts: Iterable[Attempt], node: int, time: int | None = None) -> list[Entry]:
     """The entries of a port, frames and whether they were sent: of the attempts whose wire has ended by a time."""
     return [
         (attempt.offer.frame, attempt.offer.node == node)
@@ -76,7 +99,7 @@ def log(attempts, node, time=None):
     ]
 
 
-def tallies(attempts, counters):
+def tallies(attempts: Iterable[Attempt], counters: Iterable[Counts]) -> list[list[Counts]]:
     """The counters of each port, (TEC, REC), after each number of attempts, from these on."""
     tallies = [list(counters)]
     for attempt in attempts:
@@ -87,26 +110,33 @@ def tallies(attempts, counters):
     return tallies
 
 
-def are_borne(tallies):
+def are_borne(tallies: Iterable[list[Counts]]) -> bool:
+    """Whether no counter comes to 128."""
     return all(counter < 128 for tally in tallies for port in tally for counter in port)
 
 
-def waiting_bounds(offers, attempts):
+def waiting_bounds(offers: list[Offer], attempts: list[Attempt]) -> Iterator[tuple[int, int]]:
     """Of each offer that is sent: when its attempt starts, and when it starts at most."""
-    fields = {}
+    fields: dict[tuple[int, ...], list[int]] = {}
     for place, offer in enumerate(offers):
         fields.setdefault(tuple(arbitration_field(offer.frame)), []).append(place)
     for field, places in fields.items():
         sends = [a for a in attempts if a.offset is None and tuple(arbitration_field(a.offer.frame)) == field]
         for place, attempt in zip(places, sends):
             offer = offers[place]
-            left = next((a.time + len(a.levels) - offer.time for a in attempts if a.time < offer.time < a.time + len(a.levels)), 0)
+            left = next(
+                (a.time + len(a.levels) - offer.time for a in attempts if a.time < offer.time < a.time + len(a.levels)),
+                0,
+            )
             sent = {id(a.offer) for a in attempts if a.offset is None and a.time < offer.time}
             ahead = sum(
                 len(spelled(o.frame).wire) + 3
                 for n, o in enumerate(offers)
                 if id(o) not in sent
-                and ((arbitration_field(o.frame) < list(field) and o.time < attempt.time) or (n < place and tuple(arbitration_field(o.frame)) == field))
+                and (
+                    (arbitration_field(o.frame) < list(field) and o.time < attempt.time)
+                    or (n < place and tuple(arbitration_field(o.frame)) == field)
+                )
             )
             hit = sum(len(a.levels) for a in attempts if a.offset is not None and offer.time <= a.time < attempt.time)
             yield attempt.time, offer.time + left + ahead + hit

@@ -1,8 +1,13 @@
-"""What the theorem on a disturbed bus claims of a call of `Bus::run`, worked out from the frames that wait and the
-hits: where each attempt begins and what it has on the wire, the one list of every log, and what each port counts.
+"""What the theorem on a disturbed bus claims of a call of `Bus::run`.
+
+It is worked out from the frames that wait and the hits: where each attempt begins and what it has on the wire, the one
+list of every log, and what each port counts.
 
 Standard library only, written from docs/FRAMES.md and the section "A disturbed bus" of docs/BUS.md: no port, no
-phase and no step. Levels are 0 (dominant) and 1 (recessive)."""
+phase and no step. Levels are 0 (dominant) and 1 (recessive).
+"""
+
+from __future__ import annotations
 
 from typing import NamedTuple
 
@@ -13,25 +18,36 @@ INTERMISSION = [RECESSIVE] * 3
 DELIMITER_AND_INTERMISSION = [RECESSIVE] * 11
 
 
+# TEC and REC of a port
+Counts = tuple[int, int]
+
+
 class Frame(NamedTuple):
+    """A frame of any kind."""
+
     extended: bool
     identifier: int
     remote: bool
     dlc: int
     data: bytes
 
-    def text(self):
+    def text(self) -> str:
+        """Its text, as docs/FORMATS.md has it."""
         head = f"E {self.identifier:08x}" if self.extended else f"S {self.identifier:03x}"
         words = [head, "R" if self.remote else "D", str(self.dlc)]
         return " ".join(words + ([self.data.hex()] if self.data else []))
 
 
-def bits(number, count):
+# of a log: a frame, and whether it was sent
+Entry = tuple[Frame, bool]
+
+
+def bits(number: int, count: int) -> list[int]:
     """The lowest bits of a number, the highest of them first."""
     return [number >> place & 1 for place in reversed(range(count))]
 
 
-def check_sequence(levels):
+def check_sequence(levels: list[int]) -> list[int]:
     """The remainder of these levels by the generator, by long division: fifteen bits."""
     rest = levels + [0] * 15
     for place in range(len(levels)):
@@ -41,14 +57,16 @@ def check_sequence(levels):
     return rest[len(levels) :]
 
 
-def arbitration_field(frame):
+def arbitration_field(frame: Frame) -> list[int]:
+    """The levels that arbitration compares."""
     if frame.extended:
         upper, lower = bits(frame.identifier >> 18, 11), bits(frame.identifier, 18)
         return upper + [RECESSIVE, RECESSIVE] + lower + [int(frame.remote)]
     return bits(frame.identifier, 11) + [int(frame.remote), DOMINANT]
 
 
-def unstuffed(frame):
+def unstuffed(frame: Frame) -> list[int]:
+    """The levels from SOF to the CRC sequence, without stuff bits."""
     reserved = [DOMINANT, DOMINANT] if frame.extended else [DOMINANT]
     head = [DOMINANT] + arbitration_field(frame) + reserved + bits(frame.dlc, 4)
     for byte in frame.data:
@@ -59,19 +77,22 @@ def unstuffed(frame):
 class Spelled(NamedTuple):
     """The levels of a frame on the wire, and what kinds of places they are."""
 
-    wire: list
+    wire: list[int]
     stuffed_part: int
-    stuff_places: frozenset
+    stuff_places: frozenset[int]
     window: range
 
 
-def is_stuff_place(levels):
+def is_stuff_place(levels: list[int]) -> bool:
     """Whether the place behind these levels is one: five equal ones stand before it."""
     return len(levels) >= 5 and len(set(levels[-5:])) == 1
 
 
-def spelled(frame):
-    levels, stuff_places, first = [], set(), 0
+def spelled(frame: Frame) -> Spelled:
+    """The levels of a frame on the wire."""
+    levels: list[int] = []
+    stuff_places: set[int] = set()
+    first = 0
     field = len(arbitration_field(frame))
     for place, level in enumerate(unstuffed(frame)):
         if is_stuff_place(levels):
@@ -88,7 +109,7 @@ def spelled(frame):
     return Spelled(wire, len(levels), frozenset(stuff_places), range(first, len(wire) - 1))
 
 
-def unstuffed_length(levels):
+def unstuffed_length(levels: list[int]) -> int | None:
     """How many unstuffed levels a frame has that begins with these, once they tell it."""
     if len(levels) < 14:
         return None
@@ -100,7 +121,7 @@ def unstuffed_length(levels):
     return data + (0 if levels[rtr] == RECESSIVE else 8 * min(dlc, 8)) + 15
 
 
-def lateness(frame, offset):
+def lateness(frame: Spelled, offset: int) -> int:
     """By how many bit times the receivers' error comes behind the sender's, for a hit at this offset."""
     if offset >= frame.stuffed_part or offset in frame.stuff_places:
         return 0
@@ -121,8 +142,7 @@ def lateness(frame, offset):
 
 
 class Attempt(NamedTuple):
-    """The frame that it sends, by its place in the list; when it begins; where it is hit, if it is, and how much
-    later the receivers err."""
+    """The place of its frame, when it begins, where it is hit, if it is, and how much later the receivers err."""
 
     frame: int
     begin: int
@@ -130,8 +150,8 @@ class Attempt(NamedTuple):
     late: int
 
 
-def counted(counters, sends, offset, slot):
-    """The counters of a port, (TEC, REC), behind an attempt at a frame with this ACK slot: hit at an offset, or at None."""
+def counted(counters: Counts, sends: bool, offset: int | None, slot: int) -> Counts:
+    """The counters of a port behind an attempt at a frame with this ACK slot, hit at this offset or not at all."""
     tec, rec = counters
     if offset is None:
         return (max(tec - 1, 0), rec) if sends else (tec, max(rec - 1, 0))
@@ -141,20 +161,23 @@ def counted(counters, sends, offset, slot):
 
 
 class Claims:
-    """The claims for a list of frames in the order of arbitration, the port that holds each of them, and the hits:
-    of each attempt that is hit its offset."""
+    """The claims for a list of frames in the order of arbitration, the port that holds each of them, and the hits.
 
-    def __init__(self, ports, frames, holders, hits):
+    The hits have the offset of each attempt that is hit.
+    """
+
+    def __init__(self, ports: int, frames: list[Frame], holders: list[int], hits: dict[int, int]) -> None:
         self.ports, self.frames, self.holders, self.hits = ports, frames, holders, hits
         self.spelled = [spelled(frame) for frame in frames]
-        self.attempts, self.line = [], []
+        self.attempts: list[Attempt] = []
+        self.line: list[int] = []
         hits_before = 0
         for number in range(len(frames) + len(hits)):
             self._attempt(number - hits_before, hits.get(number))
             hits_before += number in hits
         self.tallies = self._tallies()
 
-    def _attempt(self, place, offset):
+    def _attempt(self, place: int, offset: int | None) -> None:
         frame, begin, late = self.spelled[place], len(self.line), 0
         if offset is None:
             self.line += frame.wire + INTERMISSION
@@ -164,39 +187,39 @@ class Claims:
             self.line += frame.wire[:offset] + [1 - frame.wire[offset]] + flags + DELIMITER_AND_INTERMISSION
         self.attempts.append(Attempt(place, begin, offset, late))
 
-    def _tallies(self):
+    def _tallies(self) -> list[list[Counts]]:
         """The counters of each port, (TEC, REC), after each number of attempts."""
-        tallies = [[(0, 0)] * self.ports]
+        tallies: list[list[Counts]] = [[(0, 0)] * self.ports]
         for attempt in self.attempts:
             holder = self.holders[attempt.frame]
             slot = len(self.spelled[attempt.frame].wire) - 9
             tallies.append([counted(it, port == holder, attempt.offset, slot) for port, it in enumerate(tallies[-1])])
         return tallies
 
-    def meets_premises(self):
+    def meets_premises(self) -> bool:
         """Each hit in the window of its attempt's frame; at most fifteen, or no tally of 128."""
         within = all(
-            attempt.offset is None or attempt.offset in self.spelled[attempt.frame].window
-            for attempt in self.attempts
+            attempt.offset is None or attempt.offset in self.spelled[attempt.frame].window for attempt in self.attempts
         )
         return within and (len(self.hits) <= 15 or self.most() < 128)
 
-    def most(self):
+    def most(self) -> int:
         """The highest counter after any number of attempts."""
         return max(max(tec, rec) for tally in self.tallies for tec, rec in tally)
 
-    def span(self):
+    def span(self) -> int:
         """After how many bit times at most all is delivered."""
         undisturbed = sum(len(frame.wire) + 3 for frame in self.spelled)
         return undisturbed + sum(offset + 24 for offset in self.hits.values())
 
-    def delays(self):
+    def delays(self) -> list[int]:
         """Of each hit, after how many bit times the next attempt begins."""
         return [18 + attempt.late for attempt in self.attempts if attempt.offset is not None]
 
-    def level(self, time):
+    def level(self, time: int) -> int:
+        """The level of the bus in a bit time."""
         return self.line[time] if time < len(self.line) else RECESSIVE
 
-    def log(self, port):
+    def log(self, port: int) -> list[Entry]:
         """The whole log of a port: frames, and whether they were sent."""
         return [(frame, holder == port) for frame, holder in zip(self.frames, self.holders)]

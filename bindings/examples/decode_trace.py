@@ -13,7 +13,7 @@ from collections.abc import Iterator
 
 sys.path.insert(0, str(pathlib.Path(__file__).resolve().parent.parent / "python"))
 
-from riddlesage import DOMINANT, Fault, Frame, Heard, Status, decode  # noqa: E402
+from riddlesage import DOMINANT, Fault, Frame, Heard, Status, decode
 
 # The kinds of faults as the program tells them.
 CODES = {Status.SHORT: "C1", Status.NO_START: "C2", Status.STUFF: "C3", Status.CRC: "C4", Status.FORM: "C5"}

@@ -1,14 +1,14 @@
-"""A classical CAN controller at whole bit times, as a golden model (Bosch CAN 2.0 part B, ISO 11898-1).
+r"""A classical CAN controller at whole bit times, as a golden model (Bosch CAN 2.0 part B, ISO 11898-1).
 
     >>> from riddlesage import Frame, Port, encode
     >>> sender, receiver = Port(), Port()
-    >>> sender.offer(Frame(0x123, b"\\xaa\\x55"))
+    >>> sender.offer(Frame(0x123, b"\xaa\x55"))
     >>> for _ in range(80):
     ...     bus = sender.drive() & receiver.drive()
     ...     for port in (sender, receiver):
     ...         told = port.sample(bus)
     >>> receiver.log
-    [Entry(frame=Frame(identifier=291, data=b'\\xaaU', extended=False, remote=False, dlc=2), sent=False)]
+    [Entry(frame=Frame(identifier=291, data=b'\xaaU', extended=False, remote=False, dlc=2), sent=False)]
 
 Levels are numbers: 0 is dominant, 1 recessive, and many of them are `bytes`. The calls are those of riddlesage.h, over
 `libriddlesage.so`, which is looked for at the environment variable RIDDLESAGE_LIBRARY, then beside this file, and then
@@ -25,7 +25,7 @@ import threading
 from collections.abc import Iterator
 from dataclasses import dataclass
 from types import TracebackType
-from typing import NamedTuple, NoReturn, Optional, Type
+from typing import NamedTuple, NoReturn
 
 __all__ = [
     "DOMINANT",
@@ -112,7 +112,7 @@ class Refused(RiddlesageError):
         super().__init__(status.name.lower().replace("_", " "))
         self.status = status
 
-    def __reduce__(self) -> tuple[Type[Refused], tuple[Status]]:
+    def __reduce__(self) -> tuple[type[Refused], tuple[Status]]:
         """How it is made again, where it is pickled or copied."""
         return type(self), (self.status,)
 
@@ -129,7 +129,7 @@ class Fault(RiddlesageError):
         self.status = status
         self.place = place
 
-    def __reduce__(self) -> tuple[Type[Fault], tuple[Status, int]]:
+    def __reduce__(self) -> tuple[type[Fault], tuple[Status, int]]:
         """How it is made again, where it is pickled or copied."""
         return type(self), (self.status, self.place)
 
@@ -282,7 +282,7 @@ class Told(NamedTuple):
     """What a bit time brought; the frame where one was sent or received."""
 
     event: Event
-    frame: Optional[Frame] = None
+    frame: Frame | None = None
 
 
 class Entry(NamedTuple):
@@ -362,9 +362,9 @@ class Port:
 
     def __exit__(
         self,
-        kind: Optional[Type[BaseException]],
-        error: Optional[BaseException],
-        trace: Optional[TracebackType],
+        kind: type[BaseException] | None,
+        error: BaseException | None,
+        trace: TracebackType | None,
     ) -> None:
         self.close()
 
@@ -397,7 +397,7 @@ class Port:
             raise Refused(Status(status))
         return level
 
-    def sample(self, level: int) -> Optional[Told]:
+    def sample(self, level: int) -> Told | None:
         """Samples the level that the bus has in this bit time, and tells what it brought, if anything."""
         if level != 0 and level != 1:
             raise Refused(Status.BAD_LEVEL)
@@ -474,6 +474,4 @@ def decode(levels: bytes) -> Heard:
     if status >= Status.SHORT:
         raise Fault(Status(status), place.value)
     _demand(status)
-    return Heard(
-        _frame(heard.frame), bool(heard.acknowledged), heard.srr, heard.r1, heard.r0, heard.last, place.value
-    )
+    return Heard(_frame(heard.frame), bool(heard.acknowledged), heard.srr, heard.r1, heard.r0, heard.last, place.value)

@@ -1,5 +1,7 @@
 #!/usr/bin/env python3
-"""Scenarios of `canbit run`: played by ports of the Python module, in plain lines for tests/scenario.c, and random ones.
+"""Scenarios of `canbit run`: played by ports of the Python module, told to tests/scenario.c, and random ones.
+
+It writes one of these:
 
     scenarios.py report < SCENARIO     the report, as `canbit run` prints it
     scenarios.py plain < SCENARIO      the lines that tests/scenario.c reads
@@ -12,14 +14,15 @@ import argparse
 import pathlib
 import random
 import sys
-import tomllib
 from collections.abc import Iterator
 from typing import Any
+
+import tomllib
 
 HERE = pathlib.Path(__file__).resolve().parent
 sys.path.insert(0, str(HERE.parent / "python"))
 
-from riddlesage import DOMINANT, Frame, Port, State  # noqa: E402
+from riddlesage import DOMINANT, Frame, Port, State
 
 STATES = {State.ERROR_ACTIVE: "active", State.ERROR_PASSIVE: "passive", State.BUS_OFF: "off"}
 # So many recessive levels in a row lie between two frames.

@@ -10,18 +10,18 @@ import pickle
 import subprocess
 import sys
 import threading
-import tomllib
 import unittest
 from collections.abc import Callable
-from typing import Optional
+
+import tomllib
 
 HERE = pathlib.Path(__file__).resolve().parent
 TOP = HERE.parent.parent
 sys.path[:0] = [str(HERE), str(HERE.parent / "python")]
 
-import riddlesage  # noqa: E402
-from riddlesage import BadFrame, Event, Fault, Frame, Port, Refused, State, Status, Told, decode, encode  # noqa: E402
-from scenarios import STATES, frame_of, report, text_of  # noqa: E402
+import riddlesage
+from riddlesage import BadFrame, Event, Fault, Frame, Port, Refused, State, Status, Told, decode, encode
+from scenarios import STATES, frame_of, report, text_of
 
 
 def levels_of(text: str) -> bytes:
@@ -62,7 +62,7 @@ class Row:
             run = self.port.run(levels)
             self.drove += run.drives
             for time, event in run.told():
-                frame: Optional[Frame] = None
+                frame: Frame | None = None
                 if event in (Event.SENT, Event.RECEIVED) and seen < len(self.port.log):
                     frame, seen = self.port.entry(seen).frame, seen + 1
                 self.told.append((now + time, Told(event, frame)))
@@ -202,8 +202,15 @@ class Refusals(unittest.TestCase):
     def test_types(self) -> None:
         """What is no frame, no number, no bytes at all."""
         calls: list[tuple[Callable[..., object], list[object]]] = [
-            (encode, [1]), (encode, [None]), (Port().offer, ["S 123 D 0"]), (decode, ["01"]), (Port, ["1"]),
-            (Frame, [None]), (Frame, ["1"]), (Frame, [1, 5]), (Frame, [1, "5"]),
+            (encode, [1]),
+            (encode, [None]),
+            (Port().offer, ["S 123 D 0"]),
+            (decode, ["01"]),
+            (Port, ["1"]),
+            (Frame, [None]),
+            (Frame, ["1"]),
+            (Frame, [1, 5]),
+            (Frame, [1, "5"]),
         ]
         for call, words in calls:
             with self.assertRaises(TypeError):

@@ -1,11 +1,12 @@
 #!/usr/bin/env python3
-"""An adapter to begin with: it speaks the line protocol, and the controller in it drives nothing yet. Fill Controller
-with calls of your own: a library, a simulator, a bench behind a serial line."""
+"""An adapter to begin with: it speaks the line protocol, and the controller in it drives nothing yet.
+
+Fill Controller with calls of your own: a library, a simulator, a bench behind a serial line.
+"""
 
 from __future__ import annotations
 
 import sys
-from typing import List, Optional, Tuple
 
 
 class Controller:
@@ -24,9 +25,12 @@ class Controller:
         """The level that it drives in this bit time. What it has seen before decides that."""
         return 1
 
-    def sample(self, level: int) -> Optional[str]:
-        """The bus has this level in this bit time. Returns the event, such as `error stuff`, if there is one and
-        your controller tells it; a controller that tells none returns None always."""
+    def sample(self, level: int) -> str | None:
+        """The bus has this level in this bit time.
+
+        Returns the event, such as `error stuff`, if there is one and your controller tells it; a controller that tells
+        none returns None always.
+        """
         return None
 
     def state(self) -> str:
@@ -34,10 +38,10 @@ class Controller:
         return "unknown"
 
 
-def play(controller: Controller, levels: str) -> List[str]:
+def play(controller: Controller, levels: str) -> list[str]:
     """Plays bit times: in each the controller drives, the tester drives, and the controller sees the bus."""
-    events: List[str] = []
-    drove: List[str] = []
+    events: list[str] = []
+    drove: list[str] = []
     for place, tester in enumerate(levels):
         driven = controller.drive()
         # with `f` it sees a recessive level whatever it drives
@@ -49,7 +53,7 @@ def play(controller: Controller, levels: str) -> List[str]:
     return [*events, "drove " + "".join(drove)]
 
 
-def answer(controller: Controller, line: str) -> Tuple[Controller, List[str]]:
+def answer(controller: Controller, line: str) -> tuple[Controller, list[str]]:
     """What a line is answered by, and the controller behind it: each case has a new one."""
     word, _, rest = line.partition(" ")
     if word == "case":
@@ -68,6 +72,7 @@ def answer(controller: Controller, line: str) -> Tuple[Controller, List[str]]:
 
 
 def main() -> None:
+    """Answers the runner line by line."""
     print("can-kit 1 skeleton of an adapter", flush=True)
     controller = Controller(False)
     for line in sys.stdin:

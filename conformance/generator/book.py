@@ -3,16 +3,17 @@
 from __future__ import annotations
 
 import contextlib
-from typing import Callable, Dict, Iterator, List, Sequence, TypeVar
+from typing import Callable, Iterator, Sequence, TypeVar
 
-from generator.scene import Scene
 from kit.adapter import Adapter
 from kit.documents import Case, Transcript
 
+from generator.scene import Scene
+
 Maker = Callable[["Book"], None]
 Row = TypeVar("Row")
-FAMILIES: Dict[str, Maker] = {}
-ABOUT: Dict[str, str] = {}
+FAMILIES: dict[str, Maker] = {}
+ABOUT: dict[str, str] = {}
 
 
 def family(name: str, about: str) -> Callable[[Maker], Maker]:
@@ -32,18 +33,16 @@ class Book:
     def __init__(self, name: str, reference: Adapter, is_long: bool = False) -> None:
         self.name = name
         self.is_long = is_long
-        self.cases: List[Case] = []
-        self.transcripts: List[Transcript] = []
+        self.cases: list[Case] = []
+        self.transcripts: list[Transcript] = []
         self._reference = reference
 
-    def rows(self, standard: Sequence[Row], more: Sequence[Row]) -> List[Row]:
+    def rows(self, standard: Sequence[Row], more: Sequence[Row]) -> list[Row]:
         """The rows of which cases are made: those of the standard set, and in the long set more."""
         return [*standard, *(more if self.is_long else ())]
 
     @contextlib.contextmanager
-    def case(
-        self, suffix: str, purpose: str, choices: Sequence[str] = (), start: str = "idle"
-    ) -> Iterator[Scene]:
+    def case(self, suffix: str, purpose: str, choices: Sequence[str] = (), start: str = "idle") -> Iterator[Scene]:
         """A case to be filled by the tester's steps."""
         scene = Scene(self._reference, self.name, suffix, purpose, start)
         yield scene

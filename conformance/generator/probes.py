@@ -6,8 +6,9 @@ brings the counter to the limit by as many errors as the reference needs, and so
 
 from __future__ import annotations
 
-from generator.scene import Scene
 from kit.frames import Frame
+
+from generator.scene import Scene
 
 PASSIVE_LIMIT = 128
 # the first dominant level behind a receiver's flag, and each eighth
@@ -47,8 +48,10 @@ def break_delimiter(scene: Scene, frame: str, dominant: int) -> None:
 
 
 def raise_tec(scene: Scene, goal: int, frame: str = PROBE_FRAME) -> None:
-    """Errors in a frame that the controller is about to send, until the reference's TEC is the goal or the next
-    above that 8 at a time reach. The frame still waits behind it."""
+    """Errors in a frame that the controller is about to send, until the reference's TEC is the goal.
+
+    Or it is the next above that 8 at a time reach. The frame still waits behind it.
+    """
     while scene.tec < goal:
         missing = goal - scene.tec
         runs = min((missing + 7) // 8 - 1, 2 * LONGEST_RUN)

@@ -1,9 +1,12 @@
-"""A scene: one case while it is made. The tester's levels are played to the reference as they are added, so that
-later ones can follow what the controller did."""
+"""A scene: one case while it is made.
+
+The tester's levels are played to the reference as they are added, so that later ones can follow what the controller
+did.
+"""
 
 from __future__ import annotations
 
-from typing import List, Optional, Sequence, Tuple
+from typing import Sequence
 
 from kit.adapter import MOST_LEVELS, Adapter
 from kit.documents import NEEDS, Case, Event, State, Transcript
@@ -21,22 +24,25 @@ class Scene:
     def __init__(self, reference: Adapter, family: str, suffix: str, purpose: str, start: str = "idle") -> None:
         self.case = Case(f"{family}-{suffix}", family, [], purpose, start)
         self.drove = ""
-        self.events: List[Event] = []
+        self.events: list[Event] = []
         self._reference = reference
         self._is_playing = False
 
     @property
     def time(self) -> int:
+        """How many bit times have been played."""
         return len(self.drove)
 
     # what is handed to the controller
 
     def offer(self, frame: str) -> None:
+        """The controller is offered a frame."""
         self._resume()
         self.case.offers.append((self.time, frame))
         self._reference.offer(frame)
 
     def hold(self, wish: int) -> None:
+        """The controller is asked for so many overload frames."""
         self._resume()
         self.case.holds.append((self.time, wish))
         self._reference.hold(wish)
@@ -44,8 +50,10 @@ class Scene:
     # what the tester drives
 
     def play(self, levels: str, comment: str = "") -> str:
-        """Adds levels of the tester, `f` for a forced bit time. With a comment they begin a string of their own.
-        Returns what the controller drove."""
+        """Adds levels of the tester, `f` for a forced bit time, and returns what the controller drove.
+
+        With a comment they begin a string of their own.
+        """
         if not levels:
             return ""
         self._resume()
@@ -89,7 +97,7 @@ class Scene:
             return
         self._is_playing = True
         self._reference.begin(self.case.name, self.case.start)
-        handed: List[Tuple[int, str, object]] = [(time, "offer", frame) for time, frame in self.case.offers]
+        handed: list[tuple[int, str, object]] = [(time, "offer", frame) for time, frame in self.case.offers]
         handed += [(time, "hold", wish) for time, wish in self.case.holds]
         levels = list(self.case.levels)
         for time in self.case.forced:
@@ -108,10 +116,12 @@ class Scene:
 
     @property
     def tec(self) -> int:
+        """The reference's transmit error count."""
         return self.state()[1]
 
     @property
     def rec(self) -> int:
+        """The reference's receive error count."""
         return self.state()[2]
 
     # frames of the tester
@@ -120,12 +130,14 @@ class Scene:
         self,
         frame: str,
         offers: Sequence[str] = (),
-        upto: Optional[int] = None,
-        wire: Optional[Wire] = None,
-        hold: Optional[int] = None,
+        upto: int | None = None,
+        wire: Wire | None = None,
+        hold: int | None = None,
     ) -> Wire:
-        """The tester sends a frame, the ACK slot recessive, or its levels before the place `upto`. Frames are
-        offered, or overload frames asked for, in its eighth level."""
+        """The tester sends a frame, the ACK slot recessive, or its levels before the place `upto`.
+
+        Frames are offered, or overload frames asked for, in its eighth level.
+        """
         wire = wire or Frame.parse(frame).wire()
         levels = wire.levels[:upto]
         self.play(levels[:OFFER_PLACE], f"sends {frame}")
@@ -143,7 +155,7 @@ class Scene:
 
     # frames of the controller
 
-    def waiting(self) -> List[str]:
+    def waiting(self) -> list[str]:
         """The frames that were offered and not sent yet."""
         waiting = [frame for _, frame in self.case.offers]
         for _, event in self.events:
@@ -157,8 +169,10 @@ class Scene:
             raise ValueError(f"{self.case.name}: no frame begins")
 
     def begins(self, comment: str = "waits for the start of a frame") -> bool:
-        """Recessive levels until the controller would drive a dominant one. False where it drives none as long as
-        bus off lasts, or no frame waits any more."""
+        """Recessive levels until the controller would drive a dominant one.
+
+        False where it drives none as long as bus off lasts, or no frame waits any more.
+        """
         self._resume()
         for waited in range(LONGEST_WAIT):
             driven, events = self._reference.play("1")
@@ -174,7 +188,7 @@ class Scene:
                 return False
         return False
 
-    def sending(self, frame: str, upto: Optional[int] = None, comment: str = "") -> Wire:
+    def sending(self, frame: str, upto: int | None = None, comment: str = "") -> Wire:
         """The controller sends this frame from now on: the tester listens, and acknowledges, up to a place."""
         wire = Frame.parse(frame).wire()
         slot = wire.place("ack")
@@ -209,7 +223,7 @@ class Scene:
 
     # the whole case
 
-    def needed(self) -> List[str]:
+    def needed(self) -> list[str]:
         """What a bench must be able to do."""
         needs = set()
         if self.case.forced:
@@ -224,7 +238,8 @@ class Scene:
                 needs.add("queue")
         return [need for need in NEEDS if need in needs]
 
-    def finished(self, choices: Sequence[str] = ()) -> Tuple[Case, Transcript]:
+    def finished(self, choices: Sequence[str] = ()) -> tuple[Case, Transcript]:
+        """The case, and what the reference did in it."""
         self.case.needs = self.needed()
         self.case.choices = list(choices)
         return self.case, Transcript(self.case.name, self.drove, self.events or None, None, self.state())

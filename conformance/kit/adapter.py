@@ -7,7 +7,7 @@ import selectors
 import signal
 import subprocess
 import time
-from typing import IO, List, Optional, Sequence, Tuple
+from typing import IO, Sequence
 
 from kit.documents import Event, State, is_event
 
@@ -41,12 +41,17 @@ def _is_number(word: str) -> bool:
 
 
 class Adapter:
-    """A running adapter. After a Void it has to be closed, and another one started. A carriage return before the end
-    of a line that it writes is passed over."""
+    """A running adapter.
 
-    def __init__(self, command: Sequence[str], errors: Optional[IO[str]] = None) -> None:
-        """Starts it, in a session of its own, so that what it starts can be ended with it. Its standard error is the
-        runner's, or goes to a file."""
+    After a Void it has to be closed, and another one started. A carriage return before the end of a line that it writes
+    is passed over.
+    """
+
+    def __init__(self, command: Sequence[str], errors: IO[str] | None = None) -> None:
+        """Starts it, in a session of its own, so that what it starts can be ended with it.
+
+        Its standard error is the runner's, or goes to a file.
+        """
         self._process = subprocess.Popen(
             list(command), stdin=subprocess.PIPE, stdout=subprocess.PIPE, stderr=errors, start_new_session=True
         )
@@ -114,16 +119,18 @@ class Adapter:
             raise _is_other(answer.encode())
 
     def offer(self, frame: str) -> None:
+        """Offers the controller a frame."""
         self._write_line(f"offer {frame}")
 
     def hold(self, wish: int) -> None:
+        """Asks the controller for so many overload frames."""
         self._write_line(f"hold {wish}")
 
-    def play(self, levels: str) -> Tuple[str, List[Event]]:
+    def play(self, levels: str) -> tuple[str, list[Event]]:
         """Plays 1 to 4096 levels of `0`, `1` and `f`: what was driven, and the events by their place."""
         self._write_line(f"play {levels}")
         deadline = time.monotonic() + ANSWER_SECONDS + SECONDS_A_LEVEL * len(levels)
-        events: List[Event] = []
+        events: list[Event] = []
         while True:
             line = self._read_line(deadline)
             word, _, rest = line.partition(" ")
@@ -138,7 +145,7 @@ class Adapter:
             raise _is_other(line.encode())
         return rest, events
 
-    def end(self) -> Optional[State]:
+    def end(self) -> State | None:
         """The state behind the last bit time; None where the adapter does not know it."""
         self._write_line("end")
         line = self._read_line(time.monotonic() + ANSWER_SECONDS)

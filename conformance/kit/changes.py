@@ -1,5 +1,8 @@
-"""Mechanical changes of C sources: each number one more and one less, each comparison, operator and level turned, each
-statement left out, one at a time. They know nothing of CAN, and so try the cases without an opinion."""
+"""Mechanical changes of C sources, one at a time.
+
+Each number is made one more and one less, each comparison, operator and level turned, each statement left out. They
+know nothing of CAN, and so try the cases without an opinion.
+"""
 
 from __future__ import annotations
 
@@ -7,7 +10,7 @@ import os
 import re
 from collections import Counter
 from dataclasses import dataclass, replace
-from typing import Dict, Iterator
+from typing import Iterator
 
 _NUMBER = re.compile(r"(?<![\w.])(0x[0-9a-f]+|\d+)(?!\w)")
 _TURNED = (
@@ -34,7 +37,8 @@ class Change:
     new: str
     number: int = 1
 
-    def applied(self, texts: Dict[str, str]) -> Dict[str, str]:
+    def applied(self, texts: dict[str, str]) -> dict[str, str]:
+        """The sources with the change in them."""
         lines = texts[self.path].split("\n")
         lines[self.line] = self.new
         return {**texts, self.path: "\n".join(lines)}

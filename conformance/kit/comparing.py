@@ -1,9 +1,11 @@
-"""Compares a transcript with an expected one: the first difference in time. In one bit time a level comes
-before an event and an event before counters; the end is last."""
+"""Compares a transcript with an expected one: the first difference in time.
+
+In one bit time a level comes before an event and an event before counters; the end is last.
+"""
 
 from __future__ import annotations
 
-from typing import Dict, List, Optional, Sequence, Tuple
+from typing import Sequence, Tuple
 
 from kit.documents import Event, State, Transcript
 
@@ -11,7 +13,7 @@ LEVEL, EVENT, COUNTERS, END = range(4)
 Difference = Tuple[int, int, str]
 
 
-def _level_difference(drove: str, expected: str) -> Optional[Difference]:
+def _level_difference(drove: str, expected: str) -> Difference | None:
     if drove == expected:
         return None
     for time, (one, other) in enumerate(zip(drove, expected)):
@@ -24,7 +26,7 @@ def _level_difference(drove: str, expected: str) -> Optional[Difference]:
     return None
 
 
-def _event_difference(events: Sequence[Event], expected: Sequence[Event]) -> Optional[Difference]:
+def _event_difference(events: Sequence[Event], expected: Sequence[Event]) -> Difference | None:
     told, due = dict(events), dict(expected)
     for time in sorted(set(told) | set(due)):
         if told.get(time) != due.get(time):
@@ -34,9 +36,9 @@ def _event_difference(events: Sequence[Event], expected: Sequence[Event]) -> Opt
 
 
 def _counter_difference(
-    counters: Sequence[Tuple[int, int, int]], expected: Sequence[Tuple[int, int, int]]
-) -> Optional[Difference]:
-    counted: Dict[int, Tuple[int, int]] = {time: (tec, rec) for time, tec, rec in counters}
+    counters: Sequence[tuple[int, int, int]], expected: Sequence[tuple[int, int, int]]
+) -> Difference | None:
+    counted: dict[int, tuple[int, int]] = {time: (tec, rec) for time, tec, rec in counters}
     due = {time: (tec, rec) for time, tec, rec in expected}
     held = wanted = (0, 0)
     for time in sorted(set(counted) | set(due)):
@@ -50,7 +52,7 @@ def _state_text(state: State) -> str:
     return " ".join(map(str, state))
 
 
-def differences(given: Transcript, expected: Transcript) -> List[Difference]:
+def differences(given: Transcript, expected: Transcript) -> list[Difference]:
     """The first difference in each of levels, events, counters and end that both tell, the first one first."""
     found = [_level_difference(given.drove, expected.drove)]
     if given.events is not None:

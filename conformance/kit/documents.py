@@ -4,12 +4,12 @@ from __future__ import annotations
 
 import re
 from dataclasses import dataclass, field
-from typing import Any, Callable, Dict, Iterable, List, Optional, Tuple
+from typing import Any, Callable, Iterable, Tuple
 
 from kit.frames import Frame
 from kit.levels import read_levels, write_levels
 
-loads: Callable[[str], Dict[str, Any]]
+loads: Callable[[str], dict[str, Any]]
 try:
     import tomllib
 
@@ -61,17 +61,18 @@ class Case:
 
     name: str
     family: str
-    tester: List[Tuple[str, str]]
+    tester: list[tuple[str, str]]
     purpose: str = ""
     start: str = "idle"
-    needs: List[str] = field(default_factory=list)
-    choices: List[str] = field(default_factory=list)
-    offers: List[Tuple[int, str]] = field(default_factory=list)
-    holds: List[Tuple[int, int]] = field(default_factory=list)
-    forced: List[int] = field(default_factory=list)
+    needs: list[str] = field(default_factory=list)
+    choices: list[str] = field(default_factory=list)
+    offers: list[tuple[int, str]] = field(default_factory=list)
+    holds: list[tuple[int, int]] = field(default_factory=list)
+    forced: list[int] = field(default_factory=list)
 
     @property
     def levels(self) -> str:
+        """What the tester drives, a level for each bit time."""
         return "".join(levels for levels, _ in self.tester)
 
 
@@ -81,19 +82,21 @@ class Transcript:
 
     case: str
     drove: str
-    events: Optional[List[Event]] = None
-    counters: Optional[List[Tuple[int, int, int]]] = None
-    end: Optional[State] = None
+    events: list[Event] | None = None
+    counters: list[tuple[int, int, int]] | None = None
+    end: State | None = None
 
 
-def is_frame(text: Any) -> bool:
+def is_frame(text: object) -> bool:
+    """Whether it is the text of a frame."""
     try:
         return isinstance(text, str) and Frame.parse(text) is not None
     except ValueError:
         return False
 
 
-def is_event(text: Any) -> bool:
+def is_event(text: object) -> bool:
+    """Whether it is an event as an adapter tells it."""
     if not isinstance(text, str):
         return False
     word, _, rest = text.partition(" ")
@@ -110,11 +113,23 @@ def _require(holds: bool, place: str) -> None:
         raise DocumentFault(place)
 
 
-def _is_number(value: Any, least: int, most: int) -> bool:
+def _table_of(value: object, place: str) -> dict[str, Any]:
+    if not isinstance(value, dict):
+        raise DocumentFault(place)
+    return value
+
+
+def _list_of(value: object, place: str, least: int, most: int) -> list[Any]:
+    if not isinstance(value, list) or not least <= len(value) <= most:
+        raise DocumentFault(place)
+    return value
+
+
+def _is_number(value: object, least: int, most: int) -> bool:
     return isinstance(value, int) and not isinstance(value, bool) and least <= value <= most
 
 
-def _strings(values: Any, known: Iterable[str]) -> bool:
+def _strings(values: object, known: Iterable[str]) -> bool:
     order = list(known)
     if not isinstance(values, list) or not all(value in order for value in values):
         return False
@@ -122,10 +137,9 @@ def _strings(values: Any, known: Iterable[str]) -> bool:
     return all(one < other for one, other in zip(places, places[1:]))
 
 
-def _levels_of(strings: Any, place: str, most: int) -> List[Tuple[str, str]]:
-    _require(isinstance(strings, list) and 1 <= len(strings) <= most, place)
+def _levels_of(strings: object, place: str, most: int) -> list[tuple[str, str]]:
     read = []
-    for index, text in enumerate(strings):
+    for index, text in enumerate(_list_of(strings, place, 1, most)):
         try:
             read.append((read_levels(text), ""))
         except (ValueError, AttributeError):
@@ -134,11 +148,10 @@ def _levels_of(strings: Any, place: str, most: int) -> List[Tuple[str, str]]:
 
 
 def _rows(
-    table: Dict[str, Any], key: str, place: str, most: int, fits: Callable[[List[Any]], bool], strictly: bool
-) -> List[Any]:
+    table: dict[str, Any], key: str, place: str, most: int, fits: Callable[[list[Any]], bool], strictly: bool
+) -> list[Any]:
     """Rows of a list whose first element is a time below the case's bits; the times don't fall."""
-    rows = table.get(key, [])
-    _require(isinstance(rows, list) and len(rows) <= most, f"{place}.{key}")
+    rows = _list_of(table.get(key, []), f"{place}.{key}", 0, most)
     last = -1 if strictly else 0
     for index, row in enumerate(rows):
         good = isinstance(row, list) and bool(row) and _is_number(row[0], 0, MOST_BITS) and fits(row)
@@ -147,8 +160,8 @@ def _rows(
     return [tuple(row) for row in rows]
 
 
-def _read_case(table: Any, place: str, names: Dict[str, Case]) -> Case:
-    _require(isinstance(table, dict), place)
+def _read_case(value: object, place: str, names: dict[str, Case]) -> Case:
+    table = _table_of(value, place)
     _require(all(key in _CASE_KEYS for key in table), f"{place}.key")
     _require(_is_number(table.get("version"), 1, 1), f"{place}.version")
     family, name = table.get("family"), table.get("name")
@@ -169,16 +182,15 @@ def _read_case(table: Any, place: str, names: Dict[str, Case]) -> Case:
     case = Case(str(name), str(family), tester, purpose, table["start"], needs, choices)
     _require(len(case.levels) == bits, f"{place}.tester")
 
-    def is_offer(row: List[Any]) -> bool:
+    def is_offer(row: list[Any]) -> bool:
         return row[0] < len(case.levels) and len(row) == 2 and is_frame(row[1])
 
-    def is_hold(row: List[Any]) -> bool:
+    def is_hold(row: list[Any]) -> bool:
         return row[0] < len(case.levels) and len(row) == 2 and _is_number(row[1], 0, 2)
 
     case.offers = _rows(table, "offers", place, 256, is_offer, False)
     case.holds = _rows(table, "holds", place, 256, is_hold, False)
-    forced = table.get("forced", [])
-    _require(isinstance(forced, list) and len(forced) <= 4096, f"{place}.forced")
+    forced = _list_of(table.get("forced", []), f"{place}.forced", 0, 4096)
     for index, time in enumerate(forced):
         good = _is_number(time, 0, len(case.levels) - 1) and case.levels[time] == "1"
         _require(good and (index == 0 or time > forced[index - 1]), f"{place}.forced[{index}]")
@@ -188,12 +200,12 @@ def _read_case(table: Any, place: str, names: Dict[str, Case]) -> Case:
     return case
 
 
-def _is_count(row: List[Any]) -> bool:
+def _is_count(row: list[Any]) -> bool:
     return len(row) == 3 and all(_is_number(number, 0, 300) for number in row[1:])
 
 
-def _read_transcript(table: Any, place: str, names: Dict[str, Case], seen: Dict[str, Any]) -> Transcript:
-    _require(isinstance(table, dict), place)
+def _read_transcript(value: object, place: str, names: dict[str, Case], seen: dict[str, Any]) -> Transcript:
+    table = _table_of(value, place)
     _require(all(key in _TRANSCRIPT_KEYS for key in table), f"{place}.key")
     _require(_is_number(table.get("version"), 1, 1), f"{place}.version")
     name = table.get("case")
@@ -214,7 +226,7 @@ def _read_transcript(table: Any, place: str, names: Dict[str, Case], seen: Dict[
     return transcript
 
 
-def read_document(text: str, known: Iterable[Case] = ()) -> Tuple[List[Case], List[Transcript]]:
+def read_document(text: str, known: Iterable[Case] = ()) -> tuple[list[Case], list[Transcript]]:
     """The cases and transcripts of a document; transcripts may also name the cases that are known.
 
     Raises DocumentFault for the first field that is wrong.
@@ -225,14 +237,13 @@ def read_document(text: str, known: Iterable[Case] = ()) -> Tuple[List[Case], Li
         raise DocumentFault("toml") from None
     _require(all(key in ("case", "transcript") for key in document), "key")
     for key in ("case", "transcript"):
-        rows = document.get(key, [])
-        _require(isinstance(rows, list) and len(rows) <= MOST_CASES, key)
-    names: Dict[str, Case] = {}
+        _list_of(document.get(key, []), key, 0, MOST_CASES)
+    names: dict[str, Case] = {}
     for index, table in enumerate(document.get("case", [])):
         case = _read_case(table, f"case[{index}]", names)
         names[case.name] = case
     reachable = {**{case.name: case for case in known}, **names}
-    transcripts: Dict[str, Transcript] = {}
+    transcripts: dict[str, Transcript] = {}
     for index, table in enumerate(document.get("transcript", [])):
         transcript = _read_transcript(table, f"transcript[{index}]", reachable, transcripts)
         transcripts[transcript.case] = transcript
@@ -246,7 +257,7 @@ def _array(values: Iterable[str]) -> str:
     return "[" + ", ".join(values) + "]"
 
 
-def _long_array(key: str, values: List[str]) -> List[str]:
+def _long_array(key: str, values: list[str]) -> list[str]:
     if not values:
         return [f"{key} = []"]
     return [f"{key} = ["] + [f"    {value}," for value in values] + ["]"]

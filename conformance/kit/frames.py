@@ -4,7 +4,6 @@ from __future__ import annotations
 
 import re
 from dataclasses import dataclass, field
-from typing import Dict, List, Tuple
 
 _TEXT = re.compile(r"(?:S ([0-7][0-9a-f]{2})|E ([01][0-9a-f]{7})) ([DR]) ([0-9]|1[0-5])(?: ((?:[0-9a-f]{2})+))?")
 _GENERATOR = 0x4599
@@ -35,16 +34,21 @@ class Frame:
         return frame
 
     def data_bytes(self) -> int:
+        """How many bytes of data it has on the wire."""
         return 0 if self.remote else min(self.dlc, 8)
 
     def text(self) -> str:
+        """Its text, as docs/FORMATS.md has it."""
         head = f"E {self.identifier:08x}" if self.extended else f"S {self.identifier:03x}"
         data = f" {self.data.hex()}" if self.data else ""
         return f"{head} {'R' if self.remote else 'D'} {self.dlc}{data}"
 
     def wire(self, turned: str = "", **levels: str) -> Wire:
-        """Its levels. `srr`, `r1`, `r0` may be given another level; `turned` names a part, as `crc-14` or
-        `data-3`, of which that place is turned around behind the computing of the check sequence."""
+        """Its levels, of which `srr`, `r1`, `r0` may be given another.
+
+        `turned` names a part, as `crc-14` or `data-3`, of which that place is turned around behind the computing of the
+        check sequence.
+        """
         return Wire(self, turned, levels)
 
 
@@ -62,7 +66,7 @@ def _crc(levels: str) -> str:
     return _bits(register, _CRC_LEVELS)
 
 
-def _parts(frame: Frame, given: Dict[str, str]) -> List[Tuple[str, str]]:
+def _parts(frame: Frame, given: dict[str, str]) -> list[tuple[str, str]]:
     """The parts of the head in their order, each with its levels."""
     remote = "1" if frame.remote else "0"
     if frame.extended:
@@ -84,16 +88,16 @@ class Wire:
 
     frame: Frame
     turned: str
-    given: Dict[str, str]
+    given: dict[str, str]
     levels: str = ""
     stuffed: int = 0
-    places: Dict[str, List[int]] = field(default_factory=dict)
-    stuff: List[int] = field(default_factory=list)
+    places: dict[str, list[int]] = field(default_factory=dict)
+    stuff: list[int] = field(default_factory=list)
 
     def __post_init__(self) -> None:
         parts = _parts(self.frame, self.given)
         parts.append(("crc", _crc("".join(levels for _, levels in parts))))
-        out: List[str] = []
+        out: list[str] = []
         for name, levels in parts:
             self.places[name] = []
             for index, level in enumerate(levels):
@@ -109,7 +113,7 @@ class Wire:
         self.places.update({"crc-delimiter": [end], "ack": [end + 1], "ack-delimiter": [end + 2]})
         self.places["eof"] = list(range(end + 3, end + 10))
 
-    def _put_stuff_bit(self, out: List[str]) -> None:
+    def _put_stuff_bit(self, out: list[str]) -> None:
         self.stuff.append(len(out))
         out.append(opposite(out[-1]))
 
@@ -125,4 +129,5 @@ class Wire:
 
 
 def opposite(level: str) -> str:
+    """The other level."""
     return "1" if level == "0" else "0"

@@ -4,7 +4,7 @@ from __future__ import annotations
 
 import glob
 import os
-from typing import Dict, Iterable, List, Tuple
+from typing import Iterable
 
 from kit.documents import Case, DocumentFault, Transcript, read_document
 
@@ -13,19 +13,19 @@ FOLDER = os.path.join(_TOP, "cases")
 TRANSCRIPTS = os.path.join(_TOP, "transcripts")
 
 
-def _files(path: str) -> List[str]:
+def _files(path: str) -> list[str]:
     if os.path.isdir(path):
         return sorted(glob.glob(os.path.join(glob.escape(path), "*.toml")))
     return [path]
 
 
-def read_library(paths: Iterable[str]) -> Tuple[List[Case], Dict[str, Transcript]]:
+def read_library(paths: Iterable[str]) -> tuple[list[Case], dict[str, Transcript]]:
     """All cases of these files and folders, and the transcripts by the names of their cases.
 
     Raises DocumentFault with the file in front, or OSError.
     """
-    cases: Dict[str, Case] = {}
-    transcripts: Dict[str, Transcript] = {}
+    cases: dict[str, Case] = {}
+    transcripts: dict[str, Transcript] = {}
     for file in [file for path in paths for file in _files(path)]:
         with open(file, encoding="utf-8") as opened:
             text = opened.read()

@@ -4,7 +4,6 @@ from __future__ import annotations
 
 from collections import Counter
 from dataclasses import dataclass
-from typing import Dict, List, Set
 
 from kit.comparing import COUNTERS, END, EVENT, LEVEL, differences
 from kit.documents import Case, Transcript
@@ -18,17 +17,18 @@ class Caught:
     """The cases that catch a mistake, by what differs in them: levels, events or counters."""
 
     mistake: Mistake
-    cases: Dict[str, List[Case]]
+    cases: dict[str, list[Case]]
 
     def shows(self) -> str:
         """The first of levels, events and counters in which some case differs."""
         return _first_kind(self.cases)
 
-    def names(self) -> List[str]:
+    def names(self) -> list[str]:
         """The cases that catch it, in what its file says that it shows."""
         return [case.name for case in self.cases.get(self.mistake.shows, [])]
 
-    def families(self) -> List[str]:
+    def families(self) -> list[str]:
+        """The families of these cases."""
         return sorted({case.family for case in self.cases.get(self.mistake.shows, [])})
 
     def fault(self) -> str:
@@ -40,32 +40,32 @@ class Caught:
         return ""
 
 
-def _by_kind(cases: List[Case], given: List[Transcript], expected: List[Transcript]) -> Dict[str, List[Case]]:
-    by_kind: Dict[str, List[Case]] = {"levels": [], "events": [], "counters": []}
+def _by_kind(cases: list[Case], given: list[Transcript], expected: list[Transcript]) -> dict[str, list[Case]]:
+    by_kind: dict[str, list[Case]] = {"levels": [], "events": [], "counters": []}
     for case, one, other in zip(cases, given, expected):
         for kind in {KINDS[difference[1]] for difference in differences(one, other)}:
             by_kind[kind].append(case)
     return by_kind
 
 
-def _first_kind(by_kind: Dict[str, List[Case]]) -> str:
+def _first_kind(by_kind: dict[str, list[Case]]) -> str:
     return next((kind for kind in ("levels", "events", "counters") if by_kind[kind]), "nothing")
 
 
-def shown_by(cases: List[Case], given: List[Transcript], expected: List[Transcript]) -> str:
+def shown_by(cases: list[Case], given: list[Transcript], expected: list[Transcript]) -> str:
     """The first of levels, events and counters in which a model differs in some case; else `nothing`."""
     return _first_kind(_by_kind(cases, given, expected))
 
 
-def caught_by(mistake: Mistake, cases: List[Case], given: List[Transcript], expected: List[Transcript]) -> Caught:
+def caught_by(mistake: Mistake, cases: list[Case], given: list[Transcript], expected: list[Transcript]) -> Caught:
     """What the cases show of a mistake, by the transcripts of the model with it and without."""
     return Caught(mistake, _by_kind(cases, given, expected))
 
 
-def cover(caught: List[Caught]) -> List[str]:
+def cover(caught: list[Caught]) -> list[str]:
     """Cases that together catch all mistakes: each time the one that catches most of those that are left."""
-    left: List[Set[str]] = [set(one.names()) for one in caught if one.names()]
-    chosen: List[str] = []
+    left: list[set[str]] = [set(one.names()) for one in caught if one.names()]
+    chosen: list[str] = []
     while left:
         counts = Counter(name for names in left for name in sorted(names))
         most = max(counts.values())
@@ -74,7 +74,7 @@ def cover(caught: List[Caught]) -> List[str]:
     return chosen
 
 
-def count_lines(caught: List[Caught], cases: List[Case]) -> List[str]:
+def count_lines(caught: list[Caught], cases: list[Case]) -> list[str]:
     """What is caught, in figures."""
     shown = Counter(one.mistake.shows for one in caught)
     alone = {one.names()[0] for one in caught if len(one.names()) == 1}
@@ -85,13 +85,13 @@ def count_lines(caught: List[Caught], cases: List[Case]) -> List[str]:
     ]
 
 
-def idle_cases(caught: List[Caught], cases: List[Case]) -> List[str]:
+def idle_cases(caught: list[Caught], cases: list[Case]) -> list[str]:
     """Cases that catch no mistake at all."""
     catching = {name for one in caught for name in one.names()}
     return [case.name for case in cases if case.name not in catching]
 
 
-def reason_faults(reasons: Dict[str, str], caught: List[Caught], cases: List[Case]) -> List[str]:
+def reason_faults(reasons: dict[str, str], caught: list[Caught], cases: list[Case]) -> list[str]:
     """Families with a case that alone catches no mistake have a reason for such cases, and no others have."""
     alone = {one.names()[0] for one in caught if len(one.names()) == 1}
     wanting = {case.family for case in cases if case.name not in alone}
@@ -99,7 +99,7 @@ def reason_faults(reasons: Dict[str, str], caught: List[Caught], cases: List[Cas
     return faults + [f"there is a reason for {name}, which needs none" for name in sorted(set(reasons) - wanting)]
 
 
-def matrix(caught: List[Caught], cases: List[Case]) -> str:
+def matrix(caught: list[Caught], cases: list[Case]) -> str:
     """The whole matrix as text."""
     lines = ["# Which case catches which mistake. Made by `conformance/mutants --write`."]
     lines += [f"# {line}." for line in count_lines(caught, cases)]
@@ -108,7 +108,7 @@ def matrix(caught: List[Caught], cases: List[Case]) -> str:
         "# Each mistake: the model it is a change of, where it shows, how many cases and families catch it so, and",
         "# the cases.",
     ]
-    catches: Dict[str, List[str]] = {case.name: [] for case in cases}
+    catches: dict[str, list[str]] = {case.name: [] for case in cases}
     alone: Counter[str] = Counter()
     for one in caught:
         names = one.names()

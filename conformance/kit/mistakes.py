@@ -16,7 +16,6 @@ The lines behind `-` stand once in all of the sources, one behind another, their
 from __future__ import annotations
 
 from dataclasses import dataclass, field
-from typing import Dict, List, Tuple
 
 SHOWS = ("levels", "events", "counters", "nothing")
 
@@ -30,9 +29,9 @@ class Mistake:
     what: str = ""
     family: str = ""
     shows: str = ""
-    changes: List[Tuple[List[str], List[str]]] = field(default_factory=list)
+    changes: list[tuple[list[str], list[str]]] = field(default_factory=list)
 
-    def applied(self, texts: Dict[str, str]) -> Dict[str, str]:
+    def applied(self, texts: dict[str, str]) -> dict[str, str]:
         """The sources, by their paths, with the mistake. Raises ValueError where an old text doesn't stand once."""
         sources = {path: text.split("\n") for path, text in texts.items()}
         for old, new in self.changes:
@@ -44,7 +43,7 @@ class Mistake:
         return {path: "\n".join(lines) for path, lines in sources.items()}
 
 
-def _places(lines: List[str], wanted: List[str]) -> List[int]:
+def _places(lines: list[str], wanted: list[str]) -> list[int]:
     """Where these lines stand one behind another, their indentation left out."""
     stripped = [line.strip() for line in lines]
     return [at for at in range(len(lines)) if stripped[at : at + len(wanted)] == wanted]
@@ -66,9 +65,9 @@ def _take(mistake: Mistake, line: str, was_new: bool) -> bool:
     return word == "+"
 
 
-def read_mistakes(text: str, source: str) -> List[Mistake]:
+def read_mistakes(text: str, source: str) -> list[Mistake]:
     """The mistakes of a file, all of one source."""
-    mistakes: List[Mistake] = []
+    mistakes: list[Mistake] = []
     was_new = False
     for line in text.split("\n"):
         if not line.strip() or line.startswith("#"):

@@ -6,7 +6,7 @@ import glob
 import os
 import subprocess
 from dataclasses import dataclass, field
-from typing import Dict, Iterable, List, Optional, Protocol, Sequence
+from typing import Iterable, Protocol, Sequence
 
 REPOSITORY = os.path.dirname(os.path.dirname(os.path.dirname(os.path.realpath(__file__))))
 CONTROLLER = "conformance/adapters/controller"
@@ -16,7 +16,7 @@ SIMULATOR = ("bench/machine.rs", "conformance/adapters/simulator.rs")
 class Patch(Protocol):
     """A change of sources, such as a mistake."""
 
-    def applied(self, texts: Dict[str, str]) -> Dict[str, str]:
+    def applied(self, texts: dict[str, str]) -> dict[str, str]:
         """The sources, by their paths, with the change. Raises ValueError where it does not fit."""
 
 
@@ -30,7 +30,7 @@ def _run(command: Sequence[str]) -> None:
         raise NotBuilt(built.stderr)
 
 
-def _read(paths: Iterable[str]) -> Dict[str, str]:
+def _read(paths: Iterable[str]) -> dict[str, str]:
     texts = {}
     for path in paths:
         with open(os.path.join(REPOSITORY, path), encoding="utf-8") as file:
@@ -38,7 +38,7 @@ def _read(paths: Iterable[str]) -> Dict[str, str]:
     return texts
 
 
-def _write(texts: Dict[str, str], folder: str) -> None:
+def _write(texts: dict[str, str], folder: str) -> None:
     for path, text in texts.items():
         there = os.path.join(folder, path)
         os.makedirs(os.path.dirname(there), exist_ok=True)
@@ -51,31 +51,35 @@ class Model:
     """An adapter's sources by their paths. Its mistakes are changes of `texts`."""
 
     name: str
-    texts: Dict[str, str]
+    texts: dict[str, str]
 
-    def build(self, folder: str, patch: Optional[Patch] = None) -> str:
-        """Builds the adapter in a folder of its own: the program's path. Raises NotBuilt, or ValueError where the
-        patch does not fit."""
+    def build(self, folder: str, patch: Patch | None = None) -> str:
+        """Builds the adapter in a folder of its own: the program's path.
+
+        Raises NotBuilt, or ValueError where the patch does not fit.
+        """
         texts = self.texts if patch is None else patch.applied(self.texts)
         _write(texts, folder)
         program = os.path.join(folder, "adapter")
         self._compile(texts, folder, program)
         return program
 
-    def _compile(self, texts: Dict[str, str], folder: str, program: str) -> None:
+    def _compile(self, texts: dict[str, str], folder: str, program: str) -> None:
         raise NotImplementedError
 
 
 @dataclass
 class CModel(Model):
-    """The small controller in C. What is compiled of it as it is is kept for the mistakes, each of which changes one
-    file or two."""
+    """The small controller in C.
 
-    objects: Dict[str, str] = field(default_factory=dict)
+    What is compiled of it as it is is kept for the mistakes, each of which changes one file or two.
+    """
 
-    def _compile(self, texts: Dict[str, str], folder: str, program: str) -> None:
+    objects: dict[str, str] = field(default_factory=dict)
+
+    def _compile(self, texts: dict[str, str], folder: str, program: str) -> None:
         same_headers = all(text == self.texts[path] for path, text in texts.items() if path.endswith(".h"))
-        objects: List[str] = []
+        objects: list[str] = []
         for path, text in texts.items():
             if path.endswith(".c"):
                 kept = self.objects.get(path) if same_headers and text == self.texts[path] else None
@@ -88,7 +92,7 @@ class CModel(Model):
         return made
 
     @staticmethod
-    def _compiler() -> List[str]:
+    def _compiler() -> list[str]:
         return [os.environ.get("CC", "cc"), "-std=c99", "-w"]
 
     def keep_objects(self, folder: str) -> None:
@@ -101,15 +105,17 @@ class CModel(Model):
 class RustModel(Model):
     """The plain simulator in Rust."""
 
-    def _compile(self, texts: Dict[str, str], folder: str, program: str) -> None:
+    def _compile(self, texts: dict[str, str], folder: str, program: str) -> None:
         _write(_read(SIMULATOR[1:]), folder)
         _run(["rustc", "-A", "warnings", "-o", program, os.path.join(folder, SIMULATOR[1])])
 
 
 def controller() -> CModel:
+    """The small controller in C, as it is."""
     paths = glob.glob(os.path.join(REPOSITORY, CONTROLLER, "*.[ch]"))
     return CModel("controller", _read(sorted(os.path.relpath(path, REPOSITORY) for path in paths)))
 
 
 def simulator() -> RustModel:
+    """The plain simulator in Rust, as it is."""
     return RustModel("simulator", _read(SIMULATOR[:1]))

@@ -2,7 +2,7 @@
 
 from __future__ import annotations
 
-from typing import Iterator, List, Tuple
+from typing import Iterator
 
 from kit.adapter import MOST_LEVELS, Adapter
 from kit.documents import Case, Event, Transcript
@@ -16,7 +16,7 @@ def seen_levels(case: Case) -> str:
     return "".join(levels)
 
 
-def cuts(case: Case, batch: int = MOST_LEVELS) -> Iterator[Tuple[int, int]]:
+def cuts(case: Case, batch: int = MOST_LEVELS) -> Iterator[tuple[int, int]]:
     """Fronts and ends of the `play` lines: cut at each offer and wish, none longer than the batch."""
     marks = {time for time, _ in case.offers} | {time for time, _ in case.holds}
     time, bits = 0, len(case.levels)
@@ -31,8 +31,8 @@ def play(case: Case, adapter: Adapter, batch: int = MOST_LEVELS) -> Transcript:
     """Plays the case on a new controller. Raises Skip or Void."""
     adapter.begin(case.name, case.start)
     levels = seen_levels(case)
-    drove: List[str] = []
-    events: List[Event] = []
+    drove: list[str] = []
+    events: list[Event] = []
     for time, end in cuts(case, batch):
         for _, frame in (offer for offer in case.offers if offer[0] == time):
             adapter.offer(frame)

@@ -2,9 +2,9 @@
 
 from __future__ import annotations
 
-import xml.etree.ElementTree as xml
+import xml.etree.ElementTree as ET
 from dataclasses import dataclass
-from typing import Dict, Iterable, List
+from typing import Iterable
 
 from kit.documents import Case, Transcript
 from kit.playing import seen_levels
@@ -23,6 +23,7 @@ class Verdict:
     seconds: float = 0.0
 
     def line(self) -> str:
+        """The line that a run prints of it."""
         if self.kind == "fail":
             note = "".join(f"; choice {choice}" for choice in self.case.choices)
             return f"fail {self.case.name} at {self.detail}{note}"
@@ -32,7 +33,7 @@ class Verdict:
 SHOWN_BEFORE, SHOWN_BEHIND = 40, 10
 
 
-def window_lines(case: Case, time: int, given: Transcript, expected: Transcript) -> List[str]:
+def window_lines(case: Case, time: int, given: Transcript, expected: Transcript) -> list[str]:
     """The levels around a bit time: what the tester drove, what the controller drove, and what was due."""
     front = max(0, time - SHOWN_BEFORE)
     end = time + SHOWN_BEHIND
@@ -50,9 +51,9 @@ def count_line(verdicts: Iterable[Verdict]) -> str:
     return f"{' '.join(counts)} of {len(kinds)}"
 
 
-def summary_lines(verdicts: Iterable[Verdict]) -> List[str]:
+def summary_lines(verdicts: Iterable[Verdict]) -> list[str]:
     """A line for each family, in the order of its first case."""
-    families: Dict[str, List[Verdict]] = {}
+    families: dict[str, list[Verdict]] = {}
     for verdict in verdicts:
         families.setdefault(verdict.case.family, []).append(verdict)
     width = max(map(len, families), default=0)
@@ -63,8 +64,10 @@ NOTHING_COMPARED = 5
 
 
 def exit_status(verdicts: Iterable[Verdict], only_plays: bool = False) -> int:
-    """0 where all passed or were skipped, 1 where one failed, 3 where one is void, and 5 where none was compared with
-    anything; a run that only plays, to write transcripts, has to have played one."""
+    """0 where all passed or were skipped, 1 where one failed, 3 where one is void, 5 where nothing was compared.
+
+    A run that only plays, to write transcripts, has to have played one.
+    """
     kinds = {verdict.kind for verdict in verdicts}
     if "void" in kinds:
         return 3
@@ -78,10 +81,10 @@ def _shown(text: str) -> str:
     return "".join(letter if letter.isprintable() else "?" for letter in text)
 
 
-def write_junit(path: str, name: str, verdicts: List[Verdict]) -> None:
+def write_junit(path: str, name: str, verdicts: list[Verdict]) -> None:
     """Each family is a class, each case a test."""
     kinds = [verdict.kind for verdict in verdicts]
-    suite = xml.Element(
+    suite = ET.Element(
         "testsuite",
         name=_shown(name),
         tests=str(len(kinds)),
@@ -91,7 +94,7 @@ def write_junit(path: str, name: str, verdicts: List[Verdict]) -> None:
         time=f"{sum(verdict.seconds for verdict in verdicts):.3f}",
     )
     for verdict in verdicts:
-        test = xml.SubElement(
+        test = ET.SubElement(
             suite,
             "testcase",
             classname=verdict.case.family,
@@ -100,7 +103,7 @@ def write_junit(path: str, name: str, verdicts: List[Verdict]) -> None:
         )
         element = {"fail": "failure", "void": "error", "skip": "skipped"}.get(verdict.kind)
         if element is not None:
-            xml.SubElement(test, element, message=_shown(verdict.line())).text = verdict.case.purpose
-    root = xml.Element("testsuites")
+            ET.SubElement(test, element, message=_shown(verdict.line())).text = verdict.case.purpose
+    root = ET.Element("testsuites")
     root.append(suite)
-    xml.ElementTree(root).write(path, encoding="utf-8", xml_declaration=True)
+    ET.ElementTree(root).write(path, encoding="utf-8", xml_declaration=True)

@@ -3,7 +3,7 @@
 from __future__ import annotations
 
 import time
-from typing import Iterable, Iterator, Optional, Sequence, Tuple
+from typing import Iterable, Iterator, Sequence
 
 from kit.adapter import MOST_LEVELS, Adapter, Skip, Void
 from kit.documents import Case, Transcript
@@ -19,17 +19,19 @@ class Stopped(Exception):
 class Played:
     """A case that was played, or why it wasn't."""
 
-    def __init__(self, case: Case, transcript: Optional[Transcript], kind: str, detail: str, seconds: float) -> None:
+    def __init__(self, case: Case, transcript: Transcript | None, kind: str, detail: str, seconds: float) -> None:
         self.case, self.transcript, self.kind, self.detail, self.seconds = case, transcript, kind, detail, seconds
 
 
 class Session:
-    """An adapter's command, and the adapter while one runs. Once it has told an event, a case in which it tells none is
-    one in which it told that there were none."""
+    """An adapter's command, and the adapter while one runs.
+
+    Once it has told an event, a case in which it tells none is one in which it told that there were none.
+    """
 
     def __init__(self, command: Sequence[str], without: Sequence[str] = (), batch: int = MOST_LEVELS) -> None:
         self._command, self._without, self._batch = command, without, batch
-        self._adapter: Optional[Adapter] = None
+        self._adapter: Adapter | None = None
         self._voids = 0
         self._tells_events = False
 
@@ -44,7 +46,7 @@ class Session:
             self._adapter.close()
             self._adapter = None
 
-    def _play(self, case: Case) -> Tuple[Optional[Transcript], str, str]:
+    def _play(self, case: Case) -> tuple[Transcript | None, str, str]:
         lacking = [need for need in case.needs if need in self._without]
         if lacking:
             return None, "skip", ", ".join(lacking)

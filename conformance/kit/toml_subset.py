@@ -1,10 +1,12 @@
-"""Reads the part of TOML that kit documents use, for Python before 3.11: arrays of tables, and keys with
-strings, whole numbers and arrays of them."""
+"""Reads the part of TOML that kit documents use, for Python before 3.11.
+
+It is arrays of tables, and keys with strings, whole numbers and arrays of them.
+"""
 
 from __future__ import annotations
 
 import re
-from typing import Any, Dict, List, Tuple
+from typing import Any
 
 _BLANK = re.compile(r"(?:[ \t\r\n]|#[^\n]*)*")
 _HEADER = re.compile(r"\[\[[ \t]*([A-Za-z0-9_-]+)[ \t]*\]\]")
@@ -17,9 +19,9 @@ _ESCAPE = re.compile(r"\\(.)")
 _ESCAPES = {'"': '"', "\\": "\\", "b": "\b", "f": "\f", "n": "\n", "r": "\r", "t": "\t"}
 
 
-def loads(text: str) -> Dict[str, Any]:
+def loads(text: str) -> dict[str, Any]:
     """The document as a dictionary. Raises ValueError where the text is none."""
-    document: Dict[str, Any] = {}
+    document: dict[str, Any] = {}
     table = document
     at = _skip(text, 0)
     while at < len(text):
@@ -46,7 +48,7 @@ def _end_line(text: str, at: int) -> int:
     return end.end()
 
 
-def _read_pair(text: str, at: int, table: Dict[str, Any]) -> int:
+def _read_pair(text: str, at: int, table: dict[str, Any]) -> int:
     key = _KEY.match(text, at)
     if key is None or key.group(1) in table:
         raise ValueError(f"no key of its own at {at}")
@@ -54,7 +56,7 @@ def _read_pair(text: str, at: int, table: Dict[str, Any]) -> int:
     return _end_line(text, at)
 
 
-def _read_value(text: str, at: int) -> Tuple[Any, int]:
+def _read_value(text: str, at: int) -> tuple[Any, int]:
     if text.startswith("[", at):
         return _read_array(text, at + 1)
     basic = _BASIC.match(text, at)
@@ -69,8 +71,8 @@ def _read_value(text: str, at: int) -> Tuple[Any, int]:
     raise ValueError(f"no value at {at}")
 
 
-def _read_array(text: str, at: int) -> Tuple[List[Any], int]:
-    values: List[Any] = []
+def _read_array(text: str, at: int) -> tuple[list[Any], int]:
+    values: list[Any] = []
     at = _skip(text, at)
     while not text.startswith("]", at):
         value, at = _read_value(text, at)

@@ -3,7 +3,6 @@
 from __future__ import annotations
 
 import subprocess
-from typing import List
 
 from kit.documents import Case, Event, Transcript
 from kit.playing import cuts, seen_levels
@@ -11,10 +10,12 @@ from kit.playing import cuts, seen_levels
 SECONDS = 20
 
 
-def script(cases: List[Case]) -> str:
-    """All that a runner would write for the cases. It is sent at once, without waiting for answers: the adapters are
-    our own, and take lines one after another."""
-    lines: List[str] = []
+def script(cases: list[Case]) -> str:
+    """All that a runner would write for the cases.
+
+    It is sent at once, without waiting for answers: the adapters are our own, and take lines one after another.
+    """
+    lines: list[str] = []
     for case in cases:
         lines.append(f"case {case.name} {case.start}")
         levels = seen_levels(case)
@@ -26,12 +27,14 @@ def script(cases: List[Case]) -> str:
     return "\n".join(lines + ["quit"]) + "\n"
 
 
-def answers(text: str, cases: List[Case]) -> List[Transcript]:
-    """The transcripts in an adapter's whole output. Raises ValueError where it ends before the cases do, or an
-    answer is an error."""
-    transcripts: List[Transcript] = []
+def answers(text: str, cases: list[Case]) -> list[Transcript]:
+    """The transcripts in an adapter's whole output.
+
+    Raises ValueError where it ends before the cases do, or an answer is an error.
+    """
+    transcripts: list[Transcript] = []
     drove: str = ""
-    events: List[Event] = []
+    events: list[Event] = []
     for line in text.split("\n")[1:]:
         word, _, rest = line.partition(" ")
         if word == "ready":
@@ -52,7 +55,7 @@ def answers(text: str, cases: List[Case]) -> List[Transcript]:
     return transcripts
 
 
-def played(program: str, cases: List[Case], text: str) -> List[Transcript]:
+def played(program: str, cases: list[Case], text: str) -> list[Transcript]:
     """What the adapter does in the cases, of which the text is the script."""
     run = subprocess.run([program], input=text, capture_output=True, text=True, timeout=SECONDS)
     return answers(run.stdout, cases)

@@ -9,7 +9,6 @@ import subprocess
 import sys
 import tempfile
 import unittest
-from typing import List
 
 from kit.frames import Frame
 from kit.library import FOLDER, read_library
@@ -30,8 +29,8 @@ BAD_LINES = (
 class Answers(unittest.TestCase):
     """What an adapter must answer, whatever controller is in it."""
 
-    command: List[str]
-    folder: "tempfile.TemporaryDirectory[str]"
+    command: list[str]
+    folder: tempfile.TemporaryDirectory[str]
 
     @classmethod
     def setUpClass(cls) -> None:
@@ -44,7 +43,7 @@ class Answers(unittest.TestCase):
         if cls is not Answers:
             cls.folder.cleanup()
 
-    def answered(self, lines: List[str]) -> List[str]:
+    def answered(self, lines: list[str]) -> list[str]:
         text = "".join(f"{line}\n" for line in [*lines, "quit"])
         run = subprocess.run(self.command, input=text, capture_output=True, text=True, timeout=60)
         assert run.returncode == 0, run

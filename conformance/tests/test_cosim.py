@@ -12,17 +12,17 @@ TOP = os.path.dirname(os.path.dirname(os.path.realpath(__file__)))
 COSIM = os.path.join(os.path.dirname(TOP), "examples", "cosim")
 sys.path.insert(0, COSIM)
 
-from kit.adapter import Adapter  # noqa: E402
-from kit.documents import read_document, write_case  # noqa: E402
-from kit.mistakes import Mistake  # noqa: E402
-from kit.models import controller  # noqa: E402
-from traffic import Traffic, arbitration_field  # noqa: E402
+from kit.adapter import Adapter
+from kit.documents import read_document, write_case
+from kit.mistakes import Mistake
+from kit.models import controller
+from traffic import Traffic, arbitration_field
 
 SUSPEND_7 = (["else if (++can->place == 8)"], ["else if (++can->place == 7)"])
 
 
 class Cosim(unittest.TestCase):
-    folder: "tempfile.TemporaryDirectory[str]"
+    folder: tempfile.TemporaryDirectory[str]
     golden: str
     broken: str
 
@@ -37,7 +37,7 @@ class Cosim(unittest.TestCase):
     def tearDownClass(cls) -> None:
         cls.folder.cleanup()
 
-    def run_cosim(self, *words: str) -> "subprocess.CompletedProcess[str]":
+    def run_cosim(self, *words: str) -> subprocess.CompletedProcess[str]:
         command = [os.path.join(COSIM, "cosim"), "--golden", self.golden, *words]
         return subprocess.run(command, capture_output=True, text=True, timeout=120)
 

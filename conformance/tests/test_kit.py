@@ -6,6 +6,7 @@ import glob
 import os
 import unittest
 
+from kit import toml_subset
 from kit.changes import changes
 from kit.comparing import differences
 from kit.documents import DocumentFault, Transcript, read_document, write_case, write_transcript
@@ -17,7 +18,6 @@ from kit.mistakes import Mistake, read_mistakes
 from kit.playing import cuts
 from kit.reports import window_lines
 from kit.session import Session
-from kit import toml_subset
 
 TOP = os.path.dirname(os.path.dirname(os.path.realpath(__file__)))
 
@@ -106,16 +106,16 @@ class Playing(unittest.TestCase):
 
     def test_voids_have_their_reasons(self) -> None:
         case = read_document(CASE)[0][0]
-        reasons = (
+        reasons = [
             ("true", "ended, status 0"),
             ("kill -9 $$", "ended, signal 9"),
             ("echo hello", "protocol: 'hello'"),
             ("echo error why", "error why"),
             (f"echo {'x' * 70}", f"protocol: '{'x' * 60}' .."),
-        )
+        ]
         for answer in (f"drove {'1' * 20}\nstate active {'9' * 5000} 0", f"event {'9' * 5000} lost"):
             start = f"printf 'can-kit 1 many\nready\n{answer}\n'; cat > /dev/null"
-            reasons += ((start, f"protocol: '{answer.splitlines()[-1][:60]}' .."),)
+            reasons.append((start, f"protocol: '{answer.splitlines()[-1][:60]}' .."))
         for command, reason in reasons:
             with Session(["sh", "-c", command]) as session:
                 self.assertEqual([(one.kind, one.detail) for one in session.play_all([case])], [("void", reason)])

@@ -7,8 +7,7 @@ import subprocess
 import sys
 import tempfile
 import unittest
-import xml.etree.ElementTree as xml
-from typing import List
+import xml.etree.ElementTree as ET
 
 TOP = os.path.dirname(os.path.dirname(os.path.realpath(__file__)))
 TRANSCRIPTS = os.path.join(TOP, "transcripts")
@@ -35,7 +34,7 @@ class Runs(unittest.TestCase):
     def path(self, name: str) -> str:
         return os.path.join(self.folder.name, name)
 
-    def run_kit(self, options: List[str], command: List[str]) -> "subprocess.CompletedProcess[str]":
+    def run_kit(self, options: list[str], command: list[str]) -> subprocess.CompletedProcess[str]:
         words = [os.path.join(TOP, "run"), "--expect", TRANSCRIPTS, *options, "--", *command]
         return subprocess.run([sys.executable, *words], capture_output=True, text=True, timeout=60)
 
@@ -50,19 +49,20 @@ class Runs(unittest.TestCase):
         self.assertEqual((run.returncode, run.stdout.splitlines()[-1]), (3, "passed 0 failed 0 void 3 skipped 0 of 3"))
 
     def test_a_run_that_compares_nothing_does_not_pass(self) -> None:
-        """All cases are skipped, or there is no expected transcript; but a run that only writes transcripts plays alone."""
+        """All cases are skipped, or no transcript is expected; but a run that only writes transcripts plays alone."""
         skipping = ["sh", "-c", "printf 'can-kit 1 none\nskip all\n'; cat > /dev/null"]
         silent = [sys.executable, "-c", SILENT]
         elsewhere = ["--expect", os.path.join(TOP, "transcripts", "rx-dlc.toml")]
         told = "run: nothing was compared: no case was played that has an expected transcript\n"
         written = ["--transcripts", self.path("told.toml")]
-        for options, command, status in (
+        rows: list[tuple[list[str], list[str], int]] = [
             (["--expect", TRANSCRIPTS, "--without", "forced"], skipping, 5),
-            ([*elsewhere], silent, 5),
+            (elsewhere, silent, 5),
             ([], silent, 5),
             (written, silent, 0),
             (written, skipping, 5),
-        ):
+        ]
+        for options, command, status in rows:
             words = [os.path.join(TOP, "run"), "--only", "arbitration-equal-same", *options, "--", *command]
             run = subprocess.run([sys.executable, *words], capture_output=True, text=True, timeout=60)
             self.assertEqual((run.returncode, run.stderr), (status, told if status else ""))
@@ -86,7 +86,7 @@ class Runs(unittest.TestCase):
         """An adapter's own words are in it, with marks in the place of what XML has no letters for."""
         command = ["sh", "-c", "printf 'error \\001 <why>\\n'"]
         self.run_kit(["--only", "rx-dlc-data-0", "--junit", self.path("report.xml")], command)
-        suite = xml.parse(self.path("report.xml")).getroot()[0]
+        suite = ET.parse(self.path("report.xml")).getroot()[0]
         self.assertEqual([suite.get(name) for name in ("tests", "failures", "errors", "skipped")], ["1", "0", "1", "0"])
         self.assertEqual(suite[0][0].get("message"), "void rx-dlc-data-0: error ? <why>")
 

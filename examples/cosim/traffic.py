@@ -1,11 +1,13 @@
-"""Random traffic for a controller: a tester that sends frames, whole and broken, listens, acknowledges or does not,
-and disturbs. What it does next follows from what the golden model did, so that frames really pass; what comes out is
-a case of the conformance kit, which says for each bit time what the tester drives."""
+"""Random traffic for a controller.
+
+A tester sends frames, whole and broken, listens, acknowledges or does not, and disturbs. What it does next follows from
+what the golden model did, so that frames really pass; what comes out is a case of the conformance kit, which says for
+each bit time what the tester drives.
+"""
 
 from __future__ import annotations
 
 import random
-from typing import Optional, Tuple
 
 from generator.scene import Scene
 from kit.adapter import Adapter
@@ -28,7 +30,8 @@ def arbitration_field(text: str) -> str:
     return "".join(wire.levels[place] for part in parts for place in wire.places[part])
 
 
-def first_difference(one: str, other: str) -> Optional[int]:
+def first_difference(one: str, other: str) -> int | None:
+    """The first place in which they differ."""
     return next((place for place, (a, b) in enumerate(zip(one, other)) if a != b), None)
 
 
@@ -42,7 +45,7 @@ class Traffic:
         self._is_rough = self._chance(0.2)
         self._scene = Scene(golden, "cosim", name, f"random traffic of seed {seed}", start)
 
-    def made(self, bits: int) -> Tuple[Case, Transcript]:
+    def made(self, bits: int) -> tuple[Case, Transcript]:
         """A run of at least so many bit times, and what the golden model did in it."""
         while self._scene.time < bits:
             self._hand_over()

@@ -2,12 +2,11 @@
 
 from __future__ import annotations
 
-from typing import List, Tuple
+from kit.frames import Frame
 
 from generator.book import Book, family
 from generator.probes import probe_tec, raise_tec
 from generator.scene import Scene
-from kit.frames import Frame
 
 STANDARD = "S 7ff R 0"
 EXTENDED = "E 1fffffff R 0"
@@ -81,7 +80,7 @@ def equal(book: Book) -> None:
         scene.rest(3)
 
 
-def stuffed_places() -> List[Tuple[str, str, int]]:
+def stuffed_places() -> list[tuple[str, str, int]]:
     """Frames with recessive stuff bits up to RTR, and right behind it: a name, the frame, the stuff bit's number."""
     return [
         ("standard-first", "S 000 D 0", 0),
@@ -105,7 +104,7 @@ def _with_run(bits: int, first: int) -> str:
     return (before + "00000" + "10" * bits)[:bits]
 
 
-def more_stuffed_places() -> List[Tuple[str, str, int]]:
+def more_stuffed_places() -> list[tuple[str, str, int]]:
     """Frames with one recessive stuff bit up to RTR, for each place of the identifier at which it may stand."""
     more = [(f"standard-at-{at + 5}", f"S {int(_with_run(11, at), 2):03x} D 0", 0) for at in range(1, 6)]
     for at in range(1, 7):

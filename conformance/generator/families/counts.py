@@ -2,7 +2,9 @@
 
 from __future__ import annotations
 
-from typing import Callable, List, Sequence, Tuple
+from typing import Callable, Sequence
+
+from kit.frames import Frame
 
 from generator.book import Book, family
 from generator.families.flags import FRAME, sender_error
@@ -11,7 +13,6 @@ from generator.families.sent import override
 from generator.probes import probe_rec, probe_tec, raise_rec
 from generator.scene import Scene
 from generator.search import stuff_place, stuffed_in
-from kit.frames import Frame
 
 RECEIVED = "S 123 D 2 c3a5"
 LOSER = "S 7ff R 0"
@@ -93,7 +94,7 @@ def _behind(dominant: int) -> Step:
 
 @family("count-rx", "each cause of REC once at each place, receptions at REC 0, 1, 128, 200; a probe of REC")
 def count_rx(book: Book) -> None:
-    errors: List[Tuple[str, int, Step, Sequence[str]]] = [
+    errors: list[tuple[str, int, Step, Sequence[str]]] = [
         ("stuff-identifier", 0, _stuff("S 000 D 0", "base", "1"), []),
         ("stuff-data", 0, _stuff("S 555 D 2 0000", "data", "1"), []),
         ("stuff-crc", 0, _stuff(stuffed_in("S", 2, "crc", "0"), "crc", "0"), []),
@@ -109,7 +110,7 @@ def count_rx(book: Book) -> None:
         ("flag-bit", 0, _flag_bit, ONCE),
         ("overload-flag-bit", 9, _overload_flag_bit, ONCE),
     ]
-    others: List[Tuple[str, int, Step, Sequence[str]]] = [
+    others: list[tuple[str, int, Step, Sequence[str]]] = [
         ("received-at-0", 0, _received, []),
         ("received-at-1", 1, _received, []),
         ("received-at-128", 128, _received_twice, ["rec-127"]),
@@ -117,7 +118,7 @@ def count_rx(book: Book) -> None:
         ("sent", 9, _sent, []),
         ("lost", 9, _lost, []),
     ]
-    more: List[Tuple[str, int, Step, Sequence[str]]] = [
+    more: list[tuple[str, int, Step, Sequence[str]]] = [
         ("stuff-recessive", 0, _stuff("S 7ff D 0", "base", "0"), []),
         ("end-of-frame-6", 9, _upto("eof 6", "0"), []),
     ]
@@ -220,7 +221,7 @@ def _own_lost(scene: Scene) -> None:
 
 @family("count-tx", "each cause of TEC once at each place; a probe of TEC")
 def count_tx(book: Book) -> None:
-    causes: List[Tuple[str, Step, Sequence[str]]] = [
+    causes: list[tuple[str, Step, Sequence[str]]] = [
         ("start-of-frame", _overridden("sof", 0, "f"), ["own-start"]),
         ("identifier-unseen", _overridden("base", 2, "f"), []),
         ("dlc", _overridden("dlc"), []),
@@ -242,7 +243,7 @@ def count_tx(book: Book) -> None:
         ("received", _received_with_tec, []),
         ("lost", _own_lost, []),
     ]
-    more: List[Tuple[str, Step, Sequence[str]]] = [
+    more: list[tuple[str, Step, Sequence[str]]] = [
         ("dlc-unseen", _overridden("dlc", 0, "f"), []),
         ("crc-unseen", _overridden("crc", 1, "f"), []),
         ("end-of-frame-7", _overridden("eof", 6), []),

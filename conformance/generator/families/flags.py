@@ -2,10 +2,11 @@
 
 from __future__ import annotations
 
+from kit.frames import Frame
+
 from generator.book import Book, family
 from generator.probes import probe_rec, probe_tec
 from generator.scene import Scene
-from kit.frames import Frame
 
 FRAME = "S 155 D 2 5aa5"
 

@@ -2,12 +2,13 @@
 
 from __future__ import annotations
 
-from typing import Callable, ContextManager, List, Tuple
+from typing import Callable, ContextManager
+
+from kit.frames import Frame
 
 from generator.book import Book, family
 from generator.probes import PROBE_FRAME, break_delimiter, probe_rec, probe_tec, raise_tec
 from generator.scene import Scene
-from kit.frames import Frame
 
 RECEIVED = "S 123 D 1 c3"
 OWN = "S 155 D 2 5aa5"
@@ -85,7 +86,7 @@ def bus_off_limit(book: Book) -> None:
         scene.rest(6, "the overload flag")
         scene.play("0" * 16, "16 dominant levels behind it")
 
-    cases: List[Tuple[str, str, Callable[[Scene], None]]] = [
+    cases: list[tuple[str, str, Callable[[Scene], None]]] = [
         ("248", "a TEC of 248 is not off", lambda scene: tec_to(scene, 248)),
         ("255", "a TEC of 255 is not off", at_247(error)),
         ("256-by-error", "a TEC of 256 by an error is off", at_248(error)),

@@ -2,13 +2,14 @@
 
 from __future__ import annotations
 
-from typing import List, Sequence
+from typing import Sequence
+
+from kit.frames import Frame
 
 from generator.book import Book, family
 from generator.families.flags import FRAME
 from generator.probes import probe_rec, probe_tec
 from generator.scene import Scene
-from kit.frames import Frame
 
 RECEIVED = "S 123 D 1 c3"
 
@@ -164,7 +165,7 @@ def overload_own(book: Book) -> None:
         scene.receive(RECEIVED, offers, hold=wish)
         return scene
 
-    choices: List[str] = ["own-overload"]
+    choices: list[str] = ["own-overload"]
     with book.case("one", "one wish: one overload frame in place of intermission", choices) as scene:
         begin(1).rest(OVERLOAD, "an own overload frame")
         scene.rest(5, "intermission")
@@ -221,4 +222,3 @@ def overload_own(book: Book) -> None:
         begin(2, (FRAME,)).rest(2 * OVERLOAD + 3, "two own overload frames, intermission")
         scene.sent(FRAME)
         scene.rest(10)
-

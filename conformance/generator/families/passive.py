@@ -2,12 +2,11 @@
 
 from __future__ import annotations
 
-from typing import Tuple
+from kit.frames import Frame
 
 from generator.book import Book, family
 from generator.probes import PROBE_FRAME, break_delimiter, probe_rec, probe_tec, raise_rec, raise_tec
 from generator.scene import Scene
-from kit.frames import Frame
 
 RECEIVED = "S 123 D 1 c3"
 OWN = "S 155 D 2 5aa5"
@@ -340,7 +339,10 @@ def _unacknowledged(scene: Scene, pattern: str, frame: str = OWN) -> None:
     scene.sent(frame)
 
 
-@family("passive-unacknowledged", "alone 40 times; dominant levels within the flag, behind it, in the delimiter; probes of TEC")
+@family(
+    "passive-unacknowledged",
+    "alone 40 times; dominant levels within the flag, behind it, in the delimiter; probes of TEC",
+)
 def passive_unacknowledged(book: Book) -> None:
     with book.case("alone", "alone on the bus its TEC stays at 128") as scene:
         scene.anchor(PROBE_FRAME)
@@ -352,7 +354,7 @@ def passive_unacknowledged(book: Book) -> None:
         scene.wait("flag, delimiter, intermission, suspend")
         scene.sent(PROBE_FRAME)
         scene.rest(12)
-    patterns: Tuple[Tuple[str, str, str], ...] = (
+    patterns: tuple[tuple[str, str, str], ...] = (
         ("nothing-dominant", "111111", "nothing counts, where the error before does"),
         ("level-1", "0111111", "a dominant first level counts"),
         ("level-3", "110111111", "a dominant third level counts"),

@@ -2,13 +2,12 @@
 
 from __future__ import annotations
 
-from typing import List, Tuple
+from kit.frames import Frame, opposite
 
 from generator.book import Book, family
 from generator.probes import probe_rec
 from generator.scene import Scene
 from generator.search import ends_stuffed, stuff_place, stuffed_in
-from kit.frames import Frame, opposite
 
 IDENTIFIERS = [
     ("all-dominant", "S 000 D 1 5a"),
@@ -76,7 +75,7 @@ BEHIND_CRC = [
 ]
 
 
-def _receive_whole(book: Book, frames: List[Tuple[str, str]], what: str) -> None:
+def _receive_whole(book: Book, frames: list[tuple[str, str]], what: str) -> None:
     for suffix, frame in frames:
         with book.case(suffix, f"{what}: {frame} is received and acknowledged") as scene:
             scene.rest(1, "idle")
@@ -197,9 +196,7 @@ MORE_STUFF_ERRORS = [
 STUFF_NUMBERS = {"identifier-second": 1, "data-last-dominant": -1, "data-last-recessive": -1}
 
 
-def break_stuff_bit(
-    scene: Scene, frame: str, part: str, level: str, behind: bool = False, number: int = 0
-) -> None:
+def break_stuff_bit(scene: Scene, frame: str, part: str, level: str, behind: bool = False, number: int = 0) -> None:
     """The tester's frame up to a stuff bit, there the wrong level."""
     wire = Frame.parse(frame).wire()
     place = wire.stuff[-1] if behind else stuff_place(wire, part, level, number)

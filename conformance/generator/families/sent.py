@@ -2,7 +2,7 @@
 
 from __future__ import annotations
 
-from typing import List, Tuple
+from kit.frames import Frame
 
 from generator.book import Book, family
 from generator.families.received import (
@@ -16,13 +16,12 @@ from generator.families.received import (
 )
 from generator.scene import Scene
 from generator.search import stuff_place, stuffed_in
-from kit.frames import Frame
 
 FRAME = "S 155 D 2 5aa5"
 EXTENDED = "E 0a5a5a5a D 2 5aa5"
 
 
-def _send_whole(book: Book, frames: List[Tuple[str, str]], what: str) -> None:
+def _send_whole(book: Book, frames: list[tuple[str, str]], what: str) -> None:
     for suffix, frame in frames:
         with book.case(suffix, f"{what}: {frame} as it is sent") as scene:
             scene.anchor(frame)
