@@ -11,14 +11,6 @@ use Rattle.can_mac.specs.declared.event.Event.{Event}
 use Rattle.can_node.specs.declared.entry.Entry.{Entry}
 use Rattle.can_node.specs.Ports.{PortState, IsAtRest, port_drives, port_noting, port_step, port_logging, missed_limit, waiting}
 
--- the frame that waits is one of the queue's frames
-pub is_frame_waiting : (queue : List Parts) (next : ℕ) → ((n : ℕ) (f : Parts) → slice_get queue n ≡ Some f → IsFrame f) → slice_get queue next ≡ waiting queue → IsFrameOrNone (waiting queue)
-is_frame_waiting queue next frames goes_first = by_waiting (waiting queue) goes_first
-  where
-    by_waiting : (o : Option Parts) → slice_get queue next ≡ o → IsFrameOrNone o
-    by_waiting None e = tt
-    by_waiting (Some f) e = frames next f e
-
 -- a log with one entry more, or with one more missed
 pub port_logging_is : (entry : Entry) (p : PortState) (log : List Entry) (missed : ℕ) →
     (length p.log < p.log_room → log ≡ p.log ++ entry ∷ []) → (length p.log < p.log_room → missed ≡ p.missed) →
