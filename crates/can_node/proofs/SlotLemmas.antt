@@ -1,21 +1,21 @@
 -- The frames in a queue's slots: which of them waits, and what an offer and a frame that leaves make of them.
 use Rattle.std.proofs.Common.{◌≡◌, ◌≢◌, ℕ, zero, suc, ◌+◌, ◌≤◌, ◌<◌, Bool, true, false, cond, List, [], ◌∷◌, ◌++◌, length, take, drop, set, get_or, refl, sym, ◌∙◌, ap, subst, arith, inl, inr}
-use Rattle.std.specs.Prelude.{Option, Some, None, MatchOption, slice_get, ◌⊎◌}
+use Rattle.std.specs.Prelude.{Option, Some, None, MatchOption, slice_get}
 use Rattle.std.specs.List.{filter}
 use Rattle.std.specs.Option.{is_some}
 use Rattle.std.specs.declared.cmp.Ordering.{Ordering}
 use Rattle.std.specs.declared.cmp.Ordering.TheVariants.{Less, Equal, Greater}
 use Rattle.std.specs.Ordering.{ordering_reverse, ordering_then, nat_cmp, is_gt}
-use Rattle.std.proofs.lemmas.Bool.{cond-true, cond-false, cases_Bool, cases_lt, false_from_ne_true, cond_both}
-use Rattle.std.proofs.lemmas.List.{append-nil, set_split, get_or-take, get_or_past, get_or_push, get_or_append_left, drop_all, length-take-le, length_push, length-append, get_or-set_other}
+use Rattle.std.proofs.lemmas.Bool.{cond-true, cond-false, cases_lt, cond_both}
+use Rattle.std.proofs.lemmas.List.{append-nil, set_split, get_or-take, get_or_past, get_or_append_left, drop_all, length-take-le, length_push}
 use Rattle.std.proofs.lemmas.List.Elements.{filter_map-append}
 use Rattle.can_frame.specs.Parts.{Parts, IsFrame}
 use Rattle.can_frame.specs.Arbitration.{arbitration_field, field_cmp}
 use Rattle.can_frame.proofs.BeforeLemmas.{field_cmp_total}
 use Rattle.can_node.specs.declared.queue.entrant.Entrant.{Entrant}
 use Rattle.can_node.specs.Ports.{is_less, is_equal, goes_before, same_field, earlier, waiting, without}
-use Rattle.can_node.specs.Tournament.{frames_in, entrant_cmp, winner_at, IsPlayed, Under, IsFirstUnder, NoneUnder}
-use Rattle.can_node.proofs.TournamentLemmas.{Leads, Stands, under_root, filled, wins, leads-frame}
+use Rattle.can_node.specs.Tournament.{frames_in, winner_at, IsPlayed, Under, IsFirstUnder, NoneUnder}
+use Rattle.can_node.proofs.TournamentLemmas.{Leads, under_root, filled, wins, leads-frame}
 use Rattle.can_node.proofs.SearchLemmas.{no_greater}
 use Rattle.can_node.proofs.WaitingLemmas.{behind}
 

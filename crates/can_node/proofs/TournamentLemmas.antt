@@ -1,15 +1,15 @@
 -- The tournament of a queue's slots: who wins it, what a slot that changes makes of it, and how a frame is found in it.
-use Rattle.std.proofs.Common.{◌≡◌, ◌≢◌, ℕ, zero, suc, ◌+◌, ◌-◌, ◌*◌, ◌/◌, ◌≤◌, ◌<◌, Bool, true, false, cond, List, [], ◌∷◌, length, get_or, set, refl, sym, ◌∙◌, ap, subst, arith, inl, inr}
-use Rattle.std.specs.Prelude.{Option, Some, None, ◌⊎◌, nat_lt, min, if◌then◌else◌}
+use Rattle.std.proofs.Common.{◌≡◌, ◌≢◌, ℕ, zero, suc, ◌+◌, ◌-◌, ◌*◌, ◌/◌, ◌≤◌, ◌<◌, Bool, true, false, List, length, get_or, set, refl, sym, ◌∙◌, ap, subst, arith, inl, inr}
+use Rattle.std.specs.Prelude.{Option, Some, None, ◌⊎◌, nat_lt, if◌then◌else◌}
 use Rattle.std.specs.Cmp.{IsTotalOrder}
 use Rattle.std.specs.declared.cmp.Ordering.{Ordering}
 use Rattle.std.specs.declared.cmp.Ordering.TheVariants.{Less, Equal, Greater}
-use Rattle.std.specs.Ordering.{ordering_reverse, ordering_then, nat_cmp, is_gt}
-use Rattle.std.proofs.lemmas.Bool.{cond-true, cond-false, cases_Bool, cases_eq, cases_lt, lt-ltb, le-ltb}
-use Rattle.std.proofs.lemmas.Cmp.{upto, tied_itself, tied_back, on_total, then_total, nat_cmp_total}
+use Rattle.std.specs.Ordering.{ordering_reverse, is_gt}
+use Rattle.std.proofs.lemmas.Bool.{cond-true, cond-false, cases_eq, cases_lt, lt-ltb, le-ltb}
+use Rattle.std.proofs.lemmas.Cmp.{upto, tied_itself, on_total, then_total, nat_cmp_total}
 use Rattle.std.proofs.lemmas.List.{length-set, get_or-set_same, get_or-set_other, get_or_past}
 use Rattle.can_frame.specs.Parts.{Parts}
-use Rattle.can_frame.specs.Arbitration.{arbitration_field, field_cmp}
+use Rattle.can_frame.specs.Arbitration.{arbitration_field}
 use Rattle.can_frame.proofs.BeforeLemmas.{field_cmp_total}
 use Rattle.can_node.specs.declared.queue.entrant.Entrant.{Entrant}
 use Rattle.can_node.specs.Tournament.{entrant_cmp, earlier_of, entrant_in, entrant_at, winner_at, IsPlayedAt, IsPlayed, IsPlayedBut, Under, here, left, right}
@@ -203,8 +203,16 @@ module _ (winners : List (Option Entrant)) (slots : List (Option Parts)) (node :
   abbrev anew : List (Option Entrant)
   anew = set winners node below
 
-  pub size : length anew ≡ length winners
+  size : length anew ≡ length winners
   size = length-set winners node below
+
+  -- where the winner stays, those of the nodes over it do
+  pub settled : node < length winners → (changed : ℕ) → node ≡ changed / 2 → below ≡ get_or winners node None → IsPlayedBut changed winners slots → IsPlayed winners slots
+  settled inner changed half stays h n l w =
+      elim (cases_eq n node) [
+        | inl e ↦ subst (IsPlayedAt winners slots) (sym e) (at-kept winners slots node inner ∙ sym stays)
+        | inr other ↦ h n l w (λ e. other (omega (arith, e, half))) (λ e. other (omega (arith, e, half)))
+      ]
 
   module _ (first : 1 ≤ node) (inner : node < length winners) where
     anew-other : (n : ℕ) → n ≢ node → winner_at anew slots n ≡ winner_at winners slots n

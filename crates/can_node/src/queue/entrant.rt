@@ -1,4 +1,4 @@
-ghost use Rattle.std.specs.Prelude.{◌≡◌};
+ghost use Rattle.std.specs.Prelude.{◌≡◌, IsTrue};
 ghost use Rattle.std.specs.Ordering.{is_gt};
 ghost use Rattle.can_node.specs.Tournament.{earlier_of, entrant_cmp};
 
@@ -14,6 +14,7 @@ pub struct Entrant {
 }
 
 /// Of two, the one that goes before the other: that of the lower field, and of one field that of the lower place.
+#[inline(always)]
 pub fn earlier(left: Option<Entrant>, right: Option<Entrant>) -> Option<Entrant>
     ensures { result ≡ earlier_of left right }
 {
@@ -24,6 +25,19 @@ pub fn earlier(left: Option<Entrant>, right: Option<Entrant>) -> Option<Entrant>
     }
 }
 
+/// Whether two are one.
+#[inline(always)]
+pub fn is_same(one: &Option<Entrant>, other: &Option<Entrant>) -> bool
+    ensures { IsTrue result → one.now ≡ other.now }
+{
+    match (one, other) {
+        (Some(a), Some(b)) => a.place == b.place && a.field == b.field,
+        (None, None) => true,
+        _ => false,
+    }
+}
+
+#[inline(always)]
 fn goes_behind(entrant: &Entrant, other: &Entrant) -> bool
     ensures { result ≡ is_gt (entrant_cmp entrant.now other.now) }
 {

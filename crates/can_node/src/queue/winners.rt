@@ -1,7 +1,7 @@
 ghost use Rattle.std.specs.Prelude.{◌≡◌, ◌<◌, ◌≤◌, ◌+◌, ◌*◌, ◌^◌, [], get_or, length, set, vec_capacity, IfOk, IsOk, None};
 ghost use Rattle.can_node.specs.Tournament.{FirstUnder, IsPlayed, IsPlayedBut, earlier_of, lower_of, winner_at};
 
-use crate::queue::entrant::{Entrant, earlier};
+use crate::queue::entrant::{Entrant, earlier, is_same};
 use can_frame::{Frame, Key};
 use std::alloc::{AllocError, Global};
 use std::cmp::Ordering;
@@ -45,6 +45,7 @@ impl Winners {
 
     /// The winner at a node.
     #[tactic(auto, unfolding(crate::specs::Tournament::winner_at))]
+    #[inline(always)]
     fn at(&self, slots: &[Option<Frame>], node: usize) -> Option<Entrant>
         ensures { result ≡ winner_at self.now.entrants.items slots.now node }
     {
@@ -59,13 +60,13 @@ impl Winners {
         })
     }
 
-    /// Plays a node anew.
-    fn play(&mut self, slots: &[Option<Frame>], node: usize)
-        requires node { node < length self.old.entrants.items }
-        ensures winners { self.new.entrants.items ≡ set self.old.entrants.items node (earlier_of (winner_at self.old.entrants.items slots.now (2 * node)) (winner_at self.old.entrants.items slots.now (2 * node + 1))) }
-        ensures capacity { vec_capacity self.new.entrants ≡ vec_capacity self.old.entrants }
+    /// Which of the two below a node goes before the other.
+    #[inline(always)]
+    fn below(&self, slots: &[Option<Frame>], node: usize) -> Option<Entrant>
+        requires { node < length self.now.entrants.items }
+        ensures { result ≡ earlier_of (winner_at self.now.entrants.items slots.now (2 * node)) (winner_at self.now.entrants.items slots.now (2 * node + 1)) }
     {
-        self.entrants[node] = earlier(self.at(slots, 2 * node), self.at(slots, 2 * node + 1));
+        earlier(self.at(slots, 2 * node), self.at(slots, 2 * node + 1))
     }
 
     /// Plays the nodes over a slot anew, once another frame or none stands in it.
@@ -79,7 +80,11 @@ impl Winners {
         let mut node = self.width() + place;
         while node > 1 {
             node /= 2;
-            self.play(slots, node);
+            let winner = self.below(slots, node);
+            if is_same(&winner, &self.entrants[node]) {
+                return;
+            }
+            self.entrants[node] = winner;
         }
     }
 
@@ -96,7 +101,7 @@ impl Winners {
         let mut node = width;
         while node > 1 {
             node -= 1;
-            self.play(slots, node);
+            self.entrants[node] = self.below(slots, node);
         }
     }
 

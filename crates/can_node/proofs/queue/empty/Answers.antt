@@ -1,7 +1,6 @@
-use Rattle.std.proofs.Common.{◌≡◌, ◌∙◌, ◌+◌, ◌≢◌, ℕ, arith, length, ap, get_or}
-use Rattle.std.specs.Prelude.{None}
+use Rattle.std.proofs.Common.{◌≡◌, ◌∙◌, ◌+◌, arith, length, ap}
 use Rattle.can_node.specs.Tournament.{frames_in}
-use Rattle.can_node.proofs.SlotLemmas.{frames-last, same-last}
+use Rattle.can_node.proofs.SlotLemmas.{frames-last}
 use Rattle.can_node.proofs.queue.empty.Goals as goal
 
 pub returns-then-place-len-clause-frames : goal.returns-then-place-len-clause-frames

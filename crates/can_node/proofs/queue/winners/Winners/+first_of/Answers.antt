@@ -1,8 +1,8 @@
-use Rattle.std.proofs.Common.{◌≡◌, sym, ◌∙◌, arith}
+use Rattle.std.proofs.Common.{◌≡◌, sym, ◌∙◌}
 use Rattle.std.specs.Prelude.{Some, None}
 use Rattle.std.specs.declared.cmp.Ordering.TheVariants.{Less, Equal, Greater}
 use Rattle.can_frame.specs.Arbitration.{field_cmp}
-use Rattle.can_node.specs.Tournament.{FirstUnder, winner_at}
+use Rattle.can_node.specs.Tournament.{winner_at}
 use Rattle.can_node.proofs.SearchLemmas.{none-wins, same-wins, higher-wins, lower-alone, first-of-two}
 use Rattle.can_node.proofs.queue.winners.Winners.+first_of.Goals as goal
 

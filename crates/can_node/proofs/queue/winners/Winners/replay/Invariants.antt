@@ -1,4 +1,4 @@
-use Rattle.std.proofs.Common.{◌≡◌, ◌<◌, ◌*◌, ℕ, length}
+use Rattle.std.proofs.Common.{◌≡◌, ◌<◌, ◌*◌, length}
 use Rattle.std.specs.Prelude.{vec_capacity}
 use Rattle.can_node.specs.Tournament.{IsPlayedBut}
 use Rattle.can_node.proofs.queue.winners.Winners.replay.Given as goal
