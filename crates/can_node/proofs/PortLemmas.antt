@@ -1,23 +1,15 @@
 -- What a port's queue and log make of it.
 use Rattle.std.proofs.Common.{◌≡◌, ℕ, ◌+◌, ◌<◌, ◌≤◌, List, [], ◌∷◌, ◌++◌, length, sym, ◌∙◌, ap, inl, inr}
-use Rattle.std.specs.Prelude.{Option, Some, None, slice_get, min, nat_lt}
+use Rattle.std.specs.Prelude.{Option, None, min, nat_lt}
 use Rattle.std.proofs.lemmas.Bool.{cond-true, cond-false, cases_Bool, ltb-true, ltb-false}
-use Rattle.can_frame.specs.Parts.{Parts, IsFrame}
+use Rattle.can_frame.specs.Parts.{Parts}
 use Rattle.can_mac.specs.declared.phase.Phase.TheVariants.{Idle}
 use Rattle.can_frame.specs.declared.level.Level.TheVariants.{Recessive}
-use Rattle.can_mac.specs.State.{MacPhase, MacState, IsFrameOrNone}
+use Rattle.can_mac.specs.State.{MacPhase, MacState}
 use Rattle.can_mac.specs.Machine.{mac_drives, mac_step}
 use Rattle.can_mac.specs.declared.event.Event.{Event}
 use Rattle.can_node.specs.declared.entry.Entry.{Entry}
-use Rattle.can_node.specs.Ports.{PortState, IsAtRest, port_drives, port_noting, port_step, port_logging, missed_limit, waiting}
-
--- the frame that waits is one of the queue's frames
-pub is_frame_waiting : (queue : List Parts) (next : ℕ) → ((n : ℕ) (f : Parts) → slice_get queue n ≡ Some f → IsFrame f) → slice_get queue next ≡ waiting queue → IsFrameOrNone (waiting queue)
-is_frame_waiting queue next frames goes_first = by_waiting (waiting queue) goes_first
-  where
-    by_waiting : (o : Option Parts) → slice_get queue next ≡ o → IsFrameOrNone o
-    by_waiting None e = tt
-    by_waiting (Some f) e = frames next f e
+use Rattle.can_node.specs.Ports.{PortState, IsAtRest, port_drives, port_noting, port_step, port_logging, missed_limit}
 
 -- a log with one entry more, or with one more missed
 pub port_logging_is : (entry : Entry) (p : PortState) (log : List Entry) (missed : ℕ) →

@@ -18,7 +18,7 @@ is_less-Less Less e = refl
 is_less-Less Equal e = cc
 is_less-Less Greater e = cc
 
-is_equal-Equal : (o : Ordering) → is_equal o ≡ true → o ≡ Equal
+pub is_equal-Equal : (o : Ordering) → is_equal o ≡ true → o ≡ Equal
 is_equal-Equal Less e = cc
 is_equal-Equal Equal e = refl
 is_equal-Equal Greater e = cc

@@ -4,3 +4,4 @@ pub mod Waiting
 pub mod Listening
 -- For proofs and for models only
 pub mod MacProps
+pub mod Tournament

@@ -127,7 +127,9 @@ impl<B: FrameBits> Node<B> {
 }
 
 impl<B: FrameBits> Port for Node<B> {
-    ghost port = { λ n. record { mac = n.mac; queue = n.queue.frames.items; queue_room = n.queue.room; log = n.log.entries.items; log_room = n.log.room; missed = n.log.missed } };
+    ghost use Rattle.can_node.specs.Tournament.{frames_in};
+
+    ghost port = { λ n. record { mac = n.mac; queue = frames_in n.queue.slots.items; queue_room = n.queue.room; log = n.log.entries.items; log_room = n.log.room; missed = n.log.missed } };
 
     ghost valid = { λ n. record { mac = n.kept; queued = n.queue.are_frames; logged = n.log.are_frames; queue_fits = n.queue.fits; log_fits = n.log.fits; missed_fits = n.log.counted } };
 

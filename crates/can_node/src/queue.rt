@@ -1,127 +1,151 @@
-ghost use Rattle.std.specs.Prelude.{◌≡◌, ◌<◌, ◌≤◌, ◌↔◌, ◌++◌, ◌∷◌, ℕ, [], length, vec_capacity, IfErr, IfOk, IsOk, OnErr, OnOk, Some, position, slice_get};
+ghost use Rattle.std.specs.Prelude.{◌≡◌, ◌≢◌, ◌<◌, ◌≤◌, ◌+◌, ◌*◌, ◌^◌, ◌↔◌, ◌++◌, ◌∷◌, ℕ, [], length, vec_capacity, MatchOption, IfErr, IfOk, IsOk, OnErr, OnOk, None, Some, get_or, set, slice_get};
 ghost use Rattle.std.specs.Option.{option_copied};
 ghost use Rattle.can_frame.specs.Parts.{Parts, IsFrame};
-ghost use Rattle.can_node.specs.Ports.{goes_before as goes_before_by, same_field as same_field_by, waiting, without};
+ghost use Rattle.can_node.specs.Ports.{earlier as earlier_by, waiting, without};
+ghost use Rattle.can_node.specs.Tournament.{frames_in, IsPlayed};
 
+mod entrant;
+mod winners;
+
+use crate::queue::entrant::Entrant;
+use crate::queue::winners::Winners;
 use can_frame::Frame;
 use std::alloc::{AllocError, Global};
 
 /// The frames that wait to be sent, in the order in which they were offered.
+///
+/// Each stands in a slot of its own. One that leaves empties its slot, and where no slot is left for an offer, the
+/// frames are moved together; there are so many slots that this is seldom. Which frame goes first is told by a
+/// tournament of the slots. So an offer, and a frame that leaves, cost the logarithm of the number of frames.
 #[derive(Drop)]
 pub struct Queue {
-    frames: Vec<Frame>,
+    /// In the order of the offers.
+    slots: Vec<Option<Frame>>,
+    winners: Winners,
+    /// The frame that goes first, so that no bit time has to look for it.
+    first: Option<Frame>,
+    /// How many frames wait.
+    count: usize,
     room: usize,
-    /// The place of the frame that goes first, so that no bit time has to look for it.
-    next: usize,
-    ghost are_frames: { (n : ℕ) (f : Parts) → slice_get frames.items n ≡ Some f → IsFrame f },
-    ghost fits: { length frames.items ≤ room },
-    ghost has_room: { room ≤ vec_capacity frames },
-    ghost goes_first: { slice_get frames.items next ≡ waiting frames.items },
+    ghost are_frames: { (n : ℕ) (f : Parts) → slice_get (frames_in slots.items) n ≡ Some f → IsFrame f },
+    ghost counted: { count ≡ length (frames_in slots.items) },
+    ghost fits: { length (frames_in slots.items) ≤ room },
+    ghost few: { 2 * room ≤ 2 ^ 62 },
+    ghost has_room: { (2 * room ≤ vec_capacity slots) × (2 * room ≤ vec_capacity winners.entrants) },
+    ghost has_slots: { (length slots.items ≤ length winners.entrants.items) × (length winners.entrants.items ≤ 2 * room) },
+    ghost played: { IsPlayed winners.entrants.items slots.items },
+    ghost goes_first: { first ≡ waiting (frames_in slots.items) },
 }
 
 impl Queue {
     /// An empty queue, with memory for so many frames.
     pub fn with_room(alloc: Global, room: usize) -> Result<Queue, AllocError>
-        ensures frames { IfOk result (λ q. q.frames.items ≡ []) }
+        ensures frames { IfOk result (λ q. frames_in q.slots.items ≡ []) }
         ensures room { IfOk result (λ q. q.room ≡ room) }
         ensures no_room { room ≡ 0 → IsOk result }
     {
+        if room > MOST_FRAMES {
+            return Err(AllocError);
+        }
         Ok(Queue {
-            frames: Vec::with_capacity(alloc, room)?,
+            slots: Vec::with_capacity(alloc, 2 * room)?,
+            winners: Winners::with_room(alloc, 2 * room)?,
+            first: None,
+            count: 0,
             room,
-            next: 0,
         })
     }
 
     /// The frame that goes first.
     pub fn waiting(&self) -> Option<&Frame>
-        ensures { option_copied result ≡ waiting self.now.frames.items }
+        ensures { option_copied result ≡ waiting (frames_in self.now.slots.items) }
     {
-        self.frames.get(self.next)
+        self.first.as_ref()
     }
 
     /// Puts a frame behind the others. A full queue gives it back.
     pub fn push(&mut self, frame: Frame) -> Result<(), Frame>
-        ensures fits { IsOk result ↔ (length self.old.frames.items < self.old.room) }
-        ensures taken { OnOk result (self.new.frames.items ≡ self.old.frames.items ++ frame ∷ []) }
+        ensures fits { IsOk result ↔ (length (frames_in self.old.slots.items) < self.old.room) }
+        ensures taken { OnOk result (frames_in self.new.slots.items ≡ frames_in self.old.slots.items ++ frame ∷ []) }
         ensures back { IfErr result (λ refused. refused ≡ frame) }
-        ensures unchanged { OnErr result (self.new.frames.items ≡ self.old.frames.items) }
+        ensures unchanged { OnErr result (frames_in self.new.slots.items ≡ frames_in self.old.slots.items) }
         ensures room { self.new.room ≡ self.old.room }
     {
-        if self.frames.len() == self.room {
+        if self.count == self.room {
             return Err(frame);
         }
         // Who reads a frame's bytes knows that it is a frame.
         let _ = frame.bytes();
-        let next = self.next_with(&frame);
-        self.frames.push_reserved(frame);
-        self.next = next;
+        self.make_slot();
+        let place = self.slots.len();
+        self.slots.push_reserved(Some(frame));
+        self.winners.replay(&self.slots, place);
+        self.first = Some(first_with(self.first, frame));
+        self.count += 1;
         Ok(())
     }
 
-    /// The place of the frame that goes first once this one stands behind the others.
-    fn next_with(&self, frame: &Frame) -> usize
-        ensures { slice_get (self.now.frames.items ++ frame.now ∷ []) result ≡ waiting (self.now.frames.items ++ frame.now ∷ []) }
+    /// Sees that there is a slot behind the last one. If not, moves the frames to the front, and makes slots behind them
+    /// for one more than there are frames.
+    fn make_slot(&mut self)
+        requires { length (frames_in self.old.slots.items) < self.old.room }
+        ensures frames { frames_in self.new.slots.items ≡ frames_in self.old.slots.items }
+        ensures room { self.new.room ≡ self.old.room }
+        ensures slot { length self.new.slots.items < length self.new.winners.entrants.items }
     {
-        match self.waiting() {
-            Some(first) if !goes_before(frame, first) => self.next,
-            _ => self.frames.len(),
+        if self.slots.len() < self.winners.width() {
+            return;
         }
+        self.slots.retain(|slot| slot.is_some());
+        self.winners.restart(&self.slots, 2 * self.slots.len() + 1);
     }
 
     /// Takes out the first frame that has the arbitration field of this one.
     pub fn remove(&mut self, sent: &Frame)
-        ensures frames { self.new.frames.items ≡ without sent.now self.old.frames.items }
+        ensures frames { frames_in self.new.slots.items ≡ without sent.now (frames_in self.old.slots.items) }
         ensures room { self.new.room ≡ self.old.room }
     {
-        let removal = removal_of(&self.frames, sent);
-        if let Some(place) = removal.place {
-            self.frames.remove(place);
-            self.next = removal.next;
-        }
+        let Some(place) = self.winners.first_of(&self.slots, sent.key(), 1) else {
+            return;
+        };
+        empty(&mut self.slots, place);
+        self.winners.replay(&self.slots, place);
+        self.first = first_in(&self.slots, self.winners.first(&self.slots));
+        self.count -= 1;
     }
 }
 
-/// Whether a frame wins arbitration against another.
-fn goes_before(frame: &Frame, other: &Frame) -> bool
-    ensures { result ≡ goes_before_by frame.now other.now }
+/// Empties a slot. If it is the last one it goes, so that the next offer finds it free.
+fn empty(slots: &mut Vec<Option<Frame>>, place: usize)
+    requires { place < length slots.old.items }
+    ensures frames { frames_in slots.new.items ≡ frames_in (set slots.old.items place None) }
+    ensures others { (n : ℕ) → n ≢ place → get_or slots.new.items n None ≡ get_or slots.old.items n None }
+    ensures fewer { length slots.new.items ≤ length slots.old.items }
+    ensures capacity { vec_capacity slots.new ≡ vec_capacity slots.old }
 {
-    frame.key() < other.key()
-}
-
-/// What a frame that leaves makes of a queue.
-#[derive(Drop)]
-struct Removal {
-    /// The place of the first frame that has its arbitration field.
-    place: Option<usize>,
-    /// The place of the frame that goes first of those that stay.
-    next: usize,
-}
-
-/// Which frame leaves with this one, and which one goes first then. Each frame is looked at once.
-fn removal_of(frames: &[Frame], sent: &Frame) -> Removal
-    ensures place { result.place ≡ position (same_field_by sent.now) frames.now }
-    ensures next { slice_get (without sent.now frames.now) result.next ≡ waiting (without sent.now frames.now) }
-{
-    let field = sent.key();
-    let mut removal = Removal {
-        place: None,
-        next: 0,
-    };
-    // The least arbitration field of those that stay, if there are any.
-    let mut least = field;
-    let mut staying = 0;
-    for frame in frames {
-        let key = frame.key();
-        if removal.place.is_none() && field == key {
-            removal.place = Some(staying);
-        } else {
-            if staying == 0 || key < least {
-                removal.next = staying;
-                least = key;
-            }
-            staying += 1;
-        }
+    if place + 1 == slots.len() {
+        slots.truncate(place);
+    } else {
+        slots[place] = None;
     }
-    removal
+}
+
+/// A queue for more would need more memory than there can be.
+const MOST_FRAMES: usize = 1 << 60;
+
+/// The frame that goes first once this one stands behind the others.
+fn first_with(first: Option<Frame>, frame: Frame) -> Frame
+    ensures { MatchOption first (result ≡ frame) (λ f. result ≡ earlier_by f (Some frame)) }
+{
+    match first {
+        Some(first) if frame.key() >= first.key() => first,
+        _ => frame,
+    }
+}
+
+/// The frame at the place of a winner.
+fn first_in(slots: &[Option<Frame>], winner: Option<Entrant>) -> Option<Frame>
+    ensures { MatchOption winner (result ≡ None) (λ e. result ≡ get_or slots.now e.place None) }
+{
+    slots.get(winner?.place).copied().flatten()
 }

@@ -9,6 +9,7 @@ use Rattle.can_wire.specs.declared.checked_bits.CheckedBits.{CheckedBits}
 use Rattle.can_wire.specs.contracts.checked_bits.CheckedBitsFrameBits.TheImpl as checked_bits
 use Rattle.can_node.specs.declared.node.Node.{Node}
 use Rattle.can_node.specs.Ports.{PortState, IsPort}
+use Rattle.can_node.specs.Tournament.{frames_in}
 use Rattle.can_bus.specs.declared.hit.Hit.{Hit}
 use Rattle.can_bus.specs.declared.offer.Offer.{Offer}
 use Rattle.can_bus.specs.Offers.{played, played_level}
@@ -20,7 +21,7 @@ use Rattle.can_scenario.specs.declared.scenario.Scenario.{Scenario}
 
 -- what a contract sees of a port with memory of its own
 abbrev pub node_port : Node CheckedBits checked_bits.ghosts → PortState
-node_port n = record { mac = n.mac; queue = n.queue.frames.items; queue_room = n.queue.room; log = n.log.entries.items; log_room = n.log.room; missed = n.log.missed }
+node_port n = record { mac = n.mac; queue = frames_in n.queue.slots.items; queue_room = n.queue.room; log = n.log.entries.items; log_room = n.log.room; missed = n.log.missed }
 
 -- it is a port
 pub node-valid : (n : Node CheckedBits checked_bits.ghosts) → IsPort (node_port n)

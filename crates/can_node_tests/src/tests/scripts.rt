@@ -38,6 +38,40 @@ idle 5 5, idle 0 5
 share 400
 1 => Active (0, 0) missed 0, took S 000 D 0, took S 001 D 1 00, took S 001 D 1 01, took S 001 D 1 02, took S 003 D 0
 
+idle 4 9, idle 0 9
+# Frames are offered while others leave, more of them than may wait: each one goes in its turn.
+0 offer S 005 D 0 => Ok(())
+0 offer S 003 D 0 => Ok(())
+0 offer S 004 D 0 => Ok(())
+share 70
+# 003 has been sent, and 004 is on the wire
+0 offer S 002 D 0 => Ok(())
+0 offer S 001 D 0 => Ok(())
+share 60
+# 004 has been sent, and 001 is on the wire
+0 offer S 001 D 1 00 => Ok(())
+share 60
+# 001 has been sent, and the next of its field is on the wire
+0 offer S 000 D 0 => Ok(())
+share 400
+1 => Active (0, 0) missed 0, took S 003 D 0, took S 004 D 0, took S 001 D 0, took S 001 D 1 00, took S 000 D 0, \
+took S 002 D 0, took S 005 D 0
+
+idle 9 9, idle 0 9
+# Where lesser fields are offered while a frame is sent, the first of its field leaves, and the others of it stay.
+0 offer S 010 D 1 00 => Ok(())
+share 20
+0 offer S 010 D 1 01 => Ok(())
+0 offer S 00f D 0 => Ok(())
+0 offer S 010 D 1 02 => Ok(())
+0 offer S 00e D 0 => Ok(())
+0 offer S 00d D 0 => Ok(())
+0 offer S 011 D 0 => Ok(())
+0 offer S 00c D 0 => Ok(())
+share 600
+1 => Active (0, 0) missed 0, took S 010 D 1 00, took S 00c D 0, took S 00d D 0, took S 00e D 0, took S 00f D 0, \
+took S 010 D 1 01, took S 010 D 1 02, took S 011 D 0
+
 idle 1 1, idle 0 1
 # The sender drives each level of its frame behind the one before it. The receiver drives its acknowledgement alone, in
 # the ACK slot, which is level 41.

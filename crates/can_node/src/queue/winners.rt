@@ -1,0 +1,145 @@
+ghost use Rattle.std.specs.Prelude.{◌≡◌, ◌<◌, ◌≤◌, ◌+◌, ◌*◌, ◌^◌, [], get_or, length, set, vec_capacity, IfOk, IsOk, None};
+ghost use Rattle.can_node.specs.Tournament.{FirstUnder, IsPlayed, IsPlayedBut, earlier_of, lower_of, winner_at};
+
+use crate::queue::entrant::{Entrant, earlier, is_same};
+use can_frame::{Frame, Key};
+use std::alloc::{AllocError, Global};
+use std::cmp::Ordering;
+
+/// The winners of a tournament of slots: at each node the frame that goes before the others below it.
+///
+/// The nodes are numbered from 1 on. Below node n stand the nodes 2 n and 2 n + 1; the nodes from the width on are the
+/// slots, in their order.
+#[derive(Drop)]
+pub struct Winners {
+    /// The winner at each node below the width. Nothing stands at place 0.
+    entrants: Vec<Option<Entrant>>,
+    ghost few: { length entrants.items ≤ 2 ^ 62 },
+}
+
+impl Winners {
+    /// A tournament of no slots, with memory for so many.
+    pub fn with_room(alloc: Global, room: usize) -> Result<Winners, AllocError>
+        ensures none { IfOk result (λ w. w.entrants.items ≡ []) }
+        ensures room { IfOk result (λ w. room ≤ vec_capacity w.entrants) }
+        ensures no_room { room ≡ 0 → IsOk result }
+    {
+        Ok(Winners {
+            entrants: Vec::with_capacity(alloc, room)?,
+        })
+    }
+
+    /// For how many slots there are nodes.
+    pub fn width(&self) -> usize
+        ensures { result ≡ length self.now.entrants.items }
+    {
+        self.entrants.len()
+    }
+
+    /// The frame that goes before all others.
+    pub fn first(&self, slots: &[Option<Frame>]) -> Option<Entrant>
+        ensures { result ≡ winner_at self.now.entrants.items slots.now 1 }
+    {
+        self.at(slots, 1)
+    }
+
+    /// The winner at a node.
+    #[tactic(auto, unfolding(crate::specs::Tournament::winner_at))]
+    #[inline(always)]
+    fn at(&self, slots: &[Option<Frame>], node: usize) -> Option<Entrant>
+        ensures { result ≡ winner_at self.now.entrants.items slots.now node }
+    {
+        if node < self.width() {
+            return self.entrants[node];
+        }
+        let place = node - self.width();
+        let frame = frame_at(slots, place)?;
+        Some(Entrant {
+            field: frame.key(),
+            place,
+        })
+    }
+
+    /// Which of the two below a node goes before the other.
+    #[inline(always)]
+    fn below(&self, slots: &[Option<Frame>], node: usize) -> Option<Entrant>
+        requires { node < length self.now.entrants.items }
+        ensures { result ≡ earlier_of (winner_at self.now.entrants.items slots.now (2 * node)) (winner_at self.now.entrants.items slots.now (2 * node + 1)) }
+    {
+        earlier(self.at(slots, 2 * node), self.at(slots, 2 * node + 1))
+    }
+
+    /// Plays the nodes over a slot anew, once another frame or none stands in it.
+    pub fn replay(&mut self, slots: &[Option<Frame>], place: usize)
+        requires place { place < length self.old.entrants.items }
+        requires others { IsPlayedBut (length self.old.entrants.items + place) self.old.entrants.items slots.now }
+        ensures played { IsPlayed self.new.entrants.items slots.now }
+        ensures width { length self.new.entrants.items ≡ length self.old.entrants.items }
+        ensures capacity { vec_capacity self.new.entrants ≡ vec_capacity self.old.entrants }
+    {
+        let mut node = self.width() + place;
+        while node > 1 {
+            node /= 2;
+            let winner = self.below(slots, node);
+            if is_same(&winner, &self.entrants[node]) {
+                return;
+            }
+            self.entrants[node] = winner;
+        }
+    }
+
+    /// Plays all nodes anew, for so many slots.
+    pub fn restart(&mut self, slots: &[Option<Frame>], width: usize)
+        requires room { width ≤ vec_capacity self.old.entrants }
+        requires few { width ≤ 2 ^ 62 }
+        ensures played { IsPlayed self.new.entrants.items slots.now }
+        ensures width { length self.new.entrants.items ≡ width }
+        ensures capacity { vec_capacity self.old.entrants ≤ vec_capacity self.new.entrants }
+    {
+        // There is room, so that no memory is taken.
+        let _ = self.entrants.resize(width, None);
+        let mut node = width;
+        while node > 1 {
+            node -= 1;
+            self.entrants[node] = self.below(slots, node);
+        }
+    }
+
+    /// The place of the first frame below a node that has this arbitration field. Only nodes whose winner has a lower
+    /// field are looked into.
+    pub fn first_of(&self, slots: &[Option<Frame>], field: Key, node: usize) -> Option<usize>
+        requires node { 1 ≤ node }
+        requires slots { length slots.now ≤ length self.now.entrants.items }
+        requires played { IsPlayed self.now.entrants.items slots.now }
+        ensures { FirstUnder node (length self.now.entrants.items) slots.now field result }
+    {
+        let winner = self.at(slots, node)?;
+        match field.cmp(&winner.field) {
+            Ordering::Equal => Some(winner.place),
+            Ordering::Greater if node < self.width() => {
+                let left = self.first_of(slots, field, 2 * node);
+                let right = self.first_of(slots, field, 2 * node + 1);
+                lower(left, right)
+            }
+            _ => None,
+        }
+    }
+}
+
+/// The frame in a slot. Behind the last there is none.
+pub fn frame_at(slots: &[Option<Frame>], place: usize) -> Option<Frame>
+    ensures { result ≡ get_or slots.now place None }
+{
+    slots.get(place).copied().flatten()
+}
+
+/// The lower of two places, or the one that there is.
+fn lower(left: Option<usize>, right: Option<usize>) -> Option<usize>
+    ensures { result ≡ lower_of left right }
+{
+    match (left, right) {
+        (Some(a), Some(b)) => Some(a.min(b)),
+        (Some(_), None) => left,
+        (None, _) => right,
+    }
+}
