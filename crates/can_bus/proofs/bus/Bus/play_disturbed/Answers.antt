@@ -216,15 +216,17 @@ pub returns-clause-levels : goal.returns-clause-levels
 returns-clause-levels g c = λ t h.
     slice_get-get_or c.loop-place.rec t Recessive h ∙ ap Some (c.loop-place.invariant.levels t Recessive (omega arith))
 
-pub returns-clause-disturbed : goal.returns-clause-disturbed
-returns-clause-disturbed g c = λ rested.
-    subst (λ after. WasPlayed c.args.offers.now c.args.hits.now (state_of g.P.Port.port c.args.self.now) c.loop-place.rec after) (sym (returns-clause-bus g c))
-    (call-played c.args.offers.now c.args.hits.now (state_of g.P.Port.port c.args.self.now) c.loop-place.rec rested (returns-clause-levels g c))
-
 pub returns-clause-count : goal.returns-clause-count
 returns-clause-count g c =
     let size : c.loop-place.place ≡ length c.loop-place.rec = omega arith in
     c.loop-place.invariant.count ∙ ap (λ n. call_refused c.args.offers.now c.args.hits.now n (state_of g.P.Port.port c.args.self.now)) size
+
+pub returns-clause-disturbed : goal.returns-clause-disturbed
+returns-clause-disturbed g c = λ rested.
+    let bus = state_of g.P.Port.port c.args.self.now in
+    subst (λ after. WasPlayed c.args.offers.now c.args.hits.now bus c.loop-place.rec after c.loop-place.progress.refused) (sym (returns-clause-bus g c))
+    (subst (λ count. WasPlayed c.args.offers.now c.args.hits.now bus c.loop-place.rec (call_after c.args.offers.now c.args.hits.now (length c.loop-place.rec) bus).bus count) (sym (returns-clause-count g c))
+    (call-played c.args.offers.now c.args.hits.now bus c.loop-place.rec rested (returns-clause-levels g c)))
 
 -- ---- a network
 
