@@ -70,9 +70,6 @@ module _ (f : Parts) (left rest : List Timed) (others : AreOthers f left rest) w
   abbrev pub taken : Timed
   taken = record { time = others.offered; frame = f }
 
-  pub taken-left : Lists left taken
-  taken-left = subst (λ l. Lists l taken) (sym others.whole) (stands-middle others.before taken others.after)
-
   pub rest-left : (x : Timed) → Lists rest x → Lists left x
   rest-left x s =
       subst (λ l. Lists l x) (sym others.whole)

@@ -33,7 +33,7 @@ pub fn a_course_without_hits_is_a_schedule()
 /// Where all frames are offered at time 0, no two of one arbitration field, each attempt of the course sends the frame of the
 /// ascending list that its number tells, and is hit where its number says.
 pub fn a_course_at_once_ascends()
-    ensures { (hits : List Disturbance) (offers : List Timed) → AreDifferent (frames_of offers) → AreAtOnce offers → ((x : Timed) → Lists offers x → IsFrame x.frame) →
+    ensures { (hits : List Disturbance) (offers : List Timed) → AreDifferent (frames_of offers) → AreAtOnce offers →
         FallInWindows (ascending (frames_of offers)) hits → AreApart 1 hits → (course : List Transmission) → IsCourse hits 0 0 offers course →
         (n : ℕ) (s : Transmission) → slice_get course n ≡ Some s → (frame_of_attempt (ascending (frames_of offers)) hits n ≡ Some s.frame) × (hit_of hits n ≡ s.hit) }
 {}

@@ -17,9 +17,8 @@ use Rattle.can_bus.specs.Walks.{IsCall, IsReached, call_on}
 use Rattle.can_bus.proofs.DisturbedPlays.{call-played}
 use Rattle.can_bus.proofs.CallLemmas.{call-none, call-several, level-several, refused-none, refused-several}
 use Rattle.can_bus.proofs.HitOrder.{taken-rising}
-use Rattle.can_bus.proofs.NetworkCalls.{network-active, network-counts, network-has, network-logs, network-missed, network-refused, network-tally, network-track, network-whole, not-offered, not-taken}
+use Rattle.can_bus.proofs.NetworkCalls.{network-active, network-counts, network-has, network-logs, network-missed, network-refused, network-tally, network-track, network-whole, not-offered, not-taken, valid-ports}
 use Rattle.can_bus.proofs.OfferLemmas.{reached-first, reached-between, none-between, length-all_made}
-use Rattle.can_bus.proofs.QuietStart.{valid-ports}
 use Rattle.can_bus.proofs.RunLemmas.{length-after}
 use Rattle.can_bus.proofs.StepLemmas.{first_ready}
 use Rattle.can_bus.proofs.bus.Bus.play_disturbed.Goals as goal
