@@ -89,7 +89,6 @@ impl<P: Port> Bus<P> {
     /// log names the frames of the attempts that aren't hit, in their order, as sent at the port that had the frame and
     /// as received at each other port; each whose wire has ended is there. Behind the last attempt all are, and the
     /// counters are those of the tally. No offer is given back, all ports stay error active, and no entry is missed.
-    #[inline(always)]
     pub fn play_disturbed(
         &mut self,
         offers: &[Offer],
