@@ -8,10 +8,9 @@ use Rattle.can_bus.specs.RepairedLine.{repaired_line_at}
 use Rattle.can_bus.specs.Schedule.{AreAtOnce, Timed, frames_of, schedule, track_at}
 use Rattle.can_bus.proofs.CourseCases.{course-planned, schedule-is}
 use Rattle.can_bus.proofs.CoursePlans.{plan-frames, plan-track}
-use Rattle.can_bus.proofs.CourseSchedules.{unhit-frames, unhit-track}
+use Rattle.can_bus.proofs.CourseSchedules.{one-schedule, unhit-frames, unhit-track}
 use Rattle.can_bus.proofs.RepairPlans.{Plan}
 use Rattle.can_bus.proofs.RepairedLevels.{plan-attempts, unhit-line}
-use Rattle.can_bus.proofs.Schedules.{one-schedule}
 
 module _ (offers : List Timed) (different : AreDifferent (frames_of offers)) (all : AreAtOnce offers) where
   -- the schedule is what is planned for the ascending list, where nothing is hit

@@ -9,10 +9,9 @@ use Rattle.can_bus.specs.Schedule.{AreAtOnce, IsScheduleOf, Timed, frames_of, sc
 use Rattle.can_bus.proofs.Ascending.{ascending_there}
 use Rattle.can_bus.proofs.CourseLaws.{course-only}
 use Rattle.can_bus.proofs.CoursePlans.{left-ascending, plan-course, plan-each}
-use Rattle.can_bus.proofs.CourseSchedules.{schedule-course}
+use Rattle.can_bus.proofs.CourseSchedules.{one-schedule, schedule-course}
 use Rattle.can_bus.proofs.NextStarts.{apart-from as different-apart}
 use Rattle.can_bus.proofs.RepairPlans.{Apart, Plan, apart-from, plan, windows-from}
-use Rattle.can_bus.proofs.Schedules.{one-schedule}
 
 -- ---- nothing is hit
 

@@ -11,7 +11,7 @@ use Rattle.can_bus.specs.OpenBus.{AreOver, IsOpenCall, OpenLogBegins, OpenLogWho
 use Rattle.can_bus.specs.Offers.{all_made, played, played_level, refused, refused_at}
 use Rattle.can_bus.specs.Quiet.{AtEachNode, AtEachPort, CountsNothing, IsPrefixOf, IsQuietPort, MissesNothing, marked}
 use Rattle.can_bus.specs.Repair.{IsLow}
-use Rattle.can_bus.specs.Run.{BusState, CallState, bus_after, bus_level, bus_step, recorded}
+use Rattle.can_bus.specs.Run.{BusState, bus_after, bus_level, recorded}
 use Rattle.can_bus.specs.Schedule.{Timed, Lists, frames_of, track_at}
 use Rattle.can_bus.specs.Wired.{wired}
 use Rattle.can_bus.proofs.Ascending.{Other, different_permuted}

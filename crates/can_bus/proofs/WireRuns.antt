@@ -1,5 +1,5 @@
 -- A wire without disturbances, with machines of any kind on it, over levels that it is known to have.
-use Rattle.std.proofs.Common.{◌≡◌, ℕ, zero, suc, ◌+◌, ◌<◌, List, [], ◌∷◌, length, map, take, ap, sym, ◌∙◌, subst, arith}
+use Rattle.std.proofs.Common.{◌≡◌, ℕ, zero, suc, ◌<◌, List, [], ◌∷◌, length, map, take, sym, subst, arith}
 use Rattle.can_frame.specs.declared.level.Level.{Level}
 use Rattle.can_wire.specs.Layout.{level_at}
 use Rattle.can_bus.specs.Wired.{over}
