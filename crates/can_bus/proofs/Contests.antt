@@ -1,4 +1,4 @@
--- Who sends: of ports whose frames all differ, the one that has the least frame; and what is left behind it.
+-- Which frames a list has, and what holds of each port; and which frame waits, where every other comes behind it.
 use Rattle.std.proofs.Common.{◌≡◌, ℕ, zero, suc, ◌⊎◌, Option, Some, None, List, [], ◌∷◌, ◌++◌, refl, ap, subst, inl, inr}
 use Rattle.std.specs.Prelude.{slice_get}
 use Rattle.can_frame.specs.Parts.{Parts}

@@ -32,7 +32,7 @@ use Rattle.can_bus.proofs.FrameOnBus.{gaining_sees, ports_of, frame-gives, all_a
 use Rattle.can_bus.proofs.HitRuns.{falls, latest_after, latest_now}
 use Rattle.can_bus.proofs.HitWires.{HitWire, hit_seen, hit_step, hit_run, hit_runs-joined, hit_step-known, hit_seen-known, hits-part, hits-all, hits-levels}
 use Rattle.can_bus.proofs.Members.{stands-none}
-use Rattle.can_bus.proofs.QuietLine.{IsAtRest, rest-wired}
+use Rattle.can_bus.proofs.RestingPorts.{IsAtRest, rest-wired}
 use Rattle.can_bus.proofs.Reduction.{Gives, maps-alike}
 use Rattle.can_bus.proofs.RepairedLevels.{broken-attempt}
 use Rattle.can_bus.proofs.RepairCounts.{within-le}

@@ -17,7 +17,7 @@ use Rattle.can_bus.proofs.PlayedRuns.{HaveRoomNow, AreRoomy, all_arrived, all-ta
 use Rattle.can_bus.proofs.HitRuns.{AreWithin, falls, falls-always, all-see, latest_now, sees}
 use Rattle.can_bus.proofs.HitWires.{HitWire, hit_latest, hit_seen, hit_step, hit_run, hit_runs-joined}
 
--- the ports of this number of bit time, with what is still to be offered to them
+-- the bus in the bit time of this number: its ports, with what is still to be offered to them
 abbrev pub open_wire : List Offer → ℕ → CallState → HitWire GainingPort
 open_wire offers t c = record { machines = open_ports offers t 0 c.bus.ports; rest = c.bus.rest; latest = c.latest }
 
