@@ -13,7 +13,7 @@ use Rattle.can_node.specs.Ports.{PortState, waiting}
 use Rattle.can_node.proofs.FrameLeaves.{Sends, Receives}
 use Rattle.can_bus.specs.Quiet.{holds}
 use Rattle.can_bus.specs.Repair.{Tally, IsLow, tallied}
-use Rattle.can_bus.proofs.Rounds.{IsWithin, within-received, sends-has}
+use Rattle.can_bus.proofs.CalmPorts.{IsWithin, within-received, sends-has}
 use Rattle.can_bus.proofs.QuietLogs.{TakesPart, holds-own, holds-none, others-of}
 
 -- ---- One error more.

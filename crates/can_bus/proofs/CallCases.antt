@@ -1,17 +1,16 @@
 -- A call with offers and hits, where it has no offers or no hits: it is the run, or what is played.
-use Rattle.std.proofs.Common.{◌≡◌, ℕ, zero, suc, ◌+◌, Some, None, Ok, Err, List, [], length, map, refl, sym, ap, subst, ◌∙◌}
+use Rattle.std.proofs.Common.{◌≡◌, ℕ, zero, suc, Some, None, Ok, Err, List, [], length, map, refl, sym, ap, subst, ◌∙◌}
 use Rattle.std.proofs.lemmas.List.{length-map}
 use Rattle.std.specs.Prelude.{◌↔◌, IfOk, IsOk, OnOk, Result}
 use Rattle.can_node.specs.Ports.{PortState, port_drives}
 use Rattle.can_bus.specs.declared.offer.Offer.{Offer}
 use Rattle.can_bus.specs.Hits.{AreTaken}
-use Rattle.can_bus.specs.Network.{call_after, call_refused, offered_now}
-use Rattle.can_bus.specs.Offers.{AreOffered, all_made, played, refused, refused_at}
-use Rattle.can_bus.specs.Run.{BusState, CallState, bus_step, recorded, rest_after}
+use Rattle.can_bus.specs.Network.{call_after, offered_now}
+use Rattle.can_bus.specs.Offers.{AreOffered, all_made, played}
+use Rattle.can_bus.specs.Run.{BusState, CallState, bus_after, bus_run, bus_step, call_begun, recorded, rest_after}
 use Rattle.can_bus.specs.Wired.{wired}
 use Rattle.can_bus.proofs.CallLemmas.{call-time}
-use Rattle.can_bus.proofs.HitRuns.{all-see}
-use Rattle.can_bus.proofs.PlainRuns.{run_one, sees}
+use Rattle.can_bus.proofs.HitRuns.{all-see, sees}
 
 pub no-hits : (ports : ℕ) → AreTaken ports []
 no-hits ports place hit at = absurd (let h : None ≡ Some hit = at in cc)
@@ -40,11 +39,15 @@ ok-is (Err e) n ok h = cc
 
 -- ---- without hits
 
-plain-bus : (c : CallState) → (bus_step [] c).bus ≡ record { ports = map (sees (wired (map port_drives c.bus.ports))) c.bus.ports; rest = rest_after c.bus.rest (wired (map port_drives c.bus.ports)) }
+pub plain-bus : (c : CallState) → (bus_step [] c).bus ≡ record { ports = map (sees (wired (map port_drives c.bus.ports))) c.bus.ports; rest = rest_after c.bus.rest (wired (map port_drives c.bus.ports)) }
 unfolding bus_step recorded
 plain-bus c =
     let x = wired (map port_drives c.bus.ports) in
     ap (λ ps. let b : BusState = record { ports = ps; rest = rest_after c.bus.rest x } in b) (all-see [] tt c.time 0 x c.bus.ports)
+
+pub run_one : (bus : BusState) → bus_run [] 1 bus ≡ record { ports = map (sees (wired (map port_drives bus.ports))) bus.ports; rest = rest_after bus.rest (wired (map port_drives bus.ports)) }
+unfolding bus_run bus_after
+run_one bus = plain-bus (call_begun bus)
 
 module _ (offers : List Offer) (bus : BusState) where
   pub played-call : (n : ℕ) → played offers n bus ≡ (call_after offers [] n bus).bus
@@ -59,10 +62,3 @@ module _ (offers : List Offer) (bus : BusState) where
       run_one (record before { ports = all_made offers n before.ports })
       ∙ ap (λ (b : BusState). let x = wired (map port_drives b.ports) in let next : BusState = record { ports = map (sees x) b.ports; rest = rest_after b.rest x } in next) same
       ∙ sym (plain-bus now)
-
-  pub refused-call : (n : ℕ) → refused offers n bus ≡ call_refused offers [] n bus
-  unfolding refused call_refused
-  refused-call zero = refl
-  refused-call (suc n) =
-      ap (λ k. k + refused_at offers n (played offers n bus).ports) (refused-call n)
-      ∙ ap (λ (b : BusState). call_refused offers [] n bus + refused_at offers n b.ports) (played-call n)

@@ -1,4 +1,4 @@
--- Who sends: of ports whose frames all differ, the one that has the least frame; and what is left behind it.
+-- Which frames a list has, and what holds of each port; and which frame waits, where every other comes behind it.
 use Rattle.std.proofs.Common.{◌≡◌, ℕ, zero, suc, ◌⊎◌, Option, Some, None, List, [], ◌∷◌, ◌++◌, refl, ap, subst, inl, inr}
 use Rattle.std.specs.Prelude.{slice_get}
 use Rattle.can_frame.specs.Parts.{Parts}
@@ -6,17 +6,12 @@ use Rattle.can_node.specs.Ports.{waiting}
 use Rattle.can_node.specs.Waiting.{IsWaiting}
 use Rattle.can_node.proofs.WaitingLaws.{waiting-none, waiting-IsWaiting}
 use Rattle.can_node.proofs.FrameLeaves.{ComesBehind}
-use Rattle.can_bus.proofs.Ascending.{Goes, Other}
+use Rattle.can_bus.proofs.Ascending.{Goes}
 
 -- the frame is one of these
 abbrev pub Has : Parts → List Parts → Type 0
 Has x [] = ⊥
 Has x (f ∷ frames) = (f ≡ x) ⊎ Has x frames
-
--- no two of them have one arbitration field
-abbrev pub Distinct : List Parts → Type 0
-Distinct [] = Unit {0}
-Distinct (f ∷ frames) = ((x : Parts) → Has x frames → Other f x) × Distinct frames
 
 -- it holds of each port
 abbrev pub AllPorts : {P : Type 0} → (P → Type 0) → List P → Type 0

@@ -32,7 +32,7 @@ use Rattle.can_bus.proofs.OwnOffers.{first-out, first-stays}
 
 -- ---- the list of offers, parted
 
-parted : (offers : List Timed) (n : ℕ) (x : Timed) → slice_get offers n ≡ Some x → (after : List Timed) × (offers ≡ take n offers ++ x ∷ after)
+pub parted : (offers : List Timed) (n : ℕ) (x : Timed) → slice_get offers n ≡ Some x → (after : List Timed) × (offers ≡ take n offers ++ x ∷ after)
 parted [] n x at = absurd (let h : None ≡ Some x = at in cc)
 parted (y ∷ offers) zero x at = let e : y ≡ x = (let h : Some y ≡ Some x = at in cc) in (offers, ap (λ z. z ∷ offers) e)
 parted (y ∷ offers) (suc n) x at = let rest = parted offers n x at in (rest.0, ap (λ l. y ∷ l) rest.1)

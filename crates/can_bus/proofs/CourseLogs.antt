@@ -21,9 +21,9 @@ use Rattle.can_node.proofs.FrameLeaves.{receiver-late, gaining_run-sent, gaining
 use Rattle.can_bus.specs.Course.{AllEnded, IsMade, Transmission, course_tally, ended_by, frames_sent, hit_time, lasting}
 use Rattle.can_bus.specs.Quiet.{IsPrefixOf, holds, marked}
 use Rattle.can_bus.specs.Repair.{IsLow, Tally, tallied}
-use Rattle.can_bus.proofs.QuietLine.{IsAtRest}
+use Rattle.can_bus.proofs.RestingPorts.{IsAtRest}
 use Rattle.can_bus.proofs.QuietLogs.{entry_of, misses-part}
-use Rattle.can_bus.proofs.Rounds.{IsWithin}
+use Rattle.can_bus.proofs.CalmPorts.{IsWithin}
 use Rattle.can_bus.proofs.AttemptTallies.{Survives, counted-on, fewer-by-one, holds-part, part-holds, tally_of}
 use Rattle.can_bus.proofs.RepairCounts.{within-le, within-role}
 use Rattle.can_bus.proofs.Repairs.{broken_levels, broken-tally, Stays, part-stays}

@@ -1,43 +1,32 @@
 -- Where all frames wait as a call begins, its attempts are a course: each sends the frame that an ascending list tells, where the one before has ended.
 use Rattle.std.specs.Prelude.{slice_get, slice_index_or}
-use Rattle.std.proofs.Common.{◌≡◌, ℕ, zero, suc, ◌+◌, ◌-◌, ◌≤◌, Some, None, List, [], ◌∷◌, ◌++◌, length, take, refl, sym, ap, subst, ◌∙◌, arith, inl, inr}
+use Rattle.std.proofs.Common.{◌≡◌, ℕ, zero, suc, ◌+◌, ◌-◌, ◌≤◌, Option, Some, None, List, [], ◌∷◌, ◌++◌, length, take, refl, sym, ap, subst, ◌∙◌, arith, inl, inr}
 use Rattle.std.proofs.lemmas.Bool.{cases_lt}
-use Rattle.std.proofs.lemmas.List.{get_or_append_left, get_or-append_right, length-append, length-map}
+use Rattle.std.proofs.lemmas.List.Sorted.{IsPermutation-sym}
+use Rattle.std.proofs.lemmas.List.{get_or_append_left, get_or-append_right, take_all}
 use Rattle.can_frame.specs.declared.level.Level.{Level}
 use Rattle.can_frame.specs.declared.level.Level.TheVariants.{Recessive}
 use Rattle.can_frame.specs.Parts.{Parts}
 use Rattle.can_frame.specs.Arbitration.{arbitration_field}
 use Rattle.can_frame.proofs.BeforeLemmas.{Before-differs}
 use Rattle.can_mac.specs.Frames.{with_intermission}
-use Rattle.can_node.proofs.BrokenFrames.{seen_of}
 use Rattle.can_node.proofs.WaitingLaws.{waiting-IsWaiting}
 use Rattle.can_bus.specs.declared.hit.Hit.{Hit}
-use Rattle.can_bus.specs.Course.{AllEnded, IsCourse, IsNext, Transmission, broken, course_at, course_tally, frames_sent, hit_time, hits_made, lasting, over, sent}
-use Rattle.can_bus.specs.Quiet.{IsRising, holds}
-use Rattle.can_bus.specs.Repair.{IsInWindow, Tally, frame_of_attempt, hit_of, tallied, tallied_attempt, tally_after}
+use Rattle.can_bus.specs.Course.{IsCourse, IsNext, Transmission, broken, course_at, course_tally, frames_sent, hit_time, hits_made, over, sent}
+use Rattle.can_bus.specs.Quiet.{AreDifferent, IsAscending, IsRising, holds}
+use Rattle.can_bus.specs.Repair.{frame_of_attempt, hit_of, hits_before, tallied, tallied_attempt, tally, tally_after}
 use Rattle.can_bus.specs.RepairedLine.{attempt_levels}
-use Rattle.can_bus.specs.Schedule.{AreOthers, Timed, Lists, busy_time, offered_by, without_offer}
+use Rattle.can_bus.specs.Schedule.{AreAtOnce, AreOthers, Timed, Lists, busy_time, frames_of, offered_by, without_offer}
 use Rattle.can_bus.proofs.Fields.{without-listed}
 use Rattle.can_bus.proofs.Ascending.{Goes, rising_tail}
-use Rattle.can_bus.proofs.AttemptHits.{length-undisturbed}
-use Rattle.can_bus.proofs.BrokenOnBus.{seen-append, seen-undisturbed}
 use Rattle.can_bus.proofs.Contests.{Has, at-has, has-at, own-waits}
-use Rattle.can_bus.proofs.CourseTracks.{length-broken, track-behind, track-on}
-use Rattle.can_bus.proofs.Members.{stands-here}
-use Rattle.can_bus.proofs.NextStarts.{AreApart, left-cases, offered-stands, others-without, rest-apart, rest-other, stands-offered}
-use Rattle.can_bus.proofs.RepairCounts.{tally-next}
-use Rattle.can_bus.proofs.RepairedLevels.{broken-attempt}
-use Rattle.can_bus.proofs.RepairPlans.{Apart}
-use Rattle.can_bus.proofs.Repairs.{Plan, broken_levels, broken_off, done, plan_levels, whole, plan_tally}
-use Rattle.can_bus.proofs.Rounds.{rising-goes}
-use Rattle.can_bus.proofs.WireRuns.{undisturbed}
+use Rattle.can_bus.proofs.CourseTracks.{length-struck, track-behind, track-on}
+use Rattle.can_bus.proofs.Members.{map-stands, stands-here, stands-map, stands-permuted}
+use Rattle.can_bus.proofs.NextStarts.{AreApart, apart-from, left-cases, offered-stands, others-without, rest-apart, rest-other, stands-offered}
+use Rattle.can_bus.proofs.RepairCounts.{tally-next, tally-stays}
+use Rattle.can_bus.proofs.RepairedLevels.{course_levels}
+use Rattle.can_bus.proofs.RepairPlans.{Apart, Plan, again, done, few-before, struck-before, unhit-before, whole}
 use Rattle.can_bus.proofs.Tracks.{length-busy}
-
--- its attempts, from this time on
-abbrev pub plan_attempts : {all : List Parts} {hits : List Hit} {h : ℕ} {frames : List Parts} {number : ℕ} → Plan all hits h frames number → ℕ → List Transmission
-plan_attempts (done h number end) time = []
-plan_attempts (whole h number f frames free sends unhit rest) time = record { time = time; frame = f; hit = None } ∷ plan_attempts rest (time + busy_time f)
-plan_attempts (broken_off h number f frames below is o hit here sends struck rest) time = record { time = time; frame = f; hit = Some o } ∷ plan_attempts rest (time + hit_time f o)
 
 -- ---- they are a course
 
@@ -48,9 +37,22 @@ pub record AreLeft (frames : List Parts) (left : List Timed) : Type 0 where
   pub to : (x : Timed) → Lists left x → Has x.frame frames
   pub from : (g : Parts) → Has g frames → (x : Timed) × Lists left x × (x.frame ≡ g)
 
+pub left-ascending : (offers : List Timed) (frames : List Parts) → AreDifferent (frames_of offers) → AreAtOnce offers → IsAscending (frames_of offers) frames → AreLeft frames offers
+left-ascending offers frames different at_once is = record {
+  apart = apart-from offers different;
+  at_once = at_once;
+  to = λ x there.
+      let at = stands-permuted (frames_of offers) frames x.frame is.all (stands-map (λ (y : Timed). y.frame) offers x there) in
+      has-at x.frame frames at.0 at.1;
+  from = λ g h. map-stands (λ (y : Timed). y.frame) offers g (stands-permuted frames (frames_of offers) g (IsPermutation-sym (frames_of offers) frames is.all) (at-has g frames h));
+}
+
 none-left : (left : List Timed) → AreLeft [] left → left ≡ []
 none-left [] are = refl
 none-left (x ∷ left) are = absurd (are.to x (stands-here x left))
+
+rising-goes : (f : Parts) (frames : List Parts) → IsRising (f ∷ frames) → (x : Parts) → Has x frames → Goes f x
+rising-goes f frames rising x h = let i = at-has x frames h in rising 0 (suc i.0) f x (omega arith) refl i.1
 
 module _ (f : Parts) (frames : List Parts) (left : List Timed) (rising : IsRising (f ∷ frames)) (are : AreLeft (f ∷ frames) left) where
   first-next : (time : ℕ) → IsNext time left time f
@@ -88,143 +90,125 @@ module _ (f : Parts) (frames : List Parts) (left : List Timed) (rising : IsRisin
             ]);
       }
 
-pub plan-course : {all : List Parts} {hits : List Hit} {h : ℕ} {frames : List Parts} {number : ℕ} (plan : Plan all hits h frames number) (time : ℕ) (left : List Timed) → IsRising frames → AreLeft frames left →
-    ((number o : ℕ) → hit_of hits number ≡ Some o → (f : Parts) × ((frame_of_attempt all hits number ≡ Some f) × IsInWindow f o)) →
-    IsCourse hits number time left (plan_attempts plan time)
-plan-course {hits = hits} (done h number end) time left rising are windows = subst (λ l. IsCourse hits number time l []) (sym (none-left left are)) (over number time)
-plan-course (whole h number f frames free sends unhit rest) time left rising are windows =
-    sent number time time f left (plan_attempts rest (time + busy_time f)) (first-next f frames left rising are time) unhit
-    (plan-course rest (time + busy_time f) (without_offer f left) (rising_tail f frames rising) (others-left f frames left rising are) windows)
-plan-course (broken_off h number f frames below is o hit here sends struck rest) time left rising are windows =
-    let w = windows number o struck in
-    let same : Some w.0 ≡ Some f = sym w.1.0 ∙ sends in
-    let frame : w.0 ≡ f = cc in
-    broken number time time f o left (plan_attempts rest (time + hit_time f o)) (first-next f frames left rising are time) struck (subst (λ g. IsInWindow g o) frame w.1.1)
-    (plan-course rest (time + hit_time f o) left rising are windows)
+pub plan-course : {all : List Parts} {hits : List Hit} {number time : ℕ} {frames : List Parts} {course : List Transmission} → Plan all hits number time frames course → (left : List Timed) →
+    IsRising frames → AreLeft frames left → IsCourse hits number time left course
+plan-course {hits = hits} (done number time end) left rising are = subst (λ l. IsCourse hits number time l []) (sym (none-left left are)) (over number time)
+plan-course (whole number time f frames course sends unhit rest) left rising are =
+    sent number time time f left course (first-next f frames left rising are time) unhit
+    (plan-course rest (without_offer f left) (rising_tail f frames rising) (others-left f frames left rising are))
+plan-course (again number time f o frames course sends struck window rest) left rising are =
+    broken number time time f o left course (first-next f frames left rising are time) struck window (plan-course rest left rising are)
 
 -- ---- what is told from it
 
-pub plan-frames : {all : List Parts} {hits : List Hit} {h : ℕ} {frames : List Parts} {number : ℕ} (plan : Plan all hits h frames number) (time : ℕ) → frames_sent (plan_attempts plan time) ≡ frames
-plan-frames (done h number end) time = refl
-plan-frames (whole h number f frames free sends unhit rest) time = ap (λ fs. f ∷ fs) (plan-frames rest (time + busy_time f))
-plan-frames (broken_off h number f frames below is o hit here sends struck rest) time = plan-frames rest (time + hit_time f o)
+pub plan-frames : {all : List Parts} {hits : List Hit} {number time : ℕ} {frames : List Parts} {course : List Transmission} → Plan all hits number time frames course → frames_sent course ≡ frames
+plan-frames (done number time end) = refl
+plan-frames (whole number time f frames course sends unhit rest) = ap (λ fs. f ∷ fs) (plan-frames rest)
+plan-frames (again number time f o frames course sends struck window rest) = plan-frames rest
 
-pub plan-hits : {all : List Parts} {hits : List Hit} {h : ℕ} {frames : List Parts} {number : ℕ} (plan : Plan all hits h frames number) (time : ℕ) → h ≤ length hits → h + hits_made (plan_attempts plan time) ≤ length hits
-plan-hits (done h number end) time few = omega (arith, few)
-plan-hits (whole h number f frames free sends unhit rest) time few = plan-hits rest (time + busy_time f) few
-plan-hits (broken_off h number f frames below is o hit here sends struck rest) time few = omega (arith, plan-hits rest (time + hit_time f o) below)
+-- how many of its attempts are hit, and how many they are
+pub plan-hits : {all : List Parts} {hits : List Hit} {number time : ℕ} {frames : List Parts} {course : List Transmission} → Plan all hits number time frames course → Apart hits →
+    hits_before hits number + hits_made course ≤ length hits
+plan-hits {hits = hits} (done number time end) apart = omega (arith, few-before hits number)
+plan-hits {hits = hits} (whole number time f frames course sends unhit rest) apart = omega (arith, plan-hits rest apart, unhit-before hits number apart unhit)
+plan-hits {hits = hits} (again number time f o frames course sends struck window rest) apart = omega (arith, plan-hits rest apart, struck-before hits number o apart struck)
 
--- the track
-one-more : (s : Transmission) (course : List Transmission) (levels behind : List Level) (t : ℕ) → levels ≡ attempt_levels (Some s.frame) s.hit →
-    (length levels ≤ t → course_at course (s.time + t) ≡ slice_index_or behind (t - length levels) Recessive) →
-    course_at (s ∷ course) (s.time + t) ≡ slice_index_or (levels ++ behind) t Recessive
-one-more s course levels behind t same next =
-    let size = ap length same in
+pub plan-count : {all : List Parts} {hits : List Hit} {number time : ℕ} {frames : List Parts} {course : List Transmission} → Plan all hits number time frames course →
+    length course ≡ length frames + hits_made course
+plan-count (done number time end) = refl
+plan-count (whole number time f frames course sends unhit rest) = omega (arith, plan-count rest)
+plan-count (again number time f o frames course sends struck window rest) = omega (arith, plan-count rest)
+
+-- its track
+one-more : (s : Transmission) (course : List Transmission) (behind : List Level) (t : ℕ) →
+    (length (attempt_levels (Some s.frame) s.hit) ≤ t → course_at course (s.time + t) ≡ slice_index_or behind (t - length (attempt_levels (Some s.frame) s.hit)) Recessive) →
+    course_at (s ∷ course) (s.time + t) ≡ slice_index_or (attempt_levels (Some s.frame) s.hit ++ behind) t Recessive
+one-more s course behind t next =
+    let levels : List Level = attempt_levels (Some s.frame) s.hit in
     elim (cases_lt t (length levels)) [
       | inl within ↦
-          track-on s course (s.time + t) (omega arith) (omega (arith, within, size))
-          ∙ ap (λ k. slice_index_or (attempt_levels (Some s.frame) s.hit) k Recessive) (let e : (s.time + t) - s.time ≡ t = omega arith in e)
-          ∙ ap (λ xs. slice_index_or xs t Recessive) (sym same) ∙ sym (get_or_append_left levels behind Recessive t within)
+          track-on s course (s.time + t) (omega arith) (omega (arith, within))
+          ∙ ap (λ k. slice_index_or levels k Recessive) (let e : (s.time + t) - s.time ≡ t = omega arith in e)
+          ∙ sym (get_or_append_left levels behind Recessive t within)
       | inr past ↦
-          track-behind s course (s.time + t) (omega (arith, past, size)) ∙ next past
+          track-behind s course (s.time + t) (omega (arith, past)) ∙ next past
           ∙ sym (get_or-append_right levels behind (length levels) t Recessive refl past)
     ]
 
-pub plan-track : {all : List Parts} {hits : List Hit} {h : ℕ} {frames : List Parts} {number : ℕ} (plan : Plan all hits h frames number) (time t : ℕ) →
-    course_at (plan_attempts plan time) (time + t) ≡ slice_index_or (seen_of (plan_levels plan)) t Recessive
+pub plan-track : {all : List Parts} {hits : List Hit} {number time : ℕ} {frames : List Parts} {course : List Transmission} → Plan all hits number time frames course → (t : ℕ) →
+    course_at course (time + t) ≡ slice_index_or (course_levels course) t Recessive
 unfolding course_at
-plan-track (done h number end) time t = refl
-plan-track (whole h number f frames free sends unhit rest) time t =
-    let s : Transmission = record { time = time; frame = f; hit = None } in
-    let levels : List Level = with_intermission f in
-    one-more s (plan_attempts rest (time + busy_time f)) levels (seen_of (plan_levels rest)) t refl
-    (λ past. ap (course_at (plan_attempts rest (time + busy_time f))) (let e : time + t ≡ (time + busy_time f) + (t - length levels) = omega (arith, past, length-busy f) in e)
-    ∙ plan-track rest (time + busy_time f) (t - length levels))
-    ∙ ap (λ xs. slice_index_or xs t Recessive) (ap (λ xs. xs ++ seen_of (plan_levels rest)) (sym (seen-undisturbed levels)) ∙ sym (seen-append (undisturbed levels) (plan_levels rest)))
-plan-track (broken_off h number f frames below is o hit here sends struck rest) time t =
-    let s : Transmission = record { time = time; frame = f; hit = Some o } in
-    let levels : List Level = seen_of (broken_levels f is o hit) in
-    let size : length levels ≡ hit_time f o = length-map (broken_levels f is o hit) (λ l. l.1) ∙ length-broken f o is hit in
-    one-more s (plan_attempts rest (time + hit_time f o)) levels (seen_of (plan_levels rest)) t (broken-attempt f is o hit)
-    (λ past. ap (course_at (plan_attempts rest (time + hit_time f o))) (let e : time + t ≡ (time + hit_time f o) + (t - length levels) = omega (arith, past, size) in e)
-    ∙ plan-track rest (time + hit_time f o) (t - length levels))
-    ∙ ap (λ xs. slice_index_or xs t Recessive) (sym (seen-append (broken_levels f is o hit) (plan_levels rest)))
-
--- its end
-pub plan-ended : {all : List Parts} {hits : List Hit} {h : ℕ} {frames : List Parts} {number : ℕ} (plan : Plan all hits h frames number) (time until : ℕ) → time + length (plan_levels plan) ≤ until →
-    AllEnded (plan_attempts plan time) until
-plan-ended (done h number end) time until past s made = absurd made
-plan-ended (whole h number f frames free sends unhit rest) time until past s made =
-    let size = length-append (undisturbed (with_intermission f)) (plan_levels rest) in
-    let one = length-undisturbed (with_intermission f) in
-    elim made [
-      | inl here ↦ subst (λ (x : Transmission). x.time + lasting x.frame x.hit ≤ until) here (omega (arith, past, size, one, length-busy f))
-      | inr later ↦ plan-ended rest (time + busy_time f) until (omega (arith, past, size, one, length-busy f)) s later
-    ]
-plan-ended (broken_off h number f frames below is o hit here sends struck rest) time until past s made =
-    let size = length-append (broken_levels f is o hit) (plan_levels rest) in
-    let one = length-broken f o is hit in
-    elim made [
-      | inl first ↦ subst (λ (x : Transmission). x.time + lasting x.frame x.hit ≤ until) first (omega (arith, past, size, one))
-      | inr later ↦ plan-ended rest (time + hit_time f o) until (omega (arith, past, size, one)) s later
-    ]
+plan-track (done number time end) t = refl
+plan-track (whole number time f frames course sends unhit rest) t =
+    one-more (record { time = time; frame = f; hit = None }) course (course_levels course) t (λ past.
+    ap (course_at course) (let e : time + t ≡ (time + busy_time f) + (t - length (with_intermission f)) = omega (arith, past, length-busy f) in e)
+    ∙ plan-track rest (t - length (with_intermission f)))
+plan-track (again number time f o frames course sends struck window rest) t =
+    let size = length-struck f o (omega (arith, window.before_last)) in
+    one-more (record { time = time; frame = f; hit = Some o }) course (course_levels course) t (λ past.
+    ap (course_at course) (let e : time + t ≡ (time + hit_time f o) + (t - length (attempt_levels (Some f) (Some o))) = omega (arith, past, size) in e)
+    ∙ plan-track rest (t - length (attempt_levels (Some f) (Some o))))
 
 -- its tally, after each attempt
 module _ (queue all : List Parts) (hits : List Hit) (apart : Apart hits) where
-  pub plan-tally : {h : ℕ} {frames : List Parts} {number : ℕ} (plan : Plan all hits h frames number) (time some : ℕ) → some ≤ length (plan_attempts plan time) →
-      course_tally queue (take some (plan_attempts plan time)) (tally_after queue all hits number) ≡ tally_after queue all hits (number + some)
-  plan-tally (done h number end) time zero within = ap (tally_after queue all hits) (let e : number ≡ number + zero = omega arith in e)
-  plan-tally (done h number end) time (suc some) within = absurd (omega (arith, within))
-  plan-tally (whole h number f frames free sends unhit rest) time zero within = ap (tally_after queue all hits) (let e : number ≡ number + zero = omega arith in e)
-  plan-tally (broken_off h number f frames below is o hit here sends struck rest) time zero within = ap (tally_after queue all hits) (let e : number ≡ number + zero = omega arith in e)
-  plan-tally (whole h number f frames free sends unhit rest) time (suc some) within =
-      let more = plan_attempts rest (time + busy_time f) in
-      ap (course_tally queue (take some more))
-      (sym (tally-next queue all hits apart number ∙ ap (λ w. tallied_attempt queue w (hit_of hits number) (tally_after queue all hits number)) sends
-      ∙ ap (λ w. tallied_attempt queue (Some f) w (tally_after queue all hits number)) unhit))
-      ∙ plan-tally rest (time + busy_time f) some (omega (arith, within)) ∙ ap (tally_after queue all hits) (let e : (number + 1) + some ≡ number + suc some = omega arith in e)
-  plan-tally (broken_off h number f frames below is o hit here sends struck rest) time (suc some) within =
-      let more = plan_attempts rest (time + hit_time f o) in
-      ap (course_tally queue (take some more))
-      (sym (tally-next queue all hits apart number ∙ ap (λ w. tallied_attempt queue w (hit_of hits number) (tally_after queue all hits number)) sends
-      ∙ ap (λ w. tallied_attempt queue (Some f) w (tally_after queue all hits number)) struck))
-      ∙ plan-tally rest (time + hit_time f o) some (omega (arith, within)) ∙ ap (tally_after queue all hits) (let e : (number + 1) + some ≡ number + suc some = omega arith in e)
+  tally-more : (number : ℕ) (f : Parts) (hit : Option ℕ) → frame_of_attempt all hits number ≡ Some f → hit_of hits number ≡ hit →
+      tallied (holds queue f) f hit (tally_after queue all hits number) ≡ tally_after queue all hits (number + 1)
+  tally-more number f hit sends at =
+      sym (tally-next queue all hits apart number ∙ ap (λ w. tallied_attempt queue w (hit_of hits number) (tally_after queue all hits number)) sends
+      ∙ ap (λ w. tallied_attempt queue (Some f) w (tally_after queue all hits number)) at)
 
-  pub plan-all : {h : ℕ} {frames : List Parts} {number : ℕ} (plan : Plan all hits h frames number) (time : ℕ) (t : Tally) → course_tally queue (plan_attempts plan time) t ≡ plan_tally plan queue t
-  plan-all (done h number end) time t = refl
-  plan-all (whole h number f frames free sends unhit rest) time t = plan-all rest (time + busy_time f) (tallied (holds queue f) f None t)
-  plan-all (broken_off h number f frames below is o hit here sends struck rest) time t = plan-all rest (time + hit_time f o) (tallied (holds queue f) f (Some o) t)
+  pub plan-tally : {number time : ℕ} {frames : List Parts} {course : List Transmission} → Plan all hits number time frames course → (some : ℕ) → some ≤ length course →
+      course_tally queue (take some course) (tally_after queue all hits number) ≡ tally_after queue all hits (number + some)
+  plan-tally (done number time end) zero within = ap (tally_after queue all hits) (let e : number ≡ number + zero = omega arith in e)
+  plan-tally (done number time end) (suc some) within = absurd (omega (arith, within))
+  plan-tally (whole number time f frames course sends unhit rest) zero within = ap (tally_after queue all hits) (let e : number ≡ number + zero = omega arith in e)
+  plan-tally (again number time f o frames course sends struck window rest) zero within = ap (tally_after queue all hits) (let e : number ≡ number + zero = omega arith in e)
+  plan-tally (whole number time f frames course sends unhit rest) (suc some) within =
+      ap (course_tally queue (take some course)) (tally-more number f None sends unhit)
+      ∙ plan-tally rest some (omega (arith, within)) ∙ ap (tally_after queue all hits) (let e : (number + 1) + some ≡ number + suc some = omega arith in e)
+  plan-tally (again number time f o frames course sends struck window rest) (suc some) within =
+      ap (course_tally queue (take some course)) (tally-more number f (Some o) sends struck)
+      ∙ plan-tally rest some (omega (arith, within)) ∙ ap (tally_after queue all hits) (let e : (number + 1) + some ≡ number + suc some = omega arith in e)
 
--- how many attempts they are
-pub plan-count : {all : List Parts} {hits : List Hit} {h : ℕ} {frames : List Parts} {number : ℕ} (plan : Plan all hits h frames number) (time : ℕ) → h ≤ length hits →
-    h + length (plan_attempts plan time) ≤ length frames + length hits
-plan-count (done h number end) time few = omega (arith, few)
-plan-count (whole h number f frames free sends unhit rest) time few = omega (arith, plan-count rest (time + busy_time f) few)
-plan-count (broken_off h number f frames below is o hit here sends struck rest) time few = omega (arith, plan-count rest (time + hit_time f o) below)
+  -- and behind the last
+  plan-over : {number time : ℕ} {frames : List Parts} {course : List Transmission} → Plan all hits number time frames course → frame_of_attempt all hits (number + length course) ≡ None
+  plan-over (done number time end) = ap (frame_of_attempt all hits) (let e : number + 0 ≡ number = omega arith in e) ∙ end
+  plan-over (whole number time f frames course sends unhit rest) =
+      ap (frame_of_attempt all hits) (let e : number + suc (length course) ≡ (number + 1) + length course = omega arith in e) ∙ plan-over rest
+  plan-over (again number time f o frames course sends struck window rest) =
+      ap (frame_of_attempt all hits) (let e : number + suc (length course) ≡ (number + 1) + length course = omega arith in e) ∙ plan-over rest
+
+  pub plan-all : {course : List Transmission} → Plan all hits 0 0 all course → course_tally queue course (tally_after queue all hits 0) ≡ tally queue all hits
+  plan-all {course} plan =
+      let total = length all + length hits in
+      let few : length course ≤ total = omega (arith, plan-count plan, plan-hits plan apart) in
+      ap (λ some. course_tally queue some (tally_after queue all hits 0)) (sym (take_all (length course) course (omega arith))) ∙ plan-tally plan (length course) (omega arith)
+      ∙ sym (tally-stays queue all hits apart (0 + length course) (total - length course) (plan-over plan))
+      ∙ ap (tally_after queue all hits) (let e : (0 + length course) + (total - length course) ≡ total = omega (arith, few) in e)
 
 -- what each attempt sends, and where it is hit
-pub plan-each : {all : List Parts} {hits : List Hit} {h : ℕ} {frames : List Parts} {number : ℕ} (plan : Plan all hits h frames number) (time n : ℕ) (s : Transmission) → slice_get (plan_attempts plan time) n ≡ Some s →
-    (frame_of_attempt all hits (number + n) ≡ Some s.frame) × (hit_of hits (number + n) ≡ s.hit)
-plan-each (done h number end) time n s at = absurd (let e : None ≡ Some s = at in cc)
-plan-each {all} {hits} (whole h number f frames free sends unhit rest) time zero s at =
+pub plan-each : {all : List Parts} {hits : List Hit} {number time : ℕ} {frames : List Parts} {course : List Transmission} → Plan all hits number time frames course → (n : ℕ) (s : Transmission) →
+    slice_get course n ≡ Some s → (frame_of_attempt all hits (number + n) ≡ Some s.frame) × (hit_of hits (number + n) ≡ s.hit)
+plan-each (done number time end) n s at = absurd (let e : None ≡ Some s = at in cc)
+plan-each {all} {hits} (whole number time f frames course sends unhit rest) zero s at =
     let first : Transmission = record { time = time; frame = f; hit = None } in
     let same : first ≡ s = (let e : Some first ≡ Some s = at in cc) in
     let here : number + zero ≡ number = omega arith in (
       ap (frame_of_attempt all hits) here ∙ sends ∙ ap (λ (x : Transmission). Some x.frame) same,
       ap (hit_of hits) here ∙ unhit ∙ ap (λ (x : Transmission). x.hit) same,
     )
-plan-each {all} {hits} (broken_off h number f frames below is o hit here sends struck rest) time zero s at =
+plan-each {all} {hits} (again number time f o frames course sends struck window rest) zero s at =
     let first : Transmission = record { time = time; frame = f; hit = Some o } in
     let same : first ≡ s = (let e : Some first ≡ Some s = at in cc) in
-    let now : number + zero ≡ number = omega arith in (
-      ap (frame_of_attempt all hits) now ∙ sends ∙ ap (λ (x : Transmission). Some x.frame) same,
-      ap (hit_of hits) now ∙ struck ∙ ap (λ (x : Transmission). x.hit) same,
+    let here : number + zero ≡ number = omega arith in (
+      ap (frame_of_attempt all hits) here ∙ sends ∙ ap (λ (x : Transmission). Some x.frame) same,
+      ap (hit_of hits) here ∙ struck ∙ ap (λ (x : Transmission). x.hit) same,
     )
-plan-each {all} {hits} (whole h number f frames free sends unhit rest) time (suc n) s at =
-    let more = plan-each rest (time + busy_time f) n s at in
+plan-each {all} {hits} (whole number time f frames course sends unhit rest) (suc n) s at =
+    let more = plan-each rest n s at in
     let e : number + suc n ≡ (number + 1) + n = omega arith in
     (ap (frame_of_attempt all hits) e ∙ more.0, ap (hit_of hits) e ∙ more.1)
-plan-each {all} {hits} (broken_off h number f frames below is o hit here sends struck rest) time (suc n) s at =
-    let more = plan-each rest (time + hit_time f o) n s at in
+plan-each {all} {hits} (again number time f o frames course sends struck window rest) (suc n) s at =
+    let more = plan-each rest n s at in
     let e : number + suc n ≡ (number + 1) + n = omega arith in
     (ap (frame_of_attempt all hits) e ∙ more.0, ap (hit_of hits) e ∙ more.1)

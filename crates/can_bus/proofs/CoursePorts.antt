@@ -17,8 +17,8 @@ use Rattle.can_bus.specs.Schedule.{Timed, Lists, frames_of, offered_by, without_
 use Rattle.can_bus.proofs.Ascending.{Other}
 use Rattle.can_bus.proofs.OfferTimes.{AreInOrder, frames-offered, queue-later}
 use Rattle.can_bus.proofs.OwnOffers.{without-absent, without-frames}
-use Rattle.can_bus.proofs.Rounds.{IsWithin, IsCalm, calm-sent, calm-received}
-use Rattle.can_bus.proofs.QuietLine.{IsAtRest, rest-step}
+use Rattle.can_bus.proofs.CalmPorts.{IsWithin, IsCalm, calm-sent, calm-received}
+use Rattle.can_bus.proofs.RestingPorts.{IsAtRest, rest-step}
 use Rattle.can_bus.proofs.QuietLogs.{TakesPart}
 use Rattle.can_bus.proofs.AttemptTallies.{Survives}
 use Rattle.can_bus.proofs.BrokenOnBus.{broken-sent, broken-received}

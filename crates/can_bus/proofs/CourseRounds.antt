@@ -22,8 +22,8 @@ use Rattle.can_bus.proofs.FrameOnBus.{AllReceive, OneSends, ports_of}
 use Rattle.can_bus.proofs.NextStarts.{offered-stands, stands-offered}
 use Rattle.can_bus.proofs.OfferTimes.{offered_by-append}
 use Rattle.can_bus.proofs.OwnOffers.{without-absent}
-use Rattle.can_bus.proofs.Rounds.{IsCalm, all-ready, frame-queued, sends-has}
-use Rattle.can_bus.proofs.QuietLine.{IsAtRest, calm-rests}
+use Rattle.can_bus.proofs.CalmPorts.{IsCalm, all-ready, frame-queued, sends-has}
+use Rattle.can_bus.proofs.RestingPorts.{IsAtRest, calm-rests}
 use Rattle.can_bus.proofs.AttemptTallies.{Survives}
 use Rattle.can_bus.proofs.Repairs.{broken_levels}
 use Rattle.can_bus.proofs.Fields.{like, like-none, like-append, like-has, like-offered, field-moves, field-without, waiting-head, head-waits, without-front, without-behind, without-length}

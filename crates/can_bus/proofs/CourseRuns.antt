@@ -26,20 +26,19 @@ use Rattle.can_bus.specs.Wired.{wired}
 use Rattle.can_bus.proofs.AttemptHits.{Counted, attempt, broken-counted, length-undisturbed, whole-counted}
 use Rattle.can_bus.proofs.AttemptTallies.{Survives}
 use Rattle.can_bus.proofs.BreaksWithOffers.{gaining-broken-gives}
-use Rattle.can_bus.proofs.BrokenOnBus.{seen-undisturbed}
+use Rattle.can_bus.proofs.BrokenOnBus.{seen-first, seen-size, seen-undisturbed}
 use Rattle.can_bus.proofs.Contests.{AllPorts}
 use Rattle.can_bus.proofs.FrameOnBus.{gaining_sees, ports_of, frame-gives, all_after-gaining}
 use Rattle.can_bus.proofs.HitRuns.{falls, latest_after, latest_now}
 use Rattle.can_bus.proofs.HitWires.{HitWire, hit_seen, hit_step, hit_run, hit_runs-joined, hit_step-known, hit_seen-known, hits-part, hits-all, hits-levels}
 use Rattle.can_bus.proofs.Members.{stands-none}
-use Rattle.can_bus.proofs.QuietLine.{IsAtRest, rest-wired}
+use Rattle.can_bus.proofs.RestingPorts.{IsAtRest, rest-wired}
 use Rattle.can_bus.proofs.Reduction.{Gives, maps-alike}
-use Rattle.can_bus.proofs.RepairedBus.{seen-first, seen-size}
 use Rattle.can_bus.proofs.RepairedLevels.{broken-attempt}
 use Rattle.can_bus.proofs.RepairCounts.{within-le}
 use Rattle.can_bus.proofs.RepairPlans.{Apart, struck-at, unhit-free, window-hit}
 use Rattle.can_bus.proofs.Repairs.{IsFree, bear-all, broken_levels}
-use Rattle.can_bus.proofs.Rounds.{IsWithin}
+use Rattle.can_bus.proofs.CalmPorts.{IsWithin}
 use Rattle.can_bus.proofs.WireRuns.{undisturbed, rest_run}
 use Rattle.can_bus.proofs.CourseLogs.{Becomes, becomes-now, becomes-rested, becomes-behind, becomes-within, becomes-in_hit, counts_of, frame-leaves, hit-leaves, mine-survives}
 use Rattle.can_bus.proofs.CoursePorts.{CoursePort, IsCoursePort, HasPart, behind_frame, behind_hit, rested, rested-turned, takes-part}

@@ -81,7 +81,7 @@ module _ (f : Parts) (time : ℕ) (g : Parts) (course : List Transmission) where
   pub sends-other : same_field f g ≡ false → sends_of f (one_sent ∷ course) ≡ sends_of f course
   sends-other other = cond-false (same_field f g && true) (one_sent ∷ sends_of f course) (sends_of f course) (ap (λ b. b && true) other)
 
-  sends-hit : (offset : ℕ) → sends_of f (record { time = time; frame = g; hit = Some offset } ∷ course) ≡ sends_of f course
+  pub sends-hit : (offset : ℕ) → sends_of f (record { time = time; frame = g; hit = Some offset } ∷ course) ≡ sends_of f course
   sends-hit offset =
       let s : Transmission = record { time = time; frame = g; hit = Some offset } in
       elim (cases_Bool (same_field f g)) [

@@ -1,9 +1,7 @@
 -- A call, bit time by bit time, is a disturbed play over whole lists of levels, and there is one.
-use Rattle.std.specs.Prelude.{nat_le, if◌then◌else◌, ◌&&◌, not, min, ◌↔◌, slice_get, All}
+use Rattle.std.specs.Prelude.{nat_le, ◌&&◌, not, min, ◌↔◌, slice_get, All}
 use Rattle.std.specs.List.{Any, list_any, range_with_len}
-use Rattle.std.proofs.Common.{◌≡◌, ℕ, zero, suc, ◌+◌, ◌<◌, ◌≤◌, true, false, List, [], ◌∷◌, ◌++◌, Some, length, map, get_or, take, refl, ap, sym, ◌∙◌, subst, arith, add-one, inl, inr}
-use Rattle.std.proofs.Math.Dec.{eqb}
-use Rattle.std.proofs.lemmas.Bool.{cases_Bool, cond-true, cond-false}
+use Rattle.std.proofs.Common.{◌≡◌, ℕ, zero, suc, ◌+◌, ◌<◌, ◌≤◌, true, List, [], ◌∷◌, ◌++◌, Some, length, map, get_or, take, refl, ap, sym, ◌∙◌, subst, arith, add-one}
 use Rattle.std.proofs.lemmas.List.{ext_get_or, length-take-le, take_more}
 use Rattle.std.proofs.lemmas.List.FromFn.{length-map-range_with_len, get_or-map-range_with_len}
 use Rattle.std.proofs.lemmas.Option.{slice_get-get_or, get_or_from_slice_get, slice_get_within}
@@ -14,41 +12,13 @@ use Rattle.can_node.specs.Ports.{PortState, port_drives, port_step}
 use Rattle.can_bus.specs.declared.hit.Hit.{Hit}
 use Rattle.can_bus.specs.declared.offer.Offer.{Offer}
 use Rattle.can_bus.specs.Disturbed.{level_then, rest_before, begins_at, FallsOnWire}
-use Rattle.can_bus.specs.DisturbedPlay.{IsDisturbedPlay, WasPlayed, all_given, given, played_then, port_played}
-use Rattle.can_bus.specs.Network.{call_after, call_level, offered_now}
-use Rattle.can_bus.specs.Offers.{all_made, made, with_offer}
+use Rattle.can_bus.specs.DisturbedPlay.{IsDisturbedPlay, WasPlayed, all_given, given, played_then, port_played, refusals}
+use Rattle.can_bus.specs.Network.{call_after, call_level, call_refused, offered_now}
+use Rattle.can_bus.specs.Offers.{all_made}
 use Rattle.can_bus.specs.Run.{BusState, CallState, all_sampled, attempt_now, begins_attempt, bus_step, call_begun, hits_view, hits_wire, inverted_if, recorded as recorded_by, rest_after, wired_level}
 use Rattle.can_bus.specs.Wired.{wired as wired_of}
 use Rattle.can_bus.proofs.DisturbedTimes.{LatestIs, latest-none, latest-more, rest_before-none, rest_before-more, rest_after-capped, begins_attempt-capped, inverted-tells, inverted-told, view-decided, wire-decided}
-
--- What ports are offered.
-
-module _ (offer : Offer) (offers : List Offer) (t : ℕ) where
-  given-now : eqb offer.time t ≡ true → (k : ℕ) (ports : List PortState) → all_given (offer ∷ offers) t k ports ≡ all_given offers t k (made offer k ports)
-  given-now now k [] = refl
-  given-now now k (p ∷ ports) =
-      ap (λ b. given offers t k (if b && eqb offer.node k then with_offer offer.frame p else p) ∷ all_given (offer ∷ offers) t (k + 1) ports) now
-      ∙ ap (λ ps. given offers t k (if eqb offer.node k then with_offer offer.frame p else p) ∷ ps) (given-now now (k + 1) ports)
-
-  given-other : eqb offer.time t ≡ false → (k : ℕ) (ports : List PortState) → all_given (offer ∷ offers) t k ports ≡ all_given offers t k ports
-  given-other other k [] = refl
-  given-other other k (p ∷ ports) =
-      ap (λ b. given offers t k (if b && eqb offer.node k then with_offer offer.frame p else p) ∷ all_given (offer ∷ offers) t (k + 1) ports) other
-      ∙ ap (λ ps. given offers t k p ∷ ps) (given-other other (k + 1) ports)
-
-pub given-none : (t k : ℕ) (ports : List PortState) → ports ≡ all_given [] t k ports
-given-none t k [] = refl
-given-none t k (p ∷ ports) = ap (λ ps. p ∷ ps) (given-none t (k + 1) ports)
-
--- offers are made one after another, and each port is given its own
-made-given : (offers : List Offer) (t : ℕ) (ports : List PortState) → all_made offers t ports ≡ all_given offers t 0 ports
-made-given [] t ports = given-none t 0 ports
-made-given (offer ∷ offers) t ports = elim (cases_Bool (eqb offer.time t)) [
-  | inl now ↦
-      ap (all_made offers t) (cond-true (eqb offer.time t) (made offer 0 ports) ports now) ∙ made-given offers t (made offer 0 ports) ∙ sym (given-now offer offers t now 0 ports)
-  | inr other ↦
-      ap (all_made offers t) (cond-false (eqb offer.time t) (made offer 0 ports) ports other) ∙ made-given offers t ports ∙ sym (given-other offer offers t other 0 ports)
-]
+use Rattle.can_bus.proofs.GivenPorts.{call-refusals, made-given}
 
 -- Ports that have seen so many levels.
 
@@ -201,12 +171,12 @@ module _ (offers : List Offer) (hits : List Hit) (before : BusState) (wired reco
       subst (λ k. Stands k (call_at (suc t))) (add-one t) (subst (Stands (t + 1)) (next_at t) (stands-more fits t (call_at t) within last (agrees t within last)))
 
   -- a disturbed run has the levels of the run
-  fits_of : (after : BusState) → before.rest ≤ 11 → IsDisturbedPlay offers hits before wired recorded seen after → Fits
-  fits_of after rested run = record { long = run.long; seen_long = run.seen_long; each_port = run.each_port; rest = rested }
+  fits_of : (after : BusState) (refused : ℕ) → before.rest ≤ 11 → IsDisturbedPlay offers hits before wired recorded seen after refused → Fits
+  fits_of after refused rested run = record { long = run.long; seen_long = run.seen_long; each_port = run.each_port; rest = rested }
 
-  agrees_of : (after : BusState) → IsDisturbedPlay offers hits before wired recorded seen after →
+  agrees_of : (after : BusState) (refused : ℕ) → IsDisturbedPlay offers hits before wired recorded seen after refused →
       (t : ℕ) → t < length recorded → Stands t (call_at t) → Agrees t (call_at t)
-  agrees_of after run t within stands =
+  agrees_of after refused run t within stands =
       let c = call_at t in
       let here : level_then wired t ≡ wired_level (now c) = run.drives t within ∙ sym (driven_at t c stands) in
       let told : level_then recorded t ≡ recorded_by hits (now c) =
@@ -220,8 +190,13 @@ module _ (offers : List Offer) (hits : List Hit) (before : BusState) (wired reco
             ∙ ap (inverted_if (list_any (hits_view t port) hits)) told;
       }
 
+  -- as many offers are refused
+  refused_as : ((t : ℕ) → t ≤ length recorded → (call_at t).bus.ports ≡ played_then offers t 0 before.ports seen) →
+      call_refused offers hits (length recorded) before ≡ refusals offers before.ports seen (length recorded) [] offers
+  refused_as same = call-refusals offers hits before seen (length recorded) (λ t within. same t (omega (arith, within)))
+
   -- lists that have the levels of the run are a disturbed run
-  run_of : Fits → ((t : ℕ) → t < length recorded → Agrees t (call_at t)) → IsDisturbedPlay offers hits before wired recorded seen (call_at (length recorded)).bus
+  run_of : Fits → ((t : ℕ) → t < length recorded → Agrees t (call_at t)) → IsDisturbedPlay offers hits before wired recorded seen (call_at (length recorded)).bus (call_refused offers hits (length recorded) before)
   run_of fits agrees =
       let stands = λ (t : ℕ) (within : t ≤ length recorded). stands_all fits (λ u inside _. agrees u inside) t within in
       let whole : Stands (length recorded) (call_at (length recorded)) = stands (length recorded) (omega arith) in
@@ -241,16 +216,15 @@ module _ (offers : List Offer) (hits : List Hit) (before : BusState) (wired reco
             ((agrees t within).views port levels own ∙ ap (inverted_if (list_any (hits_view t port) hits)) (sym (agrees t within).records));
         leads = whole.ports;
         keeps_rest = whole.rest;
+        refuses = refused_as (λ t within. (stands t within).ports);
       }
 
   -- each bit time of a disturbed run
-  agrees_all : (after : BusState) → before.rest ≤ 11 → IsDisturbedPlay offers hits before wired recorded seen after → (t : ℕ) → t < length recorded → Agrees t (call_at t)
-  agrees_all after rested run t within =
-      agrees_of after run t within (stands_all (fits_of after rested run) (agrees_of after run) t (omega (arith, within)))
+  stands_at : (after : BusState) (refused : ℕ) → before.rest ≤ 11 → IsDisturbedPlay offers hits before wired recorded seen after refused → (t : ℕ) → t ≤ length recorded → Stands t (call_at t)
+  stands_at after refused rested run t within = stands_all (fits_of after refused rested run) (agrees_of after refused run) t within
 
-  -- its end
-  stands_last : (after : BusState) → before.rest ≤ 11 → IsDisturbedPlay offers hits before wired recorded seen after → Stands (length recorded) (call_at (length recorded))
-  stands_last after rested run = stands_all (fits_of after rested run) (agrees_of after run) (length recorded) (omega arith)
+  agrees_all : (after : BusState) (refused : ℕ) → before.rest ≤ 11 → IsDisturbedPlay offers hits before wired recorded seen after refused → (t : ℕ) → t < length recorded → Agrees t (call_at t)
+  agrees_all after refused rested run t within = agrees_of after refused run t within (stands_at after refused rested run t (omega (arith, within)))
 
 -- The levels of a call.
 
@@ -287,7 +261,7 @@ views_long offers hits before n port d inside =
 
 -- a call is a disturbed play
 pub call-played : (offers : List Offer) (hits : List Hit) (before : BusState) (recorded : List Level) → before.rest ≤ 11 →
-    ((t : ℕ) → t < length recorded → slice_get recorded t ≡ Some (call_level offers hits t before)) → WasPlayed offers hits before recorded (call_after offers hits (length recorded) before).bus
+    ((t : ℕ) → t < length recorded → slice_get recorded t ≡ Some (call_level offers hits t before)) → WasPlayed offers hits before recorded (call_after offers hits (length recorded) before).bus (call_refused offers hits (length recorded) before)
 unfolding call_level
 call-played offers hits before recorded rested told =
     let wired : List Level = wires_of offers hits before (length recorded) in
@@ -310,34 +284,40 @@ call-played offers hits before recorded rested told =
     )
 
 -- every disturbed play has its levels
-pub played-levels : (offers : List Offer) (hits : List Hit) (before after : BusState) (recorded : List Level) → before.rest ≤ 11 → WasPlayed offers hits before recorded after →
+pub played-levels : (offers : List Offer) (hits : List Hit) (before after : BusState) (recorded : List Level) (refused : ℕ) → before.rest ≤ 11 → WasPlayed offers hits before recorded after refused →
     (t : ℕ) → t < length recorded → slice_get recorded t ≡ Some (call_level offers hits t before)
 unfolding call_level
-played-levels offers hits before after recorded rested run t within =
-    let agrees : Agrees offers hits before run.0 recorded run.1 t (call_after offers hits t before) = agrees_all offers hits before run.0 recorded run.1 after rested run.2 t within in
+played-levels offers hits before after recorded refused rested run t within =
+    let agrees : Agrees offers hits before run.0 recorded run.1 t (call_after offers hits t before) = agrees_all offers hits before run.0 recorded run.1 after refused rested run.2 t within in
     slice_get-get_or recorded t Recessive within ∙ ap Some agrees.records
 
 same_bus : (a b : BusState) → a.ports ≡ b.ports → a.rest ≡ b.rest → a ≡ b
 same_bus a b ports rest =
     ap (λ ps. let bus : BusState = record { ports = ps; rest = a.rest } in bus) ports ∙ ap (λ r. let bus : BusState = record { ports = b.ports; rest = r } in bus) rest
 
--- and its end
-pub played-end : (offers : List Offer) (hits : List Hit) (before after : BusState) (recorded : List Level) → before.rest ≤ 11 → WasPlayed offers hits before recorded after →
+-- its end
+pub played-end : (offers : List Offer) (hits : List Hit) (before after : BusState) (recorded : List Level) (refused : ℕ) → before.rest ≤ 11 → WasPlayed offers hits before recorded after refused →
     after ≡ (call_after offers hits (length recorded) before).bus
-played-end offers hits before after recorded rested run =
-    let stands : Stands offers hits before run.0 recorded run.1 (length recorded) (call_after offers hits (length recorded) before) = stands_last offers hits before run.0 recorded run.1 after rested run.2 in
+played-end offers hits before after recorded refused rested run =
+    let stands = stands_at offers hits before run.0 recorded run.1 after refused rested run.2 (length recorded) (omega arith) in
     same_bus after (call_after offers hits (length recorded) before).bus (run.2.leads ∙ sym stands.ports) (run.2.keeps_rest ∙ sym stands.rest)
 
+-- and refuses as many offers
+pub played-refused : (offers : List Offer) (hits : List Hit) (before after : BusState) (recorded : List Level) (refused : ℕ) → before.rest ≤ 11 → WasPlayed offers hits before recorded after refused →
+    refused ≡ call_refused offers hits (length recorded) before
+played-refused offers hits before after recorded refused rested run =
+    run.2.refuses ∙ sym (refused_as offers hits before run.0 recorded run.1 (λ t within. (stands_at offers hits before run.0 recorded run.1 after refused rested run.2 t within).ports))
+
 -- two disturbed plays of as many bit times are one
-pub played-one : (offers : List Offer) (hits : List Hit) (before one other : BusState) (wired wires recorded records : List Level) (seen views : List (List Level)) → before.rest ≤ 11 →
-    IsDisturbedPlay offers hits before wired recorded seen one → IsDisturbedPlay offers hits before wires records views other → length recorded ≡ length records →
-    (recorded ≡ records) × (one ≡ other) × (wired ≡ wires) × (seen ≡ views)
-played-one offers hits before one other wired wires recorded records seen views rested first second long =
-    let agrees = λ (t : ℕ) (within : t < length recorded). agrees_all offers hits before wired recorded seen one rested first t within in
-    let agree = λ (t : ℕ) (within : t < length recorded). agrees_all offers hits before wires records views other rested second t (omega (arith, within, long)) in (
+pub played-one : (offers : List Offer) (hits : List Hit) (before one other : BusState) (wired wires recorded records : List Level) (seen views : List (List Level)) (few many : ℕ) → before.rest ≤ 11 →
+    IsDisturbedPlay offers hits before wired recorded seen one few → IsDisturbedPlay offers hits before wires records views other many → length recorded ≡ length records →
+    (recorded ≡ records) × (one ≡ other) × (wired ≡ wires) × (seen ≡ views) × (few ≡ many)
+played-one offers hits before one other wired wires recorded records seen views few many rested first second long =
+    let agrees = λ (t : ℕ) (within : t < length recorded). agrees_all offers hits before wired recorded seen one few rested first t within in
+    let agree = λ (t : ℕ) (within : t < length recorded). agrees_all offers hits before wires records views other many rested second t (omega (arith, within, long)) in (
       ext_get_or Recessive recorded records long (λ t within. (agrees t within).records ∙ sym (agree t within).records),
-      played-end offers hits before one recorded rested (wired, seen, first)
-          ∙ ap (λ n. (call_after offers hits n before).bus) long ∙ sym (played-end offers hits before other records rested (wires, views, second)),
+      played-end offers hits before one recorded few rested (wired, seen, first)
+          ∙ ap (λ n. (call_after offers hits n before).bus) long ∙ sym (played-end offers hits before other records many rested (wires, views, second)),
       ext_get_or Recessive wired wires (first.long ∙ long ∙ sym second.long)
           (λ t within. let inside : t < length recorded = omega (arith, within, first.long) in (agrees t inside).wires ∙ sym (agree t inside).wires),
       ext_get_or [] seen views (first.each_port ∙ sym second.each_port)
@@ -350,4 +330,6 @@ played-one offers hits before one other wired wires recorded records seen views 
           ext_get_or Recessive (get_or seen port []) (get_or views port []) (size ∙ long ∙ sym other_size)
           (λ t h. let now : t < length recorded = omega (arith, h, size) in
           (agrees t now).views port (get_or seen port []) own ∙ sym ((agree t now).views port (get_or views port []) other_own))),
+      played-refused offers hits before one recorded few rested (wired, seen, first)
+          ∙ ap (λ n. call_refused offers hits n before) long ∙ sym (played-refused offers hits before other records many rested (wires, views, second)),
     )

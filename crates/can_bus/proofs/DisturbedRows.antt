@@ -1,4 +1,4 @@
--- Disturbed runs whose outcome is known from elsewhere, computed in the words of the relation.
+-- Disturbed runs, and offers that are refused, whose outcome is known from elsewhere, computed in the words of the relation.
 use Rattle.std.specs.Prelude.{codes, ◌-◌, not, slice_index_or}
 use Rattle.std.specs.List.{filter, list_all, range_with_len}
 use Rattle.std.proofs.Common.{◌≡◌, ℕ, ◌+◌, ◌<◌, ◌≤◌, true, false, List, [], ◌∷◌, ◌++◌, length, map, refl, sym, ap, ◌∙◌, arith}
@@ -17,7 +17,9 @@ use Rattle.can_mac.specs.Moves.{agrees}
 use Rattle.can_mac.specs.Machine.{mac_drives, mac_step}
 use Rattle.can_node.specs.Ports.{PortState, fresh_port, port_offered, port_drives, port_run, port_step, waiting, without}
 use Rattle.can_bus.specs.declared.hit.Hit.TheVariants.{At, In}
+use Rattle.can_bus.specs.declared.offer.Offer.{Offer}
 use Rattle.can_bus.specs.Disturbed.{level_then, ports_then, rest_before, begins_at, attempts_before, FallsOnWire}
+use Rattle.can_bus.specs.DisturbedPlay.{refusals}
 use Rattle.can_bus.specs.Wired.{wired as wired_of}
 
 -- the levels of a text of `0` and `1`
@@ -139,3 +141,20 @@ line_alone = levels_of (codes "0000010000010000010000010000010000010000110000001
 alone_again : beginnings line_alone line_alone ≡ 0 ∷ 59 ∷ []
 unfolding begins_at rest_before
 alone_again = refl
+
+-- A port whose queue has room for one frame, and a receiver. The frame is offered twice at 0, at 49, at 50 and at 60. The second finds the
+-- queue full; and so does the third, as the frame leaves the queue with the last level of its end of frame, which is 49. The fourth finds
+-- room. An offer behind the end of a run isn't made, and isn't refused.
+
+abbrev offered_often : List Offer
+offered_often = map (λ t. let offer : Offer = record { time = t; node = 0; frame = frame_zero } in offer) (0 ∷ 0 ∷ 49 ∷ 50 ∷ 60 ∷ [])
+
+abbrev room_for_one : List PortState
+room_for_one = fresh_port idle 1 2 ∷ fresh_port idle 0 2 ∷ []
+
+abbrev frame_once : List Level
+frame_once = levels_of (codes "000001000001000001000001000001000001000010111111111")
+
+refused_while_full : map (λ bits. refusals offered_often room_for_one (frame_once ∷ frame_once ∷ []) bits [] offered_often) (0 ∷ 1 ∷ 49 ∷ 50 ∷ 51 ∷ []) ≡ 0 ∷ 1 ∷ 1 ∷ 2 ∷ 2 ∷ []
+unfolding port_step waiting without mac_step agrees crc_of frame_of frame_len bits_of unstuffed head arbitration_field
+refused_while_full = refl

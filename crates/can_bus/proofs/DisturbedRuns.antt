@@ -6,11 +6,12 @@ use Rattle.can_node.specs.Ports.{PortState, port_drives, port_run, port_step}
 use Rattle.can_bus.specs.declared.hit.Hit.{Hit}
 use Rattle.can_bus.specs.Disturbed.{IsDisturbedRun, WasDisturbed, ports_then}
 use Rattle.can_bus.specs.DisturbedPlay.{IsDisturbedPlay, WasPlayed, all_given, played_then, port_played}
-use Rattle.can_bus.specs.Network.{call_after}
+use Rattle.can_bus.specs.Network.{call_after, call_refused}
 use Rattle.can_bus.specs.Run.{BusState, bus_level, bus_run}
 use Rattle.can_bus.specs.Wired.{wired as wired_of}
 use Rattle.can_bus.proofs.CallLemmas.{call_bus-run, call_level-run}
-use Rattle.can_bus.proofs.DisturbedPlays.{call-played, given-none, played-end, played-levels, played-one}
+use Rattle.can_bus.proofs.DisturbedPlays.{call-played, played-end, played-levels, played-one}
+use Rattle.can_bus.proofs.GivenPorts.{given-none}
 
 -- ---- ports to which nothing is offered
 
@@ -30,7 +31,7 @@ module _ (hits : List Hit) (before after : BusState) (wired recorded : List Leve
   driven : (t : ℕ) → wired_of (map port_drives (ports_then t before.ports seen)) ≡ wired_of (map port_drives (all_given [] t 0 (played_then [] t 0 before.ports seen)))
   driven t = ap (λ ports. wired_of (map port_drives ports)) (sym (then-played t 0 before.ports seen) ∙ given-none t 0 (played_then [] t 0 before.ports seen))
 
-  pub to-play : IsDisturbedRun hits before wired recorded seen after → IsDisturbedPlay [] hits before wired recorded seen after
+  pub to-play : IsDisturbedRun hits before wired recorded seen after → IsDisturbedPlay [] hits before wired recorded seen after 0
   to-play run = record {
     long = run.long;
     seen_long = run.seen_long;
@@ -40,10 +41,11 @@ module _ (hits : List Hit) (before after : BusState) (wired recorded : List Leve
     sees = run.sees;
     leads = run.leads ∙ sym (then-played (length recorded) 0 before.ports seen);
     keeps_rest = run.keeps_rest;
+    refuses = refl;
   }
 
-  pub from-play : IsDisturbedPlay [] hits before wired recorded seen after → IsDisturbedRun hits before wired recorded seen after
-  from-play play = record {
+  pub from-play : (refused : ℕ) → IsDisturbedPlay [] hits before wired recorded seen after refused → IsDisturbedRun hits before wired recorded seen after
+  from-play refused play = record {
     long = play.long;
     seen_long = play.seen_long;
     each_port = play.each_port;
@@ -59,24 +61,26 @@ module _ (hits : List Hit) (before after : BusState) (wired recorded : List Leve
 pub run-disturbed : (hits : List Hit) (before : BusState) (recorded : List Level) → before.rest ≤ 11 →
     ((t : ℕ) → t < length recorded → slice_get recorded t ≡ Some (bus_level hits t before)) → WasDisturbed hits before recorded (bus_run hits (length recorded) before)
 run-disturbed hits before recorded rested told =
-    let play : WasPlayed [] hits before recorded (call_after [] hits (length recorded) before).bus =
+    let few = call_refused [] hits (length recorded) before in
+    let play : WasPlayed [] hits before recorded (call_after [] hits (length recorded) before).bus few =
     call-played [] hits before recorded rested (λ t within. told t within ∙ ap Some (sym (call_level-run hits t before))) in
     subst (WasDisturbed hits before recorded) (call_bus-run hits (length recorded) before)
-    (play.0, play.1, from-play hits before (call_after [] hits (length recorded) before).bus play.0 recorded play.1 play.2)
+    (play.0, play.1, from-play hits before (call_after [] hits (length recorded) before).bus play.0 recorded play.1 few play.2)
 
 pub disturbed-levels : (hits : List Hit) (before after : BusState) (recorded : List Level) → before.rest ≤ 11 → WasDisturbed hits before recorded after →
     (t : ℕ) → t < length recorded → slice_get recorded t ≡ Some (bus_level hits t before)
 disturbed-levels hits before after recorded rested run t within =
-    played-levels [] hits before after recorded rested (run.0, run.1, to-play hits before after run.0 recorded run.1 run.2) t within ∙ ap Some (call_level-run hits t before)
+    played-levels [] hits before after recorded 0 rested (run.0, run.1, to-play hits before after run.0 recorded run.1 run.2) t within ∙ ap Some (call_level-run hits t before)
 
 pub disturbed-end : (hits : List Hit) (before after : BusState) (recorded : List Level) → before.rest ≤ 11 → WasDisturbed hits before recorded after →
     after ≡ bus_run hits (length recorded) before
 disturbed-end hits before after recorded rested run =
-    played-end [] hits before after recorded rested (run.0, run.1, to-play hits before after run.0 recorded run.1 run.2) ∙ call_bus-run hits (length recorded) before
+    played-end [] hits before after recorded 0 rested (run.0, run.1, to-play hits before after run.0 recorded run.1 run.2) ∙ call_bus-run hits (length recorded) before
 
 pub disturbed-one : (hits : List Hit) (before one other : BusState) (wired wires recorded records : List Level) (seen views : List (List Level)) → before.rest ≤ 11 →
     IsDisturbedRun hits before wired recorded seen one → IsDisturbedRun hits before wires records views other → length recorded ≡ length records →
     (recorded ≡ records) × (one ≡ other) × (wired ≡ wires) × (seen ≡ views)
 disturbed-one hits before one other wired wires recorded records seen views rested first second long =
-    played-one [] hits before one other wired wires recorded records seen views rested
-    (to-play hits before one wired recorded seen first) (to-play hits before other wires records views second) long
+    let same = played-one [] hits before one other wired wires recorded records seen views 0 0 rested
+    (to-play hits before one wired recorded seen first) (to-play hits before other wires records views second) long in
+    (same.0, same.1, same.2, same.3)

@@ -23,7 +23,7 @@ use Rattle.can_node.proofs.OneFrame.{port_at, gaining_at, gaining_step-at}
 use Rattle.can_node.proofs.FrameLeaves.{log-unsent, log-unreceived}
 use Rattle.can_node.proofs.BrokenFrames.{seen_of, one-port_step}
 use Rattle.can_node.proofs.GainingBreaks.{put, gained, one-gaining_step, sender-stood, receiver-stood}
-use Rattle.can_bus.proofs.Rounds.{IsWithin, IsCalm}
+use Rattle.can_bus.proofs.CalmPorts.{IsWithin, IsCalm}
 use Rattle.can_bus.proofs.QuietLogs.{TakesPart, part-meets, misses-part}
 use Rattle.can_bus.proofs.BrokenOnBus.{broken-seen, dead_time, receiver_dead, sender-seen, receiver-seen, sender-goes, receiver-goes}
 use Rattle.can_bus.proofs.AttemptTallies.{within-more, sender-within, receiver-within, within-slot, Survives, survives-sender, survives-receiver}

@@ -1,11 +1,15 @@
 -- What a bus of any ports does to which frames are offered meanwhile, and on which frames are disturbed, told by their course: the clauses of the theorem.
 use Rattle.std.specs.Prelude.{slice_get}
-use Rattle.std.proofs.Common.{◌≡◌, ℕ, zero, suc, ◌+◌, ◌<◌, true, Some, None, List, [], ◌∷◌, length, map, refl, sym, ap, subst, ◌∙◌, arith}
+use Rattle.std.proofs.Common.{◌≡◌, ℕ, zero, suc, ◌+◌, ◌<◌, true, false, Some, None, List, [], ◌∷◌, length, map, refl, sym, ap, subst, ◌∙◌, arith}
+use Rattle.std.proofs.Math.Dec.{leb}
+use Rattle.std.proofs.lemmas.Bool.{cond-false, leb-true, false_from_ne_true, or_from}
 use Rattle.std.proofs.lemmas.List.{length-map}
 use Rattle.can_node.specs.Ports.{PortState, IsPort}
-use Rattle.can_fault.specs.Counters.{ConfineParts}
+use Rattle.can_fault.specs.declared.state.State.TheVariants.{Active}
+use Rattle.can_fault.specs.Counters.{ConfineParts, state_of, is_bus_off, is_passive}
 use Rattle.can_node.proofs.Arrivals.{GainingPort}
 use Rattle.can_bus.specs.declared.hit.Hit.{Hit}
+use Rattle.can_bus.specs.declared.hit.Hit.TheVariants.{At, In, View}
 use Rattle.can_bus.specs.declared.offer.Offer.{Offer}
 use Rattle.can_bus.specs.Course.{AllEnded, Transmission, course_at, hits_made}
 use Rattle.can_bus.specs.Network.{AllCountAtMost, CountsAtMost, IsNetworkCall, NetworkLogBegins, NetworkLogHas, NetworkLogWhole, NetworkTally, StaysActive, call_after, call_level, call_refused}
@@ -20,12 +24,12 @@ use Rattle.can_bus.specs.Run.{BusState}
 use Rattle.can_bus.proofs.Contests.{AllPorts}
 use Rattle.can_bus.proofs.FrameOnBus.{ports_of}
 use Rattle.can_bus.specs.OpenBus.{offered_to}
-use Rattle.can_bus.proofs.HitRuns.{AreWithin}
+use Rattle.can_bus.proofs.HitRuns.{AreWithin, falls}
 use Rattle.can_bus.proofs.OfferTimes.{AreInOrder}
 use Rattle.can_bus.proofs.HitWires.{HitWire}
 use Rattle.can_bus.proofs.OpenStart.{OfFrames}
 use Rattle.can_bus.proofs.PlayedRuns.{all_arrived, all-taken, open-now}
-use Rattle.can_bus.proofs.RepairedBus.{none-falls, within-active}
+use Rattle.can_bus.proofs.CalmPorts.{IsWithin}
 use Rattle.can_bus.proofs.CourseLogs.{Becomes}
 use Rattle.can_bus.proofs.CoursePorts.{CoursePort}
 use Rattle.can_bus.proofs.CourseRuns.{Each, Follows, follows, later, wire_with}
@@ -40,6 +44,26 @@ pub port-at : (P : PortState → Type 0) (ports : List PortState) (n : ℕ) (p :
 port-at P [] n p all at = absurd (let h : None ≡ Some p = at in cc)
 port-at P (q ∷ ports) zero p all at = let same : q ≡ p = (let h : Some q ≡ Some p = at in cc) in subst P same all.0
 port-at P (q ∷ ports) (suc n) p all at = port-at P ports n p all.1 at
+
+pub valid-ports : {X : Type 0} (state : X → PortState) → ((x : X) → IsPort (state x)) → (xs : List X) → AllPorts IsPort (map state xs)
+valid-ports state valid [] = tt
+valid-ports state valid (x ∷ xs) = (valid x, valid-ports state valid xs)
+
+-- where no attempt has begun none is hit
+none-falls : (hits : List Hit) → AreWithin hits → falls hits None ≡ false
+none-falls [] h = refl
+none-falls (In number offset ∷ hits) h = none-falls hits h
+none-falls (At time ∷ hits) h = absurd h
+none-falls (View time node ∷ hits) h = absurd h
+
+-- a port with such counters is error active
+within-active : (h : ℕ) (c : ConfineParts) → IsWithin h c → state_of c ≡ Active
+within-active h c within =
+    cond-false (is_bus_off c) _ _ (false_from_ne_true (leb 256 c.tec) (λ e. omega (arith, leb-true 256 c.tec e, within.low_tec)))
+    ∙ cond-false (is_passive c) _ _
+    (or_from (leb 128 c.tec) (leb 128 c.rec)
+    (false_from_ne_true (leb 128 c.tec) (λ e. omega (arith, leb-true 128 c.tec e, within.low_tec)))
+    (false_from_ne_true (leb 128 c.rec) (λ e. omega (arith, leb-true 128 c.rec e, within.low_rec))))
 
 module _ (most : ℕ) (course : List Transmission) (until : ℕ) (offers : List Offer) where
   -- what is offered behind the last bit time has no part in what has become of a port

@@ -11,14 +11,13 @@ use Rattle.can_bus.specs.Offers.{all_made}
 use Rattle.can_bus.specs.OpenBus.{offered_to}
 use Rattle.can_bus.specs.Network.{offered_now, call_after, call_level, call_refused}
 use Rattle.can_bus.proofs.Reduction.{maps-alike}
-use Rattle.can_bus.proofs.PlainRuns.{sees}
 use Rattle.can_bus.proofs.FrameOnBus.{gaining_sees}
 use Rattle.can_bus.proofs.OfferTimes.{AreInOrder}
 use Rattle.can_bus.proofs.PlayedRuns.{HaveRoomNow, AreRoomy, all_arrived, all-taken, none-refused, open_ports, open-step, open-now, room-next}
-use Rattle.can_bus.proofs.HitRuns.{AreWithin, falls, falls-always, all-see, latest_now}
+use Rattle.can_bus.proofs.HitRuns.{AreWithin, falls, falls-always, all-see, latest_now, sees}
 use Rattle.can_bus.proofs.HitWires.{HitWire, hit_latest, hit_seen, hit_step, hit_run, hit_runs-joined}
 
--- the ports of this number of bit time, with what is still to be offered to them
+-- the bus in the bit time of this number: its ports, with what is still to be offered to them
 abbrev pub open_wire : List Offer → ℕ → CallState → HitWire GainingPort
 open_wire offers t c = record { machines = open_ports offers t 0 c.bus.ports; rest = c.bus.rest; latest = c.latest }
 

@@ -1,16 +1,17 @@
--- The next start of a schedule: it is there, it is one, and it is what `schedule_from` begins with.
-use Rattle.std.proofs.Common.{◌≡◌, ℕ, suc, ◌+◌, ◌≤◌, ◌⊎◌, Bool, Some, List, [], ◌∷◌, ◌++◌, length, refl, sym, ◌∙◌, ap, subst, inl, inr, arith, length-append}
-use Rattle.std.specs.Prelude.{max, min, fold, nat_le, filter}
+-- The next start of a schedule is the next attempt of a course without hits.
+use Rattle.std.proofs.Common.{◌≡◌, ℕ, suc, ◌≤◌, ◌⊎◌, Bool, Some, List, [], ◌∷◌, ◌++◌, refl, sym, ◌∙◌, ap, subst, inl, inr, arith}
+use Rattle.std.specs.Prelude.{min, fold, nat_le, filter}
 use Rattle.std.proofs.lemmas.Bool.{cond-true, cond-false, cases_Bool, le-leb, leb-true, leb-false}
 use Rattle.can_frame.specs.Parts.{Parts}
-use Rattle.can_frame.specs.Arbitration.{arbitration_field, Before}
+use Rattle.can_frame.specs.Arbitration.{arbitration_field}
 use Rattle.can_frame.proofs.FieldLemmas.{fields_ranked}
 use Rattle.can_node.specs.Ports.{same_field, waiting}
 use Rattle.can_node.specs.Waiting.{IsWaiting}
 use Rattle.can_node.proofs.WaitingLemmas.{same_field-Shares, Shares-same_field}
 use Rattle.can_node.proofs.WaitingLaws.{waiting-some, waiting-IsWaiting}
+use Rattle.can_bus.specs.Course.{IsNext}
 use Rattle.can_bus.specs.Quiet.{AreDifferent}
-use Rattle.can_bus.specs.Schedule.{Timed, busy_time, frames_of, Lists, IsNextStart, AreOthers, earliest, offered_by, without_offer, start_of, schedule_from}
+use Rattle.can_bus.specs.Schedule.{Timed, frames_of, Lists, IsNextStart, AreOthers, earliest, offered_by, without_offer}
 use Rattle.can_bus.proofs.Ascending.{Goes, Other}
 use Rattle.can_bus.proofs.Members.{Stands, stands-none, stands-here, stands-later, stands-cases, stands-middle, stands-among, stands-apart, filter-stands, stands-filter, stands-map, map-stands}
 
@@ -70,9 +71,6 @@ module _ (f : Parts) (left rest : List Timed) (others : AreOthers f left rest) w
   abbrev pub taken : Timed
   taken = record { time = others.offered; frame = f }
 
-  pub taken-left : Lists left taken
-  taken-left = subst (λ l. Lists l taken) (sym others.whole) (stands-middle others.before taken others.after)
-
   pub rest-left : (x : Timed) → Lists rest x → Lists left x
   rest-left x s =
       subst (λ l. Lists l x) (sym others.whole)
@@ -84,10 +82,6 @@ module _ (f : Parts) (left rest : List Timed) (others : AreOthers f left rest) w
         | inl e ↦ inl e
         | inr t ↦ inr (subst (λ l. Lists l x) (sym others.others) t)
       ]
-
-  pub rest-length : length left ≡ suc (length rest)
-  rest-length =
-      omega (arith, ap length others.whole, ap length others.others, length-append others.before (taken ∷ others.after), length-append others.before others.after)
 
   module _ (apart : AreApart left) where
     whole-apart : AreApart (others.before ++ taken ∷ others.after)
@@ -208,63 +202,19 @@ module _ (free : ℕ) (left : List Timed) (start : Timed) (next : IsNextStart fr
           let there = offered-stands start.time left g s in
           elim (next.first there.0 there.1 there.2) [ inl e ↦ inl (sym there.3 ∙ e) | inr goes ↦ inr (subst (Goes start.frame) there.3 goes) ]
 
-next-time : (free : ℕ) (x : Timed) (others : List Timed) (start : Timed) → IsNextStart free (x ∷ others) start → max free (earliest x others) ≡ start.time
-next-time free x others start next =
-    let first = earliest-is x others in
-    let soon = next.soon first.0 first.1 in
-    let each = earliest-each x others (offer_of free (x ∷ others) start next) next.left_over in
-    let free_by = next.is_free in
-    let in_time = next.in_time in
-    let at = first.2 in
-    omega arith
-
--- what is computed begins with the next start
-pub schedule-next : (count free : ℕ) (left : List Timed) (start : Timed) → IsNextStart free left start →
-    schedule_from (suc count) free left ≡ start ∷ schedule_from count (start.time + busy_time start.frame) (without_offer start.frame left)
-schedule-next count free [] start next = absurd (stands-none (offer_of free [] start next) next.left_over)
-schedule-next count free (x ∷ others) start next =
-    let behind : ℕ → Parts → List Timed = λ time f. schedule_from count (time + busy_time f) (without_offer f (x ∷ others)) in
-    ap (λ time. start_of (behind time) time (waiting (offered_by time (x ∷ others)))) (next-time free x others start next)
-    ∙ ap (start_of (behind start.time) start.time) (next-waits free (x ∷ others) start next)
-
--- where offers are left there is a next start
-module _ (free : ℕ) (x : Timed) (others : List Timed) (apart : AreApart (x ∷ others)) where
-  abbrev left : List Timed
-  left = x ∷ others
-
-  abbrev time : ℕ
-  time = max free (earliest x others)
-
-  pub frame-waits : (f : Parts) × (waiting (offered_by time left) ≡ Some f)
-  frame-waits =
-      let first = earliest-is x others in
-      let s = stands-offered time left first.0 first.1 (let at = first.2 in omega arith) in
-      waiting-some (offered_by time left) s.0 first.0.frame s.1
-
-  abbrev pub next_start : Timed
-  next_start = record { time = time; frame = frame-waits.0 }
-
-  pub one-next : IsNextStart free left next_start
-  one-next =
-      record {
-        offered = there.0.time;
-        left_over = subst (λ f. Lists left (record { time = there.0.time; frame = f })) there.3 there.1;
-        in_time = there.2;
-        is_free = omega arith;
-        soon = λ y s. let each = earliest-each x others y s in omega arith;
-        first = first;
-      }
-    where
-      is : IsWaiting (offered_by time left) frame-waits.0
-      is = waiting-IsWaiting (offered_by time left) frame-waits.0 frame-waits.1
-
-      there : (y : Timed) × Lists left y × (y.time ≤ time) × (y.frame ≡ frame-waits.0)
-      there = offered-stands time left frame-waits.0 (is.place, is.stands)
-
-      first : (y : Timed) → Lists left y → y.time ≤ time → (y.frame ≡ frame-waits.0) ⊎ Before (arbitration_field frame-waits.0) (arbitration_field y.frame)
-      first y s early =
-          elim (fields_ranked frame-waits.0 y.frame) [
-            | inl goes ↦ inr goes
-            | inr (inl same) ↦ inl (sym (ap (λ (w : Timed). w.frame) (apart-one left apart there.0 y there.1 s (ap arbitration_field there.3 ∙ same))) ∙ there.3)
-            | inr (inr before) ↦ let in_queue = stands-offered time left y s early in absurd (is.least in_queue.0 y.frame in_queue.1 before)
-          ]
+-- the next attempt of a course without hits is the next start
+pub next-start : (free : ℕ) (left : List Timed) (time : ℕ) (f : Parts) → AreApart left → IsNext free left time f → IsNextStart free left (record { time = time; frame = f })
+next-start free left time f apart is =
+    let there = offered-stands time left f (is.waits.place, is.waits.stands) in
+    record {
+      offered = there.0.time;
+      left_over = subst (λ g. Lists left (record { time = there.0.time; frame = g })) there.3 there.1;
+      in_time = there.2;
+      is_free = is.is_free;
+      soon = is.soon;
+      first = λ y listed early. elim (fields_ranked f y.frame) [
+        | inl goes ↦ inr goes
+        | inr (inl same) ↦ inl (sym (ap (λ (w : Timed). w.frame) (apart-one left apart there.0 y there.1 listed (ap arbitration_field there.3 ∙ same))) ∙ there.3)
+        | inr (inr before) ↦ let waits = stands-offered time left y listed early in absurd (is.waits.least waits.0 y.frame waits.1 before)
+      ];
+    }

@@ -14,6 +14,7 @@ use Rattle.can_bus.specs.Offers.{AreOffered, all_made, played, played_level}
 use Rattle.can_bus.specs.Quiet.{AreDifferent, IsAscending, IsQuiet, IsQuietCall, IsQuietPort, ascending, line_at, queued, AtEachNode}
 use Rattle.can_bus.specs.Run.{BusState, bus_level, bus_run}
 use Rattle.can_bus.specs.Schedule.{AreAtOnce, Timed, frames_of, schedule, track_at}
+use Rattle.can_bus.proofs.CourseSchedules.{no-other-schedule, one-schedule}
 use Rattle.can_bus.proofs.Ascending.{ascending_permuted, ascending_there, different_permuted}
 use Rattle.can_bus.proofs.AtOnce.{at_once-frames, at_once-line}
 use Rattle.can_bus.proofs.Members.{filter-stands, map-stands, stands-map, stands-here, stands-later, stands-either}
@@ -23,7 +24,6 @@ use Rattle.can_bus.proofs.OpenStart.{rooms}
 use Rattle.can_bus.proofs.PlayedRuns.{all-taken, all_arrived, arriving}
 use Rattle.can_bus.proofs.PortOffers.{offers-by-port, port_offers}
 use Rattle.can_bus.proofs.RunLemmas.{levels_joined, runs_joined}
-use Rattle.can_bus.proofs.Schedules.{no-other-schedule, one-schedule}
 
 -- ---- what is offered
 

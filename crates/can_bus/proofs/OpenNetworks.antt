@@ -11,27 +11,23 @@ use Rattle.can_bus.specs.OpenBus.{AreOver, IsOpenCall, OpenLogBegins, OpenLogWho
 use Rattle.can_bus.specs.Offers.{all_made, played, played_level, refused, refused_at}
 use Rattle.can_bus.specs.Quiet.{AtEachNode, AtEachPort, CountsNothing, IsPrefixOf, IsQuietPort, MissesNothing, marked}
 use Rattle.can_bus.specs.Repair.{IsLow}
-use Rattle.can_bus.specs.Run.{BusState, CallState, bus_after, bus_level, bus_step, recorded}
+use Rattle.can_bus.specs.Run.{BusState, bus_after, bus_level, recorded}
 use Rattle.can_bus.specs.Schedule.{Timed, Lists, frames_of, track_at}
 use Rattle.can_bus.specs.Wired.{wired}
 use Rattle.can_bus.proofs.Ascending.{Other, different_permuted}
 use Rattle.can_bus.proofs.Contests.{AllPorts}
 use Rattle.can_bus.proofs.CourseSchedules.{schedule-course, unhit-ended, unhit-frames, unhit-low, unhit-none, unhit-track}
+use Rattle.can_bus.proofs.CallCases.{plain-bus, run_one}
 use Rattle.can_bus.proofs.CallLemmas.{call-time}
-use Rattle.can_bus.proofs.HitRuns.{all-see}
+use Rattle.can_bus.proofs.HitRuns.{sees}
 use Rattle.can_bus.proofs.Members.{stands-back, stands-front}
 use Rattle.can_bus.proofs.NetworkCalls.{network-logs, network-missed, network-refused, network-track, network-unmoved, network-whole}
 use Rattle.can_bus.proofs.NextStarts.{AreApart, apart-from}
 use Rattle.can_bus.proofs.OpenStart.{OfFrames}
 use Rattle.can_bus.proofs.OwnOffers.{apart-across, apart-back}
-use Rattle.can_bus.proofs.PlainRuns.{run_one, sees}
 use Rattle.can_bus.proofs.PortOffers.{offers-by-port, port_offers}
 
 -- ---- without hits it is all the same how long the bus has rested
-
-plain-step : (c : CallState) → (bus_step [] c).bus.ports ≡ map (sees (wired (map port_drives c.bus.ports))) c.bus.ports
-unfolding bus_step recorded
-plain-step c = all-see [] tt c.time 0 (wired (map port_drives c.bus.ports)) c.bus.ports
 
 module _ (offers : List Offer) (bus other : BusState) (same : bus.ports ≡ other.ports) where
   made-now : (n : ℕ) → (played offers n bus).ports ≡ (call_after offers [] n other).bus.ports →
@@ -45,7 +41,7 @@ module _ (offers : List Offer) (bus other : BusState) (same : bus.ports ≡ othe
       let before : BusState = played offers n bus in
       ap (λ (b : BusState). b.ports) (run_one (record before { ports = all_made offers n before.ports }))
       ∙ ap (λ ps. map (sees (wired (map port_drives ps))) ps) (made-now n (plain-ports n))
-      ∙ sym (plain-step (offered_now offers (call_after offers [] n other)))
+      ∙ sym (ap (λ (b : BusState). b.ports) (plain-bus (offered_now offers (call_after offers [] n other))))
 
   pub plain-level : (t : ℕ) → played_level offers t bus ≡ call_level offers [] t other
   unfolding played_level call_level bus_level bus_after recorded

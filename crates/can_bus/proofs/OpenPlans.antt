@@ -11,10 +11,10 @@ use Rattle.can_bus.specs.Offers.{AreOffered}
 use Rattle.can_bus.specs.Plans.{PlannedPort, planned, ready_port}
 use Rattle.can_bus.specs.Quiet.{AreDifferent, queued}
 use Rattle.can_bus.specs.Schedule.{Timed, frames_of, schedule}
+use Rattle.can_bus.proofs.CourseSchedules.{one-schedule}
 use Rattle.can_bus.proofs.OpenAtOnce.{first-frames}
 use Rattle.can_bus.proofs.PlayedRuns.{to-here, to-other}
 use Rattle.can_bus.proofs.QuietPlans.{quiet-each, ready-filled, ready-queued}
-use Rattle.can_bus.proofs.Schedules.{one-schedule}
 
 -- ---- a call that is made
 

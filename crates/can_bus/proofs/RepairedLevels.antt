@@ -16,13 +16,13 @@ use Rattle.can_mac.proofs.ErrorFrames.{in_flag, at_rest}
 use Rattle.can_mac.proofs.HitLevels.{IsHit, inverted, breaks-soon}
 use Rattle.can_node.proofs.BrokenFrames.{seen_of}
 use Rattle.can_bus.specs.declared.hit.Hit.{Hit}
+use Rattle.can_bus.specs.Course.{Transmission}
 use Rattle.can_bus.specs.Quiet.{line_at}
 use Rattle.can_bus.specs.Repair.{frame_of_attempt, hit_of}
 use Rattle.can_bus.specs.RepairedLine.{struck, lateness, attempt_levels, first_attempts, repaired_line_at}
-use Rattle.can_bus.proofs.WireRuns.{undisturbed}
-use Rattle.can_bus.proofs.BrokenOnBus.{broken-seen, dead_time, seen-append, seen-undisturbed}
-use Rattle.can_bus.proofs.Repairs.{broken_levels, Plan, done, whole, broken_off, plan_levels}
-use Rattle.can_bus.proofs.RepairPlans.{Apart, sends-below}
+use Rattle.can_bus.proofs.BrokenOnBus.{broken-seen, dead_time, seen-append}
+use Rattle.can_bus.proofs.Repairs.{broken_levels}
+use Rattle.can_bus.proofs.RepairPlans.{Apart, Plan, again, done, sends-below, whole}
 use Rattle.can_bus.proofs.RepairCounts.{none-stays}
 use Rattle.can_bus.proofs.Lateness.{hit-level, lateness-breaks}
 
@@ -51,6 +51,11 @@ module _ (f : Parts) (is : IsFrame f) (o : ℕ) (hit : IsHit f o) where
 
 -- ---- All attempts.
 
+-- the levels of these, one after another
+abbrev pub course_levels : List Transmission → List Level
+course_levels [] = []
+course_levels (s ∷ course) = attempt_levels (Some s.frame) s.hit ++ course_levels course
+
 module _ (frames : List Parts) (hits : List Hit) (rising : Apart hits) where
   abbrev total : ℕ
   total = length frames + length hits
@@ -67,27 +72,24 @@ module _ (frames : List Parts) (hits : List Hit) (rising : Apart hits) where
       ∙ append-nil (first_attempts frames hits (number + d)) ∙ attempts-stay number d e
 
   -- one more
-  attempts-more : (number : ℕ) (now rest : List (Level × Level)) (w : Option Parts) (hit : Option ℕ) → frame_of_attempt frames hits number ≡ w → hit_of hits number ≡ hit → seen_of now ≡ attempt_levels w hit →
-      first_attempts frames hits number ++ seen_of (now ++ rest) ≡ first_attempts frames hits (number + 1) ++ seen_of rest
-  attempts-more number now rest w hit sends at seen =
-      let before = first_attempts frames hits number in
-      ap (λ xs. before ++ xs) (seen-append now rest) ∙ ap (λ xs. before ++ (xs ++ seen_of rest)) seen
-      ∙ ap (λ v. before ++ (attempt_levels v hit ++ seen_of rest)) (sym sends) ∙ ap (λ v. before ++ (attempt_levels (frame_of_attempt frames hits number) v ++ seen_of rest)) (sym at)
-      ∙ sym (append_assoc before (attempt_levels (frame_of_attempt frames hits number) (hit_of hits number)) (seen_of rest))
-      ∙ ap (λ xs. xs ++ seen_of rest) (sym (attempts-next number))
+  attempts-more : (number : ℕ) (rest : List Level) (w : Option Parts) (hit : Option ℕ) → frame_of_attempt frames hits number ≡ w → hit_of hits number ≡ hit →
+      first_attempts frames hits number ++ (attempt_levels w hit ++ rest) ≡ first_attempts frames hits (number + 1) ++ rest
+  attempts-more number rest w hit sends at =
+      let before : List Level = first_attempts frames hits number in
+      ap (λ v. before ++ (attempt_levels v hit ++ rest)) (sym sends) ∙ ap (λ v. before ++ (attempt_levels (frame_of_attempt frames hits number) v ++ rest)) (sym at)
+      ∙ sym (append_assoc before (attempt_levels (frame_of_attempt frames hits number) (hit_of hits number)) rest)
+      ∙ ap (λ xs. xs ++ rest) (sym (attempts-next number))
 
   -- a plan has the levels of all attempts
-  pub plan-attempts : {h : ℕ} {left : List Parts} {number : ℕ} (plan : Plan frames hits h left number) → number ≤ total →
-      first_attempts frames hits number ++ seen_of (plan_levels plan) ≡ first_attempts frames hits total
-  plan-attempts (done h number end) within =
+  pub plan-attempts : {number time : ℕ} {left : List Parts} {course : List Transmission} → Plan frames hits number time left course → number ≤ total →
+      first_attempts frames hits number ++ course_levels course ≡ first_attempts frames hits total
+  plan-attempts (done number time end) within =
       append-nil (first_attempts frames hits number) ∙ sym (attempts-stay number (total - number) end)
       ∙ ap (first_attempts frames hits) (let k : number + (total - number) ≡ total = omega (arith, within) in k)
-  plan-attempts (whole h number f left free sends unhit rest) within =
-      attempts-more number (undisturbed (with_intermission f)) (plan_levels rest) (Some f) None sends unhit (seen-undisturbed (with_intermission f))
-      ∙ plan-attempts rest (omega (arith, sends-below frames hits rising number f sends))
-  plan-attempts (broken_off h number f left below is o hit here sends struck rest) within =
-      attempts-more number (broken_levels f is o hit) (plan_levels rest) (Some f) (Some o) sends struck (broken-attempt f is o hit)
-      ∙ plan-attempts rest (omega (arith, sends-below frames hits rising number f sends))
+  plan-attempts (whole number time f left course sends unhit rest) within =
+      attempts-more number (course_levels course) (Some f) None sends unhit ∙ plan-attempts rest (omega (arith, sends-below frames hits rising number f sends))
+  plan-attempts (again number time f o left course sends struck window rest) within =
+      attempts-more number (course_levels course) (Some f) (Some o) sends struck ∙ plan-attempts rest (omega (arith, sends-below frames hits rising number f sends))
 
 -- ---- Without hits.
 

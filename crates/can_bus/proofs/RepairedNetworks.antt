@@ -10,28 +10,25 @@ use Rattle.can_bus.specs.declared.hit.Hit.TheVariants.{At, In, View}
 use Rattle.can_bus.specs.Course.{AllEnded, Transmission, course_at, course_tally, frames_sent}
 use Rattle.can_bus.specs.Network.{AllCountAtMost, IsNetworkCall, counters_of, call_after}
 use Rattle.can_bus.specs.OpenBus.{all_offers, offered_first, own_offers}
-use Rattle.can_bus.specs.Quiet.{AreDifferent, AtEachPort, CountsNothing, IsPrefixOf, LogsBegin, LogsWhole, MissesNothing, marked, queued}
+use Rattle.can_bus.specs.Quiet.{AreDifferent, AtEachPort, CountsNothing, IsAscending, IsPrefixOf, LogsBegin, LogsWhole, MissesNothing, marked, queued}
 use Rattle.can_bus.specs.Repair.{AreBorne, CountsAs, CountsFew, FallsInWindow, IsLow, IsRepairedCall, Tally, repaired_span, tally, tally_after}
 use Rattle.can_bus.specs.RepairedLine.{repaired_line_at}
 use Rattle.can_bus.specs.Run.{BusState, bus_level, bus_run}
 use Rattle.can_bus.specs.Schedule.{Timed, Lists, frames_of}
 use Rattle.can_bus.proofs.CallLemmas.{call_bus-run, call_level-run}
-use Rattle.can_bus.proofs.Contests.{AllPorts, Has, at-has, has-at}
-use Rattle.can_bus.proofs.CoursePlans.{AreLeft, plan-all, plan-count, plan-course, plan-ended, plan-frames, plan-hits, plan-tally, plan-track, plan_attempts}
-use Rattle.can_bus.proofs.Members.{map-stands, stands-map}
+use Rattle.can_bus.proofs.Contests.{AllPorts}
+use Rattle.can_bus.proofs.CoursePlans.{AreLeft, left-ascending, plan-all, plan-count, plan-course, plan-frames, plan-hits, plan-tally, plan-track}
+use Rattle.can_bus.proofs.Members.{map-stands}
 use Rattle.can_bus.proofs.NetworkCalls.{port-at, network-active, network-counts, network-logs, network-missed, network-tally, network-track, network-unmoved, network-whole}
-use Rattle.can_bus.proofs.NextStarts.{AreApart, apart-from}
+use Rattle.can_bus.proofs.NextStarts.{AreApart}
 use Rattle.can_bus.proofs.OpenAtOnce.{first-frames}
 use Rattle.can_bus.proofs.OpenNetworks.{apart-owned, quiet-low}
 use Rattle.can_bus.proofs.OpenStart.{OfFrames}
 use Rattle.can_bus.proofs.PortOffers.{no-offers}
-use Rattle.can_bus.proofs.RepairCounts.{plan-over, plan-tally-is}
-use Rattle.can_bus.proofs.RepairedBus.{apart, attempts, round}
+use Rattle.can_bus.proofs.RepairCounts.{plan-ended}
 use Rattle.can_bus.proofs.RepairedLevels.{plan-attempts}
-use Rattle.can_bus.proofs.RepairPlans.{Apart, windows-from}
-use Rattle.can_bus.proofs.Repairs.{Plan}
+use Rattle.can_bus.proofs.RepairPlans.{Apart, Plan, apart-from, plan, windows-from}
 use Rattle.can_bus.proofs.BorneHits.{fifteen-borne}
-use Rattle.can_bus.proofs.Rounds.{Round}
 
 -- ---- what a port has to send is what waits there
 
@@ -55,32 +52,20 @@ no-framed n offer at = absurd (let h : None ≡ Some offer = at in cc)
 -- ---- the premises
 
 module _ (hits : List Hit) (bus : BusState) (valid : AllPorts IsPort bus.ports) (frames : List Parts) (call : IsRepairedCall hits bus frames) where
-  abbrev plan : Plan frames hits 0 frames 0
-  plan = attempts frames hits bus valid call
+  pub are_apart : Apart hits
+  are_apart = apart-from frames hits hits call.windows call.apart
+
+  pub planned : (course : List Transmission) × Plan frames hits 0 0 frames course
+  planned = plan frames hits are_apart (windows-from frames hits call.windows)
 
   abbrev pub course : List Transmission
-  course = plan_attempts plan 0
+  course = planned.0
 
-  abbrev are_apart : Apart hits
-  are_apart = apart frames hits bus valid call
-
-  the-round : Round 0 frames bus.ports
-  the-round = round frames hits bus valid call
-
-  all-apart : AreApart (all_offers [] bus.ports)
-  all-apart = apart-from (all_offers [] bus.ports) (subst AreDifferent (sym (all-queued bus.ports)) call.quiet.different)
+  different : AreDifferent (frames_of (all_offers [] bus.ports))
+  different = subst AreDifferent (sym (all-queued bus.ports)) call.quiet.different
 
   all-left : AreLeft frames (all_offers [] bus.ports)
-  all-left = record {
-    apart = all-apart;
-    at_once = first-times (queued bus.ports);
-    to = λ x there.
-        let at = stands-map (λ (y : Timed). y.frame) (all_offers [] bus.ports) x there in
-        the-round.to x.frame (subst (Has x.frame) (all-queued bus.ports) (has-at x.frame (frames_of (all_offers [] bus.ports)) at.0 at.1));
-    from = λ g h.
-        map-stands (λ (y : Timed). y.frame) (all_offers [] bus.ports) g
-        (at-has g (frames_of (all_offers [] bus.ports)) (subst (Has g) (sym (all-queued bus.ports)) (the-round.from g h)));
-  }
+  all-left = left-ascending (all_offers [] bus.ports) frames different (first-times (queued bus.ports)) (subst (λ fs. IsAscending fs frames) (sym (all-queued bus.ports)) call.ascending)
 
   in-attempt : (hit : Hit) → FallsInWindow frames hits hit → (attempt offset : ℕ) × (hit ≡ In attempt offset)
   in-attempt (At time) falls = absurd falls
@@ -110,16 +95,16 @@ module _ (hits : List Hit) (bus : BusState) (valid : AllPorts IsPort bus.ports) 
     room = λ n p at. let port = port-at IsPort bus.ports n p valid at in
         omega (arith, port.queue_fits, sym (length-map (own_offers [] n p) (λ (x : Timed). x.frame)) ∙ ap length (own-queue n p));
     owned = λ m n p q less at there x y a b.
-        apart-owned [] 0 bus.ports (subst AreApart (append-nil (offered_first (queued bus.ports)) ∙ sym (no-offers 0 bus.ports)) all-apart) m n p q less at there x y a b;
+        apart-owned [] 0 bus.ports (subst AreApart (append-nil (offered_first (queued bus.ports)) ∙ sym (no-offers 0 bus.ports)) (all-left.apart)) m n p q less at there x y a b;
     within = λ n hit at. in-attempt hit (call.windows n hit at);
     apart = call.apart;
-    is_course = plan-course plan 0 (all_offers [] bus.ports) call.ascending.rising all-left (windows-from frames hits call.windows);
+    is_course = plan-course planned.1 (all_offers [] bus.ports) call.ascending.rising all-left;
     borne = λ n p at number within.
         subst IsLow
         (sym (ap (λ queue. course_tally queue (take number course) (counters_of p)) (own-queue n p)
         ∙ ap (course_tally p.queue (take number course)) (start-tally n p at)
-        ∙ plan-tally p.queue frames hits are_apart plan 0 number within))
-        (is-borne n p at (0 + number) (omega (arith, within, plan-count plan 0 (omega arith))));
+        ∙ plan-tally p.queue frames hits are_apart planned.1 number within))
+        (is-borne n p at (0 + number) (omega (arith, within, plan-count planned.1, plan-hits planned.1 are_apart)));
   }
 
   -- ---- the clauses
@@ -129,8 +114,8 @@ module _ (hits : List Hit) (bus : BusState) (valid : AllPorts IsPort bus.ports) 
   unfolding repaired_line_at
   repaired-line t =
       sym (call_level-run hits t bus) ∙ network-track [] hits course bus valid no-framed repaired-network t
-      ∙ ap (course_at course) (let e : t ≡ 0 + t = omega arith in e) ∙ plan-track plan 0 t
-      ∙ ap (λ xs. slice_index_or xs t Recessive) (plan-attempts frames hits are_apart plan (omega arith))
+      ∙ ap (course_at course) (let e : t ≡ 0 + t = omega arith in e) ∙ plan-track planned.1 t
+      ∙ ap (λ xs. slice_index_or xs t Recessive) (plan-attempts frames hits are_apart planned.1 (omega arith))
 
   module _ (n : ℕ) (after : BusState) (ran : after ≡ bus_run hits n bus) where
     is-call : after ≡ (call_after [] hits n bus).bus
@@ -140,7 +125,7 @@ module _ (hits : List Hit) (bus : BusState) (valid : AllPorts IsPort bus.ports) 
         p.log ++ marked (frames_of (own_offers [] node p)) (frames_sent course) ≡ marked p.queue frames
     entries node p at =
         ap (λ es. es ++ marked (frames_of (own_offers [] node p)) (frames_sent course)) (call.quiet.quiet node p at).empty
-        ∙ ap (λ queue. marked queue (frames_sent course)) (own-queue node p) ∙ ap (marked p.queue) (plan-frames plan 0)
+        ∙ ap (λ queue. marked queue (frames_sent course)) (own-queue node p) ∙ ap (marked p.queue) (plan-frames planned.1)
 
     pub repaired-logs : AtEachPort (LogsBegin frames) bus.ports after.ports
     repaired-logs node p q before now =
@@ -150,7 +135,7 @@ module _ (hits : List Hit) (bus : BusState) (valid : AllPorts IsPort bus.ports) 
     repaired-few node p q before now =
         let none : AllCountAtMost 0 bus.ports = λ m r at. let quiet = call.quiet.quiet m r at in record { tec = omega (arith, quiet.tec); rec = omega (arith, quiet.rec) } in
         let few = network-counts [] hits course bus valid no-framed repaired-network n after is-call 0 none node p q before now in
-        let made = plan-hits plan 0 (omega arith) in
+        let made = plan-hits planned.1 are_apart in
         record {
           active = network-active [] hits course bus valid no-framed repaired-network n after is-call node p q before now;
           tec = omega (arith, few.tec, made);
@@ -160,14 +145,14 @@ module _ (hits : List Hit) (bus : BusState) (valid : AllPorts IsPort bus.ports) 
     pub repaired-unmoved : hits ≡ [] → AtEachPort CountsNothing bus.ports after.ports
     repaired-unmoved unhit node p q before now =
         let none : AllCountAtMost 0 bus.ports = λ m r at. let quiet = call.quiet.quiet m r at in record { tec = omega (arith, quiet.tec); rec = omega (arith, quiet.rec) } in
-        network-unmoved [] hits course bus valid no-framed repaired-network n after is-call none (omega (arith, plan-hits plan 0 (omega arith), ap length unhit)) node p q before now
+        network-unmoved [] hits course bus valid no-framed repaired-network n after is-call none (omega (arith, plan-hits planned.1 are_apart, ap length unhit)) node p q before now
 
     pub repaired-missed : AtEachPort MissesNothing bus.ports after.ports
     repaired-missed node p q before now = network-missed [] hits course bus valid no-framed repaired-network n after is-call node p q before now
 
     module _ (past : repaired_span frames hits ≤ n) where
       ended : AllEnded course n
-      ended = plan-ended plan 0 n (omega (arith, past, plan-over plan are_apart))
+      ended = plan-ended planned.1 are_apart n past
 
       pub repaired-whole : AtEachPort (LogsWhole frames) bus.ports after.ports
       repaired-whole node p q before now =
@@ -179,6 +164,5 @@ module _ (hits : List Hit) (bus : BusState) (valid : AllPorts IsPort bus.ports) 
           network-tally [] hits course bus valid no-framed repaired-network n after is-call ended node p q before now
           ∙ ap (λ queue. course_tally queue course (counters_of p)) (own-queue node p)
           ∙ ap (course_tally p.queue course) (start-tally node p before)
-          ∙ plan-all p.queue frames hits are_apart plan 0 (tally_after p.queue frames hits 0)
-          ∙ plan-tally-is p.queue frames hits are_apart plan (omega arith) in
+          ∙ plan-all p.queue frames hits are_apart planned.1 in
           (ap (λ (t : Tally). t.tec) same, ap (λ (t : Tally). t.rec) same)

@@ -1,60 +1,14 @@
--- The schedule of offers: it is there, it is one, and it is what `schedule` computes. Which frames it has, and when they start.
-use Rattle.std.proofs.Common.{◌≡◌, ℕ, zero, suc, ◌+◌, ◌<◌, ◌≤◌, Some, List, [], ◌∷◌, ◌++◌, length, refl, sym, ◌∙◌, ap, subst, inl, inr, arith}
+-- Which frames a schedule has, and when they start.
+use Rattle.std.proofs.Common.{◌≡◌, ℕ, zero, suc, ◌+◌, ◌<◌, ◌≤◌, Some, List, [], ◌∷◌, ◌++◌, refl, sym, ◌∙◌, ap, subst, inl, inr, arith}
 use Rattle.std.specs.Prelude.{slice_get}
 use Rattle.std.specs.List.Sorted.{IsPermutation}
 use Rattle.std.proofs.lemmas.List.{map-append}
 use Rattle.std.proofs.lemmas.List.Sorted.{IsPermutation-refl, IsPermutation-trans, IsPermutation-cons, IsPermutation-middle}
 use Rattle.can_frame.specs.Parts.{Parts}
 use Rattle.can_frame.specs.Arbitration.{arbitration_field}
-use Rattle.can_bus.specs.Quiet.{AreDifferent}
-use Rattle.can_bus.specs.Schedule.{Timed, busy_time, frames_of, Lists, IsNextStart, AreOthers, IsSchedule, over, next, IsScheduleOf, StartsAt, without_offer, schedule_from, schedule}
+use Rattle.can_bus.specs.Schedule.{Timed, busy_time, frames_of, Lists, AreOthers, IsSchedule, over, next, StartsAt}
 use Rattle.can_bus.proofs.Members.{stands-none, stands-cases}
-use Rattle.can_bus.proofs.NextStarts.{AreApart, apart-from, apart-one, rest-left, rest-length, rest-apart, rest-without, others-without, schedule-next, one-next, next_start}
-
--- ---- the schedule is what is computed
-
-pub schedule-only : {free : ℕ} {left starts : List Timed} → IsSchedule free left starts → AreApart left → starts ≡ schedule_from (length left) free left
-schedule-only (over free) apart = refl
-schedule-only (next free left rest start starts is others more) apart =
-    let behind : ℕ → List Timed = λ count. schedule_from count free left in
-    ap (λ l. start ∷ l) (schedule-only more (rest-apart start.frame left rest others apart)
-    ∙ ap (schedule_from (length rest) (start.time + busy_time start.frame)) (sym (rest-without start.frame left rest others apart)))
-    ∙ sym (schedule-next (length rest) free left start is) ∙ ap behind (sym (rest-length start.frame left rest others))
-
--- ---- there is one
-
-pub schedule-there : (count free : ℕ) (left : List Timed) → length left ≡ count → AreApart left → IsSchedule free left (schedule_from count free left)
-schedule-there zero free [] long apart = over free
-schedule-there zero free (x ∷ others) long apart = absurd (omega arith)
-schedule-there (suc count) free [] long apart = absurd (omega arith)
-schedule-there (suc count) free (x ∷ others) long apart =
-    subst (IsSchedule free left) (sym (schedule-next count free left start is))
-    (next free left rest start (schedule_from count (start.time + busy_time start.frame) rest) is out
-    (schedule-there count (start.time + busy_time start.frame) rest (omega (arith, rest-length start.frame left rest out)) (rest-apart start.frame left rest out apart)))
-  where
-    left : List Timed
-    left = x ∷ others
-
-    start : Timed
-    start = next_start free x others apart
-
-    is : IsNextStart free (x ∷ others) (next_start free x others apart)
-    is = one-next free x others apart
-
-    rest : List Timed
-    rest = without_offer (next_start free x others apart).frame (x ∷ others)
-
-    out : AreOthers (next_start free x others apart).frame (x ∷ others) (without_offer (next_start free x others apart).frame (x ∷ others))
-    out = others-without (x ∷ others) apart (record { time = is.offered; frame = (next_start free x others apart).frame }) is.left_over
-
-module _ (offers : List Timed) where
-  pub one-schedule : AreDifferent (frames_of offers) → IsScheduleOf offers (schedule offers)
-  unfolding schedule
-  one-schedule different = record { different = different; scheduled = schedule-there (length offers) 0 offers refl (apart-from offers different) }
-
-  pub no-other-schedule : (starts : List Timed) → IsScheduleOf offers starts → starts ≡ schedule offers
-  unfolding schedule
-  no-other-schedule starts is = schedule-only is.scheduled (apart-from offers is.different)
+use Rattle.can_bus.proofs.NextStarts.{AreApart, apart-one, rest-left}
 
 -- ---- its frames
 

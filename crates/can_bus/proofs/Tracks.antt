@@ -1,5 +1,5 @@
 -- The track of a schedule: each wire from its start on, and recessive levels elsewhere.
-use Rattle.std.proofs.Common.{◌≡◌, ℕ, ◌+◌, ◌-◌, ◌<◌, ◌≤◌, Bool, List, [], ◌∷◌, length, refl, ◌∙◌, ap, subst, inl, inr, arith, sym}
+use Rattle.std.proofs.Common.{◌≡◌, ℕ, ◌+◌, ◌-◌, ◌<◌, ◌≤◌, Bool, List, [], ◌∷◌, length, refl, ◌∙◌, ap, subst, inl, inr, arith, sym, zero, suc, replicate, ◌++◌}
 use Rattle.std.specs.Prelude.{slice_index_or, nat_lt, nat_le, ◌&&◌}
 use Rattle.std.proofs.lemmas.Bool.{cond-true, cond-false, cases_Bool, le-leb, leb-true, leb-false, lt-leb, lt-ltb, le-ltb, cases_lt}
 use Rattle.can_frame.specs.declared.level.Level.{Level}
@@ -11,7 +11,6 @@ use Rattle.can_bus.proofs.Schedules.{starts-free}
 use Rattle.std.proofs.lemmas.List.{get_or_past, length-append}
 use Rattle.can_frame.specs.Parts.{Parts}
 use Rattle.can_mac.specs.Frames.{with_intermission}
-use Rattle.can_bus.proofs.QuietLine.{filled}
 
 -- ---- one start in front
 
@@ -69,6 +68,16 @@ track-wires (next free left rest start starts is others more) s there k less =
         ∙ ap (λ n. slice_index_or (wire start.frame) n Recessive) (let e : start.time + k - start.time ≡ k = omega arith in e)
 
 -- ---- the track over a frame and its intermission
+
+none-filled : (m t : ℕ) → slice_index_or (replicate m Recessive) t Recessive ≡ Recessive
+none-filled zero t = refl
+none-filled (suc m) zero = refl
+none-filled (suc m) (suc t) = none-filled m t
+
+filled : (levels : List Level) (m t : ℕ) → slice_index_or (levels ++ replicate m Recessive) t Recessive ≡ slice_index_or levels t Recessive
+filled [] m t = none-filled m t
+filled (x ∷ levels) m zero = refl
+filled (x ∷ levels) m (suc t) = filled levels m t
 
 pub length-busy : (f : Parts) → length (with_intermission f) ≡ busy_time f
 length-busy f = length-append (wire f) (Recessive ∷ Recessive ∷ Recessive ∷ [])

@@ -1,8 +1,8 @@
 -- A wire without disturbances, with machines of any kind on it, over levels that it is known to have.
-use Rattle.std.proofs.Common.{◌≡◌, ℕ, zero, suc, ◌+◌, ◌<◌, List, [], ◌∷◌, length, map, take, ap, sym, ◌∙◌, subst, arith}
+use Rattle.std.proofs.Common.{◌≡◌, ℕ, zero, suc, ◌<◌, List, [], ◌∷◌, length, map, take, sym, subst, arith}
 use Rattle.can_frame.specs.declared.level.Level.{Level}
 use Rattle.can_wire.specs.Layout.{level_at}
-use Rattle.can_bus.specs.Wired.{over, wired}
+use Rattle.can_bus.specs.Wired.{over}
 use Rattle.can_bus.specs.Run.{rest_after}
 use Rattle.can_bus.proofs.Reduction.{Gives, Leads, Joins}
 
@@ -15,34 +15,12 @@ abbrev pub rest_run : ℕ → List Level → ℕ
 rest_run rest [] = rest
 rest_run rest (x ∷ levels) = rest_run (rest_after rest x) levels
 
--- the machines, and how many recessive levels were recorded last
-pub record Wire (M : Type 0) : Type 0 where
-  pub machines : List M
-  pub rest : ℕ
-
 -- the machines after these levels
 abbrev pub all_after : {M : Type 0} → (Level → M → M) → List Level → List M → List M
 all_after step [] ms = ms
 all_after step (x ∷ levels) ms = all_after step levels (map (step x) ms)
 
-abbrev pub wire_level : {M : Type 0} → (M → Level) → Wire M → Level
-wire_level drive w = wired (map drive w.machines)
-
--- one bit time, in which each machine sees the level of the wire
-abbrev pub wire_step : {M : Type 0} → (M → Level) → (Level → M → M) → Wire M → Wire M
-wire_step drive step w = record { machines = map (step (wire_level drive w)) w.machines; rest = rest_after w.rest (wire_level drive w) }
-
--- so many bit times
-abbrev pub wire_run : {M : Type 0} → (M → Level) → (Level → M → M) → ℕ → Wire M → Wire M
-wire_run drive step zero w = w
-wire_run drive step (suc n) w = wire_run drive step n (wire_step drive step w)
-
 module _ {M : Type 0} (drive : M → Level) (step : Level → M → M) where
-  -- some bit times, and then others
-  pub wire_runs-joined : (m n : ℕ) (w : Wire M) → wire_run drive step (m + n) w ≡ wire_run drive step n (wire_run drive step m w)
-  wire_runs-joined zero n w = ap (λ k. wire_run drive step k w) (let e : 0 + n ≡ n = omega arith in e)
-  wire_runs-joined (suc m) n w = ap (λ k. wire_run drive step k w) (let e : suc m + n ≡ suc (m + n) = omega arith in e) ∙ wire_runs-joined m n (wire_step drive step w)
-
   -- the first of these levels
   pub gives-take : (n : ℕ) (levels : List Level) (ms : List M) → Gives drive step (undisturbed levels) ms → Gives drive step (undisturbed (take n levels)) ms
   gives-take zero [] ms h = tt

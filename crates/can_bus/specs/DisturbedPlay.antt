@@ -1,6 +1,6 @@
 -- A disturbed run to whose ports frames are offered meanwhile, said of whole lists of levels: those on the wire, those recorded, and those
 -- that each port saw. (docs/BUS.md, "Runs")
-use Rattle.std.specs.Prelude.{ℕ, ◌≡◌, ◌↔◌, ◌+◌, ◌<◌, ◌==◌, min, ◌&&◌, if◌then◌else◌, List, [], ◌∷◌, All, length, map, slice_get, take, Some}
+use Rattle.std.specs.Prelude.{ℕ, ◌≡◌, ◌↔◌, ◌+◌, ◌<◌, ◌==◌, min, nat_lt, Bool, ◌&&◌, if◌then◌else◌, List, [], ◌∷◌, ◌++◌, All, length, map, slice_get, take, Some}
 use Rattle.std.specs.List.{Any, Contains}
 use Rattle.can_frame.specs.declared.level.Level.{Level}
 use Rattle.can_frame.specs.Levels.{opposite}
@@ -10,7 +10,7 @@ use Rattle.can_bus.specs.declared.hit.Hit.{Hit}
 use Rattle.can_bus.specs.declared.hit.Hit.TheVariants.{View}
 use Rattle.can_bus.specs.declared.offer.Offer.{Offer}
 use Rattle.can_bus.specs.Disturbed.{FallsOnWire, level_then, rest_before}
-use Rattle.can_bus.specs.Offers.{with_offer}
+use Rattle.can_bus.specs.Offers.{is_full, with_offer}
 use Rattle.can_bus.specs.Run.{BusState}
 use Rattle.can_bus.specs.Wired.{wired as wired_of}
 
@@ -35,9 +35,21 @@ played_then offers t node [] seen = []
 played_then offers t node (p ∷ ports) [] = []
 played_then offers t node (p ∷ ports) (levels ∷ seen) = port_played offers 0 node p (take t levels) ∷ played_then offers t (node + 1) ports seen
 
+-- of a run of so many bit times, over the levels that its ports saw
+module _ (offers : List Offer) (ports : List PortState) (seen : List (List Level)) (bits : ℕ) where
+  -- an offer is refused that stands right behind these: it is made, and the queue of its port is full by then, with what these put in it
+  abbrev pub is_refused : List Offer → Offer → Bool
+  is_refused earlier offer = nat_lt offer.time bits && is_full offer.node (all_given earlier offer.time 0 (played_then offers offer.time 0 ports seen))
+
+  -- how many of those are that stand behind them, one after another
+  abbrev pub refusals : List Offer → List Offer → ℕ
+  refusals earlier [] = 0
+  refusals earlier (offer ∷ later) = (if is_refused earlier offer then 1 else 0) + refusals (earlier ++ offer ∷ []) later
+
 -- a run of a bus from one state to another with these offers and under these hits, by its lists of levels: as `IsDisturbedRun`, but that
--- each port drives with what it is offered at that time (`drives`), and is led through what it is offered and what it saw (`leads`)
-pub record IsDisturbedPlay (offers : List Offer) (hits : List Hit) (before : BusState) (wired recorded : List Level) (seen : List (List Level)) (after : BusState) : Type 0 where
+-- each port drives with what it is offered at that time (`drives`), and is led through what it is offered and what it saw (`leads`); and
+-- so many of the offers find a full queue (`refuses`)
+pub record IsDisturbedPlay (offers : List Offer) (hits : List Hit) (before : BusState) (wired recorded : List Level) (seen : List (List Level)) (after : BusState) (refused : ℕ) : Type 0 where
   pub long : length wired ≡ length recorded
   pub seen_long : All (λ levels. length levels ≡ length recorded) seen
   pub each_port : length seen ≡ length before.ports
@@ -48,8 +60,9 @@ pub record IsDisturbedPlay (offers : List Offer) (hits : List Hit) (before : Bus
       (level_then levels t ≡ opposite (level_then recorded t)) ↔ Contains hits (View t port)
   pub leads : after.ports ≡ played_then offers (length recorded) 0 before.ports seen
   pub keeps_rest : after.rest ≡ min (rest_before before.rest recorded (length recorded)) idle_row
+  pub refuses : refused ≡ refusals offers before.ports seen (length recorded) [] offers
 
 -- there are levels on the wire, and levels that the ports saw, with which these recorded ones are such a run
-abbrev pub WasPlayed : List Offer → List Hit → BusState → List Level → BusState → Type 0
-WasPlayed offers hits before recorded after =
-    (wired : List Level) × (seen : List (List Level)) × IsDisturbedPlay offers hits before wired recorded seen after
+abbrev pub WasPlayed : List Offer → List Hit → BusState → List Level → BusState → ℕ → Type 0
+WasPlayed offers hits before recorded after refused =
+    (wired : List Level) × (seen : List (List Level)) × IsDisturbedPlay offers hits before wired recorded seen after refused

@@ -6,7 +6,7 @@ ghost use Rattle.can_node.specs.Ports.{PortState};
 ghost use Rattle.can_bus.specs.declared.hit.Hit.{Hit as Disturbance};
 ghost use Rattle.can_bus.specs.declared.offer.Offer.{Offer};
 ghost use Rattle.can_bus.specs.Course.{HitInWindows, IsCourse, IsMade, Transmission, course_of, unhit};
-ghost use Rattle.can_bus.specs.CourseWaiting.{AreInTime, OnWait, attempts_between, going_before, hit_attempts, keeping, kept_times, left_on, sent_attempts};
+ghost use Rattle.can_bus.specs.CourseWaiting.{AreInTime, IsSentBy, OnWait, attempts_between, going_before, hit_attempts, keeping, kept_times, left_on, sent_attempts};
 ghost use Rattle.can_bus.specs.Network.{AreInAttempts};
 ghost use Rattle.can_bus.specs.Offers.{AreOffered};
 ghost use Rattle.can_bus.specs.OpenBus.{all_offers};
@@ -33,18 +33,21 @@ pub fn a_course_without_hits_is_a_schedule()
 /// Where all frames are offered at time 0, no two of one arbitration field, each attempt of the course sends the frame of the
 /// ascending list that its number tells, and is hit where its number says.
 pub fn a_course_at_once_ascends()
-    ensures { (hits : List Disturbance) (offers : List Timed) → AreDifferent (frames_of offers) → AreAtOnce offers → ((x : Timed) → Lists offers x → IsFrame x.frame) →
+    ensures { (hits : List Disturbance) (offers : List Timed) → AreDifferent (frames_of offers) → AreAtOnce offers →
         FallInWindows (ascending (frames_of offers)) hits → AreApart 1 hits → (course : List Transmission) → IsCourse hits 0 0 offers course →
         (n : ℕ) (s : Transmission) → slice_get course n ≡ Some s → (frame_of_attempt (ascending (frames_of offers)) hits n ≡ Some s.frame) × (hit_of hits n ≡ s.hit) }
 {}
 
-/// A frame that is offered to a network is sent when what is left, as it is offered, of the attempt on the wire is over,
-/// and each attempt that starts meanwhile. Each of these wins arbitration against it, or sends a frame of its own field. So
-/// it waits no longer than the frames take that go before it and are offered before it starts, and the attempts that
-/// are hit meanwhile. An attempt that is hit keeps the bus for at most thirteen bit times more than its frame and intermission.
+/// Each frame that is offered to a network is sent, by one attempt: when what is left, as it is offered, of the attempt on the
+/// wire is over, and each attempt that starts meanwhile. Each of these wins arbitration against it, or sends a frame of its own
+/// field. So it waits no longer than the frames take that go before it and are offered before it starts, and the attempts
+/// that are hit meanwhile. An attempt that is hit keeps the bus for at most thirteen bit times more than its frame and intermission.
 /// Without hits the terms are those of `waiting_is_bounded`.
 pub fn waiting_on_a_network_is_bounded()
     ensures in_time { (offers : List Offer) (ports : List PortState) → AreOffered (length ports) offers → AreInTime (all_offers offers ports) }
+    ensures sent { (hits : List Disturbance) (offers : List Timed) (course : List Transmission) → IsCourse hits 0 0 offers course →
+        (place : ℕ) (offer : Timed) → slice_get offers place ≡ Some offer →
+        (s : Transmission) × IsSentBy offers course place offer s × ((other : Transmission) → IsSentBy offers course place offer other → other ≡ s) }
     ensures own { OnWait (λ hits offers course place offer s. (s.frame ≡ offer.frame) × (s.hit ≡ None) × (offer.time ≤ s.time)) }
     ensures exact { OnWait (λ hits offers course place offer s.
         s.time ≡ offer.time + left_on offer.time course + kept_times (attempts_between offer.time s.time course)) }

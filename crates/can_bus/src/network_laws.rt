@@ -6,26 +6,28 @@ ghost use Rattle.can_frame.specs.IdleRow.{idle_row};
 ghost use Rattle.can_bus.specs.declared.hit.Hit.{Hit as Disturbance};
 ghost use Rattle.can_bus.specs.declared.offer.Offer.{Offer};
 ghost use Rattle.can_bus.specs.DisturbedPlay.{IsDisturbedPlay, WasPlayed};
-ghost use Rattle.can_bus.specs.Network.{AreInAttempts, IsNetworkCall, call_after, call_level};
+ghost use Rattle.can_bus.specs.Network.{AreInAttempts, IsNetworkCall, call_after, call_level, call_refused};
 ghost use Rattle.can_bus.specs.NetworkPlans.{AllInWindow, AreNoEarlier, IsNetworkPlan, network_course, offered_again, two_ports};
 ghost use Rattle.can_bus.specs.Plans.{PlannedPort, ready_port};
 ghost use Rattle.can_bus.specs.Repair.{AreApart};
 ghost use Rattle.can_bus.specs.Run.{AreLevelsOf, BusState};
 
 /// A call, bit time by bit time, is a disturbed play over whole lists of levels, whatever its offers and hits: with the
-/// levels that it records there are levels on the wire and levels that the ports saw. The recorded levels and
-/// the end of every disturbed play are those of the call, and there is one for each number of bit times.
+/// levels that it records there are levels on the wire and levels that the ports saw. The recorded levels, the end
+/// and the refused offers of every disturbed play are those of the call, and there is one for each number of bit times.
 pub fn a_call_is_a_disturbed_play()
     ensures exists { (offers : List Offer) (hits : List Disturbance) (bus : BusState) (recorded : List Level) → bus.rest ≤ idle_row →
         AreLevelsOf (λ t. call_level offers hits t bus) recorded →
-        WasPlayed offers hits bus recorded (call_after offers hits (length recorded) bus).bus }
-    ensures levels { (offers : List Offer) (hits : List Disturbance) (bus after : BusState) (recorded : List Level) → bus.rest ≤ idle_row → WasPlayed offers hits bus recorded after →
-        AreLevelsOf (λ t. call_level offers hits t bus) recorded }
-    ensures bus { (offers : List Offer) (hits : List Disturbance) (bus after : BusState) (recorded : List Level) → bus.rest ≤ idle_row → WasPlayed offers hits bus recorded after →
-        after ≡ (call_after offers hits (length recorded) bus).bus }
-    ensures one { (offers : List Offer) (hits : List Disturbance) (bus one other : BusState) (wired wires recorded records : List Level) (seen views : List (List Level)) → bus.rest ≤ idle_row →
-        IsDisturbedPlay offers hits bus wired recorded seen one → IsDisturbedPlay offers hits bus wires records views other → length recorded ≡ length records →
-        (recorded ≡ records) × (one ≡ other) × (wired ≡ wires) × (seen ≡ views) }
+        WasPlayed offers hits bus recorded (call_after offers hits (length recorded) bus).bus (call_refused offers hits (length recorded) bus) }
+    ensures levels { (offers : List Offer) (hits : List Disturbance) (bus after : BusState) (recorded : List Level) (refused : ℕ) → bus.rest ≤ idle_row →
+        WasPlayed offers hits bus recorded after refused → AreLevelsOf (λ t. call_level offers hits t bus) recorded }
+    ensures bus { (offers : List Offer) (hits : List Disturbance) (bus after : BusState) (recorded : List Level) (refused : ℕ) → bus.rest ≤ idle_row →
+        WasPlayed offers hits bus recorded after refused → after ≡ (call_after offers hits (length recorded) bus).bus }
+    ensures refused { (offers : List Offer) (hits : List Disturbance) (bus after : BusState) (recorded : List Level) (refused : ℕ) → bus.rest ≤ idle_row →
+        WasPlayed offers hits bus recorded after refused → refused ≡ call_refused offers hits (length recorded) bus }
+    ensures one { (offers : List Offer) (hits : List Disturbance) (bus one other : BusState) (wired wires recorded records : List Level) (seen views : List (List Level)) (few many : ℕ) →
+        bus.rest ≤ idle_row → IsDisturbedPlay offers hits bus wired recorded seen one few → IsDisturbedPlay offers hits bus wires records views other many → length recorded ≡ length records →
+        (recorded ≡ records) × (one ≡ other) × (wired ≡ wires) × (seen ≡ views) × (few ≡ many) }
 {}
 
 /// A call on a new bus of ports that are made idle and offered frames, as in `a_quiet_bus_can_be_made`, with offers to them and

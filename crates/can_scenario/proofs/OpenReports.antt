@@ -18,6 +18,7 @@ use Rattle.can_bus.specs.OpenBus.{AreOver, IsOpenCall, OpenLogWhole, QueuesHaveR
 use Rattle.can_bus.specs.Quiet.{AreDifferent, AtEachPort, CountsNothing, IsQuietPort, MissesNothing, holds, marked, queued, AtEachNode}
 use Rattle.can_bus.specs.Run.{BusState}
 use Rattle.can_bus.specs.Schedule.{IsScheduleOf, Timed, frames_of, track_at}
+use Rattle.can_bus.proofs.CourseSchedules.{one-schedule}
 use Rattle.can_bus.proofs.Ascending.{different_permuted}
 use Rattle.can_bus.proofs.Contests.{AllPorts}
 use Rattle.can_bus.proofs.Members.{stands-permuted}
@@ -25,7 +26,6 @@ use Rattle.can_bus.proofs.OfferLemmas.{length-all_made}
 use Rattle.can_bus.proofs.OpenNetworks.{open-counters, open-missed, open-track, open-whole}
 use Rattle.can_bus.proofs.OpenStart.{OfFrames}
 use Rattle.can_bus.proofs.RunLemmas.{length-run}
-use Rattle.can_bus.proofs.Schedules.{one-schedule}
 use Rattle.can_scenario.specs.declared.scenario.Scenario.{Scenario}
 use Rattle.can_scenario.specs.declared.scenario.PortPlan.{PortPlan}
 use Rattle.can_scenario.specs.OpenReport.{IsOpenScenario, IsQuietPlan, all_frames, open_report, queues, quiet_port, scenario_starts}

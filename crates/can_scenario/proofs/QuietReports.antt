@@ -12,12 +12,13 @@ use Rattle.can_bus.specs.declared.offer.Offer.{Offer}
 use Rattle.can_bus.specs.OpenBus.{AreOver, timed}
 use Rattle.can_bus.specs.Quiet.{AreDifferent, ascending, line_at, span}
 use Rattle.can_bus.specs.Schedule.{AreAtOnce, IsSchedule, Lists, Timed, frames_of, next, over, track_at}
+use Rattle.can_bus.proofs.CourseSchedules.{one-schedule}
 use Rattle.can_bus.proofs.Ascending.{ascending_permuted, different_permuted}
 use Rattle.can_bus.proofs.AtOnce.{at_once-frames, at_once-line}
 use Rattle.can_bus.proofs.Members.{Stands, map-stands, stands-cases, stands-none, stands-permuted}
 use Rattle.can_bus.proofs.NextStarts.{rest-left}
 use Rattle.can_bus.proofs.QuietAgreement.{span-permuted}
-use Rattle.can_bus.proofs.Schedules.{one-schedule, schedule-frames}
+use Rattle.can_bus.proofs.Schedules.{schedule-frames}
 use Rattle.can_scenario.specs.declared.scenario.Scenario.{Scenario}
 use Rattle.can_scenario.specs.declared.scenario.PortPlan.{PortPlan}
 use Rattle.can_scenario.specs.declared.scenario.TimedFrame.{TimedFrame}

@@ -1,18 +1,22 @@
 -- No offer of a scenario finds a full queue.
 use Rattle.std.specs.Prelude.{filter}
-use Rattle.std.proofs.Common.{◌≡◌, ℕ, ◌≤◌, List, [], ◌∷◌, map, refl, sym, ap, subst, inl, inr}
+use Rattle.std.proofs.Common.{◌≡◌, ℕ, ◌≤◌, List, [], ◌∷◌, map, refl, sym, ◌∙◌, ap, subst, inl, inr}
 use Rattle.std.proofs.Math.Dec.{eqb}
 use Rattle.std.proofs.lemmas.Bool.{cases_eq}
 use Rattle.can_node.proofs.Arrivals.{GainingPort}
 use Rattle.can_bus.specs.declared.offer.Offer.{Offer}
-use Rattle.can_bus.specs.Offers.{all_made, played, refused}
+use Rattle.can_bus.specs.Network.{call_after, offered_now}
+use Rattle.can_bus.specs.Offers.{all_made, refused}
 use Rattle.can_bus.specs.OpenBus.{offered_to, timed}
+use Rattle.can_bus.specs.Run.{call_begun}
 use Rattle.can_bus.specs.Schedule.{Timed}
+use Rattle.can_bus.proofs.HitWires.{HitWire}
 use Rattle.can_bus.proofs.Members.{Stands, filter-stands, map-stands, stands-cases, stands-none}
+use Rattle.can_bus.proofs.NetworkRuns.{IsGoing, call-refused, open_wire}
 use Rattle.can_bus.proofs.OfferTimes.{AreInOrder}
+use Rattle.can_bus.proofs.OpenNetworks.{plain-refused}
 use Rattle.can_bus.proofs.OpenStart.{rooms}
-use Rattle.can_bus.proofs.PlayedRuns.{AreRoomy, IsOpen, all-taken, all_arrived, open_bus, open_ports, played-refused, to-here, to-other}
-use Rattle.can_bus.proofs.WireRuns.{Wire}
+use Rattle.can_bus.proofs.PlayedRuns.{AreRoomy, all-taken, all_arrived, to-here, to-other}
 use Rattle.can_scenario.specs.declared.scenario.Scenario.{Scenario}
 use Rattle.can_scenario.specs.Report.{made_bus, made_port}
 use Rattle.can_scenario.specs.ScenarioOffers.{offers_from, scenario_offers}
@@ -45,15 +49,18 @@ module _ (s : Scenario) where
   abbrev offers : List Offer
   offers = scenario_offers s
 
-  abbrev start : Wire GainingPort
-  start = record { machines = open_ports offers 0 0 (open_bus offers 0 (made_bus s)).ports; rest = (open_bus offers 0 (made_bus s)).rest }
+  order : (node : ℕ) → AreInOrder (offered_to node offers)
+  order = own-order offers (in_time-rise (offers_from 0 s.ports.items))
 
-  has-room : IsOpen offers 0 (made_bus s) start
-  unfolding played
+  abbrev start : HitWire GainingPort
+  start = open_wire offers 0 (offered_now offers (call_begun (made_bus s)))
+
+  has-room : IsGoing offers [] order tt 0 (made_bus s) start
+  unfolding call_after
   has-room =
       let room = rooms offers (map made_port s.ports.items) (planned-room s.ports.items) in
       let made : all_made offers 0 (map made_port s.ports.items) ≡ all_arrived offers 0 0 (map made_port s.ports.items) = all-taken offers 0 (map made_port s.ports.items) room.0 in
-      record { wire = refl; room = subst (AreRoomy offers 0 0) (sym made) room.1; have = room.0 }
+      record { wire = refl; time = refl; room = subst (AreRoomy offers 0 0) (sym made) room.1; have = room.0 }
 
   pub none-refused : (n : ℕ) → refused (scenario_offers s) n (made_bus s) ≡ 0
-  none-refused n = played-refused offers (own-order offers (in_time-rise (offers_from 0 s.ports.items))) n (made_bus s) start has-room
+  none-refused n = plain-refused offers (made_bus s) (made_bus s) refl n ∙ call-refused offers [] order tt n (made_bus s) start has-room

@@ -89,7 +89,6 @@ impl<P: Port> Bus<P> {
     /// log names the frames of the attempts that aren't hit, in their order, as sent at the port that had the frame and
     /// as received at each other port; each whose wire has ended is there. Behind the last attempt all are, and the
     /// counters are those of the tally. No offer is given back, all ports stay error active, and no entry is missed.
-    #[inline(always)]
     pub fn play_disturbed(
         &mut self,
         offers: &[Offer],
@@ -101,7 +100,7 @@ impl<P: Port> Bus<P> {
             ⊎ (AreOffered (port_count self.old) offers.now × IsFirstHitFault (port_count self.old) hits.now fault)) }
         ensures bus { OnOk result (state_of P.port self.new ≡ (call_after offers.now hits.now (length rec.new) (state_of P.port self.old)).bus) }
         ensures levels { OnOk result (AreLevelsOf (λ t. call_level offers.now hits.now t (state_of P.port self.old)) rec.new) }
-        ensures disturbed { OnOk result (rest_of self.old ≤ idle_row → WasPlayed offers.now hits.now (state_of P.port self.old) rec.new (state_of P.port self.new)) }
+        ensures disturbed { IfOk result (λ count. rest_of self.old ≤ idle_row → WasPlayed offers.now hits.now (state_of P.port self.old) rec.new (state_of P.port self.new) count) }
         ensures count { IfOk result (λ count. count ≡ call_refused offers.now hits.now (length rec.new) (state_of P.port self.old)) }
         ensures known { IsOk result → (n : ℕ) (offer : Asked) → slice_get offers.now n ≡ Some offer → IsFrame offer.frame }
         ensures answer { OnNetworkCall offers.now hits.now (state_of P.port self.old) (λ course. result ≡ Ok 0) }

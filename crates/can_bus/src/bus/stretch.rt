@@ -19,8 +19,9 @@ use can_node::Port;
 const STRETCH: usize = 32;
 
 impl<P: Port> Bus<P> {
-    /// Runs as many bit times as `rec` is long, by stretches, and records a level in each.
-    #[inline(always)]
+    /// Runs as many bit times as `rec` is long, and records a level in each. It stands apart, so that its loops have the
+    /// registers to themselves, and in the one without hits nothing is asked of them.
+    #[inline(never)]
     pub(super) fn go_through(&mut self, hits: &[Hit], call: &mut Call, rec: &mut [Level])
         requires rising { AreRising hits.now }
         requires call { IsCall hits.now call.old }
@@ -30,11 +31,31 @@ impl<P: Port> Bus<P> {
         ensures call { IsCall hits.now call.new }
         ensures time { call.new.time ≡ call.old.time + length rec.old }
     {
+        if hits.is_empty() {
+            self.go_by_stretches(&[], call, rec);
+        } else {
+            self.go_by_stretches(hits, call, rec);
+        }
+    }
+
+    /// Runs as many bit times as `rec` is long, by stretches, and records a level in each.
+    #[inline(always)]
+    fn go_by_stretches(&mut self, hits: &[Hit], call: &mut Call, rec: &mut [Level])
+        requires rising { AreRising hits.now }
+        requires call { IsCall hits.now call.old }
+        requires time { call.old.time + length rec.old < 2 ^ 64 }
+        ensures levels { (t : ℕ) (d : Level) → t < length rec.old → slice_index_or rec.new t d ≡ recorded hits.now (bus_after hits.now t (call_on (state_of P.port self.old) call.old)) }
+        ensures after { call_on (state_of P.port self.new) call.new ≡ bus_after hits.now (length rec.old) (call_on (state_of P.port self.old) call.old) }
+        ensures call { IsCall hits.now call.new }
+        ensures time { call.new.time ≡ call.old.time + length rec.old }
+    {
+        let mut current = *call;
         let mut driven = wired_level(self.ports.as_slice());
         let mut place = 0;
         while place < rec.len() {
-            place += self.go_on(hits, call, &mut driven, &mut rec[place..]);
+            place += self.go_on(hits, &mut current, &mut driven, &mut rec[place..]);
         }
+        *call = current;
     }
 
     /// Runs some bit times, one or more and at most as many as `rec` is long, and records a level in each. The answer

@@ -1,5 +1,6 @@
+use Rattle.can_bus.proofs.CourseSchedules.{one-schedule, no-other-schedule}
 use Rattle.can_bus.proofs.NextStarts.{apart-from}
-use Rattle.can_bus.proofs.Schedules.{one-schedule, no-other-schedule, schedule-frames, starts-late, starts-rise}
+use Rattle.can_bus.proofs.Schedules.{schedule-frames, starts-late, starts-rise}
 use Rattle.can_bus.proofs.schedule_laws.one_schedule.Goals as goal
 
 pub returns : goal.returns

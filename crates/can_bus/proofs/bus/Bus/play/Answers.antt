@@ -3,9 +3,9 @@ use Rattle.can_bus.specs.Network.{call_after, call_level, call_refused}
 use Rattle.can_bus.specs.Offers.{played, played_level, refused}
 use Rattle.can_bus.specs.Run.{AreLevelsOf}
 use Rattle.can_bus.specs.State.{port_count, state_of}
-use Rattle.can_bus.proofs.CallCases.{if-ok, no-hits, offers-taken, ok-is, ok-on, on-ok, played-call, refused-call}
-use Rattle.can_bus.proofs.OpenNetworks.{open-counters, open-logs, open-missed, open-refused, open-track, open-whole, plain-level}
-use Rattle.can_bus.proofs.QuietStart.{valid-ports}
+use Rattle.can_bus.proofs.CallCases.{if-ok, no-hits, offers-taken, ok-is, ok-on, on-ok, played-call}
+use Rattle.can_bus.proofs.OpenNetworks.{open-counters, open-logs, open-missed, open-refused, open-track, open-whole, plain-level, plain-refused}
+use Rattle.can_bus.proofs.NetworkCalls.{valid-ports}
 use Rattle.can_bus.proofs.bus.Bus.play.Goals as goal
 
 pub returns-clause-taken : goal.returns-clause-taken
@@ -27,7 +27,7 @@ pub returns-clause-count : goal.returns-clause-count
 returns-clause-count g c =
     let bus = state_of g.P.Port.port c.args.self.now in
     if-ok c.play_disturbed.result (λ count. count ≡ call_refused c.args.offers.now [] (length c.play_disturbed.new.rec) bus) (λ count. count ≡ refused c.args.offers.now (length c.play_disturbed.new.rec) bus)
-    (λ count e. e ∙ sym (refused-call c.args.offers.now bus (length c.play_disturbed.new.rec))) c.play_disturbed.ensures.count
+    (λ count e. e ∙ sym (plain-refused c.args.offers.now bus bus refl (length c.play_disturbed.new.rec))) c.play_disturbed.ensures.count
 
 -- ---- an open bus
 

@@ -17,9 +17,8 @@ use Rattle.can_bus.specs.Walks.{IsCall, IsReached, call_on}
 use Rattle.can_bus.proofs.DisturbedPlays.{call-played}
 use Rattle.can_bus.proofs.CallLemmas.{call-none, call-several, level-several, refused-none, refused-several}
 use Rattle.can_bus.proofs.HitOrder.{taken-rising}
-use Rattle.can_bus.proofs.NetworkCalls.{network-active, network-counts, network-has, network-logs, network-missed, network-refused, network-tally, network-track, network-whole, not-offered, not-taken}
+use Rattle.can_bus.proofs.NetworkCalls.{network-active, network-counts, network-has, network-logs, network-missed, network-refused, network-tally, network-track, network-whole, not-offered, not-taken, valid-ports}
 use Rattle.can_bus.proofs.OfferLemmas.{reached-first, reached-between, none-between, length-all_made}
-use Rattle.can_bus.proofs.QuietStart.{valid-ports}
 use Rattle.can_bus.proofs.RunLemmas.{length-after}
 use Rattle.can_bus.proofs.StepLemmas.{first_ready}
 use Rattle.can_bus.proofs.bus.Bus.play_disturbed.Goals as goal
@@ -216,15 +215,17 @@ pub returns-clause-levels : goal.returns-clause-levels
 returns-clause-levels g c = λ t h.
     slice_get-get_or c.loop-place.rec t Recessive h ∙ ap Some (c.loop-place.invariant.levels t Recessive (omega arith))
 
-pub returns-clause-disturbed : goal.returns-clause-disturbed
-returns-clause-disturbed g c = λ rested.
-    subst (λ after. WasPlayed c.args.offers.now c.args.hits.now (state_of g.P.Port.port c.args.self.now) c.loop-place.rec after) (sym (returns-clause-bus g c))
-    (call-played c.args.offers.now c.args.hits.now (state_of g.P.Port.port c.args.self.now) c.loop-place.rec rested (returns-clause-levels g c))
-
 pub returns-clause-count : goal.returns-clause-count
 returns-clause-count g c =
     let size : c.loop-place.place ≡ length c.loop-place.rec = omega arith in
     c.loop-place.invariant.count ∙ ap (λ n. call_refused c.args.offers.now c.args.hits.now n (state_of g.P.Port.port c.args.self.now)) size
+
+pub returns-clause-disturbed : goal.returns-clause-disturbed
+returns-clause-disturbed g c = λ rested.
+    let bus = state_of g.P.Port.port c.args.self.now in
+    subst (λ after. WasPlayed c.args.offers.now c.args.hits.now bus c.loop-place.rec after c.loop-place.progress.refused) (sym (returns-clause-bus g c))
+    (subst (λ count. WasPlayed c.args.offers.now c.args.hits.now bus c.loop-place.rec (call_after c.args.offers.now c.args.hits.now (length c.loop-place.rec) bus).bus count) (sym (returns-clause-count g c))
+    (call-played c.args.offers.now c.args.hits.now bus c.loop-place.rec rested (returns-clause-levels g c)))
 
 -- ---- a network
 

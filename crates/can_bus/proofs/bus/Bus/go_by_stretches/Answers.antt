@@ -9,7 +9,7 @@ use Rattle.can_bus.specs.Walks.{call_on}
 use Rattle.can_bus.specs.Wired.{wired}
 use Rattle.can_bus.proofs.BusAtRest.{after_none}
 use Rattle.can_bus.proofs.RunLemmas.{after_join}
-use Rattle.can_bus.proofs.bus.Bus.go_through.Goals as goal
+use Rattle.can_bus.proofs.bus.Bus.go_by_stretches.Goals as goal
 
 pub loop-place-init : goal.loop-place-init
 loop-place-init g c = record {
@@ -28,7 +28,7 @@ loop-place-preserved g c =
     let first = call_on (state_of g.P.Port.port c.args.self.now) c.args.call.now in
     let state-is = c.loop-place.invariant.state in
     let size : length c.loop-place.rec ≡ length c.args.rec.now = c.loop-place.invariant.size in
-    let time : c.loop-place.call.time ≡ c.args.call.now.time + c.loop-place.place = c.loop-place.invariant.time in
+    let time : c.loop-place.current.time ≡ c.args.call.now.time + c.loop-place.place = c.loop-place.invariant.time in
     let taken : length (drop c.loop-place.place c.loop-place.rec) + c.loop-place.place ≡ length c.loop-place.rec = omega (arith, length-drop c.loop-place.place c.loop-place.rec) in
     record {
       state = c.go_on-place.ensures.after ∙ ap (bus_after hits c.go_on-place.result) state-is ∙ sym (after_join hits c.loop-place.place c.go_on-place.result first);

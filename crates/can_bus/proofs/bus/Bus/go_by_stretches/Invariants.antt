@@ -5,15 +5,15 @@ use Rattle.can_bus.specs.Run.{bus_after, recorded}
 use Rattle.can_bus.specs.State.{port_states, state_of}
 use Rattle.can_bus.specs.Walks.{IsCall, call_on}
 use Rattle.can_bus.specs.Wired.{wired}
-use Rattle.can_bus.proofs.bus.Bus.go_through.Given as goal
+use Rattle.can_bus.proofs.bus.Bus.go_by_stretches.Given as goal
 
 abbrev pub invariant-loop-place : goal.invariant-loop-place
 invariant-loop-place g l = record {
-  state : call_on (state_of g.P.Port.port l.self) l.call ≡ bus_after l.hits l.place (call_on (state_of g.P.Port.port l.fn.self) l.fn.call);
+  state : call_on (state_of g.P.Port.port l.self) l.current ≡ bus_after l.hits l.place (call_on (state_of g.P.Port.port l.fn.self) l.fn.call);
   levels : (t : ℕ) (d : Level) → t < l.place → get_or l.rec t d ≡ recorded l.hits (bus_after l.hits t (call_on (state_of g.P.Port.port l.fn.self) l.fn.call));
   driven : l.driven ≡ wired (map port_drives (port_states g.P.Port.port l.self));
-  call : IsCall l.hits l.call;
-  time : l.call.time ≡ l.fn.call.time + l.place;
+  call : IsCall l.hits l.current;
+  time : l.current.time ≡ l.fn.call.time + l.place;
   size : length l.rec ≡ length l.fn.rec;
   within : l.place ≤ length l.fn.rec;
 }
