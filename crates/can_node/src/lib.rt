@@ -14,6 +14,8 @@
 //! | `either.rt` | [`EitherNode`], a port of either kind | |
 //! | `alike.rt` | [`sample_both`]: ports of whatever kinds that are in one state stay alike | `specs/Ports.antt` |
 //! | `queue.rt` | the frames that wait, and which goes first | `specs/Ports.antt`, `specs/Waiting.antt` |
+//! | `queue/winners.rt` | a tournament of the slots in which they stand | `specs/Tournament.antt` |
+//! | `queue/entrant.rt` | who takes part in it | `specs/Tournament.antt` |
 //! | `log.rt` | the frames that were sent and taken | `specs/Ports.antt` |
 //! | `listening.rt` | [`listen`], and what a port claims | `specs/Listening.antt` |
 //! | `laws.rt` | which frame of a queue waits | `specs/Waiting.antt` |

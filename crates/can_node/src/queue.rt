@@ -8,15 +8,15 @@ mod entrant;
 mod winners;
 
 use crate::queue::entrant::Entrant;
-use crate::queue::winners::Winners;
+use crate::queue::winners::{Winners, frame_at};
 use can_frame::Frame;
 use std::alloc::{AllocError, Global};
 
 /// The frames that wait to be sent, in the order in which they were offered.
 ///
 /// Each stands in a slot of its own. One that leaves empties its slot, and where no slot is left for an offer, the
-/// frames are moved together; there are so many slots that this is seldom. Which frame goes first is told by a
-/// tournament of the slots. So an offer, and a frame that leaves, cost the logarithm of the number of frames.
+/// frames are moved together. Which frame goes first is told by a tournament of the slots. So an offer, and a frame
+/// that leaves, cost the logarithm of the number of frames.
 #[derive(Drop)]
 pub struct Queue {
     /// In the order of the offers.
@@ -85,8 +85,8 @@ impl Queue {
         Ok(())
     }
 
-    /// Sees that there is a slot behind the last one. If not, moves the frames to the front, and makes slots behind them
-    /// for one more than there are frames.
+    /// Sees that there is a slot behind the last one. If not, moves the frames to the front, with slots behind them for
+    /// one offer more than there are frames, so that this is seldom.
     fn make_slot(&mut self)
         requires { length (frames_in self.old.slots.items) < self.old.room }
         ensures frames { frames_in self.new.slots.items ≡ frames_in self.old.slots.items }
@@ -147,5 +147,5 @@ fn first_with(first: Option<Frame>, frame: Frame) -> Frame
 fn first_in(slots: &[Option<Frame>], winner: Option<Entrant>) -> Option<Frame>
     ensures { MatchOption winner (result ≡ None) (λ e. result ≡ get_or slots.now e.place None) }
 {
-    slots.get(winner?.place).copied().flatten()
+    frame_at(slots, winner?.place)
 }
