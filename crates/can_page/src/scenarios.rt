@@ -1,9 +1,9 @@
 ghost use Rattle.std.specs.Prelude.{◌≡◌, ◌^◌, ◌<◌, ◌≤◌, ◌⊎◌, [], false, true, length, take, IfErr, IfOk, IfSome, IsErrOf, List, Some};
 ghost use Rattle.can_scenario.specs.PortTimes.{AreTold};
 ghost use Rattle.can_scenario.specs.Report.{report};
-ghost use Rattle.can_scenario.specs.Scenarios.{IsFirstWrong, IsScenarioText};
+ghost use Rattle.can_scenario_text.specs.Scenarios.{IsFirstWrong, IsScenarioText};
 ghost use Rattle.can_scenario.specs.declared.port_times.PortTime.{PortTime as Told};
-ghost use Rattle.can_scenario.specs.declared.scenario.Scenario.{Scenario as Planned};
+ghost use Rattle.can_scenario_text.specs.declared.scenario.Scenario.{Scenario as Planned};
 ghost use Rattle.can_stream.specs.declared.field.Field.{Field as Wrong};
 ghost use Rattle.can_page.specs.Answers.{answer_code, bad_scenario, done};
 ghost use Rattle.can_page.specs.Lines.{is_full, lines_of};

@@ -13,7 +13,7 @@ use Rattle.can_bus.proofs.OfferTimes.{AreInOrder}
 use Rattle.can_bus.proofs.OpenStart.{rooms}
 use Rattle.can_bus.proofs.PlayedRuns.{AreRoomy, IsOpen, all-taken, all_arrived, open_bus, open_ports, played-refused, to-here, to-other}
 use Rattle.can_bus.proofs.WireRuns.{Wire}
-use Rattle.can_scenario.specs.declared.scenario.Scenario.{Scenario}
+use Rattle.can_scenario_text.specs.declared.scenario.Scenario.{Scenario}
 use Rattle.can_scenario.specs.Report.{made_bus, made_port}
 use Rattle.can_scenario.specs.ScenarioOffers.{offers_from, scenario_offers}
 use Rattle.can_scenario.proofs.OfferOrder.{AreFrom, Rise, in_time-rise}

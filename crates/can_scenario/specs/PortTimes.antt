@@ -9,7 +9,7 @@ use Rattle.can_mac.specs.declared.phase.Role.{Role}
 use Rattle.can_mac.specs.declared.phase.Role.TheVariants.{Receiver, Sender}
 use Rattle.can_mac.specs.State.{MacPhase}
 use Rattle.can_node.specs.Ports.{PortState, port_drives, port_event, port_step}
-use Rattle.can_bus.specs.declared.hit.Hit.{Hit}
+use Rattle.can_hit.specs.declared.hit.Hit.{Hit}
 use Rattle.can_bus.specs.declared.offer.Offer.{Offer}
 use Rattle.can_bus.specs.Offers.{all_made, played, with_offer}
 use Rattle.can_bus.specs.Run.{BusState, bus_run, hits_view, inverted_if}
@@ -20,8 +20,8 @@ use Rattle.can_scenario.specs.declared.port_times.Brought.TheVariants as bring
 use Rattle.can_scenario.specs.declared.port_times.PortTime.{PortTime}
 use Rattle.can_scenario.specs.declared.port_times.Stage.{Stage}
 use Rattle.can_scenario.specs.declared.port_times.Stage.TheVariants as stage
-use Rattle.can_scenario.specs.declared.scenario.PortPlan.{PortPlan}
-use Rattle.can_scenario.specs.declared.scenario.Scenario.{Scenario}
+use Rattle.can_scenario_text.specs.declared.scenario.PortPlan.{PortPlan}
+use Rattle.can_scenario_text.specs.declared.scenario.Scenario.{Scenario}
 
 -- ---- what is told
 

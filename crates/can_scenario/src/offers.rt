@@ -2,8 +2,8 @@
 ghost use Rattle.std.specs.Prelude.{◌≡◌, ◌++◌, map, IfOk, OnOk};
 ghost use Rattle.can_scenario.specs.ScenarioOffers.{in_time, offer_to, offers_from};
 
-use crate::scenario::{PortPlan, TimedFrame};
 use can_bus::Offer;
+use can_scenario_text::{PortPlan, TimedFrame};
 use std::alloc::{AllocError, Global};
 
 /// What these ports are offered, in the order of time. Offers of one time stand in the order of the ports, and

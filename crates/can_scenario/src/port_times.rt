@@ -9,12 +9,12 @@ ghost use Rattle.can_scenario.specs.PortTimes.{AreSeen, AreTold, brought, first_
 
 use crate::offers::offers_in_time;
 use crate::run::{made_port, offer_all, run};
-use crate::scenario::{PortPlan, Scenario};
 use can_bus::{Hit, Offer};
 use can_code::{FrameBits, Front};
 use can_frame::Level;
 use can_mac::{ErrorKind, Event, Phase, Role};
 use can_node::{PackedNode, Port};
+use can_scenario_text::{PortPlan, Scenario};
 use std::alloc::{AllocError, Global};
 
 /// Where a controller is in the traffic on the bus: its phase, by its name.

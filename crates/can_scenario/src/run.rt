@@ -11,10 +11,10 @@ ghost use Rattle.can_scenario.specs.Report.{ended_bus, made_port as made_port_of
 
 use crate::offers::offers_in_time;
 use crate::report::write_report;
-use crate::scenario::{PortPlan, Scenario, TimedFrame};
 use can_bus::Bus;
 use can_frame::Level;
 use can_node::{PackedNode, Port};
+use can_scenario_text::{PortPlan, Scenario, TimedFrame};
 use can_stream::{Sink, TraceFault};
 use std::alloc::{AllocError, Global};
 
