@@ -8,5 +8,3 @@ pub mod QuietReports
 pub mod FirstOffers
 pub mod RoomForAll
 pub mod QuietOrder
-pub mod SeenLevels
-pub mod ToldTimes

@@ -3,4 +3,3 @@ pub mod ScenarioOffers
 pub mod Report
 pub mod QuietReport
 pub mod OpenReport
-pub mod PortTimes

@@ -6,9 +6,8 @@
 //!
 //! | File | What it has | Defined in |
 //! |---|---|---|
-//! | `offers.rt` | the offers of a scenario, in the order in which they are made | `specs/ScenarioOffers.antt` |
-//! | `run.rt` | [`run_scenario`] | `specs/Report.antt`, `specs/OpenReport.antt`, `specs/QuietReport.antt` |
-//! | `port_times.rt` | [`told_times`], what a port does in each bit time | `specs/PortTimes.antt` |
+//! | `offers.rt` | [`offers_in_time`], the offers of a scenario, in the order in which they are made | `specs/ScenarioOffers.antt` |
+//! | `run.rt` | [`run_scenario`]; [`run_to_end`], the same without the report, and what it begins with: [`made_port`], [`offer_all`] | `specs/Report.antt`, `specs/OpenReport.antt`, `specs/QuietReport.antt` |
 //! | `report.rt` | the report of a run, put line by line | `specs/Report.antt` |
 //! | `laws.rt` | that offers have one order, none of them finds a full queue, frames of time 0 wait, and quiet scenarios have one report, however each port was offered its frames | `specs/ScenarioOffers.antt`, `specs/Report.antt`, `specs/QuietReport.antt` |
 //!
@@ -20,7 +19,6 @@
 
 mod laws;
 mod offers;
-mod port_times;
 mod report;
 mod run;
 
@@ -31,5 +29,5 @@ pub use laws::{
     frames_of_time_0_wait, no_offer_finds_a_full_queue, offering_order_is_untold,
     one_order_of_offers,
 };
-pub use port_times::{Brought, PortTime, Stage, told_times};
-pub use run::run_scenario;
+pub use offers::offers_in_time;
+pub use run::{Ended, made_port, offer_all, run_scenario, run_to_end};

@@ -8,7 +8,7 @@ use std::alloc::{AllocError, Global};
 
 /// What these ports are offered, in the order of time. Offers of one time stand in the order of the ports, and
 /// those to one port in the order of its queue.
-pub(crate) fn offers_in_time(alloc: Global, plans: &[PortPlan]) -> Result<Vec<Offer>, AllocError>
+pub fn offers_in_time(alloc: Global, plans: &[PortPlan]) -> Result<Vec<Offer>, AllocError>
     ensures { IfOk result (λ offers. offers.items ≡ in_time (offers_from 0 plans.now)) }
 {
     let mut offers = all_offers(alloc, plans)?;

@@ -2,9 +2,9 @@ use Rattle.std.proofs.Common.{◌≡◌, ◌<◌, ◌≤◌, ◌+◌, Some, leng
 use Rattle.std.proofs.lemmas.Option.{slice_get_read, slice_get_within, get_or_from_slice_get}
 use Rattle.can_bus.specs.declared.offer.Offer.{Offer}
 use Rattle.can_bus.proofs.OfferLemmas.{within-first, within-more, within-last}
-use Rattle.can_scenario.specs.PortTimes.{own_made}
-use Rattle.can_scenario.proofs.ToldTimes.{own-front, own-next, own-rest}
-use Rattle.can_scenario.proofs.port_times.offer_due.Goals as goal
+use Rattle.can_port_times.specs.PortTimes.{own_made}
+use Rattle.can_port_times.proofs.ToldTimes.{own-front, own-next, own-rest}
+use Rattle.can_port_times.proofs.port_times.offer_due.Goals as goal
 
 pub loop-place-init : goal.loop-place-init
 loop-place-init g c = record {

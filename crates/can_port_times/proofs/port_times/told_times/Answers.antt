@@ -1,12 +1,12 @@
 use Rattle.std.proofs.Common.{◌≡◌, List, Some, length, slice_get, refl, ap, subst, arith, ◌∙◌}
 use Rattle.std.proofs.lemmas.Option.{slice_get_read}
-use Rattle.can_scenario.specs.PortTimes.{AreSeen, first_port, offers_meanwhile, told_from}
+use Rattle.can_port_times.specs.PortTimes.{AreSeen, first_port, offers_meanwhile, told_from}
 use Rattle.can_scenario.specs.Report.{recorded_levels}
-use Rattle.can_scenario.specs.declared.port_times.PortTime.{PortTime}
+use Rattle.can_port_times.specs.declared.port_times.PortTime.{PortTime}
 use Rattle.can_scenario.proofs.Started.{node_port}
-use Rattle.can_scenario.proofs.ToldTimes.{if-told, length-told, length-recorded, meanwhile-offered, seen-known, told-known}
-use Rattle.can_scenario.proofs.port_times.told_times.Goals.{After-drop-ended-3}
-use Rattle.can_scenario.proofs.port_times.told_times.Goals as goal
+use Rattle.can_port_times.proofs.ToldTimes.{if-told, length-told, length-recorded, meanwhile-offered, seen-known, told-known}
+use Rattle.can_port_times.proofs.port_times.told_times.Goals.{After-drop-ended-3}
+use Rattle.can_port_times.proofs.port_times.told_times.Goals as goal
 
 pub replay-requires : goal.replay-requires
 replay-requires c =

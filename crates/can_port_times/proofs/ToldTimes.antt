@@ -15,7 +15,7 @@ use Rattle.can_hit.specs.declared.hit.Hit.{Hit}
 use Rattle.can_bus.specs.declared.offer.Offer.{Offer}
 use Rattle.can_bus.specs.Offers.{AreOffered, all_made, made, played, played_level, with_offer}
 use Rattle.can_bus.specs.Run.{BusState, all_sampled, bus_after, bus_level, bus_run, bus_step, call_begun, hits_view, inverted_if, recorded}
-use Rattle.can_scenario.specs.PortTimes.{AreSeen, bus_by, first_port, level_seen, offers_meanwhile, own_made, seen_by, told, told_from}
+use Rattle.can_port_times.specs.PortTimes.{AreSeen, bus_by, first_port, level_seen, offers_meanwhile, own_made, seen_by, told, told_from}
 use Rattle.can_scenario.specs.Report.{level_by, levels_until, made_bus, made_port, recorded_levels, waiting_bus, waiting_port}
 use Rattle.can_scenario.specs.ScenarioOffers.{scenario_offers}
 use Rattle.can_scenario_text.specs.declared.scenario.PortPlan.{PortPlan}

@@ -7,7 +7,7 @@ use Rattle.can_frame.specs.declared.level.Level.{Level}
 use Rattle.can_frame.specs.Levels.{opposite}
 use Rattle.can_hit.specs.declared.hit.Hit.{Hit}
 use Rattle.can_bus.specs.Run.{hits_view, inverted_if}
-use Rattle.can_scenario.specs.PortTimes.{AreSeen}
+use Rattle.can_port_times.specs.PortTimes.{AreSeen}
 
 pub seen-none : (node : ℕ) (levels seen : List Level) → seen ≡ levels → AreSeen [] node levels seen
 seen-none node levels seen is = λ t d h. ap (λ xs. get_or xs t d) is

@@ -1,6 +1,6 @@
 use Rattle.std.proofs.Common.{◌≡◌, length, take}
-use Rattle.can_scenario.specs.PortTimes.{AreSeen}
-use Rattle.can_scenario.proofs.port_times.seen_levels.Given as goal
+use Rattle.can_port_times.specs.PortTimes.{AreSeen}
+use Rattle.can_port_times.proofs.port_times.seen_levels.Given as goal
 
 abbrev pub invariant-loop-hit : goal.invariant-loop-hit
 invariant-loop-hit l = record {

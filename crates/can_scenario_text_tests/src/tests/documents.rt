@@ -1,5 +1,5 @@
 //! Documents that are refused, each for its first wrong field, and documents that are taken.
-use can_scenario::Scenario;
+use can_scenario_text::Scenario;
 use std::alloc::{AllocError, Global};
 
 /// A document with `/` for a line end, and behind `=>` what is told of it, or the end of what it says.

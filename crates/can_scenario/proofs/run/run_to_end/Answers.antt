@@ -1,7 +1,7 @@
 use Rattle.std.proofs.Common.{◌∙◌}
 use Rattle.std.proofs.lemmas.Result.{on_ok_weaker}
 use Rattle.can_scenario.proofs.QuietReports.{open-is-quiet, quiet-over}
-use Rattle.can_scenario.proofs.run.run.Goals as goal
+use Rattle.can_scenario.proofs.run.run_to_end.Goals as goal
 
 pub returns-then-is_empty-clause-quiet : goal.returns-then-is_empty-clause-quiet
 returns-then-is_empty-clause-quiet c =

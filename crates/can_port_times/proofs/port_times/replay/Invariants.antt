@@ -1,8 +1,8 @@
 use Rattle.std.proofs.Common.{◌≡◌, ◌++◌, drop}
 use Rattle.can_bus.specs.Walks.{IsReached}
-use Rattle.can_scenario.specs.PortTimes.{told_from}
+use Rattle.can_port_times.specs.PortTimes.{told_from}
 use Rattle.can_scenario.proofs.Started.{node_port}
-use Rattle.can_scenario.proofs.port_times.replay.Given as goal
+use Rattle.can_port_times.proofs.port_times.replay.Given as goal
 
 -- with what is told from here on, this is all
 abbrev pub invariant-loop-time : goal.invariant-loop-time

@@ -5,16 +5,14 @@ ghost use Rattle.can_bus.specs.Run.{hits_view};
 ghost use Rattle.can_bus.specs.Walks.{IsReached};
 ghost use Rattle.can_frame.specs.Levels.{opposite};
 ghost use Rattle.can_node.specs.Ports.{port_step};
-ghost use Rattle.can_scenario.specs.PortTimes.{AreSeen, AreTold, brought, first_port, is_sender as is_sender_of, offers_meanwhile, own_made, stage_of, told, told_from};
+ghost use Rattle.can_port_times.specs.PortTimes.{AreSeen, AreTold, brought, first_port, is_sender as is_sender_of, offers_meanwhile, own_made, stage_of, told, told_from};
 
-use crate::offers::offers_in_time;
-use crate::run::{made_port, offer_all, run};
 use can_bus::{Hit, Offer};
 use can_code::{FrameBits, Front};
 use can_frame::Level;
 use can_mac::{ErrorKind, Event, Phase, Role};
 use can_node::{PackedNode, Port};
-use can_scenario_text::{PortPlan, Scenario};
+use can_scenario::{PortPlan, Scenario, made_port, offer_all, offers_in_time, run_to_end};
 use std::alloc::{AllocError, Global};
 
 /// Where a controller is in the traffic on the bus: its phase, by its name.
@@ -88,7 +86,7 @@ pub fn told_times(
     requires { node < length scenario.now.ports.items }
     ensures { IfOk result (λ times. AreTold scenario.now node times.items) }
 {
-    let ended = run(alloc, scenario)?;
+    let ended = run_to_end(alloc, scenario)?;
     let seen = seen_levels(alloc, &scenario.hits, node, &ended.levels)?;
     let offers = meanwhile(alloc, scenario)?;
     let port = beginning(alloc, &scenario.hits, &scenario.ports[node])?;

@@ -1,5 +1,6 @@
 //! What ports do in each bit time, as docs/ACCESS.md says it.
-use can_scenario::{PortTime, Scenario, told_times};
+use can_port_times::{PortTime, told_times};
+use can_scenario_text::Scenario;
 use std::alloc::Global;
 use std::process::Abort;
 use std::test::Fail;

@@ -15,11 +15,11 @@ use Rattle.can_bus.specs.Offers.{all_made, played, with_offer}
 use Rattle.can_bus.specs.Run.{BusState, bus_run, hits_view, inverted_if}
 use Rattle.can_scenario.specs.Report.{level_by, made_bus, made_port, waiting_bus, waiting_port}
 use Rattle.can_scenario.specs.ScenarioOffers.{scenario_offers}
-use Rattle.can_scenario.specs.declared.port_times.Brought.{Brought}
-use Rattle.can_scenario.specs.declared.port_times.Brought.TheVariants as bring
-use Rattle.can_scenario.specs.declared.port_times.PortTime.{PortTime}
-use Rattle.can_scenario.specs.declared.port_times.Stage.{Stage}
-use Rattle.can_scenario.specs.declared.port_times.Stage.TheVariants as stage
+use Rattle.can_port_times.specs.declared.port_times.Brought.{Brought}
+use Rattle.can_port_times.specs.declared.port_times.Brought.TheVariants as bring
+use Rattle.can_port_times.specs.declared.port_times.PortTime.{PortTime}
+use Rattle.can_port_times.specs.declared.port_times.Stage.{Stage}
+use Rattle.can_port_times.specs.declared.port_times.Stage.TheVariants as stage
 use Rattle.can_scenario_text.specs.declared.scenario.PortPlan.{PortPlan}
 use Rattle.can_scenario_text.specs.declared.scenario.Scenario.{Scenario}
 

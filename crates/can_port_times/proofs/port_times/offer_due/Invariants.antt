@@ -1,7 +1,7 @@
 use Rattle.std.proofs.Common.{◌≡◌, ◌-◌, drop, length}
 use Rattle.can_bus.proofs.OfferLemmas.{IsWithin}
-use Rattle.can_scenario.specs.PortTimes.{own_made}
-use Rattle.can_scenario.proofs.port_times.offer_due.Given as goal
+use Rattle.can_port_times.specs.PortTimes.{own_made}
+use Rattle.can_port_times.proofs.port_times.offer_due.Given as goal
 
 abbrev pub invariant-loop-place : goal.invariant-loop-place
 invariant-loop-place g l = record {
