@@ -6,8 +6,8 @@ use Rattle.std.proofs.lemmas.Bool.{cond-true, cond-false, cases_eq, cases_lt, lt
 use Rattle.can_frame.specs.Parts.{Parts}
 use Rattle.can_mac.specs.Frames.{slot_place}
 use Rattle.can_node.specs.Ports.{PortState}
-use Rattle.can_bus.specs.declared.hit.Hit.{Hit}
-use Rattle.can_bus.specs.declared.hit.Hit.TheVariants.{At, In, View}
+use Rattle.can_hit.specs.declared.hit.Hit.{Hit}
+use Rattle.can_hit.specs.declared.hit.Hit.TheVariants.{At, In, View}
 use Rattle.can_bus.specs.Quiet.{holds}
 use Rattle.can_bus.specs.Repair.{Tally, IsLow, AreBorne, FallInWindows, IsLater, AreApart, HoldsAllOrNone, AreOfOnePort, tallied, tallied_attempt, tally_after, hits_before, hit_of, frame_of_attempt}
 use Rattle.can_bus.proofs.RepairPlans.{Apart, apart-from, few-before, hit-cases, frame-cases, struck-there}

@@ -4,7 +4,7 @@ use Rattle.std.proofs.lemmas.List.{length-map}
 use Rattle.std.specs.Prelude.{◌↔◌, IfOk, IsOk, OnOk, Result}
 use Rattle.can_node.specs.Ports.{PortState, port_drives}
 use Rattle.can_bus.specs.declared.offer.Offer.{Offer}
-use Rattle.can_bus.specs.Hits.{AreTaken}
+use Rattle.can_hit.specs.Hits.{AreTaken}
 use Rattle.can_bus.specs.Network.{call_after, offered_now}
 use Rattle.can_bus.specs.Offers.{AreOffered, all_made, played}
 use Rattle.can_bus.specs.Run.{BusState, CallState, bus_after, bus_run, bus_step, call_begun, recorded, rest_after}

@@ -1,7 +1,7 @@
 -- Several bit times of a call with offers and hits, before the first of which alone offers are made; and a call without offers.
 use Rattle.std.proofs.Common.{◌≡◌, ℕ, zero, suc, ◌+◌, ◌<◌, ◌≤◌, List, [], refl, sym, ap, ◌∙◌, arith}
 use Rattle.can_node.specs.Ports.{PortState}
-use Rattle.can_bus.specs.declared.hit.Hit.{Hit}
+use Rattle.can_hit.specs.declared.hit.Hit.{Hit}
 use Rattle.can_bus.specs.declared.offer.Offer.{Offer}
 use Rattle.can_bus.specs.Network.{call_after, call_level, call_refused, offered_now}
 use Rattle.can_bus.specs.Offers.{all_made, refused_at, played, played_level}

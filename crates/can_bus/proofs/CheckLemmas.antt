@@ -6,7 +6,8 @@ use Rattle.std.proofs.lemmas.List.{get_or-take}
 use Rattle.std.proofs.lemmas.Option.{slice_get-get_or, get_or_from_slice_get, slice_get_within}
 use Rattle.can_bus.specs.declared.fault.BusFault.{BusFault}
 use Rattle.can_bus.specs.declared.fault.BusFault.TheVariants.{NoPort, TooManyPorts, NotRising, NoSuchPort}
-use Rattle.can_bus.specs.Inputs.{FollowsLast, AreSound, IsWrong, IsFirstWrong}
+use Rattle.can_hit.specs.Sound.{FollowsLast, AreSound}
+use Rattle.can_bus.specs.Inputs.{IsWrong, IsFirstWrong}
 
 -- an element of a front
 get-take : {X : Type 0} (n k : ℕ) (xs : List X) (x : X) → slice_get (take n xs) k ≡ Some x → (k < n) × (slice_get xs k ≡ Some x)

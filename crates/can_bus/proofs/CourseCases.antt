@@ -1,7 +1,7 @@
 -- The course where nothing is hit, and where all frames are offered at once.
 use Rattle.std.specs.Prelude.{slice_get}
 use Rattle.std.proofs.Common.{◌≡◌, ℕ, ◌+◌, arith, Some, List, [], sym, ap, subst, ◌∙◌}
-use Rattle.can_bus.specs.declared.hit.Hit.{Hit}
+use Rattle.can_hit.specs.declared.hit.Hit.{Hit}
 use Rattle.can_bus.specs.Course.{IsCourse, Transmission, unhit}
 use Rattle.can_bus.specs.Quiet.{AreDifferent, ascending}
 use Rattle.can_bus.specs.Repair.{AreApart, FallInWindows, frame_of_attempt, hit_of}

@@ -10,7 +10,7 @@ use Rattle.can_wire.specs.Wire.{stuffed_part}
 use Rattle.can_mac.proofs.FrameParts.{length-wire}
 use Rattle.can_node.specs.Ports.{PortState, goes_before, same_field}
 use Rattle.can_node.proofs.WaitingLemmas.{Wins-goes_before, Shares-same_field, same_field-Shares}
-use Rattle.can_bus.specs.declared.hit.Hit.{Hit}
+use Rattle.can_hit.specs.declared.hit.Hit.{Hit}
 use Rattle.can_bus.specs.declared.offer.Offer.{Offer}
 use Rattle.can_bus.specs.Course.{Transmission, IsCourse, over, sent, broken, IsMade, hit_time, unhit}
 use Rattle.can_bus.specs.CourseWaiting.{AreInTime, IsSentBy, attempts_between, going_before, hit_attempts, keeping, kept_times, left_behind, left_on, of_field, sent_attempts}

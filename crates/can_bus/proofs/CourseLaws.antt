@@ -7,7 +7,7 @@ use Rattle.can_node.specs.Ports.{waiting}
 use Rattle.can_node.specs.Waiting.{IsWaiting}
 use Rattle.can_node.proofs.WaitingLaws.{waiting-IsWaiting, waiting-some, waits}
 use Rattle.can_node.proofs.WaitingLemmas.{Shares-same_field}
-use Rattle.can_bus.specs.declared.hit.Hit.{Hit}
+use Rattle.can_hit.specs.declared.hit.Hit.{Hit}
 use Rattle.can_bus.specs.Course.{HitInWindows, IsCourse, IsNext, Transmission, attempt_of, broken, course_from, course_of, hit_time, over, sent}
 use Rattle.can_bus.specs.Repair.{IsInWindow, hit_of, hits_before}
 use Rattle.can_bus.specs.Schedule.{Timed, busy_time, earliest, offered_by, without_offer}

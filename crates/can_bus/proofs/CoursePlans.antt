@@ -11,7 +11,7 @@ use Rattle.can_frame.specs.Arbitration.{arbitration_field}
 use Rattle.can_frame.proofs.BeforeLemmas.{Before-differs}
 use Rattle.can_mac.specs.Frames.{with_intermission}
 use Rattle.can_node.proofs.WaitingLaws.{waiting-IsWaiting}
-use Rattle.can_bus.specs.declared.hit.Hit.{Hit}
+use Rattle.can_hit.specs.declared.hit.Hit.{Hit}
 use Rattle.can_bus.specs.Course.{IsCourse, IsNext, Transmission, broken, course_at, course_tally, frames_sent, hit_time, hits_made, over, sent}
 use Rattle.can_bus.specs.Quiet.{AreDifferent, IsAscending, IsRising, holds}
 use Rattle.can_bus.specs.Repair.{frame_of_attempt, hit_of, hits_before, tallied, tallied_attempt, tally, tally_after}

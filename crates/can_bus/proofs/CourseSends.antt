@@ -8,7 +8,7 @@ use Rattle.can_frame.specs.Parts.{Parts}
 use Rattle.can_frame.specs.Arbitration.{arbitration_field}
 use Rattle.can_node.specs.Ports.{same_field}
 use Rattle.can_node.proofs.WaitingLemmas.{Shares-same_field, same_field-Shares}
-use Rattle.can_bus.specs.declared.hit.Hit.{Hit}
+use Rattle.can_hit.specs.declared.hit.Hit.{Hit}
 use Rattle.can_bus.specs.Course.{IsCourse, IsNext, Transmission, broken, over, sent}
 use Rattle.can_bus.specs.CourseWaiting.{IsSentBy, of_field, sends_of}
 use Rattle.can_bus.specs.Schedule.{Timed, Lists, without_offer}

@@ -11,7 +11,7 @@ use Rattle.can_wire.specs.Wire.{wire}
 use Rattle.can_wire.specs.Layout.{level_at}
 use Rattle.can_mac.proofs.FrameParts.{length-wire}
 use Rattle.can_mac.proofs.HitLevels.{IsHit}
-use Rattle.can_bus.specs.declared.hit.Hit.{Hit}
+use Rattle.can_hit.specs.declared.hit.Hit.{Hit}
 use Rattle.can_bus.specs.Course.{Transmission, IsCourse, over, sent, broken, IsMade, course_at, hit_time}
 use Rattle.can_bus.specs.RepairedLine.{attempt_levels, lateness, struck}
 use Rattle.can_bus.specs.Schedule.{Timed}

@@ -8,7 +8,7 @@ use Rattle.can_frame.specs.Arbitration.{arbitration_field, field_cmp, Before}
 use Rattle.can_frame.proofs.FieldLemmas.{fields_ranked}
 use Rattle.can_node.specs.Ports.{is_equal, same_field}
 use Rattle.can_node.proofs.WaitingLemmas.{same_field-Shares, Shares-same_field}
-use Rattle.can_bus.specs.declared.hit.Hit.{Hit}
+use Rattle.can_hit.specs.declared.hit.Hit.{Hit}
 use Rattle.can_bus.specs.Course.{Transmission, IsNext, IsCourse, over, sent, broken, IsMade}
 use Rattle.can_bus.specs.CourseWaiting.{attempts_between, keeping, kept_times, left_on, of_field, sends_of, was_hit}
 use Rattle.can_bus.specs.Schedule.{Timed, Lists, offered_by, without_offer}

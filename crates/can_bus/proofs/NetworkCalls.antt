@@ -8,12 +8,12 @@ use Rattle.can_node.specs.Ports.{PortState, IsPort}
 use Rattle.can_fault.specs.declared.state.State.TheVariants.{Active}
 use Rattle.can_fault.specs.Counters.{ConfineParts, state_of, is_bus_off, is_passive}
 use Rattle.can_node.proofs.Arrivals.{GainingPort}
-use Rattle.can_bus.specs.declared.hit.Hit.{Hit}
-use Rattle.can_bus.specs.declared.hit.Hit.TheVariants.{At, In, View}
+use Rattle.can_hit.specs.declared.hit.Hit.{Hit}
+use Rattle.can_hit.specs.declared.hit.Hit.TheVariants.{At, In, View}
 use Rattle.can_bus.specs.declared.offer.Offer.{Offer}
 use Rattle.can_bus.specs.Course.{AllEnded, Transmission, course_at, hits_made}
 use Rattle.can_bus.specs.Network.{AllCountAtMost, CountsAtMost, IsNetworkCall, NetworkLogBegins, NetworkLogHas, NetworkLogWhole, NetworkTally, StaysActive, call_after, call_level, call_refused}
-use Rattle.can_bus.specs.Hits.{AreTaken, hit_names_port}
+use Rattle.can_hit.specs.Hits.{AreTaken, hit_names_port}
 use Rattle.can_bus.specs.Network.{AreInAttempts}
 use Rattle.can_bus.specs.Offers.{AreOffered}
 use Rattle.can_bus.specs.Repair.{AreApart}

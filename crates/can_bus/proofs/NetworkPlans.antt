@@ -7,7 +7,7 @@ use Rattle.can_frame.specs.Parts.{Parts}
 use Rattle.can_node.specs.Ports.{PortState, waiting}
 use Rattle.can_node.specs.Waiting.{IsWaiting}
 use Rattle.can_node.proofs.WaitingLaws.{waiting-IsWaiting}
-use Rattle.can_bus.specs.declared.hit.Hit.{Hit}
+use Rattle.can_hit.specs.declared.hit.Hit.{Hit}
 use Rattle.can_bus.specs.declared.offer.Offer.{Offer}
 use Rattle.can_bus.specs.Course.{HitInWindows, IsCourse, Transmission, attempt_of, broken, course_from, course_of, course_tally, hit_time, hits_made, over, sent}
 use Rattle.can_bus.specs.Network.{AllCountAtMost, AreInAttempts, CourseIsBorne, FieldsAreOwned, IsNetworkCall, counters_of}

@@ -3,7 +3,7 @@ use Rattle.std.specs.List.{list_any}
 use Rattle.std.proofs.Common.{◌≡◌, ℕ, zero, suc, ◌+◌, ◌<◌, ◌≤◌, List, [], ◌∷◌, length, map, get_or, set, refl, ap, sym, ◌∙◌, arith, add-one, zero-add}
 use Rattle.can_frame.specs.declared.level.Level.{Level}
 use Rattle.can_node.specs.Ports.{PortState, port_step}
-use Rattle.can_bus.specs.declared.hit.Hit.{Hit}
+use Rattle.can_hit.specs.declared.hit.Hit.{Hit}
 use Rattle.can_bus.specs.Run.{hits_view, inverted_if, all_sampled}
 
 -- the first i elements, changed each by its number, of which the first is k

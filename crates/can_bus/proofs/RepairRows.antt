@@ -11,7 +11,7 @@ use Rattle.can_wire.specs.Crc.{crc_of}
 use Rattle.can_wire.specs.Stuffing.{stuffed}
 use Rattle.can_wire.specs.Wire.{head, unstuffed, stuffed_part}
 use Rattle.can_wire.specs.Layout.{frame_len}
-use Rattle.can_bus.specs.declared.hit.Hit.TheVariants.{In}
+use Rattle.can_hit.specs.declared.hit.Hit.TheVariants.{In}
 use Rattle.can_bus.specs.RepairedLine.{lateness, first_attempts}
 
 -- the levels of a text of `0` and `1`

@@ -15,7 +15,7 @@ use Rattle.can_mac.proofs.FrameParts.{length-wire}
 use Rattle.can_mac.proofs.ErrorFrames.{in_flag, at_rest}
 use Rattle.can_mac.proofs.HitLevels.{IsHit, inverted, breaks-soon}
 use Rattle.can_node.proofs.BrokenFrames.{seen_of}
-use Rattle.can_bus.specs.declared.hit.Hit.{Hit}
+use Rattle.can_hit.specs.declared.hit.Hit.{Hit}
 use Rattle.can_bus.specs.Course.{Transmission}
 use Rattle.can_bus.specs.Quiet.{line_at}
 use Rattle.can_bus.specs.Repair.{frame_of_attempt, hit_of}

@@ -5,8 +5,8 @@ use Rattle.std.proofs.lemmas.List.{append-nil, length-map}
 use Rattle.can_frame.specs.declared.level.Level.TheVariants.{Recessive}
 use Rattle.can_frame.specs.Parts.{Parts}
 use Rattle.can_node.specs.Ports.{PortState, IsPort}
-use Rattle.can_bus.specs.declared.hit.Hit.{Hit}
-use Rattle.can_bus.specs.declared.hit.Hit.TheVariants.{At, In, View}
+use Rattle.can_hit.specs.declared.hit.Hit.{Hit}
+use Rattle.can_hit.specs.declared.hit.Hit.TheVariants.{At, In, View}
 use Rattle.can_bus.specs.Course.{AllEnded, Transmission, course_at, course_tally, frames_sent}
 use Rattle.can_bus.specs.Network.{AllCountAtMost, IsNetworkCall, counters_of, call_after}
 use Rattle.can_bus.specs.OpenBus.{all_offers, offered_first, own_offers}

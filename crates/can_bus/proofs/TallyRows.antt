@@ -6,8 +6,8 @@ use Rattle.can_frame.specs.Parts.{Parts}
 use Rattle.can_wire.specs.Crc.{crc_of}
 use Rattle.can_wire.specs.Stuffing.{stuffed}
 use Rattle.can_wire.specs.Wire.{head, unstuffed, stuffed_part, wire}
-use Rattle.can_bus.specs.declared.hit.Hit.{Hit}
-use Rattle.can_bus.specs.declared.hit.Hit.TheVariants.{In}
+use Rattle.can_hit.specs.declared.hit.Hit.{Hit}
+use Rattle.can_hit.specs.declared.hit.Hit.TheVariants.{In}
 use Rattle.can_bus.specs.Quiet.{span}
 use Rattle.can_bus.specs.Repair.{Tally, tally, tally_after, repaired_span, unstuffed_before}
 

@@ -8,7 +8,7 @@ use Rattle.can_frame.specs.Parts.{Parts}
 use Rattle.can_wire.specs.Wire.{wire}
 use Rattle.can_node.specs.Ports.{waiting}
 use Rattle.can_node.specs.Waiting.{IsWaiting}
-use Rattle.can_bus.specs.declared.hit.Hit.{Hit}
+use Rattle.can_hit.specs.declared.hit.Hit.{Hit}
 use Rattle.can_bus.specs.Quiet.{holds}
 use Rattle.can_bus.specs.Repair.{IsInWindow, Tally, hit_of, tallied}
 use Rattle.can_bus.specs.RepairedLine.{attempt_levels, lateness}

@@ -5,7 +5,7 @@ use Rattle.std.specs.List.{sum_by}
 use Rattle.can_frame.specs.Arbitration.{arbitration_field}
 use Rattle.can_frame.specs.Parts.{Parts}
 use Rattle.can_node.specs.Ports.{same_field}
-use Rattle.can_bus.specs.declared.hit.Hit.{Hit}
+use Rattle.can_hit.specs.declared.hit.Hit.{Hit}
 use Rattle.can_bus.specs.Course.{IsCourse, Transmission, hit_time}
 use Rattle.can_bus.specs.Schedule.{Timed, busy_time, without_offer}
 use Rattle.can_bus.specs.Waiting.{ahead_of}

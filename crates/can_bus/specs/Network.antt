@@ -8,8 +8,8 @@ use Rattle.can_fault.specs.declared.state.State.TheVariants.{Active}
 use Rattle.can_fault.specs.Counters.{state_of}
 use Rattle.can_mac.specs.declared.phase.Phase.TheVariants.{Idle}
 use Rattle.can_node.specs.Ports.{PortState}
-use Rattle.can_bus.specs.declared.hit.Hit.{Hit}
-use Rattle.can_bus.specs.declared.hit.Hit.TheVariants.{In}
+use Rattle.can_hit.specs.declared.hit.Hit.{Hit}
+use Rattle.can_hit.specs.declared.hit.Hit.TheVariants.{In}
 use Rattle.can_bus.specs.declared.offer.Offer.{Offer}
 use Rattle.can_bus.specs.Course.{IsCourse, Transmission, course_tally, ended_by, frames_sent}
 use Rattle.can_bus.specs.Offers.{AreOffered, all_made, refused_at}

@@ -12,7 +12,7 @@ use Rattle.can_mac.specs.declared.phase.Phase.TheVariants.{Idle}
 use Rattle.can_mac.specs.Frames.{with_intermission}
 use Rattle.can_node.specs.declared.entry.Entry.{Entry}
 use Rattle.can_node.specs.Ports.{PortState, goes_before, same_field}
-use Rattle.can_bus.specs.declared.hit.Hit.{Hit}
+use Rattle.can_hit.specs.declared.hit.Hit.{Hit}
 
 -- each earlier frame goes before each later one
 abbrev pub IsRising : List Parts → Type 0

@@ -11,7 +11,7 @@ use Rattle.can_code.specs.declared.fault.CodeFaultKind.TheVariants.{Crc}
 use Rattle.can_wire.specs.Wire.{wire}
 use Rattle.can_wire.specs.Layout.{level_at}
 use Rattle.can_code.specs.Front.{FrontParts, first_front, next_place, hear_at, heard_levels}
-use Rattle.can_bus.specs.declared.hit.Hit.{Hit}
+use Rattle.can_hit.specs.declared.hit.Hit.{Hit}
 use Rattle.can_bus.specs.Repair.{frame_of_attempt, hit_of}
 use Rattle.can_mac.specs.Frames.{with_intermission}
 

@@ -1,12 +1,12 @@
 -- Walking along hits, and along offers, in their order.
 use Rattle.std.specs.Prelude.{ℕ, ◌≡◌, ◌+◌, ◌-◌, ◌^◌, nat_lt, if◌then◌else◌, ◌<◌, ◌≤◌, ◌==◌, Bool, true, false, ◌&&◌, List, Option, Some, None, slice_get}
-use Rattle.can_bus.specs.declared.hit.Hit.{Hit}
-use Rattle.can_bus.specs.declared.hit.Hit.TheVariants.{At, In, View}
+use Rattle.can_hit.specs.declared.hit.Hit.{Hit}
+use Rattle.can_hit.specs.declared.hit.Hit.TheVariants.{At, In, View}
 use Rattle.can_bus.specs.declared.moment.Attempt.{Attempt}
 use Rattle.can_bus.specs.declared.offer.Offer.{Offer}
 use Rattle.can_bus.specs.declared.call.Call.{Call}
 use Rattle.can_bus.specs.declared.cursor.Cursor.{Cursor}
-use Rattle.can_bus.specs.Hits.{is_above}
+use Rattle.can_hit.specs.Hits.{is_above}
 use Rattle.can_bus.specs.Run.{BusState, CallState}
 
 -- the second hit is the first

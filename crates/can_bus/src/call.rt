@@ -4,8 +4,8 @@ ghost use Rattle.can_bus.specs.Run.{hits_view, hits_wire};
 ghost use Rattle.can_bus.specs.Walks.{AreBelow, AreRising, IsCall, IsPassed, aged_by, first_call, in_now, until_at as until_at_of, until_in as until_in_of, until_view as until_view_of};
 
 use crate::cursor::Cursor;
-use crate::hit::Hit;
 use crate::moment::Attempt;
+use can_hit::Hit;
 
 /// How far a call is: the bit time, the latest attempt, and how far the hits of each kind
 /// have been passed.

@@ -1,12 +1,13 @@
 ghost use Rattle.std.specs.Prelude.{ℕ, Bool, ⊤, ◌≡◌, ◌↔◌, ◌<◌, IsOk, IsTrue, IfErr, Some, length, slice_get};
 ghost use Rattle.can_frame.specs.Parts.{IsFrame};
-ghost use Rattle.can_bus.specs.Hits.{hit_names_port, is_above};
-ghost use Rattle.can_bus.specs.Inputs.{AreSound, FollowsLast, IsFirstWrong};
+ghost use Rattle.can_hit.specs.Hits.{hit_names_port, is_above};
+ghost use Rattle.can_hit.specs.Sound.{AreSound, FollowsLast};
+ghost use Rattle.can_bus.specs.Inputs.{IsFirstWrong};
 ghost use Rattle.can_bus.specs.Offers.{is_no_earlier, offer_names_port};
 
 use crate::fault::BusFault;
-use crate::hit::Hit;
 use crate::offer::Offer;
+use can_hit::Hit;
 
 /// What a call of a bus takes in a list.
 pub(crate) trait Input: Copy {

@@ -3,7 +3,7 @@ ghost use Rattle.std.specs.Prelude.{◌≡◌, ◌+◌, ◌<◌, ◌≤◌, ◌�
 ghost use Rattle.can_frame.specs.Arbitration.{Before, arbitration_field};
 ghost use Rattle.can_frame.specs.Parts.{IsFrame};
 ghost use Rattle.can_node.specs.Ports.{PortState};
-ghost use Rattle.can_bus.specs.declared.hit.Hit.{Hit as Disturbance};
+ghost use Rattle.can_hit.specs.declared.hit.Hit.{Hit as Disturbance};
 ghost use Rattle.can_bus.specs.declared.offer.Offer.{Offer};
 ghost use Rattle.can_bus.specs.Course.{HitInWindows, IsCourse, IsMade, Transmission, course_of, unhit};
 ghost use Rattle.can_bus.specs.CourseWaiting.{AreInTime, IsSentBy, OnWait, attempts_between, going_before, hit_attempts, keeping, kept_times, left_on, sent_attempts};

@@ -2,7 +2,7 @@ ghost use Rattle.std.specs.Prelude.{◌≡◌, slice_get};
 ghost use Rattle.std.specs.List.{list_any};
 ghost use Rattle.can_bus.specs.Walks.{AreBelow, AreRising, is_hit};
 
-use crate::hit::Hit;
+use can_hit::Hit;
 use std::cmp::Ordering;
 
 /// A place in a list of hits, which is walked in its order.

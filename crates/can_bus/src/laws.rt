@@ -11,10 +11,10 @@ ghost use Rattle.can_code.specs.Front.{first_front, heard_levels};
 ghost use Rattle.can_wire.specs.Stuffing.{is_stuff_place};
 ghost use Rattle.can_wire.specs.Wire.{stuffed_part, wire};
 ghost use Rattle.can_node.specs.Ports.{IsPort, PortState};
-ghost use Rattle.can_bus.specs.declared.hit.Hit.{Hit as Disturbance};
+ghost use Rattle.can_hit.specs.declared.hit.Hit.{Hit as Disturbance};
 ghost use Rattle.can_bus.specs.Agreement.{AreAlike, LogsAgree};
 ghost use Rattle.can_bus.specs.Disturbed.{IsDisturbedRun, WasDisturbed};
-ghost use Rattle.can_bus.specs.Hits.{AreTaken, is_above};
+ghost use Rattle.can_hit.specs.Hits.{AreTaken, is_above};
 ghost use Rattle.can_bus.specs.Offers.{played, played_level};
 ghost use Rattle.can_bus.specs.Plans.{FitsQueue, IsQuietPlan, PlannedPort, planned, ready_port};
 ghost use Rattle.can_bus.specs.Quiet.{AreDifferent, IsAscending, IsQuiet, IsQuietCall, ascending, line_at, queued, span};
@@ -22,7 +22,7 @@ ghost use Rattle.can_bus.specs.Repair.{AreApart, AreBorne, AreOfOnePort, FallInW
 ghost use Rattle.can_bus.specs.RepairedLine.{lateness, refused_place, repaired_line_at, struck};
 ghost use Rattle.can_bus.specs.Run.{AreLevelsOf, BusState, bus_level, bus_run};
 
-use crate::hit::Hit;
+use can_hit::Hit;
 
 /// One hit is below another, by `<`, exactly where the other is above it.
 pub fn hits_are_ordered()

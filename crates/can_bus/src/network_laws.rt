@@ -3,7 +3,7 @@ ghost use Rattle.std.specs.Prelude.{◌≡◌, ◌≤◌, ℕ, List, length, map
 ghost use Rattle.can_frame.specs.declared.level.Level.{Level};
 ghost use Rattle.can_frame.specs.Parts.{Parts};
 ghost use Rattle.can_frame.specs.IdleRow.{idle_row};
-ghost use Rattle.can_bus.specs.declared.hit.Hit.{Hit as Disturbance};
+ghost use Rattle.can_hit.specs.declared.hit.Hit.{Hit as Disturbance};
 ghost use Rattle.can_bus.specs.declared.offer.Offer.{Offer};
 ghost use Rattle.can_bus.specs.DisturbedPlay.{IsDisturbedPlay, WasPlayed};
 ghost use Rattle.can_bus.specs.Network.{AreInAttempts, IsNetworkCall, call_after, call_level, call_refused};

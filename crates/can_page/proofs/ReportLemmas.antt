@@ -2,8 +2,8 @@
 use Rattle.std.proofs.Common.{◌≡◌, ℕ, Option, Some, None, IfSome, List, [], subst}
 use Rattle.std.specs.Io.KnownBytes.{Appends}
 use Rattle.can_scenario.specs.Report.{report}
-use Rattle.can_scenario.specs.Scenarios.{IsScenarioText}
-use Rattle.can_scenario.specs.declared.scenario.Scenario.{Scenario}
+use Rattle.can_scenario_text.specs.Scenarios.{IsScenarioText}
+use Rattle.can_scenario_text.specs.declared.scenario.Scenario.{Scenario}
 
 pub report_told : (text : List ℕ) (held holds : Option (List ℕ)) (s : Scenario) → IsScenarioText text s → held ≡ Some [] → Appends held holds (report s) →
     IfSome holds (λ bytes. (t : Scenario) × (IsScenarioText text t × (bytes ≡ report t)))

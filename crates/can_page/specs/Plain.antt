@@ -2,11 +2,11 @@
 use Rattle.std.specs.Prelude.{ℕ, List, map}
 use Rattle.can_mac.specs.declared.event.ErrorKind.{ErrorKind}
 use Rattle.can_mac.specs.declared.event.ErrorKind.TheVariants.{Bit, Stuff, Crc, Form, Ack}
-use Rattle.can_scenario.specs.declared.port_times.Brought.{Brought}
-use Rattle.can_scenario.specs.declared.port_times.Brought.TheVariants as bring
-use Rattle.can_scenario.specs.declared.port_times.PortTime.{PortTime}
-use Rattle.can_scenario.specs.declared.port_times.Stage.{Stage}
-use Rattle.can_scenario.specs.declared.port_times.Stage.TheVariants as stage
+use Rattle.can_port_times.specs.declared.port_times.Brought.{Brought}
+use Rattle.can_port_times.specs.declared.port_times.Brought.TheVariants as bring
+use Rattle.can_port_times.specs.declared.port_times.PortTime.{PortTime}
+use Rattle.can_port_times.specs.declared.port_times.Stage.{Stage}
+use Rattle.can_port_times.specs.declared.port_times.Stage.TheVariants as stage
 use Rattle.can_stream.specs.declared.field.Field.{Field}
 use Rattle.can_stream.specs.declared.field.Field.TheVariants as field
 use Rattle.can_stream.specs.declared.field.HitList.{HitList}

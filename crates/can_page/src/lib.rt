@@ -1,8 +1,8 @@
 //! What the page in page/ asks of the proved code: bytes and numbers in, bytes and numbers out. Only those that run a
 //! scenario take memory of their own.
 //!
-//! Each export does what one call of can_frame, can_code, can_fields, can_decode or can_scenario does, and promises it in
-//! the same definitions. It answers an [`Answer`] as a number.
+//! Each export does what one call of can_frame, can_code, can_fields, can_decode, can_scenario or can_port_times does, and
+//! promises it in the same definitions. It answers an [`Answer`] as a number.
 //!
 //! | File | What it has | Defined in |
 //! |---|---|---|

@@ -4,7 +4,8 @@ ghost use Rattle.can_page.specs.Plain.{brought_code as brought_code_of, kind_cod
 
 use crate::codes::{flag_code, level_code};
 use can_mac::ErrorKind;
-use can_scenario::{Brought, Field, HitList, PortField, PortTime, Stage};
+use can_port_times::{Brought, PortTime, Stage};
+use can_scenario::{Field, HitList, PortField};
 
 /// What a port does in a bit time.
 #[repr(C)]

@@ -1,9 +1,9 @@
 ghost use Rattle.std.specs.Prelude.{◌≡◌, ◌^◌, ◌<◌, ◌≤◌, ◌⊎◌, [], false, true, length, take, IfErr, IfOk, IfSome, IsErrOf, List, Some};
-ghost use Rattle.can_scenario.specs.PortTimes.{AreTold};
+ghost use Rattle.can_port_times.specs.PortTimes.{AreTold};
 ghost use Rattle.can_scenario.specs.Report.{report};
-ghost use Rattle.can_scenario.specs.Scenarios.{IsFirstWrong, IsScenarioText};
-ghost use Rattle.can_scenario.specs.declared.port_times.PortTime.{PortTime as Told};
-ghost use Rattle.can_scenario.specs.declared.scenario.Scenario.{Scenario as Planned};
+ghost use Rattle.can_scenario_text.specs.Scenarios.{IsFirstWrong, IsScenarioText};
+ghost use Rattle.can_port_times.specs.declared.port_times.PortTime.{PortTime as Told};
+ghost use Rattle.can_scenario_text.specs.declared.scenario.Scenario.{Scenario as Planned};
 ghost use Rattle.can_stream.specs.declared.field.Field.{Field as Wrong};
 ghost use Rattle.can_page.specs.Answers.{answer_code, bad_scenario, done};
 ghost use Rattle.can_page.specs.Lines.{is_full, lines_of};
@@ -12,7 +12,8 @@ ghost use Rattle.can_page.specs.Plain.{plain_times, wrong_field};
 use crate::answer::Answer;
 use crate::lines::Lines;
 use crate::plain::{PlainTime, WrongField};
-use can_scenario::{PortTime, Scenario, run_scenario, told_times};
+use can_port_times::{PortTime, told_times};
+use can_scenario::{Scenario, run_scenario};
 use can_stream::{Sink, TraceFault};
 use std::alloc::Global;
 

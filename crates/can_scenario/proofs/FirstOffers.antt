@@ -1,7 +1,7 @@
 -- A scenario all frames of which have time 0 runs as a bus at which they wait.
 use Rattle.std.specs.Prelude.{slice_get, All}
 use Rattle.std.proofs.Common.{◌≡◌, ℕ, zero, suc, ◌+◌, Some, List, [], ◌∷◌, map, refl, sym, ap, subst, ◌∙◌, arith}
-use Rattle.can_bus.specs.declared.hit.Hit.{Hit}
+use Rattle.can_hit.specs.declared.hit.Hit.{Hit}
 use Rattle.can_bus.specs.declared.offer.Offer.{Offer}
 use Rattle.can_bus.specs.Offers.{all_made, played, played_level}
 use Rattle.can_bus.specs.OpenBus.{timed, with_first}
@@ -11,9 +11,9 @@ use Rattle.can_bus.proofs.OfferTimes.{at-now, offered_at}
 use Rattle.can_bus.proofs.OpenAtOnce.{at_once-level, at_once-run}
 use Rattle.can_bus.proofs.OpenStart.{rooms}
 use Rattle.can_bus.proofs.PlayedRuns.{all-taken, all_arrived, arriving}
-use Rattle.can_scenario.specs.declared.scenario.Scenario.{Scenario}
-use Rattle.can_scenario.specs.declared.scenario.PortPlan.{PortPlan}
-use Rattle.can_scenario.specs.declared.scenario.TimedFrame.{TimedFrame}
+use Rattle.can_scenario_text.specs.declared.scenario.Scenario.{Scenario}
+use Rattle.can_scenario_text.specs.declared.scenario.PortPlan.{PortPlan}
+use Rattle.can_scenario_text.specs.declared.scenario.TimedFrame.{TimedFrame}
 use Rattle.can_scenario.specs.QuietReport.{AreFirst}
 use Rattle.can_scenario.specs.Report.{PortReport, ended_by, frames_of_queue, level_by, levels_until, made_bus, made_port, new_bus, report, report_text, reported, waiting_bus, waiting_port, waiting_report}
 use Rattle.can_scenario.specs.ScenarioOffers.{in_time, offer_to, offers_from, scenario_offers}

@@ -1,7 +1,4 @@
-pub mod ScenarioParts
-pub mod ScenarioRows
 pub mod OfferRows
-pub mod HitLemmas
 pub mod ReportLines
 pub mod Started
 pub mod OfferOrder
@@ -11,6 +8,3 @@ pub mod QuietReports
 pub mod FirstOffers
 pub mod RoomForAll
 pub mod QuietOrder
-pub mod OneScenario
-pub mod SeenLevels
-pub mod ToldTimes

@@ -26,8 +26,8 @@ use Rattle.can_bus.proofs.OfferLemmas.{length-all_made}
 use Rattle.can_bus.proofs.OpenNetworks.{open-counters, open-missed, open-track, open-whole}
 use Rattle.can_bus.proofs.OpenStart.{OfFrames}
 use Rattle.can_bus.proofs.RunLemmas.{length-run}
-use Rattle.can_scenario.specs.declared.scenario.Scenario.{Scenario}
-use Rattle.can_scenario.specs.declared.scenario.PortPlan.{PortPlan}
+use Rattle.can_scenario_text.specs.declared.scenario.Scenario.{Scenario}
+use Rattle.can_scenario_text.specs.declared.scenario.PortPlan.{PortPlan}
 use Rattle.can_scenario.specs.OpenReport.{IsOpenScenario, IsQuietPlan, all_frames, open_report, queues, quiet_port, scenario_starts}
 use Rattle.can_scenario.specs.Report.{PortReport, ended_bus, ended_by, recorded_levels, frames_of_queue, level_by, levels_until, made_bus, made_port, report, reported, report_text}
 use Rattle.can_scenario.specs.ScenarioOffers.{in_time, offers_from, scenario_offers}

@@ -12,8 +12,8 @@ use Rattle.can_bus.specs.declared.offer.Offer.{Offer}
 use Rattle.can_bus.specs.OpenBus.{offered_to, timed}
 use Rattle.can_bus.specs.Schedule.{Timed, frames_of}
 use Rattle.can_bus.proofs.Members.{Stands, map-stands, stands-either, stands-here, stands-later, stands-none}
-use Rattle.can_scenario.specs.declared.scenario.PortPlan.{PortPlan}
-use Rattle.can_scenario.specs.declared.scenario.TimedFrame.{TimedFrame}
+use Rattle.can_scenario_text.specs.declared.scenario.PortPlan.{PortPlan}
+use Rattle.can_scenario_text.specs.declared.scenario.TimedFrame.{TimedFrame}
 use Rattle.can_scenario.specs.OpenReport.{all_frames}
 use Rattle.can_scenario.specs.Report.{frames_of_queue}
 use Rattle.can_scenario.specs.ScenarioOffers.{in_time, offer_to, offers_from}

@@ -16,9 +16,9 @@ use Rattle.can_bus.proofs.Members.{Stands, stands-cases, stands-map, stands-none
 use Rattle.can_bus.proofs.OpenStart.{OfFrames}
 use Rattle.can_bus.proofs.QuietAgreement.{span-permuted}
 use Rattle.can_bus.proofs.QuietPlans.{ready-port}
-use Rattle.can_scenario.specs.declared.scenario.Scenario.{Scenario}
-use Rattle.can_scenario.specs.declared.scenario.PortPlan.{PortPlan}
-use Rattle.can_scenario.specs.declared.scenario.TimedFrame.{TimedFrame}
+use Rattle.can_scenario_text.specs.declared.scenario.Scenario.{Scenario}
+use Rattle.can_scenario_text.specs.declared.scenario.PortPlan.{PortPlan}
+use Rattle.can_scenario_text.specs.declared.scenario.TimedFrame.{TimedFrame}
 use Rattle.can_scenario.specs.OpenReport.{IsQuietPlan, all_frames, queues, quiet_port}
 use Rattle.can_scenario.specs.QuietReport.{AreReordered, AreReorderings, HoldsFrames, IsQuietScenario, quiet_report}
 use Rattle.can_scenario.specs.Report.{PortReport, frames_of_queue, levels_until, made_port, report, report_text}

@@ -19,9 +19,9 @@ use Rattle.can_bus.proofs.Members.{Stands, map-stands, stands-cases, stands-none
 use Rattle.can_bus.proofs.NextStarts.{rest-left}
 use Rattle.can_bus.proofs.QuietAgreement.{span-permuted}
 use Rattle.can_bus.proofs.Schedules.{schedule-frames}
-use Rattle.can_scenario.specs.declared.scenario.Scenario.{Scenario}
-use Rattle.can_scenario.specs.declared.scenario.PortPlan.{PortPlan}
-use Rattle.can_scenario.specs.declared.scenario.TimedFrame.{TimedFrame}
+use Rattle.can_scenario_text.specs.declared.scenario.Scenario.{Scenario}
+use Rattle.can_scenario_text.specs.declared.scenario.PortPlan.{PortPlan}
+use Rattle.can_scenario_text.specs.declared.scenario.TimedFrame.{TimedFrame}
 use Rattle.can_scenario.specs.OpenReport.{all_frames, open_report, queues, quiet_port, scenario_starts}
 use Rattle.can_scenario.specs.QuietReport.{AreFirst, IsQuietScenario, quiet_report}
 use Rattle.can_scenario.specs.Report.{levels_until, report_text}

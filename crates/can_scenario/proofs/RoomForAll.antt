@@ -17,7 +17,7 @@ use Rattle.can_bus.proofs.OfferTimes.{AreInOrder}
 use Rattle.can_bus.proofs.OpenNetworks.{plain-refused}
 use Rattle.can_bus.proofs.OpenStart.{rooms}
 use Rattle.can_bus.proofs.PlayedRuns.{AreRoomy, all-taken, all_arrived, to-here, to-other}
-use Rattle.can_scenario.specs.declared.scenario.Scenario.{Scenario}
+use Rattle.can_scenario_text.specs.declared.scenario.Scenario.{Scenario}
 use Rattle.can_scenario.specs.Report.{made_bus, made_port}
 use Rattle.can_scenario.specs.ScenarioOffers.{offers_from, scenario_offers}
 use Rattle.can_scenario.proofs.OfferOrder.{AreFrom, Rise, in_time-rise}

@@ -10,14 +10,14 @@ use Rattle.can_wire.specs.contracts.checked_bits.CheckedBitsFrameBits.TheImpl as
 use Rattle.can_node.specs.declared.node.Node.{Node}
 use Rattle.can_node.specs.Ports.{PortState, IsPort}
 use Rattle.can_node.specs.Tournament.{frames_in}
-use Rattle.can_bus.specs.declared.hit.Hit.{Hit}
+use Rattle.can_hit.specs.declared.hit.Hit.{Hit}
 use Rattle.can_bus.specs.declared.offer.Offer.{Offer}
 use Rattle.can_bus.specs.Offers.{played, played_level}
 use Rattle.can_bus.specs.Run.{BusState, bus_level, bus_run}
 use Rattle.can_scenario.specs.Report.{ended_bus, ended_by, level_by, levels_until, made_bus, made_port, new_bus, recorded_levels, waiting_bus, waiting_port}
 use Rattle.can_scenario.specs.ScenarioOffers.{scenario_offers}
-use Rattle.can_scenario.specs.declared.scenario.PortPlan.{PortPlan}
-use Rattle.can_scenario.specs.declared.scenario.Scenario.{Scenario}
+use Rattle.can_scenario_text.specs.declared.scenario.PortPlan.{PortPlan}
+use Rattle.can_scenario_text.specs.declared.scenario.Scenario.{Scenario}
 
 -- what a contract sees of a port with memory of its own
 abbrev pub node_port : Node CheckedBits checked_bits.ghosts → PortState

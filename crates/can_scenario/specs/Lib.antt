@@ -1,9 +1,5 @@
 -- To believe: what public calls and laws promise is said in these words
-pub mod Scenarios
 pub mod ScenarioOffers
 pub mod Report
 pub mod QuietReport
 pub mod OpenReport
-pub mod PortTimes
--- For proofs and for models only
-pub mod ScenarioProps

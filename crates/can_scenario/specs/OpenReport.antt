@@ -7,8 +7,8 @@ use Rattle.can_fault.specs.declared.state.State.TheVariants.{Active}
 use Rattle.can_bus.specs.OpenBus.{timed}
 use Rattle.can_bus.specs.Quiet.{AreDifferent, marked}
 use Rattle.can_bus.specs.Schedule.{Timed, frames_of, schedule, track_at}
-use Rattle.can_scenario.specs.declared.scenario.Scenario.{Scenario}
-use Rattle.can_scenario.specs.declared.scenario.PortPlan.{PortPlan}
+use Rattle.can_scenario_text.specs.declared.scenario.Scenario.{Scenario}
+use Rattle.can_scenario_text.specs.declared.scenario.PortPlan.{PortPlan}
 use Rattle.can_scenario.specs.Report.{PortReport, frames_of_queue, levels_until, report_text}
 use Rattle.can_scenario.specs.ScenarioOffers.{scenario_offers}
 

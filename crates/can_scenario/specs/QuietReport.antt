@@ -4,8 +4,8 @@ use Rattle.std.specs.List.{AllByRecursion}
 use Rattle.std.specs.List.Sorted.{IsPermutation}
 use Rattle.can_frame.specs.Parts.{Parts, IsFrame}
 use Rattle.can_bus.specs.Quiet.{ascending, line_at}
-use Rattle.can_scenario.specs.declared.scenario.Scenario.{Scenario}
-use Rattle.can_scenario.specs.declared.scenario.PortPlan.{PortPlan}
+use Rattle.can_scenario_text.specs.declared.scenario.Scenario.{Scenario}
+use Rattle.can_scenario_text.specs.declared.scenario.PortPlan.{PortPlan}
 use Rattle.can_scenario.specs.OpenReport.{IsOpenScenario, all_frames, queues, quiet_port}
 use Rattle.can_scenario.specs.Report.{levels_until, report_text}
 

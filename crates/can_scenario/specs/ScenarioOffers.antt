@@ -3,9 +3,9 @@
 use Rattle.std.specs.Prelude.{ℕ, ◌≡◌, ◌+◌, ◌==◌, nat_le, if◌then◌else◌, List, [], ◌∷◌, ◌++◌, filter, map}
 use Rattle.std.specs.List.Sorted.{IsNonDecreasingBy}
 use Rattle.can_bus.specs.declared.offer.Offer.{Offer}
-use Rattle.can_scenario.specs.declared.scenario.Scenario.{Scenario}
-use Rattle.can_scenario.specs.declared.scenario.PortPlan.{PortPlan}
-use Rattle.can_scenario.specs.declared.scenario.TimedFrame.{TimedFrame}
+use Rattle.can_scenario_text.specs.declared.scenario.Scenario.{Scenario}
+use Rattle.can_scenario_text.specs.declared.scenario.PortPlan.{PortPlan}
+use Rattle.can_scenario_text.specs.declared.scenario.TimedFrame.{TimedFrame}
 
 -- a frame is offered to the port of this number
 abbrev pub offer_to : ℕ → TimedFrame → Offer

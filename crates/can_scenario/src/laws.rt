@@ -4,21 +4,11 @@ ghost use Rattle.can_frame.specs.Parts.{Parts};
 ghost use Rattle.can_bus.specs.declared.offer.Offer.{Offer as Offered};
 ghost use Rattle.can_bus.specs.Offers.{refused};
 ghost use Rattle.can_bus.specs.Quiet.{AreDifferent, span};
-ghost use Rattle.can_stream.specs.declared.field.Field.{Field as Wrong};
-ghost use Rattle.can_scenario.specs.declared.scenario.Scenario.{Scenario as Planned};
+ghost use Rattle.can_scenario_text.specs.declared.scenario.Scenario.{Scenario as Planned};
 ghost use Rattle.can_scenario.specs.OpenReport.{all_frames, queues};
 ghost use Rattle.can_scenario.specs.QuietReport.{AreFirst, AreReordered, AreReorderings, quiet_report};
 ghost use Rattle.can_scenario.specs.Report.{made_bus, report, waiting_report};
 ghost use Rattle.can_scenario.specs.ScenarioOffers.{AreInTime, in_time, scenario_offers};
-ghost use Rattle.can_scenario.specs.Scenarios.{AreSame, IsFirstWrong, IsScenarioText};
-
-/// Bytes say at most one scenario; bytes that say one have no field that is told, and others have at
-/// most one.
-pub fn one_scenario()
-    ensures scenario { (bytes : List ℕ) (s t : Planned) → IsScenarioText bytes s → IsScenarioText bytes t → AreSame s t }
-    ensures no_field { (bytes : List ℕ) (s : Planned) (wrong : Wrong) → IsScenarioText bytes s → IsFirstWrong wrong bytes → ⊥ }
-    ensures one_field { (bytes : List ℕ) (wrong other : Wrong) → IsFirstWrong wrong bytes → IsFirstWrong other bytes → wrong ≡ other }
-{}
 
 /// Offers have exactly one list in which they stand in the order of time, and those of one time in the order
 /// that they had. It has the same offers.

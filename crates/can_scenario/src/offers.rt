@@ -2,13 +2,13 @@
 ghost use Rattle.std.specs.Prelude.{◌≡◌, ◌++◌, map, IfOk, OnOk};
 ghost use Rattle.can_scenario.specs.ScenarioOffers.{in_time, offer_to, offers_from};
 
-use crate::scenario::{PortPlan, TimedFrame};
 use can_bus::Offer;
+use can_scenario_text::{PortPlan, TimedFrame};
 use std::alloc::{AllocError, Global};
 
 /// What these ports are offered, in the order of time. Offers of one time stand in the order of the ports, and
 /// those to one port in the order of its queue.
-pub(crate) fn offers_in_time(alloc: Global, plans: &[PortPlan]) -> Result<Vec<Offer>, AllocError>
+pub fn offers_in_time(alloc: Global, plans: &[PortPlan]) -> Result<Vec<Offer>, AllocError>
     ensures { IfOk result (λ offers. offers.items ≡ in_time (offers_from 0 plans.now)) }
 {
     let mut offers = all_offers(alloc, plans)?;

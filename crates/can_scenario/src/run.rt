@@ -11,10 +11,10 @@ ghost use Rattle.can_scenario.specs.Report.{ended_bus, made_port as made_port_of
 
 use crate::offers::offers_in_time;
 use crate::report::write_report;
-use crate::scenario::{PortPlan, Scenario, TimedFrame};
 use can_bus::Bus;
 use can_frame::Level;
 use can_node::{PackedNode, Port};
+use can_scenario_text::{PortPlan, Scenario, TimedFrame};
 use can_stream::{Sink, TraceFault};
 use std::alloc::{AllocError, Global};
 
@@ -54,7 +54,7 @@ pub fn run_scenario<W: Sink>(
     ensures quiet { OnOk result (IsQuietScenario scenario.now → span (all_frames (queues scenario.now)) ≤ scenario.now.bits →
         Appends (W.contents w.old) (W.contents w.new) (quiet_report scenario.now.bits (queues scenario.now))) }
 {
-    let Ok(ended) = run(alloc, scenario) else {
+    let Ok(ended) = run_to_end(alloc, scenario) else {
         return Err(TraceFault::Memory);
     };
     write_report(&ended.levels, &ended.ports, w)
@@ -62,15 +62,15 @@ pub fn run_scenario<W: Sink>(
 
 /// A scenario that has run.
 #[derive(Drop)]
-pub(crate) struct Ended {
+pub struct Ended {
     /// The levels that were recorded.
-    pub(crate) levels: Vec<Level>,
+    pub levels: Vec<Level>,
     /// The ports as they ended.
-    ports: Vec<PackedNode>,
+    pub ports: Vec<PackedNode>,
 }
 
 /// Runs the scenario. It fails only where an allocation does.
-pub(crate) fn run(alloc: Global, scenario: &Scenario) -> Result<Ended, AllocError>
+pub fn run_to_end(alloc: Global, scenario: &Scenario) -> Result<Ended, AllocError>
     ensures levels { IfOk result (λ ended. ended.levels.items ≡ recorded_levels scenario.now) }
     ensures ports { IfOk result (λ ended. map ⟦<PackedNode as Port>⟧.port ended.ports.items ≡ (ended_bus scenario.now).ports) }
     ensures scheduled { OnOk result (IsOpenScenario scenario.now → AreOver (scenario_starts scenario.now) scenario.now.bits →
@@ -150,7 +150,7 @@ fn made_ports(alloc: Global, plans: &[PortPlan]) -> Result<Vec<PackedNode>, Allo
 }
 
 /// A port as it is made.
-pub(crate) fn made_port(alloc: Global, plan: &PortPlan) -> Result<PackedNode, AllocError>
+pub fn made_port(alloc: Global, plan: &PortPlan) -> Result<PackedNode, AllocError>
     ensures { IfOk result (λ node. ⟦<PackedNode as Port>⟧.port node ≡ made_port_of plan.now) }
 {
     let queue_room = plan.queue.len();
@@ -174,7 +174,7 @@ fn offer_waiting(ports: &mut [PackedNode], plans: &[PortPlan])
 }
 
 /// Offers the frames in their order to a port that has room for them.
-pub(crate) fn offer_all<P: Port>(port: &mut P, queue: &[TimedFrame])
+pub fn offer_all<P: Port>(port: &mut P, queue: &[TimedFrame])
     requires { length (P.port port.old).queue + length queue.now ≤ (P.port port.old).queue_room }
     ensures { P.port port.new ≡ all_offered (map (λ timed. timed.frame) queue.now) (P.port port.old) }
 {

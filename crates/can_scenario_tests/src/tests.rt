@@ -1,3 +1,1 @@
-mod documents;
-mod port_times;
 mod reports;

@@ -7,7 +7,7 @@ pub use Rattle.can_lines.specs.Coded
 pub use Rattle.can_lines.specs.Checked
 pub use Rattle.can_decode.specs.TraceText
 pub use Rattle.can_decode.specs.Decoded
-pub use Rattle.can_scenario.specs.Scenarios
+pub use Rattle.can_scenario_text.specs.Scenarios
 pub use Rattle.can_scenario.specs.Report
 pub use Rattle.can_scenario.specs.ScenarioOffers
 pub use Rattle.can_scenario.specs.OpenReport

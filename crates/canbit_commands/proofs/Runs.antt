@@ -3,9 +3,9 @@ use Rattle.std.proofs.Common.{◌≡◌, refl, subst, sym, ℕ, List, Option, Re
 use Rattle.std.specs.Io.KnownBytes.{Appends, Consumes}
 use Rattle.can_stream.specs.Outbox.{TakesFront}
 use Rattle.can_scenario.specs.Report.{report}
-use Rattle.can_scenario.specs.Scenarios.{IsScenarioText}
+use Rattle.can_scenario_text.specs.Scenarios.{IsScenarioText}
 use Rattle.can_stream.specs.Told.{Told}
-use Rattle.can_scenario.specs.declared.scenario.Scenario.{Scenario}
+use Rattle.can_scenario_text.specs.declared.scenario.Scenario.{Scenario}
 use Rattle.canbit_commands.specs.Answers.{BeginsReport, Reports}
 
 module _ {R W : Type 0} (remaining : R → Option (List ℕ)) (before after : R) (contents : W → Option (List ℕ)) (held holds : W) where

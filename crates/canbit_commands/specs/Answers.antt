@@ -4,8 +4,8 @@ use Rattle.can_lines.specs.Checked.{BeginsChecking, ChecksAll, ChecksEnded, Chec
 use Rattle.can_lines.specs.Coded.{BeginsEncoding, EncodesAll, EncodesEnded, EncodesTooLong, IsFirstBadLine}
 use Rattle.can_decode.specs.Decoded.{BeginsDecoding, DecodesAll, DecodesSoFar, DecodesToBadByte, DecodesTooLong}
 use Rattle.can_scenario.specs.Report.{report}
-use Rattle.can_scenario.specs.Scenarios.{IsFirstWrong, IsScenarioText}
-use Rattle.can_scenario.specs.declared.scenario.Scenario.{Scenario}
+use Rattle.can_scenario_text.specs.Scenarios.{IsFirstWrong, IsScenarioText}
+use Rattle.can_scenario_text.specs.declared.scenario.Scenario.{Scenario}
 use Rattle.can_stream.specs.declared.field.Field.{Field}
 use Rattle.canbit_words.specs.declared.subcommands.Chosen.{Chosen}
 use Rattle.canbit_words.specs.declared.subcommands.Chosen.TheVariants.{Encode, Decode, Run, Check}

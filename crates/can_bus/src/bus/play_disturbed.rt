@@ -5,7 +5,8 @@ ghost use Rattle.can_frame.specs.Parts.{IsFrame};
 ghost use Rattle.can_bus.specs.declared.offer.Offer.{Offer as Asked};
 ghost use Rattle.can_bus.specs.Course.{AllEnded, course_at, hits_made};
 ghost use Rattle.can_bus.specs.DisturbedPlay.{WasPlayed};
-ghost use Rattle.can_bus.specs.Hits.{AreTaken, IsFirstHitFault};
+ghost use Rattle.can_hit.specs.Hits.{AreTaken};
+ghost use Rattle.can_bus.specs.Inputs.{IsFirstHitFault};
 ghost use Rattle.can_bus.specs.Network.{AllCountAtMost, CountsAtMost, NetworkLogBegins, NetworkLogHas, NetworkLogWhole, NetworkTally, OnNetworkCall, StaysActive, call_after, call_level, call_refused};
 ghost use Rattle.can_bus.specs.Offers.{AreOffered, IsFirstOfferFault, all_made, is_full, made, refused_at};
 ghost use Rattle.can_bus.specs.Quiet.{AtEachPort, MissesNothing, AtEachNode};
@@ -17,9 +18,9 @@ use crate::bus::Bus;
 use crate::call::Call;
 use crate::check::check;
 use crate::fault::BusFault;
-use crate::hit::Hit;
 use crate::offer::Offer;
 use can_frame::Level;
+use can_hit::Hit;
 use can_node::Port;
 
 /// How far the offers of a call are made: those before this place, of which so many found a full queue.

@@ -9,9 +9,9 @@ ghost use Rattle.can_bus.specs.Wired.{wired as wired_of};
 
 use crate::bus::Bus;
 use crate::call::Call;
-use crate::hit::Hit;
 use crate::wire::wired_level;
 use can_frame::{IDLE_ROW, Level};
+use can_hit::Hit;
 use can_node::Port;
 
 /// How many bit times are taken one after another before the bus is asked again whether it rests, so that a busy bus

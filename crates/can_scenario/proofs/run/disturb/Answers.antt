@@ -1,6 +1,6 @@
 use Rattle.std.proofs.Common.{◌≡◌, false, true, length, map, arith, ◌∙◌}
 use Rattle.std.proofs.lemmas.List.{take_at}
-use Rattle.can_bus.specs.Hits.{AreTaken}
+use Rattle.can_hit.specs.Hits.{AreTaken}
 use Rattle.can_bus.specs.State.{state_of}
 use Rattle.can_scenario.specs.Report.{waiting_port}
 use Rattle.can_scenario.proofs.Started.{bus-is, disturbed-ends, disturbed-known, node_port, same-size}

@@ -8,7 +8,7 @@ use Rattle.can_frame.specs.declared.level.Level.TheVariants.{Recessive}
 use Rattle.can_node.specs.Ports.{PortState}
 use Rattle.can_bus.specs.DisturbedPlay.{WasPlayed}
 use Rattle.can_bus.specs.declared.call.Call.{Call}
-use Rattle.can_bus.specs.Hits.{AreTaken}
+use Rattle.can_hit.specs.Hits.{AreTaken}
 use Rattle.can_bus.specs.Network.{call_after, call_level, call_refused, offered_now}
 use Rattle.can_bus.specs.Offers.{AreOffered, all_made, refused_at}
 use Rattle.can_bus.specs.Run.{CallState, bus_after}

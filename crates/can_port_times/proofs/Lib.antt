@@ -1,0 +1,2 @@
+pub mod SeenLevels
+pub mod ToldTimes

@@ -1,0 +1,2 @@
+-- To believe: what public calls promise is said in these words
+pub mod PortTimes

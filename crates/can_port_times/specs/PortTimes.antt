@@ -1,0 +1,117 @@
+-- What a port does in each bit time of a scenario's run. (docs/FORMATS.md, "`canbit run`"; docs/BUS.md, "A bit time")
+use Rattle.std.specs.Prelude.{ℕ, ◌≡◌, ◌<◌, ◌==◌, ◌+◌, Bool, true, false, ◌&&◌, if◌then◌else◌, List, [], ◌∷◌, get_or, length, Option, Some, None, slice_get}
+use Rattle.std.specs.List.{list_any}
+use Rattle.can_frame.specs.declared.level.Level.{Level}
+use Rattle.can_mac.specs.declared.event.Event.{Event}
+use Rattle.can_mac.specs.declared.event.Event.TheVariants as event
+use Rattle.can_mac.specs.declared.phase.Phase.TheVariants.{Joining, Idle, StuffedPart, CrcDelimiter, AckSlot, AckDelimiter, EndOfFrame, ErrorFlag, PassiveFlag, OverloadFlag, AfterFlag, Delimiter, Intermission, Suspend, BusOff}
+use Rattle.can_mac.specs.declared.phase.Role.{Role}
+use Rattle.can_mac.specs.declared.phase.Role.TheVariants.{Receiver, Sender}
+use Rattle.can_mac.specs.State.{MacPhase}
+use Rattle.can_node.specs.Ports.{PortState, port_drives, port_event, port_step}
+use Rattle.can_hit.specs.declared.hit.Hit.{Hit}
+use Rattle.can_bus.specs.declared.offer.Offer.{Offer}
+use Rattle.can_bus.specs.Offers.{all_made, played, with_offer}
+use Rattle.can_bus.specs.Run.{BusState, bus_run, hits_view, inverted_if}
+use Rattle.can_scenario.specs.Report.{level_by, made_bus, made_port, waiting_bus, waiting_port}
+use Rattle.can_scenario.specs.ScenarioOffers.{scenario_offers}
+use Rattle.can_port_times.specs.declared.port_times.Brought.{Brought}
+use Rattle.can_port_times.specs.declared.port_times.Brought.TheVariants as bring
+use Rattle.can_port_times.specs.declared.port_times.PortTime.{PortTime}
+use Rattle.can_port_times.specs.declared.port_times.Stage.{Stage}
+use Rattle.can_port_times.specs.declared.port_times.Stage.TheVariants as stage
+use Rattle.can_scenario_text.specs.declared.scenario.PortPlan.{PortPlan}
+use Rattle.can_scenario_text.specs.declared.scenario.Scenario.{Scenario}
+
+-- ---- what is told
+
+abbrev pub stage_of : MacPhase → Stage
+stage_of (Joining row) = stage.Joining
+stage_of Idle = stage.Idle
+stage_of (StuffedPart front) = stage.StuffedPart
+stage_of (CrcDelimiter r) = stage.CrcDelimiter
+stage_of (AckSlot r) = stage.AckSlot
+stage_of (AckDelimiter r) = stage.AckDelimiter
+stage_of (EndOfFrame r place) = stage.EndOfFrame
+stage_of (ErrorFlag place) = stage.ErrorFlag
+stage_of (PassiveFlag last run unacknowledged) = stage.PassiveFlag
+stage_of (OverloadFlag place) = stage.OverloadFlag
+stage_of (AfterFlag first dominant) = stage.AfterFlag
+stage_of (Delimiter place) = stage.Delimiter
+stage_of (Intermission place) = stage.Intermission
+stage_of (Suspend place) = stage.Suspend
+stage_of BusOff = stage.BusOff
+
+abbrev pub is_sender : Role → Bool
+is_sender Receiver = false
+is_sender (Sender f) = true
+
+-- an event without its frame
+abbrev pub brought : Option Event → Brought
+brought None = bring.Nothing
+brought (Some (event.Sent f)) = bring.Sent
+brought (Some (event.Received f)) = bring.Received
+brought (Some event.Lost) = bring.Lost
+brought (Some (event.Error kind)) = bring.Error kind
+brought (Some event.Overload) = bring.Overload
+brought (Some event.WentOff) = bring.WentOff
+brought (Some event.Recovered) = bring.Recovered
+
+-- a port, and what it does in a bit time in which it sees this level
+abbrev pub told : PortState → Level → PortTime
+told p seen = record {
+  stage = stage_of p.mac.phase;
+  sends = is_sender p.mac.role;
+  transmit = p.mac.counters.tec;
+  receive = p.mac.counters.rec;
+  drove = port_drives p;
+  saw = seen;
+  brought = brought (port_event p seen);
+}
+
+-- ---- when
+
+-- the bus as a bit time begins, behind the offers of this time
+abbrev pub bus_by : List Hit → Scenario → ℕ → BusState
+bus_by [] s t = record (played (scenario_offers s) t (made_bus s)) { ports = all_made (scenario_offers s) t (played (scenario_offers s) t (made_bus s)).ports }
+bus_by (hit ∷ hits) s t = bus_run (hit ∷ hits) t (waiting_bus s)
+
+abbrev pub bus_at : Scenario → ℕ → BusState
+bus_at s t = bus_by s.hits.items s t
+
+-- the level that the port of this number sees at time t
+abbrev pub seen_by : List Hit → Scenario → ℕ → ℕ → Level
+seen_by hits s node t = inverted_if (list_any (hits_view t node) hits) (level_by hits s t)
+
+abbrev pub level_seen : Scenario → ℕ → ℕ → Level
+level_seen s node t = seen_by s.hits.items s node t
+
+-- what the port of this number does in each bit time
+pub record AreTold (s : Scenario) (node : ℕ) (times : List PortTime) : Type 0 where
+  pub each : length times ≡ s.bits
+  pub told : (t : ℕ) (p : PortState) → t < s.bits → slice_get (bus_at s t).ports node ≡ Some p → slice_get times t ≡ Some (told p (level_seen s node t))
+
+-- ---- the same, of one port alone
+
+-- the port of this number as the run begins, and what all ports are offered meanwhile
+abbrev pub first_port : List Hit → PortPlan → PortState
+first_port [] plan = made_port plan
+first_port (hit ∷ hits) plan = waiting_port plan
+
+abbrev pub offers_meanwhile : List Hit → Scenario → List Offer
+offers_meanwhile [] s = scenario_offers s
+offers_meanwhile (hit ∷ hits) s = []
+
+-- the port is made the offers of this time that name it, in their order
+abbrev pub own_made : ℕ → List Offer → ℕ → PortState → PortState
+own_made node [] t p = p
+own_made node (offer ∷ offers) t p = own_made node offers t (if (offer.time == t) && (offer.node == node) then with_offer offer.frame p else p)
+
+-- from time t on it sees these levels
+abbrev pub told_from : ℕ → List Offer → ℕ → PortState → List Level → List PortTime
+told_from node offers t p [] = []
+told_from node offers t p (x ∷ seen) = told (own_made node offers t p) x ∷ told_from node offers (t + 1) (port_step (own_made node offers t p) x) seen
+
+-- where these levels are recorded, the port of this number sees those
+abbrev pub AreSeen : List Hit → ℕ → List Level → List Level → Type 0
+AreSeen hits node levels seen = (t : ℕ) (d : Level) → t < length levels → get_or seen t d ≡ inverted_if (list_any (hits_view t node) hits) (get_or levels t d)

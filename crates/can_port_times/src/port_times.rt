@@ -1,0 +1,270 @@
+//! What a port does in each bit time of a run.
+ghost use Rattle.std.specs.Prelude.{ℕ, ◌≡◌, ◌+◌, ◌<◌, if◌then◌else◌, [], ◌∷◌, length, get_or, IfOk};
+ghost use Rattle.can_bus.specs.Offers.{AreOffered};
+ghost use Rattle.can_bus.specs.Run.{hits_view};
+ghost use Rattle.can_bus.specs.Walks.{IsReached};
+ghost use Rattle.can_frame.specs.Levels.{opposite};
+ghost use Rattle.can_node.specs.Ports.{port_step};
+ghost use Rattle.can_port_times.specs.PortTimes.{AreSeen, AreTold, brought, first_port, is_sender as is_sender_of, offers_meanwhile, own_made, stage_of, told, told_from};
+
+use can_bus::{Hit, Offer};
+use can_code::{FrameBits, Front};
+use can_frame::Level;
+use can_mac::{ErrorKind, Event, Phase, Role};
+use can_node::{PackedNode, Port};
+use can_scenario::{PortPlan, Scenario, made_port, offer_all, offers_in_time, run_to_end};
+use std::alloc::{AllocError, Global};
+
+/// Where a controller is in the traffic on the bus: its phase, by its name.
+#[derive(Clone, Copy, Debug, PartialEq, Eq)]
+pub enum Stage {
+    Joining,
+    Idle,
+    /// Between the start of frame and the end of the CRC sequence.
+    StuffedPart,
+    CrcDelimiter,
+    AckSlot,
+    AckDelimiter,
+    EndOfFrame,
+    /// An active error flag.
+    ErrorFlag,
+    /// A passive error flag.
+    PassiveFlag,
+    OverloadFlag,
+    /// Behind a flag, before the first recessive level.
+    AfterFlag,
+    /// The delimiter behind a flag.
+    Delimiter,
+    Intermission,
+    Suspend,
+    BusOff,
+}
+
+/// What a bit time brings to a controller.
+#[derive(Clone, Copy, Debug, PartialEq, Eq)]
+pub enum Brought {
+    Nothing,
+    /// The last level of its frame has gone out.
+    Sent,
+    /// A frame has come in.
+    Received,
+    /// Arbitration was lost.
+    Lost,
+    /// An error of this kind was detected.
+    Error(ErrorKind),
+    /// An overload flag starts with the next bit time.
+    Overload,
+    /// The controller is bus off from the next bit time on.
+    WentOff,
+    /// Bus off has ended.
+    Recovered,
+}
+
+/// A port as a bit time begins, and what it does in it.
+#[derive(Clone, Copy, Debug, PartialEq, Eq)]
+pub struct PortTime {
+    pub stage: Stage,
+    /// Whether it is the sender of the frame on the bus.
+    pub sends: bool,
+    /// The transmit error counter.
+    pub transmit: u16,
+    /// The receive error counter.
+    pub receive: u16,
+    /// The level that it drives.
+    pub drove: Level,
+    /// The level that it sees: the recorded one, or its opposite where it alone is disturbed.
+    pub saw: Level,
+    pub brought: Brought,
+}
+
+/// What the port of this number does in each bit time of the scenario's run. It fails only where an allocation does.
+pub fn told_times(
+    alloc: Global,
+    scenario: &Scenario,
+    node: usize,
+) -> Result<Vec<PortTime>, AllocError>
+    requires { node < length scenario.now.ports.items }
+    ensures { IfOk result (λ times. AreTold scenario.now node times.items) }
+{
+    let ended = run_to_end(alloc, scenario)?;
+    let seen = seen_levels(alloc, &scenario.hits, node, &ended.levels)?;
+    let offers = meanwhile(alloc, scenario)?;
+    let port = beginning(alloc, &scenario.hits, &scenario.ports[node])?;
+    replay(alloc, port, node, &offers, &seen)
+}
+
+/// The port of this plan as a run with these disturbances begins.
+fn beginning(alloc: Global, hits: &[Hit], plan: &PortPlan) -> Result<PackedNode, AllocError>
+    ensures { IfOk result (λ port. ⟦<PackedNode as Port>⟧.port port ≡ first_port hits.now plan.now) }
+{
+    let mut port = made_port(alloc, plan)?;
+    if !hits.is_empty() {
+        offer_all(&mut port, &plan.queue);
+    }
+    Ok(port)
+}
+
+/// The offers that are made while the scenario runs.
+fn meanwhile(alloc: Global, scenario: &Scenario) -> Result<Vec<Offer>, AllocError>
+    ensures { IfOk result (λ offers. offers.items ≡ offers_meanwhile scenario.now.hits.items scenario.now) }
+{
+    if scenario.hits.is_empty() {
+        offers_in_time(alloc, &scenario.ports)
+    } else {
+        Ok(Vec::new(alloc))
+    }
+}
+
+/// The levels that the port of this number sees where these are recorded.
+fn seen_levels(
+    alloc: Global,
+    hits: &[Hit],
+    node: usize,
+    levels: &[Level],
+) -> Result<Vec<Level>, AllocError>
+    ensures each { IfOk result (λ seen. length seen.items ≡ length levels.now) }
+    ensures seen { IfOk result (λ seen. AreSeen hits.now node levels.now seen.items) }
+{
+    let mut seen = copied(alloc, levels)?;
+    for hit in hits {
+        see_hit(*hit, node, levels, &mut seen);
+    }
+    Ok(seen)
+}
+
+/// These levels in memory of their own.
+fn copied(alloc: Global, levels: &[Level]) -> Result<Vec<Level>, AllocError>
+    ensures { IfOk result (λ copy. copy.items ≡ levels.now) }
+{
+    let mut copy = Vec::with_capacity(alloc, levels.len())?;
+    for level in levels {
+        copy.push(*level)?;
+    }
+    Ok(copy)
+}
+
+/// Where the hit falls on what this port sees, that is the opposite of the recorded level.
+fn see_hit(hit: Hit, node: usize, levels: &[Level], seen: &mut [Level])
+    requires { length seen.old ≡ length levels.now }
+    ensures each { length seen.new ≡ length levels.now }
+    ensures seen { (t : ℕ) (d : Level) → t < length levels.now → get_or seen.new t d ≡ (if hits_view t node hit then opposite (get_or levels.now t d) else get_or seen.old t d) }
+{
+    if let Hit::View { time, node: port } = hit
+        && port == node
+        && time < levels.len() as u64
+    {
+        seen[time as usize] = levels[time as usize].opposite();
+    }
+}
+
+/// What a port does that sees these levels, one a bit time, to which those of these offers that name it are made.
+fn replay(
+    alloc: Global,
+    mut port: PackedNode,
+    node: usize,
+    offers: &[Offer],
+    seen: &[Level],
+) -> Result<Vec<PortTime>, AllocError>
+    requires { (ports : ℕ) × AreOffered ports offers.now }
+    ensures { IfOk result (λ times. times.items ≡ told_from node offers.now 0 (⟦<PackedNode as Port>⟧.port port) seen.now) }
+{
+    let mut times = Vec::with_capacity(alloc, seen.len())?;
+    let mut place = 0;
+    for time in 0..seen.len() {
+        offer_due(&mut port, node, offers, time as u64, &mut place);
+        times.push(tell(&mut port, seen[time]))?;
+    }
+    Ok(times)
+}
+
+/// Makes the offers of this time that name the port, in their order. Those before `place` are earlier.
+fn offer_due<P: Port>(port: &mut P, node: usize, offers: &[Offer], time: u64, place: &mut usize)
+    requires offered { (ports : ℕ) × AreOffered ports offers.now }
+    requires reached { IsReached offers.now place.old time }
+    ensures port { P.port port.new ≡ own_made node offers.now time (P.port port.old) }
+    ensures reached { IsReached offers.now place.new (time + 1) }
+{
+    while *place < offers.len() && offers[*place].time == time {
+        offer_own(port, node, offers[*place]);
+        *place += 1;
+    }
+}
+
+/// Makes an offer to the port, if it names it.
+fn offer_own<P: Port>(port: &mut P, node: usize, offer: Offer)
+    ensures { P.port port.new ≡ own_made node (offer ∷ []) offer.time (P.port port.old) }
+{
+    if offer.node == node {
+        let _ = port.offer(offer.frame);
+    }
+}
+
+/// Has a port see a level, and tells what it does.
+fn tell(port: &mut PackedNode, seen: Level) -> PortTime
+    ensures told { result ≡ told (⟦<PackedNode as Port>⟧.port port.old) seen }
+    ensures port { ⟦<PackedNode as Port>⟧.port port.new ≡ port_step (⟦<PackedNode as Port>⟧.port port.old) seen }
+{
+    let (transmit, receive) = port.counters();
+    let stage = stage_in(port.access().phase());
+    let sends = is_sender(port.access().role());
+    let drove = port.drive();
+    let brought = brought_by(port.sample(seen));
+    PortTime {
+        stage,
+        sends,
+        transmit,
+        receive,
+        drove,
+        saw: seen,
+        brought,
+    }
+}
+
+/// Where a controller is, by the name of its phase.
+fn stage_in<B: FrameBits>(phase: &Phase<Front<B>>) -> Stage
+    ensures { result ≡ stage_of phase.now }
+{
+    match phase {
+        Phase::Joining { .. } => Stage::Joining,
+        Phase::Idle => Stage::Idle,
+        Phase::StuffedPart(_) => Stage::StuffedPart,
+        Phase::CrcDelimiter(_) => Stage::CrcDelimiter,
+        Phase::AckSlot(_) => Stage::AckSlot,
+        Phase::AckDelimiter(_) => Stage::AckDelimiter,
+        Phase::EndOfFrame { .. } => Stage::EndOfFrame,
+        Phase::ErrorFlag { .. } => Stage::ErrorFlag,
+        Phase::PassiveFlag { .. } => Stage::PassiveFlag,
+        Phase::OverloadFlag { .. } => Stage::OverloadFlag,
+        Phase::AfterFlag { .. } => Stage::AfterFlag,
+        Phase::Delimiter { .. } => Stage::Delimiter,
+        Phase::Intermission { .. } => Stage::Intermission,
+        Phase::Suspend { .. } => Stage::Suspend,
+        Phase::BusOff => Stage::BusOff,
+    }
+}
+
+/// Whether a controller is the sender of the frame on the bus.
+fn is_sender(role: &Role) -> bool
+    ensures { result ≡ is_sender_of role.now }
+{
+    match role {
+        Role::Receiver => false,
+        Role::Sender(_) => true,
+    }
+}
+
+/// What an event is, without its frame.
+fn brought_by(event: Option<Event>) -> Brought
+    ensures { result ≡ brought event }
+{
+    match event {
+        None => Brought::Nothing,
+        Some(Event::Sent(_)) => Brought::Sent,
+        Some(Event::Received(_)) => Brought::Received,
+        Some(Event::Lost) => Brought::Lost,
+        Some(Event::Error(kind)) => Brought::Error(kind),
+        Some(Event::Overload) => Brought::Overload,
+        Some(Event::WentOff) => Brought::WentOff,
+        Some(Event::Recovered) => Brought::Recovered,
+    }
+}

@@ -1,6 +1,0 @@
-use Rattle.can_scenario.specs.Scenarios.{port_demands, SaysPort}
-use Rattle.can_toml.proofs.ReadLists.{IsRead}
-use Rattle.can_scenario.proofs.scenario.ports.read_ports.Given as goal
-
-abbrev pub invariant-loop-number : goal.invariant-loop-number
-invariant-loop-number l = IsRead (port_demands l.version) (SaysPort l.version) l.tables l.number l.plans.items

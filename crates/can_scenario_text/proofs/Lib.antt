@@ -1,0 +1,4 @@
+pub mod ScenarioParts
+pub mod ScenarioRows
+pub mod HitLemmas
+pub mod OneScenario
