@@ -7,7 +7,7 @@ use Rattle.std.specs.declared.cmp.Ordering.{Ordering}
 use Rattle.std.specs.declared.cmp.Ordering.TheVariants.{Less, Equal, Greater}
 use Rattle.std.specs.Ordering.{ordering_reverse, ordering_then, nat_cmp, is_gt}
 use Rattle.std.proofs.lemmas.Bool.{cond-true, cond-false, cases_lt, cond_both}
-use Rattle.std.proofs.lemmas.List.{append-nil, set_split, get_or-take, get_or_past, get_or_append_left, drop_all, length-take-le, length_push}
+use Rattle.std.proofs.lemmas.List.{append-nil, set_split, get_or_past, get_or_append_left, drop_all, length_push}
 use Rattle.std.proofs.lemmas.List.Elements.{filter_map-append}
 use Rattle.can_frame.specs.Parts.{Parts, IsFrame}
 use Rattle.can_frame.specs.Arbitration.{arbitration_field, field_cmp}
@@ -177,13 +177,6 @@ same-push slots x n apart =
     elim (cases_lt n (length slots)) [
       | inl l ↦ get_or_append_left slots (x ∷ []) None n l
       | inr past ↦ get_or_past (slots ++ x ∷ []) n None (omega (arith, length_push slots x, past, apart)) ∙ sym (get_or_past slots n None past)
-    ]
-
-pub same-last : (slots : List (Option Parts)) (place : ℕ) → place + 1 ≡ length slots → (n : ℕ) → n ≢ place → get_or (take place slots) n None ≡ get_or slots n None
-same-last slots place e n apart =
-    elim (cases_lt n place) [
-      | inl l ↦ get_or-take place slots n None l
-      | inr past ↦ get_or_past (take place slots) n None (omega (arith, length-take-le place slots (omega (arith, e)), past)) ∙ sym (get_or_past slots n None (omega (arith, e, past, apart)))
     ]
 
 -- ---- the frames of a queue

@@ -1,15 +1,14 @@
 -- Which frame of a queue waits, as frames come and go.
-use Rattle.std.proofs.Common.{◌≡◌, ℕ, zero, suc, ◌+◌, ◌≤◌, Bool, true, false, cond, not, List, [], ◌∷◌, ◌++◌, length, take, refl, sym, ◌∙◌, ap, subst, arith, inl, inr, add-one}
-use Rattle.std.specs.Prelude.{Option, Some, None, slice_get, ◌⊎◌, nat_lt, position, remove}
-use Rattle.std.specs.List.{position_or_len}
+use Rattle.std.proofs.Common.{◌≡◌, ℕ, zero, suc, ◌+◌, Bool, true, false, cond, List, [], ◌∷◌, ◌++◌, take, refl, ◌∙◌, ap, subst, inl, inr, add-one}
+use Rattle.std.specs.Prelude.{Option, Some, None, slice_get, ◌⊎◌}
 use Rattle.std.specs.declared.cmp.Ordering.{Ordering}
 use Rattle.std.specs.declared.cmp.Ordering.TheVariants.{Less, Equal, Greater}
-use Rattle.std.proofs.lemmas.Bool.{cond-true, cond-false, cases_Bool, ltb-false}
+use Rattle.std.proofs.lemmas.Bool.{cases_Bool}
 use Rattle.can_frame.specs.Parts.{Parts}
 use Rattle.can_frame.specs.Arbitration.{arbitration_field, field_cmp, Before}
 use Rattle.can_frame.proofs.BeforeLemmas.{Before-trans, Ranked}
 use Rattle.can_frame.proofs.FieldLemmas.{fields_ranked, key_cmp-tells}
-use Rattle.can_node.specs.Ports.{is_less, is_equal, goes_before, same_field, earlier, waiting, without}
+use Rattle.can_node.specs.Ports.{is_less, is_equal, goes_before, same_field, earlier, waiting}
 
 -- ---- the tests of two frames, and the order of their arbitration fields
 
@@ -30,9 +29,6 @@ abbrev pub Shares : Parts → Parts → Type 0
 Shares f g = arbitration_field f ≡ arbitration_field g
 
 module _ (f g : Parts) where
-  compared : Ordering
-  compared = field_cmp (arbitration_field f) (arbitration_field g)
-
   pub goes_before-Wins : goes_before f g ≡ true → Wins f g
   goes_before-Wins e = (key_cmp-tells f g).less.0 (is_less-Less (field_cmp (arbitration_field f) (arbitration_field g)) e)
 
@@ -71,32 +67,6 @@ module _ (f g h : Parts) where
         | inr n ↦ n
       ]
 
--- ---- places of a list
-
-slice_get-front : (xs ys : List Parts) (n : ℕ) (x : Parts) → slice_get xs n ≡ Some x → slice_get (xs ++ ys) n ≡ Some x
-slice_get-front [] ys n x e = cc
-slice_get-front (y ∷ xs) ys zero x e = e
-slice_get-front (y ∷ xs) ys (suc n) x e = slice_get-front xs ys n x e
-
-slice_get-last : (xs : List Parts) (x : Parts) → slice_get (xs ++ x ∷ []) (length xs) ≡ Some x
-slice_get-last [] x = refl
-slice_get-last (y ∷ xs) x = slice_get-last xs x
-
--- what holds of each of a list's elements holds of each of those that are left
-pub each-remove : (P : Parts → Type 0) (xs : List Parts) (place : ℕ) → ((n : ℕ) (x : Parts) → slice_get xs n ≡ Some x → P x) →
-    (n : ℕ) (x : Parts) → slice_get (remove xs place) n ≡ Some x → P x
-each-remove P [] zero h n x e = h n x e
-each-remove P [] (suc place) h n x e = h n x e
-each-remove P (y ∷ xs) zero h n x e = h (suc n) x e
-each-remove P (y ∷ xs) (suc place) h zero x e = h 0 x e
-each-remove P (y ∷ xs) (suc place) h (suc n) x e = each-remove P xs place (λ m z k. h (suc m) z k) n x e
-
-remove_past : (xs : List Parts) (n : ℕ) → length xs ≤ n → remove xs n ≡ xs
-remove_past [] zero h = refl
-remove_past [] (suc n) h = refl
-remove_past (x ∷ xs) zero h = absurd (omega arith)
-remove_past (x ∷ xs) (suc n) h = ap (λ l. x ∷ l) (remove_past xs n (omega arith))
-
 -- ---- a frame more
 
 -- which of two goes, by any test
@@ -132,57 +102,7 @@ unfolding waiting
 waiting-push [] f = refl
 waiting-push (g ∷ queue) f = ap (λ w. Some (earlier g w)) (waiting-push queue f) ∙ earlier_behind g (waiting queue) f
 
--- ---- a frame less
-
--- one frame in front: the test of it decides
-without_by : (f g : Parts) (queue : List Parts) (same : Bool) (n : ℕ) → without f queue ≡ remove queue n →
-    cond same queue (g ∷ without f queue) ≡ remove (g ∷ queue) (cond (not same) (1 + n) 0)
-without_by f g queue true n e = refl
-without_by f g queue false n e = ap (λ q. g ∷ q) e ∙ ap (remove (g ∷ queue)) (let k : suc n ≡ 1 + n = omega arith in k)
-
-without-remove : (f : Parts) (queue : List Parts) → without f queue ≡ remove queue (position_or_len (same_field f) queue)
-unfolding without
-without-remove f [] = refl
-without-remove f (g ∷ queue) = without_by f g queue (same_field f g) (position_or_len (same_field f) queue) (without-remove f queue)
-
-pub place_found : (b : Bool) (m n : ℕ) → cond b (Some m) None ≡ Some n → m ≡ n
-place_found true m n e = cc
-place_found false m n e = cc
-
-pub none_found : (b : Bool) (m : ℕ) → cond b (Some m) None ≡ None → b ≡ false
-none_found true m e = cc
-none_found false m e = refl
-
-pub without-found : (f : Parts) (queue : List Parts) (place : ℕ) → position (same_field f) queue ≡ Some place → without f queue ≡ remove queue place
-without-found f queue place e =
-    let len = position_or_len (same_field f) queue in
-    without-remove f queue ∙ ap (remove queue) (place_found (nat_lt len (length queue)) len place e)
-
-pub without-none : (f : Parts) (queue : List Parts) → position (same_field f) queue ≡ None → without f queue ≡ queue
-without-none f queue e =
-    let len = position_or_len (same_field f) queue in
-    let past : length queue ≤ len = ltb-false len (length queue) (none_found (nat_lt len (length queue)) len e) in
-    without-remove f queue ∙ remove_past queue len past
-
 -- ---- the place of the frame that waits
-
-pub waiting-empty : (queue : List Parts) → queue ≡ [] → slice_get queue 0 ≡ waiting queue
-unfolding waiting
-waiting-empty queue e = ap (λ q. slice_get q 0) e ∙ sym (ap waiting e)
-
--- the frame at a place waits with one more frame behind the queue, unless this goes before it
-module _ (queue : List Parts) (f w : Parts) (waits : waiting queue ≡ Some w) where
-  pub waits_behind : waiting (queue ++ f ∷ []) ≡ Some (earlier w (Some f))
-  waits_behind = waiting-push queue f ∙ ap (λ o. behind o f) waits
-
-  pub next-stays : (next : ℕ) → slice_get queue next ≡ Some w → goes_before f w ≡ false → slice_get (queue ++ f ∷ []) next ≡ waiting (queue ++ f ∷ [])
-  next-stays next stands after = slice_get-front queue (f ∷ []) next w stands ∙ ap Some (sym (cond-false (goes_before f w) f w after)) ∙ sym waits_behind
-
-  pub next-new : goes_before f w ≡ true → slice_get (queue ++ f ∷ []) (length queue) ≡ waiting (queue ++ f ∷ [])
-  next-new before = slice_get-last queue f ∙ ap Some (sym (cond-true (goes_before f w) f w before)) ∙ sym waits_behind
-
-pub next-only : (queue : List Parts) (f : Parts) → waiting queue ≡ None → slice_get (queue ++ f ∷ []) (length queue) ≡ waiting (queue ++ f ∷ [])
-next-only queue f none = slice_get-last queue f ∙ sym (waiting-push queue f ∙ ap (λ o. behind o f) none)
 
 pub take_next : (queue : List Parts) (n : ℕ) (f : Parts) → slice_get queue n ≡ Some f → take (n + 1) queue ≡ take n queue ++ f ∷ []
 take_next queue n f e = ap (λ k. take k queue) (add-one n) ∙ by_suc queue n e

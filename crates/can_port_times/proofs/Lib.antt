@@ -1,2 +1,1 @@
-pub mod SeenLevels
 pub mod ToldTimes
