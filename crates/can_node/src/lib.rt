@@ -20,8 +20,9 @@
 //! | `listening.rt` | [`listen`], and what a port claims | `specs/Listening.antt` |
 //! | `laws.rt` | which frame of a queue waits | `specs/Waiting.antt` |
 //!
-//! The queue keeps the place of the frame that goes first: one comparison where a frame is offered, a search where
-//! one leaves, and no bit time has to look for it. `Node`, its queue and its log keep what holds of them in ghost
+//! The queue has a slot for each frame, in the order of the offers, and over the slots a tournament: an offer, and a
+//! frame that leaves, cost the logarithm of the number of frames. The frame that goes first is kept, so that no bit
+//! time has to look for it. `Node`, its queue and its log keep what holds of them in ghost
 //! fields, since a law of a trait, as `valid` of [`Port`], speaks of every value of an implementing type.
 //!
 //! Crates above find lemmas in `proofs/`, which `proofs/Lib.antt` lists with what each file has.
