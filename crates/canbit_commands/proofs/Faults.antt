@@ -1,6 +1,5 @@
 -- What a stream's fault says of what was read and written, and how a subcommand ends.
 use Rattle.std.proofs.Common.{◌≡◌, ◌≢◌, ◌⊎◌, ◌<◌, arith, inl, inr, refl, ℕ, Bool, true, false, List, Option, Result, Ok, Err, IsTrue}
-use Rattle.std.specs.Prelude.{◌↔◌}
 use Rattle.std.specs.Io.KnownBytes.{IsAtEnd}
 use Rattle.std.specs.Result.{IsErrOf}
 use Rattle.can_lines.specs.Checked.{ChecksAll}

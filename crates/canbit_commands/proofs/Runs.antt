@@ -11,7 +11,7 @@ use Rattle.can_stream.specs.Told.{Told}
 use Rattle.can_stream.specs.declared.fault.TraceFault.{TraceFault}
 use Rattle.can_stream.specs.declared.fault.TraceFault.TheVariants.{ScenarioField, Read, Write, Memory}
 use Rattle.can_stream.specs.declared.field.Field.{Field}
-use Rattle.canbit_commands.specs.Answers.{BeginsReport, RefusesScenario, Reports, WritesNothing}
+use Rattle.canbit_commands.specs.Answers.{RefusesScenario, WritesNothing}
 use Rattle.canbit_commands.specs.Ends.{RunEnds}
 
 took-nothing : (taken : Option (List ℕ)) → Appends taken taken []
