@@ -15,7 +15,7 @@
 //! | `can_stream` | [`Source`], [`Sink`], what bytes are read from and written to; [`TraceFault`], why an answer is not whole | `can_frame` |
 //! | `can_lines` | [`encode_lines`], [`check_lines`] | `can_stream`, `can_code` |
 //! | `can_decode` | [`decode_stream`] | `can_stream`, `can_code` |
-//! | `can_scenario` | [`Scenario`], a bus to be run, read from a document, and [`run_scenario`] | `can_stream`, `can_bus` |
+//! | `can_scenario` | [`Scenario`], a bus to be run, read from a document by `can_scenario_text`, and [`run_scenario`] | `can_stream`, `can_bus` |
 //!
 //! Their definitions can be named as those of this crate, as `Rattle.can_trace.specs.Coded` (`specs/Lib.antt`).
 #![tactic(auto)]

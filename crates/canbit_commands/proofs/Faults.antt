@@ -1,5 +1,6 @@
--- What a stream's fault says of what was read and written.
-use Rattle.std.proofs.Common.{◌≡◌, ◌≢◌, ◌⊎◌, arith, inl, inr, refl, ℕ, Bool, List, Option, Err, IsTrue}
+-- What a stream's fault says of what was read and written, and how a subcommand ends.
+use Rattle.std.proofs.Common.{◌≡◌, ◌≢◌, ◌⊎◌, ◌<◌, arith, inl, inr, refl, ℕ, Bool, true, false, List, Option, Result, Ok, Err, IsTrue}
+use Rattle.std.specs.Io.KnownBytes.{IsAtEnd}
 use Rattle.std.specs.Result.{IsErrOf}
 use Rattle.can_lines.specs.Checked.{ChecksAll}
 use Rattle.can_stream.specs.Told.{Told}
@@ -7,9 +8,76 @@ use Rattle.can_stream.specs.declared.fault.TraceFault.{TraceFault}
 use Rattle.can_stream.specs.declared.fault.TraceFault.TheVariants.{BadByte, ScenarioField, Read, Write, Memory, Long, FrameLine}
 use Rattle.can_program.specs.declared.fault.RunFault.TheVariants.{Stream}
 use Rattle.canbit_words.specs.declared.subcommands.Chosen.{Chosen}
-use Rattle.canbit_words.specs.declared.subcommands.Chosen.TheVariants.{Check}
-use Rattle.canbit_commands.specs.Answers.{AnswersTooLong, HasBadByte, HasBadLine, HasWrongField, PassesAll, RefusesInput}
+use Rattle.canbit_words.specs.declared.subcommands.Chosen.TheVariants.{Run, Check}
+use Rattle.canbit_commands.specs.Answers.{AnswersAll, AnswersEnded, AnswersTooLong, BeginsAnswering, HasBadByte, HasBadLine, HasWrongField, PassesAll, RefusesInput}
+use Rattle.canbit_commands.specs.Ends.{Ends}
 use Rattle.can_program.specs.Status.{status_of}
+
+-- ---- the statuses of a stream's faults
+
+not-done : (fault : TraceFault) → status_of (Stream fault) ≡ 0 → ⊥
+not-done (BadByte place) is = omega arith
+not-done (ScenarioField wrong) is = omega arith
+not-done Read is = omega arith
+not-done Write is = omega arith
+not-done Memory is = omega arith
+not-done Long is = omega arith
+not-done (FrameLine number fault) is = omega arith
+
+of-stream : (fault : TraceFault) → status_of (Stream fault) ≡ 3 → (fault ≡ Read) ⊎ (fault ≡ Write)
+of-stream (BadByte place) is = absurd (omega arith)
+of-stream (ScenarioField wrong) is = absurd (omega arith)
+of-stream Read is = inl refl
+of-stream Write is = inr refl
+of-stream Memory is = absurd (omega arith)
+of-stream Long is = absurd (omega arith)
+of-stream (FrameLine number fault) is = absurd (omega arith)
+
+of-memory : (fault : TraceFault) → status_of (Stream fault) ≡ 4 → fault ≡ Memory
+of-memory (BadByte place) is = absurd (omega arith)
+of-memory (ScenarioField wrong) is = absurd (omega arith)
+of-memory Read is = absurd (omega arith)
+of-memory Write is = absurd (omega arith)
+of-memory Memory is = refl
+of-memory Long is = absurd (omega arith)
+of-memory (FrameLine number fault) is = absurd (omega arith)
+
+limits : (fault : TraceFault) → (status_of (Stream fault) < 5) × (status_of (Stream fault) ≢ 2)
+limits (BadByte place) = (omega arith, λ is. omega arith)
+limits (ScenarioField wrong) = (omega arith, λ is. omega arith)
+limits Read = (omega arith, λ is. omega arith)
+limits Write = (omega arith, λ is. omega arith)
+limits Memory = (omega arith, λ is. omega arith)
+limits Long = (omega arith, λ is. omega arith)
+limits (FrameLine number fault) = (omega arith, λ is. omega arith)
+
+-- why a call ended whose reader failed
+abbrev pub Cause : TraceFault → Type 0
+Cause fault = (fault ≡ Read) ⊎ ((fault ≡ Write) ⊎ ((place : ℕ) × (fault ≡ BadByte place)))
+
+-- where that of the reader is told if the writer has not failed too
+pub told-cause : (has_failed is_cut : Bool) (fault : TraceFault) → ((IsTrue has_failed × (is_cut ≡ false)) → fault ≡ Read) → (IsTrue is_cut → fault ≡ Write) → IsTrue has_failed → Cause fault
+told-cause has_failed true fault read write failed = inr (inl (write refl))
+told-cause has_failed false fault read write failed = inl (read (failed, refl))
+
+-- of a reader that has failed, in a call that was not ended by it
+pub not-both : (has_failed is_cut : Bool) → IsTrue has_failed → ((IsTrue has_failed × (is_cut ≡ false)) → ⊥) → (IsTrue is_cut → ⊥) → ⊥
+not-both has_failed true failed whole uncut = uncut refl
+not-both has_failed false failed whole uncut = whole (failed, refl)
+
+-- the same, as `check_lines` tells it
+abbrev ToldCause : {T : Type 0} → Result T TraceFault → Type 0
+ToldCause r = IsErrOf r Read ⊎ (IsErrOf r Write ⊎ ((place : ℕ) × IsErrOf r (BadByte place)))
+
+pub caused : {T : Type 0} (fault : TraceFault) → ToldCause {T = T} (Err fault) → Cause fault
+caused fault (inl e) = inl cc
+caused fault (inr (inl e)) = inr (inl cc)
+caused fault (inr (inr at)) = let e = at.1 in inr (inr (at.0, cc))
+
+pub uncaused : {T : Type 0} {x : T} → ToldCause (Ok x) → ⊥
+uncaused (inl e) = cc
+uncaused (inr (inl e)) = cc
+uncaused (inr (inr at)) = let e = at.1 in cc
 
 module _ {R W : Type 0} (remaining : R → Option (List ℕ)) (before after : R) (contents : W → Option (List ℕ)) (held holds : W) where
   -- what was read and written is so related
@@ -40,26 +108,6 @@ module _ {R W : Type 0} (remaining : R → Option (List ℕ)) (before after : R)
   refused chosen reader_ended Long is byte long line field = weaker _ _ (λ input output h. inr (inr (inl h))) (long refl)
   refused chosen reader_ended (FrameLine number fault) is byte long line field = weaker _ _ (λ input output h. inr (inl (number, h))) (line number fault refl)
 
-  -- so is that of a byte before which the reader failed
-  pub read_told : {T : Type 0} (chosen : Chosen) (fault : TraceFault) → ((place : ℕ) → IsErrOf {T = T} (Err fault) (BadByte place) → Says (HasBadByte chosen place))
-      → IsErrOf {T = T} (Err fault) Read ⊎ (IsErrOf {T = T} (Err fault) Write ⊎ ((place : ℕ) × IsErrOf {T = T} (Err fault) (BadByte place)))
-      → (status_of (Stream fault) ≡ 3) ⊎ ((status_of (Stream fault) ≡ 1) × ((place : ℕ) × Says (HasBadByte chosen place)))
-  read_told chosen (BadByte place) byte cause = inr (refl, (place, byte place refl))
-  read_told chosen Read byte cause = inl refl
-  read_told chosen Write byte cause = inl refl
-  read_told chosen (ScenarioField wrong) byte (inl read) = cc
-  read_told chosen (ScenarioField wrong) byte (inr (inl write)) = cc
-  read_told chosen (ScenarioField wrong) byte (inr (inr at)) = let e = at.1 in cc
-  read_told chosen Memory byte (inl read) = cc
-  read_told chosen Memory byte (inr (inl write)) = cc
-  read_told chosen Memory byte (inr (inr at)) = let e = at.1 in cc
-  read_told chosen Long byte (inl read) = cc
-  read_told chosen Long byte (inr (inl write)) = cc
-  read_told chosen Long byte (inr (inr at)) = let e = at.1 in cc
-  read_told chosen (FrameLine number fault) byte (inl read) = cc
-  read_told chosen (FrameLine number fault) byte (inr (inl write)) = cc
-  read_told chosen (FrameLine number fault) byte (inr (inr at)) = let e = at.1 in cc
-
   -- as many pass as there are
   pub passes_all : (passed count : ℕ) → passed ≡ count → Says (ChecksAll passed count) → Says PassesAll
   passes_all passed count same told = weaker _ PassesAll (λ input output checks. (count, rw same at checks)) told
@@ -68,3 +116,85 @@ module _ {R W : Type 0} (remaining : R → Option (List ℕ)) (before after : R)
   pub passes_not_all : (passed count : ℕ) (reader_ended : Bool) → passed ≢ count → IsTrue reader_ended → Says (ChecksAll passed count) → Says (RefusesInput Check reader_ended)
   passes_not_all passed count reader_ended differ ended told =
       weaker _ (RefusesInput Check reader_ended) (λ input output checks. inr (inr (inr (inl (ended, (passed, (count, differ, checks))))))) told
+
+  -- ---- how a subcommand ends
+
+  module _ (has_ended has_failed is_cut : Bool) where
+    abbrev Ended : Chosen → ℕ → Type 0
+    Ended chosen status = Ends remaining before after contents held holds has_ended has_failed is_cut chosen status
+
+    -- all was done
+    pub finished : (chosen : Chosen) → Says (AnswersAll chosen) → IsTrue has_ended → IsAtEnd (remaining after) → (IsTrue has_failed → ⊥) → (IsTrue is_cut → ⊥) → Ended chosen 0
+    finished chosen done ended at_end unfailed uncut = record {
+      all_done = λ is. done;
+      all_read = λ is. (ended, at_end);
+      input_refused = λ is. absurd (omega arith);
+      reader_failed = λ is whole. absurd (omega arith);
+      writer_failed = λ cut. absurd (uncut cut);
+      stream_failed = λ is. absurd (omega arith);
+      write_told = λ cut. absurd (uncut cut);
+      read_told = λ failed. absurd (unfailed failed);
+      limit = omega arith;
+      no_misuse = λ is. omega arith;
+      unwritten = λ is. absurd (omega arith);
+      memory = λ is. absurd (omega arith);
+    }
+
+    -- vectors differ
+    pub differing : Says (RefusesInput Check has_ended) → (IsTrue has_failed → ⊥) → (IsTrue is_cut → ⊥) → Ended Check 1
+    differing refusal unfailed uncut = record {
+      all_done = λ is. absurd (omega arith);
+      all_read = λ is. absurd (omega arith);
+      input_refused = λ is. refusal;
+      reader_failed = λ is whole. absurd (omega arith);
+      writer_failed = λ cut. absurd (uncut cut);
+      stream_failed = λ is. absurd (omega arith);
+      write_told = λ cut. absurd (uncut cut);
+      read_told = λ failed. absurd (unfailed failed);
+      limit = omega arith;
+      no_misuse = λ is. omega arith;
+      unwritten = λ is. absurd (omega arith);
+      memory = λ is. absurd (omega arith);
+    }
+
+    failed-or-cut : (fault : TraceFault) → (fault ≡ Read → IsTrue has_failed) → (fault ≡ Write → IsTrue is_cut) → (fault ≡ Read) ⊎ (fault ≡ Write) → IsTrue has_failed ⊎ IsTrue is_cut
+    failed-or-cut fault read write (inl is) = inl (read is)
+    failed-or-cut fault read write (inr is) = inr (write is)
+
+    read-if-uncut : (fault : TraceFault) → (fault ≡ Write → IsTrue is_cut) → is_cut ≡ false → (fault ≡ Read) ⊎ (fault ≡ Write) → fault ≡ Read
+    read-if-uncut fault write uncut (inl is) = is
+    read-if-uncut fault write uncut (inr is) = absurd (let cut : is_cut ≡ true = write is in cc)
+
+    by-cause : (chosen : Chosen) (fault : TraceFault) → ((place : ℕ) → fault ≡ BadByte place → Says (HasBadByte chosen place)) → Cause fault
+        → (status_of (Stream fault) ≡ 3) ⊎ ((status_of (Stream fault) ≡ 1) × ((place : ℕ) × Says (HasBadByte chosen place)))
+    by-cause chosen fault byte (inl is) = inl (rw is refl)
+    by-cause chosen fault byte (inr (inl is)) = inl (rw is refl)
+    by-cause chosen fault byte (inr (inr at)) = inr (rw at.1 refl, (at.0, byte at.0 at.1))
+
+    -- a stream's fault ended it
+    pub faulted : (chosen : Chosen) (fault : TraceFault)
+        → ((place : ℕ) → fault ≡ BadByte place → Says (HasBadByte chosen place))
+        → (fault ≡ Long → Says (AnswersTooLong chosen))
+        → ((number : ℕ) (text_fault : _) → fault ≡ FrameLine number text_fault → Says (HasBadLine chosen number has_ended))
+        → ((wrong : _) → fault ≡ ScenarioField wrong → Says (HasWrongField chosen has_ended))
+        → (fault ≡ Read → Says (AnswersEnded chosen))
+        → (fault ≡ Write → Says (BeginsAnswering chosen has_ended))
+        → (fault ≡ Read → IsTrue has_failed)
+        → (fault ≡ Write → IsTrue is_cut) → (IsTrue is_cut → fault ≡ Write)
+        → (IsTrue has_failed → Cause fault)
+        → (fault ≡ Memory → (chosen ≡ Run) × (holds ≡ held))
+        → Ended chosen (status_of (Stream fault))
+    faulted chosen fault byte long line field read write read_failed write_failed failed_write cause memory = record {
+      all_done = λ is. absurd (not-done fault is);
+      all_read = λ is. absurd (not-done fault is);
+      input_refused = λ is. refused chosen has_ended fault is byte long line field;
+      reader_failed = λ is uncut. read (read-if-uncut fault write_failed uncut (of-stream fault is));
+      writer_failed = λ cut. write (failed_write cut);
+      stream_failed = λ is. failed-or-cut fault read_failed write_failed (of-stream fault is);
+      write_told = λ cut. rw (failed_write cut) refl;
+      read_told = λ failed. by-cause chosen fault byte (cause failed);
+      limit = (limits fault).0;
+      no_misuse = (limits fault).1;
+      unwritten = λ is. (memory (of-memory fault is)).1;
+      memory = λ is. (memory (of-memory fault is)).0;
+    }

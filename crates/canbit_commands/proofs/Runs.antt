@@ -1,33 +1,170 @@
 -- What was read and written of a scenario that was run.
-use Rattle.std.proofs.Common.{◌≡◌, refl, subst, sym, ℕ, List, Option, Result, Ok, Err, OnOk}
-use Rattle.std.specs.Io.KnownBytes.{Appends, Consumes}
+use Rattle.std.specs.Result.{IsErrOf}
+use Rattle.std.proofs.Common.{◌≡◌, ◌⊎◌, inl, inr, refl, ap, subst, sym, append-nil, ℕ, Bool, List, [], Option, Some, None, Result, Ok, Err, IsTrue, OnOk, false}
+use Rattle.std.specs.Prelude.{◌↔◌, IfErr}
+use Rattle.std.specs.Io.KnownBytes.{Appends, Consumes, IsAtEnd}
 use Rattle.can_stream.specs.Outbox.{TakesFront}
 use Rattle.can_scenario.specs.Report.{report}
-use Rattle.can_scenario_text.specs.Scenarios.{IsScenarioText}
-use Rattle.can_stream.specs.Told.{Told}
+use Rattle.can_scenario_text.specs.Scenarios.{IsFieldOrMemory, IsFirstWrong, IsScenarioText}
 use Rattle.can_scenario_text.specs.declared.scenario.Scenario.{Scenario}
-use Rattle.canbit_commands.specs.Answers.{BeginsReport, Reports}
+use Rattle.can_stream.specs.Told.{Told}
+use Rattle.can_stream.specs.declared.fault.TraceFault.{TraceFault}
+use Rattle.can_stream.specs.declared.fault.TraceFault.TheVariants.{ScenarioField, Read, Write, Memory}
+use Rattle.can_stream.specs.declared.field.Field.{Field}
+use Rattle.canbit_commands.specs.Answers.{RefusesScenario, WritesNothing}
+use Rattle.canbit_commands.specs.Ends.{RunEnds}
+
+took-nothing : (taken : Option (List ℕ)) → Appends taken taken []
+took-nothing None = tt
+took-nothing (Some bytes) = sym (append-nil bytes)
 
 module _ {R W : Type 0} (remaining : R → Option (List ℕ)) (before after : R) (contents : W → Option (List ℕ)) (held holds : W) where
-  module _ (read text : List ℕ) (scenario : Scenario) (consumes : Consumes (remaining before) (remaining after) read) (same : text ≡ read) (says : IsScenarioText text scenario) where
-    -- the whole report was written
-    pub reports : {T E : Type 0} (result : Result T E) → OnOk result (Appends (contents held) (contents holds) (report scenario))
-        → OnOk result (Told remaining before after contents held holds Reports)
-    reports (Ok done) appends = record {
-      input = text;
-      output = report scenario;
-      consumes = subst (Consumes (remaining before) (remaining after)) (sym same) consumes;
-      appends = appends;
-      related = (scenario, says, refl);
-    }
-    reports (Err e) appends = tt
+  -- a writer that is as it was holds nothing more
+  silent : (Related : List ℕ → List ℕ → Type 0) (read : List ℕ) → Consumes (remaining before) (remaining after) read → holds ≡ held → Related read []
+      → Told remaining before after contents held holds Related
+  silent Related read consumes same related = record {
+    input = read;
+    output = [];
+    consumes = consumes;
+    appends = subst (λ w. Appends (contents held) (contents w) []) (sym same) (took-nothing (contents held));
+    related = related;
+  }
 
-    -- a beginning of it was
-    pub begins : TakesFront (contents held) (contents holds) (report scenario) → Told remaining before after contents held holds BeginsReport
-    begins front = record {
-      input = text;
-      output = front.taken;
-      consumes = subst (Consumes (remaining before) (remaining after)) (sym same) consumes;
-      appends = front.appends;
-      related = (scenario, says, (front.left, front.split));
+  module _ (has_ended has_failed is_cut : Bool) where
+    abbrev Outcome : Result (Unit {0}) TraceFault → Type 0
+    Outcome result = RunEnds remaining before after contents held holds has_ended has_failed is_cut result
+
+    -- the text was not read to its end
+    pub unread : {T : Type 0} (fault : TraceFault) → (fault ≡ Read) ⊎ (fault ≡ Memory) → ((bytes : List ℕ) × Consumes (remaining before) (remaining after) bytes)
+        → (IsErrOf {T = T} (Err fault) Read ↔ IsTrue has_failed) → is_cut ≡ false → holds ≡ held → Outcome (Err fault)
+    unread fault (inl is) part failed uncut same = record {
+      ok = tt;
+      field = λ wrong e. cc;
+      read = λ e. silent WritesNothing part.0 part.1 same refl;
+      write = λ e. cc;
+      memory = λ e. same;
+      no_byte = λ place e. cc;
+      no_line = λ n bad e. cc;
+      no_long = λ e. cc;
+      ended = tt;
+      at_end = tt;
+      field_ended = λ wrong e. cc;
+      write_ended = λ e. cc;
+      read_failed = (λ e. failed.0 (ap Err is), λ f. ap Err is);
+      write_failed = (λ e. cc, λ cut. cc);
     }
+    unread fault (inr is) part failed uncut same = record {
+      ok = tt;
+      field = λ wrong e. cc;
+      read = λ e. cc;
+      write = λ e. cc;
+      memory = λ e. same;
+      no_byte = λ place e. cc;
+      no_line = λ n bad e. cc;
+      no_long = λ e. cc;
+      ended = tt;
+      at_end = tt;
+      field_ended = λ wrong e. cc;
+      write_ended = λ e. cc;
+      read_failed = (λ e. cc, λ f. let e = failed.1 f in cc);
+      write_failed = (λ e. cc, λ cut. cc);
+    }
+
+    module _ {T : Type 0} (whole : T) (failed : IsErrOf {T = T} (Ok whole) Read ↔ IsTrue has_failed) (read text : List ℕ) (consumes : Consumes (remaining before) (remaining after) read) (same : text ≡ read) (ended : IsTrue has_ended) where
+      -- what was read says no scenario, or there was no memory for it
+      pub unsaid : {S : Type 0} (fault : TraceFault) → IsFieldOrMemory fault → ((wrong : Field) → IsErrOf {T = S} (Err fault) (ScenarioField wrong) → IsFirstWrong wrong text)
+          → is_cut ≡ false → holds ≡ held → Outcome (Err fault)
+      unsaid fault (inl is) first uncut kept = record {
+        ok = tt;
+        field = λ wrong e. silent (RefusesScenario wrong) read consumes kept (subst (IsFirstWrong wrong) same (first wrong (let h : Err fault ≡ Err (ScenarioField wrong) = e in cc)), refl);
+        read = λ e. let h : fault ≡ ScenarioField is.0 = is.1 in cc;
+        write = λ e. let h : fault ≡ ScenarioField is.0 = is.1 in cc;
+        memory = λ e. kept;
+        no_byte = λ place e. let h : fault ≡ ScenarioField is.0 = is.1 in cc;
+        no_line = λ n bad e. let h : fault ≡ ScenarioField is.0 = is.1 in cc;
+        no_long = λ e. let h : fault ≡ ScenarioField is.0 = is.1 in cc;
+        ended = tt;
+        at_end = tt;
+        field_ended = λ wrong e. ended;
+        write_ended = λ e. ended;
+        read_failed = (λ e. let h : fault ≡ ScenarioField is.0 = is.1 in cc, λ f. let e = failed.1 f in cc);
+        write_failed = (λ e. let h : fault ≡ ScenarioField is.0 = is.1 in cc, λ cut. cc);
+      }
+      unsaid fault (inr is) first uncut kept = record {
+        ok = tt;
+        field = λ wrong e. cc;
+        read = λ e. cc;
+        write = λ e. cc;
+        memory = λ e. kept;
+        no_byte = λ place e. cc;
+        no_line = λ n bad e. cc;
+        no_long = λ e. cc;
+        ended = tt;
+        at_end = tt;
+        field_ended = λ wrong e. cc;
+        write_ended = λ e. cc;
+        read_failed = (λ e. cc, λ f. let e = failed.1 f in cc);
+        write_failed = (λ e. cc, λ cut. cc);
+      }
+
+      module _ (scenario : Scenario) (says : IsScenarioText text scenario) where
+        abbrev takes : Consumes (remaining before) (remaining after) text
+        takes = subst (Consumes (remaining before) (remaining after)) (sym same) consumes
+
+        -- the scenario was run, and its report written as far as the writer took it
+        pub ran : (result : Result (Unit {0}) TraceFault) → IsAtEnd (remaining after)
+            → OnOk result (Appends (contents held) (contents holds) (report scenario))
+            → (IsErrOf result Write → TakesFront (contents held) (contents holds) (report scenario))
+            → (IsErrOf result Memory → holds ≡ held)
+            → IfErr result (λ fault. (fault ≡ Write) ⊎ (fault ≡ Memory))
+            → (IsErrOf result Write ↔ IsTrue is_cut) → Outcome result
+        ran (Ok done) at_end appends front kept other cut = record {
+          ok = record { input = text; output = report scenario; consumes = takes; appends = appends; related = (scenario, says, refl) };
+          field = λ wrong e. cc;
+          read = λ e. cc;
+          write = λ e. cc;
+          memory = λ e. kept e;
+          no_byte = λ place e. cc;
+          no_line = λ n bad e. cc;
+          no_long = λ e. cc;
+          ended = ended;
+          at_end = at_end;
+          field_ended = λ wrong e. ended;
+          write_ended = λ e. ended;
+          read_failed = (λ e. cc, λ f. let e = failed.1 f in cc);
+          write_failed = cut;
+        }
+        ran (Err fault) at_end appends front kept (inl is) cut = record {
+          ok = tt;
+          field = λ wrong e. cc;
+          read = λ e. cc;
+          write = λ e.
+              let taken = front e in
+              record { input = text; output = taken.taken; consumes = takes; appends = taken.appends; related = (scenario, says, (taken.left, taken.split)) };
+          memory = λ e. kept e;
+          no_byte = λ place e. cc;
+          no_line = λ n bad e. cc;
+          no_long = λ e. cc;
+          ended = tt;
+          at_end = tt;
+          field_ended = λ wrong e. ended;
+          write_ended = λ e. ended;
+          read_failed = (λ e. cc, λ f. let e = failed.1 f in cc);
+          write_failed = cut;
+        }
+        ran (Err fault) at_end appends front kept (inr is) cut = record {
+          ok = tt;
+          field = λ wrong e. cc;
+          read = λ e. cc;
+          write = λ e. cc;
+          memory = λ e. kept e;
+          no_byte = λ place e. cc;
+          no_line = λ n bad e. cc;
+          no_long = λ e. cc;
+          ended = tt;
+          at_end = tt;
+          field_ended = λ wrong e. ended;
+          write_ended = λ e. ended;
+          read_failed = (λ e. cc, λ f. let e = failed.1 f in cc);
+          write_failed = cut;
+        }

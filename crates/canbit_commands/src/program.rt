@@ -3,6 +3,7 @@ ghost use Rattle.std.specs.Prelude.{◌≡◌, ◌≢◌, ◌⊎◌, ◌<◌, �
 ghost use Rattle.std.specs.Io.KnownBytes.{Appends, IsAtEnd};
 ghost use Rattle.can_stream.specs.Told.{Told};
 ghost use Rattle.canbit_commands.specs.Answers.{AnswersAll, AnswersEnded, BeginsAnswering, HasBadByte, RefusesInput};
+ghost use Rattle.canbit_commands.specs.Ends.{Ends};
 ghost use Rattle.can_program.specs.Status.{exit_status};
 ghost use Rattle.canbit_words.specs.Subcommands.{name_of};
 ghost use Rattle.canbit_words.specs.Words.{AsksFor, AsksForHelp, AsksForOne, IsMisuse, texts_of};
@@ -97,24 +98,7 @@ fn answer<R: Source, W: Sink>(
     requires reader_unfailed { R.has_failed r.old ≡ false }
     requires reader_unended { R.has_ended r.old ≡ false }
     requires writer_unfailed { W.has_failed w.old ≡ false }
-    ensures all_done { exit_status result ≡ 0 →
-        Told R.remaining r.old r.new W.contents w.old w.new (AnswersAll chosen) }
-    ensures all_read { exit_status result ≡ 0 → IsTrue (R.has_ended r.new) × IsAtEnd (R.remaining r.new) }
-    ensures input_refused { exit_status result ≡ 1 →
-        Told R.remaining r.old r.new W.contents w.old w.new (RefusesInput chosen (R.has_ended r.new)) }
-    ensures reader_failed { exit_status result ≡ 3 → IsFalse (W.has_failed w.new) →
-        Told R.remaining r.old r.new W.contents w.old w.new (AnswersEnded chosen) }
-    ensures writer_failed { IsTrue (W.has_failed w.new) →
-        Told R.remaining r.old r.new W.contents w.old w.new (BeginsAnswering chosen (R.has_ended r.new)) }
-    ensures stream_failed { exit_status result ≡ 3 → IsTrue (R.has_failed r.new) ⊎ IsTrue (W.has_failed w.new) }
-    ensures write_told { IsTrue (W.has_failed w.new) → exit_status result ≡ 3 }
-    ensures read_told { IsTrue (R.has_failed r.new) → (exit_status result ≡ 3)
-        ⊎ ((exit_status result ≡ 1) × ((place : ℕ)
-        × Told R.remaining r.old r.new W.contents w.old w.new (HasBadByte chosen place))) }
-    ensures status { exit_status result < 5 }
-    ensures no_misuse { exit_status result ≢ 2 }
-    ensures unwritten { exit_status result ≡ 4 → w.new ≡ w.old }
-    ensures memory { exit_status result ≡ 4 → chosen ≡ Chosen.Run }
+    ensures { Ends R.remaining r.old r.new W.contents w.old w.new (R.has_ended r.new) (R.has_failed r.new) (W.has_failed w.new) chosen (exit_status result) }
 {
     match chosen {
         Chosen::Encode => Ok(encode_lines(r, w)?),

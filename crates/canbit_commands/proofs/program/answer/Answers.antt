@@ -1,73 +1,116 @@
-use Rattle.std.proofs.Common.{◌≡◌, ap, rules, Err}
-use Rattle.canbit_commands.proofs.Faults.{passes_all, passes_not_all, read_told, refused, weaker}
+use Rattle.std.proofs.Common.{◌≡◌, ap, refl, rules, Err}
+use Rattle.canbit_commands.proofs.Faults.{caused, differing, faulted, finished, not-both, passes_all, passes_not_all, told-cause, uncaused, weaker}
 use Rattle.canbit_commands.specs.Answers.{HasBadLine, HasWrongField}
 use Rattle.can_program.specs.declared.fault.RunFault.TheVariants.{Stream}
 use Rattle.canbit_words.specs.declared.subcommands.Chosen.TheVariants.{Encode, Decode, Run, Check}
 use Rattle.canbit_commands.proofs.program.answer.Goals as goal
 
-pub returns-in_err-encode_lines-in-Encode-clause-input_refused : goal.returns-in_err-encode_lines-in-Encode-clause-input_refused
-returns-in_err-encode_lines-in-Encode-clause-input_refused g c is =
+pub returns-in_err-encode_lines-in-Encode : goal.returns-in_err-encode_lines-in-Encode
+returns-in_err-encode_lines-in-Encode g c =
     let told = c.in_err-encode_lines-in-Encode.ensures in
     let fault = c.in_err-encode_lines-in-Encode.field-0.0 in
     let outcome : c.from_residual.result ≡ Err (Stream fault) = search rules in
     let ended = g.R.Source.has_ended c.encode_lines.new.r in
-    rw c.in-Encode.is (refused _ _ _ _ _ _ Encode ended fault (rw outcome at is) (λ place e. absurd (told.no_byte place (ap Err e))) (λ e. told.long (ap Err e))
+    rw outcome (rw c.in-Encode.is (faulted _ _ _ _ _ _ _ _ _ Encode fault
+    (λ place e. absurd (told.no_byte place (ap Err e)))
+    (λ e. told.long (ap Err e))
     (λ number bad e. weaker _ _ _ _ _ _ _ (HasBadLine Encode number ended) (λ input output h. (bad, h)) (told.line number bad (ap Err e)))
-    (λ wrong e. absurd (told.no_field wrong (ap Err e))))
+    (λ wrong e. absurd (told.no_field wrong (ap Err e)))
+    (λ e. told.read (ap Err e))
+    (λ e. told.write (ap Err e))
+    (λ e. (told.read_failed.0 (ap Err e)).0)
+    (λ e. told.write_failed.0 (ap Err e))
+    (λ cut. let h = told.write_failed.1 cut in cc)
+    (λ failed. told-cause _ _ fault (λ are. let h = told.read_failed.1 are in cc) (λ cut. let h = told.write_failed.1 cut in cc) failed)
+    (λ e. absurd (told.no_memory (ap Err e)))))
 
-pub returns-in_err-encode_lines-in-Encode-clause-writer_failed : goal.returns-in_err-encode_lines-in-Encode-clause-writer_failed
-returns-in_err-encode_lines-in-Encode-clause-writer_failed g c failed =
-    let told = c.in_err-encode_lines-in-Encode.ensures in
-    rw c.in-Encode.is (told.write (told.write_failed.1 failed))
-
-pub returns-in_err-decode_stream-in-Decode-clause-input_refused : goal.returns-in_err-decode_stream-in-Decode-clause-input_refused
-returns-in_err-decode_stream-in-Decode-clause-input_refused g c is =
+pub returns-in_err-decode_stream-in-Decode : goal.returns-in_err-decode_stream-in-Decode
+returns-in_err-decode_stream-in-Decode g c =
     let told = c.in_err-decode_stream-in-Decode.ensures in
     let fault = c.in_err-decode_stream-in-Decode.field-0.0 in
     let outcome : c.from_residual-in_err-decode_stream-in-Decode.result ≡ Err (Stream fault) = search rules in
-    let ended = g.R.Source.has_ended c.decode_stream.new.r in
-    rw c.in-Decode.is (refused _ _ _ _ _ _ Decode ended fault (rw outcome at is) (λ place e. told.byte place (ap Err e)) (λ e. told.long (ap Err e))
+    rw outcome (rw c.in-Decode.is (faulted _ _ _ _ _ _ _ _ _ Decode fault
+    (λ place e. told.byte place (ap Err e))
+    (λ e. told.long (ap Err e))
     (λ number bad e. absurd (told.no_line number bad (ap Err e)))
-    (λ wrong e. absurd (told.no_field wrong (ap Err e))))
+    (λ wrong e. absurd (told.no_field wrong (ap Err e)))
+    (λ e. told.read (ap Err e))
+    (λ e. told.write (ap Err e))
+    (λ e. (told.read_failed.0 (ap Err e)).0)
+    (λ e. told.write_failed.0 (ap Err e))
+    (λ cut. let h = told.write_failed.1 cut in cc)
+    (λ failed. told-cause _ _ fault (λ are. let h = told.read_failed.1 are in cc) (λ cut. let h = told.write_failed.1 cut in cc) failed)
+    (λ e. absurd (told.no_memory (ap Err e)))))
 
-pub returns-in_err-decode_stream-in-Decode-clause-writer_failed : goal.returns-in_err-decode_stream-in-Decode-clause-writer_failed
-returns-in_err-decode_stream-in-Decode-clause-writer_failed g c failed =
-    let told = c.in_err-decode_stream-in-Decode.ensures in
-    rw c.in-Decode.is (told.write (told.write_failed.1 failed))
-
-pub returns-in_err-run-in-Run-clause-input_refused : goal.returns-in_err-run-in-Run-clause-input_refused
-returns-in_err-run-in-Run-clause-input_refused g c is =
+pub returns-in_err-run-in-Run : goal.returns-in_err-run-in-Run
+returns-in_err-run-in-Run g c =
     let told = c.in_err-run-in-Run.ensures in
     let fault = c.in_err-run-in-Run.field-0.0 in
     let outcome : c.from_residual-in_err-run-in-Run.result ≡ Err (Stream fault) = search rules in
     let ended = g.R.Source.has_ended c.run.new.r in
-    rw c.in-Run.is (refused _ _ _ _ _ _ Run ended fault (rw outcome at is) (λ place e. absurd (told.no_byte place (ap Err e))) (λ e. absurd (told.no_long (ap Err e)))
+    rw outcome (rw c.in-Run.is (faulted _ _ _ _ _ _ _ _ _ Run fault
+    (λ place e. absurd (told.no_byte place (ap Err e)))
+    (λ e. absurd (told.no_long (ap Err e)))
     (λ number bad e. absurd (told.no_line number bad (ap Err e)))
-    (λ wrong e. weaker _ _ _ _ _ _ _ (HasWrongField Run ended) (λ input output h. (told.field_ended wrong (ap Err e), (wrong, h))) (told.field wrong (ap Err e))))
+    (λ wrong e. weaker _ _ _ _ _ _ _ (HasWrongField Run ended) (λ input output h. (told.field_ended wrong (ap Err e), (wrong, h))) (told.field wrong (ap Err e)))
+    (λ e. told.read (ap Err e))
+    (λ e. weaker _ _ _ _ _ _ _ _ (λ input output h. (told.write_ended (ap Err e), h)) (told.write (ap Err e)))
+    (λ e. told.read_failed.0 (ap Err e))
+    (λ e. told.write_failed.0 (ap Err e))
+    (λ cut. let h = told.write_failed.1 cut in cc)
+    (λ failed. told-cause _ _ fault (λ are. let h = told.read_failed.1 are.0 in cc) (λ cut. let h = told.write_failed.1 cut in cc) failed)
+    (λ e. (refl, told.memory (ap Err e)))))
 
-pub returns-in_err-passed-in-Check-clause-input_refused : goal.returns-in_err-passed-in-Check-clause-input_refused
-returns-in_err-passed-in-Check-clause-input_refused g c is =
+pub returns-in_err-passed-in-Check : goal.returns-in_err-passed-in-Check
+returns-in_err-passed-in-Check g c =
     let told = c.in_err-passed-in-Check.ensures in
     let fault = c.in_err-passed-in-Check.field-0.0 in
     let outcome : c.from_residual-in_err-passed-in-Check.result ≡ Err (Stream fault) = search rules in
     let ended = g.R.Source.has_ended c.check_lines.new.r in
-    rw c.in-Check.is (refused _ _ _ _ _ _ Check ended fault (rw outcome at is) (λ place e. told.byte place (ap Err e)) (λ e. told.long (ap Err e))
+    rw outcome (rw c.in-Check.is (faulted _ _ _ _ _ _ _ _ _ Check fault
+    (λ place e. told.byte place (ap Err e))
+    (λ e. told.long (ap Err e))
     (λ number bad e. weaker _ _ _ _ _ _ _ (HasBadLine Check number ended) (λ input output h. (bad, h)) (told.line number bad (ap Err e)))
-    (λ wrong e. absurd (told.no_field wrong (ap Err e))))
+    (λ wrong e. absurd (told.no_field wrong (ap Err e)))
+    (λ e. told.read (ap Err e))
+    (λ e. told.write (ap Err e))
+    (λ e. (told.read_failed (ap Err e)).0)
+    (λ e. told.write_failed.0 (ap Err e))
+    (λ cut. let h = told.write_failed.1 cut in cc)
+    (λ failed. caused fault (told.failed_read failed))
+    (λ e. absurd (told.no_memory (ap Err e)))))
 
-pub returns-in_err-passed-in-Check-clause-read_told : goal.returns-in_err-passed-in-Check-clause-read_told
-returns-in_err-passed-in-Check-clause-read_told g c failed =
-    let told = c.in_err-passed-in-Check.ensures in
-    let fault = c.in_err-passed-in-Check.field-0.0 in
-    let outcome : c.from_residual-in_err-passed-in-Check.result ≡ Err (Stream fault) = search rules in
-    rw outcome (rw c.in-Check.is (read_told _ _ _ _ _ _ Check fault told.byte (told.failed_read failed)))
+pub returns-in_ok-encode_lines-in-Encode : goal.returns-in_ok-encode_lines-in-Encode
+returns-in_ok-encode_lines-in-Encode g c =
+    let told = c.in_ok-encode_lines-in-Encode.ensures in
+    rw c.in-Encode.is (finished _ _ _ _ _ _ _ _ _ Encode told.ok told.ended told.at_end
+    (λ failed. not-both _ _ failed (λ are. let h = told.read_failed.1 are in cc) (λ cut. let h = told.write_failed.1 cut in cc))
+    (λ cut. let h = told.write_failed.1 cut in cc))
 
-pub returns-then-passed-count-clause-all_done : goal.returns-then-passed-count-clause-all_done
-returns-then-passed-count-clause-all_done g c is =
+pub returns-in_ok-decode_stream-in-Decode : goal.returns-in_ok-decode_stream-in-Decode
+returns-in_ok-decode_stream-in-Decode g c =
+    let told = c.in_ok-decode_stream-in-Decode.ensures in
+    rw c.in-Decode.is (finished _ _ _ _ _ _ _ _ _ Decode told.ok told.ended told.at_end
+    (λ failed. not-both _ _ failed (λ are. let h = told.read_failed.1 are in cc) (λ cut. let h = told.write_failed.1 cut in cc))
+    (λ cut. let h = told.write_failed.1 cut in cc))
+
+pub returns-in_ok-run-in-Run : goal.returns-in_ok-run-in-Run
+returns-in_ok-run-in-Run g c =
+    let told = c.in_ok-run-in-Run.ensures in
+    rw c.in-Run.is (finished _ _ _ _ _ _ _ _ _ Run told.ok told.ended told.at_end
+    (λ failed. let h = told.read_failed.1 failed in cc)
+    (λ cut. let h = told.write_failed.1 cut in cc))
+
+pub returns-then-passed-count : goal.returns-then-passed-count
+returns-then-passed-count g c =
     let told = c.in_ok-passed-in-Check.ensures in
-    rw c.in-Check.is (passes_all _ _ _ _ _ _ _ _ c.if-passed-count.true told.ok)
+    rw c.in-Check.is (finished _ _ _ _ _ _ _ _ _ Check (passes_all _ _ _ _ _ _ _ _ c.if-passed-count.true told.ok) told.ended told.at_end
+    (λ failed. uncaused (told.failed_read failed))
+    (λ cut. let h = told.write_failed.1 cut in cc))
 
-pub returns-else-passed-count-clause-input_refused : goal.returns-else-passed-count-clause-input_refused
-returns-else-passed-count-clause-input_refused g c is =
+pub returns-else-passed-count : goal.returns-else-passed-count
+returns-else-passed-count g c =
     let told = c.in_ok-passed-in-Check.ensures in
-    rw c.in-Check.is (passes_not_all _ _ _ _ _ _ _ _ _ c.if-passed-count.false told.ended told.ok)
+    rw c.in-Check.is (differing _ _ _ _ _ _ _ _ _ (passes_not_all _ _ _ _ _ _ _ _ _ c.if-passed-count.false told.ended told.ok)
+    (λ failed. uncaused (told.failed_read failed))
+    (λ cut. let h = told.write_failed.1 cut in cc))
