@@ -1,5 +1,5 @@
 //! What the program does, over any streams.
-ghost use Rattle.std.specs.Prelude.{◌≡◌, ◌≢◌, ◌⊎◌, ◌<◌, ◌∷◌, [], false, IsTrue, IsFalse, List, ℕ};
+ghost use Rattle.std.specs.Prelude.{◌≡◌, ◌⊎◌, ◌<◌, ◌∷◌, [], false, IsTrue, IsFalse, List, ℕ};
 ghost use Rattle.std.specs.Io.KnownBytes.{Appends, IsAtEnd};
 ghost use Rattle.can_stream.specs.Told.{Told};
 ghost use Rattle.canbit_commands.specs.Answers.{AnswersAll, AnswersEnded, BeginsAnswering, HasBadByte, RefusesInput};
