@@ -1,7 +1,7 @@
 //! A plain controller with a queue and a log, for simulators of classical CAN at whole bit times: written from
 //! docs/ACCESS.md, independent of the crates beside it, standard library only. `simulator.rs` beside it has a bus
-//! of them, and `conformance/adapters/simulator.rs` plays the conformance kit with one. Each of the two programs
-//! uses a part of what is here.
+//! of them, `encoder.rs` encodes its frames, and `conformance/adapters/simulator.rs` plays the conformance kit with
+//! one. Each of the three programs uses a part of what is here.
 #![allow(dead_code)]
 
 use std::collections::VecDeque;
@@ -93,7 +93,7 @@ impl Frame {
     }
 
     /// The levels from the start of frame to the end of the CRC sequence, before stuffing.
-    fn unstuffed(&self) -> Vec<Level> {
+    pub fn unstuffed(&self) -> Vec<Level> {
         let mut levels = Vec::with_capacity(118);
         push_bits(&mut levels, 0, 1);
         if self.extended {
