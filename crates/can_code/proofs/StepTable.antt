@@ -12,7 +12,7 @@ use Rattle.can_frame.specs.Levels.{level_from, level_of}
 use Rattle.can_code.specs.Digits.{levels_up}
 use Rattle.can_code.specs.Steps.{Step, begun, entry_of, in_table, last_of, row_of, run_of, steps_on}
 use Rattle.can_code.specs.declared.steps.TableStep.{TableStep}
-use Rattle.can_code.specs.declared.steps.TheConstants.{STEPS}
+use Rattle.can_code.specs.declared.steps.table.TheConstants.{STEPS}
 use Rattle.can_code.proofs.StepLemmas.{StepBounds}
 
 -- the levels below the highest bit of a number, at most n of them, the lowest first

@@ -16,7 +16,7 @@ use Rattle.can_wire.specs.Layout.{levels_at}
 use Rattle.can_wire.specs.Stuffing.{run_after, stuffed_from, stuffed}
 use Rattle.can_wire.specs.StuffSteps.{LaysOut, entry_of, last_behind, last_of, run_behind, run_of}
 use Rattle.can_wire.specs.declared.stuff_steps.Stuffing.{Stuffing}
-use Rattle.can_wire.specs.declared.stuff_steps.TheConstants.{FIVE_LEVELS, STUFFED_OCTETS}
+use Rattle.can_wire.specs.declared.stuff_steps.tables.TheConstants.{FIVE_LEVELS, STUFFED_OCTETS}
 use Rattle.can_wire.proofs.LevelLemmas.{bits_of-append, bits_of-mod, bits_of-number_from, bits_of-shl, number_from-lt}
 use Rattle.can_wire.proofs.LayoutPlaces.{length-filled, next_levels}
 use Rattle.can_wire.proofs.Runs.{run_after-le, run_after-ge}

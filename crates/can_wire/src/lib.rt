@@ -11,7 +11,7 @@
 //! | `crc_run.rt` | [`CrcRun`], the CRC sequence of levels that come one by one | `specs/Crc.antt` |
 //! | `crc_places.rt` | the CRC sequence of a number's levels by its bytes | `specs/Crc.antt` |
 //! | `stuffing.rt` | [`stuff`], the stuff bits, and [`run_after`], the run that a level ends | `specs/Stuffing.antt` |
-//! | `stuff_steps.rt` | [`LONGEST_WIRE`], and levels as they are laid out with their stuff bits, eight in a step | `specs/StuffSteps.antt` |
+//! | `stuff_steps.rt`, `stuff_steps/` | [`LONGEST_WIRE`], and levels as they are laid out with their stuff bits, eight in a step | `specs/StuffSteps.antt` |
 //! | `heard.rt` | [`Heard`], a frame as it is heard | `specs/Heard.antt` |
 //! | `frame_bits.rt` | [`FrameBits`], the unstuffed levels of a frame that have been heard or laid out | |
 //! | `plain_bits.rt` | [`PlainBits`], these levels one by one | |
