@@ -1,8 +1,8 @@
 -- Bounds on how long an offered frame waits for its start.
-use Rattle.std.proofs.Common.{◌≡◌, ℕ, suc, ◌+◌, ◌*◌, ◌<◌, ◌≤◌, Bool, true, false, cond, List, [], ◌∷◌, ◌++◌, length, get_or, refl, sym, ◌∙◌, ap, subst, inl, inr, arith, ◌-◌, zero, Some, None, take}
-use Rattle.std.specs.Prelude.{option_map, filter, nat_le, nat_lt, ◌&&◌, slice_get}
+use Rattle.std.proofs.Common.{◌≡◌, ◌≢◌, ℕ, suc, ◌+◌, ◌*◌, ◌<◌, ◌≤◌, Bool, true, false, cond, List, [], ◌∷◌, ◌++◌, length, get_or, refl, sym, ◌∙◌, ap, subst, inl, inr, arith, ◌-◌, zero, Some, None, take}
+use Rattle.std.specs.Prelude.{max, option_map, nat_le, nat_lt, filter, ◌&&◌, slice_get}
 use Rattle.std.specs.List.{sum_by}
-use Rattle.std.proofs.lemmas.Bool.{cond-false, cases_Bool, leb-true, leb-false, lt-ltb, ltb-true, ltb-false, cond-true, le-ltb}
+use Rattle.std.proofs.lemmas.Bool.{and_parts, cases_lt, cases_order, cond-false, cond_both, ltb-true}
 use Rattle.std.proofs.lemmas.List.Sums.{sum_by-cons, sum_by-append, sum_by-le}
 use Rattle.std.proofs.lemmas.Option.{slice_get-get_or}
 use Rattle.std.proofs.lemmas.Option.{slice_get-map}
@@ -11,69 +11,22 @@ use Rattle.can_frame.specs.Arbitration.{arbitration_field, Before}
 use Rattle.can_wire.proofs.WireLemmas.{length-wire-le}
 use Rattle.can_node.specs.Ports.{goes_before, same_field}
 use Rattle.can_node.proofs.WaitingLemmas.{Shares-same_field}
-use Rattle.can_bus.specs.Schedule.{Timed, busy_time, Lists, AreOthers, IsSchedule, over, next, IsScheduleOf, StartsAt, IsNextStart, frames_of, without_offer}
+use Rattle.can_bus.specs.Schedule.{Timed, busy_time, Lists, IsScheduleOf, StartsAt, frames_of, without_offer}
 use Rattle.can_bus.specs.Waiting.{left_at, starts_between, ahead_of, busy_times, FindsFree}
 use Rattle.can_bus.proofs.Members.{stands-none, stands-here, stands-later, stands-cases, filter-stands, stands-filter}
-use Rattle.can_bus.proofs.NextStarts.{AreApart, apart-from, apart-one, rest-left, rest-apart, rest-other}
+use Rattle.can_bus.proofs.NextStarts.{AreApart, apart-from, apart-one}
 use Rattle.can_bus.proofs.Schedules.{starts-offered, schedule-frames}
-use Rattle.can_bus.specs.Course.{Transmission, IsCourse, IsMade, unhit}
-use Rattle.can_bus.specs.CourseWaiting.{AreInTime, IsSentBy, attempts_between, left_behind, of_field, sends_of, sent_attempts}
+use Rattle.can_bus.specs.Course.{Transmission, IsCourse, over, sent, broken, IsMade, unhit}
+use Rattle.can_bus.specs.CourseWaiting.{AreInTime, IsSentBy, attempts_between, keeping, kept_times, left_behind, of_field, sends_of, sent_attempts}
 use Rattle.can_bus.proofs.Ascending.{different_permuted}
 use Rattle.can_bus.proofs.CourseDelays.{exact as course-exact, meanwhile as course-meanwhile, going, weigh, weigh-first, length-weigh, some-first, waits-unhit}
 use Rattle.can_bus.proofs.CourseSchedules.{schedule-course}
-use Rattle.can_bus.proofs.CourseWaits.{sends-more, sends-other}
+use Rattle.can_bus.proofs.CourseTracks.{course-free}
+use Rattle.can_bus.proofs.CourseWaits.{between-before, between-late, between-more, between-none, sends-more, sends-other}
 use Rattle.can_bus.proofs.Fields.{field-skip, field-without}
 use Rattle.can_bus.proofs.OwnedFields.{field-cases}
 use Rattle.can_bus.proofs.OwnOffers.{without-absent}
 use Rattle.can_bus.proofs.QuietLogs.{other-test}
-
--- ---- what is left of a frame, with one start in front
-
-module _ (t : ℕ) (start : Timed) (starts : List Timed) where
-  abbrev lasting : Bool
-  lasting = nat_lt start.time t && nat_lt t (start.time + busy_time start.frame)
-
-  abbrev pub over_in : ℕ
-  over_in = start.time + busy_time start.frame - t
-
-  pub left-during : start.time < t → t < start.time + busy_time start.frame → left_at t (start ∷ starts) ≡ over_in
-  left-during begun lasts =
-      cond-true lasting over_in (left_at t starts) (ap (λ b. b && nat_lt t (start.time + busy_time start.frame)) (lt-ltb start.time t begun) ∙ lt-ltb t (start.time + busy_time start.frame) lasts)
-
-  pub left-before : t ≤ start.time → left_at t (start ∷ starts) ≡ left_at t starts
-  left-before early = cond-false lasting over_in (left_at t starts) (ap (λ b. b && nat_lt t (start.time + busy_time start.frame)) (le-ltb start.time t early))
-
-  pub left-behind : start.time < t → start.time + busy_time start.frame ≤ t → left_at t (start ∷ starts) ≡ left_at t starts
-  left-behind begun past =
-      cond-false lasting over_in (left_at t starts)
-      (ap (λ b. b && nat_lt t (start.time + busy_time start.frame)) (lt-ltb start.time t begun) ∙ le-ltb t (start.time + busy_time start.frame) past)
-
--- ---- an offer and its start, with the start that comes next
-
-module _ (free : ℕ) (left rest : List Timed) (start : Timed) (starts : List Timed) (is : IsNextStart free left start) (others : AreOthers start.frame left rest)
-    (more : IsSchedule (start.time + busy_time start.frame) rest starts) (apart : AreApart left) (x s : Timed) (listed : Lists left x) (same : s.frame ≡ x.frame) where
-  -- an offer whose frame starts later is not the next to start
-  pub still-left : Lists starts s → Lists rest x
-  still-left there =
-      let back = starts-offered more s there in
-      let one : back.offer ≡ x = apart-one left apart back.offer x (rest-left start.frame left rest others back.offer back.is_offer) listed (ap arbitration_field (back.same ∙ same)) in
-      subst (Lists rest) one back.is_offer
-
-  pub goes-behind : Lists starts s → x.time ≤ start.time → Before (arbitration_field start.frame) (arbitration_field x.frame)
-  goes-behind there early =
-      elim (is.first x listed early) [
-        | inl e ↦ absurd (rest-other start.frame left rest others apart x (still-left there) (ap arbitration_field (sym e)))
-        | inr goes ↦ goes
-      ]
-
-  -- the frame that starts next was offered by then
-  pub next-late : start ≡ s → x.time ≤ start.time
-  next-late e =
-      let offer : Timed = record { time = is.offered; frame = start.frame } in
-      let one : offer ≡ x = apart-one left apart offer x is.left_over listed (ap arbitration_field (ap (λ (z : Timed). z.frame) e ∙ same)) in
-      let t : is.offered ≡ x.time = ap (λ (z : Timed). z.time) one in
-      let early = is.in_time in
-      omega arith
 
 -- ---- a schedule is a course without hits
 
@@ -83,6 +36,11 @@ one_unhit s = record { time = s.time; frame = s.frame; hit = None }
 unhit-made : (starts : List Timed) (s : Timed) → Lists starts s → IsMade (unhit starts) (one_unhit s)
 unhit-made [] s there = absurd (stands-none s there)
 unhit-made (x ∷ starts) s there = elim (stands-cases x starts s there) [ inl e ↦ inl (ap one_unhit e) | inr later ↦ inr (unhit-made starts s later) ]
+
+made-unhit : (starts : List Timed) (z : Transmission) → IsMade (unhit starts) z → (s : Timed) × Lists starts s × (one_unhit s ≡ z)
+made-unhit [] z made = absurd made
+made-unhit (x ∷ starts) z (inl here) = (x, stands-here x starts, here)
+made-unhit (x ∷ starts) z (inr later) = let there = made-unhit starts z later in (there.0, stands-later x starts there.0 there.1, there.2)
 
 -- no other offer of its field stands before an offer
 none-before : (offers : List Timed) (n : ℕ) (x : Timed) → AreApart offers → slice_get offers n ≡ Some x → of_field x.frame (take n offers) ≡ []
@@ -144,16 +102,12 @@ module _ (most : ℕ) where
   left-le : (t : ℕ) (starts : List Timed) → AreShort starts → left_at t starts ≤ most
   left-le t [] short = omega arith
   left-le t (start ∷ starts) short =
-      let behind = left-le t starts (λ s there. short s (stands-later start starts s there)) in
-      let first = short start (stands-here start starts) in
-      elim (cases_Bool (nat_lt start.time t)) [
-        | inl begun ↦ let late : start.time < t = ltb-true start.time t begun in
-            elim (cases_Bool (nat_lt t (start.time + busy_time start.frame))) [
-              | inl lasts ↦ omega (arith, left-during t start starts late (ltb-true t (start.time + busy_time start.frame) lasts))
-              | inr past ↦ omega (arith, left-behind t start starts late (ltb-false t (start.time + busy_time start.frame) past))
-            ]
-        | inr early ↦ omega (arith, left-before t start starts (ltb-false start.time t early))
-      ]
+      let over = start.time + busy_time start.frame in
+      cond_both {A = ℕ} (nat_lt start.time t && nat_lt t over) (over - t) (left_at t starts) (λ n. n ≤ most)
+      (λ lasts.
+      let begun = ltb-true start.time t (and_parts (nat_lt start.time t) (nat_lt t over) lasts).0 in
+      omega (arith, begun, short start (stands-here start starts)))
+      (λ over. left-le t starts (λ s there. short s (stands-later start starts s there)))
 
   busy-le : (timed : List Timed) → AreShort timed → busy_times timed ≤ length timed * suc most
   busy-le timed short = sum_by-le (λ (x : Timed). busy_time x.frame) (suc most) timed (λ k d within. short (get_or timed k d) (k, slice_get-get_or timed k d within))
@@ -168,42 +122,33 @@ longest-busy f is = omega (arith, length-wire-le f is, longest-format f.id.exten
 longest-standard : (f : Parts) → IsFrame f × (f.id.extended ≡ false) → busy_time f ≤ 135
 longest-standard f is = omega (arith, length-wire-le f is.0, cond-false {A = ℕ} f.id.extended 157 132 is.1)
 
--- ---- where the bus is found free
+-- ---- where nothing starts at a time
 
-StartedAhead : List Timed → List Timed → Timed → Type 0
-StartedAhead left starts x = (y s : Timed) → Lists left y → Lists starts s → s.frame ≡ y.frame → y.time ≤ x.time → Before (arbitration_field y.frame) (arbitration_field x.frame) → s.time < x.time
-
-started-once : {free : ℕ} {left starts : List Timed} → IsSchedule free left starts → AreApart left → (x s : Timed) → Lists left x → Lists starts s → s.frame ≡ x.frame →
-    free ≤ x.time → left_at x.time starts ≡ 0 → StartedAhead left starts x → s.time ≡ x.time
-unfolding StartedAhead
-started-once (over free) apart x s listed there same is_free none ahead = absurd (stands-none s there)
-started-once (next free left rest start starts is others more) apart x s listed there same is_free none ahead =
-    let soon = is.soon x listed in
-    elim (stands-cases start starts s there) [
-      | inl e ↦
-          let late = next-late free left rest start starts is others more apart x s listed same e in
-          let at : start.time ≡ s.time = ap (λ (y : Timed). y.time) e in
-          omega arith
-      | inr later ↦
-          let begun : start.time < x.time = elim (cases_Bool (nat_le x.time start.time)) [
-            | inl begins ↦
-                let early : x.time ≤ start.time = leb-true x.time start.time begins in
-                let by = is.in_time in
-                ahead (record { time = is.offered; frame = start.frame }) start is.left_over (stands-here start starts) refl (omega arith)
-                (goes-behind free left rest start starts is others more apart x s listed same later early)
-            | inr before ↦ leb-false x.time start.time before
-          ] in
-          let past : start.time + busy_time start.frame ≤ x.time = elim (cases_Bool (nat_lt x.time (start.time + busy_time start.frame))) [
-            | inl lasts ↦
-                let within : x.time < start.time + busy_time start.frame = ltb-true x.time (start.time + busy_time start.frame) lasts in
-                let part = left-during x.time start starts begun within in
-                absurd (omega arith)
-            | inr gone ↦ ltb-false x.time (start.time + busy_time start.frame) gone
-          ] in
-          started-once more (rest-apart start.frame left rest others apart) x s (still-left free left rest start starts is others more apart x s listed same later) later same
-          past (sym (left-behind x.time start starts begun past) ∙ none)
-          (λ y z of_rest stands. ahead y z (rest-left start.frame left rest others y of_rest) (stands-later start starts z stands))
+-- what starts between it and a start keeps the bus for less than the time between
+kept-less : {number free : ℕ} {left : List Timed} {course : List Transmission} → IsCourse [] number free left course → (from : ℕ) → ((z : Transmission) → IsMade course z → z.time ≢ from) →
+    (s : Transmission) → IsMade course s → from < s.time → kept_times (attempts_between from s.time course) + max free (suc from) ≤ s.time
+kept-less (over number free) from none s made less = absurd made
+kept-less (sent number free time f left course is unhit_here rest) from none s made less =
+    let a : Transmission = record { time = time; frame = f; hit = None } in
+    elim (cases_lt time s.time) [
+      | inr late ↦
+          let nothing : kept_times (attempts_between from s.time (a ∷ course)) ≡ 0 =
+          ap kept_times (between-late from s.time a course late ∙ between-none from s.time course (λ z there. omega (arith, late, course-free rest z there))) in
+          omega (arith, nothing, less, course-free (sent number free time f left course is unhit_here rest) s made)
+      | inl early ↦ elim made [
+        | inl here ↦ (let same : time ≡ s.time = ap (λ (z : Transmission). z.time) here in absurd (omega (arith, same, early)))
+        | inr later ↦
+            let behind = kept-less rest from (λ z there. none z (inr there)) s later less in
+            elim (cases_order time from) [
+              | inl same ↦ absurd (none a (inl refl) same)
+              | inr (inl before) ↦ omega (arith, behind, is.is_free, ap kept_times (between-before from s.time a course before))
+              | inr (inr begun) ↦
+                  let one = ap kept_times (between-more from s.time a course (omega (arith, begun)) early) ∙ sum_by-cons (λ (z : Transmission). keeping z.frame z.hit) a (attempts_between from s.time course) in
+                  omega (arith, behind, is.is_free, one, begun)
+            ]
+      ]
     ]
+kept-less (broken number free time f offset left course is struck window rest) from none s made less = absurd (let h : None ≡ Some offset = struck in cc)
 
 -- ---- the wait, told from a schedule
 
@@ -289,8 +234,21 @@ module _ (offers starts : List Timed) (is : IsScheduleOf offers starts) (offer s
       start.time ≤ offer.time + 134 + 135 * length (starts_between offer.time start.time starts)
   longest_standard frames = let most = wait-le 134 (λ x s. longest-standard x.frame (frames x s)) in omega arith
 
+  -- where the bus is free none that starts meanwhile starts right then
   pub at_once : FindsFree offers starts offer → start.time ≡ offer.time
-  unfolding StartedAhead
-  at_once found =
-      started-once is.scheduled apart offer start at.is_offer at.is_start at.same (omega arith) found.free
-      (λ x s listed there same early before. found.started x s (record { is_offer = listed; is_start = there; same = same }) early before)
+  at_once found = elim (cases_lt offer.time start.time) [
+    | inr early ↦ (let wait = exact in omega arith)
+    | inl late ↦
+        let none : (z : Transmission) → IsMade (unhit starts) z → z.time ≢ offer.time = λ z made now.
+        let there = made-unhit starts z made in
+        let back = starts-offered is.scheduled there.0 there.1 in
+        let same : there.0.time ≡ z.time = ap (λ (y : Transmission). y.time) there.2 in
+        let goes = meanwhile there.0 there.1 (omega (arith, same, now)) (omega (arith, same, now, late)) in
+        let before = found.started back.offer there.0 (record { is_offer = back.is_offer; is_start = there.1; same = sym back.same }) (omega (arith, back.in_time, same, now))
+        (subst (λ f. Before (arbitration_field f) (arbitration_field offer.frame)) (sym back.same) goes) in
+        omega (arith, before, same, now) in
+        let less = kept-less course offer.time none (one_unhit start) (unhit-made starts start at.is_start) late in
+        let wait = exact in
+        let same = waits-unhit starts offer.time offer.time start.time in
+        absurd (omega (arith, less, wait, found.free, same.1))
+  ]
