@@ -13,7 +13,7 @@ use Rattle.can_bus.specs.OpenBus.{QueuesHaveRoom, IsOpenCall, WaitsAt, all_offer
 use Rattle.can_bus.specs.Offers.{AreOffered, all_made, played, played_level}
 use Rattle.can_bus.specs.Quiet.{AreDifferent, IsAscending, IsQuiet, IsQuietCall, IsQuietPort, ascending, line_at, queued, AtEachNode}
 use Rattle.can_bus.specs.Run.{BusState, bus_level, bus_run}
-use Rattle.can_bus.specs.Schedule.{AreAtOnce, Timed, frames_of, schedule, track_at}
+use Rattle.can_bus.specs.Schedule.{AreAtOnce, TimedParts, frames_of, schedule, track_at}
 use Rattle.can_bus.proofs.CourseSchedules.{no-other-schedule, one-schedule}
 use Rattle.can_bus.proofs.Ascending.{ascending_permuted, ascending_there, different_permuted}
 use Rattle.can_bus.proofs.CallLemmas.{played-quiet, played_level-quiet}
@@ -27,11 +27,11 @@ use Rattle.can_bus.proofs.PortOffers.{offers-by-port, port_offers}
 
 -- ---- what is offered
 
-pub first-frames : (queue : List Parts) (own : List Timed) → frames_of (offered_first queue ++ own) ≡ queue ++ frames_of own
+pub first-frames : (queue : List Parts) (own : List TimedParts) → frames_of (offered_first queue ++ own) ≡ queue ++ frames_of own
 first-frames [] own = refl
 first-frames (f ∷ queue) own = ap (λ fs. f ∷ fs) (first-frames queue own)
 
-at_once-now : (own : List Timed) → AreAtOnce own → offered_at own 0 ≡ frames_of own
+at_once-now : (own : List TimedParts) → AreAtOnce own → offered_at own 0 ≡ frames_of own
 at_once-now [] all = refl
 at_once-now (x ∷ own) all =
     at-now x own 0 (all x (stands-here x own)) ∙ ap (λ fs. x.frame ∷ fs) (at_once-now own (λ y there. all y (stands-later x own y there)))
@@ -64,13 +64,13 @@ module _ (offers : List Offer) (first : AreAtOnce (map timed offers)) where
   to-at_once node x there =
       let made = map-stands timed (filter (λ (o : Offer). eqb o.node node) offers) x there in
       let at = (filter-stands (λ (o : Offer). eqb o.node node) offers made.0 made.1).0 in
-      sym (ap (λ (y : Timed). y.time) made.2) ∙ first (timed made.0) (stands-map timed offers made.0 at)
+      sym (ap (λ (y : TimedParts). y.time) made.2) ∙ first (timed made.0) (stands-map timed offers made.0 at)
 
   all-at_once : (ports : List PortState) → AreAtOnce (all_offers offers ports)
   all-at_once ports x there = elim (stands-either (offered_first (queued ports)) (map timed offers) x there) [
     | inl waits ↦
-        let one = map-stands (λ (f : Parts). let y : Timed = record { time = 0; frame = f } in y) (queued ports) x waits in
-        sym (ap (λ (y : Timed). y.time) one.2)
+        let one = map-stands (λ (f : Parts). let y : TimedParts = record { time = 0; frame = f } in y) (queued ports) x waits in
+        sym (ap (λ (y : TimedParts). y.time) one.2)
     | inr made ↦ first x made
   ]
 
@@ -82,21 +82,21 @@ module _ (offers : List Offer) (first : AreAtOnce (map timed offers)) where
   port-frames node (p ∷ ports) =
       ap (λ fs. fs ++ queued (all_arrived offers 0 (node + 1) ports)) (own-frames node p)
       ∙ ap (λ fs. frames_of (own_offers offers node p) ++ fs) (port-frames (node + 1) ports)
-      ∙ sym (map-append (λ (x : Timed). x.frame) (own_offers offers node p) (port_offers offers (node + 1) ports))
+      ∙ sym (map-append (λ (x : TimedParts). x.frame) (own_offers offers node p) (port_offers offers (node + 1) ports))
 
   -- all frames wait
   all-wait : (ports : List PortState) → AreOffered (length ports) offers → IsPermutation (queued (all_arrived offers 0 0 ports)) (frames_of (all_offers offers ports))
   all-wait ports offered =
       subst (λ fs. IsPermutation fs (frames_of (all_offers offers ports))) (sym (port-frames 0 ports))
-      (IsPermutation-map (λ (x : Timed). x.frame) (port_offers offers 0 ports) (all_offers offers ports) (offers-by-port offers ports offered))
+      (IsPermutation-map (λ (x : TimedParts). x.frame) (port_offers offers 0 ports) (all_offers offers ports) (offers-by-port offers ports offered))
 
   all-size : (ports : List PortState) → AreOffered (length ports) offers → length (queued (all_arrived offers 0 0 ports)) ≡ length (all_offers offers ports)
   all-size ports offered =
       sym (length_permutation (queued (all_arrived offers 0 0 ports)) (frames_of (all_offers offers ports)) (all-wait ports offered))
-      ∙ length-map (all_offers offers ports) (λ (x : Timed). x.frame)
+      ∙ length-map (all_offers offers ports) (λ (x : TimedParts). x.frame)
 
   module _ (ports : List PortState) (room : QueuesHaveRoom offers ports) where
-    abbrev all : List Timed
+    abbrev all : List TimedParts
     all = all_offers offers ports
 
     abbrev waiting_ports : List PortState
@@ -113,7 +113,7 @@ module _ (offers : List Offer) (first : AreAtOnce (map timed offers)) where
         ap (λ (r : PortState). r.queue) (sym becomes) ∙ ap (λ k. (gains (arriving offers k 0) p).queue) (let e : 0 + n ≡ n = omega arith in e) ∙ own-frames n p
 
     -- the premises of an open call are those of a quiet one
-    module _ (starts : List Timed) (call : IsOpenCall offers ports starts) where
+    module _ (starts : List TimedParts) (call : IsOpenCall offers ports starts) where
       ascending-starts : frames_of starts ≡ ascending (frames_of all)
       ascending-starts = ap frames_of (no-other-schedule all starts call.scheduled) ∙ at_once-frames all call.scheduled.different (all-at_once ports)
 

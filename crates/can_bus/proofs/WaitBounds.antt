@@ -11,15 +11,16 @@ use Rattle.can_frame.specs.Arbitration.{arbitration_field, Before}
 use Rattle.can_wire.proofs.WireLemmas.{length-wire-le}
 use Rattle.can_node.specs.Ports.{goes_before, same_field}
 use Rattle.can_node.proofs.WaitingLemmas.{Shares-same_field}
-use Rattle.can_bus.specs.Schedule.{Timed, busy_time, Lists, IsScheduleOf, StartsAt, frames_of, without_offer}
+use Rattle.can_bus.specs.Quiet.{busy_time}
+use Rattle.can_bus.specs.Schedule.{TimedParts, Lists, IsScheduleOf, StartsAt, frames_of, without_offer}
 use Rattle.can_bus.specs.Waiting.{left_at, starts_between, ahead_of, busy_times, FindsFree}
 use Rattle.can_bus.proofs.Members.{stands-none, stands-here, stands-later, stands-cases, filter-stands, stands-filter}
-use Rattle.can_bus.proofs.NextStarts.{AreApart, apart-from, apart-one}
+use Rattle.can_bus.proofs.NextStarts.{AllDiffer, differ-from, one-of-field}
 use Rattle.can_bus.proofs.Schedules.{starts-offered, schedule-frames}
 use Rattle.can_bus.specs.Course.{Transmission, IsCourse, over, sent, broken, IsMade, unhit}
 use Rattle.can_bus.specs.CourseWaiting.{AreInTime, IsSentBy, attempts_between, keeping, kept_times, left_behind, of_field, sends_of, sent_attempts}
 use Rattle.can_bus.proofs.Ascending.{different_permuted}
-use Rattle.can_bus.proofs.CourseDelays.{exact as course-exact, meanwhile as course-meanwhile, going, weigh, weigh-first, length-weigh, some-first, waits-unhit}
+use Rattle.can_bus.proofs.CourseDelays.{busy-weighed, exact as course-exact, meanwhile as course-meanwhile, going, weigh, weigh-first, length-weigh, some-first, waits-unhit}
 use Rattle.can_bus.proofs.CourseSchedules.{schedule-course}
 use Rattle.can_bus.proofs.CourseTracks.{course-free}
 use Rattle.can_bus.proofs.CourseWaits.{between-before, between-late, between-more, between-none, sends-more, sends-other}
@@ -30,39 +31,39 @@ use Rattle.can_bus.proofs.QuietLogs.{other-test}
 
 -- ---- a schedule is a course without hits
 
-abbrev one_unhit : Timed → Transmission
+abbrev one_unhit : TimedParts → Transmission
 one_unhit s = record { time = s.time; frame = s.frame; hit = None }
 
-unhit-made : (starts : List Timed) (s : Timed) → Lists starts s → IsMade (unhit starts) (one_unhit s)
+unhit-made : (starts : List TimedParts) (s : TimedParts) → Lists starts s → IsMade (unhit starts) (one_unhit s)
 unhit-made [] s there = absurd (stands-none s there)
 unhit-made (x ∷ starts) s there = elim (stands-cases x starts s there) [ inl e ↦ inl (ap one_unhit e) | inr later ↦ inr (unhit-made starts s later) ]
 
-made-unhit : (starts : List Timed) (z : Transmission) → IsMade (unhit starts) z → (s : Timed) × Lists starts s × (one_unhit s ≡ z)
+made-unhit : (starts : List TimedParts) (z : Transmission) → IsMade (unhit starts) z → (s : TimedParts) × Lists starts s × (one_unhit s ≡ z)
 made-unhit [] z made = absurd made
 made-unhit (x ∷ starts) z (inl here) = (x, stands-here x starts, here)
 made-unhit (x ∷ starts) z (inr later) = let there = made-unhit starts z later in (there.0, stands-later x starts there.0 there.1, there.2)
 
 -- no other offer of its field stands before an offer
-none-before : (offers : List Timed) (n : ℕ) (x : Timed) → AreApart offers → slice_get offers n ≡ Some x → of_field x.frame (take n offers) ≡ []
+none-before : (offers : List TimedParts) (n : ℕ) (x : TimedParts) → AllDiffer offers → slice_get offers n ≡ Some x → of_field x.frame (take n offers) ≡ []
 none-before [] n x apart at = absurd (let h : None ≡ Some x = at in cc)
 none-before (y ∷ offers) zero x apart at = refl
 none-before (y ∷ offers) (suc n) x apart at =
     field-skip x.frame y (take n offers) (other-test x.frame y.frame (λ e. apart.0 x (n, at) (sym e))) ∙ none-before offers n x apart.1 at
 
 -- and no other start of its field is made
-one-sent : (f : Parts) (starts : List Timed) (s : Timed) → AreApart starts → Lists starts s → arbitration_field f ≡ arbitration_field s.frame → slice_get (sends_of f (unhit starts)) 0 ≡ Some (one_unhit s)
+one-sent : (f : Parts) (starts : List TimedParts) (s : TimedParts) → AllDiffer starts → Lists starts s → arbitration_field f ≡ arbitration_field s.frame → slice_get (sends_of f (unhit starts)) 0 ≡ Some (one_unhit s)
 one-sent f [] s apart there e = absurd (stands-none s there)
 one-sent f (x ∷ starts) s apart there e = elim (stands-cases x starts s there) [
   | inl here ↦
-      ap (λ l. slice_get l 0) (sends-more f x.time x.frame (unhit starts) (Shares-same_field f x.frame (e ∙ ap (λ (z : Timed). arbitration_field z.frame) (sym here)))) ∙ ap (λ z. Some (one_unhit z)) here
+      ap (λ l. slice_get l 0) (sends-more f x.time x.frame (unhit starts) (Shares-same_field f x.frame (e ∙ ap (λ (z : TimedParts). arbitration_field z.frame) (sym here)))) ∙ ap (λ z. Some (one_unhit z)) here
   | inr later ↦
       ap (λ l. slice_get l 0) (sends-other f x.time x.frame (unhit starts) (other-test f x.frame (λ k. apart.0 s later (sym k ∙ e)))) ∙ one-sent f starts s apart.1 later e
 ]
 
 -- ---- what goes before a frame, weighed
 
-module _ (weight : Parts → ℕ) (test : Timed → Bool) where
-  without-less : (f : Parts) (offers : List Timed) → weigh weight (filter test (without_offer f offers)) ≤ weigh weight (filter test offers)
+module _ (weight : Parts → ℕ) (test : TimedParts → Bool) where
+  without-less : (f : Parts) (offers : List TimedParts) → weigh weight (filter test (without_offer f offers)) ≤ weigh weight (filter test offers)
   without-less f offers = elim (field-cases f offers) [
     | inl none ↦ omega (arith, ap (λ l. weigh weight (filter test l)) (without-absent f offers none))
     | inr has ↦
@@ -71,35 +72,35 @@ module _ (weight : Parts → ℕ) (test : Timed → Bool) where
         omega (arith, weigh-first weight test f offers first.0 first.1 first.2)
   ]
 
-  left-less : (starts offers : List Timed) → weigh weight (filter test (left_behind offers (unhit starts))) ≤ weigh weight (filter test offers)
+  left-less : (starts offers : List TimedParts) → weigh weight (filter test (left_behind offers (unhit starts))) ≤ weigh weight (filter test offers)
   left-less [] offers = omega arith
   left-less (s ∷ starts) offers = omega (arith, left-less starts (without_offer s.frame offers), without-less s.frame offers)
 
-none-left : (f : Parts) (starts offers : List Timed) → of_field f offers ≡ [] → of_field f (left_behind offers (unhit starts)) ≡ []
+none-left : (f : Parts) (starts offers : List TimedParts) → of_field f offers ≡ [] → of_field f (left_behind offers (unhit starts)) ≡ []
 none-left f [] offers none = none
 none-left f (s ∷ starts) offers none = none-left f starts (without_offer s.frame offers) (field-without f s.frame offers ∙ ap (without_offer s.frame) none)
 
 -- the attempts between two times are the starts
-between-unhit : (from until : ℕ) (starts : List Timed) → attempts_between from until (unhit starts) ≡ unhit (starts_between from until starts)
+between-unhit : (from until : ℕ) (starts : List TimedParts) → attempts_between from until (unhit starts) ≡ unhit (starts_between from until starts)
 between-unhit from until [] = refl
 between-unhit from until (s ∷ starts) = by_test (nat_le from s.time && nat_lt s.time until) s (attempts_between from until (unhit starts)) (starts_between from until starts) (between-unhit from until starts)
   where
-    by_test : (b : Bool) (s : Timed) (some : List Transmission) (others : List Timed) → some ≡ unhit others → cond b (one_unhit s ∷ some) some ≡ unhit (cond b (s ∷ others) others)
+    by_test : (b : Bool) (s : TimedParts) (some : List Transmission) (others : List TimedParts) → some ≡ unhit others → cond b (one_unhit s ∷ some) some ≡ unhit (cond b (s ∷ others) others)
     by_test true s some others same = ap (λ l. one_unhit s ∷ l) same
     by_test false s some others same = same
 
-sent-unhit : (weight : Parts → ℕ) (starts : List Timed) → sum_by (λ (z : Transmission). weight z.frame) (sent_attempts (unhit starts)) ≡ sum_by (λ (x : Timed). weight x.frame) starts
+sent-unhit : (weight : Parts → ℕ) (starts : List TimedParts) → sum_by (λ (z : Transmission). weight z.frame) (sent_attempts (unhit starts)) ≡ sum_by (λ (x : TimedParts). weight x.frame) starts
 sent-unhit weight [] = refl
-sent-unhit weight (s ∷ starts) = omega (arith, sent-unhit weight starts, sum_by-cons (λ (z : Transmission). weight z.frame) (one_unhit s) (sent_attempts (unhit starts)), sum_by-cons (λ (x : Timed). weight x.frame) s starts)
+sent-unhit weight (s ∷ starts) = omega (arith, sent-unhit weight starts, sum_by-cons (λ (z : Transmission). weight z.frame) (one_unhit s) (sent_attempts (unhit starts)), sum_by-cons (λ (x : TimedParts). weight x.frame) s starts)
 
 -- ---- how long a frame keeps the bus at most
 
 module _ (most : ℕ) where
   -- each frame keeps it no longer than this, and one bit time
-  abbrev pub AreShort : List Timed → Type 0
-  AreShort timed = (x : Timed) → Lists timed x → busy_time x.frame ≤ suc most
+  abbrev pub AreShort : List TimedParts → Type 0
+  AreShort timed = (x : TimedParts) → Lists timed x → busy_time x.frame ≤ suc most
 
-  left-le : (t : ℕ) (starts : List Timed) → AreShort starts → left_at t starts ≤ most
+  left-le : (t : ℕ) (starts : List TimedParts) → AreShort starts → left_at t starts ≤ most
   left-le t [] short = omega arith
   left-le t (start ∷ starts) short =
       let over = start.time + busy_time start.frame in
@@ -109,8 +110,8 @@ module _ (most : ℕ) where
       omega (arith, begun, short start (stands-here start starts)))
       (λ over. left-le t starts (λ s there. short s (stands-later start starts s there)))
 
-  busy-le : (timed : List Timed) → AreShort timed → busy_times timed ≤ length timed * suc most
-  busy-le timed short = sum_by-le (λ (x : Timed). busy_time x.frame) (suc most) timed (λ k d within. short (get_or timed k d) (k, slice_get-get_or timed k d within))
+  busy-le : (timed : List TimedParts) → AreShort timed → busy_times timed ≤ length timed * suc most
+  busy-le timed short = omega (arith, busy-weighed timed, sum_by-le (λ (x : TimedParts). busy_time x.frame) (suc most) timed (λ k d within. short (get_or timed k d) (k, slice_get-get_or timed k d within)))
 
 longest-format : (extended : Bool) → cond extended 157 132 ≤ 157
 longest-format true = omega arith
@@ -125,7 +126,7 @@ longest-standard f is = omega (arith, length-wire-le f is.0, cond-false {A = ℕ
 -- ---- where nothing starts at a time
 
 -- what starts between it and a start keeps the bus for less than the time between
-kept-less : {number free : ℕ} {left : List Timed} {course : List Transmission} → IsCourse [] number free left course → (from : ℕ) → ((z : Transmission) → IsMade course z → z.time ≢ from) →
+kept-less : {number free : ℕ} {left : List TimedParts} {course : List Transmission} → IsCourse [] number free left course → (from : ℕ) → ((z : Transmission) → IsMade course z → z.time ≢ from) →
     (s : Transmission) → IsMade course s → from < s.time → kept_times (attempts_between from s.time course) + max free (suc from) ≤ s.time
 kept-less (over number free) from none s made less = absurd made
 kept-less (sent number free time f left course is unhit_here rest) from none s made less =
@@ -152,20 +153,20 @@ kept-less (broken number free time f offset left course is struck window rest) f
 
 -- ---- the wait, told from a schedule
 
-module _ (offers starts : List Timed) (is : IsScheduleOf offers starts) (offer start : Timed) (at : StartsAt offers starts offer start) where
-  apart : AreApart offers
-  apart = apart-from offers is.different
+module _ (offers starts : List TimedParts) (is : IsScheduleOf offers starts) (offer start : TimedParts) (at : StartsAt offers starts offer start) where
+  apart : AllDiffer offers
+  apart = differ-from offers is.different
 
-  starts-apart : AreApart starts
-  starts-apart = apart-from starts (different_permuted (frames_of offers) (frames_of starts) (schedule-frames is.scheduled) is.different)
+  starts-apart : AllDiffer starts
+  starts-apart = differ-from starts (different_permuted (frames_of offers) (frames_of starts) (schedule-frames is.scheduled) is.different)
 
   course : IsCourse [] 0 0 offers (unhit starts)
   course = schedule-course 0 is.scheduled apart
 
   rise : AreInTime offers
   rise m n x y less a b same =
-      absurd (is.different m n x.frame y.frame less (slice_get-map (λ (z : Timed). z.frame) offers m ∙ ap (option_map (λ (z : Timed). z.frame)) a)
-      (slice_get-map (λ (z : Timed). z.frame) offers n ∙ ap (option_map (λ (z : Timed). z.frame)) b) same)
+      absurd (is.different m n x.frame y.frame less (slice_get-map (λ (z : TimedParts). z.frame) offers m ∙ ap (option_map (λ (z : TimedParts). z.frame)) a)
+      (slice_get-map (λ (z : TimedParts). z.frame) offers n ∙ ap (option_map (λ (z : TimedParts). z.frame)) b) same)
 
   by : IsSentBy offers (unhit starts) at.is_offer.0 offer (one_unhit start)
   by = record {
@@ -181,30 +182,31 @@ module _ (offers starts : List Timed) (is : IsScheduleOf offers starts) (offer s
       let same = waits-unhit starts offer.time offer.time start.time in
       omega (arith, wait, same.0, same.1)
 
-  pub meanwhile : (s : Timed) → Lists starts s → offer.time ≤ s.time → s.time < start.time → Before (arbitration_field s.frame) (arbitration_field offer.frame)
+  pub meanwhile : (s : TimedParts) → Lists starts s → offer.time ≤ s.time → s.time < start.time → Before (arbitration_field s.frame) (arbitration_field offer.frame)
   meanwhile s there from until = elim (course-meanwhile [] offers (unhit starts) course rise at.is_offer.0 offer (one_unhit start) by (one_unhit s) (unhit-made starts s there) from until) [
     | inl goes ↦ goes
     | inr same ↦
-        let one : s ≡ start = apart-one starts starts-apart s start there at.is_start (same ∙ ap arbitration_field (sym at.same)) in
-        let e : s.time ≡ start.time = ap (λ (z : Timed). z.time) one in
+        let one : s ≡ start = one-of-field starts starts-apart s start there at.is_start (same ∙ ap arbitration_field (sym at.same)) in
+        let e : s.time ≡ start.time = ap (λ (z : TimedParts). z.time) one in
         absurd (omega (arith, e, until))
   ]
 
   weigh-meantime : (weight : Parts → ℕ) →
-      sum_by (λ (x : Timed). weight x.frame) (starts_between offer.time start.time starts) ≤ sum_by (λ (x : Timed). weight x.frame) (ahead_of offer.frame start.time offers)
+      sum_by (λ (x : TimedParts). weight x.frame) (starts_between offer.time start.time starts) ≤ sum_by (λ (x : TimedParts). weight x.frame) (ahead_of offer.frame start.time offers)
   weigh-meantime weight =
       let begun = starts_between 0 offer.time starts in
       let place = at.is_offer.0 in
       let goes = going [] offers (unhit starts) course rise place offer (one_unhit start) by weight in
       let sent = ap (λ l. sum_by (λ (z : Transmission). weight z.frame) (sent_attempts l)) (between-unhit offer.time start.time starts) ∙ sent-unhit weight (starts_between offer.time start.time starts) in
-      let before = ap (λ l. sum_by (λ (x : Timed). weight x.frame) (ahead_of offer.frame start.time (left_behind offers l) ++ of_field offer.frame (left_behind (take place offers) l))) (between-unhit 0 offer.time starts) in
-      let both = sum_by-append (λ (x : Timed). weight x.frame) (ahead_of offer.frame start.time (left_behind offers (unhit begun))) (of_field offer.frame (left_behind (take place offers) (unhit begun))) in
+      let before = ap (λ l. sum_by (λ (x : TimedParts). weight x.frame) (ahead_of offer.frame start.time (left_behind offers l) ++ of_field offer.frame (left_behind (take place offers) l))) (between-unhit 0 offer.time starts) in
+      let both = sum_by-append (λ (x : TimedParts). weight x.frame) (ahead_of offer.frame start.time (left_behind offers (unhit begun))) (of_field offer.frame (left_behind (take place offers) (unhit begun))) in
       let own = ap (weigh weight) (none-left offer.frame begun (take place offers) (none-before offers place offer apart at.is_offer.1)) in
       let less = left-less weight (λ x. goes_before x.frame offer.frame && nat_lt x.time start.time) begun offers in
       omega (arith, goes, sent, before, both, own, less)
 
   pub bound : start.time ≤ offer.time + left_at offer.time starts + busy_times (ahead_of offer.frame start.time offers)
-  bound = let wait = exact in let most = weigh-meantime busy_time in omega arith
+  bound =
+      omega (arith, exact, weigh-meantime busy_time, busy-weighed (starts_between offer.time start.time starts), busy-weighed (ahead_of offer.frame start.time offers))
 
   pub few : length (starts_between offer.time start.time starts) ≤ length (ahead_of offer.frame start.time offers)
   few =
@@ -224,13 +226,13 @@ module _ (offers starts : List Timed) (is : IsScheduleOf offers starts) (offer s
       let each : AreShort most starts = short-starts most short in
       let left = left-le most offer.time starts each in
       let frames = busy-le most (starts_between offer.time start.time starts)
-      (λ s there. each s (filter-stands (λ (z : Timed). nat_le offer.time z.time && nat_lt z.time start.time) starts s there).0) in
+      (λ s there. each s (filter-stands (λ (z : TimedParts). nat_le offer.time z.time && nat_lt z.time start.time) starts s there).0) in
       omega arith
 
-  pub longest : ((x : Timed) → Lists offers x → IsFrame x.frame) → start.time ≤ offer.time + 159 + 160 * length (starts_between offer.time start.time starts)
+  pub longest : ((x : TimedParts) → Lists offers x → IsFrame x.frame) → start.time ≤ offer.time + 159 + 160 * length (starts_between offer.time start.time starts)
   longest frames = let most = wait-le 159 (λ x s. longest-busy x.frame (frames x s)) in omega arith
 
-  pub longest_standard : ((x : Timed) → Lists offers x → IsFrame x.frame × (x.frame.id.extended ≡ false)) →
+  pub longest_standard : ((x : TimedParts) → Lists offers x → IsFrame x.frame × (x.frame.id.extended ≡ false)) →
       start.time ≤ offer.time + 134 + 135 * length (starts_between offer.time start.time starts)
   longest_standard frames = let most = wait-le 134 (λ x s. longest-standard x.frame (frames x s)) in omega arith
 
