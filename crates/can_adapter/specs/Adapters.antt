@@ -3,9 +3,9 @@ use Rattle.std.specs.Prelude.{ℕ, ◌≡◌, ◌≢◌, ◌⊎◌, ◌+◌, Lis
 use Rattle.can_frame.specs.declared.level.Level.{Level}
 use Rattle.can_fault.specs.Counters.{state_of}
 use Rattle.can_mac.specs.declared.event.Event.{Event}
-use Rattle.can_node.specs.Ports.{PortState, port_drives}
+use Rattle.can_node.specs.Ports.{PortState, port_drives, with_offer}
 use Rattle.can_conform.specs.declared.script.TesterLevel.{TesterLevel}
-use Rattle.can_conform.specs.Runs.{given, met, started, told_of, wished}
+use Rattle.can_conform.specs.Runs.{met, started, told_of, wished}
 use Rattle.can_stream.specs.Digits.{digit_of}
 use Rattle.can_kit_text.specs.Words.{event_text, state_word}
 use Rattle.can_adapter.specs.Commands.{Command, begins, offers, wishes, plays, ends, IsCommandLine, quit_line}
@@ -70,7 +70,7 @@ answer_to ends p = in_case p state_answer
 -- the port behind it
 abbrev pub behind_command : Command → Option PortState → Option PortState
 behind_command (begins start) p = Some (started start)
-behind_command (offers f) p = option_map (given f) p
+behind_command (offers f) p = option_map (with_offer f) p
 behind_command (wishes n) p = option_map (wished n) p
 behind_command (plays levels) p = option_map (played levels) p
 behind_command ends p = p

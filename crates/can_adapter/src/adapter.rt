@@ -27,7 +27,8 @@ pub(crate) struct Adapter {
 }
 
 impl Adapter {
-    ghost use Rattle.can_conform.specs.Runs.{given, started, wished};
+    ghost use Rattle.can_conform.specs.Runs.{started, wished};
+    ghost use Rattle.can_node.specs.Ports.{with_offer};
     ghost use Rattle.can_adapter.specs.Adapters.{in_case, no_case_answer, IsStep};
     ghost use Rattle.std.specs.Prelude.{[], codes, None, Some};
 
@@ -79,7 +80,7 @@ impl Adapter {
     /// Offers a frame.
     fn offer(&mut self, frame: Frame, out: &mut Vec<u8>) -> Result<(), AllocError>
         ensures text { OnOk result (out.new.items ≡ out.old.items ++ in_case (option_map ⟦<PackedNode as Port>⟧.port self.old.node) (λ port. [])) }
-        ensures port { OnOk result (option_map ⟦<PackedNode as Port>⟧.port self.new.node ≡ option_map (given frame) (option_map ⟦<PackedNode as Port>⟧.port self.old.node)) }
+        ensures port { OnOk result (option_map ⟦<PackedNode as Port>⟧.port self.new.node ≡ option_map (with_offer frame) (option_map ⟦<PackedNode as Port>⟧.port self.old.node)) }
     {
         match &mut self.node {
             Some(node) => {

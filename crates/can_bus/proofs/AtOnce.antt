@@ -5,14 +5,14 @@ use Rattle.can_frame.specs.declared.level.Level.TheVariants.{Recessive}
 use Rattle.can_bus.specs.Course.{course_at, unhit}
 use Rattle.can_bus.specs.Quiet.{AreDifferent, ascending, line_at}
 use Rattle.can_bus.specs.RepairedLine.{repaired_line_at}
-use Rattle.can_bus.specs.Schedule.{AreAtOnce, Timed, frames_of, schedule, track_at}
+use Rattle.can_bus.specs.Schedule.{AreAtOnce, TimedParts, frames_of, schedule, track_at}
 use Rattle.can_bus.proofs.CourseCases.{course-planned, schedule-is}
 use Rattle.can_bus.proofs.CoursePlans.{plan-frames, plan-track}
 use Rattle.can_bus.proofs.CourseSchedules.{one-schedule, unhit-frames, unhit-track}
 use Rattle.can_bus.proofs.RepairPlans.{Plan}
 use Rattle.can_bus.proofs.RepairedLevels.{plan-attempts, unhit-line}
 
-module _ (offers : List Timed) (different : AreDifferent (frames_of offers)) (all : AreAtOnce offers) where
+module _ (offers : List TimedParts) (different : AreDifferent (frames_of offers)) (all : AreAtOnce offers) where
   -- the schedule is what is planned for the ascending list, where nothing is hit
   planned : Plan (ascending (frames_of offers)) [] 0 0 (ascending (frames_of offers)) (unhit (schedule offers))
   planned =

@@ -16,9 +16,9 @@ use Rattle.can_bus.specs.Course.{Transmission, IsCourse, over, sent, broken, IsM
 use Rattle.can_bus.specs.CourseWaiting.{AreInTime, IsSentBy, attempts_between, going_before, hit_attempts, keeping, kept_times, left_behind, left_on, of_field, sent_attempts}
 use Rattle.can_bus.specs.Offers.{AreOffered}
 use Rattle.can_bus.specs.OpenBus.{all_offers, offered_first, timed}
-use Rattle.can_bus.specs.Quiet.{queued}
+use Rattle.can_bus.specs.Quiet.{queued, busy_time, span}
 use Rattle.can_bus.specs.Repair.{IsInWindow}
-use Rattle.can_bus.specs.Schedule.{Timed, Lists, busy_time, without_offer}
+use Rattle.can_bus.specs.Schedule.{TimedParts, Lists, without_offer, frames_of}
 use Rattle.can_bus.specs.Waiting.{ahead_of, busy_times, left_at, starts_between}
 use Rattle.can_bus.proofs.CourseTracks.{course-free}
 use Rattle.can_bus.proofs.CourseWaits.{Awaits, FieldsInOrder, GoesFirst, IsOwn, awaits-listed, awaits-made, between-before, between-late, between-more, between-none, fields-without, first-left, hit-awaits, next-first, others-kept, sends-it, sent-cases, wait-exact, wait-first, wait-own}
@@ -32,12 +32,12 @@ use Rattle.can_bus.proofs.OwnOffers.{first-out, first-stays}
 
 -- ---- the list of offers, parted
 
-pub parted : (offers : List Timed) (n : ℕ) (x : Timed) → slice_get offers n ≡ Some x → (after : List Timed) × (offers ≡ take n offers ++ x ∷ after)
+pub parted : (offers : List TimedParts) (n : ℕ) (x : TimedParts) → slice_get offers n ≡ Some x → (after : List TimedParts) × (offers ≡ take n offers ++ x ∷ after)
 parted [] n x at = absurd (let h : None ≡ Some x = at in cc)
 parted (y ∷ offers) zero x at = let e : y ≡ x = (let h : Some y ≡ Some x = at in cc) in (offers, ap (λ z. z ∷ offers) e)
 parted (y ∷ offers) (suc n) x at = let rest = parted offers n x at in (rest.0, ap (λ l. y ∷ l) rest.1)
 
-in-order : (offers : List Timed) → AreInTime offers → FieldsInOrder offers
+in-order : (offers : List TimedParts) → AreInTime offers → FieldsInOrder offers
 in-order [] rise f = tt
 in-order (x ∷ offers) rise f =
     let rest : AreInOrder (of_field f offers) = in-order offers (λ m n y z less a b. rise (suc m) (suc n) y z (omega (arith, less)) a b) f in
@@ -52,28 +52,34 @@ in-order (x ∷ offers) rise f =
       | inr other ↦ subst AreInOrder (sym (field-skip f x offers other)) rest
     ]
 
-pub some-first : (own : List Timed) (y : Timed) → Lists own y → (x : Timed) × (more : List Timed) × (own ≡ x ∷ more)
+pub some-first : (own : List TimedParts) (y : TimedParts) → Lists own y → (x : TimedParts) × (more : List TimedParts) × (own ≡ x ∷ more)
 some-first [] y there = absurd (let h : None ≡ Some y = there.1 in cc)
 some-first (x ∷ own) y there = (x, own, refl)
 
 -- ---- frames, weighed
 
 module _ (weight : Parts → ℕ) where
-  abbrev pub weigh : List Timed → ℕ
-  weigh timed = sum_by (λ (x : Timed). weight x.frame) timed
+  abbrev pub weigh : List TimedParts → ℕ
+  weigh timed = sum_by (λ (x : TimedParts). weight x.frame) timed
 
-  pub weigh-passed : (b : Bool) (x : Timed) (timed : List Timed) → weigh (cond b (x ∷ timed) timed) ≡ cond b (weight x.frame) 0 + weigh timed
-  weigh-passed true x timed = sum_by-cons (λ (y : Timed). weight y.frame) x timed
+  pub weigh-passed : (b : Bool) (x : TimedParts) (timed : List TimedParts) → weigh (cond b (x ∷ timed) timed) ≡ cond b (weight x.frame) 0 + weigh timed
+  weigh-passed true x timed = sum_by-cons (λ (y : TimedParts). weight y.frame) x timed
   weigh-passed false x timed = omega arith
 
-pub length-weigh : (timed : List Timed) → sum_by (λ (x : Timed). 1) timed ≡ length timed
+-- how long they keep the bus
+pub busy-weighed : (timed : List TimedParts) → busy_times timed ≡ weigh busy_time timed
+unfolding span
+busy-weighed [] = refl
+busy-weighed (x ∷ timed) = omega (arith, busy-weighed timed, sum_by-cons busy_time x.frame (frames_of timed), sum_by-cons (λ (y : TimedParts). busy_time y.frame) x timed)
+
+pub length-weigh : (timed : List TimedParts) → sum_by (λ (x : TimedParts). 1) timed ≡ length timed
 length-weigh [] = refl
-length-weigh (x ∷ timed) = omega (arith, sum_by-cons (λ (y : Timed). 1) x timed, length-weigh timed)
+length-weigh (x ∷ timed) = omega (arith, sum_by-cons (λ (y : TimedParts). 1) x timed, length-weigh timed)
 
 -- ---- what an attempt takes from the offers
 
 module _ (weight : Parts → ℕ) where
-  pub weigh-first : (test : Timed → Bool) (f : Parts) (left : List Timed) (y : Timed) (more : List Timed) → of_field f left ≡ y ∷ more →
+  pub weigh-first : (test : TimedParts → Bool) (f : Parts) (left : List TimedParts) (y : TimedParts) (more : List TimedParts) → of_field f left ≡ y ∷ more →
       weigh weight (filter test left) ≡ cond (test y) (weight y.frame) 0 + weigh weight (filter test (without_offer f left))
   weigh-first test f [] y more e = absurd (let h : [] ≡ y ∷ more = e in cc)
   weigh-first test f (z ∷ left) y more e = elim (cases_Bool (same_field f z.frame)) [
@@ -81,7 +87,7 @@ module _ (weight : Parts → ℕ) where
         let both : z ∷ of_field f left ≡ y ∷ more = sym (field-more f z left same) ∙ e in
         let one : z ≡ y = cc in
         weigh-passed weight (test z) z (filter test left)
-        ∙ ap (λ (w : Timed). cond (test w) (weight w.frame) 0 + weigh weight (filter test left)) one
+        ∙ ap (λ (w : TimedParts). cond (test w) (weight w.frame) 0 + weigh weight (filter test left)) one
         ∙ ap (λ l. cond (test y) (weight y.frame) 0 + weigh weight (filter test l)) (sym (first-out f z left same))
     | inr other ↦
         let behind = weigh-first test f left y more (sym (field-skip f z left other) ∙ e) in
@@ -91,14 +97,14 @@ module _ (weight : Parts → ℕ) where
   ]
 
   -- what the attempts weigh that send a frame meanwhile
-  abbrev sent_weight : List Transmission → Timed → Transmission → ℕ
+  abbrev sent_weight : List Transmission → TimedParts → Transmission → ℕ
   sent_weight course x s = sum_by (λ (z : Transmission). weight z.frame) (sent_attempts (attempts_between x.time s.time course))
 
   -- and what goes before an offer, of these that are left
-  abbrev ahead_weight : List Timed → List Timed → Timed → Transmission → ℕ
+  abbrev ahead_weight : List TimedParts → List TimedParts → TimedParts → Transmission → ℕ
   ahead_weight left before x s = weigh weight (ahead_of x.frame s.time left) + weigh weight (of_field x.frame before)
 
-  module _ (time : ℕ) (f : Parts) (course : List Transmission) (x : Timed) (s : Transmission) where
+  module _ (time : ℕ) (f : Parts) (course : List Transmission) (x : TimedParts) (s : Transmission) where
     abbrev here : Option ℕ → Transmission
     here hit = record { time = time; frame = f; hit = hit }
 
@@ -116,17 +122,17 @@ module _ (weight : Parts → ℕ) where
       | inr late ↦ ap (λ l. sum_by (λ (z : Transmission). weight z.frame) (sent_attempts l)) (between-late x.time s.time (here (Some offset)) course late)
     ]
 
-  sent-none : (course : List Transmission) (x : Timed) (s : Transmission) → ((z : Transmission) → IsMade course z → s.time ≤ z.time) → sent_weight course x s ≡ 0
+  sent-none : (course : List Transmission) (x : TimedParts) (s : Transmission) → ((z : Transmission) → IsMade course z → s.time ≤ z.time) → sent_weight course x s ≡ 0
   sent-none course x s late = ap (λ l. sum_by (λ (z : Transmission). weight z.frame) (sent_attempts l)) (between-none x.time s.time course late)
 
   -- ---- once the offer is made
 
-  module _ (free time : ℕ) (f : Parts) (left : List Timed) (course : List Transmission) (x : Timed) (s : Transmission) (before : List Timed) where
-    abbrev tested : Timed → Bool
+  module _ (free time : ℕ) (f : Parts) (left : List TimedParts) (course : List Transmission) (x : TimedParts) (s : Transmission) (before : List TimedParts) where
+    abbrev tested : TimedParts → Bool
     tested = λ y. goes_before y.frame x.frame && nat_lt y.time s.time
 
     -- an attempt that wins arbitration takes away one offer that was counted
-    wins-less : (y : Timed) (more : List Timed) → of_field f left ≡ y ∷ more → y.frame ≡ f → y.time < s.time → Before (arbitration_field f) (arbitration_field x.frame) →
+    wins-less : (y : TimedParts) (more : List TimedParts) → of_field f left ≡ y ∷ more → y.frame ≡ f → y.time < s.time → Before (arbitration_field f) (arbitration_field x.frame) →
         weigh weight (ahead_of x.frame s.time left) ≡ weight f + weigh weight (ahead_of x.frame s.time (without_offer f left))
     wins-less y more first frame early goes =
         let passes : tested y ≡ true =
@@ -136,27 +142,27 @@ module _ (weight : Parts → ℕ) where
         ∙ ap (λ g. weight g + weigh weight (ahead_of x.frame s.time (without_offer f left))) frame
 
     -- any takes away none too many
-    never-more : (y : Timed) (more : List Timed) → of_field f left ≡ y ∷ more → weigh weight (ahead_of x.frame s.time (without_offer f left)) ≤ weigh weight (ahead_of x.frame s.time left)
+    never-more : (y : TimedParts) (more : List TimedParts) → of_field f left ≡ y ∷ more → weigh weight (ahead_of x.frame s.time (without_offer f left)) ≤ weigh weight (ahead_of x.frame s.time left)
     never-more y more first = omega (arith, weigh-first tested f left y more first)
 
     -- one of its own field takes away one that stands before it
-    own-less : (y : Timed) (more : List Timed) → of_field f before ≡ y ∷ more → y.frame ≡ f → same_field x.frame f ≡ true →
+    own-less : (y : TimedParts) (more : List TimedParts) → of_field f before ≡ y ∷ more → y.frame ≡ f → same_field x.frame f ≡ true →
         weigh weight (of_field x.frame before) ≡ weight f + weigh weight (of_field x.frame (without_offer f before))
     own-less y more first frame same =
         weigh-first (λ z. same_field x.frame z.frame) f before y more first
         ∙ ap (λ b. cond b (weight y.frame) 0 + weigh weight (of_field x.frame (without_offer f before))) (ap (same_field x.frame) frame ∙ same)
         ∙ ap (λ g. weight g + weigh weight (of_field x.frame (without_offer f before))) frame
 
-  one-before : (f : Parts) (left before rest : List Timed) (y : Timed) (more : List Timed) → left ≡ before ++ rest → of_field f left ≡ y ∷ more → (z : Timed) → Lists (of_field f before) z →
-      (others : List Timed) × (of_field f before ≡ y ∷ others)
+  one-before : (f : Parts) (left before rest : List TimedParts) (y : TimedParts) (more : List TimedParts) → left ≡ before ++ rest → of_field f left ≡ y ∷ more → (z : TimedParts) → Lists (of_field f before) z →
+      (others : List TimedParts) × (of_field f before ≡ y ∷ others)
   one-before f left before rest y more whole first z there =
       let some = some-first (of_field f before) z there in
       let both : some.0 ∷ (some.1 ++ of_field f rest) ≡ y ∷ more = ap (λ l. l ++ of_field f rest) (sym some.2) ∙ sym (field-append f before rest) ∙ ap (of_field f) (sym whole) ∙ first in
       let e : some.0 ≡ y = cc in
       (some.1, some.2 ∙ ap (λ w. w ∷ some.1) e)
 
-  late-weigh : {hits : List Hit} {number free : ℕ} {left : List Timed} {course : List Transmission} → IsCourse hits number free left course → FieldsInOrder left →
-      (x : Timed) (s : Transmission) (before : List Timed) → Awaits left course x s before → ((z : Transmission) → IsMade course z → x.time ≤ z.time) → sent_weight course x s ≤ ahead_weight left before x s
+  late-weigh : {hits : List Hit} {number free : ℕ} {left : List TimedParts} {course : List Transmission} → IsCourse hits number free left course → FieldsInOrder left →
+      (x : TimedParts) (s : Transmission) (before : List TimedParts) → Awaits left course x s before → ((z : Transmission) → IsMade course z → x.time ≤ z.time) → sent_weight course x s ≤ ahead_weight left before x s
   late-weigh (over number free) order x s before waits from = absurd (let h : None ≡ Some s = waits.turn in cc)
   late-weigh (sent number free time f left course is unhit rest) order x s before waits from =
       let a : Transmission = record { time = time; frame = f; hit = None } in
@@ -201,17 +207,17 @@ module _ (weight : Parts → ℕ) where
 
   -- ---- from the begin of the course on
 
-  abbrev going_weight : List Timed → List Timed → List Transmission → Timed → Transmission → ℕ
+  abbrev going_weight : List TimedParts → List TimedParts → List Transmission → TimedParts → Transmission → ℕ
   going_weight left before course x s = ahead_weight (left_behind left (attempts_between 0 x.time course)) (left_behind before (attempts_between 0 x.time course)) x s
 
   -- where no attempt has been made by then
-  late-going : (left before : List Timed) (course : List Transmission) (x : Timed) (s : Transmission) → ((z : Transmission) → IsMade course z → x.time ≤ z.time) →
+  late-going : (left before : List TimedParts) (course : List Transmission) (x : TimedParts) (s : Transmission) → ((z : Transmission) → IsMade course z → x.time ≤ z.time) →
       sent_weight course x s ≤ ahead_weight left before x s → sent_weight course x s ≤ going_weight left before course x s
   late-going left before course x s from less =
       subst (λ l. sent_weight course x s ≤ ahead_weight (left_behind left l) (left_behind before l) x s) (sym (between-none 0 x.time course from)) less
 
-  pub weigh-going : {hits : List Hit} {number free : ℕ} {left : List Timed} {course : List Transmission} → IsCourse hits number free left course → FieldsInOrder left →
-      (x : Timed) (s : Transmission) (before : List Timed) → Awaits left course x s before → sent_weight course x s ≤ going_weight left before course x s
+  pub weigh-going : {hits : List Hit} {number free : ℕ} {left : List TimedParts} {course : List Transmission} → IsCourse hits number free left course → FieldsInOrder left →
+      (x : TimedParts) (s : Transmission) (before : List TimedParts) → Awaits left course x s before → sent_weight course x s ≤ going_weight left before course x s
   weigh-going (over number free) order x s before waits = absurd (let h : None ≡ Some s = waits.turn in cc)
   weigh-going (sent number free time f left course is unhit rest) order x s before waits =
       let a : Transmission = record { time = time; frame = f; hit = None } in
@@ -276,7 +282,7 @@ hit-cost f (suc o) is window = elim (cases_lt (suc o) (length (stuffed_part f)))
   | inr past ↦ omega (arith, late-behind f is (suc o) (omega arith) past, window.before_last, length-wire f)
 ]
 
-pub course-costs : {hits : List Hit} {number free : ℕ} {left : List Timed} {course : List Transmission} → IsCourse hits number free left course → (s : Transmission) → IsMade course s → IsFrame s.frame →
+pub course-costs : {hits : List Hit} {number free : ℕ} {left : List TimedParts} {course : List Transmission} → IsCourse hits number free left course → (s : Transmission) → IsMade course s → IsFrame s.frame →
     keeping s.frame s.hit ≤ busy_time s.frame + 13
 course-costs (over number free) s made framed = absurd made
 course-costs (sent number free time f left course is unhit rest) s (inl here) framed =
@@ -289,8 +295,8 @@ course-costs (broken number free time f offset left course is struck window rest
 
 -- ---- the wait, told from a course
 
-module _ (hits : List Hit) (offers : List Timed) (course : List Transmission) (is : IsCourse hits 0 0 offers course) (rise : AreInTime offers)
-    (place : ℕ) (offer : Timed) (s : Transmission) (by : IsSentBy offers course place offer s) where
+module _ (hits : List Hit) (offers : List TimedParts) (course : List Transmission) (is : IsCourse hits 0 0 offers course) (rise : AreInTime offers)
+    (place : ℕ) (offer : TimedParts) (s : Transmission) (by : IsSentBy offers course place offer s) where
   order : FieldsInOrder offers
   order = in-order offers rise
 
@@ -307,31 +313,31 @@ module _ (hits : List Hit) (offers : List Timed) (course : List Transmission) (i
   meanwhile = wait-first is order offer s (take place offers) waits
 
   pub going : (weight : Parts → ℕ) →
-      sum_by (λ (z : Transmission). weight z.frame) (sent_attempts (attempts_between offer.time s.time course)) ≤ sum_by (λ (x : Timed). weight x.frame) (going_before offers course place offer s.time)
+      sum_by (λ (z : Transmission). weight z.frame) (sent_attempts (attempts_between offer.time s.time course)) ≤ sum_by (λ (x : TimedParts). weight x.frame) (going_before offers course place offer s.time)
   going weight =
       let begun = attempts_between 0 offer.time course in
       let less = weigh-going weight is order offer s (take place offers) waits in
-      let both = sum_by-append (λ (x : Timed). weight x.frame) (ahead_of offer.frame s.time (left_behind offers begun)) (of_field offer.frame (left_behind (take place offers) begun)) in
+      let both = sum_by-append (λ (x : TimedParts). weight x.frame) (ahead_of offer.frame s.time (left_behind offers begun)) (of_field offer.frame (left_behind (take place offers) begun)) in
       omega (arith, less, both)
 
   pub bound : s.time ≤ offer.time + left_on offer.time course + busy_times (going_before offers course place offer s.time) + kept_times (hit_attempts (attempts_between offer.time s.time course))
-  bound = omega (arith, exact, kept-parts (attempts_between offer.time s.time course), going busy_time)
+  bound = omega (arith, exact, kept-parts (attempts_between offer.time s.time course), going busy_time, busy-weighed (going_before offers course place offer s.time))
 
   pub few : length (sent_attempts (attempts_between offer.time s.time course)) ≤ length (going_before offers course place offer s.time)
   few = omega (arith, going (λ f. 1), length-sent (sent_attempts (attempts_between offer.time s.time course)), length-weigh (going_before offers course place offer s.time))
 
 -- ---- the offers of a call come in time
 
-rise-first : (queue : List Parts) (behind : List Timed) → AreInTime behind → AreInTime (offered_first queue ++ behind)
+rise-first : (queue : List Parts) (behind : List TimedParts) → AreInTime behind → AreInTime (offered_first queue ++ behind)
 rise-first [] behind rise m n x y less a b same = rise m n x y less a b same
 rise-first (f ∷ queue) behind rise zero zero x y less a b same = absurd (omega (arith, less))
-rise-first (f ∷ queue) behind rise zero (suc n) x y less a b same = let e : record { time = 0; frame = f } ≡ x = (let h : Some (record { time = 0; frame = f }) ≡ Some x = a in cc) in subst (λ (z : Timed). z.time ≤ y.time) e (omega arith)
+rise-first (f ∷ queue) behind rise zero (suc n) x y less a b same = let e : record { time = 0; frame = f } ≡ x = (let h : Some (record { time = 0; frame = f }) ≡ Some x = a in cc) in subst (λ (z : TimedParts). z.time ≤ y.time) e (omega arith)
 rise-first (f ∷ queue) behind rise (suc m) zero x y less a b same = absurd (omega (arith, less))
 rise-first (f ∷ queue) behind rise (suc m) (suc n) x y less a b same = rise-first queue behind rise m n x y (omega (arith, less)) a b same
 
-timed-at : (offers : List Offer) (n : ℕ) (x : Timed) → slice_get (map timed offers) n ≡ Some x → (offer : Offer) × (slice_get offers n ≡ Some offer) × (offer.time ≡ x.time)
+timed-at : (offers : List Offer) (n : ℕ) (x : TimedParts) → slice_get (map timed offers) n ≡ Some x → (offer : Offer) × (slice_get offers n ≡ Some offer) × (offer.time ≡ x.time)
 timed-at [] n x at = absurd (let h : None ≡ Some x = at in cc)
-timed-at (offer ∷ offers) zero x at = (offer, refl, let e : timed offer ≡ x = (let h : Some (timed offer) ≡ Some x = at in cc) in ap (λ (z : Timed). z.time) e)
+timed-at (offer ∷ offers) zero x at = (offer, refl, let e : timed offer ≡ x = (let h : Some (timed offer) ≡ Some x = at in cc) in ap (λ (z : TimedParts). z.time) e)
 timed-at (offer ∷ offers) (suc n) x at = timed-at offers n x at
 
 pub offers-in_time : (offers : List Offer) (ports : List PortState) → AreOffered (length ports) offers → AreInTime (all_offers offers ports)
@@ -344,22 +350,24 @@ offers-in_time offers ports offered =
 
 -- ---- without hits
 
-abbrev one_unhit : Timed → Transmission
+abbrev one_unhit : TimedParts → Transmission
 one_unhit s = record { time = s.time; frame = s.frame; hit = None }
 
-left-unhit : (t : ℕ) (starts : List Timed) → left_on t (unhit starts) ≡ left_at t starts
+left-unhit : (t : ℕ) (starts : List TimedParts) → left_on t (unhit starts) ≡ left_at t starts
 left-unhit t [] = refl
 left-unhit t (s ∷ starts) = ap (cond (nat_lt s.time t && nat_lt t (s.time + busy_time s.frame)) (s.time + busy_time s.frame - t)) (left-unhit t starts)
 
-unhit-more : (s : Timed) (starts : List Timed) (some : List Transmission) (b : Bool) → kept_times some ≡ busy_times starts →
+unhit-more : (s : TimedParts) (starts : List TimedParts) (some : List Transmission) (b : Bool) → kept_times some ≡ busy_times starts →
     kept_times (cond b (one_unhit s ∷ some) some) ≡ busy_times (cond b (s ∷ starts) starts)
-unhit-more s starts some true same = omega (arith, same, sum_by-cons (λ (z : Transmission). keeping z.frame z.hit) (one_unhit s) some, sum_by-cons (λ (x : Timed). busy_time x.frame) s starts)
+unfolding span
+unhit-more s starts some true same = omega (arith, same, sum_by-cons (λ (z : Transmission). keeping z.frame z.hit) (one_unhit s) some, sum_by-cons busy_time s.frame (frames_of starts))
 unhit-more s starts some false same = same
 
-kept-unhit : (from until : ℕ) (starts : List Timed) → kept_times (attempts_between from until (unhit starts)) ≡ busy_times (starts_between from until starts)
+kept-unhit : (from until : ℕ) (starts : List TimedParts) → kept_times (attempts_between from until (unhit starts)) ≡ busy_times (starts_between from until starts)
+unfolding span
 kept-unhit from until [] = refl
 kept-unhit from until (s ∷ starts) =
     unhit-more s (starts_between from until starts) (attempts_between from until (unhit starts)) (nat_le from s.time && nat_lt s.time until) (kept-unhit from until starts)
 
-pub waits-unhit : (starts : List Timed) (t from until : ℕ) → (left_on t (unhit starts) ≡ left_at t starts) × (kept_times (attempts_between from until (unhit starts)) ≡ busy_times (starts_between from until starts))
+pub waits-unhit : (starts : List TimedParts) (t from until : ℕ) → (left_on t (unhit starts) ≡ left_at t starts) × (kept_times (attempts_between from until (unhit starts)) ≡ busy_times (starts_between from until starts))
 waits-unhit starts t from until = (left-unhit t starts, kept-unhit from until starts)

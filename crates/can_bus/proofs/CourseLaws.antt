@@ -10,35 +10,36 @@ use Rattle.can_node.proofs.WaitingLemmas.{Shares-same_field}
 use Rattle.can_hit.specs.declared.hit.Hit.{Hit}
 use Rattle.can_bus.specs.Course.{HitInWindows, IsCourse, IsNext, Transmission, attempt_of, broken, course_from, course_of, hit_time, over, sent}
 use Rattle.can_bus.specs.Repair.{IsInWindow, hit_of, hits_before}
-use Rattle.can_bus.specs.Schedule.{Timed, busy_time, earliest, offered_by, without_offer}
+use Rattle.can_bus.specs.Quiet.{busy_time}
+use Rattle.can_bus.specs.Schedule.{TimedParts, earliest, offered_by, without_offer}
 use Rattle.can_bus.proofs.Fields.{without-length}
 use Rattle.can_bus.proofs.NextStarts.{earliest-each, earliest-is, offered-stands, stands-offered}
 use Rattle.can_bus.proofs.RepairPlans.{Apart, few-before, hit-cases, struck-before, unhit-before}
 
 -- ---- it is one
 
-module _ (free : ℕ) (left : List Timed) (t u : ℕ) (f g : Parts) (one : IsNext free left t f) (other : IsNext free left u g) where
+module _ (free : ℕ) (left : List TimedParts) (t u : ℕ) (f g : Parts) (one : IsNext free left t f) (other : IsNext free left u g) where
   no-later : t ≤ u
   no-later =
       let there = offered-stands u left g (other.waits.place, other.waits.stands) in
       let soon = one.soon there.0 there.1 in
       omega (arith, soon, there.2, other.is_free)
 
-next-time : (free : ℕ) (left : List Timed) (t u : ℕ) (f g : Parts) → IsNext free left t f → IsNext free left u g → t ≡ u
+next-time : (free : ℕ) (left : List TimedParts) (t u : ℕ) (f g : Parts) → IsNext free left t f → IsNext free left u g → t ≡ u
 next-time free left t u f g one other = omega (arith, no-later free left t u f g one other, no-later free left u t g f other one)
 
 -- ---- there is one
 
 -- where offers are left one of them waits at the earliest time
-frame-there : (free : ℕ) (x : Timed) (others : List Timed) → (f : Parts) × (waiting (offered_by (max free (earliest x others)) (x ∷ others)) ≡ Some f)
+frame-there : (free : ℕ) (x : TimedParts) (others : List TimedParts) → (f : Parts) × (waiting (offered_by (max free (earliest x others)) (x ∷ others)) ≡ Some f)
 frame-there free x others =
     let time = max free (earliest x others) in
     let first = earliest-is x others in
     let at = stands-offered time (x ∷ others) first.0 first.1 (let e = first.2 in omega arith) in
     waiting-some (offered_by time (x ∷ others)) at.0 first.0.frame at.1
 
-module _ (free : ℕ) (x : Timed) (others : List Timed) (f : Parts) (waits : waiting (offered_by (max free (earliest x others)) (x ∷ others)) ≡ Some f) where
-  abbrev left : List Timed
+module _ (free : ℕ) (x : TimedParts) (others : List TimedParts) (f : Parts) (waits : waiting (offered_by (max free (earliest x others)) (x ∷ others)) ≡ Some f) where
+  abbrev left : List TimedParts
   left = x ∷ others
 
   abbrev time : ℕ
@@ -58,7 +59,7 @@ module _ (free : ℕ) (x : Timed) (others : List Timed) (f : Parts) (waits : wai
       without-length f left there.0 there.1 (Shares-same_field f there.0.frame (sym (ap arbitration_field there.3)))
 
 module _ (hits : List Hit) (apart : Apart hits) where
-  there-from : (count number free : ℕ) (left : List Timed) → length left + length hits ≤ count + hits_before hits number → HitInWindows (course_from count hits number free left) →
+  there-from : (count number free : ℕ) (left : List TimedParts) → length left + length hits ≤ count + hits_before hits number → HitInWindows (course_from count hits number free left) →
       IsCourse hits number free left (course_from count hits number free left)
   there-from zero number free [] enough windows = over number free
   there-from (suc count) number free [] enough windows = over number free
@@ -66,7 +67,7 @@ module _ (hits : List Hit) (apart : Apart hits) where
   there-from (suc count) number free (x ∷ others) enough windows =
       let first = frame-there free x others in
       let f = first.0 in
-      let left : List Timed = x ∷ others in
+      let left : List TimedParts = x ∷ others in
       let time : ℕ = max free (earliest x others) in
       let is : IsNext free left time f = next-there free x others f first.1 in
       let behind : Parts → List Transmission = λ g. course_from count hits (number + 1) (time + busy_time g) (without_offer g left) in
@@ -91,12 +92,12 @@ module _ (hits : List Hit) (apart : Apart hits) where
             (λ s p made e. all s p (inr made) e)))
       ]
 
-  pub course-there : (offers : List Timed) → HitInWindows (course_of hits offers) → IsCourse hits 0 0 offers (course_of hits offers)
+  pub course-there : (offers : List TimedParts) → HitInWindows (course_of hits offers) → IsCourse hits 0 0 offers (course_of hits offers)
   unfolding course_of
   course-there offers windows = there-from (length offers + length hits) 0 0 offers (omega arith) windows
 
 -- so it is the one that is computed
-course-windows : {hits : List Hit} {number free : ℕ} {left : List Timed} {course : List Transmission} → IsCourse hits number free left course → HitInWindows course
+course-windows : {hits : List Hit} {number free : ℕ} {left : List TimedParts} {course : List Transmission} → IsCourse hits number free left course → HitInWindows course
 course-windows (over number free) s o made e = absurd made
 course-windows (sent number free time f left course is unhit rest) s o (inl here) e = let same : None ≡ Some o = ap (λ (x : Transmission). x.hit) here ∙ e in cc
 course-windows (sent number free time f left course is unhit rest) s o (inr made) e = course-windows rest s o made e
@@ -111,8 +112,8 @@ course-windows (broken number free time f offset left course is struck window re
 none-next : (free t : ℕ) (f : Parts) → IsNext free [] t f → ⊥
 none-next free t f is = let h : None ≡ Some f = is.waits.stands in cc
 
-module _ (hits : List Hit) (count number free : ℕ) (x : Timed) (others : List Timed) (time : ℕ) (f : Parts) (is : IsNext free (x ∷ others) time f) where
-  abbrev all_left : List Timed
+module _ (hits : List Hit) (count number free : ℕ) (x : TimedParts) (others : List TimedParts) (time : ℕ) (f : Parts) (is : IsNext free (x ∷ others) time f) where
+  abbrev all_left : List TimedParts
   all_left = x ∷ others
 
   first-time : time ≡ max free (earliest x others)
@@ -133,7 +134,7 @@ module _ (hits : List Hit) (count number free : ℕ) (x : Timed) (others : List 
       ∙ ap (attempt_of (behind_at (max free (earliest x others))) (again_at (max free (earliest x others))) (max free (earliest x others)) hit) first-waits
       ∙ ap (λ k. attempt_of (behind_at k) (again_at k) k hit (Some f)) (sym first-time)
 
-pub course-is : {hits : List Hit} {number free : ℕ} {left : List Timed} {course : List Transmission} (count : ℕ) → Apart hits → IsCourse hits number free left course →
+pub course-is : {hits : List Hit} {number free : ℕ} {left : List TimedParts} {course : List Transmission} (count : ℕ) → Apart hits → IsCourse hits number free left course →
     length left + length hits ≤ count + hits_before hits number → course ≡ course_from count hits number free left
 course-is zero apart (over number free) enough = refl
 course-is (suc count) apart (over number free) enough = refl
@@ -149,6 +150,6 @@ course-is {hits} (suc count) apart (broken number free time f offset (x ∷ othe
     ap (λ l. let s : Transmission = record { time = time; frame = f; hit = Some offset } in s ∷ l) (course-is count apart rest (omega (arith, enough, struck-before hits number offset apart struck)))
     ∙ sym (first-made hits count number free x others time f is (Some offset) struck)
 
-pub course-only : (hits : List Hit) (offers : List Timed) (course : List Transmission) → Apart hits → IsCourse hits 0 0 offers course → (course ≡ course_of hits offers) × HitInWindows course
+pub course-only : (hits : List Hit) (offers : List TimedParts) (course : List Transmission) → Apart hits → IsCourse hits 0 0 offers course → (course ≡ course_of hits offers) × HitInWindows course
 unfolding course_of
 course-only hits offers course apart is = (course-is (length offers + length hits) apart is (omega arith), course-windows is)

@@ -13,16 +13,16 @@ use Rattle.can_mac.specs.Frames.{with_intermission}
 use Rattle.can_node.proofs.WaitingLaws.{waiting-IsWaiting}
 use Rattle.can_hit.specs.declared.hit.Hit.{Hit}
 use Rattle.can_bus.specs.Course.{IsCourse, IsNext, Transmission, broken, course_at, course_tally, frames_sent, hit_time, hits_made, over, sent}
-use Rattle.can_bus.specs.Quiet.{AreDifferent, IsAscending, IsRising, holds}
+use Rattle.can_bus.specs.Quiet.{AreDifferent, IsAscending, IsRising, holds, busy_time}
 use Rattle.can_bus.specs.Repair.{frame_of_attempt, hit_of, hits_before, tallied, tallied_attempt, tally, tally_after}
 use Rattle.can_bus.specs.RepairedLine.{attempt_levels}
-use Rattle.can_bus.specs.Schedule.{AreAtOnce, AreOthers, Timed, Lists, busy_time, frames_of, offered_by, without_offer}
+use Rattle.can_bus.specs.Schedule.{AreAtOnce, AreOthers, TimedParts, Lists, frames_of, offered_by, without_offer}
 use Rattle.can_bus.proofs.Fields.{without-listed}
 use Rattle.can_bus.proofs.Ascending.{Goes, rising_tail}
 use Rattle.can_bus.proofs.Contests.{Has, at-has, has-at, own-waits}
 use Rattle.can_bus.proofs.CourseTracks.{length-struck, track-behind, track-on}
 use Rattle.can_bus.proofs.Members.{map-stands, stands-here, stands-map, stands-permuted}
-use Rattle.can_bus.proofs.NextStarts.{AreApart, apart-from, left-cases, offered-stands, others-without, rest-apart, rest-other, stands-offered}
+use Rattle.can_bus.proofs.NextStarts.{AllDiffer, differ-from, left-cases, offered-stands, others-without, rest-differ, rest-other, stands-offered}
 use Rattle.can_bus.proofs.RepairCounts.{tally-next, tally-stays}
 use Rattle.can_bus.proofs.RepairedLevels.{course_levels}
 use Rattle.can_bus.proofs.RepairPlans.{Apart, Plan, again, done, few-before, struck-before, unhit-before, whole}
@@ -31,30 +31,30 @@ use Rattle.can_bus.proofs.Tracks.{length-busy}
 -- ---- they are a course
 
 -- offers at time 0 of these frames, no two of which have one arbitration field
-pub record AreLeft (frames : List Parts) (left : List Timed) : Type 0 where
-  pub apart : AreApart left
-  pub at_once : (x : Timed) → Lists left x → x.time ≡ 0
-  pub to : (x : Timed) → Lists left x → Has x.frame frames
-  pub from : (g : Parts) → Has g frames → (x : Timed) × Lists left x × (x.frame ≡ g)
+pub record AreLeft (frames : List Parts) (left : List TimedParts) : Type 0 where
+  pub apart : AllDiffer left
+  pub at_once : (x : TimedParts) → Lists left x → x.time ≡ 0
+  pub to : (x : TimedParts) → Lists left x → Has x.frame frames
+  pub from : (g : Parts) → Has g frames → (x : TimedParts) × Lists left x × (x.frame ≡ g)
 
-pub left-ascending : (offers : List Timed) (frames : List Parts) → AreDifferent (frames_of offers) → AreAtOnce offers → IsAscending (frames_of offers) frames → AreLeft frames offers
+pub left-ascending : (offers : List TimedParts) (frames : List Parts) → AreDifferent (frames_of offers) → AreAtOnce offers → IsAscending (frames_of offers) frames → AreLeft frames offers
 left-ascending offers frames different at_once is = record {
-  apart = apart-from offers different;
+  apart = differ-from offers different;
   at_once = at_once;
   to = λ x there.
-      let at = stands-permuted (frames_of offers) frames x.frame is.all (stands-map (λ (y : Timed). y.frame) offers x there) in
+      let at = stands-permuted (frames_of offers) frames x.frame is.all (stands-map (λ (y : TimedParts). y.frame) offers x there) in
       has-at x.frame frames at.0 at.1;
-  from = λ g h. map-stands (λ (y : Timed). y.frame) offers g (stands-permuted frames (frames_of offers) g (IsPermutation-sym (frames_of offers) frames is.all) (at-has g frames h));
+  from = λ g h. map-stands (λ (y : TimedParts). y.frame) offers g (stands-permuted frames (frames_of offers) g (IsPermutation-sym (frames_of offers) frames is.all) (at-has g frames h));
 }
 
-none-left : (left : List Timed) → AreLeft [] left → left ≡ []
+none-left : (left : List TimedParts) → AreLeft [] left → left ≡ []
 none-left [] are = refl
 none-left (x ∷ left) are = absurd (are.to x (stands-here x left))
 
 rising-goes : (f : Parts) (frames : List Parts) → IsRising (f ∷ frames) → (x : Parts) → Has x frames → Goes f x
 rising-goes f frames rising x h = let i = at-has x frames h in rising 0 (suc i.0) f x (omega arith) refl i.1
 
-module _ (f : Parts) (frames : List Parts) (left : List Timed) (rising : IsRising (f ∷ frames)) (are : AreLeft (f ∷ frames) left) where
+module _ (f : Parts) (frames : List Parts) (left : List TimedParts) (rising : IsRising (f ∷ frames)) (are : AreLeft (f ∷ frames) left) where
   first-next : (time : ℕ) → IsNext time left time f
   first-next time =
       let own = are.from f (inl refl) in
@@ -76,7 +76,7 @@ module _ (f : Parts) (frames : List Parts) (left : List Timed) (rising : IsRisin
       let own = are.from f (inl refl) in
       let out = subst (λ g. AreOthers g left (without_offer g left)) own.2 (others-without left are.apart own.0 own.1) in
       record {
-        apart = rest-apart f left (without_offer f left) out are.apart;
+        apart = rest-differ f left (without_offer f left) out are.apart;
         at_once = λ x there. are.at_once x (without-listed f left x there);
         to = λ x there. elim (are.to x (without-listed f left x there)) [
           | inl same ↦ absurd (rest-other f left (without_offer f left) out are.apart x there (ap arbitration_field same))
@@ -85,12 +85,12 @@ module _ (f : Parts) (frames : List Parts) (left : List Timed) (rising : IsRisin
         from = λ g h. (
             let there = are.from g (inr h) in
             elim (left-cases f left (without_offer f left) out there.0 there.1) [
-              | inl taken ↦ absurd (Before-differs (arbitration_field f) (arbitration_field g) (rising-goes f frames rising g h) (ap (λ (x : Timed). arbitration_field x.frame) taken ∙ ap arbitration_field there.2))
+              | inl taken ↦ absurd (Before-differs (arbitration_field f) (arbitration_field g) (rising-goes f frames rising g h) (ap (λ (x : TimedParts). arbitration_field x.frame) taken ∙ ap arbitration_field there.2))
               | inr kept ↦ (there.0, kept, there.2)
             ]);
       }
 
-pub plan-course : {all : List Parts} {hits : List Hit} {number time : ℕ} {frames : List Parts} {course : List Transmission} → Plan all hits number time frames course → (left : List Timed) →
+pub plan-course : {all : List Parts} {hits : List Hit} {number time : ℕ} {frames : List Parts} {course : List Transmission} → Plan all hits number time frames course → (left : List TimedParts) →
     IsRising frames → AreLeft frames left → IsCourse hits number time left course
 plan-course {hits = hits} (done number time end) left rising are = subst (λ l. IsCourse hits number time l []) (sym (none-left left are)) (over number time)
 plan-course (whole number time f frames course sends unhit rest) left rising are =

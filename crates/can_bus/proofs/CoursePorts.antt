@@ -13,7 +13,7 @@ use Rattle.can_node.proofs.GainingBreaks.{gained}
 use Rattle.can_node.proofs.FramesWaiting.{AreFrames, AreFrames-without}
 use Rattle.can_node.proofs.FrameLeaves.{Sends, Receives, sent_port, received_port, gaining_run-sent, gaining_run-received, port_run-sent, port_run-received}
 use Rattle.can_bus.specs.Quiet.{holds}
-use Rattle.can_bus.specs.Schedule.{Timed, Lists, frames_of, offered_by, without_offer}
+use Rattle.can_bus.specs.Schedule.{TimedParts, Lists, frames_of, offered_by, without_offer}
 use Rattle.can_bus.proofs.Ascending.{Other}
 use Rattle.can_bus.proofs.OfferTimes.{AreInOrder, frames-offered, queue-later}
 use Rattle.can_bus.proofs.OwnOffers.{without-absent, without-frames}
@@ -29,7 +29,7 @@ use Rattle.can_bus.proofs.Fields.{holds-same, without-in_time, without-listed, w
 -- a port, what arrives there, which of its offers are left, and the frames that it had to send
 pub record CoursePort : Type 0 where
   pub machine : GainingPort
-  pub own : List Timed
+  pub own : List TimedParts
   pub mine : List Parts
 
 -- As a bit time begins: the port is calm, what is left is of its own fields and in the order of time, and its queue is, and will be, what is offered
@@ -38,7 +38,7 @@ pub record IsCoursePort (h now entries : ℕ) (o : CoursePort) : Type 0 where
   pub calm : IsCalm h entries o.machine.port
   pub frames : AreFrames (frames_of o.own)
   pub order : AreInOrder o.own
-  pub owns : (x : Timed) → Lists o.own x → holds o.mine x.frame ≡ true
+  pub owns : (x : TimedParts) → Lists o.own x → holds o.mine x.frame ≡ true
   pub queue : (n : ℕ) → o.machine.port.queue ++ arrived o.machine.arrives n ≡ offered_by (now + n) o.own
 
 pub queue-now : (h now entries : ℕ) (o : CoursePort) → IsCoursePort h now entries o → o.machine.port.queue ≡ offered_by now o.own
@@ -46,11 +46,11 @@ queue-now h now entries o is =
     sym (append-nil o.machine.port.queue) ∙ is.queue 0 ∙ ap (λ t. offered_by t o.own) (let e : now + 0 ≡ now = omega arith in e)
 
 -- this port instead, n bit times later, with these offers left
-abbrev pub turned : ℕ → PortState → List Timed → CoursePort → CoursePort
+abbrev pub turned : ℕ → PortState → List TimedParts → CoursePort → CoursePort
 turned n left own o = record { machine = gained n (gaining left o.machine.arrives); own = own; mine = o.mine }
 
-turned-port : (h now entries n : ℕ) (left : PortState) (own : List Timed) (o : CoursePort) → IsCalm h entries left → AreFrames (frames_of own) → AreInOrder own →
-    ((x : Timed) → Lists own x → holds o.mine x.frame ≡ true) → ((m : ℕ) → left.queue ++ arrived o.machine.arrives m ≡ offered_by (now + m) own) →
+turned-port : (h now entries n : ℕ) (left : PortState) (own : List TimedParts) (o : CoursePort) → IsCalm h entries left → AreFrames (frames_of own) → AreInOrder own →
+    ((x : TimedParts) → Lists own x → holds o.mine x.frame ≡ true) → ((m : ℕ) → left.queue ++ arrived o.machine.arrives m ≡ offered_by (now + m) own) →
     IsCoursePort h (now + n) entries (turned n left own o)
 turned-port h now entries n left own o calm frames order owns queue = record {
   calm = record {
@@ -89,7 +89,7 @@ abbrev pub takes-part : (f : Parts) (o : CoursePort) → HasPart f o → TakesPa
 takes-part f o (inl sends) = inl sends.0
 takes-part f o (inr receives) = inr receives.0
 
-pub others-own : (f : Parts) (h now entries : ℕ) (o : CoursePort) → IsCoursePort h now entries o → holds o.mine f ≡ false → (x : Timed) → Lists o.own x → Other f x.frame
+pub others-own : (f : Parts) (h now entries : ℕ) (o : CoursePort) → IsCoursePort h now entries o → holds o.mine f ≡ false → (x : TimedParts) → Lists o.own x → Other f x.frame
 others-own f h now entries o is none x there = λ e. (
     let own = is.owns x there in
     let same = holds-same o.mine f x.frame e in

@@ -15,7 +15,7 @@ use Rattle.can_node.proofs.FrameLeaves.{Sends, Receives, IsReady}
 use Rattle.can_node.proofs.WaitingLemmas.{Shares-same_field}
 use Rattle.can_bus.specs.CourseWaiting.{of_field}
 use Rattle.can_bus.specs.Quiet.{holds, queued}
-use Rattle.can_bus.specs.Schedule.{Timed, Lists, offered_by, without_offer}
+use Rattle.can_bus.specs.Schedule.{TimedParts, Lists, offered_by, without_offer}
 use Rattle.can_bus.proofs.Ascending.{Goes, Other}
 use Rattle.can_bus.proofs.Contests.{Has, AllPorts, at-has, has-front, has-back, behind-waits}
 use Rattle.can_bus.proofs.FrameOnBus.{AllReceive, OneSends, ports_of}
@@ -39,7 +39,7 @@ abbrev pub ports_now : List CoursePort → List PortState
 ports_now os = ports_of (machines_of os)
 
 -- the offers that are left at them
-abbrev pub held : List CoursePort → List Timed
+abbrev pub held : List CoursePort → List TimedParts
 held os = flat_map (λ (o : CoursePort). o.own) os
 
 -- a field that one port has, none behind it has
@@ -48,7 +48,7 @@ Owned [] = Unit {0}
 Owned (o ∷ os) = ((f : Parts) → holds o.mine f ≡ true → AllPorts (λ (q : CoursePort). holds q.mine f ≡ false) os) × Owned os
 
 -- calm ports at this time, to which these offers are left: of each field the same, in the same order
-pub record CourseRound (h now : ℕ) (left : List Timed) (os : List CoursePort) : Type 0 where
+pub record CourseRound (h now : ℕ) (left : List TimedParts) (os : List CoursePort) : Type 0 where
   pub ports : AllPorts (IsCoursePort h now (length left)) os
   pub owned : Owned os
   pub fields : (f : Parts) → of_field f left ≡ of_field f (held os)
@@ -65,7 +65,7 @@ all-calm h now n [] are = tt
 all-calm h now n (o ∷ os) are = (are.0.calm, all-calm h now n os are.1)
 
 -- a frame in a queue is of an offer
-own-offered : (h now n : ℕ) (o : CoursePort) → IsCoursePort h now n o → (x : Parts) → Has x o.machine.port.queue → (y : Timed) × Lists o.own y × (y.time ≤ now) × (y.frame ≡ x)
+own-offered : (h now n : ℕ) (o : CoursePort) → IsCoursePort h now n o → (x : Parts) → Has x o.machine.port.queue → (y : TimedParts) × Lists o.own y × (y.time ≤ now) × (y.frame ≡ x)
 own-offered h now n o is x has = offered-stands now o.own x (at-has x (offered_by now o.own) (subst (Has x) (queue-now h now n o is) has))
 
 -- what is made of each port keeps its fields
@@ -85,19 +85,19 @@ module _ (F : CoursePort → CoursePort) (same : (o : CoursePort) → (F o).mine
 -- ---- at rest
 
 -- no offer that is left has been made
-abbrev pub NoneWaits : ℕ → List Timed → Type 0
-NoneWaits now left = (x : Timed) → Lists left x → now < x.time
+abbrev pub NoneWaits : ℕ → List TimedParts → Type 0
+NoneWaits now left = (x : TimedParts) → Lists left x → now < x.time
 
 all-rested : (h now n : ℕ) (os : List CoursePort) → AllPorts (IsCoursePort h now n) os → AllPorts IsAtRest (ports_now os) → AllPorts (IsCoursePort h (now + 1) n) (map rested os)
 all-rested h now n [] are rest = tt
 all-rested h now n (o ∷ os) are rest = (port-rested h now n o are.0 rest.0, all-rested h now n os are.1 rest.1)
 
-module _ (h now : ℕ) (left : List Timed) (os : List CoursePort) (round : CourseRound h now left os) where
+module _ (h now : ℕ) (left : List TimedParts) (os : List CoursePort) (round : CourseRound h now left os) where
   -- an offer at a port is left
-  held-left : (x : Timed) → Lists (held os) x → Lists left x
+  held-left : (x : TimedParts) → Lists (held os) x → Lists left x
   held-left = field-moves (held os) left (λ f. sym (round.fields f))
 
-  queued-left : (x : Parts) → Has x (queued (ports_now os)) → (y : Timed) × Lists left y × (y.time ≤ now) × (y.frame ≡ x)
+  queued-left : (x : Parts) → Has x (queued (ports_now os)) → (y : TimedParts) × Lists left y × (y.time ≤ now) × (y.frame ≡ x)
   queued-left x has =
       let queue = held-queued h now (length left) os round.ports in
       let there = offered-stands now (held os) x (at-has x (offered_by now (held os)) (subst (Has x) queue has)) in
@@ -222,9 +222,9 @@ all-broken f is offset hit h now n (o ∷ os) are low parts =
 
 -- ---- the next attempt
 
-module _ (h now : ℕ) (left : List Timed) (os : List CoursePort) (round : CourseRound h now left os) (f : Parts) (is : IsWaiting (offered_by now left) f) where
+module _ (h now : ℕ) (left : List TimedParts) (os : List CoursePort) (round : CourseRound h now left os) (f : Parts) (is : IsWaiting (offered_by now left) f) where
   -- it is an offer that is left
-  pub next-left : (x : Timed) × Lists left x × (x.time ≤ now) × (x.frame ≡ f)
+  pub next-left : (x : TimedParts) × Lists left x × (x.time ≤ now) × (x.frame ≡ f)
   next-left = offered-stands now left f (is.place, is.stands)
 
   next-head : (more : List Parts) × (like f (queued (ports_now os)) ≡ f ∷ more)

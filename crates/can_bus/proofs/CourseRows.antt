@@ -15,7 +15,7 @@ use Rattle.can_bus.specs.Course.{Transmission, course_of, course_tally, ended_by
 use Rattle.can_bus.specs.CourseWaiting.{attempts_between, going_before, hit_attempts, kept_times, left_on, sends_of}
 use Rattle.can_bus.specs.Repair.{Tally}
 use Rattle.can_bus.specs.RepairedLine.{lateness}
-use Rattle.can_bus.specs.Schedule.{Timed}
+use Rattle.can_bus.specs.Schedule.{TimedParts}
 use Rattle.can_bus.proofs.RepairRows.{frame_000, frame_001}
 
 -- `S 009 D 0`, and `S 001 D 1 55`
@@ -30,7 +30,7 @@ sizes : map (λ f. length (wire f)) (frame_001 ∷ frame_009 ∷ frame_000 ∷ a
 unfolding stuffed_part unstuffed stuffed crc_of head arbitration_field bits_of
 sizes = refl
 
-abbrev at : ℕ → Parts → Timed
+abbrev at : ℕ → Parts → TimedParts
 at time f = record { time = time; frame = f }
 
 abbrev goes : ℕ → Parts → Option ℕ → Transmission

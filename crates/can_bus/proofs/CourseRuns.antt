@@ -17,11 +17,11 @@ use Rattle.can_node.proofs.OneFrame.{gaining_run-at}
 use Rattle.can_hit.specs.declared.hit.Hit.{Hit}
 use Rattle.can_bus.specs.declared.moment.Attempt.{Attempt}
 use Rattle.can_bus.specs.Course.{Transmission, IsNext, IsCourse, over, sent, broken, IsMade, course_at, hit_time, hits_made}
-use Rattle.can_bus.specs.Quiet.{holds}
+use Rattle.can_bus.specs.Quiet.{holds, busy_time}
 use Rattle.can_bus.specs.Repair.{IsLow, Tally, tallied}
 use Rattle.can_bus.specs.RepairedLine.{attempt_levels}
 use Rattle.can_bus.specs.Run.{aged, following, inverted_if}
-use Rattle.can_bus.specs.Schedule.{Timed, busy_time, without_offer}
+use Rattle.can_bus.specs.Schedule.{TimedParts, without_offer}
 use Rattle.can_bus.specs.Wired.{wired}
 use Rattle.can_bus.proofs.AttemptHits.{Counted, attempt, broken-counted, length-undisturbed, whole-counted}
 use Rattle.can_bus.proofs.AttemptTallies.{Survives}
@@ -195,7 +195,7 @@ module _ (hits : List Hit) (most : ℕ) where
 
   -- ---- at rest
 
-  module _ (h now : ℕ) (left : List Timed) (course : List Transmission) (os : List CoursePort) (latest : Option Attempt) (round : CourseRound h now left os) (none : NoneWaits now left)
+  module _ (h now : ℕ) (left : List TimedParts) (course : List Transmission) (os : List CoursePort) (latest : Option Attempt) (round : CourseRound h now left os) (none : NoneWaits now left)
       (late : (s : Transmission) → IsMade course s → now < s.time) (silent : Silent latest) (few : h ≤ most) where
     abbrev w_rest : HitWire GainingPort
     w_rest = wire_with os latest
@@ -286,21 +286,21 @@ module _ (hits : List Hit) (most : ℕ) where
 
   module _ (apart : Apart hits) where
     -- an attempt that starts later than now is the next one of the next bit time
-    still-next : (free : ℕ) (left : List Timed) (time : ℕ) (f : Parts) → IsNext free left time f → free < time → IsNext (free + 1) left time f
+    still-next : (free : ℕ) (left : List TimedParts) (time : ℕ) (f : Parts) → IsNext free left time f → free < time → IsNext (free + 1) left time f
     still-next free left time f is early = record {
       is_free = omega (arith, early);
       soon = λ x there. let soon = is.soon x there in omega (arith, soon, early);
       waits = is.waits;
     }
 
-    none-yet : (free : ℕ) (left : List Timed) (time : ℕ) (f : Parts) → IsNext free left time f → free < time → NoneWaits free left
+    none-yet : (free : ℕ) (left : List TimedParts) (time : ℕ) (f : Parts) → IsNext free left time f → free < time → NoneWaits free left
     none-yet free left time f is early x there = let soon = is.soon x there in omega (arith, soon, early)
 
     later-made : (free : ℕ) (s : Transmission) (course : List Transmission) → free < s.time → ((x : Transmission) → IsMade course x → s.time ≤ x.time) → (x : Transmission) → IsMade (s ∷ course) x → free < x.time
     later-made free s course early behind x (inl e) = subst (λ (y : Transmission). free < y.time) e early
     later-made free s course early behind x (inr made) = omega (arith, early, behind x made)
 
-    pub follows : (fuel k h : ℕ) {number now : ℕ} {left : List Timed} {course : List Transmission} (os : List CoursePort) (latest : Option Attempt) → k < fuel → 1 < length os →
+    pub follows : (fuel k h : ℕ) {number now : ℕ} {left : List TimedParts} {course : List Transmission} (os : List CoursePort) (latest : Option Attempt) → k < fuel → 1 < length os →
         CourseRound h now left os → IsCourse hits number now left course → AllPorts (PortBears course) os → h + hits_made course ≤ most →
         following latest ≡ attempt number 0 → (NoneWaits now left → Silent latest) → Follows course (now + k) os (later k (wire_with os latest))
     follows zero k h os latest less two round course bears few first silent = absurd (omega (arith, less))

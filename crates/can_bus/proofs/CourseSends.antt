@@ -11,7 +11,7 @@ use Rattle.can_node.proofs.WaitingLemmas.{Shares-same_field, same_field-Shares}
 use Rattle.can_hit.specs.declared.hit.Hit.{Hit}
 use Rattle.can_bus.specs.Course.{IsCourse, IsNext, Transmission, broken, over, sent}
 use Rattle.can_bus.specs.CourseWaiting.{IsSentBy, of_field, sends_of}
-use Rattle.can_bus.specs.Schedule.{Timed, Lists, without_offer}
+use Rattle.can_bus.specs.Schedule.{TimedParts, Lists, without_offer}
 use Rattle.can_bus.proofs.CourseDelays.{parted}
 use Rattle.can_bus.proofs.CourseWaits.{sends-hit, sends-more, sends-other}
 use Rattle.can_bus.proofs.Fields.{field-more, field-without, without-length}
@@ -22,26 +22,26 @@ use Rattle.can_bus.proofs.OwnOffers.{without-absent}
 
 -- ---- what one attempt takes from the offers of a field
 
-module _ (free time : ℕ) (g : Parts) (left : List Timed) (is : IsNext free left time g) (f : Parts) where
+module _ (free time : ℕ) (g : Parts) (left : List TimedParts) (is : IsNext free left time g) (f : Parts) where
   one-gone : same_field f g ≡ true → length (of_field f left) ≡ suc (length (of_field f (without_offer g left)))
   one-gone same =
       let there = offered-stands time left g (is.waits.place, is.waits.stands) in
       let of_g : same_field g there.0.frame ≡ true = Shares-same_field g there.0.frame (sym (ap arbitration_field there.3)) in
       let of_f : same_field f there.0.frame ≡ true = ap (same_field f) there.3 ∙ same in
-      let own : Lists (of_field f left) there.0 = stands-filter (λ (x : Timed). same_field f x.frame) left there.0 there.1 of_f in
-      without-length g (of_field f left) there.0 own of_g ∙ ap (λ (l : List Timed). suc (length l)) (sym (field-without f g left))
+      let own : Lists (of_field f left) there.0 = stands-filter (λ (x : TimedParts). same_field f x.frame) left there.0 there.1 of_f in
+      without-length g (of_field f left) there.0 own of_g ∙ ap (λ (l : List TimedParts). suc (length l)) (sym (field-without f g left))
 
   none-gone : same_field f g ≡ false → of_field f (without_offer g left) ≡ of_field f left
   none-gone other =
       field-without f g left
       ∙ without-absent g (of_field f left) (λ y there e. (
-      let passed : same_field f y.frame ≡ true = (filter-stands (λ (z : Timed). same_field f z.frame) left y there).1 in
+      let passed : same_field f y.frame ≡ true = (filter-stands (λ (z : TimedParts). same_field f z.frame) left y there).1 in
       let same : same_field f g ≡ true = Shares-same_field f g (same_field-Shares f y.frame passed ∙ sym e) in
       cc))
 
 -- ---- all of them
 
-sends-all : {hits : List Hit} {number free : ℕ} {left : List Timed} {course : List Transmission} → IsCourse hits number free left course → (f : Parts) →
+sends-all : {hits : List Hit} {number free : ℕ} {left : List TimedParts} {course : List Transmission} → IsCourse hits number free left course → (f : Parts) →
     length (sends_of f course) ≡ length (of_field f left)
 sends-all (over number free) f = refl
 sends-all (sent number free time g left course is unhit rest) f = elim (cases_Bool (same_field f g)) [
@@ -51,7 +51,7 @@ sends-all (sent number free time g left course is unhit rest) f = elim (cases_Bo
 sends-all (broken number free time g offset left course is struck window rest) f = ap length (sends-hit f time g course offset) ∙ sends-all rest f
 
 -- so the attempt of an offer's turn is made
-pub each-sent : (hits : List Hit) (offers : List Timed) (course : List Transmission) → IsCourse hits 0 0 offers course → (place : ℕ) (offer : Timed) → slice_get offers place ≡ Some offer →
+pub each-sent : (hits : List Hit) (offers : List TimedParts) (course : List Transmission) → IsCourse hits 0 0 offers course → (place : ℕ) (offer : TimedParts) → slice_get offers place ≡ Some offer →
     (s : Transmission) × IsSentBy offers course place offer s × ((z : Transmission) → IsSentBy offers course place offer z → z ≡ s)
 each-sent hits offers course is place offer at =
     let f = offer.frame in

@@ -14,7 +14,7 @@ use Rattle.can_mac.proofs.HitLevels.{IsHit}
 use Rattle.can_hit.specs.declared.hit.Hit.{Hit}
 use Rattle.can_bus.specs.Course.{Transmission, IsCourse, over, sent, broken, IsMade, course_at, hit_time}
 use Rattle.can_bus.specs.RepairedLine.{attempt_levels, lateness, struck}
-use Rattle.can_bus.specs.Schedule.{Timed}
+use Rattle.can_bus.specs.Schedule.{TimedParts}
 use Rattle.can_bus.proofs.Repairs.{broken_levels}
 use Rattle.can_bus.proofs.RepairedLevels.{broken-attempt}
 
@@ -53,7 +53,7 @@ track-rests [] t early = refl
 track-rests (s ∷ course) t early = track-before s course t (early s (inl refl)) ∙ track-rests course t (λ x made. early x (inr made))
 
 -- no attempt starts before the bus is free
-pub course-free : {hits : List Hit} {number free : ℕ} {left : List Timed} {course : List Transmission} → IsCourse hits number free left course → (s : Transmission) → IsMade course s → free ≤ s.time
+pub course-free : {hits : List Hit} {number free : ℕ} {left : List TimedParts} {course : List Transmission} → IsCourse hits number free left course → (s : Transmission) → IsMade course s → free ≤ s.time
 course-free (over number free) s made = absurd made
 course-free (sent number free time f left course is unhit rest) s (inl e) = let same : time ≡ s.time = ap (λ (x : Transmission). x.time) e in omega (arith, is.is_free, same)
 course-free (sent number free time f left course is unhit rest) s (inr made) = omega (arith, is.is_free, course-free rest s made)

@@ -11,7 +11,7 @@ use Rattle.can_node.proofs.WaitingLemmas.{same_field-Shares, Shares-same_field}
 use Rattle.can_hit.specs.declared.hit.Hit.{Hit}
 use Rattle.can_bus.specs.Course.{Transmission, IsNext, IsCourse, over, sent, broken, IsMade}
 use Rattle.can_bus.specs.CourseWaiting.{attempts_between, keeping, kept_times, left_on, of_field, sends_of, was_hit}
-use Rattle.can_bus.specs.Schedule.{Timed, Lists, offered_by, without_offer}
+use Rattle.can_bus.specs.Schedule.{TimedParts, Lists, offered_by, without_offer}
 use Rattle.can_bus.proofs.CourseTracks.{course-free}
 use Rattle.can_bus.proofs.Fields.{field-more, field-without, like-offered, waiting-head, without-behind, without-front, without-length, without-order}
 use Rattle.can_bus.proofs.Members.{stands-cases, stands-filter, stands-middle, filter-stands}
@@ -102,30 +102,30 @@ sends-made f course n s at =
 -- ---- the first offer of a field is the one whose frame waits
 
 -- the offers of each field come in the order of time
-abbrev pub FieldsInOrder : List Timed → Type 0
+abbrev pub FieldsInOrder : List TimedParts → Type 0
 FieldsInOrder left = (f : Parts) → AreInOrder (of_field f left)
 
-pub fields-without : (f : Parts) (left : List Timed) → FieldsInOrder left → FieldsInOrder (without_offer f left)
+pub fields-without : (f : Parts) (left : List TimedParts) → FieldsInOrder left → FieldsInOrder (without_offer f left)
 fields-without f left order g = subst AreInOrder (sym (field-without g f left)) (without-order f (of_field g left) (order g))
 
-pub same-fields : (f g : Parts) (left : List Timed) → arbitration_field f ≡ arbitration_field g → of_field f left ≡ of_field g left
+pub same-fields : (f g : Parts) (left : List TimedParts) → arbitration_field f ≡ arbitration_field g → of_field f left ≡ of_field g left
 same-fields f g left e = ap (λ field. filter (λ x. is_equal (field_cmp field (arbitration_field x.frame))) left) e
 
 -- the first of these offers of one field
-pub record IsFirstLeft (time : ℕ) (f : Parts) (left : List Timed) : Type 0 where
-  pub offer : Timed
-  pub more : List Timed
+pub record IsFirstLeft (time : ℕ) (f : Parts) (left : List TimedParts) : Type 0 where
+  pub offer : TimedParts
+  pub more : List TimedParts
   pub first : of_field f left ≡ offer ∷ more
   pub frame : offer.frame ≡ f
   pub in_time : offer.time ≤ time
 
-first-of : (time : ℕ) (f : Parts) (own more : List Timed) (behind : List Parts) → AreInOrder own → own ≡ more → offered_by time own ≡ f ∷ behind →
-    (x : Timed) × (rest : List Timed) × (more ≡ x ∷ rest) × (x.frame ≡ f) × (x.time ≤ time)
+first-of : (time : ℕ) (f : Parts) (own more : List TimedParts) (behind : List Parts) → AreInOrder own → own ≡ more → offered_by time own ≡ f ∷ behind →
+    (x : TimedParts) × (rest : List TimedParts) × (more ≡ x ∷ rest) × (x.frame ≡ f) × (x.time ≤ time)
 first-of time f [] more behind order same offered = absurd (let h : [] ≡ f ∷ behind = offered in cc)
 first-of time f (x ∷ own) more behind order same offered = elim (cases_lt time x.time) [
   | inl late ↦
       let none : offered_by time (x ∷ own) ≡ [] = by-none time x.time (x ∷ own) late (λ y there. elim (stands-cases x own y there) [
-        | inl here ↦ subst (λ (z : Timed). x.time ≤ z.time) here (omega arith)
+        | inl here ↦ subst (λ (z : TimedParts). x.time ≤ z.time) here (omega arith)
         | inr later ↦ order.0 y later
       ]) in
       absurd (let h : [] ≡ f ∷ behind = sym none ∙ offered in cc)
@@ -135,7 +135,7 @@ first-of time f (x ∷ own) more behind order same offered = elim (cases_lt time
       (x, own, sym same, e, early)
 ]
 
-pub first-left : (free : ℕ) (left : List Timed) (time : ℕ) (f : Parts) → IsNext free left time f → FieldsInOrder left → IsFirstLeft time f left
+pub first-left : (free : ℕ) (left : List TimedParts) (time : ℕ) (f : Parts) → IsNext free left time f → FieldsInOrder left → IsFirstLeft time f left
 first-left free left time f is order =
     let head = waiting-head (offered_by time left) f is.waits in
     let found = first-of time f (of_field f left) (of_field f left) head.0 (order f) refl (sym (like-offered f time left) ∙ head.1) in
@@ -143,19 +143,19 @@ first-left free left time f is order =
 
 -- ---- an offer that is left, with those before it and behind it, and the attempt that sends it
 
-pub record Awaits (left : List Timed) (course : List Transmission) (x : Timed) (s : Transmission) (before : List Timed) : Type 0 where
-  pub after : List Timed
+pub record Awaits (left : List TimedParts) (course : List Transmission) (x : TimedParts) (s : Transmission) (before : List TimedParts) : Type 0 where
+  pub after : List TimedParts
   pub whole : left ≡ before ++ x ∷ after
   pub turn : slice_get (sends_of x.frame course) (length (of_field x.frame before)) ≡ Some s
 
-pub awaits-made : {left before : List Timed} {course : List Transmission} {x : Timed} {s : Transmission} → Awaits left course x s before → IsMade course s × (same_field x.frame s.frame && not (was_hit s.hit) ≡ true)
+pub awaits-made : {left before : List TimedParts} {course : List Transmission} {x : TimedParts} {s : Transmission} → Awaits left course x s before → IsMade course s × (same_field x.frame s.frame && not (was_hit s.hit) ≡ true)
 awaits-made {left} {before} {course} {x} {s} waits = sends-made x.frame course (length (of_field x.frame before)) s waits.turn
 
-pub awaits-listed : {left before : List Timed} {course : List Transmission} {x : Timed} {s : Transmission} → Awaits left course x s before → Lists left x
+pub awaits-listed : {left before : List TimedParts} {course : List Transmission} {x : TimedParts} {s : Transmission} → Awaits left course x s before → Lists left x
 awaits-listed {left} {before} {course} {x} {s} waits = subst (λ l. Lists l x) (sym waits.whole) (stands-middle before x waits.after)
 
-module _ (free time : ℕ) (f : Parts) (left : List Timed) (course : List Transmission) (is : IsNext free left time f) (order : FieldsInOrder left)
-    (x : Timed) (s : Transmission) (before : List Timed) where
+module _ (free time : ℕ) (f : Parts) (left : List TimedParts) (course : List Transmission) (is : IsNext free left time f) (order : FieldsInOrder left)
+    (x : TimedParts) (s : Transmission) (before : List TimedParts) where
   abbrev first : Transmission
   first = record { time = time; frame = f; hit = None }
 
@@ -180,15 +180,15 @@ module _ (free time : ℕ) (f : Parts) (left : List Timed) (course : List Transm
       let turn : slice_get (first ∷ sends_of x.frame course) 0 ≡ Some s =
       ap (λ n. slice_get (first ∷ sends_of x.frame course) n) (sym (ap length none)) ∙ ap (λ l. slice_get l (length (of_field x.frame before))) (sym (sends-more x.frame time f course same)) ∙ waits.turn in
       let here : first ≡ s = (let h : Some first ≡ Some s = turn in cc) in
-      record { same = here; frame = sym head.frame ∙ ap (λ (y : Timed). y.frame) one; in_time = subst (λ (y : Timed). y.time ≤ time) one head.in_time }
+      record { same = here; frame = sym head.frame ∙ ap (λ (y : TimedParts). y.frame) one; in_time = subst (λ (y : TimedParts). y.time ≤ time) one head.in_time }
 
   -- one of its field
-  sends-earlier : (waits : Awaits left (first ∷ course) x s before) → same_field x.frame f ≡ true → (y : Timed) → Lists before y → arbitration_field x.frame ≡ arbitration_field y.frame → SendsOther
+  sends-earlier : (waits : Awaits left (first ∷ course) x s before) → same_field x.frame f ≡ true → (y : TimedParts) → Lists before y → arbitration_field x.frame ≡ arbitration_field y.frame → SendsOther
   sends-earlier waits same y there e =
       let of_f : same_field f y.frame ≡ true = Shares-same_field f y.frame (sym (same_field-Shares x.frame f same) ∙ e) in
       let own : Lists (of_field x.frame before) y = stands-filter (λ z. same_field x.frame z.frame) before y there (Shares-same_field x.frame y.frame e) in
       let less : length (of_field x.frame before) ≡ suc (length (of_field x.frame (without_offer f before))) =
-      without-length f (of_field x.frame before) y own of_f ∙ ap (λ (l : List Timed). suc (length l)) (sym (field-without x.frame f before)) in
+      without-length f (of_field x.frame before) y own of_f ∙ ap (λ (l : List TimedParts). suc (length l)) (sym (field-without x.frame f before)) in
       record {
         after = waits.after;
         whole = ap (without_offer f) waits.whole ∙ without-front f before (x ∷ waits.after) y there of_f;
@@ -206,7 +206,7 @@ module _ (free time : ℕ) (f : Parts) (left : List Timed) (course : List Transm
       let same : same_field x.frame f ≡ true = Shares-same_field x.frame f (same_field-Shares x.frame y.frame passed ∙ sym e) in
       cc))
 
-  without-it : same_field x.frame f ≡ false → (after : List Timed) → (rest : List Timed) × (without_offer f (before ++ x ∷ after) ≡ without_offer f before ++ x ∷ rest)
+  without-it : same_field x.frame f ≡ false → (after : List TimedParts) → (rest : List TimedParts) × (without_offer f (before ++ x ∷ after) ≡ without_offer f before ++ x ∷ rest)
   without-it other after = elim (field-cases f before) [
     | inr has ↦ (after, without-front f before (x ∷ after) has.0 has.1 (Shares-same_field f has.0.frame has.2))
     | inl none ↦ (
@@ -247,15 +247,15 @@ module _ (free time : ℕ) (f : Parts) (left : List Timed) (course : List Transm
 
 -- ---- the wait
 
-abbrev pub meantime : List Transmission → Timed → Transmission → ℕ
+abbrev pub meantime : List Transmission → TimedParts → Transmission → ℕ
 meantime course x s = kept_times (attempts_between x.time s.time course)
 
-abbrev pub IsExact : ℕ → List Transmission → Timed → Transmission → Type 0
+abbrev pub IsExact : ℕ → List Transmission → TimedParts → Transmission → Type 0
 IsExact free course x s = s.time ≡ max free x.time + left_on x.time course + meantime course x s
 
 -- the attempt comes next
-exact-here : (free : ℕ) (left : List Timed) (s : Transmission) (course : List Transmission) → IsNext free left s.time s.frame → ((a : Transmission) → IsMade course a → s.time ≤ a.time) →
-    (x : Timed) → Lists left x → x.time ≤ s.time → IsExact free (s ∷ course) x s
+exact-here : (free : ℕ) (left : List TimedParts) (s : Transmission) (course : List Transmission) → IsNext free left s.time s.frame → ((a : Transmission) → IsMade course a → s.time ≤ a.time) →
+    (x : TimedParts) → Lists left x → x.time ≤ s.time → IsExact free (s ∷ course) x s
 exact-here free left s course is behind x listed early =
     let soon = is.soon x listed in
     let after = is.is_free in
@@ -264,8 +264,8 @@ exact-here free left s course is behind x listed early =
     omega arith
 
 -- another comes next
-exact-behind : (free : ℕ) (left : List Timed) (a : Transmission) (course : List Transmission) → IsNext free left a.time a.frame →
-    ((s : Transmission) → IsMade course s → a.time + keeping a.frame a.hit ≤ s.time) → (x : Timed) (s : Transmission) → Lists left x → IsMade course s →
+exact-behind : (free : ℕ) (left : List TimedParts) (a : Transmission) (course : List Transmission) → IsNext free left a.time a.frame →
+    ((s : Transmission) → IsMade course s → a.time + keeping a.frame a.hit ≤ s.time) → (x : TimedParts) (s : Transmission) → Lists left x → IsMade course s →
     IsExact (a.time + keeping a.frame a.hit) course x s → IsExact free (a ∷ course) x s
 exact-behind free left a course is behind x s listed made exact =
     let soon = is.soon x listed in
@@ -298,8 +298,8 @@ exact-behind free left a course is behind x s listed made exact =
           ]
     ]
 
-pub wait-exact : {hits : List Hit} {number free : ℕ} {left : List Timed} {course : List Transmission} → IsCourse hits number free left course → FieldsInOrder left →
-    (x : Timed) (s : Transmission) (before : List Timed) → Awaits left course x s before → IsExact free course x s
+pub wait-exact : {hits : List Hit} {number free : ℕ} {left : List TimedParts} {course : List Transmission} → IsCourse hits number free left course → FieldsInOrder left →
+    (x : TimedParts) (s : Transmission) (before : List TimedParts) → Awaits left course x s before → IsExact free course x s
 wait-exact (over number free) order x s before waits = absurd (let h : None ≡ Some s = waits.turn in cc)
 wait-exact (sent number free time f left course is unhit rest) order x s before waits =
     let a : Transmission = record { time = time; frame = f; hit = None } in
@@ -317,13 +317,13 @@ wait-exact (broken number free time f offset left course is struck window rest) 
     (wait-exact rest order x s before later)
 
 -- it is the frame that is sent, when it has been offered
-pub record IsOwn (x : Timed) (s : Transmission) : Type 0 where
+pub record IsOwn (x : TimedParts) (s : Transmission) : Type 0 where
   pub frame : s.frame ≡ x.frame
   pub unhit : s.hit ≡ None
   pub in_time : x.time ≤ s.time
 
-pub wait-own : {hits : List Hit} {number free : ℕ} {left : List Timed} {course : List Transmission} → IsCourse hits number free left course → FieldsInOrder left →
-    (x : Timed) (s : Transmission) (before : List Timed) → Awaits left course x s before → IsOwn x s
+pub wait-own : {hits : List Hit} {number free : ℕ} {left : List TimedParts} {course : List Transmission} → IsCourse hits number free left course → FieldsInOrder left →
+    (x : TimedParts) (s : Transmission) (before : List TimedParts) → Awaits left course x s before → IsOwn x s
 wait-own (over number free) order x s before waits = absurd (let h : None ≡ Some s = waits.turn in cc)
 wait-own (sent number free time f left course is unhit rest) order x s before waits =
     elim (sent-cases free time f left course is order x s before waits) [
@@ -339,10 +339,10 @@ wait-own (broken number free time f offset left course is struck window rest) or
 
 -- ---- each attempt that starts meanwhile goes before it, or sends a frame of its field
 
-abbrev pub GoesFirst : Transmission → Timed → Type 0
+abbrev pub GoesFirst : Transmission → TimedParts → Type 0
 GoesFirst z x = Before (arbitration_field z.frame) (arbitration_field x.frame) ⊎ (arbitration_field z.frame ≡ arbitration_field x.frame)
 
-pub next-first : (free : ℕ) (left : List Timed) (a : Transmission) → IsNext free left a.time a.frame → (x : Timed) → Lists left x → x.time ≤ a.time → GoesFirst a x
+pub next-first : (free : ℕ) (left : List TimedParts) (a : Transmission) → IsNext free left a.time a.frame → (x : TimedParts) → Lists left x → x.time ≤ a.time → GoesFirst a x
 next-first free left a is x listed early =
     let at = stands-offered a.time left x listed early in
     elim (fields_ranked a.frame x.frame) [
@@ -351,8 +351,8 @@ next-first free left a is x listed early =
       | inr (inr before) ↦ absurd (is.waits.least at.0 x.frame at.1 before)
     ]
 
-pub wait-first : {hits : List Hit} {number free : ℕ} {left : List Timed} {course : List Transmission} → IsCourse hits number free left course → FieldsInOrder left →
-    (x : Timed) (s : Transmission) (before : List Timed) → Awaits left course x s before → (z : Transmission) → IsMade course z → x.time ≤ z.time → z.time < s.time → GoesFirst z x
+pub wait-first : {hits : List Hit} {number free : ℕ} {left : List TimedParts} {course : List Transmission} → IsCourse hits number free left course → FieldsInOrder left →
+    (x : TimedParts) (s : Transmission) (before : List TimedParts) → Awaits left course x s before → (z : Transmission) → IsMade course z → x.time ≤ z.time → z.time < s.time → GoesFirst z x
 wait-first (over number free) order x s before waits z made from until = absurd made
 wait-first (sent number free time f left course is unhit rest) order x s before waits z (inl here) from until =
     let a : Transmission = record { time = time; frame = f; hit = None } in

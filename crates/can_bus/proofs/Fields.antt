@@ -13,7 +13,7 @@ use Rattle.can_node.proofs.WaitingLemmas.{same_field-Shares, Shares-same_field}
 use Rattle.can_node.proofs.WaitingLaws.{waiting-some, waiting-IsWaiting}
 use Rattle.can_bus.specs.CourseWaiting.{of_field}
 use Rattle.can_bus.specs.Quiet.{holds}
-use Rattle.can_bus.specs.Schedule.{Timed, Lists, offered_by, without_offer}
+use Rattle.can_bus.specs.Schedule.{TimedParts, Lists, offered_by, without_offer}
 use Rattle.can_bus.proofs.Ascending.{Goes, Other}
 use Rattle.can_bus.proofs.Contests.{Has, at-has, has-at}
 use Rattle.can_bus.proofs.Members.{filter-stands, stands-filter, stands-here, stands-later, stands-cases, stands-none}
@@ -37,7 +37,7 @@ module _ (f x : Parts) (frames : List Parts) where
   like-skip : same_field f x ≡ false → like f (x ∷ frames) ≡ like f frames
   like-skip other = cond-false (same_field f x) (x ∷ like f frames) (like f frames) other
 
-module _ (f : Parts) (x : Timed) (offers : List Timed) where
+module _ (f : Parts) (x : TimedParts) (offers : List TimedParts) where
   pub field-more : same_field f x.frame ≡ true → of_field f (x ∷ offers) ≡ x ∷ of_field f offers
   field-more same = cond-true (same_field f x.frame) (x ∷ of_field f offers) (of_field f offers) same
 
@@ -52,13 +52,13 @@ pub like-append : (f : Parts) (a b : List Parts) → like f (a ++ b) ≡ like f 
 like-append f a b = filter-append (same_field f) a b
 
 -- offers of one field in two lists
-pub field-moves : (a b : List Timed) → ((f : Parts) → of_field f a ≡ of_field f b) → (x : Timed) → Lists a x → Lists b x
+pub field-moves : (a b : List TimedParts) → ((f : Parts) → of_field f a ≡ of_field f b) → (x : TimedParts) → Lists a x → Lists b x
 field-moves a b same x there =
     (filter-stands (λ y. same_field x.frame y.frame) b x
     (subst (λ l. Lists l x) (same x.frame) (stands-filter (λ y. same_field x.frame y.frame) a x there (Shares-same_field x.frame x.frame refl)))).0
 
 -- those of a field that are offered by a time
-pub like-offered : (f : Parts) (t : ℕ) (offers : List Timed) → like f (offered_by t offers) ≡ offered_by t (of_field f offers)
+pub like-offered : (f : Parts) (t : ℕ) (offers : List TimedParts) → like f (offered_by t offers) ≡ offered_by t (of_field f offers)
 like-offered f t [] = refl
 like-offered f t (x ∷ offers) =
     let rest = like-offered f t offers in
@@ -125,7 +125,7 @@ head-waits queue f more head least =
 
 -- ---- without the first of a field
 
-pub without-listed : (f : Parts) (offers : List Timed) (x : Timed) → Lists (without_offer f offers) x → Lists offers x
+pub without-listed : (f : Parts) (offers : List TimedParts) (x : TimedParts) → Lists (without_offer f offers) x → Lists offers x
 without-listed f [] x there = there
 without-listed f (y ∷ offers) x there = elim (cases_Bool (same_field f y.frame)) [
   | inl same ↦ stands-later y offers x (subst (λ l. Lists l x) (first-out f y offers same) there)
@@ -135,42 +135,42 @@ without-listed f (y ∷ offers) x there = elim (cases_Bool (same_field f y.frame
   ]
 ]
 
-pub without-order : (f : Parts) (offers : List Timed) → AreInOrder offers → AreInOrder (without_offer f offers)
+pub without-order : (f : Parts) (offers : List TimedParts) → AreInOrder offers → AreInOrder (without_offer f offers)
 without-order f [] order = tt
 without-order f (x ∷ offers) order = elim (cases_Bool (same_field f x.frame)) [
   | inl same ↦ subst AreInOrder (sym (first-out f x offers same)) order.1
   | inr other ↦ subst AreInOrder (sym (first-stays f x offers other)) ((λ y there. order.0 y (without-listed f offers y there)), without-order f offers order.1)
 ]
 
-pub without-length : (f : Parts) (offers : List Timed) (x : Timed) → Lists offers x → same_field f x.frame ≡ true → length offers ≡ suc (length (without_offer f offers))
+pub without-length : (f : Parts) (offers : List TimedParts) (x : TimedParts) → Lists offers x → same_field f x.frame ≡ true → length offers ≡ suc (length (without_offer f offers))
 without-length f [] x there same = absurd (stands-none x there)
 without-length f (y ∷ offers) x there same = elim (cases_Bool (same_field f y.frame)) [
   | inl one ↦ ap suc (ap length (sym (first-out f y offers one)))
   | inr other ↦ elim (stands-cases y offers x there) [
-    | inl here ↦ (let e : same_field f y.frame ≡ true = ap (λ (z : Timed). same_field f z.frame) here ∙ same in cc)
-    | inr later ↦ ap suc (without-length f offers x later same) ∙ ap (λ (l : List Timed). suc (length l)) (sym (first-stays f y offers other))
+    | inl here ↦ (let e : same_field f y.frame ≡ true = ap (λ (z : TimedParts). same_field f z.frame) here ∙ same in cc)
+    | inr later ↦ ap suc (without-length f offers x later same) ∙ ap (λ (l : List TimedParts). suc (length l)) (sym (first-stays f y offers other))
   ]
 ]
 
 -- where it stands in the first of two lists, or in none of it
-pub without-front : (f : Parts) (a b : List Timed) (x : Timed) → Lists a x → same_field f x.frame ≡ true → without_offer f (a ++ b) ≡ without_offer f a ++ b
+pub without-front : (f : Parts) (a b : List TimedParts) (x : TimedParts) → Lists a x → same_field f x.frame ≡ true → without_offer f (a ++ b) ≡ without_offer f a ++ b
 without-front f [] b x there same = absurd (stands-none x there)
 without-front f (y ∷ a) b x there same = elim (cases_Bool (same_field f y.frame)) [
   | inl one ↦ first-out f y (a ++ b) one ∙ ap (λ l. l ++ b) (sym (first-out f y a one))
   | inr other ↦ elim (stands-cases y a x there) [
-    | inl here ↦ (let e : same_field f y.frame ≡ true = ap (λ (z : Timed). same_field f z.frame) here ∙ same in cc)
+    | inl here ↦ (let e : same_field f y.frame ≡ true = ap (λ (z : TimedParts). same_field f z.frame) here ∙ same in cc)
     | inr later ↦ first-stays f y (a ++ b) other ∙ ap (λ l. y ∷ l) (without-front f a b x later same) ∙ ap (λ l. l ++ b) (sym (first-stays f y a other))
   ]
 ]
 
-pub without-behind : (f : Parts) (a b : List Timed) → ((x : Timed) → Lists a x → Other f x.frame) → without_offer f (a ++ b) ≡ a ++ without_offer f b
+pub without-behind : (f : Parts) (a b : List TimedParts) → ((x : TimedParts) → Lists a x → Other f x.frame) → without_offer f (a ++ b) ≡ a ++ without_offer f b
 without-behind f [] b other = refl
 without-behind f (y ∷ a) b other =
     first-stays f y (a ++ b) (other-test f y.frame (other y (stands-here y a)))
     ∙ ap (λ l. y ∷ l) (without-behind f a b (λ x there. other x (stands-later y a x there)))
 
 -- it is all the same whether a field is looked at before or behind
-pub field-without : (g f : Parts) (offers : List Timed) → of_field g (without_offer f offers) ≡ without_offer f (of_field g offers)
+pub field-without : (g f : Parts) (offers : List TimedParts) → of_field g (without_offer f offers) ≡ without_offer f (of_field g offers)
 field-without g f [] = refl
 field-without g f (x ∷ offers) =
     let rest = field-without g f offers in
@@ -197,7 +197,7 @@ field-without g f (x ∷ offers) =
     ]
 
 -- what is left at a time, where the offers come in order
-pub without-in_time : (f : Parts) (t : ℕ) (own : List Timed) → AreInOrder own → without f (offered_by t own) ≡ offered_by t (without_offer f own)
+pub without-in_time : (f : Parts) (t : ℕ) (own : List TimedParts) → AreInOrder own → without f (offered_by t own) ≡ offered_by t (without_offer f own)
 unfolding without
 without-in_time f t [] order = refl
 without-in_time f t (x ∷ own) order = elim (cases_Bool (same_field f x.frame)) [

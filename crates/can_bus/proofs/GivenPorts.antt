@@ -5,12 +5,12 @@ use Rattle.std.proofs.Math.Dec.{eqb}
 use Rattle.std.proofs.lemmas.Bool.{cases_Bool, cases_lt, cond-true, cond-false, le-ltb, lt-ltb}
 use Rattle.std.proofs.lemmas.Bool.Decides.{nat_tests}
 use Rattle.can_frame.specs.declared.level.Level.{Level}
-use Rattle.can_node.specs.Ports.{PortState}
+use Rattle.can_node.specs.Ports.{PortState, with_offer}
 use Rattle.can_hit.specs.declared.hit.Hit.{Hit}
 use Rattle.can_bus.specs.declared.offer.Offer.{Offer}
 use Rattle.can_bus.specs.DisturbedPlay.{all_given, given, is_refused, played_then, refusals}
 use Rattle.can_bus.specs.Network.{call_after, call_refused}
-use Rattle.can_bus.specs.Offers.{all_made, is_full, made, refused_at, with_offer}
+use Rattle.can_bus.specs.Offers.{all_made, is_full, made, refused_at}
 use Rattle.can_bus.specs.Run.{BusState}
 
 -- ---- one offer in front

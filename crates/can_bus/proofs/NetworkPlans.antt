@@ -15,9 +15,9 @@ use Rattle.can_bus.specs.NetworkPlans.{AllInWindow, AreNoEarlier, IsNetworkPlan,
 use Rattle.can_bus.specs.Offers.{AreOffered, offer_names_port}
 use Rattle.can_bus.specs.OpenBus.{all_offers, offered_to, own_offers, timed}
 use Rattle.can_bus.specs.Plans.{PlannedPort, planned, ready_port}
-use Rattle.can_bus.specs.Quiet.{IsQuietPort, holds}
+use Rattle.can_bus.specs.Quiet.{IsQuietPort, holds, busy_time}
 use Rattle.can_bus.specs.Repair.{AreApart, IsInWindow, Tally, hit_of, hits_before, tallied}
-use Rattle.can_bus.specs.Schedule.{Timed, Lists, busy_time, earliest, frames_of, offered_by, without_offer}
+use Rattle.can_bus.specs.Schedule.{TimedParts, Lists, earliest, frames_of, offered_by, without_offer}
 use Rattle.can_bus.proofs.BorneHits.{Few, few-tallied}
 use Rattle.can_bus.proofs.CourseLaws.{course-there}
 use Rattle.can_bus.proofs.Fields.{without-listed}
@@ -49,7 +49,7 @@ few-course queue [] (suc number) n t few = (omega (arith, few.0), omega (arith, 
 few-course queue (s ∷ course) (suc number) n t few = few-more queue course (take number course) n s.time s.frame s.hit t (few-course queue course number) few
 
 -- no more attempts are hit than there are hits
-hits-few : {hits : List Hit} {number free : ℕ} {left : List Timed} {course : List Transmission} → Apart hits → IsCourse hits number free left course → hits_before hits number + hits_made course ≤ length hits
+hits-few : {hits : List Hit} {number free : ℕ} {left : List TimedParts} {course : List Transmission} → Apart hits → IsCourse hits number free left course → hits_before hits number + hits_made course ≤ length hits
 hits-few {hits} apart (over number free) = omega (arith, few-before hits number)
 hits-few {hits} apart (sent number free time f left course is unhit rest) = omega (arith, hits-few apart rest, unhit-before hits number apart unhit)
 hits-few {hits} apart (broken number free time f offset left course is struck window rest) = omega (arith, hits-few apart rest, struck-before hits number offset apart struck)
@@ -68,7 +68,7 @@ module _ (offers : List Offer) (hits : List Hit) (plans : List PlannedPort) (is 
   abbrev ports : List PortState
   ports = map ready_port plans
 
-  abbrev all : List Timed
+  abbrev all : List TimedParts
   all = all_offers offers ports
 
   quiet : (n : ℕ) (p : PortState) → slice_get ports n ≡ Some p → IsQuietPort (length all) p
@@ -109,15 +109,15 @@ module _ (offers : List Offer) (hits : List Hit) (plans : List PlannedPort) (is 
 -- ---- a frame that comes back
 
 -- all offers are of one frame
-abbrev AreOfFrame : Parts → List Timed → Type 0
-AreOfFrame f left = (x : Timed) → Lists left x → x.frame ≡ f
+abbrev AreOfFrame : Parts → List TimedParts → Type 0
+AreOfFrame f left = (x : TimedParts) → Lists left x → x.frame ≡ f
 
 module _ (f : Parts) (hits : List Hit) (windows : AllInWindow f hits) where
-  windows-from : (count number free : ℕ) (left : List Timed) → AreOfFrame f left → HitInWindows (course_from count hits number free left)
+  windows-from : (count number free : ℕ) (left : List TimedParts) → AreOfFrame f left → HitInWindows (course_from count hits number free left)
   windows-from zero number free left are = λ s o made e. absurd made
   windows-from (suc count) number free [] are = λ s o made e. absurd made
   windows-from (suc count) number free (x ∷ others) are =
-      let left : List Timed = x ∷ others in
+      let left : List TimedParts = x ∷ others in
       let time : ℕ = max free (earliest x others) in
       let behind : Parts → List Transmission = λ g. course_from count hits (number + 1) (time + busy_time g) (without_offer g left) in
       let again : Parts → ℕ → List Transmission = λ g o. course_from count hits (number + 1) (time + hit_time g o) left in
@@ -185,14 +185,14 @@ again-owned f times room m (suc (suc n)) p q less at there x y a b = absurd (let
 
 again-frames : (f : Parts) (times : List ℕ) → AreOfFrame f (map timed (offered_again f times))
 again-frames f [] x there = absurd (stands-none x there)
-again-frames f (t ∷ times) x (zero, at) = sym (ap (λ (z : Timed). z.frame) (let e : timed (record { time = t; node = 0; frame = f }) ≡ x = (let h : Some (timed (record { time = t; node = 0; frame = f })) ≡ Some x = at in cc) in e))
+again-frames f (t ∷ times) x (zero, at) = sym (ap (λ (z : TimedParts). z.frame) (let e : timed (record { time = t; node = 0; frame = f }) ≡ x = (let h : Some (timed (record { time = t; node = 0; frame = f })) ≡ Some x = at in cc) in e))
 again-frames f (t ∷ times) x (suc n, at) = again-frames f times x (n, at)
 
 pub comes-back : (f : Parts) (times : List ℕ) (hits : List Hit) → AreNoEarlier times → AreInAttempts hits → AreApart 1 hits → AllInWindow f hits → length hits ≤ 15 →
     IsNetworkPlan (offered_again f times) hits (two_ports (length times))
 unfolding course_of
 comes-back f times hits rise within alone windows few =
-    let all : List Timed = all_offers (offered_again f times) (map ready_port (two_ports (length times))) in
+    let all : List TimedParts = all_offers (offered_again f times) (map ready_port (two_ports (length times))) in
     let size : length (offered_again f times) ≡ length times = length-map times (λ t. let x : Offer = record { time = t; node = 0; frame = f } in x) in
     record {
       two = omega arith;

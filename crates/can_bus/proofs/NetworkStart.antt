@@ -18,7 +18,7 @@ use Rattle.can_bus.specs.Offers.{all_made}
 use Rattle.can_bus.specs.Quiet.{holds}
 use Rattle.can_bus.specs.Repair.{AreApart, IsLow, Tally, tallied}
 use Rattle.can_bus.specs.Run.{BusState}
-use Rattle.can_bus.specs.Schedule.{Timed, Lists, frames_of, offered_by}
+use Rattle.can_bus.specs.Schedule.{TimedParts, Lists, frames_of, offered_by}
 use Rattle.can_bus.proofs.Contests.{AllPorts, has-at}
 use Rattle.can_bus.proofs.Members.{stands-map}
 use Rattle.can_bus.proofs.OfferLemmas.{offers-rise}
@@ -85,14 +85,14 @@ bears-from queue (s ∷ course) t low =
 
 -- ---- the offers to a port
 
-order-first : (queue : List Parts) (own : List Timed) → AreInOrder own → AreInOrder (offered_first queue ++ own)
+order-first : (queue : List Parts) (own : List TimedParts) → AreInOrder own → AreInOrder (offered_first queue ++ own)
 order-first [] own order = order
 order-first (f ∷ queue) own order = ((λ x there. omega arith), order-first queue own order)
 
 -- a port has its own offers
-own-holds : (own : List Timed) (x : Timed) → Lists own x → holds (frames_of own) x.frame ≡ true
+own-holds : (own : List TimedParts) (x : TimedParts) → Lists own x → holds (frames_of own) x.frame ≡ true
 own-holds own x there =
-    let at = stands-map (λ (y : Timed). y.frame) own x there in
+    let at = stands-map (λ (y : TimedParts). y.frame) own x there in
     holds-own x.frame (frames_of own) (has-at x.frame (frames_of own) at.0 at.1)
 
 module _ (offers : List Offer) (order : (node : ℕ) → AreInOrder (offered_to node offers)) (frames : (node : ℕ) → AreFrames (frames_of (offered_to node offers))) where
@@ -129,7 +129,7 @@ module _ (offers : List Offer) (order : (node : ℕ) → AreInOrder (offered_to 
 -- a field that one port has, no other has
 abbrev OwnedFrom : List Offer → ℕ → List PortState → Type 0
 OwnedFrom offers node ports = (m n : ℕ) (p q : PortState) → m < n → slice_get ports m ≡ Some p → slice_get ports n ≡ Some q →
-    (x y : Timed) → Lists (own_offers offers (node + m) p) x → Lists (own_offers offers (node + n) q) y → arbitration_field x.frame ≡ arbitration_field y.frame → ⊥
+    (x y : TimedParts) → Lists (own_offers offers (node + m) p) x → Lists (own_offers offers (node + n) q) y → arbitration_field x.frame ≡ arbitration_field y.frame → ⊥
 
 none-from : (offers : List Offer) (f : Parts) (node : ℕ) (ports : List PortState) →
     ((n : ℕ) (q : PortState) → slice_get ports n ≡ Some q → holds (frames_of (own_offers offers (node + n) q)) f ≡ false) →

@@ -7,9 +7,9 @@ use Rattle.std.proofs.lemmas.Bool.{cases_lt, cases_order}
 use Rattle.std.proofs.lemmas.Bool.Decides.{nat_tests}
 use Rattle.std.proofs.lemmas.Option.{slice_get-get_or, get_or_from_slice_get, slice_get_within}
 use Rattle.can_frame.specs.Parts.{Parts}
-use Rattle.can_node.specs.Ports.{PortState, port_offered}
+use Rattle.can_node.specs.Ports.{PortState, port_offered, with_offer}
 use Rattle.can_bus.specs.declared.offer.Offer.{Offer}
-use Rattle.can_bus.specs.Offers.{AreOffered, is_no_earlier, is_full, with_offer, made, all_made, refused_at}
+use Rattle.can_bus.specs.Offers.{AreOffered, is_no_earlier, is_full, made, all_made, refused_at}
 use Rattle.can_bus.specs.Walks.{IsReached}
 use Rattle.can_bus.proofs.CheckLemmas.{follows-each}
 

@@ -6,26 +6,26 @@ use Rattle.std.proofs.lemmas.Bool.{cond-true, cond-false, cases_eq, cases_lt, le
 use Rattle.std.proofs.lemmas.List.{append-nil}
 use Rattle.can_frame.specs.Parts.{Parts}
 use Rattle.can_node.proofs.Arrivals.{arrived, later_by, later_by-at}
-use Rattle.can_bus.specs.Schedule.{Timed, Lists, frames_of, offered_by}
+use Rattle.can_bus.specs.Schedule.{TimedParts, Lists, frames_of, offered_by}
 use Rattle.can_bus.specs.OpenBus.{offered_first}
 use Rattle.can_bus.proofs.Members.{stands-here, stands-later}
 use Rattle.can_node.proofs.FramesWaiting.{AreFrames}
 
 -- those that are offered at this time
-abbrev pub offered_at : List Timed → ℕ → List Parts
+abbrev pub offered_at : List TimedParts → ℕ → List Parts
 offered_at own t = frames_of (filter (λ x. eqb x.time t) own)
 
 -- none is earlier than this time
-abbrev pub AreFrom : ℕ → List Timed → Type 0
-AreFrom t own = (x : Timed) → Lists own x → t ≤ x.time
+abbrev pub AreFrom : ℕ → List TimedParts → Type 0
+AreFrom t own = (x : TimedParts) → Lists own x → t ≤ x.time
 
 -- none is earlier than one before it
-abbrev pub AreInOrder : List Timed → Type 0
+abbrev pub AreInOrder : List TimedParts → Type 0
 AreInOrder [] = Unit {0}
 AreInOrder (x ∷ own) = AreFrom x.time own × AreInOrder own
 
 -- one offer more
-module _ (x : Timed) (own : List Timed) (t : ℕ) where
+module _ (x : TimedParts) (own : List TimedParts) (t : ℕ) where
   pub by-early : x.time ≤ t → offered_by t (x ∷ own) ≡ x.frame ∷ offered_by t own
   by-early early = ap frames_of (cond-true (leb x.time t) (x ∷ filter (λ y. leb y.time t) own) (filter (λ y. leb y.time t) own) (le-leb x.time t early))
 
@@ -38,7 +38,7 @@ module _ (x : Timed) (own : List Timed) (t : ℕ) where
   pub at-other : x.time ≢ t → offered_at (x ∷ own) t ≡ offered_at own t
   at-other other = ap frames_of (cond-false (eqb x.time t) (x ∷ filter (λ y. eqb y.time t) own) (filter (λ y. eqb y.time t) own) (ne_eqb x.time t other))
 
-pub offered_by-append : (t : ℕ) (a b : List Timed) → offered_by t (a ++ b) ≡ offered_by t a ++ offered_by t b
+pub offered_by-append : (t : ℕ) (a b : List TimedParts) → offered_by t (a ++ b) ≡ offered_by t a ++ offered_by t b
 offered_by-append t [] b = refl
 offered_by-append t (x ∷ a) b = elim (cases_lt t x.time) [
   | inl late ↦ by-late x (a ++ b) t late ∙ offered_by-append t a b ∙ ap (λ fs. fs ++ offered_by t b) (sym (by-late x a t late))
@@ -50,7 +50,7 @@ pub offered_by-first : (t : ℕ) (queue : List Parts) → offered_by t (offered_
 offered_by-first t [] = refl
 offered_by-first t (f ∷ queue) = by-early (record { time = 0; frame = f }) (offered_first queue) t (omega arith) ∙ ap (λ fs. f ∷ fs) (offered_by-first t queue)
 
-pub length-offered_by : (t : ℕ) (own : List Timed) → length (offered_by t own) ≤ length own
+pub length-offered_by : (t : ℕ) (own : List TimedParts) → length (offered_by t own) ≤ length own
 length-offered_by t [] = omega arith
 length-offered_by t (x ∷ own) = elim (cases_lt t x.time) [
   | inl late ↦ omega (arith, ap length (by-late x own t late), length-offered_by t own)
@@ -58,20 +58,20 @@ length-offered_by t (x ∷ own) = elim (cases_lt t x.time) [
 ]
 
 -- at time 0 none is earlier
-pub at-first : (own : List Timed) → offered_at own 0 ≡ offered_by 0 own
+pub at-first : (own : List TimedParts) → offered_at own 0 ≡ offered_by 0 own
 at-first [] = refl
 at-first (x ∷ own) = elim (cases_eq x.time 0) [
   | inl now ↦ at-now x own 0 now ∙ ap (λ fs. x.frame ∷ fs) (at-first own) ∙ sym (by-early x own 0 (omega (arith, now)))
   | inr other ↦ at-other x own 0 other ∙ at-first own ∙ sym (by-late x own 0 (omega (arith, other)))
 ]
 
-pub by-none : (t s : ℕ) (own : List Timed) → t < s → AreFrom s own → offered_by t own ≡ []
+pub by-none : (t s : ℕ) (own : List TimedParts) → t < s → AreFrom s own → offered_by t own ≡ []
 by-none t s [] less from = refl
 by-none t s (x ∷ own) less from =
     by-late x own t (omega (arith, less, from x (stands-here x own))) ∙ by-none t s own less (λ y h. from y (stands-later x own y h))
 
 -- those of the next time stand before those of later ones
-pub at-next : (own : List Timed) → AreInOrder own → (t : ℕ) → offered_by t own ++ offered_at own (suc t) ≡ offered_by (suc t) own
+pub at-next : (own : List TimedParts) → AreInOrder own → (t : ℕ) → offered_by t own ++ offered_at own (suc t) ≡ offered_by (suc t) own
 at-next [] order t = refl
 at-next (x ∷ own) order t = elim (cases_lt t x.time) [
   | inr early ↦
@@ -91,14 +91,14 @@ at-next (x ∷ own) order t = elim (cases_lt t x.time) [
 ]
 
 -- so what is offered at time 0, and then bit time after bit time, is what is offered by a time
-pub offered-arrived : (own : List Timed) → AreInOrder own → (t : ℕ) → offered_at own 0 ++ arrived (offered_at own) t ≡ offered_by t own
+pub offered-arrived : (own : List TimedParts) → AreInOrder own → (t : ℕ) → offered_at own 0 ++ arrived (offered_at own) t ≡ offered_by t own
 offered-arrived own order zero = append-nil (offered_at own 0) ∙ at-first own
 offered-arrived own order (suc t) =
     sym (append_assoc (offered_at own 0) (arrived (offered_at own) t) (offered_at own (suc t)))
     ∙ ap (λ fs. fs ++ offered_at own (suc t)) (offered-arrived own order t)
     ∙ at-next own order t
 
-pub frames-offered : (t : ℕ) (own : List Timed) → AreFrames (frames_of own) → AreFrames (offered_by t own)
+pub frames-offered : (t : ℕ) (own : List TimedParts) → AreFrames (frames_of own) → AreFrames (offered_by t own)
 frames-offered t [] are = tt
 frames-offered t (x ∷ own) are = elim (cases_lt t x.time) [
   | inl late ↦ subst AreFrames (sym (by-late x own t late)) (frames-offered t own are.1)
@@ -114,7 +114,7 @@ arrived-more n (suc m) arrives =
     ∙ ap (λ b. arrived arrives n ++ (arrived (later_by n arrives) m ++ b)) (ap arrives (let e : suc (n + m) ≡ n + suc m = omega arith in e) ∙ sym (later_by-at n (suc m) arrives))
 
 -- n bit times later, in which what has arrived waits behind this queue
-pub queue-later : (now n : ℕ) (arrives : ℕ → List Parts) (queue : List Parts) (own : List Timed) → ((m : ℕ) → queue ++ arrived arrives m ≡ offered_by (now + m) own) →
+pub queue-later : (now n : ℕ) (arrives : ℕ → List Parts) (queue : List Parts) (own : List TimedParts) → ((m : ℕ) → queue ++ arrived arrives m ≡ offered_by (now + m) own) →
     (m : ℕ) → (queue ++ arrived arrives n) ++ arrived (later_by n arrives) m ≡ offered_by ((now + n) + m) own
 queue-later now n arrives queue own is m =
     append_assoc queue (arrived arrives n) (arrived (later_by n arrives) m) ∙ ap (λ fs. queue ++ fs) (sym (arrived-more n m arrives)) ∙ is (n + m)

@@ -1,6 +1,6 @@
 -- Where all frames are offered at time 0 a bus to which frames are offered is a quiet bus at which they wait.
-use Rattle.std.specs.Prelude.{filter, slice_get}
-use Rattle.std.proofs.Common.{◌≡◌, ℕ, zero, suc, ◌+◌, ◌<◌, Some, None, List, [], ◌∷◌, ◌++◌, length, map, refl, sym, ap, subst, ◌∙◌, arith, inl, inr}
+use Rattle.std.specs.Prelude.{filter, option_map, slice_get}
+use Rattle.std.proofs.Common.{◌≡◌, ℕ, zero, suc, ◌+◌, ◌<◌, Option, Some, None, List, [], ◌∷◌, ◌++◌, length, map, refl, sym, ap, subst, ◌∙◌, arith, inl, inr}
 use Rattle.std.specs.List.Sorted.{IsPermutation}
 use Rattle.std.proofs.Math.Dec.{eqb}
 use Rattle.std.proofs.lemmas.List.Sorted.{IsPermutation-map, IsPermutation-sym, length_permutation}
@@ -13,9 +13,10 @@ use Rattle.can_bus.specs.OpenBus.{QueuesHaveRoom, IsOpenCall, WaitsAt, all_offer
 use Rattle.can_bus.specs.Offers.{AreOffered, all_made, played, played_level}
 use Rattle.can_bus.specs.Quiet.{AreDifferent, IsAscending, IsQuiet, IsQuietCall, IsQuietPort, ascending, line_at, queued, AtEachNode}
 use Rattle.can_bus.specs.Run.{BusState, bus_level, bus_run}
-use Rattle.can_bus.specs.Schedule.{AreAtOnce, Timed, frames_of, schedule, track_at}
+use Rattle.can_bus.specs.Schedule.{AreAtOnce, TimedParts, frames_of, schedule, track_at}
 use Rattle.can_bus.proofs.CourseSchedules.{no-other-schedule, one-schedule}
 use Rattle.can_bus.proofs.Ascending.{ascending_permuted, ascending_there, different_permuted}
+use Rattle.can_bus.proofs.CallLemmas.{played-quiet, played_level-quiet}
 use Rattle.can_bus.proofs.AtOnce.{at_once-frames, at_once-line}
 use Rattle.can_bus.proofs.Members.{filter-stands, map-stands, stands-map, stands-here, stands-later, stands-either}
 use Rattle.can_bus.proofs.OfferLemmas.{none_made}
@@ -23,15 +24,14 @@ use Rattle.can_bus.proofs.OfferTimes.{at-now, offered_at}
 use Rattle.can_bus.proofs.OpenStart.{rooms}
 use Rattle.can_bus.proofs.PlayedRuns.{all-taken, all_arrived, arriving}
 use Rattle.can_bus.proofs.PortOffers.{offers-by-port, port_offers}
-use Rattle.can_bus.proofs.RunLemmas.{levels_joined, runs_joined}
 
 -- ---- what is offered
 
-pub first-frames : (queue : List Parts) (own : List Timed) → frames_of (offered_first queue ++ own) ≡ queue ++ frames_of own
+pub first-frames : (queue : List Parts) (own : List TimedParts) → frames_of (offered_first queue ++ own) ≡ queue ++ frames_of own
 first-frames [] own = refl
 first-frames (f ∷ queue) own = ap (λ fs. f ∷ fs) (first-frames queue own)
 
-at_once-now : (own : List Timed) → AreAtOnce own → offered_at own 0 ≡ frames_of own
+at_once-now : (own : List TimedParts) → AreAtOnce own → offered_at own 0 ≡ frames_of own
 at_once-now [] all = refl
 at_once-now (x ∷ own) all =
     at-now x own 0 (all x (stands-here x own)) ∙ ap (λ fs. x.frame ∷ fs) (at_once-now own (λ y there. all y (stands-later x own y there)))
@@ -41,50 +41,36 @@ length-offered : (offers : List Offer) (node : ℕ) (ports : List PortState) →
 length-offered offers node [] = refl
 length-offered offers node (p ∷ ports) = ap suc (length-offered offers (node + 1) ports)
 
-record IsOfferedPort (offers : List Offer) (node : ℕ) (ports : List PortState) (n : ℕ) (q : PortState) : Type 0 where
-  before : PortState
-  stands : slice_get ports n ≡ Some before
-  gained : q ≡ gains (arriving offers (node + n) 0) before
-
-offered-port : (offers : List Offer) (node : ℕ) (ports : List PortState) (n : ℕ) (q : PortState) → slice_get (all_arrived offers 0 node ports) n ≡ Some q → IsOfferedPort offers node ports n q
-offered-port offers node [] n q there = absurd (let h : None ≡ Some q = there in cc)
-offered-port offers node (p ∷ ports) zero q there =
-    let is : gains (arriving offers node 0) p ≡ q = (let h : Some (gains (arriving offers node 0) p) ≡ Some q = there in cc) in
-    let here : node ≡ node + 0 = omega arith in
-    record { before = p; stands = refl; gained = sym is ∙ ap (λ k. gains (arriving offers k 0) p) here }
-offered-port offers node (p ∷ ports) (suc n) q there =
-    let rest = offered-port offers (node + 1) ports n q there in
-    let more : (node + 1) + n ≡ node + suc n = omega arith in
-    record { before = rest.before; stands = rest.stands; gained = rest.gained ∙ ap (λ k. gains (arriving offers k 0) rest.before) more }
-
-port-offered : (offers : List Offer) (node : ℕ) (ports : List PortState) (n : ℕ) (p : PortState) → slice_get ports n ≡ Some p →
-    slice_get (all_arrived offers 0 node ports) n ≡ Some (gains (arriving offers (node + n) 0) p)
-port-offered offers node [] n p there = absurd (let h : None ≡ Some p = there in cc)
-port-offered offers node (x ∷ ports) zero p there =
-    let is : x ≡ p = (let h : Some x ≡ Some p = there in cc) in
-    ap (λ y. Some (gains (arriving offers node 0) y)) is ∙ ap (λ k. Some (gains (arriving offers k 0) p)) (let e : node ≡ node + 0 = omega arith in e)
-port-offered offers node (x ∷ ports) (suc n) p there =
-    port-offered offers (node + 1) ports n p there ∙ ap (λ k. Some (gains (arriving offers k 0) p)) (let e : (node + 1) + n ≡ node + suc n = omega arith in e)
+port-offered : (offers : List Offer) (node : ℕ) (ports : List PortState) (n : ℕ) →
+    slice_get (all_arrived offers 0 node ports) n ≡ option_map (gains (arriving offers (node + n) 0)) (slice_get ports n)
+port-offered offers node [] n = refl
+port-offered offers node (p ∷ ports) zero = ap (λ k. Some (gains (arriving offers k 0) p)) (let e : node ≡ node + 0 = omega arith in e)
+port-offered offers node (p ∷ ports) (suc n) =
+    port-offered offers (node + 1) ports n ∙ ap (λ k. option_map (gains (arriving offers k 0)) (slice_get ports n)) (let e : (node + 1) + n ≡ node + suc n = omega arith in e)
 
 -- what is offered has no part in whether a port is quiet
-quiet-gains : (n : ℕ) (p : PortState) (more : List Parts) → IsQuietPort n p → IsQuietPort n (gains more p)
-quiet-gains n p more quiet = record { idle = quiet.idle; tec = quiet.tec; rec = quiet.rec; unasked = quiet.unasked; empty = quiet.empty; room = quiet.room }
-
 gains-quiet : (n : ℕ) (p : PortState) (more : List Parts) → IsQuietPort n (gains more p) → IsQuietPort n p
 gains-quiet n p more quiet = record { idle = quiet.idle; tec = quiet.tec; rec = quiet.rec; unasked = quiet.unasked; empty = quiet.empty; room = quiet.room }
+
+quiet-gains : (n : ℕ) (before : Option PortState) (more : List Parts) (q : PortState) → ((p : PortState) → before ≡ Some p → IsQuietPort n p) → option_map (gains more) before ≡ Some q → IsQuietPort n q
+quiet-gains n None more q each is = absurd (let h : None ≡ Some q = is in cc)
+quiet-gains n (Some p) more q each is =
+    let quiet = each p refl in
+    let e : gains more p ≡ q = (let h : Some (gains more p) ≡ Some q = is in cc) in
+    subst (IsQuietPort n) e (record { idle = quiet.idle; tec = quiet.tec; rec = quiet.rec; unasked = quiet.unasked; empty = quiet.empty; room = quiet.room })
 
 module _ (offers : List Offer) (first : AreAtOnce (map timed offers)) where
   to-at_once : (node : ℕ) → AreAtOnce (offered_to node offers)
   to-at_once node x there =
       let made = map-stands timed (filter (λ (o : Offer). eqb o.node node) offers) x there in
       let at = (filter-stands (λ (o : Offer). eqb o.node node) offers made.0 made.1).0 in
-      sym (ap (λ (y : Timed). y.time) made.2) ∙ first (timed made.0) (stands-map timed offers made.0 at)
+      sym (ap (λ (y : TimedParts). y.time) made.2) ∙ first (timed made.0) (stands-map timed offers made.0 at)
 
   all-at_once : (ports : List PortState) → AreAtOnce (all_offers offers ports)
   all-at_once ports x there = elim (stands-either (offered_first (queued ports)) (map timed offers) x there) [
     | inl waits ↦
-        let one = map-stands (λ (f : Parts). let y : Timed = record { time = 0; frame = f } in y) (queued ports) x waits in
-        sym (ap (λ (y : Timed). y.time) one.2)
+        let one = map-stands (λ (f : Parts). let y : TimedParts = record { time = 0; frame = f } in y) (queued ports) x waits in
+        sym (ap (λ (y : TimedParts). y.time) one.2)
     | inr made ↦ first x made
   ]
 
@@ -96,21 +82,21 @@ module _ (offers : List Offer) (first : AreAtOnce (map timed offers)) where
   port-frames node (p ∷ ports) =
       ap (λ fs. fs ++ queued (all_arrived offers 0 (node + 1) ports)) (own-frames node p)
       ∙ ap (λ fs. frames_of (own_offers offers node p) ++ fs) (port-frames (node + 1) ports)
-      ∙ sym (map-append (λ (x : Timed). x.frame) (own_offers offers node p) (port_offers offers (node + 1) ports))
+      ∙ sym (map-append (λ (x : TimedParts). x.frame) (own_offers offers node p) (port_offers offers (node + 1) ports))
 
   -- all frames wait
   all-wait : (ports : List PortState) → AreOffered (length ports) offers → IsPermutation (queued (all_arrived offers 0 0 ports)) (frames_of (all_offers offers ports))
   all-wait ports offered =
       subst (λ fs. IsPermutation fs (frames_of (all_offers offers ports))) (sym (port-frames 0 ports))
-      (IsPermutation-map (λ (x : Timed). x.frame) (port_offers offers 0 ports) (all_offers offers ports) (offers-by-port offers ports offered))
+      (IsPermutation-map (λ (x : TimedParts). x.frame) (port_offers offers 0 ports) (all_offers offers ports) (offers-by-port offers ports offered))
 
   all-size : (ports : List PortState) → AreOffered (length ports) offers → length (queued (all_arrived offers 0 0 ports)) ≡ length (all_offers offers ports)
   all-size ports offered =
       sym (length_permutation (queued (all_arrived offers 0 0 ports)) (frames_of (all_offers offers ports)) (all-wait ports offered))
-      ∙ length-map (all_offers offers ports) (λ (x : Timed). x.frame)
+      ∙ length-map (all_offers offers ports) (λ (x : TimedParts). x.frame)
 
   module _ (ports : List PortState) (room : QueuesHaveRoom offers ports) where
-    abbrev all : List Timed
+    abbrev all : List TimedParts
     all = all_offers offers ports
 
     abbrev waiting_ports : List PortState
@@ -121,14 +107,13 @@ module _ (offers : List Offer) (first : AreAtOnce (map timed offers)) where
 
     pub at_once-queues : AtEachNode (WaitsAt offers) ports (all_made offers 0 ports)
     at_once-queues n p q before after =
-        let there : slice_get waiting_ports n ≡ Some q = ap (λ ps. slice_get ps n) (sym taken) ∙ after in
-        let is : Some (gains (arriving offers (0 + n) 0) p) ≡ Some q = sym (port-offered offers 0 ports n p before) ∙ there in
-        let same : 0 + n ≡ n = omega arith in
+        let is : Some (gains (arriving offers (0 + n) 0) p) ≡ Some q =
+        ap (option_map (gains (arriving offers (0 + n) 0))) (sym before) ∙ sym (port-offered offers 0 ports n) ∙ ap (λ ps. slice_get ps n) (sym taken) ∙ after in
         let becomes : gains (arriving offers (0 + n) 0) p ≡ q = cc in
-        ap (λ (r : PortState). r.queue) (sym becomes) ∙ ap (λ k. (gains (arriving offers k 0) p).queue) same ∙ own-frames n p
+        ap (λ (r : PortState). r.queue) (sym becomes) ∙ ap (λ k. (gains (arriving offers k 0) p).queue) (let e : 0 + n ≡ n = omega arith in e) ∙ own-frames n p
 
     -- the premises of an open call are those of a quiet one
-    module _ (starts : List Timed) (call : IsOpenCall offers ports starts) where
+    module _ (starts : List TimedParts) (call : IsOpenCall offers ports starts) where
       ascending-starts : frames_of starts ≡ ascending (frames_of all)
       ascending-starts = ap frames_of (no-other-schedule all starts call.scheduled) ∙ at_once-frames all call.scheduled.different (all-at_once ports)
 
@@ -150,9 +135,8 @@ module _ (offers : List Offer) (first : AreAtOnce (map timed offers)) where
               two = omega (arith, call.two, length-offered offers 0 ports);
               most = omega (arith, call.most, length-offered offers 0 ports);
               quiet = λ n q there.
-                  let is = offered-port offers 0 ports n q there in
-                  subst (IsQuietPort (length (queued waiting_ports))) (sym is.gained)
-                  (quiet-gains (length (queued waiting_ports)) is.before (arriving offers (0 + n) 0) (subst (λ k. IsQuietPort k is.before) (sym same_size) (call.quiet n is.before is.stands)));
+                  quiet-gains (length (queued waiting_ports)) (slice_get ports n) (arriving offers (0 + n) 0) q (λ p before. subst (λ k. IsQuietPort k p) (sym same_size) (call.quiet n p before))
+                  (sym (port-offered offers 0 ports n) ∙ there);
               different = different;
             };
             ascending = subst (IsAscending (queued waiting_ports)) (sym ascends) (ascending_there (queued waiting_ports) different);
@@ -170,7 +154,8 @@ module _ (offers : List Offer) (first : AreAtOnce (map timed offers)) where
           offered = offered;
           quiet = λ n p there.
               subst (λ k. IsQuietPort k p) same_size
-              (gains-quiet (length (queued waiting_ports)) p (arriving offers (0 + n) 0) (quiet.quiet n (gains (arriving offers (0 + n) 0) p) (port-offered offers 0 ports n p there)));
+              (gains-quiet (length (queued waiting_ports)) p (arriving offers (0 + n) 0)
+              (quiet.quiet n (gains (arriving offers (0 + n) 0) p) (port-offered offers 0 ports n ∙ ap (option_map (gains (arriving offers (0 + n) 0))) there)));
           room = room;
           scheduled = one-schedule all (different_permuted (queued waiting_ports) (frames_of all) (all-wait ports offered) quiet.different);
         }
@@ -180,23 +165,18 @@ module _ (offers : List Offer) (first : AreAtOnce (map timed offers)) where
   none-later : (t : ℕ) (ports : List PortState) → all_made offers (suc t) ports ≡ ports
   none-later t ports = (none_made offers (suc t) ports (λ n offer there now. omega (arith, now, first (timed offer) (stands-map timed offers offer (n, there))))).0
 
+  -- so it is what is played behind them without offers
+  still-played : (n : ℕ) (bus : BusState) → record (played offers n bus) { ports = all_made offers n (played offers n bus).ports } ≡ played [] n (with_first offers bus)
+  unfolding played
+  still-played zero bus = refl
+  still-played (suc n) bus =
+      ap (λ ps. record (played offers (suc n) bus) { ports = ps }) (none-later n (played offers (suc n) bus).ports) ∙ ap (bus_run [] 1) (still-played n bus)
+
   pub at_once-run : (n : ℕ) (bus : BusState) → 0 < n → played offers n bus ≡ bus_run [] n (with_first offers bus)
   unfolding played
   at_once-run zero bus some = absurd (omega (arith, some))
-  at_once-run (suc zero) bus some = refl
-  at_once-run (suc (suc n)) bus some =
-      let before = played offers (suc n) bus in
-      ap (λ ps. bus_run [] 1 (record before { ports = ps })) (none-later n before.ports)
-      ∙ ap (bus_run [] 1) (at_once-run (suc n) bus (omega arith))
-      ∙ sym (runs_joined (suc n) 1 (with_first offers bus))
-      ∙ ap (λ k. bus_run [] k (with_first offers bus)) (let e : suc n + 1 ≡ suc (suc n) = omega arith in e)
+  at_once-run (suc n) bus some = ap (bus_run [] 1) (still-played n bus) ∙ played-quiet (suc n) (with_first offers bus)
 
   pub at_once-level : (t : ℕ) (bus : BusState) → played_level offers t bus ≡ bus_level [] t (with_first offers bus)
-  unfolding played_level played
-  at_once-level zero bus = refl
-  at_once-level (suc t) bus =
-      let before = played offers (suc t) bus in
-      ap (λ ps. bus_level [] 0 (record before { ports = ps })) (none-later t before.ports)
-      ∙ ap (bus_level [] 0) (at_once-run (suc t) bus (omega arith))
-      ∙ sym (levels_joined (suc t) 0 (with_first offers bus))
-      ∙ ap (λ k. bus_level [] k (with_first offers bus)) (let e : suc t + 0 ≡ suc t = omega arith in e)
+  unfolding played_level
+  at_once-level t bus = ap (bus_level [] 0) (still-played t bus) ∙ played_level-quiet t (with_first offers bus)

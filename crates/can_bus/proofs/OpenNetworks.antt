@@ -12,7 +12,7 @@ use Rattle.can_bus.specs.Offers.{all_made, played, played_level, refused, refuse
 use Rattle.can_bus.specs.Quiet.{AtEachNode, AtEachPort, CountsNothing, IsPrefixOf, IsQuietPort, MissesNothing, marked}
 use Rattle.can_bus.specs.Repair.{IsLow}
 use Rattle.can_bus.specs.Run.{BusState, bus_after, bus_level, recorded}
-use Rattle.can_bus.specs.Schedule.{Timed, Lists, frames_of, track_at}
+use Rattle.can_bus.specs.Schedule.{TimedParts, Lists, frames_of, track_at}
 use Rattle.can_bus.specs.Wired.{wired}
 use Rattle.can_bus.proofs.Ascending.{Other, different_permuted}
 use Rattle.can_bus.proofs.Contests.{AllPorts}
@@ -22,9 +22,9 @@ use Rattle.can_bus.proofs.CallLemmas.{call-time}
 use Rattle.can_bus.proofs.HitRuns.{sees}
 use Rattle.can_bus.proofs.Members.{stands-back, stands-front}
 use Rattle.can_bus.proofs.NetworkCalls.{network-logs, network-missed, network-refused, network-track, network-unmoved, network-whole}
-use Rattle.can_bus.proofs.NextStarts.{AreApart, apart-from}
+use Rattle.can_bus.proofs.NextStarts.{AllDiffer, differ-from}
 use Rattle.can_bus.proofs.OpenStart.{OfFrames}
-use Rattle.can_bus.proofs.OwnOffers.{apart-across, apart-back}
+use Rattle.can_bus.proofs.OwnOffers.{differ-across, differ-back}
 use Rattle.can_bus.proofs.PortOffers.{offers-by-port, port_offers}
 
 -- ---- without hits it is all the same how long the bus has rested
@@ -57,7 +57,7 @@ module _ (offers : List Offer) (bus other : BusState) (same : bus.ports ≡ othe
 -- ---- the premises
 
 -- a port's own offers are among those of all
-stands-port : (offers : List Offer) (node : ℕ) (ports : List PortState) (n : ℕ) (q : PortState) → slice_get ports n ≡ Some q → (y : Timed) → Lists (own_offers offers (node + n) q) y →
+stands-port : (offers : List Offer) (node : ℕ) (ports : List PortState) (n : ℕ) (q : PortState) → slice_get ports n ≡ Some q → (y : TimedParts) → Lists (own_offers offers (node + n) q) y →
     Lists (port_offers offers node ports) y
 stands-port offers node [] n q at y there = absurd (let h : None ≡ Some q = at in cc)
 stands-port offers node (p ∷ ports) zero q at y there =
@@ -68,17 +68,17 @@ stands-port offers node (p ∷ ports) (suc n) q at y there =
     stands-back (own_offers offers node p) (port_offers offers (node + 1) ports) y
     (stands-port offers (node + 1) ports n q at y (subst (λ k. Lists (own_offers offers k q) y) (let e : node + suc n ≡ (node + 1) + n = omega arith in e) there))
 
-pub apart-owned : (offers : List Offer) (node : ℕ) (ports : List PortState) → AreApart (port_offers offers node ports) → (m n : ℕ) (p q : PortState) → m < n → slice_get ports m ≡ Some p → slice_get ports n ≡ Some q →
-    (x y : Timed) → Lists (own_offers offers (node + m) p) x → Lists (own_offers offers (node + n) q) y → Other x.frame y.frame
-apart-owned offers node [] apart m n p q less at there x y a b = absurd (let h : None ≡ Some p = at in cc)
-apart-owned offers node (r ∷ ports) apart m zero p q less at there x y a b = absurd (omega (arith, less))
-apart-owned offers node (r ∷ ports) apart zero (suc n) p q less at there x y a b =
+pub differ-owned : (offers : List Offer) (node : ℕ) (ports : List PortState) → AllDiffer (port_offers offers node ports) → (m n : ℕ) (p q : PortState) → m < n → slice_get ports m ≡ Some p → slice_get ports n ≡ Some q →
+    (x y : TimedParts) → Lists (own_offers offers (node + m) p) x → Lists (own_offers offers (node + n) q) y → Other x.frame y.frame
+differ-owned offers node [] apart m n p q less at there x y a b = absurd (let h : None ≡ Some p = at in cc)
+differ-owned offers node (r ∷ ports) apart m zero p q less at there x y a b = absurd (omega (arith, less))
+differ-owned offers node (r ∷ ports) apart zero (suc n) p q less at there x y a b =
     let same : r ≡ p = (let h : Some r ≡ Some p = at in cc) in
-    apart-across (own_offers offers node r) (port_offers offers (node + 1) ports) apart x y
+    differ-across (own_offers offers node r) (port_offers offers (node + 1) ports) apart x y
     (subst (λ s. Lists (own_offers offers node s) x) (sym same) (subst (λ k. Lists (own_offers offers k p) x) (let e : node + 0 ≡ node = omega arith in e) a))
     (stands-port offers (node + 1) ports n q there y (subst (λ k. Lists (own_offers offers k q) y) (let e : node + suc n ≡ (node + 1) + n = omega arith in e) b))
-apart-owned offers node (r ∷ ports) apart (suc m) (suc n) p q less at there x y a b =
-    apart-owned offers (node + 1) ports (apart-back (own_offers offers node r) (port_offers offers (node + 1) ports) apart) m n p q (omega (arith, less)) at there x y
+differ-owned offers node (r ∷ ports) apart (suc m) (suc n) p q less at there x y a b =
+    differ-owned offers (node + 1) ports (differ-back (own_offers offers node r) (port_offers offers (node + 1) ports) apart) m n p q (omega (arith, less)) at there x y
     (subst (λ k. Lists (own_offers offers k p) x) (let e : node + suc m ≡ (node + 1) + m = omega arith in e) a)
     (subst (λ k. Lists (own_offers offers k q) y) (let e : node + suc n ≡ (node + 1) + n = omega arith in e) b)
 
@@ -89,16 +89,16 @@ at_rest ports = record { ports = ports; rest = 11 }
 pub quiet-low : (n : ℕ) (p : PortState) → IsQuietPort n p → IsLow (counters_of p)
 quiet-low n p quiet = record { tec = omega (arith, quiet.tec); rec = omega (arith, quiet.rec) }
 
-module _ (offers : List Offer) (starts : List Timed) (ports : List PortState) (call : IsOpenCall offers ports starts) where
-  abbrev all : List Timed
+module _ (offers : List Offer) (starts : List TimedParts) (ports : List PortState) (call : IsOpenCall offers ports starts) where
+  abbrev all : List TimedParts
   all = all_offers offers ports
 
   pub open-network : IsNetworkCall offers [] (at_rest ports) (unhit starts)
   open-network =
       let by_port : IsPermutation (port_offers offers 0 ports) all = offers-by-port offers ports call.offered in
       let other_way : IsPermutation all (port_offers offers 0 ports) = IsPermutation-sym (port_offers offers 0 ports) all by_port in
-      let apart : AreApart (port_offers offers 0 ports) =
-      apart-from (port_offers offers 0 ports) (different_permuted (frames_of all) (frames_of (port_offers offers 0 ports)) (IsPermutation-map (λ (x : Timed). x.frame) all (port_offers offers 0 ports) other_way) call.scheduled.different) in
+      let apart : AllDiffer (port_offers offers 0 ports) =
+      differ-from (port_offers offers 0 ports) (different_permuted (frames_of all) (frames_of (port_offers offers 0 ports)) (IsPermutation-map (λ (x : TimedParts). x.frame) all (port_offers offers 0 ports) other_way) call.scheduled.different) in
       record {
         two = call.two;
         most = call.most;
@@ -112,18 +112,18 @@ module _ (offers : List Offer) (starts : List Timed) (ports : List PortState) (c
         };
         room = call.room;
         owned = λ m n p q less at there x y a b.
-            apart-owned offers 0 ports apart m n p q less at there x y
+            differ-owned offers 0 ports apart m n p q less at there x y
             (subst (λ k. Lists (own_offers offers k p) x) (let e : m ≡ 0 + m = omega arith in e) a)
             (subst (λ k. Lists (own_offers offers k q) y) (let e : n ≡ 0 + n = omega arith in e) b);
         within = λ n hit at. absurd (let h : None ≡ Some hit = at in cc);
         apart = λ m n a b less at there. absurd (let h : None ≡ Some a = at in cc);
-        is_course = schedule-course 0 call.scheduled.scheduled (apart-from all call.scheduled.different);
+        is_course = schedule-course 0 call.scheduled.scheduled (differ-from all call.scheduled.different);
         borne = λ n p at number within. unhit-low (frames_of (own_offers offers n p)) starts number (counters_of p) (quiet-low (length all) p (call.quiet n p at));
       }
 
 -- ---- the clauses
 
-module _ (offers : List Offer) (starts : List Timed) (bus : BusState) (valid : AllPorts IsPort bus.ports) (framed : OfFrames offers)
+module _ (offers : List Offer) (starts : List TimedParts) (bus : BusState) (valid : AllPorts IsPort bus.ports) (framed : OfFrames offers)
     (call : IsOpenCall offers bus.ports starts) where
   abbrev net : IsNetworkCall offers [] (at_rest bus.ports) (unhit starts)
   net = open-network offers starts bus.ports call

@@ -10,7 +10,7 @@ use Rattle.can_bus.specs.OpenBus.{IsOpenCall, IsOpenPlan, all_offers, offered_fi
 use Rattle.can_bus.specs.Offers.{AreOffered}
 use Rattle.can_bus.specs.Plans.{PlannedPort, planned, ready_port}
 use Rattle.can_bus.specs.Quiet.{AreDifferent, queued}
-use Rattle.can_bus.specs.Schedule.{Timed, frames_of, schedule}
+use Rattle.can_bus.specs.Schedule.{TimedParts, frames_of, schedule}
 use Rattle.can_bus.proofs.CourseSchedules.{one-schedule}
 use Rattle.can_bus.proofs.OpenAtOnce.{first-frames}
 use Rattle.can_bus.proofs.PlayedRuns.{to-here, to-other}
@@ -41,7 +41,7 @@ own-room offers size (plan ∷ plans) fits room node zero p there =
     let rooms : plan.queue_room ≡ p.queue_room = sym (ap (λ (q : PortState). q.queue_room) filled) ∙ ap (λ (q : PortState). q.queue_room) is in
     let mine = length-append plan.frames (planned plans) in
     let both = length-append (offered_first p.queue) (offered_to node offers) in
-    let waits = length-map p.queue (λ f. let x : Timed = record { time = 0; frame = f } in x) in
+    let waits = length-map p.queue (λ f. let x : TimedParts = record { time = 0; frame = f } in x) in
     omega (arith, fits, mine, ap length queue, rooms, both, waits, length-to node offers, room 0 plan (omega arith))
 own-room offers size (plan ∷ plans) fits room node (suc n) p there =
     own-room offers size plans (omega (arith, fits, length-append plan.frames (planned plans))) (All-tail (λ plan. size + length offers ≤ plan.queue_room) plan plans room) node n p there
@@ -56,7 +56,7 @@ module _ (offers : List Offer) (plans : List PlannedPort) where
 
   pub all-size : length (all_offers offers ports) ≡ length (planned plans) + length offers
   all-size =
-      sym (length-map (all_offers offers ports) (λ (x : Timed). x.frame)) ∙ ap length all-frames
+      sym (length-map (all_offers offers ports) (λ (x : TimedParts). x.frame)) ∙ ap length all-frames
       ∙ length-append (planned plans) (map (λ (o : Offer). o.frame) offers) ∙ ap (λ n. length (planned plans) + n) (length-map offers (λ (o : Offer). o.frame))
 
   pub open-made : IsOpenPlan offers plans → IsOpenCall offers ports (schedule (all_offers offers ports))

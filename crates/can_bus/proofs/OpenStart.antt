@@ -9,7 +9,7 @@ use Rattle.can_node.specs.Ports.{PortState}
 use Rattle.can_node.proofs.FramesWaiting.{AreFrames}
 use Rattle.can_bus.specs.declared.offer.Offer.{Offer}
 use Rattle.can_bus.specs.OpenBus.{QueuesHaveRoom, offered_first, offered_to, own_offers, timed}
-use Rattle.can_bus.specs.Schedule.{Timed, frames_of, offered_by}
+use Rattle.can_bus.specs.Schedule.{TimedParts, frames_of, offered_by}
 use Rattle.can_bus.proofs.Members.{filter-stands, map-stands}
 use Rattle.can_bus.proofs.OfferTimes.{AreInOrder, at-first, length-offered_by}
 use Rattle.can_bus.proofs.PlayedRuns.{AreRoomy, HaveRoomNow, all_arrived, arriving, to-here, to-other}
@@ -39,7 +39,7 @@ room-start offers node (p ∷ ports) each =
     let own = offered_to node offers in
     let rest = room-start offers (node + 1) ports each.1 in
     let both : length (own_offers offers node p) ≡ length (offered_first p.queue) + length own = length-append (offered_first p.queue) own in
-    let waits : length (offered_first p.queue) ≡ length p.queue = length-map p.queue (λ f. let x : Timed = record { time = 0; frame = f } in x) in
+    let waits : length (offered_first p.queue) ≡ length p.queue = length-map p.queue (λ f. let x : TimedParts = record { time = 0; frame = f } in x) in
     let now : length (arriving offers node 0) ≡ length (offered_by 0 own) = ap length (at-first own) in (
       (omega (arith, each.0, both, waits, now, length-offered_by 0 own), rest.0),
       (omega (arith, each.0, both, waits, now, length-append p.queue (arriving offers node 0)), rest.1),
@@ -63,7 +63,7 @@ order-of (offer ∷ offers) rise node =
             λ x there.
                 let made = map-stands timed (filter (λ (o : Offer). eqb o.node node) offers) x there in
                 let at = (filter-stands (λ (o : Offer). eqb o.node node) offers made.0 made.1).0 in
-                let same : made.0.time ≡ x.time = ap (λ (y : Timed). y.time) made.2 in
+                let same : made.0.time ≡ x.time = ap (λ (y : TimedParts). y.time) made.2 in
                 omega (arith, same, rise 0 (suc at.0) offer made.0 (omega arith) refl at.1),
             rest,
           )
@@ -83,6 +83,6 @@ frames-to (offer ∷ offers) each node =
       | inr other ↦ subst (λ own. AreFrames (frames_of own)) (sym (to-other offer offers node other)) rest
     ]
 
-pub frames-first : (queue : List Parts) (own : List Timed) → AreFrames queue → AreFrames (frames_of own) → AreFrames (frames_of (offered_first queue ++ own))
+pub frames-first : (queue : List Parts) (own : List TimedParts) → AreFrames queue → AreFrames (frames_of own) → AreFrames (frames_of (offered_first queue ++ own))
 frames-first [] own first rest = rest
 frames-first (f ∷ queue) own first rest = (first.0, frames-first queue own first.1 rest)

@@ -15,7 +15,7 @@ use Rattle.can_bus.specs.Network.{FieldsAreOwned}
 use Rattle.can_bus.specs.Offers.{AreOffered}
 use Rattle.can_bus.specs.OpenBus.{all_offers, offered_first, offered_to, own_offers, timed}
 use Rattle.can_bus.specs.Quiet.{holds, queued}
-use Rattle.can_bus.specs.Schedule.{Timed, Lists, frames_of}
+use Rattle.can_bus.specs.Schedule.{TimedParts, Lists, frames_of}
 use Rattle.can_bus.proofs.Ascending.{Other}
 use Rattle.can_bus.proofs.Contests.{at-has}
 use Rattle.can_bus.proofs.Fields.{field-skip}
@@ -37,27 +37,27 @@ port-there (p ∷ ports) (suc n) within = port-there ports n (omega (arith, with
 
 module _ (f : Parts) where
   -- none of the offers has the field of f, or one has
-  abbrev pub NoneOf : List Timed → Type 0
-  NoneOf offers = (x : Timed) → Lists offers x → Other f x.frame
+  abbrev pub NoneOf : List TimedParts → Type 0
+  NoneOf offers = (x : TimedParts) → Lists offers x → Other f x.frame
 
-  abbrev pub HasField : List Timed → Type 0
-  HasField offers = (x : Timed) × Lists offers x × (arbitration_field f ≡ arbitration_field x.frame)
+  abbrev pub HasField : List TimedParts → Type 0
+  HasField offers = (x : TimedParts) × Lists offers x × (arbitration_field f ≡ arbitration_field x.frame)
 
-  pub field-none : (offers : List Timed) → NoneOf offers → of_field f offers ≡ []
+  pub field-none : (offers : List TimedParts) → NoneOf offers → of_field f offers ≡ []
   field-none [] none = refl
   field-none (x ∷ offers) none = field-skip f x offers (other-test f x.frame (none x (stands-here x offers))) ∙ field-none offers (λ y there. none y (stands-later x offers y there))
 
-  pub field-append : (a b : List Timed) → of_field f (a ++ b) ≡ of_field f a ++ of_field f b
+  pub field-append : (a b : List TimedParts) → of_field f (a ++ b) ≡ of_field f a ++ of_field f b
   field-append a b = filter-append (λ x. same_field f x.frame) a b
 
-  pub field-cases : (offers : List Timed) → NoneOf offers ⊎ HasField offers
+  pub field-cases : (offers : List TimedParts) → NoneOf offers ⊎ HasField offers
   field-cases [] = inl (λ x there. absurd (stands-none x there))
   field-cases (x ∷ offers) = elim (cases_Bool (same_field f x.frame)) [
     | inl same ↦ inr (x, stands-here x offers, same_field-Shares f x.frame same)
     | inr other ↦ elim (field-cases offers) [
       | inl none ↦ inl (λ y there. elim (stands-cases x offers y there) [
         | inl here ↦ (λ e. (
-            let again : same_field f x.frame ≡ true = Shares-same_field f x.frame (e ∙ ap (λ (z : Timed). arbitration_field z.frame) (sym here)) in
+            let again : same_field f x.frame ≡ true = Shares-same_field f x.frame (e ∙ ap (λ (z : TimedParts). arbitration_field z.frame) (sym here)) in
             cc))
         | inr later ↦ none y later
       ])
@@ -75,7 +75,7 @@ module _ (f : Parts) where
         let here : NoneOf own = subst (λ k. NoneOf (own_offers offers k p)) (let e : node + 0 ≡ node = omega arith in e) (none 0 p refl) in
         let rest = ports-none (node + 1) ports (λ n q at. subst (λ k. NoneOf (own_offers offers k q)) (let e : node + suc n ≡ (node + 1) + n = omega arith in e) (none (suc n) q at)) in (
           field-append own (port_offers offers (node + 1) ports) ∙ ap (λ l. l ++ of_field f (port_offers offers (node + 1) ports)) (field-none own here) ∙ rest.0,
-          ap (of_field f) (map-append (λ g. let x : Timed = record { time = 0; frame = g } in x) p.queue (queued ports))
+          ap (of_field f) (map-append (λ g. let x : TimedParts = record { time = 0; frame = g } in x) p.queue (queued ports))
               ∙ field-append (offered_first p.queue) (offered_first (queued ports))
               ∙ ap (λ l. l ++ of_field f (offered_first (queued ports))) (field-none (offered_first p.queue) (λ x there. here x (stands-front (offered_first p.queue) (offered_to node offers) x there)))
               ∙ rest.1,
@@ -92,7 +92,7 @@ module _ (f : Parts) where
         let rest = ports-none (node + 1) ports (λ n q there. subst (λ k. NoneOf (own_offers offers k q)) (let e : node + suc n ≡ (node + 1) + n = omega arith in e) (others (suc n) q (λ e. omega (arith, e)) there)) in (
           field-append own (port_offers offers (node + 1) ports) ∙ ap (λ l. of_field f own ++ l) rest.0 ∙ append-nil (of_field f own)
               ∙ ap (λ y. of_field f (own_offers offers node y)) same ∙ ap (λ k. of_field f (own_offers offers k p)) (let e : node ≡ node + 0 = omega arith in e),
-          ap (of_field f) (map-append (λ g. let y : Timed = record { time = 0; frame = g } in y) x.queue (queued ports))
+          ap (of_field f) (map-append (λ g. let y : TimedParts = record { time = 0; frame = g } in y) x.queue (queued ports))
               ∙ field-append (offered_first x.queue) (offered_first (queued ports)) ∙ ap (λ l. of_field f (offered_first x.queue) ++ l) rest.1
               ∙ append-nil (of_field f (offered_first x.queue)) ∙ ap (λ (y : PortState). of_field f (offered_first y.queue)) same,
         )
@@ -102,7 +102,7 @@ module _ (f : Parts) where
         let rest = ports-one (node + 1) ports m p at (λ n q other there. subst (λ k. NoneOf (own_offers offers k q)) (let e : node + suc n ≡ (node + 1) + n = omega arith in e) (others (suc n) q (λ e. other (omega (arith, e))) there)) in (
           field-append own (port_offers offers (node + 1) ports) ∙ ap (λ l. l ++ of_field f (port_offers offers (node + 1) ports)) (field-none own here) ∙ rest.0
               ∙ ap (λ k. of_field f (own_offers offers k p)) (let e : (node + 1) + m ≡ node + suc m = omega arith in e),
-          ap (of_field f) (map-append (λ g. let y : Timed = record { time = 0; frame = g } in y) x.queue (queued ports))
+          ap (of_field f) (map-append (λ g. let y : TimedParts = record { time = 0; frame = g } in y) x.queue (queued ports))
               ∙ field-append (offered_first x.queue) (offered_first (queued ports))
               ∙ ap (λ l. l ++ of_field f (offered_first (queued ports))) (field-none (offered_first x.queue) (λ y there. here y (stands-front (offered_first x.queue) (offered_to node offers) y there)))
               ∙ rest.1,
@@ -148,7 +148,7 @@ module _ (f : Parts) where
           let offer = made.0 in
           let port = port-there ports offer.node (offered-names (length ports) offers offered made.1.0 offer made.1.1) in
           let own : Lists (own_offers offers offer.node port.0) (timed offer) = stands-back (offered_first port.0.queue) (offered_to offer.node offers) (timed offer) (offer-stands offers made.1.0 offer made.1.1) in
-          subst (λ (y : Timed). Other f y.frame) made.2 (none offer.node port.0 port.1 (timed offer) (subst (λ k. Lists (own_offers offers k port.0) (timed offer)) (let e : offer.node ≡ 0 + offer.node = omega arith in e) own))))
+          subst (λ (y : TimedParts). Other f y.frame) made.2 (none offer.node port.0 port.1 (timed offer) (subst (λ k. Lists (own_offers offers k port.0) (timed offer)) (let e : offer.node ≡ 0 + offer.node = omega arith in e) own))))
           ∙ sym both.0
       | inr there ↦
           let m = there.0 in
@@ -167,8 +167,8 @@ module _ (f : Parts) where
     ]
 
 -- a port that holds no frame of the field
-pub none-holds : (f : Parts) (own : List Timed) → NoneOf f own → holds (frames_of own) f ≡ false
+pub none-holds : (f : Parts) (own : List TimedParts) → NoneOf f own → holds (frames_of own) f ≡ false
 none-holds f own none =
     holds-none f (frames_of own) (λ x has. (
-    let there = map-stands (λ (y : Timed). y.frame) own x (at-has x (frames_of own) has) in
+    let there = map-stands (λ (y : TimedParts). y.frame) own x (at-has x (frames_of own) has) in
     subst (Other f) there.2 (none there.0 there.1)))

@@ -10,11 +10,11 @@ use Rattle.can_bus.specs.declared.offer.Offer.{Offer}
 use Rattle.can_bus.specs.OpenBus.{all_offers, offered_first, offered_to, own_offers, timed}
 use Rattle.can_bus.specs.Offers.{AreOffered}
 use Rattle.can_bus.specs.Quiet.{queued}
-use Rattle.can_bus.specs.Schedule.{Timed}
+use Rattle.can_bus.specs.Schedule.{TimedParts}
 use Rattle.can_bus.proofs.PlayedRuns.{to-here, to-other}
 
 -- what these ports have to send, where the first has this number
-abbrev pub port_offers : List Offer → ℕ → List PortState → List Timed
+abbrev pub port_offers : List Offer → ℕ → List PortState → List TimedParts
 port_offers offers node [] = []
 port_offers offers node (p ∷ ports) = own_offers offers node p ++ port_offers offers (node + 1) ports
 
@@ -23,7 +23,7 @@ pub no-offers : (node : ℕ) (ports : List PortState) → port_offers [] node po
 no-offers node [] = refl
 no-offers node (p ∷ ports) =
     ap (λ own. own ++ port_offers [] (node + 1) ports) (append-nil (offered_first p.queue)) ∙ ap (λ l. offered_first p.queue ++ l) (no-offers (node + 1) ports)
-    ∙ sym (map-append (λ f. let x : Timed = record { time = 0; frame = f } in x) p.queue (queued ports))
+    ∙ sym (map-append (λ f. let x : TimedParts = record { time = 0; frame = f } in x) p.queue (queued ports))
 
 module _ (offer : Offer) (offers : List Offer) where
   -- an offer to a port before these

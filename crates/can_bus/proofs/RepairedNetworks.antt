@@ -14,15 +14,15 @@ use Rattle.can_bus.specs.Quiet.{AreDifferent, AtEachPort, CountsNothing, IsAscen
 use Rattle.can_bus.specs.Repair.{AreBorne, CountsAs, CountsFew, FallsInWindow, IsLow, IsRepairedCall, Tally, repaired_span, tally, tally_after}
 use Rattle.can_bus.specs.RepairedLine.{repaired_line_at}
 use Rattle.can_bus.specs.Run.{BusState, bus_level, bus_run}
-use Rattle.can_bus.specs.Schedule.{Timed, Lists, frames_of}
+use Rattle.can_bus.specs.Schedule.{TimedParts, Lists, frames_of}
 use Rattle.can_bus.proofs.CallLemmas.{call_bus-run, call_level-run}
 use Rattle.can_bus.proofs.Contests.{AllPorts}
 use Rattle.can_bus.proofs.CoursePlans.{AreLeft, left-ascending, plan-all, plan-count, plan-course, plan-frames, plan-hits, plan-tally, plan-track}
 use Rattle.can_bus.proofs.Members.{map-stands}
 use Rattle.can_bus.proofs.NetworkCalls.{port-at, network-active, network-counts, network-logs, network-missed, network-tally, network-track, network-unmoved, network-whole}
-use Rattle.can_bus.proofs.NextStarts.{AreApart}
+use Rattle.can_bus.proofs.NextStarts.{AllDiffer}
 use Rattle.can_bus.proofs.OpenAtOnce.{first-frames}
-use Rattle.can_bus.proofs.OpenNetworks.{apart-owned, quiet-low}
+use Rattle.can_bus.proofs.OpenNetworks.{differ-owned, quiet-low}
 use Rattle.can_bus.proofs.OpenStart.{OfFrames}
 use Rattle.can_bus.proofs.PortOffers.{no-offers}
 use Rattle.can_bus.proofs.RepairCounts.{plan-ended}
@@ -39,12 +39,12 @@ all-queued : (ports : List PortState) → frames_of (all_offers [] ports) ≡ qu
 all-queued ports = first-frames (queued ports) [] ∙ append-nil (queued ports)
 
 length-all : (ports : List PortState) → length (all_offers [] ports) ≡ length (queued ports)
-length-all ports = sym (length-map (all_offers [] ports) (λ (x : Timed). x.frame)) ∙ ap length (all-queued ports)
+length-all ports = sym (length-map (all_offers [] ports) (λ (x : TimedParts). x.frame)) ∙ ap length (all-queued ports)
 
-first-times : (queue : List Parts) (x : Timed) → Lists (offered_first queue ++ []) x → x.time ≡ 0
+first-times : (queue : List Parts) (x : TimedParts) → Lists (offered_first queue ++ []) x → x.time ≡ 0
 first-times queue x there =
-    let at = map-stands (λ f. let y : Timed = record { time = 0; frame = f } in y) queue x (subst (λ l. Lists l x) (append-nil (offered_first queue)) there) in
-    sym (ap (λ (y : Timed). y.time) at.2)
+    let at = map-stands (λ f. let y : TimedParts = record { time = 0; frame = f } in y) queue x (subst (λ l. Lists l x) (append-nil (offered_first queue)) there) in
+    sym (ap (λ (y : TimedParts). y.time) at.2)
 
 no-framed : OfFrames []
 no-framed n offer at = absurd (let h : None ≡ Some offer = at in cc)
@@ -93,9 +93,9 @@ module _ (hits : List Hit) (bus : BusState) (valid : AllPorts IsPort bus.ports) 
       room = omega (arith, ap length quiet.empty, quiet.room, length-all bus.ports);
     };
     room = λ n p at. let port = port-at IsPort bus.ports n p valid at in
-        omega (arith, port.queue_fits, sym (length-map (own_offers [] n p) (λ (x : Timed). x.frame)) ∙ ap length (own-queue n p));
+        omega (arith, port.queue_fits, sym (length-map (own_offers [] n p) (λ (x : TimedParts). x.frame)) ∙ ap length (own-queue n p));
     owned = λ m n p q less at there x y a b.
-        apart-owned [] 0 bus.ports (subst AreApart (append-nil (offered_first (queued bus.ports)) ∙ sym (no-offers 0 bus.ports)) (all-left.apart)) m n p q less at there x y a b;
+        differ-owned [] 0 bus.ports (subst AllDiffer (append-nil (offered_first (queued bus.ports)) ∙ sym (no-offers 0 bus.ports)) (all-left.apart)) m n p q less at there x y a b;
     within = λ n hit at. in-attempt hit (call.windows n hit at);
     apart = call.apart;
     is_course = plan-course planned.1 (all_offers [] bus.ports) call.ascending.rising all-left;

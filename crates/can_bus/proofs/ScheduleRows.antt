@@ -12,7 +12,8 @@ use Rattle.can_wire.specs.Crc.{crc_of}
 use Rattle.can_wire.specs.Stuffing.{stuffed}
 use Rattle.can_wire.specs.Wire.{head, unstuffed, stuffed_part}
 use Rattle.can_node.specs.Ports.{waiting}
-use Rattle.can_bus.specs.Schedule.{Timed, StartsAt, schedule, track_at}
+use Rattle.can_bus.specs.Quiet.{span}
+use Rattle.can_bus.specs.Schedule.{TimedParts, StartsAt, schedule, track_at}
 use Rattle.can_bus.specs.Waiting.{left_at, starts_between, ahead_of, busy_times, FindsFree}
 use Rattle.can_bus.proofs.Members.{stands-none, stands-cases}
 use Rattle.can_bus.proofs.RepairRows.{levels_of, frame_000, frame_001, frame_123, wire_000, wire_001, ones}
@@ -25,19 +26,19 @@ abbrev wire_009 : List Level
 wire_009 = levels_of (codes "0000010001001000001001111100000110000011011111111")
 
 -- a frame at a time
-abbrev at : ℕ → Parts → Timed
+abbrev at : ℕ → Parts → TimedParts
 at time f = record { time = time; frame = f }
 
 -- the first levels of a track
-abbrev levels : List Timed → ℕ → List Level
+abbrev levels : List TimedParts → ℕ → List Level
 levels starts count = map (track_at starts) (range_with_len 0 count)
 
 -- ---- offered while another frame is on the wire: it waits, though it goes before that
 
-abbrev late : List Timed
+abbrev late : List TimedParts
 late = at 0 frame_001 ∷ at 1 frame_000 ∷ []
 
-abbrev late_starts : List Timed
+abbrev late_starts : List TimedParts
 late_starts = at 0 frame_001 ∷ at 50 frame_000 ∷ []
 
 one_late : schedule late ≡ late_starts
@@ -50,10 +51,10 @@ one_late-levels = refl
 
 -- ---- offered in the last bit time of an intermission, and right behind it: the one that goes before the other starts
 
-abbrev two_late : List Timed
+abbrev two_late : List TimedParts
 two_late = at 0 frame_001 ∷ at 49 frame_009 ∷ at 50 frame_000 ∷ []
 
-abbrev two_late_starts : List Timed
+abbrev two_late_starts : List TimedParts
 two_late_starts = at 0 frame_001 ∷ at 50 frame_000 ∷ at 103 frame_009 ∷ []
 
 two_behind : schedule two_late ≡ two_late_starts
@@ -71,7 +72,7 @@ unfolding stuffed_part unstuffed stuffed crc_of head arbitration_field bits_of
 left_over = refl
 
 meanwhile : busy_times (starts_between 49 103 two_late_starts) ≡ 53
-unfolding stuffed_part unstuffed stuffed crc_of head arbitration_field bits_of
+unfolding span stuffed_part unstuffed stuffed crc_of head arbitration_field bits_of
 meanwhile = refl
 
 ahead : ahead_of frame_009 103 two_late ≡ at 0 frame_001 ∷ at 50 frame_000 ∷ []
@@ -79,12 +80,12 @@ unfolding arbitration_field bits_of
 ahead = refl
 
 ahead-busy : busy_times (ahead_of frame_009 103 two_late) ≡ 103
-unfolding stuffed_part unstuffed stuffed crc_of head arbitration_field bits_of
+unfolding span stuffed_part unstuffed stuffed crc_of head arbitration_field bits_of
 ahead-busy = refl
 
 -- ---- offered to a bus that rests
 
-abbrev spaced : List Timed
+abbrev spaced : List TimedParts
 spaced = at 3 frame_000 ∷ at 100 frame_001 ∷ []
 
 resting : schedule spaced ≡ spaced
@@ -100,13 +101,13 @@ found-free : left_at 100 spaced ≡ 0
 unfolding stuffed_part unstuffed stuffed crc_of head arbitration_field bits_of
 found-free = refl
 
-found-started : (x start : Timed) → StartsAt spaced spaced x start → Before (arbitration_field x.frame) (arbitration_field frame_001) → start.time < 100
+found-started : (x start : TimedParts) → StartsAt spaced spaced x start → Before (arbitration_field x.frame) (arbitration_field frame_001) → start.time < 100
 found-started x start starts before =
     elim (stands-cases (at 3 frame_000) (at 100 frame_001 ∷ []) start starts.is_start) [
-      | inl first ↦ let begun : 3 ≡ start.time = ap (λ (s : Timed). s.time) first in omega arith
+      | inl first ↦ let begun : 3 ≡ start.time = ap (λ (s : TimedParts). s.time) first in omega arith
       | inr later ↦ elim (stands-cases (at 100 frame_001) [] start later) [
         | inl second ↦
-            let same : x.frame ≡ frame_001 = sym starts.same ∙ sym (ap (λ (s : Timed). s.frame) second) in
+            let same : x.frame ≡ frame_001 = sym starts.same ∙ sym (ap (λ (s : TimedParts). s.frame) second) in
             absurd (Before-differs (arbitration_field x.frame) (arbitration_field frame_001) before (ap arbitration_field same))
         | inr none ↦ absurd (stands-none start none)
       ]

@@ -5,7 +5,8 @@ use Rattle.std.proofs.lemmas.Bool.{cond-true, cond-false, cases_Bool, le-leb, le
 use Rattle.can_frame.specs.declared.level.Level.{Level}
 use Rattle.can_frame.specs.declared.level.Level.TheVariants.{Recessive}
 use Rattle.can_wire.specs.Wire.{wire}
-use Rattle.can_bus.specs.Schedule.{Timed, Lists, IsSchedule, over, next, track_at, busy_time}
+use Rattle.can_bus.specs.Quiet.{busy_time}
+use Rattle.can_bus.specs.Schedule.{TimedParts, Lists, IsSchedule, over, next, track_at}
 use Rattle.can_bus.proofs.Members.{stands-none, stands-here, stands-later, stands-cases}
 use Rattle.can_bus.proofs.Schedules.{starts-free}
 use Rattle.std.proofs.lemmas.List.{get_or_past, length-append}
@@ -14,7 +15,7 @@ use Rattle.can_mac.specs.Frames.{with_intermission}
 
 -- ---- one start in front
 
-module _ (start : Timed) (starts : List Timed) (t : ℕ) where
+module _ (start : TimedParts) (starts : List TimedParts) (t : ℕ) where
   abbrev on_wire : Bool
   on_wire = nat_le start.time t && nat_lt t (start.time + length (wire start.frame))
 
@@ -41,7 +42,7 @@ module _ (start : Timed) (starts : List Timed) (t : ℕ) where
 -- ---- all starts
 
 -- where no wire lasts the track is recessive
-pub track-rests : (starts : List Timed) (t : ℕ) → ((s : Timed) → Lists starts s → s.time ≤ t → s.time + length (wire s.frame) ≤ t) → track_at starts t ≡ Recessive
+pub track-rests : (starts : List TimedParts) (t : ℕ) → ((s : TimedParts) → Lists starts s → s.time ≤ t → s.time + length (wire s.frame) ≤ t) → track_at starts t ≡ Recessive
 unfolding track_at
 track-rests [] t past = refl
 track-rests (start ∷ starts) t past =
@@ -52,12 +53,12 @@ track-rests (start ∷ starts) t past =
     ]
 
 -- in a start's wire the track is that wire
-pub track-wires : {free : ℕ} {left starts : List Timed} → IsSchedule free left starts → (s : Timed) → Lists starts s →
+pub track-wires : {free : ℕ} {left starts : List TimedParts} → IsSchedule free left starts → (s : TimedParts) → Lists starts s →
     (k : ℕ) → k < length (wire s.frame) → track_at starts (s.time + k) ≡ slice_index_or (wire s.frame) k Recessive
 track-wires (over free) s there k less = absurd (stands-none s there)
 track-wires (next free left rest start starts is others more) s there k less =
     elim (stands-cases start starts s there) [
-      | inl e ↦ subst (λ (x : Timed). k < length (wire x.frame) → track_at (start ∷ starts) (x.time + k) ≡ slice_index_or (wire x.frame) k Recessive) e first less
+      | inl e ↦ subst (λ (x : TimedParts). k < length (wire x.frame) → track_at (start ∷ starts) (x.time + k) ≡ slice_index_or (wire x.frame) k Recessive) e first less
       | inr later ↦ let behind = starts-free more s later in
           track-behind start starts (s.time + k) (omega arith) ∙ track-wires more s later k less
     ]
@@ -82,11 +83,11 @@ filled (x ∷ levels) m (suc t) = filled levels m t
 pub length-busy : (f : Parts) → length (with_intermission f) ≡ busy_time f
 length-busy f = length-append (wire f) (Recessive ∷ Recessive ∷ Recessive ∷ [])
 
-module _ (start : Timed) (starts : List Timed) where
+module _ (start : TimedParts) (starts : List TimedParts) where
   abbrev frame : Parts
   frame = start.frame
 
-  pub track-frame : ((s : Timed) → Lists starts s → start.time + busy_time frame ≤ s.time) → (k : ℕ) → k < length (with_intermission frame) →
+  pub track-frame : ((s : TimedParts) → Lists starts s → start.time + busy_time frame ≤ s.time) → (k : ℕ) → k < length (with_intermission frame) →
       track_at (start ∷ starts) (start.time + k) ≡ slice_index_or (with_intermission frame) k Recessive
   track-frame late k within =
       let size = length-busy frame in

@@ -9,10 +9,10 @@ use Rattle.can_wire.specs.Wire.{wire}
 use Rattle.can_node.specs.Ports.{waiting}
 use Rattle.can_node.specs.Waiting.{IsWaiting}
 use Rattle.can_hit.specs.declared.hit.Hit.{Hit}
-use Rattle.can_bus.specs.Quiet.{holds}
+use Rattle.can_bus.specs.Quiet.{holds, busy_time}
 use Rattle.can_bus.specs.Repair.{IsInWindow, Tally, hit_of, tallied}
 use Rattle.can_bus.specs.RepairedLine.{attempt_levels, lateness}
-use Rattle.can_bus.specs.Schedule.{Timed, Lists, busy_time, earliest, offered_by, without_offer}
+use Rattle.can_bus.specs.Schedule.{TimedParts, Lists, earliest, offered_by, without_offer}
 
 -- an attempt to send a frame: when it starts, which frame, and which of its levels is hit, if one is
 pub record Transmission : Type 0 where
@@ -26,23 +26,23 @@ abbrev pub hit_time : Parts → ℕ → ℕ
 hit_time f offset = offset + 18 + lateness f offset
 
 -- The next attempt sends f at this time, where these offers are left and the bus is free from a time on.
-pub record IsNext (free : ℕ) (left : List Timed) (time : ℕ) (f : Parts) : Type 0 where
+pub record IsNext (free : ℕ) (left : List TimedParts) (time : ℕ) (f : Parts) : Type 0 where
   -- the bus is free by then
   pub is_free : free ≤ time
   -- it starts no later than the bus is free and any frame that is left is offered (3.2.5)
-  pub soon : (x : Timed) → Lists left x → time ≤ max free x.time
+  pub soon : (x : TimedParts) → Lists left x → time ≤ max free x.time
   -- of the frames that are offered by then it sends the one that wins arbitration, of those of its field the first (2, 3.2.1)
   pub waits : IsWaiting (offered_by time left) f
 
 -- The course from the attempt of this number on, where these offers are left and the bus is free from this time on: one attempt after
 -- another, until no offer is left. One that isn't hit takes away the first offer of its arbitration field. One that is hit, in the window
 -- of its frame, takes none away: its frame is sent again (6). Behind each the bus is free when its last level is over.
-pub data IsCourse (hits : List Hit) : ℕ → ℕ → List Timed → List Transmission → Type 0 where
+pub data IsCourse (hits : List Hit) : ℕ → ℕ → List TimedParts → List Transmission → Type 0 where
   over : (number free : ℕ) → IsCourse hits number free [] []
-  sent : (number free time : ℕ) (f : Parts) (left : List Timed) (course : List Transmission) → IsNext free left time f → hit_of hits number ≡ None →
+  sent : (number free time : ℕ) (f : Parts) (left : List TimedParts) (course : List Transmission) → IsNext free left time f → hit_of hits number ≡ None →
       IsCourse hits (number + 1) (time + busy_time f) (without_offer f left) course →
       IsCourse hits number free left (record { time = time; frame = f; hit = None } ∷ course)
-  broken : (number free time : ℕ) (f : Parts) (offset : ℕ) (left : List Timed) (course : List Transmission) → IsNext free left time f → hit_of hits number ≡ Some offset →
+  broken : (number free time : ℕ) (f : Parts) (offset : ℕ) (left : List TimedParts) (course : List Transmission) → IsNext free left time f → hit_of hits number ≡ Some offset →
       IsInWindow f offset → IsCourse hits (number + 1) (time + hit_time f offset) left course →
       IsCourse hits number free left (record { time = time; frame = f; hit = Some offset } ∷ course)
 
@@ -69,8 +69,8 @@ and_hit None hits = hits
 and_hit (Some offset) hits = hits + 1
 
 -- the starts of a schedule, as attempts that aren't hit
-abbrev pub unhit : List Timed → List Transmission
-unhit starts = map (λ (s : Timed). let x : Transmission = record { time = s.time; frame = s.frame; hit = None } in x) starts
+abbrev pub unhit : List TimedParts → List Transmission
+unhit starts = map (λ (s : TimedParts). let x : Transmission = record { time = s.time; frame = s.frame; hit = None } in x) starts
 
 -- how many of them are hit
 abbrev pub hits_made : List Transmission → ℕ
@@ -111,7 +111,7 @@ attempt_of behind again time None (Some f) = record { time = time; frame = f; hi
 attempt_of behind again time (Some offset) (Some f) = record { time = time; frame = f; hit = Some offset } ∷ again f offset
 
 -- so many attempts at most, the first of which has this number, from a time on at which the bus is free
-abbrev pub course_from : ℕ → List Hit → ℕ → ℕ → List Timed → List Transmission
+abbrev pub course_from : ℕ → List Hit → ℕ → ℕ → List TimedParts → List Transmission
 course_from zero hits number free left = []
 course_from (suc count) hits number free [] = []
 course_from (suc count) hits number free (x ∷ others) =
@@ -121,7 +121,7 @@ course_from (suc count) hits number free (x ∷ others) =
     (λ f offset. course_from count hits (number + 1) (time + hit_time f offset) left) time (hit_of hits number) (waiting (offered_by time left))
 
 -- one attempt for each offer, and one more for each hit, at most
-unfoldable pub course_of : List Hit → List Timed → List Transmission
+unfoldable pub course_of : List Hit → List TimedParts → List Transmission
 course_of hits offers = course_from (length offers + length hits) hits 0 0 offers
 
 -- each hit falls in the window of the frame that its attempt sends

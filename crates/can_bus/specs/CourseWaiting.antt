@@ -7,12 +7,13 @@ use Rattle.can_frame.specs.Parts.{Parts}
 use Rattle.can_node.specs.Ports.{same_field}
 use Rattle.can_hit.specs.declared.hit.Hit.{Hit}
 use Rattle.can_bus.specs.Course.{IsCourse, Transmission, hit_time}
-use Rattle.can_bus.specs.Schedule.{Timed, busy_time, without_offer}
+use Rattle.can_bus.specs.Quiet.{busy_time}
+use Rattle.can_bus.specs.Schedule.{TimedParts, without_offer}
 use Rattle.can_bus.specs.Waiting.{ahead_of}
 
 -- of one arbitration field no offer is made earlier than one that stands before it
-abbrev pub AreInTime : List Timed → Type 0
-AreInTime offers = (m n : ℕ) (x y : Timed) → m < n → slice_get offers m ≡ Some x → slice_get offers n ≡ Some y →
+abbrev pub AreInTime : List TimedParts → Type 0
+AreInTime offers = (m n : ℕ) (x y : TimedParts) → m < n → slice_get offers m ≡ Some x → slice_get offers n ≡ Some y →
     arbitration_field x.frame ≡ arbitration_field y.frame → x.time ≤ y.time
 
 -- how long an attempt keeps the bus: its frame and the intermission, or what a hit makes of them
@@ -48,7 +49,7 @@ abbrev pub sent_attempts : List Transmission → List Transmission
 sent_attempts course = filter (λ s. not (was_hit s.hit)) course
 
 -- the offers of one arbitration field, and the attempts that send a frame of it
-abbrev pub of_field : Parts → List Timed → List Timed
+abbrev pub of_field : Parts → List TimedParts → List TimedParts
 of_field f offers = filter (λ x. same_field f x.frame) offers
 
 abbrev pub sends_of : Parts → List Transmission → List Transmission
@@ -56,27 +57,27 @@ sends_of f course = filter (λ s. same_field f s.frame && not (was_hit s.hit)) c
 
 -- The attempt sends the offer at this place: of those that send a frame of its field, it is the one before which as many are made as
 -- offers of the field stand before the offer.
-pub record IsSentBy (offers : List Timed) (course : List Transmission) (place : ℕ) (offer : Timed) (s : Transmission) : Type 0 where
+pub record IsSentBy (offers : List TimedParts) (course : List Transmission) (place : ℕ) (offer : TimedParts) (s : Transmission) : Type 0 where
   pub is_offer : slice_get offers place ≡ Some offer
   pub is_attempt : slice_get (sends_of offer.frame course) (length (of_field offer.frame (take place offers))) ≡ Some s
 
 -- what an attempt leaves of the offers, and what attempts leave, one after another
-abbrev pub left_by : Parts → Option ℕ → List Timed → List Timed
+abbrev pub left_by : Parts → Option ℕ → List TimedParts → List TimedParts
 left_by f None offers = without_offer f offers
 left_by f (Some offset) offers = offers
 
-abbrev pub left_behind : List Timed → List Transmission → List Timed
+abbrev pub left_behind : List TimedParts → List Transmission → List TimedParts
 left_behind offers [] = offers
 left_behind offers (s ∷ course) = left_behind (left_by s.frame s.hit offers) course
 
 -- The offers that go before the one at this place, which starts at this time, of those that are left when it is made: those that win
 -- arbitration against it and are made before it starts, and those of its field that stand before it.
-abbrev pub going_before : List Timed → List Transmission → ℕ → Timed → ℕ → List Timed
+abbrev pub going_before : List TimedParts → List Transmission → ℕ → TimedParts → ℕ → List TimedParts
 going_before offers course place offer start =
     let begun = attempts_between 0 offer.time course in
     ahead_of offer.frame start (left_behind offers begun) ++ of_field offer.frame (left_behind (take place offers) begun)
 
 -- what is claimed of each offer of a course, whose offers of one field come in time, and of the attempt that sends it
-abbrev pub OnWait : (List Hit → List Timed → List Transmission → ℕ → Timed → Transmission → Type 0) → Type 0
-OnWait Claim = (hits : List Hit) (offers : List Timed) (course : List Transmission) → IsCourse hits 0 0 offers course → AreInTime offers →
-    (place : ℕ) (offer : Timed) (s : Transmission) → IsSentBy offers course place offer s → Claim hits offers course place offer s
+abbrev pub OnWait : (List Hit → List TimedParts → List Transmission → ℕ → TimedParts → Transmission → Type 0) → Type 0
+OnWait Claim = (hits : List Hit) (offers : List TimedParts) (course : List Transmission) → IsCourse hits 0 0 offers course → AreInTime offers →
+    (place : ℕ) (offer : TimedParts) (s : Transmission) → IsSentBy offers course place offer s → Claim hits offers course place offer s

@@ -5,12 +5,12 @@ use Rattle.std.specs.List.{Any, Contains}
 use Rattle.can_frame.specs.declared.level.Level.{Level}
 use Rattle.can_frame.specs.Levels.{opposite}
 use Rattle.can_frame.specs.IdleRow.{idle_row}
-use Rattle.can_node.specs.Ports.{PortState, port_drives, port_step}
+use Rattle.can_node.specs.Ports.{PortState, port_drives, port_step, with_offer}
 use Rattle.can_hit.specs.declared.hit.Hit.{Hit}
 use Rattle.can_hit.specs.declared.hit.Hit.TheVariants.{View}
 use Rattle.can_bus.specs.declared.offer.Offer.{Offer}
 use Rattle.can_bus.specs.Disturbed.{FallsOnWire, level_then, rest_before}
-use Rattle.can_bus.specs.Offers.{is_full, with_offer}
+use Rattle.can_bus.specs.Offers.{is_full}
 use Rattle.can_bus.specs.Run.{BusState}
 use Rattle.can_bus.specs.Wired.{wired as wired_of}
 

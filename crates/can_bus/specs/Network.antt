@@ -17,7 +17,7 @@ use Rattle.can_bus.specs.OpenBus.{QueuesHaveRoom, all_offers, own_offers}
 use Rattle.can_bus.specs.Quiet.{IsPrefixOf, marked}
 use Rattle.can_bus.specs.Repair.{AreApart, IsLow, Tally}
 use Rattle.can_bus.specs.Run.{BusState, CallState, bus_step, call_begun, recorded}
-use Rattle.can_bus.specs.Schedule.{Lists, Timed, frames_of}
+use Rattle.can_bus.specs.Schedule.{Lists, TimedParts, frames_of}
 
 -- The call, one bit time after another.
 
@@ -55,7 +55,7 @@ pub record IsFit (entries : ℕ) (p : PortState) : Type 0 where
 -- each arbitration field belongs to one port: no two ports have frames of one field to send
 abbrev pub FieldsAreOwned : List Offer → List PortState → Type 0
 FieldsAreOwned offers ports = (m n : ℕ) (p q : PortState) → m < n → slice_get ports m ≡ Some p → slice_get ports n ≡ Some q →
-    (x y : Timed) → Lists (own_offers offers m p) x → Lists (own_offers offers n q) y → arbitration_field x.frame ≢ arbitration_field y.frame
+    (x y : TimedParts) → Lists (own_offers offers m p) x → Lists (own_offers offers n q) y → arbitration_field x.frame ≢ arbitration_field y.frame
 
 -- each hit falls within an attempt
 abbrev pub AreInAttempts : List Hit → Type 0

@@ -9,26 +9,26 @@ use Rattle.can_bus.specs.Offers.{AreOffered, all_made}
 use Rattle.can_bus.specs.Plans.{PlannedPort, planned}
 use Rattle.can_bus.specs.Quiet.{AreDifferent, IsPrefixOf, IsQuietPort, marked, queued}
 use Rattle.can_bus.specs.Run.{BusState}
-use Rattle.can_bus.specs.Schedule.{IsScheduleOf, Lists, Timed, frames_of}
+use Rattle.can_bus.specs.Schedule.{IsScheduleOf, Lists, TimedParts, frames_of}
 
 -- frames that wait as the call begins: each counts as an offer at time 0
-abbrev pub offered_first : List Parts → List Timed
+abbrev pub offered_first : List Parts → List TimedParts
 offered_first queue = map (λ f. record { time = 0; frame = f }) queue
 
 -- an offer, whatever its port
-abbrev pub timed : Offer → Timed
+abbrev pub timed : Offer → TimedParts
 timed offer = record { time = offer.time; frame = offer.frame }
 
 -- what is offered to the port of this number
-abbrev pub offered_to : ℕ → List Offer → List Timed
+abbrev pub offered_to : ℕ → List Offer → List TimedParts
 offered_to node offers = map timed (filter (λ offer. offer.node == node) offers)
 
 -- what the port of this number has to send, in this order
-abbrev pub own_offers : List Offer → ℕ → PortState → List Timed
+abbrev pub own_offers : List Offer → ℕ → PortState → List TimedParts
 own_offers offers node p = offered_first p.queue ++ offered_to node offers
 
 -- all frames: those that wait at the ports as the call begins, and those that are offered
-abbrev pub all_offers : List Offer → List PortState → List Timed
+abbrev pub all_offers : List Offer → List PortState → List TimedParts
 all_offers offers ports = offered_first (queued ports) ++ map timed offers
 
 -- each queue has room for what it holds and what is offered to its port
@@ -36,7 +36,7 @@ abbrev pub QueuesHaveRoom : List Offer → List PortState → Type 0
 QueuesHaveRoom offers ports = (n : ℕ) (p : PortState) → slice_get ports n ≡ Some p → length (own_offers offers n p) ≤ p.queue_room
 
 -- What the theorem asks of a bus, of the frames that are offered to it, and of their schedule.
-pub record IsOpenCall (offers : List Offer) (ports : List PortState) (starts : List Timed) : Type 0 where
+pub record IsOpenCall (offers : List Offer) (ports : List PortState) (starts : List TimedParts) : Type 0 where
   pub two : 2 ≤ length ports
   pub most : length ports ≤ 64
   -- the offers come in the order of their times, each to a port that is there
@@ -48,19 +48,19 @@ pub record IsOpenCall (offers : List Offer) (ports : List PortState) (starts : L
   pub scheduled : IsScheduleOf (all_offers offers ports) starts
 
 -- what is claimed of such a call, with the schedule of all frames
-abbrev pub OnOpenCall : List Offer → List PortState → (List Timed → Type 0) → Type 0
-OnOpenCall offers ports Claim = (starts : List Timed) → IsOpenCall offers ports starts → Claim starts
+abbrev pub OnOpenCall : List Offer → List PortState → (List TimedParts → Type 0) → Type 0
+OnOpenCall offers ports Claim = (starts : List TimedParts) → IsOpenCall offers ports starts → Claim starts
 
 -- the wires of all starts have ended by this time
-abbrev pub AreOver : List Timed → ℕ → Type 0
-AreOver starts t = (s : Timed) → Lists starts s → s.time + length (wire s.frame) ≤ t
+abbrev pub AreOver : List TimedParts → ℕ → Type 0
+AreOver starts t = (s : TimedParts) → Lists starts s → s.time + length (wire s.frame) ≤ t
 
 -- the log names the first of the frames that start, each as sent where the port had it to send
-abbrev pub OpenLogBegins : List Offer → List Timed → ℕ → PortState → PortState → Type 0
+abbrev pub OpenLogBegins : List Offer → List TimedParts → ℕ → PortState → PortState → Type 0
 OpenLogBegins offers starts node p q = IsPrefixOf q.log (marked (frames_of (own_offers offers node p)) (frames_of starts))
 
 -- the log names all of them
-abbrev pub OpenLogWhole : List Offer → List Timed → ℕ → PortState → PortState → Type 0
+abbrev pub OpenLogWhole : List Offer → List TimedParts → ℕ → PortState → PortState → Type 0
 OpenLogWhole offers starts node p q = q.log ≡ marked (frames_of (own_offers offers node p)) (frames_of starts)
 
 -- the bus, with the offers of time 0 made

@@ -32,9 +32,13 @@ unfoldable pub ascending : List Parts → List Parts
 ascending [] = []
 ascending (f ∷ frames) = inserted f (ascending frames)
 
+-- how long a frame keeps the bus: its wire, and three levels of intermission (3.2.5)
+abbrev pub busy_time : Parts → ℕ
+busy_time f = length (wire f) + 3
+
 -- how many bit times the frames take
 unfoldable pub span : List Parts → ℕ
-span frames = sum_by (λ f. length (wire f) + 3) frames
+span frames = sum_by busy_time frames
 
 -- the level at a time where the frames go out one after another, and the bus rests ever after
 unfoldable pub line_at : List Parts → ℕ → Level

@@ -10,30 +10,30 @@ ghost use Rattle.can_bus.specs.CourseWaiting.{AreInTime, IsSentBy, OnWait, attem
 ghost use Rattle.can_bus.specs.Network.{AreInAttempts};
 ghost use Rattle.can_bus.specs.Offers.{AreOffered};
 ghost use Rattle.can_bus.specs.OpenBus.{all_offers};
-ghost use Rattle.can_bus.specs.Quiet.{AreDifferent, ascending};
+ghost use Rattle.can_bus.specs.Quiet.{AreDifferent, ascending, busy_time};
 ghost use Rattle.can_bus.specs.Repair.{AreApart, FallInWindows, frame_of_attempt, hit_of};
-ghost use Rattle.can_bus.specs.Schedule.{AreAtOnce, IsScheduleOf, Lists, Timed, busy_time, frames_of, schedule};
+ghost use Rattle.can_bus.specs.Schedule.{AreAtOnce, IsScheduleOf, Lists, TimedParts, frames_of, schedule};
 ghost use Rattle.can_bus.specs.Waiting.{busy_times, left_at, starts_between};
 
 /// Offers and hits, at most one in an attempt, have one course at most. It is the one that is computed, if in that
 /// one each attempt that is hit is so in the window of its frame.
 pub fn one_course()
-    ensures exists { (hits : List Disturbance) (offers : List Timed) → AreInAttempts hits → AreApart 1 hits → HitInWindows (course_of hits offers) →
+    ensures exists { (hits : List Disturbance) (offers : List TimedParts) → AreInAttempts hits → AreApart 1 hits → HitInWindows (course_of hits offers) →
         IsCourse hits 0 0 offers (course_of hits offers) }
-    ensures only { (hits : List Disturbance) (offers : List Timed) (course : List Transmission) → AreInAttempts hits → AreApart 1 hits → IsCourse hits 0 0 offers course →
+    ensures only { (hits : List Disturbance) (offers : List TimedParts) (course : List Transmission) → AreInAttempts hits → AreApart 1 hits → IsCourse hits 0 0 offers course →
         (course ≡ course_of hits offers) × HitInWindows course }
 {}
 
 /// Where nothing is hit, and no two offers have one arbitration field, the course is the schedule.
 pub fn a_course_without_hits_is_a_schedule()
-    ensures from_schedule { (offers starts : List Timed) → IsScheduleOf offers starts → IsCourse [] 0 0 offers (unhit starts) }
-    ensures to_schedule { (offers : List Timed) (course : List Transmission) → AreDifferent (frames_of offers) → IsCourse [] 0 0 offers course → course ≡ unhit (schedule offers) }
+    ensures from_schedule { (offers starts : List TimedParts) → IsScheduleOf offers starts → IsCourse [] 0 0 offers (unhit starts) }
+    ensures to_schedule { (offers : List TimedParts) (course : List Transmission) → AreDifferent (frames_of offers) → IsCourse [] 0 0 offers course → course ≡ unhit (schedule offers) }
 {}
 
 /// Where all frames are offered at time 0, no two of one arbitration field, each attempt of the course sends the frame of the
 /// ascending list that its number tells, and is hit where its number says.
 pub fn a_course_at_once_ascends()
-    ensures { (hits : List Disturbance) (offers : List Timed) → AreDifferent (frames_of offers) → AreAtOnce offers →
+    ensures { (hits : List Disturbance) (offers : List TimedParts) → AreDifferent (frames_of offers) → AreAtOnce offers →
         FallInWindows (ascending (frames_of offers)) hits → AreApart 1 hits → (course : List Transmission) → IsCourse hits 0 0 offers course →
         (n : ℕ) (s : Transmission) → slice_get course n ≡ Some s → (frame_of_attempt (ascending (frames_of offers)) hits n ≡ Some s.frame) × (hit_of hits n ≡ s.hit) }
 {}
@@ -45,8 +45,8 @@ pub fn a_course_at_once_ascends()
 /// Without hits the terms are those of `waiting_is_bounded`.
 pub fn waiting_on_a_network_is_bounded()
     ensures in_time { (offers : List Offer) (ports : List PortState) → AreOffered (length ports) offers → AreInTime (all_offers offers ports) }
-    ensures sent { (hits : List Disturbance) (offers : List Timed) (course : List Transmission) → IsCourse hits 0 0 offers course →
-        (place : ℕ) (offer : Timed) → slice_get offers place ≡ Some offer →
+    ensures sent { (hits : List Disturbance) (offers : List TimedParts) (course : List Transmission) → IsCourse hits 0 0 offers course →
+        (place : ℕ) (offer : TimedParts) → slice_get offers place ≡ Some offer →
         (s : Transmission) × IsSentBy offers course place offer s × ((other : Transmission) → IsSentBy offers course place offer other → other ≡ s) }
     ensures own { OnWait (λ hits offers course place offer s. (s.frame ≡ offer.frame) × (s.hit ≡ None) × (offer.time ≤ s.time)) }
     ensures exact { OnWait (λ hits offers course place offer s.
@@ -57,8 +57,8 @@ pub fn waiting_on_a_network_is_bounded()
         s.time ≤ offer.time + left_on offer.time course + busy_times (going_before offers course place offer s.time) + kept_times (hit_attempts (attempts_between offer.time s.time course))) }
     ensures few { OnWait (λ hits offers course place offer s.
         length (sent_attempts (attempts_between offer.time s.time course)) ≤ length (going_before offers course place offer s.time)) }
-    ensures without_hits { (starts : List Timed) (t from until : ℕ) → (left_on t (unhit starts) ≡ left_at t starts)
+    ensures without_hits { (starts : List TimedParts) (t from until : ℕ) → (left_on t (unhit starts) ≡ left_at t starts)
         × (kept_times (attempts_between from until (unhit starts)) ≡ busy_times (starts_between from until starts)) }
-    ensures costs { (hits : List Disturbance) (offers : List Timed) (course : List Transmission) → IsCourse hits 0 0 offers course →
+    ensures costs { (hits : List Disturbance) (offers : List TimedParts) (course : List Transmission) → IsCourse hits 0 0 offers course →
         (s : Transmission) → IsMade course s → IsFrame s.frame → keeping s.frame s.hit ≤ busy_time s.frame + 13 }
 {}

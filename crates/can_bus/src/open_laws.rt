@@ -8,7 +8,7 @@ ghost use Rattle.can_bus.specs.OpenBus.{QueuesHaveRoom, IsOpenCall, IsOpenPlan, 
 ghost use Rattle.can_bus.specs.Plans.{PlannedPort, ready_port};
 ghost use Rattle.can_bus.specs.Quiet.{IsQuietCall, line_at, AtEachNode};
 ghost use Rattle.can_bus.specs.Run.{BusState, bus_level, bus_run};
-ghost use Rattle.can_bus.specs.Schedule.{AreAtOnce, Timed, frames_of, schedule, track_at};
+ghost use Rattle.can_bus.specs.Schedule.{AreAtOnce, TimedParts, frames_of, schedule, track_at};
 
 /// Where all frames are offered at time 0, a bus to which frames are offered is a quiet bus at which they
 /// all wait: the premises of `play` are those of `run`, and what `play` does is what `run` does. The frames
@@ -16,11 +16,11 @@ ghost use Rattle.can_bus.specs.Schedule.{AreAtOnce, Timed, frames_of, schedule, 
 /// the clauses of `play` are those of `run`, the marks in the logs included, as what a port has to send is
 /// what waits there.
 pub fn offers_at_once_are_quiet()
-    ensures to_quiet { (offers : List Offer) (ports : List PortState) (starts : List Timed) → AreAtOnce (map timed offers) → IsOpenCall offers ports starts →
+    ensures to_quiet { (offers : List Offer) (ports : List PortState) (starts : List TimedParts) → AreAtOnce (map timed offers) → IsOpenCall offers ports starts →
         IsQuietCall [] (all_made offers 0 ports) (frames_of starts) }
     ensures from_quiet { (offers : List Offer) (ports : List PortState) (frames : List Parts) → AreAtOnce (map timed offers) → AreOffered (length ports) offers → QueuesHaveRoom offers ports →
         IsQuietCall [] (all_made offers 0 ports) frames → IsOpenCall offers ports (schedule (all_offers offers ports)) }
-    ensures line { (offers : List Offer) (ports : List PortState) (starts : List Timed) → AreAtOnce (map timed offers) → IsOpenCall offers ports starts →
+    ensures line { (offers : List Offer) (ports : List PortState) (starts : List TimedParts) → AreAtOnce (map timed offers) → IsOpenCall offers ports starts →
         (t : ℕ) → track_at starts t ≡ line_at (frames_of starts) t }
     ensures queues { (offers : List Offer) (ports : List PortState) → AreAtOnce (map timed offers) → QueuesHaveRoom offers ports →
         AtEachNode (WaitsAt offers) ports (all_made offers 0 ports) }

@@ -1,13 +1,12 @@
 -- The run of a case: one port that shares the wire with the tester, bit time by bit time. (Bosch CAN 2.0 part B,
 -- section 2; docs/CONFORMANCE.md)
-use Rattle.std.specs.Prelude.{ℕ, zero, suc, ◌+◌, ◌==◌, nat_le, nat_lt, if◌then◌else◌, List, [], ◌∷◌, length, Option, Some, None, slice_get}
+use Rattle.std.specs.Prelude.{ℕ, zero, suc, ◌+◌, ◌==◌, nat_le, if◌then◌else◌, List, [], ◌∷◌, length, Option, Some, None, slice_get}
 use Rattle.can_frame.specs.declared.level.Level.{Level}
 use Rattle.can_frame.specs.declared.level.Level.TheVariants.{Dominant, Recessive}
-use Rattle.can_frame.specs.Parts.{Parts}
 use Rattle.can_mac.specs.declared.event.Event.{Event}
 use Rattle.can_mac.specs.State.{MacState, idle, joining}
 use Rattle.can_fault.specs.Counters.{state_of}
-use Rattle.can_node.specs.Ports.{PortState, fresh_port, port_offered, port_drives, port_event, port_holding, port_step}
+use Rattle.can_node.specs.Ports.{PortState, fresh_port, port_drives, port_event, port_holding, port_step, with_offer}
 use Rattle.can_conform.specs.declared.moment.Moment.{Moment}
 use Rattle.can_conform.specs.declared.script.Script.{Script}
 use Rattle.can_conform.specs.declared.script.Start.{Start}
@@ -42,10 +41,6 @@ met x p = port_step p (sees x p)
 abbrev pub told_of : TesterLevel → PortState → Option Event
 told_of x p = port_event p (sees x p)
 
--- a frame is offered: it waits behind the others, if there is room
-abbrev pub given : Parts → PortState → PortState
-given f p = if nat_lt (length p.queue) p.queue_room then port_offered f p else p
-
 -- n overload frames are asked for, at most two, in place of what was asked for before
 abbrev pub wished : ℕ → PortState → PortState
 wished n p = if nat_le n 2 then port_holding n p else p
@@ -57,7 +52,7 @@ all_handed hand (x ∷ xs) t p = all_handed hand xs t (if x.time == t then hand 
 
 -- the port in bit time t, once frames and wishes of that time were handed to it
 abbrev pub handed : Script → ℕ → PortState → PortState
-handed s t p = all_handed wished s.holds.items t (all_handed given s.offers.items t p)
+handed s t p = all_handed wished s.holds.items t (all_handed with_offer s.offers.items t p)
 
 -- ---- the run
 

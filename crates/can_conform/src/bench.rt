@@ -1,7 +1,7 @@
 //! The reference at its bench: it is played through a case bit time by bit time, and where it stands is kept.
 ghost use Rattle.std.specs.Prelude.{◌≡◌, ◌<◌, ◌+◌, ◌-◌, ◌^◌, ◌==◌, if◌then◌else◌, IfOk, Some};
-ghost use Rattle.can_node.specs.Ports.{port_drives};
-ghost use Rattle.can_conform.specs.Runs.{all_handed, given, handed, last_event as last_event_of, met, moment_at, next_rule, told_of, wished};
+ghost use Rattle.can_node.specs.Ports.{port_drives, with_offer};
+ghost use Rattle.can_conform.specs.Runs.{all_handed, handed, last_event as last_event_of, met, moment_at, next_rule, told_of, wished};
 ghost use Rattle.can_conform.specs.Standings.{part_of, phase_name as phase_name_of};
 ghost use Rattle.can_conform.specs.Walks.{Stands};
 
@@ -26,7 +26,7 @@ pub(crate) struct Bench {
 
 /// Offers the frames of this time, in their order.
 fn offer_all<P: Port>(port: &mut P, offers: &[Timed<Frame>], time: u32)
-    ensures { P.port port.new ≡ all_handed given offers.now time (P.port port.old) }
+    ensures { P.port port.new ≡ all_handed with_offer offers.now time (P.port port.old) }
 {
     for offer in offers {
         offer_at(port, offer, time);
@@ -35,7 +35,7 @@ fn offer_all<P: Port>(port: &mut P, offers: &[Timed<Frame>], time: u32)
 
 /// Offers a frame, if this is its time.
 fn offer_at<P: Port>(port: &mut P, offer: &Timed<Frame>, time: u32)
-    ensures { P.port port.new ≡ (if offer.now.time == time then given offer.now.told (P.port port.old) else P.port port.old) }
+    ensures { P.port port.new ≡ (if offer.now.time == time then with_offer offer.now.told (P.port port.old) else P.port port.old) }
 {
     if offer.time == time {
         let _ = port.offer(offer.told);

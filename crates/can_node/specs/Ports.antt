@@ -98,6 +98,10 @@ IsAtRest p = (p.mac.phase ≡ Idle) × (waiting p.queue ≡ None)
 abbrev pub port_offered : Parts → PortState → PortState
 port_offered f p = record p { queue = p.queue ++ f ∷ [] }
 
+-- a frame is offered: it waits behind the others, if there is room
+abbrev pub with_offer : Parts → PortState → PortState
+with_offer f p = if nat_lt (length p.queue) p.queue_room then port_offered f p else p
+
 -- the frames of a list are offered, one after another
 abbrev pub all_offered : List Parts → PortState → PortState
 all_offered [] p = p

@@ -10,10 +10,10 @@ use Rattle.std.proofs.lemmas.List.{get_or_append_left, length-append}
 use Rattle.std.proofs.lemmas.Option.{get_or_from_slice_get, slice_get-get_or, slice_get-map, slice_get_within}
 use Rattle.can_frame.specs.declared.level.Level.{Level}
 use Rattle.can_frame.specs.declared.level.Level.TheVariants.{Recessive}
-use Rattle.can_node.specs.Ports.{PortState, port_step}
+use Rattle.can_node.specs.Ports.{PortState, port_step, with_offer}
 use Rattle.can_hit.specs.declared.hit.Hit.{Hit}
 use Rattle.can_bus.specs.declared.offer.Offer.{Offer}
-use Rattle.can_bus.specs.Offers.{AreOffered, all_made, made, played, played_level, with_offer}
+use Rattle.can_bus.specs.Offers.{AreOffered, all_made, made, played, played_level}
 use Rattle.can_bus.specs.Run.{BusState, all_sampled, bus_after, bus_level, bus_run, bus_step, call_begun, hits_view, inverted_if, recorded}
 use Rattle.can_port_times.specs.PortTimes.{AreSeen, bus_by, first_port, level_seen, offers_meanwhile, own_made, seen_by, told, told_from}
 use Rattle.can_scenario.specs.Report.{level_by, levels_until, made_bus, made_port, recorded_levels, waiting_bus, waiting_port}

@@ -8,10 +8,10 @@ use Rattle.can_mac.specs.declared.phase.Phase.TheVariants.{Joining, Idle, Stuffe
 use Rattle.can_mac.specs.declared.phase.Role.{Role}
 use Rattle.can_mac.specs.declared.phase.Role.TheVariants.{Receiver, Sender}
 use Rattle.can_mac.specs.State.{MacPhase}
-use Rattle.can_node.specs.Ports.{PortState, port_drives, port_event, port_step}
+use Rattle.can_node.specs.Ports.{PortState, port_drives, port_event, port_step, with_offer}
 use Rattle.can_hit.specs.declared.hit.Hit.{Hit}
 use Rattle.can_bus.specs.declared.offer.Offer.{Offer}
-use Rattle.can_bus.specs.Offers.{all_made, played, with_offer}
+use Rattle.can_bus.specs.Offers.{all_made, played}
 use Rattle.can_bus.specs.Run.{BusState, bus_run, hits_view, inverted_if}
 use Rattle.can_scenario.specs.Report.{level_by, made_bus, made_port, waiting_bus, waiting_port}
 use Rattle.can_scenario.specs.ScenarioOffers.{scenario_offers}

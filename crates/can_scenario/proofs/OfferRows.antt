@@ -11,7 +11,7 @@ use Rattle.can_node.specs.declared.entry.Entry.{Entry}
 use Rattle.can_node.specs.Ports.{waiting}
 use Rattle.can_bus.specs.declared.offer.Offer.{Offer}
 use Rattle.can_bus.specs.OpenBus.{timed}
-use Rattle.can_bus.specs.Schedule.{Timed, frames_of, schedule}
+use Rattle.can_bus.specs.Schedule.{TimedParts, frames_of, schedule}
 use Rattle.can_scenario.specs.OpenReport.{quiet_port}
 use Rattle.can_scenario.specs.Report.{PortReport}
 use Rattle.can_scenario.specs.ScenarioOffers.{in_time}
@@ -42,7 +42,7 @@ unfolding in_time
 at_one_time = refl
 
 -- `S 009 D 0` is offered in the last bit time of the first frame's intermission, and `S 000 D 0` behind it
-abbrev starts : List Timed
+abbrev starts : List TimedParts
 starts = record { time = 0; frame = frame 1 } ∷ record { time = 50; frame = frame 0 } ∷ record { time = 103; frame = frame 9 } ∷ []
 
 starts-are : schedule (map timed (offer 0 0 1 ∷ offer 49 1 9 ∷ offer 50 0 0 ∷ [])) ≡ starts

@@ -17,7 +17,7 @@ use Rattle.can_bus.specs.Offers.{AreOffered, played, played_level}
 use Rattle.can_bus.specs.OpenBus.{AreOver, IsOpenCall, OpenLogWhole, QueuesHaveRoom, all_offers, offered_to, own_offers, timed}
 use Rattle.can_bus.specs.Quiet.{AreDifferent, AtEachPort, CountsNothing, IsQuietPort, MissesNothing, holds, marked, queued, AtEachNode}
 use Rattle.can_bus.specs.Run.{BusState}
-use Rattle.can_bus.specs.Schedule.{IsScheduleOf, Timed, frames_of, track_at}
+use Rattle.can_bus.specs.Schedule.{IsScheduleOf, TimedParts, frames_of, track_at}
 use Rattle.can_bus.proofs.CourseSchedules.{one-schedule}
 use Rattle.can_bus.proofs.Ascending.{different_permuted}
 use Rattle.can_bus.proofs.Contests.{AllPorts}
@@ -108,11 +108,11 @@ module _ (s : Scenario) (is : IsOpenScenario s) where
   abbrev offers : List Offer
   offers = scenario_offers s
 
-  abbrev starts : List Timed
+  abbrev starts : List TimedParts
   starts = scenario_starts s
 
   all-are : all_offers offers ports ≡ map timed offers
-  all-are = ap (λ fs. map (λ (f : Parts). let x : Timed = record { time = 0; frame = f } in x) fs ++ map timed offers) (nothing-queued plans)
+  all-are = ap (λ fs. map (λ (f : Parts). let x : TimedParts = record { time = 0; frame = f } in x) fs ++ map timed offers) (nothing-queued plans)
 
   different : AreDifferent (frames_of (map timed offers))
   different =
@@ -120,7 +120,7 @@ module _ (s : Scenario) (is : IsOpenScenario s) where
 
   size : length (all_offers offers ports) ≡ length (all_frames (queues s))
   size =
-      ap length all-are ∙ sym (length-map (map timed offers) (λ (x : Timed). x.frame))
+      ap length all-are ∙ sym (length-map (map timed offers) (λ (x : TimedParts). x.frame))
       ∙ sym (length_permutation (frames_of (map timed offers)) (all_frames (queues s)) (all-permuted plans))
 
   -- the premises of the theorem
@@ -235,9 +235,9 @@ played-told s is levels after recorded ended size known logs counters missed =
 -- and from what a bus promises that is played
 pub scheduled-told : (s : Scenario) (is : IsOpenScenario s) (levels : List Level) (offers : List Offer) (before after : List PortState) →
     offers ≡ scenario_offers s → before ≡ map made_port s.ports.items → levels ≡ recorded_levels s → after ≡ (ended_bus s).ports → length levels ≡ s.bits → AreOver (scenario_starts s) s.bits →
-    ((starts : List Timed) → IsOpenCall offers before starts → (t : ℕ) → t < length levels → slice_get levels t ≡ Some (track_at starts t)) →
-    ((starts : List Timed) → IsOpenCall offers before starts → AreOver starts (length levels) → AtEachNode (OpenLogWhole offers starts) before after) →
-    ((starts : List Timed) → IsOpenCall offers before starts → AtEachPort CountsNothing before after) → ((starts : List Timed) → IsOpenCall offers before starts → AtEachPort MissesNothing before after) →
+    ((starts : List TimedParts) → IsOpenCall offers before starts → (t : ℕ) → t < length levels → slice_get levels t ≡ Some (track_at starts t)) →
+    ((starts : List TimedParts) → IsOpenCall offers before starts → AreOver starts (length levels) → AtEachNode (OpenLogWhole offers starts) before after) →
+    ((starts : List TimedParts) → IsOpenCall offers before starts → AtEachPort CountsNothing before after) → ((starts : List TimedParts) → IsOpenCall offers before starts → AtEachPort MissesNothing before after) →
     report s ≡ open_report s.bits (scenario_starts s) (queues s)
 scheduled-told s is levels offers before after are from recorded ended size past track whole counters missed =
     let starts = scenario_starts s in

@@ -10,7 +10,7 @@ use Rattle.std.proofs.lemmas.List.Sorted.{IsPermutation-map, length_permutation}
 use Rattle.can_frame.specs.Parts.{Parts}
 use Rattle.can_bus.specs.declared.offer.Offer.{Offer}
 use Rattle.can_bus.specs.OpenBus.{offered_to, timed}
-use Rattle.can_bus.specs.Schedule.{Timed, frames_of}
+use Rattle.can_bus.specs.Schedule.{TimedParts, frames_of}
 use Rattle.can_bus.proofs.Members.{Stands, map-stands, stands-either, stands-here, stands-later, stands-none}
 use Rattle.can_scenario_text.specs.declared.scenario.PortPlan.{PortPlan}
 use Rattle.can_scenario_text.specs.declared.scenario.TimedFrame.{TimedFrame}
@@ -80,13 +80,13 @@ module _ (plans : List PortPlan) (n : ℕ) (plan : PortPlan) (there : slice_get 
   own-permuted =
       subst (IsPermutation (frames_of (offered_to n (in_time (offers_from 0 plans)))))
       (ap (λ os. frames_of (map timed os)) own-is ∙ queue-frames n plan.queue.items)
-      (IsPermutation-map (λ (x : Timed). x.frame) (offered_to n (in_time (offers_from 0 plans))) (map timed (filter (is_to n) (offers_from 0 plans)))
+      (IsPermutation-map (λ (x : TimedParts). x.frame) (offered_to n (in_time (offers_from 0 plans))) (map timed (filter (is_to n) (offers_from 0 plans)))
       (IsPermutation-map timed (filter (is_to n) (in_time (offers_from 0 plans))) (filter (is_to n) (offers_from 0 plans)) (in_time-filter (is_to n) (offers_from 0 plans))))
 
   -- as many
   pub own-size : length (offered_to n (in_time (offers_from 0 plans))) ≡ length plan.queue.items
   own-size =
-      sym (length-map (offered_to n (in_time (offers_from 0 plans))) (λ (x : Timed). x.frame))
+      sym (length-map (offered_to n (in_time (offers_from 0 plans))) (λ (x : TimedParts). x.frame))
       ∙ sym (length_permutation (frames_of (offered_to n (in_time (offers_from 0 plans)))) (frames_of_queue plan) own-permuted)
       ∙ length-map plan.queue.items (λ (x : TimedFrame). x.frame)
 
@@ -96,14 +96,14 @@ all-frames : (number : ℕ) (plans : List PortPlan) → frames_of (map timed (of
 all-frames number [] = refl
 all-frames number (plan ∷ plans) =
     ap frames_of (map-append timed (map (offer_to number) plan.queue.items) (offers_from (number + 1) plans))
-    ∙ map-append (λ (x : Timed). x.frame) (map timed (map (offer_to number) plan.queue.items)) (map timed (offers_from (number + 1) plans))
+    ∙ map-append (λ (x : TimedParts). x.frame) (map timed (map (offer_to number) plan.queue.items)) (map timed (offers_from (number + 1) plans))
     ∙ ap (λ fs. fs ++ frames_of (map timed (offers_from (number + 1) plans))) (queue-frames number plan.queue.items)
     ∙ ap (λ fs. frames_of_queue plan ++ fs) (all-frames (number + 1) plans)
 
 pub all-permuted : (plans : List PortPlan) → IsPermutation (frames_of (map timed (in_time (offers_from 0 plans)))) (all_frames (map frames_of_queue plans))
 all-permuted plans =
     subst (IsPermutation (frames_of (map timed (in_time (offers_from 0 plans))))) (all-frames 0 plans)
-    (IsPermutation-map (λ (x : Timed). x.frame) (map timed (in_time (offers_from 0 plans))) (map timed (offers_from 0 plans))
+    (IsPermutation-map (λ (x : TimedParts). x.frame) (map timed (in_time (offers_from 0 plans))) (map timed (offers_from 0 plans))
     (IsPermutation-map timed (in_time (offers_from 0 plans)) (offers_from 0 plans) (in_time-permuted (offers_from 0 plans))))
 
 -- each offer names a port

@@ -11,7 +11,7 @@ use Rattle.can_wire.specs.Wire.{wire}
 use Rattle.can_bus.specs.declared.offer.Offer.{Offer}
 use Rattle.can_bus.specs.OpenBus.{AreOver, timed}
 use Rattle.can_bus.specs.Quiet.{AreDifferent, ascending, line_at, span}
-use Rattle.can_bus.specs.Schedule.{AreAtOnce, IsSchedule, Lists, Timed, frames_of, next, over, track_at}
+use Rattle.can_bus.specs.Schedule.{AreAtOnce, IsSchedule, Lists, TimedParts, frames_of, next, over, track_at}
 use Rattle.can_bus.proofs.CourseSchedules.{one-schedule}
 use Rattle.can_bus.proofs.Ascending.{ascending_permuted, different_permuted}
 use Rattle.can_bus.proofs.AtOnce.{at_once-frames, at_once-line}
@@ -44,31 +44,31 @@ first-offers plans first =
 pub offers-at_once : (s : Scenario) → All AreFirst s.ports.items → AreAtOnce (map timed (scenario_offers s))
 offers-at_once s first x there =
     let made = map-stands timed (scenario_offers s) x there in
-    sym (ap (λ (y : Timed). y.time) made.2)
+    sym (ap (λ (y : TimedParts). y.time) made.2)
     ∙ first-offers s.ports.items first made.0 (stands-permuted (scenario_offers s) (offers_from 0 s.ports.items) made.0 (in_time-permuted (offers_from 0 s.ports.items)) made.1)
 
 -- ---- how long the starts take
 
 -- starts of offers at time 0 adjoin
-over-at_once : {free : ℕ} {left starts : List Timed} → IsSchedule free left starts → AreAtOnce left → (s : Timed) → Lists starts s → s.time + length (wire s.frame) ≤ free + span (frames_of starts)
+over-at_once : {free : ℕ} {left starts : List TimedParts} → IsSchedule free left starts → AreAtOnce left → (s : TimedParts) → Lists starts s → s.time + length (wire s.frame) ≤ free + span (frames_of starts)
 unfolding span
 over-at_once (over free) all s there = absurd (stands-none s there)
 over-at_once (next free left rest start starts is others more) all s there =
-    let offered : Timed = record { time = is.offered; frame = start.frame } in
+    let offered : TimedParts = record { time = is.offered; frame = start.frame } in
     let soon = is.soon offered is.left_over in
     let at = all offered is.left_over in
     let after = is.is_free in
     let from : start.time ≡ free = omega arith in
     let whole : span (frames_of (start ∷ starts)) ≡ length (wire start.frame) + 3 + span (frames_of starts) = sum_by-cons (λ (f : Parts). length (wire f) + 3) start.frame (frames_of starts) in
     elim (stands-cases start starts s there) [
-      | inl same ↦ subst (λ (x : Timed). x.time + length (wire x.frame) ≤ free + span (frames_of (start ∷ starts))) same (omega (arith, whole, from))
+      | inl same ↦ subst (λ (x : TimedParts). x.time + length (wire x.frame) ≤ free + span (frames_of (start ∷ starts))) same (omega (arith, whole, from))
       | inr later ↦ let ends = over-at_once more (λ x s. all x (rest-left start.frame left rest others x s)) s later in omega (arith, whole, from, ends)
     ]
 
 -- ---- the report
 
 module _ (s : Scenario) (is : IsQuietScenario s) where
-  abbrev offers : List Timed
+  abbrev offers : List TimedParts
   offers = map timed (scenario_offers s)
 
   abbrev frames : List Parts

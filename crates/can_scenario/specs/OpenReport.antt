@@ -6,7 +6,7 @@ use Rattle.can_frame.specs.Parts.{Parts}
 use Rattle.can_fault.specs.declared.state.State.TheVariants.{Active}
 use Rattle.can_bus.specs.OpenBus.{timed}
 use Rattle.can_bus.specs.Quiet.{AreDifferent, marked}
-use Rattle.can_bus.specs.Schedule.{Timed, frames_of, schedule, track_at}
+use Rattle.can_bus.specs.Schedule.{TimedParts, frames_of, schedule, track_at}
 use Rattle.can_scenario_text.specs.declared.scenario.Scenario.{Scenario}
 use Rattle.can_scenario_text.specs.declared.scenario.PortPlan.{PortPlan}
 use Rattle.can_scenario.specs.Report.{PortReport, frames_of_queue, levels_until, report_text}
@@ -33,7 +33,7 @@ pub record IsOpenScenario (s : Scenario) : Type 0 where
   pub different : AreDifferent (all_frames (queues s))
 
 -- which frame starts when, by the schedule of the offers
-abbrev pub scenario_starts : Scenario → List Timed
+abbrev pub scenario_starts : Scenario → List TimedParts
 scenario_starts s = schedule (map timed (scenario_offers s))
 
 -- a port that has sent the frames of its own queue, and taken all others
@@ -42,5 +42,5 @@ quiet_port frames queue = record { state = Active; tec = 0; rec = 0; missed = 0;
 
 -- the report of an open bus with these starts, after so many bit times, at whose ports these frames were offered: the track of the
 -- starts, and at each port all frames, in the order in which they start
-abbrev pub open_report : ℕ → List Timed → List (List Parts) → List ℕ
+abbrev pub open_report : ℕ → List TimedParts → List (List Parts) → List ℕ
 open_report bits starts queues = report_text (levels_until (track_at starts) bits) (map (quiet_port (frames_of starts)) queues)

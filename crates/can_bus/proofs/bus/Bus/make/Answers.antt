@@ -1,6 +1,6 @@
 use Rattle.std.specs.Prelude.{nat_le, not}
 use Rattle.std.proofs.Common.{length, sym, ap, ◌∙◌}
-use Rattle.can_bus.specs.Offers.{with_offer}
+use Rattle.can_node.specs.Ports.{with_offer}
 use Rattle.can_bus.proofs.OfferLemmas.{made-here, full-here, offer-made}
 use Rattle.can_bus.proofs.bus.Bus.make.Goals as goal
 
