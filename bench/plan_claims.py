@@ -26,6 +26,7 @@ class HitRate(NamedTuple):
     spacing: int
 
     def most(self, long: int) -> int:
+        """How many there are at most in so many bit times."""
         return self.burst + (long // self.spacing if self.spacing else 0)
 
 
@@ -63,14 +64,17 @@ def bound(messages: list[Message], place: int, rate: HitRate, limit: int) -> int
         hits = rate.most(long + widest - 5) * (widest + 13)
         return time + sum(arrivals(message, long) * message.longest for message in some) + hits
 
+    def delay(instance: int) -> int | None:
+        before = blocking + instance * own.longest
+        return least(lambda w: demand(before, higher, w + 1), 0, limit)
+
     busy = least(lambda long: demand(blocking, [own, *higher], long), 1, limit)
     if busy is None:
         return None
     most = 0
     for instance in range(arrivals(own, busy)):
-        before = blocking + instance * own.longest
-        delay = least(lambda w, before=before: demand(before, higher, w + 1), 0, limit)  # type: ignore[misc]
-        if delay is None:
+        start = delay(instance)
+        if start is None:
             return None
-        most = max(most, own.jitter + delay + own.longest - 3 - instance * own.period)
+        most = max(most, own.jitter + start + own.longest - 3 - instance * own.period)
     return most

@@ -8,9 +8,6 @@ use Rattle.can_plan.specs.Analysis.{Ranking, arrivals, blocking, widest, demand,
 use Rattle.can_plan.proofs.Growth.{arrivals-grow}
 
 module _ (rate : HitRate) (limit : ℕ) (ranking : Ranking) where
-  most : ℕ → ℕ
-  most = most_hits rate
-
   -- so many frames end within the bound, and no lesser bound would do
   abbrev pub IsSoFar : ℕ → ℕ → Type 0
   IsSoFar bound q = ((k : ℕ) → k < q → (d : ℕ) × (d ≤ limit) × IsDelay (most_hits rate) ranking bound k d) × ((other : ℕ) → IsBound (most_hits rate) limit ranking other → bound ≤ other)
@@ -38,13 +35,6 @@ module _ (rate : HitRate) (limit : ℕ) (ranking : Ranking) where
     busy-from n some h = let P : ℕ → ℕ → Type 0 = λ b w. demand (most_hits rate) b w (ranking.message ∷ ranking.higher) n ≤ n in
         (some, subst (λ b. P b wide) (sym is_block) (subst (λ w. P (blocking ranking) w) (sym is_wide) h))
 
-    pub none-busy : ((n : ℕ) → 0 < n → demand (most_hits rate) block wide (ranking.message ∷ ranking.higher) n ≤ n → limit < n) → (other : ℕ) → IsBound (most_hits rate) limit ranking other → ⊥
-    none-busy none other b =
-        let h = busy-from b.long b.some b.busy in
-        let past = none b.long b.some h.1 in
-        let within = b.limited in
-        absurd (omega arith)
-
     module _ (periodic : 0 < ranking.message.period) (long : ℕ) (within : long ≤ limit)
         (least : IsLeast (λ n. (0 < n) × (demand (most_hits rate) block wide (ranking.message ∷ ranking.higher) n ≤ n)) long) where
       -- each bound speaks of this frame
@@ -58,9 +48,6 @@ module _ (rate : HitRate) (limit : ℕ) (ranking : Ranking) where
           let past = none each.0 (enough-from q each.0 each.2.delays) in
           let h = each.1 in
           absurd (omega arith)
-
-      pub none-yet : IsSoFar 0 0
-      none-yet = (λ k h. absurd (omega arith), λ other b. omega arith)
 
       pub one-more : (bound q end : ℕ) → q < arrivals ranking.message long → IsSoFar bound q →
           (d : ℕ) × (d ≤ limit) × IsLeast (λ n. demand (most_hits rate) (block + q * ranking.message.longest) wide ranking.higher (n + 1) ≤ n) d
@@ -90,8 +77,9 @@ module _ (rate : HitRate) (limit : ℕ) (ranking : Ranking) where
               let e = found.3 in
               omega arith
 
-      pub least-bound : (bound : ℕ) → IsSoFar bound (arrivals ranking.message long) → IsLeastBound (most_hits rate) limit ranking bound
-      least-bound bound so_far = record {
-        is = record { long = long; some = least.is.0; busy = busy-to long least.is; limited = within; each = so_far.0 };
+      -- where all of them do, it is the least bound
+      pub least-bound : (bound count : ℕ) → IsSoFar bound count → count ≡ arrivals ranking.message long → IsLeastBound (most_hits rate) limit ranking bound
+      least-bound bound count so_far all = record {
+        is = record { long = long; some = least.is.0; busy = busy-to long least.is; limited = within; each = λ q few. so_far.0 q (omega (arith, few, all)) };
         least = so_far.1;
       }

@@ -39,10 +39,10 @@ blocking r = greatest (λ m. m.longest - 1) r.lower
 abbrev pub widest : Ranking → ℕ
 widest r = greatest (λ m. m.longest) (r.message ∷ r.higher)
 
--- What hits cost in attempts that begin within L bit times. One in an attempt at a frame that keeps the bus for C falls at the sixth bit time from its
--- end at the latest (the last but one of the end of frame, with intermission behind it), so C - 5 bit times lie before it, and within
--- L + M - 5 are all of these hits. The bus is free again 18 bit times behind it, and up to six more where receivers are late, which they
--- are only in the stuffed part, which ends 13 bit times before C does: C + 13 in all at most, instead of C.
+-- What hits cost in attempts that begin within L bit times. A hit falls at the last but one level of the end of frame at the latest, C - 5 bit
+-- times behind the start of its attempt, so L + M - 5 bit times have all of these hits. From the hit on it takes 18 bit times until the bus is
+-- free again: that level, six of an error flag, and eleven of delimiter and intermission. Up to six more it takes where receivers are late, but
+-- they are so in the stuffed part alone, which is over 13 bit times before C is: so C - 14 + 24, or C - 5 + 18, which is C + 13.
 abbrev pub hits_cost : (ℕ → ℕ) → ℕ → ℕ → ℕ
 hits_cost most widest long = most (long + widest - 5) * (widest + 13)
 

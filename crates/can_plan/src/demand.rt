@@ -5,6 +5,12 @@ ghost use Rattle.can_plan.specs.Messages.{ArePeriodic, most_hits as most_hits_of
 
 use crate::message::{HitRate, Message};
 
+/// How many bit times before the end of the frame's time on the bus a hit falls at the latest.
+const LEFT_BEHIND_HIT: u64 = 5;
+
+/// How many bit times longer than its frame's time on the bus an attempt takes at most that is hit.
+const HIT_COST: u64 = 13;
+
 /// How many frames of a message are offered at most in a stretch of so many bit times.
 pub(crate) fn arrivals(message: &Message, long: u64) -> u64
     requires periodic { 0 < message.now.period }
@@ -86,7 +92,7 @@ fn hits_cost(rate: &HitRate, widest: u16, long: u64) -> u64
     ensures range { result < 2 ^ 52 }
 {
     let widest = u64::from(widest);
-    most_hits(rate, (long + widest).saturating_sub(5)) * (widest + 13)
+    most_hits(rate, (long + widest).saturating_sub(LEFT_BEHIND_HIT)) * (widest + HIT_COST)
 }
 
 /// What keeps the bus in attempts that begin within so many bit times: some time, these messages, and hits; none

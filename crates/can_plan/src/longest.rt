@@ -7,6 +7,18 @@ ghost use Rattle.can_plan.specs.FramesOf.{IsFrameOf};
 use can_frame::{Frame, Id};
 use can_wire::encode;
 
+/// How long a frame without data keeps the bus at most where its identifier is standard.
+const LONGEST_STANDARD: u16 = 55;
+
+/// The same, where it is extended.
+const LONGEST_EXTENDED: u16 = 80;
+
+/// How much longer it does so with each data byte: eight levels and two stuff bits.
+const LONGEST_BYTE: u16 = 10;
+
+/// How many bit times of intermission there are behind a frame.
+const INTERMISSION: u16 = 3;
+
 /// How many data bytes a frame has.
 fn byte_count(remote: bool, dlc: u8) -> u16
     ensures value { result ≡ byte_count_of remote dlc }
@@ -37,9 +49,9 @@ fn longest_with_bytes(extended: bool, bytes: u16) -> u16
     ensures { (f : Parts) → IsFrame f → f.id.extended ≡ extended → length f.bytes ≡ bytes → busy_time f ≤ result }
 {
     if extended {
-        80 + 10 * bytes
+        LONGEST_EXTENDED + LONGEST_BYTE * bytes
     } else {
-        55 + 10 * bytes
+        LONGEST_STANDARD + LONGEST_BYTE * bytes
     }
 }
 
@@ -51,7 +63,7 @@ pub fn longest_busy(id: Id, remote: bool, dlc: u8) -> u16
     ensures exact { (f : Parts) → IsFrameOf id remote dlc f → f.bytes ≡ [] → busy_time f ≡ result }
 {
     match without_data(id, remote, dlc) {
-        Some(frame) => encode(&frame).len() as u16 + 3,
+        Some(frame) => encode(&frame).len() as u16 + INTERMISSION,
         None => longest_with_bytes(id.is_extended(), byte_count(remote, dlc)),
     }
 }
