@@ -1,0 +1,80 @@
+"""What the response time analysis claims of the messages of a network: how late each frame's wire ends at most.
+
+Standard library only, written from docs/PLANNING.md. All times are whole bit times.
+"""
+
+from __future__ import annotations
+
+from collections.abc import Callable
+from typing import NamedTuple
+
+from repair_claims import INTERMISSION, Frame, spelled
+
+
+class Message(NamedTuple):
+    """How long a frame keeps the bus at most, how far apart releases are at least, and how late offers are at most."""
+
+    longest: int
+    period: int
+    jitter: int
+
+
+class HitRate(NamedTuple):
+    """So many hits in any stretch of bit times, and one more for each spacing that fits into it; none more with 0."""
+
+    burst: int
+    spacing: int
+
+    def most(self, long: int) -> int:
+        """How many there are at most in so many bit times."""
+        return self.burst + (long // self.spacing if self.spacing else 0)
+
+
+def longest_busy(frame: Frame) -> int:
+    """How long a frame with this identifier, of this kind and with this DLC keeps the bus at most."""
+    count = 0 if frame.remote else min(frame.dlc, 8)
+    if count == 0:
+        return len(spelled(frame._replace(data=b"")).wire) + len(INTERMISSION)
+    return (80 if frame.extended else 55) + 10 * count
+
+
+def arrivals(message: Message, long: int) -> int:
+    """How many frames are offered in so many bit times at most."""
+    return -(-(long + message.jitter) // message.period)
+
+
+def least(enough: Callable[[int], int], start: int, limit: int) -> int | None:
+    """The least number from a start on for which so much is enough; none above a limit."""
+    number = start
+    while number <= limit:
+        needed = enough(number)
+        if needed <= number:
+            return number
+        number = needed
+    return None
+
+
+def bound(messages: list[Message], place: int, rate: HitRate, limit: int) -> int | None:
+    """The least bound for the message at this place, by numbers up to a limit."""
+    own, higher, lower = messages[place], messages[:place], messages[place + 1 :]
+    blocking = max((message.longest - 1 for message in lower), default=0)
+    widest = max(message.longest for message in [own, *higher])
+
+    def demand(time: int, some: list[Message], long: int) -> int:
+        hits = rate.most(long + widest - 5) * (widest + 13)
+        return time + sum(arrivals(message, long) * message.longest for message in some) + hits
+
+    def delay(instance: int) -> int | None:
+        before = blocking + instance * own.longest
+        return least(lambda w: demand(before, higher, w + 1), 0, limit)
+
+    busy = least(lambda long: demand(blocking, [own, *higher], long), 1, limit)
+    if busy is None:
+        return None
+    most = 0
+    for instance in range(arrivals(own, busy)):
+        start = delay(instance)
+        if start is None:
+            return None
+        most = max(most, own.jitter + start + own.longest - 3 - instance * own.period)
+    return most

@@ -1,0 +1,21 @@
+-- how long a frame keeps the bus
+pub mod Lengths
+-- lists of releases: tests of fields, and how many there are in a stretch of bit times
+pub mod FieldTests
+pub mod Counts
+-- a window over a course, and what each attempt makes of it
+pub mod Windows
+pub mod Moves
+pub mod Runs
+pub mod Sets
+pub mod Ends
+-- the analysis computes the least bound
+pub mod Periods
+pub mod Growth
+pub mod Bounds
+pub mod Places
+-- the bus: its levels, its logs, and hits that its ports bear
+pub mod Lines
+pub mod Logs
+pub mod Calls
+pub mod BorneHits

@@ -1,0 +1,8 @@
+-- To believe: what public calls and laws promise is said in these words
+pub mod Messages
+pub mod FramesOf
+pub mod Ends
+pub mod OnBus
+pub mod Borne
+-- which numbers the analysis gives
+pub mod Analysis

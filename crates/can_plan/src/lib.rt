@@ -1,0 +1,32 @@
+//! How late a frame can be on a network: the response time analysis of messages, proved of the course of the bus.
+//!
+//! A [`Message`] is released again and again, and keeps the bus no longer than it says ([`longest_busy`] tells it for an
+//! identifier, a kind and a DLC). Hits that all ports see fall no more often than a [`HitRate`] allows.
+//! [`response_bound`] answers how long behind a frame's release its wire ends at most, on every course of the bus.
+//!
+//! | File | What it has | Defined in |
+//! |---|---|---|
+//! | `message.rt` | [`Message`] and [`HitRate`] | `specs/Messages.antt` |
+//! | `longest.rt` | [`longest_busy`], how long a frame keeps the bus | `specs/FramesOf.antt` |
+//! | `demand.rt` | what keeps the bus in a stretch of bit times | `specs/Analysis.antt` |
+//! | `response.rt` | [`response_bound`], the least bound that the analysis gives | `specs/Analysis.antt`, `specs/Ends.antt` |
+//! | `borne.rt` | [`borne_for`], for how long a rate of hits is borne wherever they fall | `specs/Borne.antt` |
+//! | `laws.rt` | what a bound says of the levels and logs of a bus; that fifteen hits are borne | `specs/OnBus.antt`, `specs/Borne.antt` |
+//!
+//! The proof goes forward along the course, with a window (`proofs/Windows.antt`): since when the bus has had no older frame
+//! to send of the message and of those before it, and what it has sent since. What each attempt makes of a window stands
+//! in `proofs/Moves.antt`. No call takes memory.
+#![tactic(auto)]
+
+mod borne;
+mod demand;
+mod laws;
+mod longest;
+mod message;
+mod response;
+
+pub use borne::{Borne, borne_for};
+pub use laws::{few_hits_are_borne, frames_end_in_time_on_the_bus};
+pub use longest::longest_busy;
+pub use message::{HitRate, Message};
+pub use response::response_bound;

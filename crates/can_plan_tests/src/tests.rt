@@ -1,0 +1,125 @@
+use can_frame::Frame;
+use can_plan::{Borne, HitRate, Message, borne_for, longest_busy, response_bound};
+use std::process::Abort;
+use std::test::Fail;
+
+/// No number of a bound is above this.
+const LIMIT: u32 = 1_000_000;
+
+/// Of each of three messages its longest time on the bus, its period and its jitter; how many hits there are; and the bounds.
+type Row = ([(u16, u32, u32); 3], (u16, u32), [Option<u64>; 3]);
+
+/// Worked out by hand, by the formulas of docs/PLANNING.md.
+const BOUNDS: &[Row] = &[
+    // of the third message the second frame in a busy period is the latest
+    (
+        [(1000, 2500, 0), (1000, 3500, 0), (1000, 3500, 0)],
+        (0, 0),
+        [Some(1996), Some(2996), Some(3497)],
+    ),
+    // each frame of seven data bytes, at 125 kbit/s
+    (
+        [(125, 312, 0), (125, 437, 0), (125, 437, 0)],
+        (0, 0),
+        [Some(246), Some(371), Some(435)],
+    ),
+    (
+        [(125, 312, 0), (125, 437, 0), (125, 437, 0)],
+        (1, 10_000),
+        [Some(384), Some(634), Some(885)],
+    ),
+    // a higher frame that is offered late, and the next one in time, both go first
+    (
+        [(100, 1000, 950), (50, 5000, 0), (60, 5000, 10)],
+        (0, 0),
+        [Some(1106), Some(306), Some(317)],
+    ),
+    // more frames than there is time for
+    (
+        [(100, 150, 0), (100, 200, 0), (100, 1000, 0)],
+        (0, 0),
+        [Some(196), None, None],
+    ),
+    // no period
+    (
+        [(100, 1000, 0), (100, 0, 0), (100, 1000, 0)],
+        (0, 0),
+        [None, None, None],
+    ),
+];
+
+/// Whether the messages of a row, all of one field, have its bounds.
+fn has_bounds(row: &Row) -> bool {
+    let Ok(frame) = Frame::from_text("S 000 R 0".as_bytes()) else {
+        return false;
+    };
+    let field = frame.key();
+    let (messages, (burst, spacing), bounds) = *row;
+    let messages = messages.map(|(longest, period, jitter)| Message {
+        field,
+        longest,
+        period,
+        jitter,
+    });
+    let rate = HitRate { burst, spacing };
+    (0..3).all(|place| response_bound(&messages, place, &rate, LIMIT) == bounds[place])
+}
+
+#[test]
+fn bounds_are_as_worked_out(rt: HostRuntime) -> Result<(), Fail> {
+    for (row, number) in BOUNDS.iter().zip(0..) {
+        assert!(rt; has_bounds(row), "row {number}");
+    }
+    Ok(())
+}
+
+/// A frame, and how long each of its identifier, kind and DLC keeps the bus at most: 34 or 54 levels and eight for each byte, all
+/// stuff bits that there can be, or those that there are where it has no data, and thirteen levels behind them.
+const LONGEST: &[(&str, u16)] = &[
+    ("S 000 D 0", 53),
+    ("S 000 R 8", 52),
+    ("S 123 R 3", 47),
+    ("S 7ff R 15", 50),
+    ("E 1fffffff D 0", 74),
+    ("S 555 D 1 61", 65),
+    ("S 555 D 8 0000000000000000", 135),
+    ("E 00000005 D 15 3132333435363738", 160),
+];
+
+/// Whether frames like this one keep the bus no longer.
+fn is_longest(text: &str, longest: u16) -> bool {
+    match Frame::from_text(text.as_bytes()) {
+        Ok(frame) => longest_busy(frame.id(), frame.is_remote(), frame.dlc()) == longest,
+        Err(_) => false,
+    }
+}
+
+#[test]
+fn frames_are_as_long_as_can_be(rt: HostRuntime) -> Result<(), Fail> {
+    for (text, longest) in LONGEST {
+        assert!(rt; is_longest(text, *longest), "{text}");
+    }
+    Ok(())
+}
+
+/// A burst and a spacing, and for how long they are borne.
+const BORNE: &[(u16, u32, Borne)] = &[
+    (1, 10_000, Borne::For(149_999)),
+    (0, 1, Borne::For(15)),
+    (15, 100, Borne::For(99)),
+    (15, 0, Borne::Ever),
+    (16, 0, Borne::Never),
+    (16, 1_000_000, Borne::Never),
+];
+
+#[test]
+fn rates_are_borne_for_so_long(rt: HostRuntime) -> Result<(), Fail> {
+    for (burst, spacing, borne) in BORNE {
+        let rate = HitRate {
+            burst: *burst,
+            spacing: *spacing,
+        };
+        assert!(rt; borne_for(&rate) == *borne, "{burst} {spacing}");
+    }
+    Ok(())
+}
