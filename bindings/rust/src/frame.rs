@@ -193,7 +193,8 @@ impl fmt::Debug for Frame {
     }
 }
 
-/// The levels of a frame as its sender drives them, from the start of frame to the end of frame, the ACK slot recessive.
+/// The levels of a frame as its sender drives them, from the start of frame to the end of frame, the ACK slot
+/// recessive.
 ///
 /// # Panics
 ///

@@ -41,9 +41,8 @@ fn a_port_moves_and_goes_to_a_thread() {
     sender.offer(&frame()).expect("room for a frame");
     assert_eq!(sender.offer(&frame()), Err(Refused::QueueFull));
     assert_eq!(sender.hold(3), Err(Refused::BadCount));
-    let mut ports = vec![sender];
     let told = std::thread::spawn(move || {
-        let port = &mut ports[0];
+        let port = &mut sender;
         let levels: Vec<_> = (0..200).filter_map(|_| port.sample(port.drive())).collect();
         levels
     });
