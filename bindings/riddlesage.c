@@ -4,6 +4,8 @@
  */
 #include "riddlesage.h"
 
+#include <stdlib.h>
+
 #define EXPORT __attribute__((visibility("default")))
 
 /* The proved functions. A slice is a pointer, which is not NULL, and its length. */
@@ -24,6 +26,8 @@ uint8_t can_c_entry(struct riddlesage_handle *handle, size_t number, riddlesage_
 uint8_t can_c_encode(const riddlesage_frame *frame, uint8_t *levels, size_t levels_length, size_t *count);
 uint8_t can_c_decode(const uint8_t *levels, size_t levels_length, riddlesage_heard *heard, size_t *place);
 
+static const riddlesage_port none = RIDDLESAGE_PORT_INIT;
+
 /* Whether a port may be handed on: `self` is NULL where none was made, and else the place where one was made. */
 static riddlesage_status port_at(const riddlesage_port *port)
 {
@@ -37,7 +41,6 @@ static riddlesage_status port_at(const riddlesage_port *port)
 static riddlesage_status make(riddlesage_port *port, size_t queue, size_t log,
                               uint8_t (*made)(struct riddlesage_handle *, size_t, size_t))
 {
-  static const riddlesage_port none = RIDDLESAGE_PORT_INIT;
   riddlesage_status status = port_at(port);
   if (status == RIDDLESAGE_NO_PORT)
     *port = none;
@@ -46,6 +49,22 @@ static riddlesage_status make(riddlesage_port *port, size_t queue, size_t log,
   status = (riddlesage_status)made(&port->handle, queue, log);
   if (status == RIDDLESAGE_OK)
     port->self = port;
+  return status;
+}
+
+EXPORT riddlesage_port *riddlesage_port_new(void)
+{
+  riddlesage_port *port = malloc(sizeof *port);
+  if (port != NULL)
+    *port = none;
+  return port;
+}
+
+EXPORT riddlesage_status riddlesage_port_delete(riddlesage_port *port)
+{
+  riddlesage_status status = riddlesage_port_free(port);
+  if (status == RIDDLESAGE_OK)
+    free(port);
   return status;
 }
 
@@ -204,4 +223,9 @@ EXPORT const char *riddlesage_event_name(riddlesage_event event)
     "crc error", "form error", "ack error", "overload", "went off",  "recovered",
   };
   return (size_t)event < sizeof names / sizeof names[0] ? names[event] : NULL;
+}
+
+EXPORT const char *riddlesage_version(void)
+{
+  return RIDDLESAGE_VERSION;
 }

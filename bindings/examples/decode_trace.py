@@ -13,7 +13,7 @@ from collections.abc import Iterator
 
 sys.path.insert(0, str(pathlib.Path(__file__).resolve().parent.parent / "python"))
 
-from riddlesage import DOMINANT, Fault, Frame, Heard, Status, decode
+from riddlesage import DOMINANT, Fault, Heard, Status, decode
 
 # The kinds of faults as the program tells them.
 CODES = {Status.SHORT: "C1", Status.NO_START: "C2", Status.STUFF: "C3", Status.CRC: "C4", Status.FORM: "C5"}
@@ -21,16 +21,9 @@ CODES = {Status.SHORT: "C1", Status.NO_START: "C2", Status.STUFF: "C3", Status.C
 REST = bytes([1] * 11)
 
 
-def text_of(frame: Frame) -> str:
-    """The text of a frame, as `S 123 D 2 aa55`."""
-    identifier = f"E {frame.identifier:08x}" if frame.extended else f"S {frame.identifier:03x}"
-    data = f" {frame.data.hex()}" if frame.data else ""
-    return f"{identifier} {'R' if frame.remote else 'D'} {frame.dlc}{data}"
-
-
 def line_of(place: int, heard: Heard) -> str:
     """The line of a frame that begins at this place."""
-    words = [str(place), text_of(heard.frame), "ack" if heard.acknowledged else "noack"]
+    words = [str(place), heard.frame.text, "ack" if heard.acknowledged else "noack"]
     words += ["srr0"] * (heard.srr == DOMINANT)
     words += ["r1"] * (heard.r1 != DOMINANT) + ["r0"] * (heard.r0 != DOMINANT) + ["eof0"] * (heard.last == DOMINANT)
     return " ".join(words)

@@ -62,6 +62,7 @@ static void call_all(riddlesage_port *port, riddlesage_status wanted)
 static void null_pointers(riddlesage_port *port)
 {
   call_all(NULL, RIDDLESAGE_NULL_POINTER);
+  WANT(NULL_POINTER, riddlesage_port_delete(NULL));
   WANT(NULL_POINTER, riddlesage_port_idle(NULL, 1, 1));
   WANT(NULL_POINTER, riddlesage_port_joining(NULL, 1, 1));
   WANT(NULL_POINTER, riddlesage_port_free(NULL));
@@ -237,6 +238,25 @@ static void handles(void)
   WANT(OK, riddlesage_port_free(&port));
 }
 
+/* Ports that the library keeps, made or not, and copies of them. */
+static void kept(void)
+{
+  riddlesage_port *port = riddlesage_port_new(), *unmade = riddlesage_port_new(), copy;
+
+  if (port == NULL || unmade == NULL)
+    exit(2);
+  call_all(unmade, RIDDLESAGE_NO_PORT);
+  WANT(OK, riddlesage_port_delete(unmade));
+  WANT(OK, riddlesage_port_joining(port, 1, 1));
+  copy = *port;
+  WANT(MOVED, riddlesage_port_delete(&copy));
+  call_all(port, RIDDLESAGE_OK);
+  WANT(OK, riddlesage_port_free(port));
+  call_all(port, RIDDLESAGE_NO_PORT);
+  WANT(OK, riddlesage_port_idle(port, 1, 1));
+  WANT(OK, riddlesage_port_delete(port));
+}
+
 int main(void)
 {
   riddlesage_port port = RIDDLESAGE_PORT_INIT;
@@ -245,6 +265,7 @@ int main(void)
 
   memset(levels, 1, sizeof levels);
   handles();
+  kept();
   WANT(OK, riddlesage_port_idle(&port, 4, 4));
   null_pointers(&port);
   bad_frames(&port);

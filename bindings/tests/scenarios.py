@@ -1,5 +1,5 @@
 #!/usr/bin/env python3
-"""Scenarios of `canbit run`: played by ports of the Python module, told to tests/scenario.c, and random ones.
+"""Scenarios of `canbit run`: played by ports of the Python package, told to tests/scenario.c, and random ones.
 
 It writes one of these:
 
@@ -22,26 +22,11 @@ import tomllib
 HERE = pathlib.Path(__file__).resolve().parent
 sys.path.insert(0, str(HERE.parent / "python"))
 
-from riddlesage import DOMINANT, Frame, Port, State
+from riddlesage import Bus, Frame, Port, State
 
 STATES = {State.ERROR_ACTIVE: "active", State.ERROR_PASSIVE: "passive", State.BUS_OFF: "off"}
-# So many recessive levels in a row lie between two frames.
-REST = 11
 
 Document = dict[str, Any]
-
-
-def frame_of(text: str) -> Frame:
-    """The frame of a text, as `S 123 D 2 aa55`."""
-    kind, identifier, direction, dlc, *data = text.split(" ")
-    return Frame(int(identifier, 16), bytes.fromhex("".join(data)), kind == "E", direction == "R", int(dlc))
-
-
-def text_of(frame: Frame) -> str:
-    """The text of a frame."""
-    identifier = f"E {frame.identifier:08x}" if frame.extended else f"S {frame.identifier:03x}"
-    data = f" {frame.data.hex()}" if frame.data else ""
-    return f"{identifier} {'R' if frame.remote else 'D'} {frame.dlc}{data}"
 
 
 def offers(document: Document) -> list[tuple[int, int, str]]:
@@ -77,31 +62,22 @@ def made(table: Document) -> Port:
 def report(document: Document) -> Iterator[str]:
     """The lines of the report."""
     ports = [made(table) for table in document["port"]]
-    on_wire = set(document.get("at", []))
-    in_attempt = {tuple(hit) for hit in document.get("in", [])}
-    seen_by_one = {tuple(hit) for hit in document.get("view", [])}
-    recorded = bytearray()
-    attempt, offset, rest = -1, 0, REST
-    coming = offers(document)[::-1]
-    for time in range(document["bits"]):
-        while coming and coming[-1][0] == time:
-            _, place, text = coming.pop()
-            ports[place].offer(frame_of(text))
-        bus = min(port.drive() for port in ports)
-        offset += 1
-        if bus == DOMINANT and rest == REST:
-            attempt, offset = attempt + 1, 0
-        bus ^= time in on_wire or (attempt, offset) in in_attempt
-        rest = 0 if bus == DOMINANT else min(rest + 1, REST)
-        for place, port in enumerate(ports):
-            port.sample(bus ^ ((time, place) in seen_by_one))
-        recorded.append(bus)
+    bus = Bus(*ports)
+    for time, place, text in offers(document):
+        bus.offer(place, Frame.from_text(text), time)
+    for time in document.get("at", []):
+        bus.hit_at(time)
+    for attempt, offset in document.get("in", []):
+        bus.hit_in(attempt, offset)
+    for time, place in document.get("view", []):
+        bus.view(time, place)
+    bus.run(document["bits"])
     yield f"bits {document['bits']}"
-    yield "".join(map(str, recorded))
+    yield "".join(map(str, bus.levels))
     for place, port in enumerate(ports):
         transmit, receive = port.counters
         yield f"port {place} {STATES[port.state]} tec {transmit} rec {receive} missed {port.missed}"
-        yield from (f"  {'sent' if entry.sent else 'took'} {text_of(entry.frame)}" for entry in port.log)
+        yield from (f"  {'sent' if entry.sent else 'took'} {entry.frame.text}" for entry in port.log)
 
 
 def random_frame(chance: random.Random) -> str:
@@ -110,7 +86,7 @@ def random_frame(chance: random.Random) -> str:
     few = chance.random() < 0.5
     identifier = chance.randrange(4 if few else 1 << (29 if extended else 11))
     data = b"" if remote else bytes(chance.choice((0, 255, chance.randrange(256))) for _ in range(min(dlc, 8)))
-    return text_of(Frame(identifier, data, extended, remote, dlc))
+    return Frame(identifier, data, extended, remote, dlc).text
 
 
 def random_scenario(seed: int, bits: int) -> Iterator[str]:

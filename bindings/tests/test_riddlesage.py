@@ -3,7 +3,6 @@
 from __future__ import annotations
 
 import copy
-import ctypes
 import doctest
 import pathlib
 import pickle
@@ -21,7 +20,8 @@ sys.path[:0] = [str(HERE), str(HERE.parent / "python")]
 
 import riddlesage
 from riddlesage import BadFrame, Event, Fault, Frame, Port, Refused, State, Status, Told, decode, encode
-from scenarios import STATES, frame_of, report, text_of
+from riddlesage._library import lib
+from scenarios import STATES, report
 
 
 def levels_of(text: str) -> bytes:
@@ -40,7 +40,7 @@ def heard_text(levels: bytes) -> str:
         heard = decode(levels)
     except Fault as fault:
         return f"{fault.name.lower().replace('_', ' ')} {fault.place}"
-    words = [text_of(heard.frame), "ack" if heard.acknowledged else "noack"]
+    words = [heard.frame.text, "ack" if heard.acknowledged else "noack"]
     words += ["srr0"] * (heard.srr == 0) + ["r1"] * heard.r1 + ["r0"] * heard.r0 + ["eof0"] * (heard.last == 0)
     return " ".join([*words, str(heard.length)])
 
@@ -76,13 +76,13 @@ class Row:
     def next_told(self) -> str:
         """The text of the next event."""
         time, told = self.told.pop(0)
-        return f"{time} {name_of(told.event)}" + (f" {text_of(told.frame)}" if told.frame else "")
+        return f"{time} {name_of(told.event)}" + (f" {told.frame.text}" if told.frame else "")
 
     def hand_in(self, text: str) -> None:
         """Makes a port, offers a frame, or asks for overload frames."""
         word, rest = text.split(" ", 1)
         if word == "offer":
-            self.port.offer(frame_of(rest))
+            self.port.offer(Frame.from_text(rest))
         elif word == "hold":
             self.port.hold(int(rest))
         else:
@@ -111,10 +111,12 @@ class Row:
         if word == "missed":
             return int(rest), self.port.missed
         if word == "log":
-            entries = [f"{'sent' if entry.sent else 'received'} {text_of(entry.frame)}" for entry in self.port.log]
+            entries = [f"{'sent' if entry.sent else 'received'} {entry.frame.text}" for entry in self.port.log]
             return rest, ", ".join(entries)
         left, right = rest.split(" = ")
-        return (levels_of(right), encode(frame_of(left))) if word == "encode" else (right, heard_text(levels_of(left)))
+        if word == "encode":
+            return levels_of(right), encode(Frame.from_text(left))
+        return right, heard_text(levels_of(left))
 
 
 class Rows(unittest.TestCase):
@@ -296,8 +298,7 @@ class Refusals(unittest.TestCase):
             ("riddlesage_status_name", [name_of(status) for status in Status]),
             ("riddlesage_event_name", [name_of(event) for event in Event]),
         ):
-            told = getattr(riddlesage._lib, function)
-            told.restype = ctypes.c_char_p
+            told = getattr(lib, function)
             self.assertEqual(names, [told(code).decode("ascii") for code in range(len(names))])
             self.assertIsNone(told(len(names)))
 
@@ -307,8 +308,9 @@ class Text(unittest.TestCase):
 
     def test_example(self) -> None:
         """Its example does what it says."""
-        failed, tried = doctest.testmod(riddlesage)
-        self.assertEqual((failed, tried > 0), (0, True))
+        for module in (riddlesage, sys.modules["riddlesage._bus"]):
+            failed, tried = doctest.testmod(module)
+            self.assertEqual((failed, tried > 0), (0, True))
 
 
 if __name__ == "__main__":

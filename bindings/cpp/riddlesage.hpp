@@ -1,0 +1,399 @@
+/// @file riddlesage.hpp
+/// @brief riddlesage.h for C++20: a classical CAN controller at whole bit times, as a golden model.
+///
+/// A Port frees itself, can be moved and kept in containers, and takes and gives enumerations and spans in place of
+/// numbers and pointers. Nothing throws but text(), where there is no memory for it. A call that can be refused answers
+/// a Status, and nothing has changed where that is not Status::ok. What each call does stands in riddlesage.h; that is
+/// proved, and this header is not.
+#ifndef RIDDLESAGE_HPP
+#define RIDDLESAGE_HPP
+
+#include "riddlesage.h"
+
+#include <algorithm>
+#include <array>
+#include <cstddef>
+#include <cstdint>
+#include <cstdlib>
+#include <iterator>
+#include <memory>
+#include <optional>
+#include <span>
+#include <string>
+#include <string_view>
+#include <utility>
+#include <variant>
+
+namespace riddlesage {
+
+/// A level of the bus. Dominant overrides recessive: `a & b` is the level of a wire that both drive.
+enum class Level : std::uint8_t { dominant = RIDDLESAGE_DOMINANT, recessive = RIDDLESAGE_RECESSIVE };
+
+[[nodiscard]] constexpr Level operator&(Level one, Level other) noexcept
+{
+  return one == Level::recessive ? other : Level::dominant;
+}
+
+constexpr Level &operator&=(Level &one, Level other) noexcept { return one = one & other; }
+
+/// The other level.
+[[nodiscard]] constexpr Level operator~(Level level) noexcept
+{
+  return level == Level::recessive ? Level::dominant : Level::recessive;
+}
+
+/// What a call answers.
+enum class Status : std::uint8_t {
+  ok = RIDDLESAGE_OK,
+  no_memory = RIDDLESAGE_NO_MEMORY,
+  queue_full = RIDDLESAGE_QUEUE_FULL,
+  bad_identifier = RIDDLESAGE_BAD_IDENTIFIER,
+  bad_dlc = RIDDLESAGE_BAD_DLC,
+  bad_level = RIDDLESAGE_BAD_LEVEL,
+  bad_count = RIDDLESAGE_BAD_COUNT,
+  no_levels = RIDDLESAGE_NO_LEVELS,
+  no_room = RIDDLESAGE_NO_ROOM,
+  too_short = RIDDLESAGE_SHORT,
+  no_start = RIDDLESAGE_NO_START,
+  stuff = RIDDLESAGE_STUFF,
+  crc = RIDDLESAGE_CRC,
+  form = RIDDLESAGE_FORM
+};
+
+/// What a bit time brings to a port.
+enum class Event : std::uint8_t {
+  nothing = RIDDLESAGE_NOTHING,
+  sent = RIDDLESAGE_SENT,
+  received = RIDDLESAGE_RECEIVED,
+  lost = RIDDLESAGE_LOST,
+  bit_error = RIDDLESAGE_BIT_ERROR,
+  stuff_error = RIDDLESAGE_STUFF_ERROR,
+  crc_error = RIDDLESAGE_CRC_ERROR,
+  form_error = RIDDLESAGE_FORM_ERROR,
+  ack_error = RIDDLESAGE_ACK_ERROR,
+  overload = RIDDLESAGE_OVERLOAD,
+  went_off = RIDDLESAGE_WENT_OFF,
+  recovered = RIDDLESAGE_RECOVERED
+};
+
+/// The state of fault confinement.
+enum class State : std::uint8_t {
+  error_active = RIDDLESAGE_ERROR_ACTIVE,
+  error_passive = RIDDLESAGE_ERROR_PASSIVE,
+  bus_off = RIDDLESAGE_BUS_OFF
+};
+
+/// The name of a status, as "queue full".
+[[nodiscard]] inline std::string_view name(Status status) noexcept
+{
+  const char *const found = riddlesage_status_name(static_cast<riddlesage_status>(status));
+  return found != nullptr ? found : "";
+}
+
+/// The name of an event, as "bit error".
+[[nodiscard]] inline std::string_view name(Event event) noexcept
+{
+  const char *const found = riddlesage_event_name(static_cast<riddlesage_event>(event));
+  return found != nullptr ? found : "";
+}
+
+/// The version of the library, with which RIDDLESAGE_VERSION is to agree.
+[[nodiscard]] inline std::string_view version() noexcept { return riddlesage_version(); }
+
+/// A data frame or a remote frame: `Frame{.identifier = 0x123, .dlc = 2, .data = {0xaa, 0x55}}`.
+struct Frame {
+  std::uint32_t identifier = 0;      ///< 0 to 0x7ff, or to 0x1fffffff where it is extended
+  bool extended = false;             ///< whether the identifier has 29 bits
+  bool remote = false;               ///< whether it is a remote frame
+  std::uint8_t dlc = 0;              ///< the data length code, 0 to 15; 9 to 15 mean eight bytes
+  std::array<std::uint8_t, 8> data{}; ///< a data frame has the first ones, as the DLC says
+
+  /// The bytes that the frame has: none of a remote frame.
+  [[nodiscard]] constexpr std::span<const std::uint8_t> bytes() const noexcept
+  {
+    return std::span(data).first(remote ? 0U : std::min<std::size_t>(dlc, data.size()));
+  }
+
+  /// Whether it is the same frame; what stands behind its bytes has no meaning.
+  [[nodiscard]] friend constexpr bool operator==(const Frame &one, const Frame &other) noexcept
+  {
+    return one.identifier == other.identifier && one.extended == other.extended && one.remote == other.remote &&
+           one.dlc == other.dlc && std::ranges::equal(one.bytes(), other.bytes());
+  }
+};
+
+/// What a bit time brought, and the frame where one was sent or received.
+struct Told {
+  Event event = Event::nothing;
+  std::optional<Frame> frame;
+
+  /// Whether it brought anything.
+  [[nodiscard]] explicit operator bool() const noexcept { return event != Event::nothing; }
+};
+
+/// A frame in a port's log: whether the port sent it, or received it.
+struct Entry {
+  Frame frame;
+  bool sent = false;
+};
+
+/// The error counters.
+struct Counters {
+  std::uint16_t transmit = 0; ///< 0 to 263
+  std::uint16_t receive = 0;  ///< 0 to 255
+
+  [[nodiscard]] friend constexpr bool operator==(const Counters &, const Counters &) noexcept = default;
+};
+
+/// A frame as it was heard: with the levels that a receiver takes at either value.
+struct Heard {
+  Frame frame;
+  bool acknowledged = false;
+  Level srr = Level::recessive;
+  Level r1 = Level::dominant;
+  Level r0 = Level::dominant;
+  Level last = Level::recessive;
+  std::size_t length = 0; ///< how many levels it had
+};
+
+/// Levels begin with no frame: too_short, no_start, stuff, crc or form, or bad_level, with a place of 0.
+struct Fault {
+  Status kind = Status::too_short;
+  std::size_t place = 0; ///< how many levels stand before the first one that is wrong
+};
+
+/// The levels of a frame, or why there are none.
+class Encoded {
+public:
+  [[nodiscard]] Status status() const noexcept { return status_; }
+  [[nodiscard]] std::span<const Level> levels() const noexcept { return std::span(levels_).first(count_); }
+
+private:
+  friend Encoded encode(const Frame &frame) noexcept;
+
+  Status status_ = Status::ok;
+  std::size_t count_ = 0;
+  std::array<Level, RIDDLESAGE_MOST_LEVELS> levels_{};
+};
+
+namespace detail {
+
+// What crosses to C: enumerations of one byte, which may be reached as bytes.
+// NOLINTBEGIN(cppcoreguidelines-pro-type-reinterpret-cast)
+[[nodiscard]] inline const std::uint8_t *bytes_of(std::span<const Level> of) noexcept
+{
+  return reinterpret_cast<const std::uint8_t *>(of.data());
+}
+
+[[nodiscard]] inline std::uint8_t *room_of(std::span<Level> of) noexcept
+{
+  return reinterpret_cast<std::uint8_t *>(of.data());
+}
+
+[[nodiscard]] inline std::uint8_t *room_of(std::span<Event> of) noexcept
+{
+  return reinterpret_cast<std::uint8_t *>(of.data());
+}
+// NOLINTEND(cppcoreguidelines-pro-type-reinterpret-cast)
+
+[[nodiscard]] constexpr Status status_of(riddlesage_status status) noexcept { return static_cast<Status>(status); }
+
+/// For calls that are refused nothing while a port is live: one that was moved from ends the program.
+inline void demand(riddlesage_status status) noexcept
+{
+  if (status != RIDDLESAGE_OK)
+    std::abort();
+}
+
+[[nodiscard]] inline riddlesage_frame plain(const Frame &frame) noexcept
+{
+  riddlesage_frame out{frame.identifier, static_cast<std::uint8_t>(frame.extended),
+                       static_cast<std::uint8_t>(frame.remote), frame.dlc, {}};
+  std::ranges::copy(frame.data, std::begin(out.data));
+  return out;
+}
+
+[[nodiscard]] inline Frame frame_of(const riddlesage_frame &plain) noexcept
+{
+  Frame out{plain.identifier, plain.extended != 0, plain.remote != 0, plain.dlc, {}};
+  std::ranges::copy(plain.data, out.data.begin());
+  return out;
+}
+
+struct Delete {
+  void operator()(riddlesage_port *port) const noexcept { demand(riddlesage_port_delete(port)); }
+};
+
+} // namespace detail
+
+/// A controller with a queue of frames to send and a log of the frames that were on the bus. A port that was moved from
+/// may be destroyed and assigned to; any other call of it ends the program.
+class Port {
+public:
+  /// A port that is on the bus and idle, with room for so many frames that wait and so many entries of the log; none
+  /// where there is no memory.
+  [[nodiscard]] static std::optional<Port> idle(std::size_t queue, std::size_t log) noexcept
+  {
+    return made(riddlesage_port_idle, queue, log);
+  }
+
+  /// The same, of a port that waits for eleven recessive levels in a row before it is on the bus.
+  [[nodiscard]] static std::optional<Port> joining(std::size_t queue, std::size_t log) noexcept
+  {
+    return made(riddlesage_port_joining, queue, log);
+  }
+
+  /// Offers a frame, which waits behind those that were offered before. bad_identifier, bad_dlc, queue_full.
+  [[nodiscard]] Status offer(const Frame &frame) noexcept
+  {
+    const riddlesage_frame plain = detail::plain(frame);
+    return answered(riddlesage_port_offer(at_.get(), &plain));
+  }
+
+  /// Asks for so many overload frames of the port's own, 0 to 2, in place of an earlier wish. bad_count.
+  [[nodiscard]] Status hold(std::uint8_t count) noexcept { return answered(riddlesage_port_hold(at_.get(), count)); }
+
+  /// The level that the port drives in this bit time.
+  [[nodiscard]] Level drive() const noexcept
+  {
+    std::uint8_t level = 0;
+    detail::demand(riddlesage_port_drive(at_.get(), &level));
+    return static_cast<Level>(level);
+  }
+
+  /// Samples the level that the bus has in this bit time, and tells what it brought.
+  Told sample(Level bus) noexcept
+  {
+    std::uint8_t event = 0;
+    riddlesage_frame frame{};
+    detail::demand(riddlesage_port_sample(at_.get(), static_cast<std::uint8_t>(bus), &event, &frame));
+    Told told{static_cast<Event>(event), std::nullopt};
+    if (told.event == Event::sent || told.event == Event::received)
+      told.frame = detail::frame_of(frame);
+    return told;
+  }
+
+  /// Samples these levels, one a bit time, whatever the port drives; writes what it drove in each bit time, and what
+  /// each brought. no_levels, no_room, bad_level.
+  [[nodiscard]] Status run(std::span<const Level> levels, std::span<Level> drives, std::span<Event> events) noexcept
+  {
+    if (levels.empty())
+      return Status::no_levels;
+    if (drives.size() < levels.size() || events.size() < levels.size())
+      return Status::no_room;
+    return answered(riddlesage_port_run(at_.get(), detail::bytes_of(levels), levels.size(), detail::room_of(drives),
+                                        detail::room_of(events)));
+  }
+
+  [[nodiscard]] Counters counters() const noexcept
+  {
+    Counters counters;
+    detail::demand(riddlesage_port_counters(at_.get(), &counters.transmit, &counters.receive));
+    return counters;
+  }
+
+  [[nodiscard]] State state() const noexcept
+  {
+    std::uint8_t state = 0;
+    detail::demand(riddlesage_port_state(at_.get(), &state));
+    return static_cast<State>(state);
+  }
+
+  /// How many entries the log has.
+  [[nodiscard]] std::size_t log_length() const noexcept
+  {
+    std::size_t count = 0;
+    detail::demand(riddlesage_port_log_length(at_.get(), &count));
+    return count;
+  }
+
+  /// How many entries the log had no room for.
+  [[nodiscard]] std::uint32_t missed() const noexcept
+  {
+    std::uint32_t count = 0;
+    detail::demand(riddlesage_port_missed(at_.get(), &count));
+    return count;
+  }
+
+  /// The entry of the log with this number, the oldest having 0; none where there is no such entry.
+  [[nodiscard]] std::optional<Entry> entry(std::size_t number) const noexcept
+  {
+    riddlesage_frame frame{};
+    std::uint8_t sent = 0;
+    const riddlesage_status status = riddlesage_port_entry(at_.get(), number, &frame, &sent);
+    if (status == RIDDLESAGE_NO_ENTRY)
+      return std::nullopt;
+    detail::demand(status);
+    return Entry{detail::frame_of(frame), sent != 0};
+  }
+
+private:
+  using Place = std::unique_ptr<riddlesage_port, detail::Delete>;
+
+  explicit Port(Place at) noexcept : at_(std::move(at)) {}
+
+  static std::optional<Port> made(riddlesage_status (*make)(riddlesage_port *, std::size_t, std::size_t),
+                                  std::size_t queue, std::size_t log) noexcept
+  {
+    Place at(riddlesage_port_new());
+    if (at == nullptr || make(at.get(), queue, log) != RIDDLESAGE_OK)
+      return std::nullopt;
+    return Port(std::move(at));
+  }
+
+  [[nodiscard]] Status answered(riddlesage_status status) const noexcept
+  {
+    if (at_ == nullptr)
+      std::abort();
+    return detail::status_of(status);
+  }
+
+  Place at_;
+};
+
+/// The levels of the frame as its sender drives them, from the start of frame to the end of frame, the ACK slot
+/// recessive. bad_identifier, bad_dlc.
+[[nodiscard]] inline Encoded encode(const Frame &frame) noexcept
+{
+  Encoded out;
+  const riddlesage_frame plain = detail::plain(frame);
+  out.status_ = detail::status_of(
+      riddlesage_encode(&plain, detail::room_of(std::span<Level>(out.levels_)), out.levels_.size(), &out.count_));
+  return out;
+}
+
+/// What is heard of the frame at the front of the levels; or the fault where no frame stands there.
+[[nodiscard]] inline std::variant<Heard, Fault> decode(std::span<const Level> levels) noexcept
+{
+  constexpr std::uint8_t nothing = 0;
+  riddlesage_heard heard{};
+  std::size_t place = 0;
+  const std::uint8_t *const at = levels.empty() ? &nothing : detail::bytes_of(levels);
+  const riddlesage_status status = riddlesage_decode(at, levels.size(), &heard, &place);
+  if (status != RIDDLESAGE_OK)
+    return Fault{detail::status_of(status), place};
+  const auto level = [](std::uint8_t number) { return static_cast<Level>(number); };
+  return Heard{detail::frame_of(heard.frame), heard.acknowledged != 0, level(heard.srr), level(heard.r1),
+               level(heard.r0), level(heard.last), place};
+}
+
+/// The text of a frame, as `S 123 D 2 aa55`.
+[[nodiscard]] inline std::string text(const Frame &frame)
+{
+  constexpr std::string_view digits = "0123456789abcdef";
+  std::string out = frame.extended ? "E " : "S ";
+  for (unsigned place = frame.extended ? 8 : 3; place-- > 0;)
+    out += digits[frame.identifier >> (4 * place) & 0xfU];
+  out += (frame.remote ? " R " : " D ") + std::to_string(frame.dlc);
+  if (!frame.bytes().empty())
+    out += ' ';
+  for (const std::uint8_t byte : frame.bytes()) {
+    out += digits[byte >> 4U];
+    out += digits[byte & 0xfU];
+  }
+  return out;
+}
+
+} // namespace riddlesage
+
+#endif

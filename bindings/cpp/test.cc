@@ -1,0 +1,104 @@
+// What riddlesage.hpp adds to riddlesage.h: ports that move, refusals by name, frames and levels by their types.
+#include "riddlesage.hpp"
+
+#include <cstdio>
+#include <cstdlib>
+#include <limits>
+#include <type_traits>
+#include <vector>
+
+namespace {
+
+using namespace riddlesage;
+
+int wrong = 0; // NOLINT: the count of this program
+
+void want(bool holds, const char *what)
+{
+  if (!holds) {
+    wrong++;
+    std::printf("not so: %s\n", what);
+  }
+}
+
+const Frame some{.identifier = 0x123, .dlc = 2, .data = {0xaa, 0x55}}; // NOLINT: a frame like any other
+
+Port made(std::size_t queue, std::size_t log)
+{
+  auto port = Port::idle(queue, log);
+  if (!port)
+    std::exit(EXIT_FAILURE);
+  return std::move(*port);
+}
+
+void coding()
+{
+  const Encoded encoded = encode(some);
+  want(encoded.status() == Status::ok && encoded.levels().size() == 62, "the levels of a frame");
+  const auto heard = decode(encoded.levels());
+  want(std::holds_alternative<Heard>(heard) && std::get<Heard>(heard).frame == some, "a frame is heard");
+  want(std::get<Heard>(heard).length == 62 && !std::get<Heard>(heard).acknowledged, "its length, unacknowledged");
+  const auto fault = decode(encoded.levels().first(20));
+  want(std::holds_alternative<Fault>(fault) && std::get<Fault>(fault).kind == Status::too_short, "a frame cut short");
+  want(std::get<Fault>(fault).place == 20, "its place");
+  want(std::get<Fault>(decode({})).kind == Status::too_short, "no levels at all");
+  want(encode({.identifier = 0x800}).status() == Status::bad_identifier, "an identifier that is too large");
+  want(encode({.dlc = 16}).levels().empty(), "no levels of what is no frame");
+  want(text(some) == "S 123 D 2 aa55" && text({.identifier = 0x1234567, .extended = true, .remote = true, .dlc = 9}) ==
+                                             "E 01234567 R 9",
+       "texts");
+  want(name(Status::queue_full) == "queue full" && name(Event::ack_error) == "ack error", "names");
+  want(version() == RIDDLESAGE_VERSION, "the version");
+}
+
+void refusals()
+{
+  Port port = made(1, 1);
+  want(port.offer({.identifier = 0x20000000, .extended = true}) == Status::bad_identifier, "a bad identifier");
+  want(port.offer({.dlc = 200}) == Status::bad_dlc, "a bad DLC");
+  want(port.offer(some) == Status::ok && port.offer(some) == Status::queue_full, "a full queue");
+  want(port.hold(3) == Status::bad_count && port.hold(2) == Status::ok, "overload frames");
+  want(!port.entry(0) && port.log_length() == 0 && port.missed() == 0, "an empty log");
+  want(!Port::idle(std::numeric_limits<std::size_t>::max(), 0), "more memory than there is");
+  std::array<Level, 3> drives{};
+  std::array<Event, 3> events{};
+  const std::array levels{Level::recessive, Level::recessive, Level::recessive};
+  want(port.run({}, drives, events) == Status::no_levels, "no levels");
+  want(port.run(levels, std::span(drives).first(2), events) == Status::no_room, "too little room");
+  want(port.run(levels, drives, events) == Status::ok && drives[0] == Level::dominant, "a start of frame");
+  want(events[0] == Event::bit_error, "which is not on the bus");
+}
+
+// Ports in a container that grows, moved about, replaced and swapped.
+void moves()
+{
+  static_assert(!std::is_copy_constructible_v<Port> && std::is_nothrow_move_constructible_v<Port>);
+  std::vector<Port> ports;
+  for (int count = 0; count < 40; count++)
+    ports.push_back(made(1, 4)); // NOLINT: it is to grow
+  want(ports[17].offer(some) == Status::ok, "an offer behind the moves");
+  std::swap(ports[17], ports[3]);
+  ports.erase(ports.begin() + 20, ports.end());
+  ports[5] = made(1, 4);
+  for (int time = 0; time < 200; time++) {
+    auto bus = Level::recessive;
+    for (const Port &port : ports)
+      bus &= port.drive();
+    for (std::size_t place = 0; place < ports.size(); place++)
+      if (const Told told = ports[place].sample(bus))
+        want(told.event == (place == 3 ? Event::sent : Event::received) && told.frame == some, "one frame for all");
+  }
+  for (std::size_t place = 0; place < ports.size(); place++)
+    want(ports[place].log_length() == 1 && ports[place].entry(0)->sent == (place == 3), "a log of one entry");
+  want(ports[3].counters() == Counters{} && ports[3].state() == State::error_active, "no errors");
+}
+
+} // namespace
+
+int main()
+{
+  coding();
+  refusals();
+  moves();
+  return wrong == 0 ? EXIT_SUCCESS : EXIT_FAILURE;
+}

@@ -1,0 +1,63 @@
+r"""A classical CAN controller at whole bit times, as a golden model (Bosch CAN 2.0 part B, ISO 11898-1).
+
+    >>> from riddlesage import Frame, Port, encode
+    >>> sender, receiver = Port(), Port()
+    >>> sender.offer(Frame(0x123, b"\xaa\x55"))
+    >>> for _ in range(80):
+    ...     bus = sender.drive() & receiver.drive()
+    ...     for port in (sender, receiver):
+    ...         told = port.sample(bus)
+    >>> receiver.log
+    [Entry(frame=Frame(identifier=291, data=b'\xaaU', extended=False, remote=False, dlc=2), sent=False)]
+
+Levels are numbers: 0 is dominant, 1 recessive, and many of them are `bytes`. A `Bus` has several ports, or devices of
+one's own, on a wire with disturbances. The calls are those of riddlesage.h, over `libriddlesage.so`, which is looked
+for at the environment variable RIDDLESAGE_LIBRARY, then in this package and beside it, then where bindings/build puts
+it, and then where the system has its libraries. What each call does is proved; this package is not.
+"""
+
+from __future__ import annotations
+
+from riddlesage._bus import Bus, Device, Happened
+from riddlesage._frames import (
+    DOMINANT,
+    RECESSIVE,
+    BadFrame,
+    Fault,
+    Frame,
+    Heard,
+    Refused,
+    RiddlesageError,
+    Status,
+    decode,
+    encode,
+)
+from riddlesage._library import VERSION
+from riddlesage._ports import Counters, Entry, Event, Port, Run, State, Told
+
+__all__ = [
+    "DOMINANT",
+    "RECESSIVE",
+    "BadFrame",
+    "Bus",
+    "Counters",
+    "Device",
+    "Entry",
+    "Event",
+    "Fault",
+    "Frame",
+    "Happened",
+    "Heard",
+    "Port",
+    "Refused",
+    "RiddlesageError",
+    "Run",
+    "State",
+    "Status",
+    "Told",
+    "__version__",
+    "decode",
+    "encode",
+]
+
+__version__ = VERSION

@@ -1,0 +1,96 @@
+"""The shared object, and its calls as riddlesage.h declares them."""
+
+from __future__ import annotations
+
+import ctypes
+import os
+import pathlib
+
+# The name that the system's loader knows: with the first number of the version.
+_SONAME = "libriddlesage.so.0"
+
+
+class PlainFrame(ctypes.Structure):
+    """A riddlesage_frame."""
+
+    _fields_ = (
+        ("identifier", ctypes.c_uint32),
+        ("extended", ctypes.c_uint8),
+        ("remote", ctypes.c_uint8),
+        ("dlc", ctypes.c_uint8),
+        ("data", ctypes.c_uint8 * 8),
+    )
+
+
+class PlainHeard(ctypes.Structure):
+    """A riddlesage_heard."""
+
+    _fields_ = (
+        ("frame", PlainFrame),
+        ("acknowledged", ctypes.c_uint8),
+        ("srr", ctypes.c_uint8),
+        ("r1", ctypes.c_uint8),
+        ("r0", ctypes.c_uint8),
+        ("last", ctypes.c_uint8),
+    )
+
+
+class PlainPort(ctypes.Structure):
+    """A riddlesage_port."""
+
+    _fields_ = (("at", ctypes.c_void_p), ("live", ctypes.c_bool), ("self", ctypes.c_void_p))
+
+
+def _library() -> ctypes.CDLL:
+    here = pathlib.Path(__file__).resolve().parent
+    named = os.environ.get("RIDDLESAGE_LIBRARY")
+    folders = [here, here.parent, here.parent.parent / "out"]
+    places = [pathlib.Path(named)] if named else [folder / "libriddlesage.so" for folder in folders]
+    for place in places:
+        if place.is_file():
+            return ctypes.CDLL(str(place))
+    if named is None:
+        try:
+            return ctypes.CDLL(_SONAME)
+        except OSError:
+            pass
+    raise ImportError(f"libriddlesage.so is not at {' nor at '.join(map(str, places))}; bindings/build makes it")
+
+
+lib = _library()
+
+_PORT = ctypes.POINTER(PlainPort)
+_FRAME = ctypes.POINTER(PlainFrame)
+_U8 = ctypes.POINTER(ctypes.c_uint8)
+_SIZE = ctypes.POINTER(ctypes.c_size_t)
+
+_PARAMETERS = {
+    "riddlesage_port_idle": (_PORT, ctypes.c_size_t, ctypes.c_size_t),
+    "riddlesage_port_joining": (_PORT, ctypes.c_size_t, ctypes.c_size_t),
+    "riddlesage_port_free": (_PORT,),
+    "riddlesage_port_offer": (_PORT, _FRAME),
+    "riddlesage_port_hold": (_PORT, ctypes.c_uint8),
+    "riddlesage_port_counters": (_PORT, ctypes.POINTER(ctypes.c_uint16), ctypes.POINTER(ctypes.c_uint16)),
+    "riddlesage_port_state": (_PORT, _U8),
+    "riddlesage_port_log_length": (_PORT, _SIZE),
+    "riddlesage_port_missed": (_PORT, ctypes.POINTER(ctypes.c_uint32)),
+    "riddlesage_port_entry": (_PORT, ctypes.c_size_t, _FRAME, _U8),
+    "riddlesage_port_run": (_PORT, ctypes.c_char_p, ctypes.c_size_t, ctypes.c_char_p, ctypes.c_char_p),
+    "riddlesage_encode": (_FRAME, ctypes.c_char_p, ctypes.c_size_t, _SIZE),
+    "riddlesage_decode": (ctypes.c_char_p, ctypes.c_size_t, ctypes.POINTER(PlainHeard), _SIZE),
+}
+
+for _name, _parameters in _PARAMETERS.items():
+    _function = getattr(lib, _name)
+    _function.argtypes = _parameters
+    _function.restype = ctypes.c_int
+
+for _name, _code in (("riddlesage_status_name", ctypes.c_int), ("riddlesage_event_name", ctypes.c_int)):
+    _function = getattr(lib, _name)
+    _function.argtypes = (_code,)
+    _function.restype = ctypes.c_char_p
+
+lib.riddlesage_version.argtypes = ()
+lib.riddlesage_version.restype = ctypes.c_char_p
+
+VERSION: str = lib.riddlesage_version().decode("ascii")

@@ -1,0 +1,211 @@
+"""Ports, and what they tell."""
+
+from __future__ import annotations
+
+import ctypes
+import enum
+import threading
+from collections.abc import Iterator
+from types import TracebackType
+from typing import NamedTuple, NoReturn
+
+from riddlesage._frames import Frame, Refused, Status, demand, frame_of, in_range, plain_of
+from riddlesage._library import PlainFrame, PlainPort, lib
+
+# These two are called in each bit time. Their arguments are made once for each port, as the right types, so that no
+# call has to convert them.
+_drive = lib.riddlesage_port_drive
+_sample = lib.riddlesage_port_sample
+
+
+class Event(enum.IntEnum):
+    """What a bit time brings to a port."""
+
+    NOTHING = 0
+    SENT = 1
+    RECEIVED = 2
+    LOST = 3
+    BIT_ERROR = 4
+    STUFF_ERROR = 5
+    CRC_ERROR = 6
+    FORM_ERROR = 7
+    ACK_ERROR = 8
+    OVERLOAD = 9
+    WENT_OFF = 10
+    RECOVERED = 11
+
+
+class State(enum.IntEnum):
+    """The state of fault confinement."""
+
+    ERROR_ACTIVE = 0
+    ERROR_PASSIVE = 1
+    BUS_OFF = 2
+
+
+class Told(NamedTuple):
+    """What a bit time brought; the frame where one was sent or received."""
+
+    event: Event
+    frame: Frame | None = None
+
+
+class Entry(NamedTuple):
+    """A frame in a port's log: whether the port sent it, or received it."""
+
+    frame: Frame
+    sent: bool
+
+
+class Counters(NamedTuple):
+    """The transmit and the receive error counter."""
+
+    transmit: int
+    receive: int
+
+
+class Run(NamedTuple):
+    """Bit times of a port: the level that it drove in each, and the number of what each brought."""
+
+    drives: bytes
+    events: bytes
+
+    def told(self) -> Iterator[tuple[int, Event]]:
+        """Gives each bit time that brought something, with what it brought."""
+        return ((time, Event(code)) for time, code in enumerate(self.events) if code)
+
+
+class Port:
+    """A controller with a queue of frames to send and a log of the frames that were on the bus.
+
+    Threads may share a port: each call waits until that of another thread has ended. A port is neither copied nor
+    pickled.
+    """
+
+    def __init__(self, queue: int = 16, log: int = 64, *, joining: bool = False) -> None:
+        """Makes a port with so much room, on the bus and idle, or `joining`: it waits for eleven recessive levels."""
+        if queue < 0 or log < 0:
+            raise ValueError("a port has no negative room")
+        if max(queue, log) >= 1 << 63:
+            raise MemoryError
+        self._lock = threading.Lock()
+        self._port = PlainPort()
+        self._at = ctypes.byref(self._port)
+        self._level = ctypes.c_uint8()
+        self._event = ctypes.c_uint8()
+        self._told = PlainFrame()
+        self._drive_arguments = (self._at, ctypes.byref(self._level))
+        self._levels = (ctypes.c_uint8(0), ctypes.c_uint8(1))
+        self._event_at = ctypes.byref(self._event)
+        self._told_at = ctypes.byref(self._told)
+        make = lib.riddlesage_port_joining if joining else lib.riddlesage_port_idle
+        status = make(self._port, queue, log)
+        if status == Status.NO_MEMORY:
+            raise MemoryError
+        demand(status)
+
+    def close(self) -> None:
+        """Frees the port. Further calls are refused, but for this one."""
+        with self._lock:
+            demand(lib.riddlesage_port_free(self._port))
+
+    def __enter__(self) -> Port:
+        return self
+
+    def __exit__(
+        self,
+        kind: type[BaseException] | None,
+        error: BaseException | None,
+        trace: TracebackType | None,
+    ) -> None:
+        self.close()
+
+    def __del__(self) -> None:
+        if hasattr(self, "_port"):
+            lib.riddlesage_port_free(self._port)
+
+    def __reduce__(self) -> NoReturn:
+        """A port stays where it was made."""
+        raise TypeError("a port is neither copied nor pickled")
+
+    def offer(self, frame: Frame) -> None:
+        """Offers a frame, which waits behind those that were offered before."""
+        plain = plain_of(frame)
+        with self._lock:
+            demand(lib.riddlesage_port_offer(self._port, plain))
+
+    def hold(self, count: int) -> None:
+        """Asks for so many overload frames of the port's own, 0 to 2, in place of an earlier wish."""
+        wish = in_range(count, 8, Refused(Status.BAD_COUNT))
+        with self._lock:
+            demand(lib.riddlesage_port_hold(self._port, wish))
+
+    def drive(self) -> int:
+        """Tells the level that the port drives in this bit time. The port stays as it is."""
+        with self._lock:
+            status = _drive(*self._drive_arguments)
+            level = self._level.value
+        if status:
+            raise Refused(Status(status))
+        return level
+
+    def sample(self, level: int) -> Told | None:
+        """Samples the level that the bus has in this bit time, and tells what it brought, if anything."""
+        if level != 0 and level != 1:
+            raise Refused(Status.BAD_LEVEL)
+        with self._lock:
+            status = _sample(self._at, self._levels[level], self._event_at, self._told_at)
+            code = self._event.value
+            frame = frame_of(self._told) if not status and 0 < code <= Event.RECEIVED else None
+        if status:
+            raise Refused(Status(status))
+        return Told(Event(code), frame) if code else None
+
+    def run(self, levels: bytes) -> Run:
+        """Samples these levels, one a bit time, whatever the port drives."""
+        count = len(levels)
+        drives = ctypes.create_string_buffer(count)
+        events = ctypes.create_string_buffer(count)
+        with self._lock:
+            demand(lib.riddlesage_port_run(self._port, bytes(levels), count, drives, events))
+        return Run(drives.raw, events.raw)
+
+    @property
+    def counters(self) -> Counters:
+        """The error counters."""
+        transmit, receive = ctypes.c_uint16(), ctypes.c_uint16()
+        with self._lock:
+            demand(lib.riddlesage_port_counters(self._port, transmit, receive))
+        return Counters(transmit.value, receive.value)
+
+    @property
+    def state(self) -> State:
+        """The state of fault confinement."""
+        state = ctypes.c_uint8()
+        with self._lock:
+            demand(lib.riddlesage_port_state(self._port, state))
+        return State(state.value)
+
+    @property
+    def missed(self) -> int:
+        """How many entries the log had no room for."""
+        count = ctypes.c_uint32()
+        with self._lock:
+            demand(lib.riddlesage_port_missed(self._port, count))
+        return count.value
+
+    @property
+    def log(self) -> list[Entry]:
+        """The frames that were sent and received, the oldest first."""
+        count = ctypes.c_size_t()
+        with self._lock:
+            demand(lib.riddlesage_port_log_length(self._port, count))
+        return [self.entry(number) for number in range(count.value)]
+
+    def entry(self, number: int) -> Entry:
+        """The entry of the log with this number, the oldest having 0."""
+        frame, sent = PlainFrame(), ctypes.c_uint8()
+        place = in_range(number, 64, Refused(Status.NO_ENTRY))
+        with self._lock:
+            demand(lib.riddlesage_port_entry(self._port, place, frame, sent))
+        return Entry(frame_of(frame), bool(sent.value))

@@ -1,0 +1,153 @@
+"""A plugin of pytest that plays the conformance kit to a device in Python: one test for each case.
+
+    def test_my_controller(can_case):
+        can_case.hold_against(MyController(joining=can_case.joining))
+
+A test that asks for `can_case` is run with each case of the kit. A device has the calls of `riddlesage.Device`, and
+`hold(count)` where it makes overload frames of its own. What it tells by `sample` is compared where it tells anything,
+and so is how it ends where it has `state` and `counters`, as a Port has.
+
+`--can-only WORD` plays the cases whose names begin so, and `--can-without forced,hold` skips those that need what a
+bench can't do. The kit is looked for at the environment variable RIDDLESAGE_KIT, then in this package, then where the
+repository has it. What the rules demand of each case stands in its transcripts, which are the proved reference's.
+"""
+
+from __future__ import annotations
+
+import os
+import pathlib
+import sys
+from typing import TYPE_CHECKING, Protocol, cast
+
+import pytest
+
+from riddlesage import Device, Event, Frame, State, Told
+
+if TYPE_CHECKING:
+    from kit.documents import Case, Transcript
+
+_EVENTS = {
+    Event.SENT: "sent",
+    Event.RECEIVED: "received",
+    Event.LOST: "lost",
+    Event.BIT_ERROR: "error bit",
+    Event.STUFF_ERROR: "error stuff",
+    Event.CRC_ERROR: "error crc",
+    Event.FORM_ERROR: "error form",
+    Event.ACK_ERROR: "error ack",
+    Event.OVERLOAD: "overload",
+    Event.WENT_OFF: "off",
+    Event.RECOVERED: "recovered",
+}
+_STATES = {State.ERROR_ACTIVE: "active", State.ERROR_PASSIVE: "passive", State.BUS_OFF: "off"}
+
+
+def _kit() -> pathlib.Path | None:
+    """The folder with the modules, cases and transcripts of the kit."""
+    here = pathlib.Path(__file__).resolve()
+    named = os.environ.get("RIDDLESAGE_KIT")
+    places = [pathlib.Path(named)] if named else [here.parent / "conformance", here.parents[3] / "conformance"]
+    return next((place for place in places if (place / "kit").is_dir()), None)
+
+
+def _told_text(told: Told) -> str:
+    """The text of an event, as the kit has it."""
+    return _EVENTS[told.event] + (f" {told.frame.text}" if told.frame else "")
+
+
+class _Holding(Protocol):
+    def hold(self, count: int, /) -> None:
+        """Asks for so many overload frames of its own, 0 to 2, in place of an earlier wish."""
+
+
+class CanCase:
+    """A case of the kit, and what the rules demand in it."""
+
+    def __init__(self, case: Case, expected: Transcript) -> None:
+        self._case, self._expected = case, expected
+
+    @property
+    def name(self) -> str:
+        """The case's name."""
+        return self._case.name
+
+    @property
+    def purpose(self) -> str:
+        """What is tested."""
+        return self._case.purpose
+
+    @property
+    def joining(self) -> bool:
+        """Whether the device begins by joining the bus; else it is idle."""
+        return self._case.start == "joining"
+
+    def hold_against(self, device: Device) -> None:
+        """Plays the case to a new device, and fails at the first bit time in which it does not as the rules demand."""
+        from kit.comparing import LEVEL, differences
+        from kit.reports import Verdict, window_lines
+
+        given = self._play(device)
+        found = differences(given, self._expected)
+        if found:
+            time, kind, text = found[0]
+            lines = [Verdict(self._case, "fail", f"{time}: {text}").line(), f"  {self.purpose}"]
+            if kind == LEVEL:
+                lines += window_lines(self._case, time, given, self._expected)
+            pytest.fail("\n".join(lines), pytrace=False)
+
+    def _play(self, device: Device) -> Transcript:
+        """What the device does in the case."""
+        from kit.documents import Transcript
+        from kit.playing import seen_levels
+
+        offers, holds = self._case.offers[::-1], self._case.holds[::-1]
+        drove, events = "", []
+        for time, tester in enumerate(seen_levels(self._case)):
+            while offers and offers[-1][0] == time:
+                device.offer(Frame.from_text(offers.pop()[1]))
+            while holds and holds[-1][0] == time:
+                cast(_Holding, device).hold(holds.pop()[1])
+            driven = device.drive()
+            # with `f` it sees a recessive level whatever it drives
+            told = device.sample(1 if tester == "f" else driven & int(tester))
+            drove += str(int(driven))
+            if told is not None:
+                events.append((time, _told_text(told)))
+        state, counters = getattr(device, "state", None), getattr(device, "counters", None)
+        end = None
+        if state is not None and counters is not None:
+            transmit, receive = counters
+            end = (_STATES[State(state)], int(transmit), int(receive))
+        return Transcript(self.name, drove, events or None, None, end)
+
+
+def pytest_addoption(parser: pytest.Parser) -> None:
+    """The options of the plugin."""
+    group = parser.getgroup("riddlesage")
+    group.addoption("--can-only", action="append", metavar="WORD", help="cases whose names begin so")
+    group.addoption(
+        "--can-without", default="", metavar="NEEDS", help="what the bench can't do: forced,hold,queue,recovery"
+    )
+
+
+def pytest_generate_tests(metafunc: pytest.Metafunc) -> None:
+    """Runs a test that asks for `can_case` with each case."""
+    if "can_case" not in metafunc.fixturenames:
+        return
+    kit = _kit()
+    if kit is None:
+        raise pytest.UsageError("the conformance kit is not found: RIDDLESAGE_KIT names its folder")
+    if str(kit) not in sys.path:
+        sys.path.insert(0, str(kit))
+    from kit.library import FOLDER, TRANSCRIPTS, read_library
+
+    cases, expected = read_library([FOLDER, TRANSCRIPTS])
+    only = tuple(metafunc.config.getoption("--can-only") or ("",))
+    lacks = {need for need in metafunc.config.getoption("--can-without").split(",") if need}
+    chosen = []
+    for case in cases:
+        missing = sorted(lacks.intersection(case.needs))
+        marks = [pytest.mark.skip(reason=f"the bench has no {' and no '.join(missing)}")] if missing else []
+        if case.name.startswith(only):
+            chosen.append(pytest.param(CanCase(case, expected[case.name]), id=case.name, marks=marks))
+    metafunc.parametrize("can_case", chosen)

@@ -1,0 +1,294 @@
+//! Levels and frames, and the coding of frames.
+
+use std::error::Error;
+use std::fmt;
+use std::ops::{BitAnd, BitAndAssign, Not};
+
+use crate::{sys, Refused};
+
+/// A level of the bus. Dominant overrides recessive: `a & b` is the level of a wire that both drive.
+#[derive(Clone, Copy, Debug, PartialEq, Eq, Hash)]
+#[repr(u8)]
+pub enum Level {
+    /// The level 0.
+    Dominant = 0,
+    /// The level 1.
+    Recessive = 1,
+}
+
+impl Level {
+    pub(crate) fn of(number: u8) -> Self {
+        if number == 0 {
+            Self::Dominant
+        } else {
+            Self::Recessive
+        }
+    }
+}
+
+impl BitAnd for Level {
+    type Output = Self;
+
+    fn bitand(self, other: Self) -> Self {
+        match self {
+            Self::Recessive => other,
+            Self::Dominant => Self::Dominant,
+        }
+    }
+}
+
+impl BitAndAssign for Level {
+    fn bitand_assign(&mut self, other: Self) {
+        *self = *self & other;
+    }
+}
+
+impl Not for Level {
+    type Output = Self;
+
+    fn not(self) -> Self {
+        match self {
+            Self::Dominant => Self::Recessive,
+            Self::Recessive => Self::Dominant,
+        }
+    }
+}
+
+/// `0` or `1`.
+impl fmt::Display for Level {
+    fn fmt(&self, out: &mut fmt::Formatter<'_>) -> fmt::Result {
+        fmt::Display::fmt(&(*self as u8), out)
+    }
+}
+
+/// A data frame or a remote frame. What it holds is in range.
+///
+/// It is written as `S 123 D 2 aa55`.
+#[derive(Clone, Copy, PartialEq, Eq, Hash)]
+pub struct Frame {
+    identifier: u32,
+    extended: bool,
+    remote: bool,
+    dlc: u8,
+    data: [u8; 8],
+}
+
+impl Frame {
+    /// A data frame with a standard identifier, 0 to 0x7ff, and up to eight bytes.
+    ///
+    /// # Errors
+    ///
+    /// [`Refused::BadIdentifier`]; [`Refused::BadDlc`] where there are more bytes.
+    pub fn standard(identifier: u32, data: &[u8]) -> Result<Self, Refused> {
+        Self::new(identifier, false, false, Self::dlc_of(data)?, data)
+    }
+
+    /// A data frame with an extended identifier, 0 to `0x1fff_ffff`, and up to eight bytes.
+    ///
+    /// # Errors
+    ///
+    /// As those of [`Frame::standard`].
+    pub fn extended(identifier: u32, data: &[u8]) -> Result<Self, Refused> {
+        Self::new(identifier, true, false, Self::dlc_of(data)?, data)
+    }
+
+    /// A frame by each of its fields. A DLC of 9 to 15 means eight bytes; a remote frame has none.
+    ///
+    /// # Errors
+    ///
+    /// [`Refused::BadIdentifier`]; [`Refused::BadDlc`], also where the bytes are not as many as the DLC means.
+    pub fn new(identifier: u32, extended: bool, remote: bool, dlc: u8, data: &[u8]) -> Result<Self, Refused> {
+        let mut frame = Self { identifier, extended, remote, dlc, data: [0; 8] };
+        // what a frame may hold is the library's to say
+        frame.levels()?;
+        if data.len() != frame.data().len() {
+            return Err(Refused::BadDlc);
+        }
+        frame.data[..data.len()].copy_from_slice(data);
+        Ok(frame)
+    }
+
+    fn dlc_of(data: &[u8]) -> Result<u8, Refused> {
+        u8::try_from(data.len()).ok().filter(|length| *length <= 8).ok_or(Refused::BadDlc)
+    }
+
+    /// The identifier.
+    #[must_use]
+    pub fn identifier(&self) -> u32 {
+        self.identifier
+    }
+
+    /// Whether the identifier has 29 bits.
+    #[must_use]
+    pub fn is_extended(&self) -> bool {
+        self.extended
+    }
+
+    /// Whether it is a remote frame.
+    #[must_use]
+    pub fn is_remote(&self) -> bool {
+        self.remote
+    }
+
+    /// The data length code, 0 to 15.
+    #[must_use]
+    pub fn dlc(&self) -> u8 {
+        self.dlc
+    }
+
+    /// The bytes of a data frame; none of a remote frame.
+    #[must_use]
+    pub fn data(&self) -> &[u8] {
+        let count = if self.remote { 0 } else { usize::from(self.dlc).min(8) };
+        &self.data[..count]
+    }
+
+    /// The levels as the library has them, which are the frame's where it is one.
+    fn levels(&self) -> Result<Vec<Level>, Refused> {
+        let (mut levels, mut count) = ([0; sys::MOST_LEVELS], 0);
+        // SAFETY: each argument is of its size, and no two overlap
+        Refused::of(unsafe { sys::riddlesage_encode(&self.plain(), levels.as_mut_ptr(), levels.len(), &mut count) })?;
+        Ok(levels[..count].iter().copied().map(Level::of).collect())
+    }
+
+    pub(crate) fn plain(&self) -> sys::Frame {
+        sys::Frame {
+            identifier: self.identifier,
+            extended: self.extended.into(),
+            remote: self.remote.into(),
+            dlc: self.dlc,
+            data: self.data,
+        }
+    }
+
+    pub(crate) fn of(plain: &sys::Frame) -> Self {
+        Self {
+            identifier: plain.identifier,
+            extended: plain.extended != 0,
+            remote: plain.remote != 0,
+            dlc: plain.dlc,
+            data: plain.data,
+        }
+    }
+}
+
+impl fmt::Display for Frame {
+    fn fmt(&self, out: &mut fmt::Formatter<'_>) -> fmt::Result {
+        if self.extended {
+            write!(out, "E {:08x}", self.identifier)?;
+        } else {
+            write!(out, "S {:03x}", self.identifier)?;
+        }
+        write!(out, " {} {}", if self.remote { 'R' } else { 'D' }, self.dlc)?;
+        for (place, byte) in self.data().iter().enumerate() {
+            write!(out, "{}{byte:02x}", if place == 0 { " " } else { "" })?;
+        }
+        Ok(())
+    }
+}
+
+impl fmt::Debug for Frame {
+    fn fmt(&self, out: &mut fmt::Formatter<'_>) -> fmt::Result {
+        write!(out, "Frame({self})")
+    }
+}
+
+/// The levels of a frame as its sender drives them, from the start of frame to the end of frame, the ACK slot
+/// recessive.
+///
+/// # Panics
+///
+/// Never: a [`Frame`] is one.
+#[must_use]
+pub fn encode(frame: &Frame) -> Vec<Level> {
+    frame.levels().expect("a frame is one")
+}
+
+/// A frame as it was heard: with the levels that a receiver takes at either value.
+#[derive(Clone, Copy, Debug, PartialEq, Eq, Hash)]
+pub struct Heard {
+    /// The frame.
+    pub frame: Frame,
+    /// Whether a receiver has acknowledged it.
+    pub acknowledged: bool,
+    /// The SRR bit; recessive in a standard frame, which has none.
+    pub srr: Level,
+    /// The reserved bit r1; dominant in a standard frame, which has none.
+    pub r1: Level,
+    /// The reserved bit r0.
+    pub r0: Level,
+    /// The last level of the end of frame.
+    pub last: Level,
+    /// How many levels the frame has.
+    pub length: usize,
+}
+
+/// Levels begin with no frame.
+#[derive(Clone, Copy, Debug, PartialEq, Eq, Hash)]
+pub struct Fault {
+    /// What is wrong.
+    pub kind: FaultKind,
+    /// How many levels stand before the first one that is wrong.
+    pub place: usize,
+}
+
+/// Why levels begin with no frame.
+#[derive(Clone, Copy, Debug, PartialEq, Eq, Hash)]
+pub enum FaultKind {
+    /// The levels end before the frame does.
+    Short,
+    /// The first level is recessive, and no start of frame.
+    NoStart,
+    /// A stuff place repeats the level before it.
+    Stuff,
+    /// The check sequence is wrong.
+    Crc,
+    /// A delimiter or one of the first six levels of the end of frame is dominant.
+    Form,
+}
+
+impl fmt::Display for Fault {
+    fn fmt(&self, out: &mut fmt::Formatter<'_>) -> fmt::Result {
+        let name = match self.kind {
+            FaultKind::Short => "short",
+            FaultKind::NoStart => "no start",
+            FaultKind::Stuff => "stuff",
+            FaultKind::Crc => "crc",
+            FaultKind::Form => "form",
+        };
+        write!(out, "{name} at {}", self.place)
+    }
+}
+
+impl Error for Fault {}
+
+/// What is heard of the frame at the front of the levels. What stands behind it changes nothing.
+///
+/// # Errors
+///
+/// A [`Fault`] with its place, where no frame stands there.
+pub fn decode(levels: &[Level]) -> Result<Heard, Fault> {
+    let (mut heard, mut place) = (sys::Heard::default(), 0);
+    // SAFETY: a Level is a byte; each argument is of its size, and no two overlap
+    let status = unsafe { sys::riddlesage_decode(levels.as_ptr().cast(), levels.len(), &mut heard, &mut place) };
+    let kind = match status {
+        sys::OK => {
+            return Ok(Heard {
+                frame: Frame::of(&heard.frame),
+                acknowledged: heard.acknowledged != 0,
+                srr: Level::of(heard.srr),
+                r1: Level::of(heard.r1),
+                r0: Level::of(heard.r0),
+                last: Level::of(heard.last),
+                length: place,
+            })
+        }
+        sys::SHORT => FaultKind::Short,
+        sys::NO_START => FaultKind::NoStart,
+        sys::STUFF => FaultKind::Stuff,
+        sys::CRC => FaultKind::Crc,
+        sys::FORM => FaultKind::Form,
+        _ => unreachable!("riddlesage_decode answers {status}"),
+    };
+    Err(Fault { kind, place })
+}

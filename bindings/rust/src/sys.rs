@@ -1,0 +1,76 @@
+//! The calls of `riddlesage.h`, as they are.
+
+use std::ffi::{c_char, c_int};
+use std::marker::{PhantomData, PhantomPinned};
+
+#[repr(C)]
+#[derive(Clone, Copy, Default)]
+pub struct Frame {
+    pub identifier: u32,
+    pub extended: u8,
+    pub remote: u8,
+    pub dlc: u8,
+    pub data: [u8; 8],
+}
+
+#[repr(C)]
+#[derive(Clone, Copy, Default)]
+pub struct Heard {
+    pub frame: Frame,
+    pub acknowledged: u8,
+    pub srr: u8,
+    pub r1: u8,
+    pub r0: u8,
+    pub last: u8,
+}
+
+/// A port that the library keeps: only its place is known here.
+#[repr(C)]
+pub struct Port {
+    _fields: [u8; 0],
+    _marker: PhantomData<(*mut u8, PhantomPinned)>,
+}
+
+pub type Status = c_int;
+
+pub const OK: Status = 0;
+pub const NO_MEMORY: Status = 4;
+pub const QUEUE_FULL: Status = 5;
+pub const NO_ENTRY: Status = 6;
+pub const BAD_IDENTIFIER: Status = 8;
+pub const BAD_DLC: Status = 9;
+pub const BAD_COUNT: Status = 11;
+pub const NO_LEVELS: Status = 12;
+pub const SHORT: Status = 14;
+pub const NO_START: Status = 15;
+pub const STUFF: Status = 16;
+pub const CRC: Status = 17;
+pub const FORM: Status = 18;
+
+pub const MOST_LEVELS: usize = 157;
+
+extern "C" {
+    pub fn riddlesage_port_new() -> *mut Port;
+    pub fn riddlesage_port_delete(port: *mut Port) -> Status;
+    pub fn riddlesage_port_idle(port: *mut Port, queue: usize, log: usize) -> Status;
+    pub fn riddlesage_port_joining(port: *mut Port, queue: usize, log: usize) -> Status;
+    pub fn riddlesage_port_offer(port: *mut Port, frame: *const Frame) -> Status;
+    pub fn riddlesage_port_hold(port: *mut Port, count: u8) -> Status;
+    pub fn riddlesage_port_drive(port: *mut Port, level: *mut u8) -> Status;
+    pub fn riddlesage_port_sample(port: *mut Port, level: u8, event: *mut u8, frame: *mut Frame) -> Status;
+    pub fn riddlesage_port_run(
+        port: *mut Port,
+        levels: *const u8,
+        count: usize,
+        drives: *mut u8,
+        events: *mut u8,
+    ) -> Status;
+    pub fn riddlesage_port_counters(port: *mut Port, transmit: *mut u16, receive: *mut u16) -> Status;
+    pub fn riddlesage_port_state(port: *mut Port, state: *mut u8) -> Status;
+    pub fn riddlesage_port_log_length(port: *mut Port, count: *mut usize) -> Status;
+    pub fn riddlesage_port_missed(port: *mut Port, count: *mut u32) -> Status;
+    pub fn riddlesage_port_entry(port: *mut Port, number: usize, frame: *mut Frame, sent: *mut u8) -> Status;
+    pub fn riddlesage_encode(frame: *const Frame, levels: *mut u8, room: usize, count: *mut usize) -> Status;
+    pub fn riddlesage_decode(levels: *const u8, count: usize, heard: *mut Heard, place: *mut usize) -> Status;
+    pub fn riddlesage_version() -> *const c_char;
+}

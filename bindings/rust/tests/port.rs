@@ -1,0 +1,93 @@
+//! What the crate adds to `riddlesage.h`: types, refusals, ports that move and go to threads.
+
+use riddlesage::{decode, encode, version, Counters, Entry, Event, FaultKind, Frame, Level, Port, Refused, State};
+
+fn frame() -> Frame {
+    Frame::standard(0x123, &[0xaa, 0x55]).expect("a frame")
+}
+
+fn port(queue: usize, log: usize) -> Port {
+    Port::idle(queue, log).expect("memory")
+}
+
+#[test]
+fn a_frame_goes_both_ways() {
+    let levels = encode(&frame());
+    let text: String = levels.iter().map(Level::to_string).collect();
+    assert_eq!(text, "00010010001100000110101010100101010110000010100110011111111111");
+    let heard = decode(&levels).expect("a frame");
+    assert_eq!((heard.frame, heard.length, heard.acknowledged), (frame(), 62, false));
+    let fault = decode(&levels[..20]).expect_err("a part of a frame");
+    assert_eq!((fault.kind, fault.place, fault.to_string().as_str()), (FaultKind::Short, 20, "short at 20"));
+    assert_eq!(decode(&[]).map_err(|fault| fault.kind), Err(FaultKind::Short));
+    assert_eq!(decode(&[Level::Recessive]).map_err(|fault| fault.kind), Err(FaultKind::NoStart));
+}
+
+#[test]
+fn what_is_no_frame_is_refused() {
+    assert_eq!(Frame::standard(0x800, &[]), Err(Refused::BadIdentifier));
+    assert_eq!(Frame::extended(0x2000_0000, &[]), Err(Refused::BadIdentifier));
+    assert_eq!(Frame::new(1, false, true, 16, &[]), Err(Refused::BadDlc));
+    assert_eq!(Frame::new(1, false, true, 1, &[0]), Err(Refused::BadDlc));
+    assert_eq!(Frame::new(1, false, false, 9, &[0; 9]), Err(Refused::BadDlc));
+    assert_eq!(Frame::standard(1, &[0; 9]), Err(Refused::BadDlc));
+    assert_eq!(Frame::extended(0x1fff_ffff, &[1]).map(|frame| frame.to_string()), Ok("E 1fffffff D 1 01".to_string()));
+    assert_eq!(Frame::new(5, false, false, 15, &[0; 8]).map(|frame| frame.data().len()), Ok(8));
+}
+
+#[test]
+fn a_port_moves_and_goes_to_a_thread() {
+    let mut sender = port(1, 4);
+    sender.offer(&frame()).expect("room for a frame");
+    assert_eq!(sender.offer(&frame()), Err(Refused::QueueFull));
+    assert_eq!(sender.hold(3), Err(Refused::BadCount));
+    let told = std::thread::spawn(move || {
+        let port = &mut sender;
+        let levels: Vec<_> = (0..200).filter_map(|_| port.sample(port.drive())).collect();
+        levels
+    });
+    let told = told.join().expect("no panic");
+    // nobody acknowledges
+    assert!(!told.is_empty() && told.iter().all(|event| *event == Event::AckError));
+}
+
+#[test]
+fn two_ports() {
+    let mut ports = [port(1, 4), Port::joining(1, 0).expect("memory")];
+    for _ in 0..11 {
+        ports[1].sample(Level::Recessive);
+    }
+    ports[0].offer(&frame()).expect("room for a frame");
+    for _ in 0..200 {
+        let bus = ports[0].drive() & ports[1].drive();
+        for port in &mut ports {
+            port.sample(bus);
+        }
+    }
+    assert_eq!(ports[0].state(), State::ErrorActive);
+    assert_eq!(ports[0].log().collect::<Vec<_>>(), [Entry { frame: frame(), sent: true }]);
+    assert_eq!((ports[0].missed(), ports[0].entry(1)), (0, None));
+    assert_eq!((ports[1].missed(), ports[1].log().len()), (1, 0));
+    assert_eq!(ports[1].counters(), Counters::default());
+}
+
+#[test]
+fn many_bit_times_at_once() {
+    let mut receiver = port(1, 4);
+    assert_eq!(receiver.run(&[]), Err(Refused::NoLevels));
+    let mut levels = encode(&frame());
+    levels.extend([Level::Recessive; 11]);
+    let (drives, events) = receiver.run(&levels).expect("levels");
+    // the port acknowledges, and the slot stays recessive
+    assert_eq!((drives[53], events[53]), (Level::Dominant, 4));
+}
+
+#[test]
+fn more_memory_than_there_is() {
+    assert_eq!(Port::idle(usize::MAX, 0).err(), Some(Refused::NoMemory));
+}
+
+#[test]
+fn one_version() {
+    assert_eq!(version(), env!("CARGO_PKG_VERSION"));
+}

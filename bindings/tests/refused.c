@@ -1,0 +1,72 @@
+/*
+ * Each allocation of the library is refused in turn: a call says so by its status, nothing is lost, and where none is
+ * refused it succeeds. Link with -Wl,--wrap=malloc,--wrap=realloc.
+ */
+#include "riddlesage.h"
+
+#include <stdio.h>
+#include <stdlib.h>
+
+/* How many allocations are given before one is refused; and whether one was. */
+static int given;
+static bool refused;
+
+void *__real_malloc(size_t size);
+void *__real_realloc(void *at, size_t size);
+void *__wrap_malloc(size_t size);
+void *__wrap_realloc(void *at, size_t size);
+
+static bool refuses(void)
+{
+  bool now = given-- == 0;
+  refused = refused || now;
+  return now;
+}
+
+void *__wrap_malloc(size_t size)
+{
+  return refuses() ? NULL : __real_malloc(size);
+}
+
+void *__wrap_realloc(void *at, size_t size)
+{
+  return refuses() ? NULL : __real_realloc(at, size);
+}
+
+/* A port is made, another one in its place, used and deleted: whether all refusals are told, and no others. */
+static bool play(void)
+{
+  static const riddlesage_frame frame = { 0x123, 0, 0, 2, { 0xaa, 0x55 } };
+  riddlesage_port *port = riddlesage_port_new();
+  riddlesage_status first, second;
+  uint8_t level;
+  bool well;
+
+  if (port == NULL)
+    return refused;
+  first = riddlesage_port_idle(port, 4, 4);
+  second = riddlesage_port_joining(port, 8, 8);
+  well = first == RIDDLESAGE_OK || second == RIDDLESAGE_OK
+             ? riddlesage_port_offer(port, &frame) == RIDDLESAGE_OK
+             : riddlesage_port_drive(port, &level) == RIDDLESAGE_NO_PORT;
+  well = well && (first == RIDDLESAGE_OK || first == RIDDLESAGE_NO_MEMORY);
+  well = well && (second == RIDDLESAGE_OK || second == RIDDLESAGE_NO_MEMORY);
+  well = well && (first != second) == refused;
+  return riddlesage_port_delete(port) == RIDDLESAGE_OK && well;
+}
+
+int main(void)
+{
+  int number = 0;
+
+  do {
+    refused = false;
+    given = number++;
+    if (!play()) {
+      printf("allocation %d is refused, and not told so\n", number);
+      return EXIT_FAILURE;
+    }
+  } while (refused);
+  printf("%d allocations refused\n", number - 1);
+  return number > 3 ? EXIT_SUCCESS : EXIT_FAILURE;
+}
