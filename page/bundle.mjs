@@ -1,5 +1,5 @@
 // Puts the page together: bundle.mjs SOURCES WASM SCENARIOS OUT. The scripts become one, in the order in which they need one
-// another, and the page's own policy allows these scripts and styles and no network.
+// another, those of the worker another one, and the page's own policy allows these scripts and styles and no network.
 import { createHash } from 'node:crypto';
 import { readFileSync, readdirSync, writeFileSync } from 'node:fs';
 import { join } from 'node:path';
@@ -23,6 +23,18 @@ function withNeeded(folder, name, found = new Map()) {
   const body = text.replace(IMPORT, (_, items, needed) => `const ${items} = ${needed}_js;\n`).replace(EXPORT, '').trim();
   if (/^(import|export)\b/m.test(body)) throw new Error(`${name}.js has an import or export that is not understood`);
   return found.set(name, `const ${name}_js = (() => {\n${body}\nreturn { ${exported.join(', ')} };\n})();`);
+}
+
+/**
+ * A script with all that it needs.
+ * @param {string} folder
+ * @param {string} name
+ */
+function scriptOf(folder, name) {
+  const script = `\n${[...withNeeded(folder, name).values()].join('\n\n')}\n`;
+  new Script(script); // a mistake of syntax is told here
+  if (script.includes('</script')) throw new Error(`${name}.js would end before its end`);
+  return script;
 }
 
 /**
@@ -51,14 +63,13 @@ function scenariosIn(from) {
 }
 
 const [folder, wasm, scenarios, out] = process.argv.slice(2);
-const scripts = withNeeded(folder, 'main');
-const script = `\n${[...scripts.values()].join('\n\n')}\n`;
-new Script(script); // a mistake of syntax is told here
+const script = scriptOf(folder, 'main');
 const style = `\n${readFileSync(join(folder, 'style.css'), 'utf8')}`;
 let page = readFileSync(join(folder, 'index.html'), 'utf8');
-page = fill(page, '@POLICY@', `default-src 'none'; script-src 'wasm-unsafe-eval' ${policyHash(script)}; style-src ${policyHash(style)}; img-src blob: data:; base-uri 'none'; form-action 'none'`);
+page = fill(page, '@POLICY@', `default-src 'none'; script-src 'wasm-unsafe-eval' ${policyHash(script)}; style-src ${policyHash(style)}; worker-src blob:; img-src blob: data:; base-uri 'none'; form-action 'none'`);
 page = fill(page, '@STYLE@', style);
 page = fill(page, '@MODULE@', readFileSync(wasm).toString('base64'));
 page = fill(page, '@SCENARIOS@', scenariosIn(scenarios));
+page = fill(page, '@WORKER@', scriptOf(folder, 'bus_worker'));
 page = fill(page, '@SCRIPT@', script);
 writeFileSync(out, page);

@@ -1,34 +1,48 @@
 /** The view that runs a scenario, and shows its bus bit time by bit time. */
+import { numberIn, packed, unpacked } from './address.js';
 import { ANSWER, MOST_SCENARIO } from './core.js';
+import { EndView } from './bus_end.js';
 import { BusPicture } from './bus_picture.js';
 import { BusTimes, DOES, PortTimes } from './bus_times.js';
-import { BROUGHT_WORDS, DOES_WORDS, STAGES, wrongWords } from './bus_words.js';
+import { BROUGHT_WORDS, DOES_WORDS, STAGES } from './bus_words.js';
 import { byId, copyText, download, html } from './draw.js';
+import { Report } from './report.js';
 import { ScenarioForm } from './scenario_form.js';
-import { formOf, tablesIn, textOf } from './scenario_text.js';
+import { faultIn } from './scenario_fault.js';
+import { formOf, textOf } from './scenario_text.js';
 import { counted } from './words.js';
 
 /** A picture of more bit times of ports is not drawn, and a longer report not shown but downloaded. */
 const MOST_PORT_TIMES = 8000000;
 const MOST_SHOWN = 100000;
 
+/** A longer text is kept, and not put into the field, which would be slow with it. */
+const MOST_TYPED = 100000;
+
 const LEVEL_WORDS = ['dominant', 'recessive'];
 
+/** The names of the columns of the ports in a bit time. */
+const COLUMNS = ['Phase', 'Part', 'Drives', 'Sees', 'TEC', 'REC', 'What comes'];
+
 export class BusView {
-  /** @param {import('./core.js').Core} core */
-  constructor(core) {
-    this.core = core;
-    this.text = byId('bus-text');
+  /**
+   * @param {import('./core.js').Core} core
+   * @param {import('./bus_runs.js').Runs} runs
+   */
+  constructor(core, runs) {
+    Object.assign(this, { core, runs });
+    this.field = byId('bus-text');
+    this.text = '';
     this.picked = 0;
     /** @type {BusTimes | null} */
     this.bus = null;
-    this.report = '';
+    /** @type {Report | null} */
+    this.report = null;
+    this.waits = false;
     this.examples = JSON.parse(byId('scenarios').textContent);
-    this.picture = new BusPicture(byId('bus-picture'), (time) => this.pick(time));
-    this.form = new ScenarioForm(() => {
-      this.text.value = textOf(this.form.read());
-      this.run();
-    });
+    this.picture = new BusPicture(byId('bus-picture'), (levels) => core.marks(levels), (time) => this.pick(time));
+    this.ends = new EndView((time, node) => this.visit(time, node));
+    this.form = new ScenarioForm(() => this.take(textOf(this.form.read()), { fills: false }));
     byId('bus-examples').append(...this.examples.map(([name]) => html('option', { value: name }, [name.replaceAll('_', ' ')])));
     byId('bus-key').append(...DOES.map((does) => html('li', {}, [html('span', { class: `swatch does-${does}` }), DOES_WORDS[does].name])));
     this.listen();
@@ -36,13 +50,17 @@ export class BusView {
   }
 
   listen() {
-    this.text.addEventListener('input', () => this.showText());
+    this.field.addEventListener('input', () => this.take(this.field.value, { types: true }));
+    this.field.addEventListener('paste', (event) => this.paste(event));
     byId('bus-examples').addEventListener('change', (event) => { if (event.target.value) this.showExample(event.target.value); });
+    byId('bus-file').addEventListener('change', (event) => this.showFile(event.target.files[0]));
+    const { picture } = this;
     const actions = {
-      'bus-back': () => this.pick(this.picked - 1), 'bus-on': () => this.pick(this.picked + 1), 'bus-zoom-in': () => this.picture.zoom(0.5),
-      'bus-zoom-out': () => this.picture.zoom(2), 'bus-zoom-all': () => this.picture.view(0, Infinity), 'bus-earlier': () => this.picture.pan(-0.5),
-      'bus-later': () => this.picture.pan(0.5), 'bus-next': () => this.nextEvent(), 'bus-download': () => download('report.txt', 'text/plain', this.report),
-      'bus-copy': () => this.copy(),
+      'bus-back': () => this.pick(this.picked - 1), 'bus-on': () => this.pick(this.picked + 1), 'bus-zoom-in': () => picture.zoom(0.5), 'bus-zoom-out': () => picture.zoom(2),
+      'bus-zoom-all': () => picture.view(0, Infinity), 'bus-earlier': () => picture.pan(-0.5), 'bus-later': () => picture.pan(0.5), 'bus-next': () => this.nextEvent(),
+      'bus-previous': () => this.previousEvent(), 'bus-fold': () => picture.foldAll(true), 'bus-unfold': () => picture.foldAll(false), 'bus-copy': () => this.copy(),
+      'bus-download': () => download('report.txt', 'text/plain', this.report?.bytes ?? ''), 'bus-save': () => download('scenario.toml', 'text/plain', this.text),
+      'bus-edit': () => { byId('bus-scenario').scrollIntoView(); this.field.focus({ preventScroll: true }); },
     };
     for (const [id, action] of Object.entries(actions)) byId(id).addEventListener('click', action);
     byId('bus-picture').addEventListener('keydown', (event) => this.key(event));
@@ -50,10 +68,11 @@ export class BusView {
 
   /** @param {KeyboardEvent} event */
   key(event) {
+    const { picture } = this;
     const action = {
       ArrowLeft: () => this.pick(this.picked - 1), ArrowRight: () => this.pick(this.picked + 1), PageUp: () => this.pick(this.picked - 10), PageDown: () => this.pick(this.picked + 10),
-      Home: () => this.pick(0), End: () => this.pick(Infinity), '+': () => this.picture.zoom(0.5), '=': () => this.picture.zoom(0.5), '-': () => this.picture.zoom(2),
-      0: () => this.picture.view(0, Infinity), n: () => this.nextEvent(),
+      Home: () => this.pick(0), End: () => this.pick(Infinity), '+': () => picture.zoom(0.5), '=': () => picture.zoom(0.5), '-': () => picture.zoom(2), 0: () => picture.view(0, Infinity),
+      n: () => this.nextEvent(), p: () => this.previousEvent(), ArrowUp: () => picture.goTo(picture.node - 1), ArrowDown: () => picture.goTo(picture.node + 1), Enter: () => picture.fold(picture.node),
     }[event.key];
     if (!action || event.ctrlKey || event.altKey || event.metaKey) return;
     event.preventDefault();
@@ -61,97 +80,151 @@ export class BusView {
   }
 
   /** @param {string} name */
-  showExample(name) {
-    this.text.value = this.examples.find(([other]) => other === name)[1];
-    this.showText();
+  showExample(name) { this.take(this.examples.find(([other]) => other === name)[1]); }
+
+  /** @param {ClipboardEvent} event */
+  paste(event) {
+    const text = event.clipboardData.getData('text');
+    if (text.length <= MOST_TYPED) return;
+    event.preventDefault();
+    this.take(text);
   }
 
-  /** Shows the text that is there, in the form too where it can. */
-  showText() {
-    const form = formOf(this.text.value);
-    this.form.enable(form !== null);
-    if (form) this.form.fill(form);
-    this.run();
-  }
-
-  /** Runs the scenario of the text. */
-  run() {
-    const bytes = new TextEncoder().encode(this.text.value);
-    if (bytes.length > MOST_SCENARIO) {
-      this.refuse('The scenario is too long for this page. The program canbit has no such limit.');
-      return;
-    }
-    const began = performance.now();
-    const { answer, wrong, report } = this.core.run(bytes);
-    if (answer !== ANSWER.done) {
-      this.refuse(...(answer === ANSWER.badScenario ? this.fault(wrong) : ['The run needs more memory than this page has. The program canbit has no such limit.']));
-      return;
-    }
-    this.form.mark('');
-    this.text.removeAttribute('aria-invalid');
-    byId('bus-fault').textContent = '';
-    this.report = new TextDecoder().decode(report);
-    this.bus = this.timesOf(bytes, levelsIn(report));
-    this.show(performance.now() - began);
+  /** @param {File | undefined} file */
+  async showFile(file) {
+    if (!file) return;
+    if (file.size > MOST_SCENARIO) this.refuse([TOO_LONG]);
+    else this.take(await file.text());
+    byId('bus-file').value = '';
   }
 
   /**
-   * @param {Uint8Array} bytes the scenario
-   * @param {Uint8Array} levels
-   * @returns {BusTimes | null} none where there are too many
+   * Shows a scenario.
+   * @param {string} text
+   * @param {{types?: boolean, fills?: boolean}} how whether it is typed, and whether the form is filled in
    */
-  timesOf(bytes, levels) {
-    const count = this.portLines().length;
-    if (count * levels.length > MOST_PORT_TIMES) return null;
-    const ports = [];
-    for (let node = 0; node < count; node += 1) {
-      const { answer, times } = this.core.portTimes(bytes, node);
-      if (answer !== ANSWER.done) return null;
-      ports.push(new PortTimes(times));
+  take(text, { types = false, fills = true } = {}) {
+    this.text = text;
+    const isLong = text.length > MOST_TYPED;
+    if (!types) this.field.value = isLong ? '' : text;
+    byId('bus-name').textContent = isLong && !types ? `Shown: a scenario of ${counted(text.length, 'character')}, which are too many for the field.` : '';
+    if (fills) {
+      const form = isLong ? null : formOf(text);
+      this.form.enable(form !== null);
+      if (form) this.form.fill(form);
     }
-    return new BusTimes(levels, ports);
+    this.run();
   }
 
-  /** The lines of the report that tell of the ports. */
-  portLines() {
-    return this.report.split('\n').slice(2).filter((line) => line.startsWith('port '));
+  /** @param {string} state running, reported, shown or refused */
+  enter(state) {
+    byId('panel-bus').dataset.state = state;
+    byId('bus-shown').setAttribute('aria-busy', String(state === 'running' || state === 'reported'));
+  }
+
+  /** Runs the scenario of the text. */
+  async run() {
+    const bytes = new TextEncoder().encode(this.text);
+    if (bytes.length > MOST_SCENARIO) {
+      this.refuse([TOO_LONG]);
+      return;
+    }
+    this.enter('running');
+    const began = performance.now();
+    const told = await this.runs.report(bytes);
+    if (!told) return;
+    if (told.answer === ANSWER.badScenario) this.refuse(...this.fault(told.wrong));
+    else if (told.answer !== ANSWER.done) this.refuse(['The run needs more memory than this page has. The program canbit has no such limit.']);
+    else await this.show(bytes, new Report(told.report, told.index), performance.now() - began);
+  }
+
+  /**
+   * Shows a report, and the ports as they come.
+   * @param {Uint8Array} bytes the scenario
+   * @param {Report} report
+   * @param {number} took in milliseconds
+   */
+  async show(bytes, report, took) {
+    this.clearFault();
+    this.report = report;
+    const isDrawn = report.ports * report.levels.length <= MOST_PORT_TIMES;
+    const bus = isDrawn ? new BusTimes(report.levels, report.ports) : null;
+    this.bus = bus;
+    byId('bus-shown').hidden = false;
+    byId('bus-drawn').hidden = !bus?.count;
+    this.tellWhole(took);
+    byId('bus-report').textContent = report.bytes.length > MOST_SHOWN
+      ? `${new TextDecoder().decode(report.bytes.subarray(0, MOST_SHOWN))}\n(So far ${MOST_SHOWN.toLocaleString('en')} of ${counted(report.bytes.length, 'byte')}; the whole report is in the download.)` : report.text;
+    this.ends.show(report, bus);
+    this.picture.show(bus);
+    this.enter('reported');
+    this.begin();
+    if (bus?.count && !(await this.runs.ports(bytes, report.levels, report.ports, () => this.nextPort(bus), (node, told) => this.put(bus, node, told)))) return;
+    if (this.bus === bus) this.enter('shown');
+  }
+
+  /** Picks the bit time at which a view begins. */
+  begin() {
+    const { time = 0, from, span } = this.opened ?? {};
+    this.opened = null;
+    if (!this.bus?.count) return;
+    this.pick(time);
+    if (from !== undefined && span !== undefined) this.picture.view(from, span);
+  }
+
+  /** The port that is to come next: one in view, or else the first. @param {BusTimes} bus */
+  nextPort(bus) {
+    bus.asked ??= new Set();
+    const node = [...this.picture.inView, ...bus.ports.keys()].find((each) => !bus.asked.has(each));
+    bus.asked.add(node);
+    return node;
+  }
+
+  put(bus, node, { times, index }) {
+    bus.put(node, new PortTimes(times, index));
+    this.ends.refresh(node);
+    this.picture.drawSoon();
+    this.tellSoon();
   }
 
   /** @param {number} took in milliseconds */
-  show(took) {
-    const lines = this.portLines();
-    byId('bus-shown').hidden = false;
-    byId('bus-drawn').hidden = this.bus === null || this.bus.count === 0;
-    const bits = this.report.slice(5, this.report.indexOf('\n'));
+  tellWhole(took) {
     const untold = this.bus === null ? ' The picture would be too large for this page; the report is whole.' : '';
-    byId('bus-told').textContent = `${counted(Number(bits), 'bit time')} of ${counted(lines.length, 'port')}, run in ${Math.ceil(took)} ms.${untold}`;
+    byId('bus-told').textContent = `${counted(this.report.levels.length, 'bit time')} of ${counted(this.report.ports, 'port')}, run in ${Math.ceil(took)} ms.${untold}`;
     byId('bus-told').dataset.took = String(took);
-    byId('bus-report').textContent = this.report.length > MOST_SHOWN ? `${this.report.slice(0, MOST_SHOWN)}\n(The rest is in the download.)` : this.report;
-    byId('bus-logs').replaceChildren(...logRows(this.report));
-    this.picture.show(this.bus);
-    if (this.bus?.count) this.pick(0);
   }
 
   /**
    * What is wrong, where it stands, and what may stand there.
    * @param {import('./core.js').WrongField} wrong
+   * @returns {[Array<Node | string>, string]}
    */
   fault(wrong) {
-    const { code, why } = wrongWords(wrong);
+    const { code, place, inside, why } = faultIn(this.core, this.text, wrong);
     this.form.mark(code);
-    const line = tablesIn(this.text.value)?.lines.get(code.replace(/(\.queue|^at|^in|^view)\[\d+\]$/, '$1'));
-    return [html('strong', {}, [`P2 ${code}`]), `${line ? ` (line ${line})` : ''}: ${why}`];
+    return [[html('strong', {}, [`P2 ${code}`]), place, ': ', ...inside, why], `The scenario is wrong: P2 ${code}${place}.`];
   }
 
-  /** @param {Array<Node | string>} why nothing is shown */
-  refuse(...why) {
+  clearFault() {
+    this.form.mark('');
+    this.field.removeAttribute('aria-invalid');
+    byId('bus-fault').textContent = '';
+  }
+
+  /**
+   * @param {Array<Node | string>} why nothing is shown
+   * @param {string} [told] the same in short
+   */
+  refuse(why, told = '') {
+    this.runs.number += 1;
     byId('bus-fault').replaceChildren(...why);
-    this.text.setAttribute('aria-invalid', 'true');
+    this.field.setAttribute('aria-invalid', 'true');
     byId('bus-shown').hidden = true;
-    byId('bus-told').textContent = '';
+    byId('bus-told').textContent = told;
     this.bus = null;
-    this.report = '';
+    this.report = null;
     this.picture.show(null);
+    this.enter('refused');
   }
 
   /** Shows one bit time of all ports. @param {number} time */
@@ -161,52 +234,79 @@ export class BusView {
     this.picture.pick(this.picked);
     byId('bus-back').disabled = this.picked === 0;
     byId('bus-on').disabled = this.picked === this.bus.count - 1;
+    this.tellTime();
+  }
+
+  /** Goes to an entry of a log. */
+  visit(time, node) {
+    this.pick(time);
+    this.picture.goTo(node);
+    byId('bus-picture').scrollIntoView({ block: 'center' });
+    byId('bus-picture').focus({ preventScroll: true });
+  }
+
+  /** Tells the bit time that is picked once more before the next frame is shown. */
+  tellSoon() {
+    if (this.waits) return;
+    this.waits = true;
+    requestAnimationFrame(() => {
+      this.waits = false;
+      if (this.bus?.count) this.tellTime();
+    });
+  }
+
+  tellTime() {
     const level = LEVEL_WORDS[this.bus.levels[this.picked]];
     const hit = this.bus.isHit(this.picked) ? ', disturbed' : '';
-    const events = this.bus.ports.map((port, node) => [node, BROUGHT_WORDS[port.brought(this.picked)]]).filter(([, word]) => word).map(([node, word]) => `port ${node}: ${word}`);
-    byId('bus-time').textContent = `Bit time ${this.picked.toLocaleString('en')}: ${level}${hit}${events.length ? `; ${events.join(', ')}` : ''}`;
-    byId('bus-rows').replaceChildren(...this.bus.ports.map((port, node) => this.portRow(port, node)));
+    const events = this.bus.ports.flatMap((port, node) => (port && comesTo(port, this.picked) ? [`port ${node}: ${comesTo(port, this.picked)}`] : []));
+    const awaited = this.bus.awaited > 0 ? ` (${counted(this.bus.awaited, 'port')} being worked out)` : '';
+    byId('bus-time').textContent = `Bit time ${this.picked.toLocaleString('en')}: ${level}${hit}${events.length ? `; ${events.join(', ')}` : ''}${awaited}`;
+    byId('bus-rows').replaceChildren(...this.bus.ports.flatMap((port, node) => (port ? [this.portRow(port, node)] : [])));
   }
 
   portRow(port, node) {
     const time = this.picked;
     const does = DOES[port.kinds[port.runAt(time)]];
     const blind = this.bus.isBlind(node, time) ? ' (disturbed)' : '';
-    const cells = [STAGES[port.stage(time)], port.sends(time) ? 'sender' : 'receiver', LEVEL_WORDS[port.drove(time)], LEVEL_WORDS[port.saw(time)] + blind,
-      String(port.transmit(time)), String(port.receive(time)), BROUGHT_WORDS[port.brought(time)]];
-    return html('tr', {}, [html('th', { scope: 'row' }, [html('span', { class: `swatch does-${does}` }), `Port ${node}`]), ...cells.map((cell) => html('td', {}, [cell]))]);
+    const cells = [port.isStart(time) ? 'start of frame' : STAGES[port.stage(time)], port.isSender(time) ? 'sender' : 'receiver', LEVEL_WORDS[port.drove(time)], LEVEL_WORDS[port.saw(time)] + blind,
+      String(port.transmit(time)), String(port.receive(time)), comesTo(port, time)];
+    return html('tr', {}, [html('th', { scope: 'row' }, [html('span', { class: `swatch does-${does}` }), `Port ${node}`]), ...cells.map((cell, column) => html('td', { 'data-name': COLUMNS[column] }, [cell]))]);
   }
 
   /** The next bit time in which anything comes to a port or a disturbance falls, or else the first. */
   nextEvent() {
-    if (!this.bus?.count) return;
-    this.pick(this.bus.eventBehind(this.picked) ?? this.bus.eventBehind(-1) ?? this.picked);
+    if (this.bus?.count) this.pick(this.bus.eventBehind(this.picked) ?? this.bus.eventBehind(-1) ?? this.picked);
+  }
+
+  /** The last such bit time before this one, or else the last of all. */
+  previousEvent() {
+    if (this.bus?.count) this.pick(this.bus.eventBefore(this.picked) ?? this.bus.eventBefore(Infinity) ?? this.picked);
   }
 
   async copy() {
-    byId('bus-copied').textContent = (await copyText(this.report)) ? 'Copied.' : 'This browser does not let the page copy.';
+    byId('bus-copied').textContent = (await copyText(this.report.text)) ? 'Copied.' : 'This browser does not let the page copy.';
+  }
+
+  /** What the view shows, for an address; nothing where that is long. */
+  async what() {
+    if (this.text.length > MOST_TYPED) return null;
+    const { from, span } = this.picture;
+    return { scenario: await packed(this.text), time: this.picked, from: Math.round(from), span: Math.round(span) };
+  }
+
+  /** Shows what an address says. @param {Record<string, string>} what */
+  async open(what) {
+    const text = what.scenario === undefined ? null : await unpacked(what.scenario);
+    if (text === null) return;
+    this.opened = { time: numberIn(what.time), from: numberIn(what.from), span: numberIn(what.span) };
+    this.take(text);
   }
 }
 
-/**
- * @param {Uint8Array} report
- * @returns {Uint8Array} the levels that it tells in its second line
- */
-function levelsIn(report) {
-  const start = report.indexOf(0x0a) + 1;
-  return report.slice(start, report.indexOf(0x0a, start)).map((digit) => digit - 0x30);
-}
+const TOO_LONG = 'The scenario is too long for this page. The program canbit has no such limit.';
 
-/**
- * Rows that tell each port's end and log.
- * @param {string} report
- */
-function logRows(report) {
-  const rows = [];
-  for (const line of report.split('\n').slice(2, 2002)) {
-    const port = /^port (\d+) (\w+) tec (\d+) rec (\d+) missed (\d+)$/.exec(line);
-    if (port) rows.push(html('tr', {}, [html('th', { scope: 'row' }, [`Port ${port[1]}`]), ...port.slice(2).map((cell) => html('td', {}, [cell])), html('td', { class: 'mono' })]));
-    else if (line && rows.length > 0) rows.at(-1).lastElementChild.append(html('div', {}, [line.trim()]));
-  }
-  return rows;
+/** What a bit time brings to a port, in words. */
+function comesTo(port, time) {
+  const brought = BROUGHT_WORDS[port.brought(time)];
+  return port.isStart(time) && port.isSender(time) ? ['begins its frame', brought].filter(Boolean).join(', ') : brought;
 }

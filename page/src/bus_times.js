@@ -8,42 +8,63 @@ const KINDS = ['joining', 'idle', , , , , , 'flag', 'passive', 'overload', 'deli
 /** What a port does in a bit time, in the order in which the picture's key names it. */
 export const DOES = Object.freeze(['idle', 'sending', 'receiving', 'flag', 'passive', 'overload', 'delimiter', 'intermission', 'suspend', 'joining', 'off']);
 
+const IN_FRAME_DOES = Object.freeze(['sending', 'receiving'].map((name) => DOES.indexOf(name)));
+
 /** The numbers of what a bit time brings. */
 export const BROUGHT = Object.freeze({ sent: 1, received: 2, lost: 3, firstError: 4, lastError: 8, overload: 9, off: 10, recovered: 11 });
 
+/**
+ * Where what a port does changes, where a counter does, where something comes to it, and where it alone sees the opposite.
+ * @param {Uint8Array} times what the proved code tells of it
+ * @param {Uint8Array} levels those that are recorded
+ */
+export function indexOf(times, levels) {
+  const port = new PortTimes(times);
+  const starts = [];
+  const kinds = [];
+  const moves = [];
+  const marks = [];
+  const blind = [];
+  let last = -1;
+  for (let time = 0; time < port.count; time += 1) {
+    const kind = port.kind(time);
+    if (last !== kind) {
+      starts.push(time);
+      kinds.push(kind);
+      last = kind;
+    }
+    if (time > 0 && (port.transmit(time) !== port.transmit(time - 1) || port.receive(time) !== port.receive(time - 1))) moves.push(time);
+    if (port.brought(time) !== 0) marks.push(time);
+    if (port.saw(time) !== levels[time]) blind.push(time);
+  }
+  return { starts: Uint32Array.from(starts), kinds: Uint8Array.from(kinds), moves: Uint32Array.from(moves), marks: Uint32Array.from(marks), blind: Uint32Array.from(blind) };
+}
+
 /** One port. */
 export class PortTimes {
-  /** @param {Uint8Array} bytes */
-  constructor(bytes) {
+  /**
+   * @param {Uint8Array} bytes
+   * @param {ReturnType<typeof indexOf>} [index]
+   */
+  constructor(bytes, index) {
     this.count = bytes.length / TIME_BYTES;
     this.bytes = bytes;
-    this.view = new DataView(bytes.buffer, bytes.byteOffset, bytes.byteLength);
-    this.index();
+    if (index) this.take(index);
   }
 
-  /** Notes where what it does changes, where a counter does, and where something comes. */
-  index() {
-    const starts = [];
-    const kinds = [];
-    const moves = [];
-    const marks = [];
-    for (let time = 0; time < this.count; time += 1) {
-      const kind = this.kind(time);
-      if (kinds.at(-1) !== kind) {
-        starts.push(time);
-        kinds.push(kind);
-      }
-      if (time > 0 && (this.transmit(time) !== this.transmit(time - 1) || this.receive(time) !== this.receive(time - 1))) moves.push(time);
-      if (this.brought(time) >= BROUGHT.lost) marks.push(time);
-    }
-    Object.assign(this, { starts: Uint32Array.from(starts), kinds: Uint8Array.from(kinds), moves: Uint32Array.from(moves), marks: Uint32Array.from(marks) });
-    this.losses = this.marks.filter((time) => this.brought(time) === BROUGHT.lost);
-    this.errors = this.marks.filter((time) => this.brought(time) >= BROUGHT.firstError && this.brought(time) <= BROUGHT.lastError);
+  /** @param {ReturnType<typeof indexOf>} index */
+  take(index) {
+    Object.assign(this, index);
+    const among = (first, last) => this.marks.filter((time) => this.brought(time) >= first && this.brought(time) <= last);
+    this.losses = among(BROUGHT.lost, BROUGHT.lost);
+    this.errors = among(BROUGHT.firstError, BROUGHT.lastError);
+    /** The bit times at the ends of frames that it sent or received: those of the entries of its log, in their order. */
+    this.heard = among(BROUGHT.sent, BROUGHT.received);
   }
 
-  transmit(time) { return this.view.getUint16(time * TIME_BYTES, true); }
+  transmit(time) { return this.bytes[time * TIME_BYTES] + 256 * this.bytes[time * TIME_BYTES + 1]; }
 
-  receive(time) { return this.view.getUint16(time * TIME_BYTES + 2, true); }
+  receive(time) { return this.bytes[time * TIME_BYTES + 2] + 256 * this.bytes[time * TIME_BYTES + 3]; }
 
   stage(time) { return this.bytes[time * TIME_BYTES + 4]; }
 
@@ -58,40 +79,72 @@ export class PortTimes {
   /** @param {number} time @returns {number} the stretch in which it does one thing */
   runAt(time) { return firstFrom(this.starts, time + 1) - 1; }
 
+  /** Whether it is in a frame, behind its start. */
+  isInFrame(time) { return time < this.count && IN_FRAME.includes(this.stage(time)); }
+
+  /** Whether a frame begins here: its phase is the one before, and the next one is in the frame. */
+  isStart(time) { return !this.isInFrame(time) && this.isInFrame(time + 1); }
+
+  /** Whether it sends in this bit time, that of a start of frame too. */
+  isSender(time) { return this.sends(this.isStart(time) ? time + 1 : time); }
+
   /** @param {number} time @returns {number} the place in DOES of what it does */
   kind(time) {
-    const stage = this.stage(time);
-    if (IN_FRAME.includes(stage)) return DOES.indexOf(this.sends(time) ? 'sending' : 'receiving');
-    return DOES.indexOf(KINDS[stage]);
+    if (this.isInFrame(time) || this.isStart(time)) return DOES.indexOf(this.isSender(time) ? 'sending' : 'receiving');
+    return DOES.indexOf(KINDS[this.stage(time)]);
   }
+
+  /**
+   * The frame, as far as it is heard, that is on the bus for this port.
+   * @param {number} time
+   * @returns {[number, number] | null} its start and what is behind it
+   */
+  frameAt(time) {
+    let run = this.runAt(time);
+    if (run < 0 || !IN_FRAME_DOES.includes(this.kinds[run])) return null;
+    const goesOn = (at) => at > 0 && !this.isStart(this.starts[at]) && IN_FRAME_DOES.includes(this.kinds[at]);
+    while (goesOn(run)) run -= 1;
+    const start = this.starts[run];
+    run += 1;
+    while (run < this.starts.length && goesOn(run)) run += 1;
+    return [start, run < this.starts.length ? this.starts[run] : this.count];
+  }
+
+  /** @param {number} from @param {number} to @returns {Uint8Array} the levels that it sees there */
+  seen(from, to) { return Uint8Array.from({ length: to - from }, (_, index) => this.saw(from + index)); }
 }
 
-/** A scenario that has run. */
+/** A scenario that has run; its ports come one by one. */
 export class BusTimes {
   /**
    * @param {Uint8Array} levels those that are recorded
-   * @param {PortTimes[]} ports
+   * @param {number} count of ports
    */
-  constructor(levels, ports) {
+  constructor(levels, count) {
     this.levels = levels;
-    this.ports = ports;
-    this.hits = Uint32Array.from(this.hitTimes());
-    for (const port of ports) port.blind = Uint32Array.from(this.blindTimes(port));
+    /** @type {Array<PortTimes | null>} */
+    this.ports = Array.from({ length: count }, () => null);
+    this.driven = new Uint8Array(levels.length).fill(1);
+    this.hits = new Uint32Array();
+    this.awaited = count;
   }
 
   get count() { return this.levels.length; }
 
-  /** The times at which the recorded level is not the one that the ports drive together. */
-  * hitTimes() {
-    for (let time = 0; time < this.count; time += 1) {
-      const driven = this.ports.every((port) => port.drove(time) === 1) ? 1 : 0;
-      if (driven !== this.levels[time]) yield time;
-    }
+  /** @returns {Array<PortTimes>} those that are there */
+  get known() { return this.ports.filter((port) => port !== null); }
+
+  /** @param {number} node @param {PortTimes} port */
+  put(node, port) {
+    this.ports[node] = port;
+    this.awaited -= 1;
+    for (let time = 0; time < this.count; time += 1) if (port.drove(time) === 0) this.driven[time] = 0;
+    if (this.awaited === 0) this.hits = Uint32Array.from(this.hitTimes());
   }
 
-  /** The times at which a port alone sees the opposite. @param {PortTimes} port */
-  * blindTimes(port) {
-    for (let time = 0; time < this.count; time += 1) if (port.saw(time) !== this.levels[time]) yield time;
+  /** The times at which the recorded level is not the one that the ports drive together. */
+  * hitTimes() {
+    for (let time = 0; time < this.count; time += 1) if (this.driven[time] !== this.levels[time]) yield time;
   }
 
   /** @param {number} node @param {number} time */
@@ -100,10 +153,19 @@ export class BusTimes {
   /** @param {number} time */
   isHit(time) { return this.hits[firstFrom(this.hits, time)] === time; }
 
-  /** @param {number} time @returns {number | undefined} the next behind it in which something comes to a port or is disturbed */
+  /** Where something comes to a port or is disturbed. */
+  get events() { return [this.hits, ...this.known.flatMap((port) => [port.marks, port.blind])]; }
+
+  /** @param {number} time @returns {number | undefined} the next event behind it */
   eventBehind(time) {
-    const next = [this.hits, ...this.ports.flatMap((port) => [port.marks, port.blind])].map((times) => times[firstFrom(times, time + 1)]).filter((found) => found !== undefined);
+    const next = this.events.map((times) => times[firstFrom(times, time + 1)]).filter((found) => found !== undefined);
     return next.length > 0 ? Math.min(...next) : undefined;
+  }
+
+  /** @param {number} time @returns {number | undefined} the last event before it */
+  eventBefore(time) {
+    const last = this.events.map((times) => times[firstFrom(times, time) - 1]).filter((found) => found !== undefined);
+    return last.length > 0 ? Math.max(...last) : undefined;
   }
 }
 

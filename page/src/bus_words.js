@@ -26,6 +26,9 @@ export const BROUGHT_WORDS = Object.freeze([
   '', 'frame sent', 'frame received', 'arbitration lost', 'bit error', 'stuff error', 'CRC error', 'form error', 'ACK error', 'overload flag begins', 'goes bus off', 'back from bus off',
 ]);
 
+/** The numbers of the fields of which more is told. */
+export const WRONG = Object.freeze({ toml: 0, key: 1, portKey: 6, element: 8 });
+
 const AT_TOP = ['toml', 'key', 'version', 'bits', 'port'];
 const IN_PORT = ['', '.key', '.queue', '.queue[#]', '.log', '.join', '.hold'];
 const LISTS = ['at', 'in', 'view'];

@@ -1,4 +1,5 @@
 /** The view that finds the frames and faults in a trace. */
+import { numberIn, packed, unpacked } from './address.js';
 import { ANSWER, MOST_BYTES } from './core.js';
 import { byId, download, html } from './draw.js';
 import { Findings } from './findings.js';
@@ -50,6 +51,7 @@ export class DecodeView {
       this.typed.value = EXAMPLE;
       this.showTyped();
     });
+    byId('trace-save').addEventListener('click', () => download('trace.txt', 'text/plain', this.bytes));
     byId('answer-download').addEventListener('click', () => download('answer.txt', 'text/plain', new TextDecoder().decode(this.lines)));
     this.listenToDrops(byId('panel-decode'));
     const actions = {
@@ -114,6 +116,7 @@ export class DecodeView {
       this.clear(`The trace is too long: this page takes up to ${counted(MOST_BYTES, 'byte')}. The program canbit decodes longer ones.`);
       return;
     }
+    this.bytes = bytes;
     const began = performance.now();
     const { answer, place, levels, lines } = this.core.decode(bytes);
     if (answer === ANSWER.noRoom) {
@@ -134,6 +137,25 @@ export class DecodeView {
     else this.pickNone();
   }
 
+  /** What the view shows, for an address; nothing where that is long. */
+  async what() {
+    if (this.bytes.length > MOST_TYPED) return null;
+    const place = this.picked >= 0 ? { place: this.traced.findings.starts[this.picked] } : {};
+    return { trace: await packed(new TextDecoder().decode(this.bytes)), ...place };
+  }
+
+  /** Shows what an address says. @param {Record<string, string>} what */
+  async open(what) {
+    const text = what.trace === undefined ? null : await unpacked(what.trace);
+    if (text === null) return;
+    this.typed.value = text.length <= MOST_TYPED ? text : '';
+    byId('trace-name').textContent = '';
+    this.show(new TextEncoder().encode(text));
+    const findings = this.traced?.findings;
+    const line = findings?.firstFrom(numberIn(what.place) ?? 0) ?? 0;
+    if (findings && line < findings.count) this.pick(line);
+  }
+
   /** @param {string} why nothing is shown */
   clear(why) {
     byId('trace-fault').textContent = why;
@@ -141,6 +163,7 @@ export class DecodeView {
     byId('decode-shown').hidden = true;
     this.typed.setAttribute('aria-invalid', 'true');
     this.traced = null;
+    this.bytes = new Uint8Array();
     this.lines = new Uint8Array();
     this.timeline.show(null);
     this.pickNone();

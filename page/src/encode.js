@@ -1,7 +1,9 @@
 /** The view that shows the wire of a frame, by its text or by its parts. */
+import { numberIn } from './address.js';
 import { ANSWER } from './core.js';
 import { asFile, byId, copyText, download, html } from './draw.js';
-import { PART_FAULTS, TEXT_FAULTS, counted } from './words.js';
+import { textFault } from './text_fault.js';
+import { PART_FAULTS, counted } from './words.js';
 import { WireView } from './wire_view.js';
 
 /** Frame texts to begin with. */
@@ -130,6 +132,17 @@ export class EncodeView {
     byId('copied').textContent = '';
   }
 
+  /** What the view shows, for an address. */
+  async what() { return { frame: this.text.value, level: this.wires.looked }; }
+
+  /** Shows what an address says. @param {Record<string, string>} what */
+  async open({ frame, level }) {
+    if (frame === undefined) return;
+    this.text.value = frame;
+    this.showText();
+    this.wires.focus(numberIn(level) ?? 0);
+  }
+
   async copyLevels() {
     const copied = await copyText(this.levels);
     byId('copied').textContent = copied ? `${counted(this.levels.length, 'level')} copied.` : 'The browser does not let this page copy.';
@@ -139,24 +152,4 @@ export class EncodeView {
     const { picture } = this.wires;
     if (picture) download(`${this.text.value.replaceAll(' ', '_')}.svg`, 'image/svg+xml', asFile(picture));
   }
-}
-
-/**
- * The fault of a frame text, with the text marked at its place.
- * @param {Uint8Array} bytes
- * @param {number} answer
- * @param {number} place
- * @returns {Array<string | Node>}
- */
-function textFault(bytes, answer, place) {
-  const { code, wrong, expected } = TEXT_FAULTS[answer];
-  const told = (from, to) => new TextDecoder().decode(bytes.subarray(from, to));
-  // a character may have more than one byte
-  let end = place + 1;
-  while (end < bytes.length && (bytes[end] & 0xc0) === 0x80) end += 1;
-  const at = place < bytes.length ? html('mark', {}, [told(place, end).replace(' ', '␣')]) : html('mark', { class: 'end' }, ['end']);
-  return [
-    html('strong', {}, [`${code} at ${place}`]), `: wrong in ${wrong}: ${expected}. `,
-    html('code', { class: 'excerpt' }, [told(0, place), at, told(end, end + 24)]),
-  ];
 }

@@ -1,7 +1,9 @@
 /** Loads the proved code, and begins the views. */
+import { MOST_ADDRESS, parsed, written } from './address.js';
 import { BusView } from './bus.js';
+import { Runs } from './bus_runs.js';
 import { Core } from './core.js';
-import { byId, html } from './draw.js';
+import { byId, copyText, html } from './draw.js';
 import { DecodeView } from './decode.js';
 import { EncodeView } from './encode.js';
 
@@ -25,21 +27,24 @@ class Tabs {
     this.showNamed();
   }
 
-  /** Shows the panel that the address names, or the first. */
+  /** Shows the panel that the address names, or the first, with what the address says. */
   showNamed() {
-    this.show(this.tabs.find((tab) => `#${tab.dataset.name}` === location.hash) ?? this.tabs[0]);
+    const { name, what } = parsed(location.hash);
+    const shown = this.tabs.find((tab) => tab.dataset.name === name);
+    this.show(shown ?? this.tabs[0], shown ? what : {});
   }
 
-  /** @param {HTMLElement} shown */
-  show(shown) {
+  /** @param {HTMLElement} shown @param {Record<string, string>} [what] */
+  show(shown, what = {}) {
     for (const tab of this.tabs) {
       const is = tab === shown;
       tab.setAttribute('aria-selected', String(is));
       tab.tabIndex = is ? 0 : -1;
       byId(tab.getAttribute('aria-controls')).hidden = !is;
     }
-    if (location.hash !== `#${shown.dataset.name}`) history.replaceState(null, '', `#${shown.dataset.name}`);
-    this.onShown(shown.dataset.name);
+    const isGiven = Object.keys(what).length > 0;
+    if (!isGiven && location.hash !== `#${shown.dataset.name}`) history.replaceState(null, '', `#${shown.dataset.name}`);
+    this.onShown(shown.dataset.name, what);
   }
 
   /** @param {KeyboardEvent} event @param {number} at */
@@ -61,20 +66,77 @@ function refuse(why) {
   byId('views').hidden = true;
 }
 
+/** So long behind the last touch the address follows, in milliseconds. */
+const FOLLOWS = 400;
+
+/** The views by their names, each made once it is shown. */
+class Views {
+  /** @param {Core} core @param {Uint8Array} module */
+  constructor(core, module) {
+    /** @type {Record<string, {what: () => Promise<object>, open: (what: object) => Promise<void>}>} */
+    this.shown = {};
+    this.makers = {
+      encode: () => new EncodeView(core),
+      decode: () => new DecodeView(core),
+      bus: () => new BusView(core, new Runs(byId('worker').textContent, module)),
+    };
+    /** @type {Record<string, string>} the address of each view as it begins */
+    this.first = {};
+    for (const name of Object.keys(this.makers)) {
+      byId(`${name}-link`).addEventListener('click', () => this.link(name));
+      for (const touch of ['input', 'change', 'click', 'keyup', 'pointerup', 'wheel']) byId(`panel-${name}`).addEventListener(touch, () => this.followSoon(name));
+    }
+  }
+
+  /** @param {string} name @param {Record<string, string>} what */
+  async show(name, what) {
+    if (!this.makers[name]) return;
+    if (!this.shown[name]) {
+      this.shown[name] = this.makers[name]();
+      this.first[name] = await this.address(name);
+    }
+    if (name === 'encode') this.shown.encode.wires.draw();
+    if (Object.keys(what).length > 0) await this.shown[name].open(what);
+  }
+
+  /** The part of the address that says what a view shows, or nothing where that is too long. */
+  async address(name) {
+    const what = await this.shown[name].what();
+    const hash = what === null ? '' : written(name, what);
+    return hash.length > MOST_ADDRESS ? '' : hash;
+  }
+
+  /** Lets the address follow what the view shows. */
+  followSoon(name) {
+    clearTimeout(this.follows);
+    this.follows = setTimeout(async () => {
+      const hash = await this.address(name);
+      if (byId(`panel-${name}`).hidden) return;
+      history.replaceState(null, '', hash === '' || hash === this.first[name] ? `#${name}` : hash);
+    }, FOLLOWS);
+  }
+
+  /** Copies a link to what a view shows, where it is not too long. */
+  async link(name) {
+    const hash = await this.address(name);
+    if (hash === '') {
+      byId(`${name}-linked`).textContent = 'This is too long for a link: save it as a file, and send that.';
+      return;
+    }
+    history.replaceState(null, '', hash);
+    byId(`${name}-linked`).textContent = (await copyText(location.href)) ? 'The link is copied.' : 'The link stands in the address.';
+  }
+}
+
 async function begin() {
-  const core = await Core.load(moduleBytes());
+  const module = moduleBytes();
+  const core = await Core.load(module);
   if (!core) {
     refuse('This browser can’t run the proved code: it doesn’t know WebAssembly with 64-bit memory (memory64). Chromium and Chrome from 133 on, and Firefox from 134 on, do.');
     return;
   }
-  const encode = new EncodeView(core);
-  let decode = null;
-  let bus = null;
-  new Tabs((name) => {
-    if (name === 'encode') encode.wires.draw();
-    if (name === 'decode') decode ??= new DecodeView(core);
-    if (name === 'bus') bus ??= new BusView(core);
-  });
+  const views = new Views(core, module);
+  new Tabs((name, what) => views.show(name, what));
   document.documentElement.dataset.ready = '';
 }
 

@@ -2,8 +2,8 @@
  * The wire as a picture: levels as a waveform in rows, the field of each above it, stuff bits hatched, place numbers
  * under it. Each level can be pointed at and focused. It only draws what it is given.
  */
-import { FIELDS, STUFF_RULE, levelName } from './words.js';
 import { svg } from './draw.js';
+import { FIELD, FIELDS, STUFF_RULE, levelName } from './words.js';
 
 /** Sizes in pixels. */
 const CELL = 24;
@@ -76,6 +76,52 @@ export function spansOf(fields, from = 0, to = fields.length) {
     else spans.push({ field: fields[index], from: index, to: index + 1 });
   }
   return spans;
+}
+
+/**
+ * The levels of a field that are no stuff bits, as digits.
+ * @param {{levels: Uint8Array, stuffed: Uint8Array}} wire
+ * @param {Span} span
+ * @returns {string}
+ */
+export function digitsOf(wire, { from, to }) {
+  let digits = '';
+  for (let index = from; index < to; index += 1) if (!wire.stuffed[index]) digits += wire.levels[index];
+  return digits;
+}
+
+/**
+ * A number as binary digits say it, in as many hexadecimal digits as they fill: `0001` is `0x1`, and sixteen digits have four.
+ * @param {string} digits
+ * @returns {string} nothing for a single one
+ */
+export function hexadecimal(digits) {
+  return digits.length < 2 ? '' : `0x${BigInt(`0b${digits}`).toString(16).padStart(Math.ceil(digits.length / 4), '0')}`;
+}
+
+/**
+ * The number of a field, where levels behind it tell that it is whole.
+ * @param {{levels: Uint8Array, fields: Uint8Array, stuffed: Uint8Array}} wire
+ * @param {Span} span
+ */
+export function valueOf(wire, span) {
+  return span.to < wire.fields.length ? hexadecimal(digitsOf(wire, span)) : '';
+}
+
+/**
+ * Where a byte of the data begins that is not the first.
+ * @param {{fields: Uint8Array, stuffed: Uint8Array}} wire
+ * @returns {number[]}
+ */
+export function bytesIn({ fields, stuffed }) {
+  const starts = [];
+  let bits = 0;
+  for (let index = fields.indexOf(FIELD.data); index >= 0 && fields[index] === FIELD.data; index += 1) {
+    if (stuffed[index]) continue;
+    if (bits > 0 && bits % 8 === 0) starts.push(index);
+    bits += 1;
+  }
+  return starts;
 }
 
 /**
@@ -156,9 +202,11 @@ function hatching(x) {
 function rowOf(wire, start, end, row) {
   const cells = [];
   for (let index = start; index < end; index += 1) cells.push(levelCell(wire, index, start));
+  const ends = bytesIn(wire).filter((index) => index >= start && index < end).map((index) => `M${SIDE + (index - start) * CELL} ${LABEL}V${DIGIT + 5}`).join('');
   return svg('g', { class: 'row', role: 'presentation', transform: `translate(0 ${row * ROW})` }, [
     ...spansOf(wire.fields, start, end).map((span) => fieldLabel(span, start)),
     ...cells,
+    ...(ends ? [svg('path', { class: 'byte-end', d: ends })] : []),
     svg('path', { class: 'wave', d: wavePath(wire, start, end) }),
   ]);
 }
@@ -184,25 +232,32 @@ export function pictureOf(wire, room) {
 }
 
 /**
+ * Selects a level of the pictures in a room.
+ * @param {HTMLElement} room
+ * @param {SVGElement} level
+ * @param {(index: number) => void} onLevel told of it
+ */
+export function lookAt(room, level, onLevel) {
+  for (const other of room.querySelectorAll('.level[aria-selected=true], .level[tabindex="0"]')) {
+    other.setAttribute('aria-selected', 'false');
+    other.setAttribute('tabindex', '-1');
+  }
+  level.setAttribute('aria-selected', 'true');
+  level.setAttribute('tabindex', '0');
+  onLevel(Number(level.dataset.index));
+}
+
+/**
  * Lets the levels of the pictures in a room be pointed at, and focused one after another by the arrow keys, Home and
  * End. The room listens and not the picture, which a browser would take for something to be focused itself.
  * @param {HTMLElement} room
  * @param {(index: number) => void} onLevel told of the level that is looked at
  */
 export function letLook(room, onLevel) {
-  const look = (level) => {
-    for (const other of room.querySelectorAll('.level[aria-selected=true], .level[tabindex="0"]')) {
-      other.setAttribute('aria-selected', 'false');
-      other.setAttribute('tabindex', '-1');
-    }
-    level.setAttribute('aria-selected', 'true');
-    level.setAttribute('tabindex', '0');
-    onLevel(Number(level.dataset.index));
-  };
   for (const type of ['pointerover', 'focusin']) {
     room.addEventListener(type, (event) => {
       const level = event.target.closest('.level');
-      if (level) look(level);
+      if (level) lookAt(room, level, onLevel);
     });
   }
   room.addEventListener('keydown', (event) => {

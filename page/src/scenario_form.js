@@ -5,6 +5,13 @@ import { newPort } from './scenario_text.js';
 /** The fields at the top. */
 const TOP = ['version', 'bits', 'at', 'in', 'view'];
 
+/** What holds where a field is left empty. */
+const DEFAULTS = Object.freeze({ queue: 'none', log: '64', hold: '0' });
+
+/** So many ports, and so many frames of one, are shown unfolded. */
+const MOST_UNFOLDED = 4;
+const MOST_LINES = 100;
+
 export class ScenarioForm {
   /** @param {() => void} onChange */
   constructor(onChange) {
@@ -13,6 +20,7 @@ export class ScenarioForm {
     byId('bus-form').addEventListener('input', () => this.changed());
     byId('bus-form').addEventListener('submit', (event) => event.preventDefault());
     byId('bus-add').addEventListener('click', () => {
+      this.count = 1;
       this.addPort(newPort());
       this.changed();
       byId(`bus-queue-${this.ports.children.length - 1}`).focus();
@@ -37,6 +45,7 @@ export class ScenarioForm {
     for (const name of TOP) byId(`bus-${name}`).value = form[name];
     byId('bus-hits').hidden = form.version === '2';
     this.ports.replaceChildren();
+    this.count = form.ports.length;
     for (const port of form.ports) this.addPort(port);
   }
 
@@ -53,14 +62,15 @@ export class ScenarioForm {
   addPort(port) {
     const node = this.ports.children.length;
     const entry = (name, label, field) => html('div', { class: `entry ${name}` }, [html('label', { for: `bus-${name}-${node}` }, [label]), field]);
-    const queue = html('textarea', { id: `bus-queue-${node}`, class: 'mono', rows: Math.min(Math.max(port.queue.split('\n').length, 2), 6), spellcheck: 'false', autocomplete: 'off', 'aria-describedby': 'bus-queue-hint bus-fault' });
+    const queue = html('textarea', { id: `bus-queue-${node}`, class: 'mono', rows: Math.min(Math.max(port.queue.split('\n').length, 2), 6), placeholder: DEFAULTS.queue, spellcheck: 'false', autocomplete: 'off', 'aria-describedby': 'bus-queue-hint bus-fault' });
     queue.value = port.queue;
-    const number = (name, value) => html('input', { id: `bus-${name}-${node}`, class: 'mono', type: 'text', inputmode: 'numeric', size: 6, value, autocomplete: 'off', 'aria-describedby': 'bus-fault' });
+    const number = (name, value) => html('input', { id: `bus-${name}-${node}`, class: 'mono', type: 'text', inputmode: 'numeric', size: 6, value, placeholder: DEFAULTS[name], autocomplete: 'off', 'aria-describedby': 'bus-fault' });
     const join = html('input', { id: `bus-join-${node}`, type: 'checkbox' });
     join.checked = port.join;
-    this.ports.append(html('fieldset', { class: 'port-form' }, [
-      html('legend', {}, [`Port ${node}`]),
-      html('div', { class: 'parts' }, [
+    const isOpen = this.count <= MOST_UNFOLDED && port.queue.split('\n').length <= MOST_LINES;
+    this.ports.append(html('details', { class: 'port-form', ...(isOpen ? { open: '' } : {}) }, [
+      html('summary', {}, [`Port ${node}`]),
+      html('fieldset', { class: 'parts', 'aria-label': `Port ${node}` }, [
         html('div', { class: 'entry wide' }, [html('label', { for: `bus-queue-${node}` }, ['Frames to send']), queue]),
         entry('log', 'Room in the log', number('log', port.log)),
         entry('hold', 'Overload frames', number('hold', port.hold)),
@@ -81,6 +91,9 @@ export class ScenarioForm {
     for (const field of byId('bus-form').querySelectorAll('[aria-invalid]')) field.removeAttribute('aria-invalid');
     const found = /^(?:port\[(\d+)\]\.(queue|log|join|hold)|(version|bits|at|in|view))/.exec(code);
     const id = found && (found[3] ? `bus-${found[3]}` : `bus-${found[2]}-${found[1]}`);
-    if (id && byId('bus-formless').hidden) document.getElementById(id)?.setAttribute('aria-invalid', 'true');
+    const field = id && byId('bus-formless').hidden ? document.getElementById(id) : null;
+    field?.setAttribute('aria-invalid', 'true');
+    const folded = field?.closest('details');
+    if (folded) folded.open = true;
   }
 }

@@ -1,7 +1,7 @@
 /** A picture of a wire with what belongs to it: the level that is looked at in words, and the table of fields. */
-import { FIELDS } from './words.js';
 import { html } from './draw.js';
-import { letLook, levelRule, levelWords, pictureOf, spansOf } from './picture.js';
+import { bytesIn, digitsOf, hexadecimal, letLook, levelRule, levelWords, lookAt, pictureOf, spansOf } from './picture.js';
+import { FIELD, FIELDS } from './words.js';
 
 /** @typedef {import('./picture.js').Wire & {id: string, name: string}} NamedWire */
 
@@ -18,6 +18,7 @@ export class WireView {
     /** @type {NamedWire | null} */
     this.wire = null;
     this.width = 0;
+    this.looked = 0;
     letLook(room, (index) => this.look(index));
     new ResizeObserver(() => {
       if (this.room.clientWidth !== this.width) this.draw();
@@ -44,7 +45,15 @@ export class WireView {
   /** @param {number} index the level that is looked at */
   look(index) {
     if (!this.wire) return;
+    this.looked = index;
     this.words.replaceChildren(html('strong', {}, [`${levelWords(this.wire, index)}.`]), ` ${levelRule(this.wire, index)}`);
+  }
+
+  /** Marks a level as one that is looked at, where there is one. @param {number} index */
+  focus(index) {
+    const level = this.room.querySelector(`[data-index="${index}"]`);
+    if (level) lookAt(this.room, level, (found) => this.look(found));
+    else if (this.wire && index < this.wire.levels.length) this.look(index);
   }
 
   /** @returns {SVGSVGElement | null} */
@@ -54,37 +63,49 @@ export class WireView {
 }
 
 /**
- * A number as binary digits say it.
- * @param {string} digits
- * @returns {string}
+ * The levels of a field, stuff bits underlined and bytes apart.
+ * @param {NamedWire} wire
+ * @param {import('./picture.js').Span} span
  */
-function hexadecimal(digits) {
-  return digits.length < 2 ? '' : `0x${BigInt(`0b${digits}`).toString(16)}`;
+function levelsOf(wire, { from, to }) {
+  const levels = [];
+  const ends = bytesIn(wire);
+  for (let index = from; index < to; index += 1) {
+    const level = String(wire.levels[index]);
+    if (ends.includes(index)) levels.push(html('span', { class: 'byte-gap' }, [' ']));
+    levels.push(wire.stuffed[index] ? html('span', { class: 'stuffed', title: 'stuff bit' }, [level]) : level);
+  }
+  return levels;
+}
+
+/**
+ * The number of a field, and of the identifier of which it is a part.
+ * @param {NamedWire} wire
+ * @param {import('./picture.js').Span} span
+ */
+function numberOf(wire, span) {
+  // of a field in which a fault shows the number is not known
+  const isWhole = ({ to }) => wire.fault === null || wire.fault >= to;
+  if (!isWhole(span)) return [];
+  const number = hexadecimal(digitsOf(wire, span));
+  const parts = spansOf(wire.fields).filter(({ field }) => field === FIELD.identifier);
+  if (span.field !== FIELD.identifier || parts.length < 2 || !parts.every(isWhole)) return [number];
+  const digits = parts.map((part) => digitsOf(wire, part)).join('');
+  return [number, html('div', { class: 'whole' }, [`of ${hexadecimal(digits)} (${digits.length} bits)`])];
 }
 
 /**
  * @param {NamedWire} wire
  * @param {import('./picture.js').Span} span
  */
-function fieldRow(wire, { field, from, to }) {
-  const levels = [];
-  let digits = '';
-  for (let index = from; index < to; index += 1) {
-    const level = String(wire.levels[index]);
-    if (wire.stuffed[index]) levels.push(html('span', { class: 'stuffed', title: 'stuff bit' }, [level]));
-    else {
-      levels.push(level);
-      digits += level;
-    }
-  }
-  // of a field in which a fault shows the number is not known
-  const whole = wire.fault === null || wire.fault >= to;
+function fieldRow(wire, span) {
+  const { field, from, to } = span;
   const places = to - from === 1 ? `${wire.first + from}` : `${wire.first + from} to ${wire.first + to - 1}`;
   return html('tr', {}, [
     html('th', { scope: 'row' }, [html('span', { class: `swatch field-${field}` }), FIELDS[field].name]),
-    html('td', {}, [places]),
-    html('td', { class: 'mono' }, levels),
-    html('td', { class: 'mono' }, [whole ? hexadecimal(digits) : '']),
+    html('td', { 'data-name': 'Places' }, [places]),
+    html('td', { class: 'mono', 'data-name': 'Levels' }, levelsOf(wire, span)),
+    html('td', { class: 'mono', 'data-name': 'Number' }, numberOf(wire, span)),
     html('td', { class: 'rule' }, [FIELDS[field].rule]),
   ]);
 }

@@ -27,6 +27,9 @@ export const FIELDS = Object.freeze([
   { short: 'EOF', name: 'End of frame', rule: 'Seven recessive levels. The last one is taken at either value.' },
 ]);
 
+/** The numbers of fields that have parts. */
+export const FIELD = Object.freeze({ identifier: 1, data: 9 });
+
 export const STUFF_RULE = 'Stuff bit: behind five equal levels the sender puts one of the other value, and each receiver leaves it out.';
 
 /**

@@ -1,5 +1,6 @@
 // Names, order, contrast, narrow screens and motion.
 import assert from 'node:assert/strict';
+import { fill, settled } from './bus_page.mjs';
 
 /** What in a view has no name, or a name or place that is not right. */
 const complaints = () => {
@@ -96,11 +97,17 @@ async function eachView(page, test) {
   await page.fill('trace-text', '11111111111000000x');
   await test('decode with a wrong byte');
   await page.click('tab-bus');
+  await settled(page);
   await page.click('bus-next');
   await page.run(() => new Promise((resolve) => { requestAnimationFrame(() => requestAnimationFrame(resolve)); }));
-  await page.run(() => { document.querySelector('details').open = true; });
+  await page.run(() => { for (const folded of document.querySelectorAll('#panel-bus details')) folded.open = true; });
+  await page.until("document.querySelectorAll('#bus-ends li').length > 0");
   await test('bus');
-  await page.fill('bus-text', 'version = 3');
+  await page.click('bus-zoom-all');
+  await page.click('bus-fold');
+  await page.run(() => new Promise((resolve) => { requestAnimationFrame(() => requestAnimationFrame(resolve)); }));
+  await test('bus with folded ports');
+  await fill(page, 'bus-text', 'version = 3');
   await test('bus with a fault');
   await page.click('tab-about');
   await test('about');
@@ -152,6 +159,31 @@ export const accessTests = [
     await page.key('End');
     await page.key('ArrowRight');
     assert.equal(await page.get('document.activeElement.id'), 'tab-encode');
+  }],
+  ['at 360 pixels tables are lists, and no word is broken', async ({ open }) => {
+    const page = await open({ width: 360 });
+    await eachView(page, async (view) => {
+      const broken = await page.run(() => {
+        const found = [];
+        for (const row of document.querySelectorAll('.listed tbody tr')) {
+          const cells = [...row.children].filter((cell) => cell.checkVisibility()).map((cell) => cell.getBoundingClientRect());
+          for (let index = 1; index < cells.length; index += 1) if (cells[index].top < cells[index - 1].bottom - 1) found.push(`beside one another: ${row.textContent.slice(0, 40)}`);
+        }
+        const range = document.createRange();
+        const walker = document.createTreeWalker(document.querySelector('main'), NodeFilter.SHOW_TEXT);
+        for (let text = walker.nextNode(); text; text = walker.nextNode()) {
+          if (!text.parentElement.checkVisibility() || text.parentElement.closest('svg, .mono, code, .fault, script, textarea')) continue;
+          for (const word of text.data.matchAll(/[A-Za-z]{2,}/g)) {
+            range.setStart(text, word.index);
+            range.setEnd(text, word.index + word[0].length);
+            const tops = new Set([...range.getClientRects()].map((box) => Math.round(box.top)));
+            if (tops.size > 1) found.push(`broken: ${word[0]}`);
+          }
+        }
+        return found;
+      });
+      assert.deepEqual(broken, [], view);
+    });
   }],
   ['nothing moves by itself', async ({ open }) => {
     const page = await open({ still: true });

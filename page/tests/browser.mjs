@@ -87,7 +87,7 @@ export class Browser {
 }
 
 /** Keys that are not one letter. */
-const KEY_CODES = { Tab: 9, Enter: 13, End: 35, Home: 36, ArrowLeft: 37, ArrowRight: 39 };
+const KEY_CODES = { Tab: 9, Enter: 13, End: 35, Home: 36, ArrowLeft: 37, ArrowUp: 38, ArrowRight: 39, ArrowDown: 40 };
 
 class Page {
   constructor(browser, targetId, sessionId) {

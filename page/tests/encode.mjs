@@ -68,7 +68,20 @@ export const encodeTests = [
       'Reserved bit r1', 'Reserved bit r0', 'Data length code', 'Data', 'CRC sequence', 'CRC delimiter', 'ACK slot', 'ACK delimiter', 'End of frame',
     ]);
     // 0x18db33f1 is 0x636 and, in its lower 18 bits, 0x333f1
-    assert.deepEqual([rows[1][3], rows[4][3], rows[8][3], rows[9][3], rows[14][3]], ['0x636', '0x333f1', '0x8', '0x2010c0000000000', '0x7f']);
+    assert.deepEqual([rows[1][3], rows[4][3], rows[8][3], rows[9][3], rows[14][3]], ['0x636of 0x18db33f1 (29 bits)', '0x333f1of 0x18db33f1 (29 bits)', '0x8', '0x02010c0000000000', '0x7f']);
+  }],
+  ['numbers have as many digits as their levels fill, and bytes stand apart', async ({ open }) => {
+    const page = await open();
+    await page.fill('frame-text', 'S 001 D 2 0001');
+    const rows = await page.run(() => [...document.querySelectorAll('#encode-fields tr')].map((row) => [...row.children].slice(0, 4).map((cell) => cell.textContent)));
+    const number = (name) => rows.find(([field]) => field === name)[3];
+    assert.deepEqual(['Identifier', 'Data length code', 'Data'].map(number), ['0x001', '0x2', '0x0001']);
+    assert.match(rows.find(([field]) => field === 'Data')[2], /^[01]{8,10} [01]{8,10}$/);
+    await page.fill('frame-text', 'S 555 D 1 aa');
+    assert.equal(await page.get("document.querySelectorAll('#encode-wire .byte-end').length"), 0);
+    await page.fill('frame-text', 'S 555 D 8 0123456789abcdef');
+    const ends = await page.run(() => [...document.querySelectorAll('#encode-wire .byte-end')].map((line) => line.getAttribute('d').split('M').length - 1).reduce((sum, one) => sum + one));
+    assert.equal(ends, 7);
   }],
   ['a text that is no frame text is refused at its place', async ({ open }) => {
     const page = await open();

@@ -3,9 +3,13 @@ import { pathToFileURL } from 'node:url';
 import { Browser } from './browser.mjs';
 import { accessTests } from './access.mjs';
 import { busTests } from './bus.mjs';
+import { busFaultTests } from './bus_faults.mjs';
+import { busSpeedTests } from './bus_speed.mjs';
+import { busViewTests } from './bus_view.mjs';
 import { callTests } from './calls.mjs';
 import { decodeTests } from './decode.mjs';
 import { encodeTests } from './encode.mjs';
+import { linkTests } from './link.mjs';
 import { pageTests } from './page.mjs';
 
 const [program, file, examples, work] = process.argv.slice(2);
@@ -16,7 +20,7 @@ for (const signal of ['SIGINT', 'SIGTERM']) process.on(signal, () => browser.clo
 let passed = 0;
 let failed = 0;
 
-for (const [name, test] of [...pageTests, ...callTests, ...encodeTests, ...decodeTests, ...busTests, ...accessTests]) {
+for (const [name, test] of [...pageTests, ...callTests, ...encodeTests, ...decodeTests, ...busTests, ...busViewTests, ...busFaultTests, ...busSpeedTests, ...linkTests, ...accessTests].filter(([name]) => name.includes(process.env.PAGE_TEST ?? ''))) {
   const pages = [];
   const open = async (how) => {
     const page = await browser.open(place.address, how);

@@ -1,0 +1,203 @@
+/** What the picture of a bus is drawn of: levels as lines, bands, fields, arrows and counters, each as far as it is in view. */
+import { svg } from './draw.js';
+import { DOES, firstFrom } from './bus_times.js';
+import { DOES_WORDS } from './bus_words.js';
+import { bytesIn, spansOf, valueOf } from './picture.js';
+import { FIELDS } from './words.js';
+
+/** Levels and fields are drawn where each level has so many pixels. */
+const LEVEL_ROOM = 3;
+
+/** The height of a band of fields, and the width of a letter. */
+const FIELD_BAND = 16;
+const LETTER = 7.3;
+
+/** What is in view: bit times from one on, over so many pixels. */
+export class Scale {
+  constructor(from, span, width) { Object.assign(this, { from, span, width }); }
+
+  get end() { return this.from + this.span; }
+
+  /** Whether single levels have room. */
+  get isNear() { return this.width / this.span >= LEVEL_ROOM; }
+
+  x(time) { return Math.round(((time - this.from) / this.span) * this.width * 10) / 10; }
+
+  /** A bit time's left end, or that of the view. */
+  left(time) { return Math.max(this.x(time), -2); }
+
+  right(time) { return Math.min(this.x(time), this.width + 2); }
+}
+
+/** A line over the levels in view; where they have no room, the stretches in which a dominant one stands. */
+export function wave(scale, count, level, high, low) {
+  const start = Math.floor(scale.from);
+  const end = Math.min(Math.ceil(scale.end), count);
+  if (start >= end) return svg('path', { class: 'wave', d: '' });
+  if (!scale.isNear) return svg('path', { class: 'dense', d: dense(scale, level, start, end, high, low) });
+  let path = `M${scale.x(start)} ${level(start) === 0 ? low : high}`;
+  for (let time = start; time < end; time += 1) path += `V${level(time) === 0 ? low : high}H${scale.x(time + 1)}`;
+  return svg('path', { class: 'wave', d: path });
+}
+
+function dense({ from, span, width }, level, start, end, high, low) {
+  let path = '';
+  const each = span / width;
+  for (let pixel = 0; pixel < width; pixel += 1) {
+    const last = Math.min(end, Math.max(from + (pixel + 1) * each, from + pixel * each + 1));
+    let any = false;
+    for (let time = Math.max(start, Math.floor(from + pixel * each)); time < last && !any; time += 1) any = level(time) === 0;
+    path += any ? `M${pixel} ${low}v${high - low}h1v${low - high}z` : `M${pixel} ${high}h1v1h-1z`;
+  }
+  return path;
+}
+
+/** What a port does: a path for each kind, and a word where it has room. */
+export function bands(scale, port, y, height) {
+  const paths = DOES.map(() => '');
+  const words = [];
+  const first = Math.max(0, firstFrom(port.starts, Math.floor(scale.from) + 1) - 1);
+  let drawn = -1;
+  for (let run = first; run < port.starts.length && port.starts[run] < scale.end; run += 1) {
+    const left = scale.left(port.starts[run]);
+    const right = scale.right(run + 1 < port.starts.length ? port.starts[run + 1] : port.count);
+    if (right - drawn < 1) continue;
+    drawn = right;
+    const width = Math.max(right - left, 1);
+    paths[port.kinds[run]] += `M${left} ${y}h${width}v${height}h-${width}z`;
+    const does = DOES[port.kinds[run]];
+    if (DOES_WORDS[does].short.length * LETTER + 6 < width) words.push(svg('text', { class: 'found', x: Math.max(left, 0) + 4, y: y + height - 6, 'data-does': does }, [DOES_WORDS[does].short]));
+  }
+  return [...paths.flatMap((d, kind) => (d ? [svg('path', { class: `does does-${DOES[kind]}`, d })] : [])), ...words];
+}
+
+/**
+ * The fields of the frames in view as the port hears them, where levels have room.
+ * @param {Scale} scale
+ * @param {import('./bus_times.js').PortTimes} port
+ * @param {number} y
+ * @param {(levels: Uint8Array) => import('./core.js').Marks} marks
+ */
+export function fieldBands(scale, port, y, marks) {
+  if (!scale.isNear) return [];
+  const drawn = [];
+  for (let run = Math.max(0, port.runAt(Math.floor(scale.from))); run < port.starts.length && port.starts[run] < scale.end; run += 1) {
+    const frame = port.frameAt(port.starts[run]);
+    if (!frame) continue;
+    drawn.push(...frameBands(scale, frame[0], heard(port, frame, marks), y));
+    while (run + 1 < port.starts.length && port.starts[run + 1] < frame[1]) run += 1;
+  }
+  return drawn;
+}
+
+/** What the levels of a frame are, asked of the proved code once they are drawn. */
+function heard(port, [start, end], marks) {
+  port.frames ??= new Map();
+  if (!port.frames.has(start)) {
+    const levels = port.seen(start, end);
+    port.frames.set(start, { levels, ...marks(levels) });
+  }
+  return port.frames.get(start);
+}
+
+/** @param {Scale} scale @param {number} start that of the frame */
+function frameBands(scale, start, wire, y) {
+  const drawn = [];
+  for (const span of spansOf(wire.fields)) {
+    const left = scale.left(start + span.from);
+    const right = scale.right(start + span.to);
+    if (right <= left) continue;
+    const word = labelOf(wire, span, right - left);
+    const inside = [svg('rect', { class: `field field-${span.field}`, x: left, y, width: right - left, height: FIELD_BAND })];
+    if (word) inside.push(svg('text', { class: 'label', x: Math.max(left, 0) + 3, y: y + 12 }, [word]));
+    drawn.push(svg('g', { class: 'field-band', 'data-field': span.field }, inside));
+  }
+  return [...drawn, ...stuffHatches(scale, start, wire, y), ...byteEnds(scale, start, wire, y)];
+}
+
+/** The name of a field with its number, in the longest form that fits. */
+function labelOf(wire, span, room) {
+  const { name, short } = FIELDS[span.field];
+  const number = valueOf(wire, span);
+  return [`${name} ${number}`, `${short} ${number}`, name, short].find((label) => label.length * LETTER + 5 <= room);
+}
+
+function stuffHatches(scale, start, { stuffed }, y) {
+  let path = '';
+  const times = [];
+  for (let index = stuffed.indexOf(1); index >= 0; index = stuffed.indexOf(1, index + 1)) {
+    const left = scale.x(start + index);
+    const right = scale.x(start + index + 1);
+    if (right < 0 || left > scale.width) continue;
+    times.push(start + index);
+    const step = (right - left) / 2;
+    path += `M${left} ${y + FIELD_BAND}L${left + step} ${y}M${left + step} ${y + FIELD_BAND}L${right} ${y}M${left} ${y}h${right - left}v${FIELD_BAND}h-${right - left}z`;
+  }
+  return path ? [svg('path', { class: 'hatch', d: path, 'data-times': times.join(' ') })] : [];
+}
+
+function byteEnds(scale, start, wire, y) {
+  const path = bytesIn(wire).map((index) => `M${scale.x(start + index)} ${y}v${FIELD_BAND}`).join('');
+  return path ? [svg('path', { class: 'byte-end', d: path })] : [];
+}
+
+/** Arrows that point down to bit times, no two in one pixel. */
+export function arrows(scale, times, y, name) {
+  let path = '';
+  let drawn = -9;
+  const shown = [];
+  for (let at = firstFrom(times, Math.floor(scale.from)); at < times.length && times[at] < scale.end; at += 1) {
+    const x = scale.x(times[at] + 0.5);
+    if (x - drawn < 2) continue;
+    drawn = x;
+    shown.push(times[at]);
+    path += `M${x} ${y}l-4 -8h8z`;
+  }
+  return path ? [svg('path', { class: name, d: path, 'data-times': shown.slice(0, 200).join(' ') })] : [];
+}
+
+/** The counters at the left, and where they move: of moves that have no room the last, behind the one before it. */
+export function counters(scale, port, y) {
+  const told = [];
+  let free = 0;
+  const start = Math.min(Math.floor(scale.from), port.count - 1);
+  if (start < 0) return told;
+  const words = (time) => `TEC ${port.transmit(time)} REC ${port.receive(time)}`;
+  const room = (time) => words(time).length * 6.8 + 8;
+  const put = (time, x) => {
+    free = x + room(time);
+    told.push(svg('text', { class: 'place count', x: x + 2, y }, [words(time)]));
+  };
+  const next = firstFrom(port.moves, start + 1);
+  let waits = null;
+  for (const time of [start, ...port.moves.subarray(next, next + 400)]) {
+    const x = Math.max(scale.x(time), 0);
+    if (x > scale.width - 60) break;
+    if (x >= free) {
+      if (waits !== null && free + room(waits) <= x) put(waits, free);
+      waits = null;
+      put(time, x);
+    } else waits = time;
+  }
+  if (waits !== null && free < scale.width - 60) put(waits, free);
+  return told;
+}
+
+/** Lines at round bit times, and their numbers. */
+export function axis(scale, y, height, isNumbered) {
+  const step = niceStep((scale.span / scale.width) * 80);
+  const ticks = [];
+  for (let time = Math.ceil(scale.from / step) * step; time <= scale.end; time += step) {
+    const x = scale.x(time);
+    if (x > scale.width - 8) break;
+    ticks.push(svg('path', { class: 'tick', d: `M${x} ${y}V${height}` }));
+    if (isNumbered) ticks.push(svg('text', { class: 'place', x: x + 3, y: 12 }, [time.toLocaleString('en')]));
+  }
+  return ticks;
+}
+
+/** @param {number} least @returns {number} a step of 1, 2 or 5 and zeros that is no less */
+function niceStep(least) {
+  const power = 10 ** Math.floor(Math.log10(Math.max(least, 1)));
+  return [1, 2, 5, 10].map((factor) => factor * power).find((step) => step >= least);
+}

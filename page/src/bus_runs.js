@@ -1,0 +1,89 @@
+/** Has workers run scenarios, each with the proved code in a memory of its own. */
+import { ANSWER } from './core.js';
+
+/** No more workers than these, each of which takes as much memory as the page. */
+const MOST_WORKERS = 4;
+
+/** A worker with one thing to do at a time. */
+class Runner {
+  /** @param {string} address of its script @param {Uint8Array} module */
+  constructor(address, module) {
+    this.worker = new Worker(address);
+    this.worker.postMessage({ module });
+    this.busy = false;
+  }
+
+  /** @param {object} asked @returns {Promise<object>} */
+  ask(asked) {
+    this.busy = true;
+    return new Promise((resolve, reject) => {
+      this.worker.onmessage = ({ data }) => {
+        this.busy = false;
+        resolve(data);
+      };
+      this.worker.onerror = (event) => reject(new Error(event.message));
+      this.worker.postMessage(asked);
+    });
+  }
+}
+
+export class Runs {
+  /** @param {string} script of the workers @param {Uint8Array} module */
+  constructor(script, module) {
+    this.address = URL.createObjectURL(new Blob([script], { type: 'text/javascript' }));
+    this.module = module;
+    this.number = 0;
+    /** @type {Runner[]} */
+    this.runners = [];
+    this.ready(1);
+  }
+
+  /** Has so many workers wait for something to do. @param {number} count */
+  ready(count) {
+    while (this.runners.length < count) this.runners.push(new Runner(this.address, this.module));
+  }
+
+  /** Ends what is still being done for an older text. */
+  drop() {
+    for (const { worker } of this.runners.filter(({ busy }) => busy)) worker.terminate();
+    this.runners = this.runners.filter(({ busy }) => !busy);
+    this.ready(1);
+  }
+
+  /**
+   * The report of a scenario, or what is wrong in it; none where another text came meanwhile.
+   * @param {Uint8Array} text
+   * @returns {Promise<{answer: number, wrong: import('./core.js').WrongField, report: Uint8Array} | null>}
+   */
+  async report(text) {
+    this.number += 1;
+    const { number } = this;
+    this.drop();
+    const told = await this.runners[0].ask({ ask: 'report', text });
+    return number === this.number ? told : null;
+  }
+
+  /**
+   * What each port of the scenario does, one after another.
+   * @param {Uint8Array} text
+   * @param {Uint8Array} levels those that are recorded
+   * @param {() => number | undefined} next the port that is asked for next
+   * @param {(node: number, told: {times: Uint8Array, index: object}) => void} onPort
+   * @returns {Promise<boolean>} whether all were told, and no other text came meanwhile
+   */
+  async ports(text, levels, count, next, onPort) {
+    const { number } = this;
+    this.ready(Math.min(count, MOST_WORKERS, navigator.hardwareConcurrency || 1));
+    let whole = true;
+    const work = async (runner) => {
+      for (let node = next(); node !== undefined && whole; node = next()) {
+        const told = await runner.ask({ ask: 'port', text, node, levels });
+        if (number !== this.number) return;
+        if (told.answer === ANSWER.done) onPort(node, told);
+        else whole = false;
+      }
+    };
+    await Promise.all(this.runners.map(work));
+    return whole && number === this.number;
+  }
+}

@@ -1,0 +1,36 @@
+/** What runs beside the page: the proved code on a scenario, so that the page goes on meanwhile. */
+import { ANSWER, Core } from './core.js';
+import { indexOf } from './bus_times.js';
+import { indexReport } from './report.js';
+
+/** @type {Promise<Core> | null} */
+let core = null;
+
+/** @param {Record<string, Uint8Array | Uint32Array>} index */
+const buffersOf = (index) => Object.values(index).map((list) => list.buffer);
+
+/**
+ * The answers to what the page asks, and what of them is handed over rather than copied.
+ * @type {Readonly<Record<string, (core: Core, asked: object) => {told: object, handed: ArrayBuffer[]}>>}
+ */
+const ANSWERS = Object.freeze({
+  report: (code, { text }) => {
+    const told = code.run(text);
+    if (told.answer !== ANSWER.done) return { told, handed: [] };
+    const index = indexReport(told.report);
+    return { told: { ...told, index }, handed: [told.report.buffer, ...buffersOf(index)] };
+  },
+  port: (code, { text, node, levels }) => {
+    const { answer, times } = code.portTimes(text, node);
+    if (answer !== ANSWER.done) return { told: { answer }, handed: [] };
+    const index = indexOf(times, levels);
+    return { told: { answer, times, index }, handed: [times.buffer, ...buffersOf(index)] };
+  },
+});
+
+globalThis.onmessage = async ({ data }) => {
+  core ??= Core.load(data.module);
+  if (!data.ask) return;
+  const { told, handed } = ANSWERS[data.ask](await core, data);
+  globalThis.postMessage(told, handed);
+};

@@ -1,0 +1,51 @@
+/** What is wrong in a scenario, where it stands, and what is wrong in it. */
+import { ANSWER } from './core.js';
+import { WRONG, wrongWords } from './bus_words.js';
+import { textFault } from './text_fault.js';
+import { lineAndColumn, scanned } from './toml_places.js';
+
+/** The names at the top by version, and those of a port. */
+const NAMES = Object.freeze({ 1: ['version', 'bits', 'port', 'at', 'in', 'view'], 2: ['version', 'bits', 'port'], port: ['queue', 'log', 'join', 'hold'] });
+
+/**
+ * @param {import('./core.js').Core} core
+ * @param {string} text
+ * @param {import('./core.js').WrongField} wrong what the proved code tells
+ * @returns {{code: string, place: string, inside: Array<Node | string>, why: string}}
+ */
+export function faultIn(core, text, wrong) {
+  const { code, why } = wrongWords(wrong);
+  const found = scanned(text);
+  const { offset, inside } = detail(core, text, wrong, code, found);
+  if (offset === undefined) return { code, place: '', inside, why };
+  const { line, column } = lineAndColumn(text, offset);
+  return { code, place: ` (line ${line}, column ${column})`, inside, why };
+}
+
+/** The offset of what is wrong, and what is told of it. */
+function detail(core, text, { field, number }, code, found) {
+  if (field === WRONG.toml) return found.stopped ? { offset: found.stopped.offset, inside: [`${capital(found.stopped.message)}. `] } : { inside: [] };
+  if (field === WRONG.key || field === WRONG.portKey) return unknownName(text, field === WRONG.key ? '' : `port[${number}]`, found);
+  const offset = found.places.get(code);
+  if (field !== WRONG.element) return { offset, inside: [] };
+  return { offset, inside: wrongFrame(core, found.strings.get(code) ?? found.strings.get(`${code}[1]`)) };
+}
+
+/** The first name of a table that is none of its own. */
+function unknownName(text, table, { names }) {
+  const version = /^\s*version\s*=\s*2\s*(?:#|$)/m.test(text) ? 2 : 1;
+  const known = NAMES[table === '' ? version : 'port'];
+  const found = names.find((one) => one.table === table && !known.includes(one.name));
+  return found ? { offset: found.offset, inside: [`The name is “${found.name}”. `] } : { inside: [] };
+}
+
+/** What is wrong in a frame text, where it is one. @param {string | undefined} frame */
+function wrongFrame(core, frame) {
+  if (frame === undefined) return [];
+  const bytes = new TextEncoder().encode(frame);
+  const { answer, place } = core.encode(bytes);
+  return answer === ANSWER.done ? [] : [...textFault(bytes, answer, place), '. '];
+}
+
+/** @param {string} words */
+const capital = (words) => words[0].toUpperCase() + words.slice(1);
