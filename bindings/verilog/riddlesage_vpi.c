@@ -10,8 +10,9 @@
  *   frame = $riddlesage_frame(port);             the last frame that was sent or received
  *   tec = $riddlesage_tec(port); rec = $riddlesage_rec(port);
  *
- * The data of a frame are its lowest 64 bits, the first byte the highest. What the library refuses, a port that is none,
- * and a level of x or z end the simulation with a message. Nothing here is proved, and nothing here knows a rule of CAN.
+ * The data of a frame are its lowest 64 bits, the first byte the highest. What the library refuses, a port that is
+ * none, and a level of x or z end the simulation with a message. Nothing here is proved, and nothing here knows a rule
+ * of CAN.
  */
 #include "riddlesage.h"
 
