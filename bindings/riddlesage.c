@@ -1,6 +1,6 @@
 /*
- * The public calls over the proved ones of crates/can_c: each tests its pointers, and hands on. Nothing here is proved,
- * and nothing here knows a rule of CAN.
+ * The public calls over the proved ones of crates/can_c: each tests its pointers, and hands on. The room of a port that
+ * the library keeps is taken and given back here. Nothing here is proved, and nothing here knows a rule of CAN.
  */
 #include "riddlesage.h"
 

@@ -1,0 +1,312 @@
+/*
+ * The golden model for simulators of Verilog with VPI, as system functions and tasks:
+ *
+ *   port = $riddlesage_port(waiting, joins);     a new port, a number from 0 on
+ *   $riddlesage_reset(port, waiting, joins);     a new port in its place: so many frames may wait; idle, or joining
+ *   $riddlesage_offer(port, frame);              a frame of 99 bits: extended, remote, identifier, DLC, data
+ *   $riddlesage_hold(port, count);               overload frames of its own, 0 to 2
+ *   level = $riddlesage_drive(port);
+ *   told = $riddlesage_sample(port, level);      what the bit time brought, a riddlesage_event
+ *   frame = $riddlesage_frame(port);             the last frame that was sent or received
+ *   tec = $riddlesage_tec(port); rec = $riddlesage_rec(port);
+ *
+ * The data of a frame are its lowest 64 bits, the first byte the highest. What the library refuses, a port that is
+ * none, and a level of x or z end the simulation with a message. Nothing here is proved, and nothing here knows a rule
+ * of CAN.
+ */
+#include "riddlesage.h"
+
+#include <string.h>
+#include <vpi_user.h>
+
+enum { PORTS = 64, FRAME_BITS = 99, EXTENDED = 98, REMOTE = 97, IDENTIFIER = 68, DLC = 64, DATA_BYTES = 8 };
+
+static riddlesage_port ports[PORTS];
+static riddlesage_frame frames[PORTS];
+static int made;
+
+static void end(const char *why)
+{
+  vpi_printf("riddlesage: %s\n", why);
+  vpi_control(vpiFinish, 1);
+}
+
+static void demand(riddlesage_status status)
+{
+  if (status != RIDDLESAGE_OK)
+    end(riddlesage_status_name(status));
+}
+
+/* The arguments of the call, one behind another. */
+struct arguments {
+  vpiHandle list;
+};
+
+static struct arguments arguments(void)
+{
+  struct arguments of = { vpi_iterate(vpiArgument, vpi_handle(vpiSysTfCall, NULL)) };
+  return of;
+}
+
+/* The next argument; NULL behind the last one, where the list is freed. */
+static vpiHandle next(struct arguments *of)
+{
+  vpiHandle found = of->list != NULL ? vpi_scan(of->list) : NULL;
+  if (found == NULL)
+    of->list = NULL;
+  return found;
+}
+
+static void done(struct arguments *of)
+{
+  if (of->list != NULL)
+    vpi_free_object(of->list);
+}
+
+static int number(struct arguments *of)
+{
+  s_vpi_value value;
+  vpiHandle argument = next(of);
+
+  memset(&value, 0, sizeof value);
+  value.format = vpiIntVal;
+  if (argument == NULL) {
+    end("an argument is missing");
+    return 0;
+  }
+  vpi_get_value(argument, &value);
+  return value.value.integer;
+}
+
+/* A level; neither x nor z. */
+static uint8_t level(struct arguments *of)
+{
+  s_vpi_value value;
+  vpiHandle argument = next(of);
+
+  memset(&value, 0, sizeof value);
+  value.format = vpiScalarVal;
+  if (argument != NULL)
+    vpi_get_value(argument, &value);
+  if (argument == NULL || (value.value.scalar != vpi0 && value.value.scalar != vpi1)) {
+    end("the bus has no level: it is neither 0 nor 1");
+    return RIDDLESAGE_RECESSIVE;
+  }
+  return value.value.scalar == vpi1 ? RIDDLESAGE_RECESSIVE : RIDDLESAGE_DOMINANT;
+}
+
+/* The number of a port that was made. */
+static int port_of(struct arguments *of)
+{
+  int port = number(of);
+  if (port >= 0 && port < made)
+    return port;
+  end("there is no such port");
+  return 0;
+}
+
+static void give(s_vpi_value *value)
+{
+  vpi_put_value(vpi_handle(vpiSysTfCall, NULL), value, NULL, vpiNoDelay);
+}
+
+static void give_number(int given)
+{
+  s_vpi_value value;
+
+  memset(&value, 0, sizeof value);
+  value.format = vpiIntVal;
+  value.value.integer = given;
+  give(&value);
+}
+
+static void make(int port, struct arguments *of)
+{
+  int waiting = number(of), joins = number(of);
+  demand((joins != 0 ? riddlesage_port_joining : riddlesage_port_idle)(&ports[port], (size_t)waiting, 0));
+}
+
+static PLI_INT32 call_port(PLI_BYTE8 *data)
+{
+  struct arguments of = arguments();
+
+  (void)data;
+  if (made == PORTS) {
+    end("there are too many ports");
+  } else {
+    make(made, &of);
+    give_number(made++);
+  }
+  done(&of);
+  return 0;
+}
+
+static PLI_INT32 call_reset(PLI_BYTE8 *data)
+{
+  struct arguments of = arguments();
+  int port = port_of(&of);
+
+  (void)data;
+  make(port, &of);
+  done(&of);
+  return 0;
+}
+
+/* So many bits of a vector, 32 at most, from this one on. */
+static uint32_t bits(const s_vpi_vecval *words, int low, int count)
+{
+  uint32_t value = 0;
+  int place;
+
+  for (place = 0; place < count; place++) {
+    uint32_t word = (uint32_t)words[(low + place) / 32].aval;
+    value |= (word >> (low + place) % 32 & 1) << place;
+  }
+  return value;
+}
+
+static void put_bits(s_vpi_vecval *words, int low, int count, uint32_t value)
+{
+  int place;
+
+  for (place = 0; place < count; place++) {
+    s_vpi_vecval *word = &words[(low + place) / 32];
+    word->aval = (PLI_INT32)((uint32_t)word->aval | (value >> place & 1) << (low + place) % 32);
+  }
+}
+
+static PLI_INT32 call_offer(PLI_BYTE8 *data)
+{
+  struct arguments of = arguments();
+  int port = port_of(&of), place;
+  vpiHandle argument = next(&of);
+  riddlesage_frame frame = { 0, 0, 0, 0, { 0 } };
+  s_vpi_value value;
+
+  (void)data;
+  if (argument == NULL || vpi_get(vpiSize, argument) < FRAME_BITS) {
+    end("a frame has 99 bits");
+  } else {
+    memset(&value, 0, sizeof value);
+    value.format = vpiVectorVal;
+    vpi_get_value(argument, &value);
+    frame.extended = (uint8_t)bits(value.value.vector, EXTENDED, 1);
+    frame.remote = (uint8_t)bits(value.value.vector, REMOTE, 1);
+    frame.identifier = bits(value.value.vector, IDENTIFIER, 29);
+    frame.dlc = (uint8_t)bits(value.value.vector, DLC, 4);
+    for (place = 0; place < DATA_BYTES; place++)
+      frame.data[place] = (uint8_t)bits(value.value.vector, 8 * (DATA_BYTES - 1 - place), 8);
+    demand(riddlesage_port_offer(&ports[port], &frame));
+  }
+  done(&of);
+  return 0;
+}
+
+static PLI_INT32 call_hold(PLI_BYTE8 *data)
+{
+  struct arguments of = arguments();
+  int port = port_of(&of), count = number(&of);
+
+  (void)data;
+  demand(riddlesage_port_hold(&ports[port], (uint8_t)(count >= 0 && count < 256 ? count : 255)));
+  done(&of);
+  return 0;
+}
+
+static PLI_INT32 call_drive(PLI_BYTE8 *data)
+{
+  struct arguments of = arguments();
+  uint8_t driven = RIDDLESAGE_RECESSIVE;
+
+  (void)data;
+  demand(riddlesage_port_drive(&ports[port_of(&of)], &driven));
+  give_number(driven);
+  done(&of);
+  return 0;
+}
+
+static PLI_INT32 call_sample(PLI_BYTE8 *data)
+{
+  struct arguments of = arguments();
+  int port = port_of(&of);
+  uint8_t event = RIDDLESAGE_NOTHING;
+
+  (void)data;
+  demand(riddlesage_port_sample(&ports[port], level(&of), &event, &frames[port]));
+  give_number(event);
+  done(&of);
+  return 0;
+}
+
+static PLI_INT32 call_frame(PLI_BYTE8 *data)
+{
+  struct arguments of = arguments();
+  const riddlesage_frame *frame = &frames[port_of(&of)];
+  s_vpi_vecval words[FRAME_BITS / 32 + 1];
+  s_vpi_value value;
+  int place;
+
+  (void)data;
+  memset(words, 0, sizeof words);
+  put_bits(words, EXTENDED, 1, frame->extended);
+  put_bits(words, REMOTE, 1, frame->remote);
+  put_bits(words, IDENTIFIER, 29, frame->identifier);
+  put_bits(words, DLC, 4, frame->dlc);
+  for (place = 0; place < DATA_BYTES; place++)
+    put_bits(words, 8 * (DATA_BYTES - 1 - place), 8, frame->data[place]);
+  memset(&value, 0, sizeof value);
+  value.format = vpiVectorVal;
+  value.value.vector = words;
+  give(&value);
+  done(&of);
+  return 0;
+}
+
+/* The data of a call say which counter. */
+static char transmit_counter[] = "transmit", receive_counter[] = "receive";
+
+static PLI_INT32 call_counter(PLI_BYTE8 *data)
+{
+  struct arguments of = arguments();
+  uint16_t transmit = 0, receive = 0;
+
+  demand(riddlesage_port_counters(&ports[port_of(&of)], &transmit, &receive));
+  give_number(data == transmit_counter ? transmit : receive);
+  done(&of);
+  return 0;
+}
+
+static PLI_INT32 frame_size(PLI_BYTE8 *data)
+{
+  (void)data;
+  return FRAME_BITS;
+}
+
+static void announce(const char *name, PLI_INT32 (*call)(PLI_BYTE8 *), PLI_INT32 returns, PLI_BYTE8 *data)
+{
+  s_vpi_systf_data one;
+
+  memset(&one, 0, sizeof one);
+  one.type = returns != 0 ? vpiSysFunc : vpiSysTask;
+  one.sysfunctype = returns;
+  one.tfname = (PLI_BYTE8 *)name;
+  one.calltf = call;
+  one.sizetf = returns == vpiSizedFunc ? frame_size : NULL;
+  one.user_data = data;
+  vpi_register_systf(&one);
+}
+
+static void announce_all(void)
+{
+  announce("$riddlesage_port", call_port, vpiIntFunc, NULL);
+  announce("$riddlesage_reset", call_reset, 0, NULL);
+  announce("$riddlesage_offer", call_offer, 0, NULL);
+  announce("$riddlesage_hold", call_hold, 0, NULL);
+  announce("$riddlesage_drive", call_drive, vpiIntFunc, NULL);
+  announce("$riddlesage_sample", call_sample, vpiIntFunc, NULL);
+  announce("$riddlesage_frame", call_frame, vpiSizedFunc, NULL);
+  announce("$riddlesage_tec", call_counter, vpiIntFunc, transmit_counter);
+  announce("$riddlesage_rec", call_counter, vpiIntFunc, receive_counter);
+}
+
+void (*vlog_startup_routines[])(void) = { announce_all, NULL };
