@@ -19,6 +19,9 @@ const MOST_SHOWN = 100000;
 /** A longer text is kept, and not put into the field, which would be slow with it. */
 const MOST_TYPED = 100000;
 
+/** So long, in milliseconds, until the bit time is told again while ports come. */
+const TOLD_EACH = 200;
+
 const LEVEL_WORDS = ['dominant', 'recessive'];
 
 /** The names of the columns of the ports in a bit time. */
@@ -160,7 +163,9 @@ export class BusView {
     this.enter('reported');
     this.begin();
     if (bus?.count && !(await this.runs.ports(bytes, report.levels, report.ports, () => this.nextPort(bus), (node, told) => this.put(bus, node, told)))) return;
-    if (this.bus === bus) this.enter('shown');
+    if (this.bus !== bus) return;
+    if (bus?.count) this.tellTime();
+    this.enter('shown');
   }
 
   /** Picks the bit time at which a view begins. */
@@ -183,7 +188,7 @@ export class BusView {
   put(bus, node, { times, index }) {
     bus.put(node, new PortTimes(times, index));
     this.ends.refresh(node);
-    this.picture.drawSoon();
+    this.picture.come(node);
     this.tellSoon();
   }
 
@@ -245,14 +250,14 @@ export class BusView {
     byId('bus-picture').focus({ preventScroll: true });
   }
 
-  /** Tells the bit time that is picked once more before the next frame is shown. */
+  /** Tells the bit time that is picked once more as ports come: at once where they are all there, and else now and then. */
   tellSoon() {
     if (this.waits) return;
     this.waits = true;
-    requestAnimationFrame(() => {
+    setTimeout(() => {
       this.waits = false;
       if (this.bus?.count) this.tellTime();
-    });
+    }, this.bus.awaited > 0 ? TOLD_EACH : 0);
   }
 
   tellTime() {

@@ -5,6 +5,8 @@ import { DOES_WORDS } from './bus_words.js';
 import { bytesIn, spansOf, valueOf } from './picture.js';
 import { FIELDS } from './words.js';
 
+/** @typedef {import('./core.js').Marks} Marks */
+
 /** Levels and fields are drawn where each level has so many pixels. */
 const LEVEL_ROOM = 3;
 
@@ -76,7 +78,7 @@ export function bands(scale, port, y, height) {
  * @param {Scale} scale
  * @param {import('./bus_times.js').PortTimes} port
  * @param {number} y
- * @param {(levels: Uint8Array) => import('./core.js').Marks} marks
+ * @param {(levels: Uint8Array) => Marks} marks
  */
 export function fieldBands(scale, port, y, marks) {
   if (!scale.isNear) return [];

@@ -1,6 +1,8 @@
 /** Has workers run scenarios, each with the proved code in a memory of its own. */
 import { ANSWER } from './core.js';
 
+/** @typedef {import('./core.js').WrongField} WrongField */
+
 /** No more workers than these, each of which takes as much memory as the page. */
 const MOST_WORKERS = 4;
 
@@ -53,7 +55,7 @@ export class Runs {
   /**
    * The report of a scenario, or what is wrong in it; none where another text came meanwhile.
    * @param {Uint8Array} text
-   * @returns {Promise<{answer: number, wrong: import('./core.js').WrongField, report: Uint8Array} | null>}
+   * @returns {Promise<{answer: number, wrong: WrongField, report: Uint8Array} | null>}
    */
   async report(text) {
     this.number += 1;
