@@ -133,6 +133,15 @@ export class BusView {
       return;
     }
     this.enter('running');
+    try {
+      await this.answer(bytes);
+    } catch (error) {
+      this.refuse([`This browser could not run the scenario (${error.message}). The program canbit can.`]);
+    }
+  }
+
+  /** @param {Uint8Array} bytes the scenario */
+  async answer(bytes) {
     const began = performance.now();
     const told = await this.runs.report(bytes);
     if (!told) return;

@@ -25,30 +25,40 @@ export class Scale {
 
   x(time) { return Math.round(((time - this.from) / this.span) * this.width * 10) / 10; }
 
+  /** The bit time at so many pixels. */
+  timeAt(x) { return this.from + (x / this.width) * this.span; }
+
   /** A bit time's left end, or that of the view. */
   left(time) { return Math.max(this.x(time), -2); }
 
   right(time) { return Math.min(this.x(time), this.width + 2); }
 }
 
-/** A line over the levels in view; where they have no room, the stretches in which a dominant one stands. */
-export function wave(scale, count, level, high, low) {
+/**
+ * A line over the levels in view; where they have no room, the stretches in which a dominant one stands.
+ * @param {Scale} scale
+ * @param {number} count of levels
+ * @param {(time: number) => number} level
+ * @param {number} high
+ * @param {number} low
+ * @param {Uint32Array} [dominant] how many dominant levels stand before each, where the view may be so far away
+ */
+export function wave(scale, count, level, high, low, dominant) {
   const start = Math.floor(scale.from);
   const end = Math.min(Math.ceil(scale.end), count);
   if (start >= end) return svg('path', { class: 'wave', d: '' });
-  if (!scale.isNear) return svg('path', { class: 'dense', d: dense(scale, level, start, end, high, low) });
+  if (!scale.isNear) return svg('path', { class: 'dense', d: dense(scale, dominant, end, high, low) });
   let path = `M${scale.x(start)} ${level(start) === 0 ? low : high}`;
   for (let time = start; time < end; time += 1) path += `V${level(time) === 0 ? low : high}H${scale.x(time + 1)}`;
   return svg('path', { class: 'wave', d: path });
 }
 
-function dense({ from, span, width }, level, start, end, high, low) {
+function dense(scale, dominant, end, high, low) {
   let path = '';
-  const each = span / width;
-  for (let pixel = 0; pixel < width; pixel += 1) {
-    const last = Math.min(end, Math.max(from + (pixel + 1) * each, from + pixel * each + 1));
-    let any = false;
-    for (let time = Math.max(start, Math.floor(from + pixel * each)); time < last && !any; time += 1) any = level(time) === 0;
+  for (let pixel = 0; pixel < scale.width; pixel += 1) {
+    const first = Math.floor(scale.timeAt(pixel));
+    const last = Math.max(Math.ceil(scale.timeAt(pixel + 1)), first + 1);
+    const any = dominant[Math.min(last, end)] > dominant[Math.min(first, end)];
     path += any ? `M${pixel} ${low}v${high - low}h1v${low - high}z` : `M${pixel} ${high}h1v1h-1z`;
   }
   return path;
@@ -63,7 +73,11 @@ export function bands(scale, port, y, height) {
   for (let run = first; run < port.starts.length && port.starts[run] < scale.end; run += 1) {
     const left = scale.left(port.starts[run]);
     const right = scale.right(run + 1 < port.starts.length ? port.starts[run + 1] : port.count);
-    if (right - drawn < 1) continue;
+    if (right - drawn < 1) {
+      // those that end in the same pixel are left out together
+      run = Math.max(run, firstFrom(port.starts, Math.floor(scale.timeAt(drawn + 1))) - 2);
+      continue;
+    }
     drawn = right;
     const width = Math.max(right - left, 1);
     paths[port.kinds[run]] += `M${left} ${y}h${width}v${height}h-${width}z`;

@@ -221,8 +221,8 @@ export class BusPicture {
 
   /** The recorded levels, and the disturbances of the wire. */
   levelRow(scale) {
-    const { levels, hits, count } = this.bus;
-    return [svg('g', { class: 'row levels' }, [wave(scale, count, (time) => levels[time], AXIS + 10, HEAD - 6), ...arrows(scale, hits, AXIS + 9, 'hit')])];
+    const { levels, hits, count, dominant } = this.bus;
+    return [svg('g', { class: 'row levels' }, [wave(scale, count, (time) => levels[time], AXIS + 10, HEAD - 6, dominant), ...arrows(scale, hits, AXIS + 9, 'hit')])];
   }
 
   /** A port: its number, what it does, and unfolded the fields, what it drives, and its counters as they move. */
