@@ -168,7 +168,7 @@ export class BusPicture {
   }
 
   /** The width of the names, and of what is beside them. */
-  get names() { return this.width < 500 ? 62 : 78; }
+  get names() { return this.width < 500 ? 72 : 78; }
 
   get plot() { return this.width - this.names; }
 
