@@ -135,7 +135,8 @@ function frameBands(scale, start, wire, y) {
 function labelOf(wire, span, room) {
   const { name, short } = FIELDS[span.field];
   const number = valueOf(wire, span);
-  return [`${name} ${number}`, `${short} ${number}`, name, short].find((label) => label.length * LETTER + 5 <= room);
+  const numbered = number ? [`${name} ${number}`, `${short} ${number}`] : [];
+  return [...numbered, name, short].find((label) => label.length * LETTER + 5 <= room);
 }
 
 function stuffHatches(scale, start, { stuffed }, y) {

@@ -53,7 +53,7 @@ export const busSpeedTests = [
     await draws(page);
   }],
   ['64 busy ports of 20,000 bit times are seen within a second, and never block the page for more than 50 ms', async ({ open, browser }) => {
-    const page = await shown(open);
+    const page = await shown(open, undefined, { dark: true });
     const { done: { seen, whole }, longest } = await longestTask(browser, () => timed(page, busy(64, 20000, 6, 3000)));
     console.log(`    seen in ${Math.round(seen)} ms, whole in ${Math.round(whole)} ms, blocked for ${Math.round(longest)} ms`);
     within('the ports in view', seen, 1000);
