@@ -96,8 +96,12 @@ export class BusView {
   /** @param {File | undefined} file */
   async showFile(file) {
     if (!file) return;
-    if (file.size > MOST_SCENARIO) this.refuse([TOO_LONG]);
-    else this.take(await file.text());
+    try {
+      if (file.size > MOST_SCENARIO) this.refuse([TOO_LONG]);
+      else this.take(new TextDecoder('utf-8', { fatal: true }).decode(await file.arrayBuffer()));
+    } catch {
+      this.refuse([html('strong', {}, ['P2 toml']), ': the file is no text in UTF-8, or could not be read.']);
+    }
     byId('bus-file').value = '';
   }
 
