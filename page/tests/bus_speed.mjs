@@ -24,7 +24,7 @@ const timed = (page, text) => page.run(async (given) => {
   while (rows().length === 0 || [...rows()].some((row) => row.textContent.includes('worked out'))) await paint();
   const seen = performance.now() - began;
   while (state() === 'reported') await paint();
-  return { reported, seen, whole: performance.now() - began };
+  return { reported, seen, rows: rows().length, whole: performance.now() - began };
 }, text);
 
 /** The times that a picture takes to be drawn while it moves, in order. */
@@ -54,8 +54,9 @@ export const busSpeedTests = [
   }],
   ['64 busy ports of 20,000 bit times are seen within a second, and never block the page for more than 50 ms', async ({ open, browser }) => {
     const page = await shown(open, undefined, { dark: true });
-    const { done: { seen, whole }, longest } = await longestTask(browser, () => timed(page, busy(64, 20000, 6, 3000)));
+    const { done: { seen, rows, whole }, longest } = await longestTask(browser, () => timed(page, busy(64, 20000, 6, 3000)));
     console.log(`    seen in ${Math.round(seen)} ms, whole in ${Math.round(whole)} ms, blocked for ${Math.round(longest)} ms`);
+    assert.ok(rows > 10, `${rows} rows are drawn`);
     within('the ports in view', seen, 1000);
     within('the longest block', longest, 50);
     await draws(page);
