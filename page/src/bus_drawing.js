@@ -124,11 +124,11 @@ function frameBands(scale, start, wire, y) {
     const right = scale.right(start + span.to);
     if (right <= left) continue;
     const word = labelOf(wire, span, right - left);
-    const inside = [svg('rect', { class: `field field-${span.field}`, x: left, y, width: right - left, height: FIELD_BAND })];
+    const inside = [svg('rect', { class: `field field-${span.field}`, x: left, y, width: right - left, height: FIELD_BAND }), ...stuffHatches(scale, start, wire, span, y)];
     if (word) inside.push(svg('text', { class: 'label', x: Math.max(left, 0) + 3, y: y + 12 }, [word]));
     drawn.push(svg('g', { class: 'field-band', 'data-field': span.field }, inside));
   }
-  return [...drawn, ...stuffHatches(scale, start, wire, y), ...byteEnds(scale, start, wire, y)];
+  return [...drawn, ...byteEnds(scale, start, wire, y)];
 }
 
 /** The name of a field with its number, in the longest form that fits. */
@@ -139,10 +139,10 @@ function labelOf(wire, span, room) {
   return [...numbered, name, short].find((label) => label.length * LETTER + 5 <= room);
 }
 
-function stuffHatches(scale, start, { stuffed }, y) {
+function stuffHatches(scale, start, { stuffed }, { from, to }, y) {
   let path = '';
   const times = [];
-  for (let index = stuffed.indexOf(1); index >= 0; index = stuffed.indexOf(1, index + 1)) {
+  for (let index = stuffed.indexOf(1, from); index >= 0 && index < to; index = stuffed.indexOf(1, index + 1)) {
     const left = scale.x(start + index);
     const right = scale.x(start + index + 1);
     if (right < 0 || left > scale.width) continue;

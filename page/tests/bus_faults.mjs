@@ -46,7 +46,7 @@ const NO_TOML = [
 /** Texts that are TOML in all its ways of writing, and scenarios. */
 const TOML = [
   "'version' = 1 # one\n\"bits\" = 0x8\r\n[[ port ]]\nqueue = [\n  'S 000 D 0', # first\n  \"\"\"S 001 D 0\"\"\",\n]\nlog = 1_0\n",
-  'version = +1\nbits = 0b1000\nport = [{ queue = ["S \\u0030\\U0000003000 D 0"], join = true }, {}, {\n  log = 1, # last\n}]\n',
+  'version = +1\nbits = 0b1000\nport = [{ queue = ["S \\u0030\\U000000300 D 0"], join = true }, {}, {\n  log = 1, # last\n}]\n',
 ];
 
 export const busFaultTests = [

@@ -11,7 +11,7 @@ const DATA = 'version = 1\nbits = 80\n[[port]]\nqueue = ["S 555 D 2 aa55"]\n[[po
 const fields = (page) => page.run(() => [...document.querySelectorAll('#bus-picture [data-node]')].map((row) => ({
   names: [...row.querySelectorAll('.field-band')].map((band) => Number(band.dataset.field)),
   labels: [...row.querySelectorAll('.field-band .label')].map((label) => label.textContent),
-  hatched: row.querySelector('.hatch')?.dataset.times ?? '',
+  hatched: [...row.querySelectorAll('.hatch')].map((hatch) => hatch.dataset.times).join(' '),
 })));
 
 const names = (page) => page.run(() => [...document.querySelectorAll('#bus-picture .port-name')].map((name) => name.textContent));
