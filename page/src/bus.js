@@ -63,7 +63,7 @@ export class BusView {
       'bus-zoom-all': () => picture.view(0, Infinity), 'bus-earlier': () => picture.pan(-0.5), 'bus-later': () => picture.pan(0.5), 'bus-next': () => this.nextEvent(),
       'bus-previous': () => this.previousEvent(), 'bus-fold': () => picture.foldAll(true), 'bus-unfold': () => picture.foldAll(false), 'bus-copy': () => this.copy(),
       'bus-download': () => download('report.txt', 'text/plain', this.report?.bytes ?? ''), 'bus-save': () => download('scenario.toml', 'text/plain', this.text),
-      'bus-edit': () => { byId('bus-scenario').scrollIntoView(); this.field.focus({ preventScroll: true }); },
+      'bus-edit': () => { byId('bus-scenario').scrollIntoView(); this.field.focus(); },
     };
     for (const [id, action] of Object.entries(actions)) byId(id).addEventListener('click', action);
     byId('bus-picture').addEventListener('keydown', (event) => this.key(event));
