@@ -19,6 +19,9 @@ const MOST_SHOWN = 100000;
 /** A longer text is kept, and not put into the field, which would be slow with it. */
 const MOST_TYPED = 100000;
 
+/** So long, in milliseconds, until the bit time is told again while ports come. */
+const TOLD_EACH = 200;
+
 const LEVEL_WORDS = ['dominant', 'recessive'];
 
 /** The names of the columns of the ports in a bit time. */
@@ -60,7 +63,7 @@ export class BusView {
       'bus-zoom-all': () => picture.view(0, Infinity), 'bus-earlier': () => picture.pan(-0.5), 'bus-later': () => picture.pan(0.5), 'bus-next': () => this.nextEvent(),
       'bus-previous': () => this.previousEvent(), 'bus-fold': () => picture.foldAll(true), 'bus-unfold': () => picture.foldAll(false), 'bus-copy': () => this.copy(),
       'bus-download': () => download('report.txt', 'text/plain', this.report?.bytes ?? ''), 'bus-save': () => download('scenario.toml', 'text/plain', this.text),
-      'bus-edit': () => { byId('bus-scenario').scrollIntoView(); this.field.focus({ preventScroll: true }); },
+      'bus-edit': () => { byId('bus-scenario').scrollIntoView(); this.field.focus(); },
     };
     for (const [id, action] of Object.entries(actions)) byId(id).addEventListener('click', action);
     byId('bus-picture').addEventListener('keydown', (event) => this.key(event));
@@ -93,8 +96,12 @@ export class BusView {
   /** @param {File | undefined} file */
   async showFile(file) {
     if (!file) return;
-    if (file.size > MOST_SCENARIO) this.refuse([TOO_LONG]);
-    else this.take(await file.text());
+    try {
+      if (file.size > MOST_SCENARIO) this.refuse([TOO_LONG]);
+      else this.take(new TextDecoder('utf-8', { fatal: true }).decode(await file.arrayBuffer()));
+    } catch {
+      this.refuse([html('strong', {}, ['P2 toml']), ': the file is no text in UTF-8, or could not be read.']);
+    }
     byId('bus-file').value = '';
   }
 
@@ -130,6 +137,15 @@ export class BusView {
       return;
     }
     this.enter('running');
+    try {
+      await this.answer(bytes);
+    } catch (error) {
+      this.refuse([`This browser could not run the scenario (${error.message}). The program canbit can.`]);
+    }
+  }
+
+  /** @param {Uint8Array} bytes the scenario */
+  async answer(bytes) {
     const began = performance.now();
     const told = await this.runs.report(bytes);
     if (!told) return;
@@ -160,7 +176,9 @@ export class BusView {
     this.enter('reported');
     this.begin();
     if (bus?.count && !(await this.runs.ports(bytes, report.levels, report.ports, () => this.nextPort(bus), (node, told) => this.put(bus, node, told)))) return;
-    if (this.bus === bus) this.enter('shown');
+    if (this.bus !== bus) return;
+    if (bus?.count) this.tellTime();
+    this.enter('shown');
   }
 
   /** Picks the bit time at which a view begins. */
@@ -183,7 +201,7 @@ export class BusView {
   put(bus, node, { times, index }) {
     bus.put(node, new PortTimes(times, index));
     this.ends.refresh(node);
-    this.picture.drawSoon();
+    this.picture.come(node);
     this.tellSoon();
   }
 
@@ -245,14 +263,14 @@ export class BusView {
     byId('bus-picture').focus({ preventScroll: true });
   }
 
-  /** Tells the bit time that is picked once more before the next frame is shown. */
+  /** Tells the bit time that is picked once more as ports come: at once where they are all there, and else now and then. */
   tellSoon() {
     if (this.waits) return;
     this.waits = true;
-    requestAnimationFrame(() => {
+    setTimeout(() => {
       this.waits = false;
       if (this.bus?.count) this.tellTime();
-    });
+    }, this.bus.awaited > 0 ? TOLD_EACH : 0);
   }
 
   tellTime() {

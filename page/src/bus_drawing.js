@@ -5,6 +5,8 @@ import { DOES_WORDS } from './bus_words.js';
 import { bytesIn, spansOf, valueOf } from './picture.js';
 import { FIELDS } from './words.js';
 
+/** @typedef {import('./core.js').Marks} Marks */
+
 /** Levels and fields are drawn where each level has so many pixels. */
 const LEVEL_ROOM = 3;
 
@@ -23,30 +25,40 @@ export class Scale {
 
   x(time) { return Math.round(((time - this.from) / this.span) * this.width * 10) / 10; }
 
+  /** The bit time at so many pixels. */
+  timeAt(x) { return this.from + (x / this.width) * this.span; }
+
   /** A bit time's left end, or that of the view. */
   left(time) { return Math.max(this.x(time), -2); }
 
   right(time) { return Math.min(this.x(time), this.width + 2); }
 }
 
-/** A line over the levels in view; where they have no room, the stretches in which a dominant one stands. */
-export function wave(scale, count, level, high, low) {
+/**
+ * A line over the levels in view; where they have no room, the stretches in which a dominant one stands.
+ * @param {Scale} scale
+ * @param {number} count of levels
+ * @param {(time: number) => number} level
+ * @param {number} high
+ * @param {number} low
+ * @param {Uint32Array} [dominant] how many dominant levels stand before each, where the view may be so far away
+ */
+export function wave(scale, count, level, high, low, dominant) {
   const start = Math.floor(scale.from);
   const end = Math.min(Math.ceil(scale.end), count);
   if (start >= end) return svg('path', { class: 'wave', d: '' });
-  if (!scale.isNear) return svg('path', { class: 'dense', d: dense(scale, level, start, end, high, low) });
+  if (!scale.isNear) return svg('path', { class: 'dense', d: dense(scale, dominant, end, high, low) });
   let path = `M${scale.x(start)} ${level(start) === 0 ? low : high}`;
   for (let time = start; time < end; time += 1) path += `V${level(time) === 0 ? low : high}H${scale.x(time + 1)}`;
   return svg('path', { class: 'wave', d: path });
 }
 
-function dense({ from, span, width }, level, start, end, high, low) {
+function dense(scale, dominant, end, high, low) {
   let path = '';
-  const each = span / width;
-  for (let pixel = 0; pixel < width; pixel += 1) {
-    const last = Math.min(end, Math.max(from + (pixel + 1) * each, from + pixel * each + 1));
-    let any = false;
-    for (let time = Math.max(start, Math.floor(from + pixel * each)); time < last && !any; time += 1) any = level(time) === 0;
+  for (let pixel = 0; pixel < scale.width; pixel += 1) {
+    const first = Math.floor(scale.timeAt(pixel));
+    const last = Math.max(Math.ceil(scale.timeAt(pixel + 1)), first + 1);
+    const any = dominant[Math.min(last, end)] > dominant[Math.min(first, end)];
     path += any ? `M${pixel} ${low}v${high - low}h1v${low - high}z` : `M${pixel} ${high}h1v1h-1z`;
   }
   return path;
@@ -61,7 +73,11 @@ export function bands(scale, port, y, height) {
   for (let run = first; run < port.starts.length && port.starts[run] < scale.end; run += 1) {
     const left = scale.left(port.starts[run]);
     const right = scale.right(run + 1 < port.starts.length ? port.starts[run + 1] : port.count);
-    if (right - drawn < 1) continue;
+    if (right - drawn < 1) {
+      // those that end in the same pixel are left out together
+      run = Math.max(run, firstFrom(port.starts, Math.floor(scale.timeAt(drawn + 1))) - 2);
+      continue;
+    }
     drawn = right;
     const width = Math.max(right - left, 1);
     paths[port.kinds[run]] += `M${left} ${y}h${width}v${height}h-${width}z`;
@@ -76,7 +92,7 @@ export function bands(scale, port, y, height) {
  * @param {Scale} scale
  * @param {import('./bus_times.js').PortTimes} port
  * @param {number} y
- * @param {(levels: Uint8Array) => import('./core.js').Marks} marks
+ * @param {(levels: Uint8Array) => Marks} marks
  */
 export function fieldBands(scale, port, y, marks) {
   if (!scale.isNear) return [];
@@ -108,24 +124,25 @@ function frameBands(scale, start, wire, y) {
     const right = scale.right(start + span.to);
     if (right <= left) continue;
     const word = labelOf(wire, span, right - left);
-    const inside = [svg('rect', { class: `field field-${span.field}`, x: left, y, width: right - left, height: FIELD_BAND })];
+    const inside = [svg('rect', { class: `field field-${span.field}`, x: left, y, width: right - left, height: FIELD_BAND }), ...stuffHatches(scale, start, wire, span, y)];
     if (word) inside.push(svg('text', { class: 'label', x: Math.max(left, 0) + 3, y: y + 12 }, [word]));
     drawn.push(svg('g', { class: 'field-band', 'data-field': span.field }, inside));
   }
-  return [...drawn, ...stuffHatches(scale, start, wire, y), ...byteEnds(scale, start, wire, y)];
+  return [...drawn, ...byteEnds(scale, start, wire, y)];
 }
 
 /** The name of a field with its number, in the longest form that fits. */
 function labelOf(wire, span, room) {
   const { name, short } = FIELDS[span.field];
   const number = valueOf(wire, span);
-  return [`${name} ${number}`, `${short} ${number}`, name, short].find((label) => label.length * LETTER + 5 <= room);
+  const numbered = number ? [`${name} ${number}`, `${short} ${number}`] : [];
+  return [...numbered, name, short].find((label) => label.length * LETTER + 5 <= room);
 }
 
-function stuffHatches(scale, start, { stuffed }, y) {
+function stuffHatches(scale, start, { stuffed }, { from, to }, y) {
   let path = '';
   const times = [];
-  for (let index = stuffed.indexOf(1); index >= 0; index = stuffed.indexOf(1, index + 1)) {
+  for (let index = stuffed.indexOf(1, from); index >= 0 && index < to; index = stuffed.indexOf(1, index + 1)) {
     const left = scale.x(start + index);
     const right = scale.x(start + index + 1);
     if (right < 0 || left > scale.width) continue;

@@ -2,6 +2,8 @@
 import { svg } from './draw.js';
 import { Scale, arrows, axis, bands, counters, fieldBands, wave } from './bus_drawing.js';
 
+/** @typedef {import('./core.js').Marks} Marks */
+
 /** Sizes in pixels, and how few bit times fill the width at most. */
 const AXIS = 18;
 const HEAD = 52;
@@ -16,7 +18,7 @@ const MOST_UNFOLDED = 6;
 export class BusPicture {
   /**
    * @param {HTMLElement} room
-   * @param {(levels: Uint8Array) => import('./core.js').Marks} marks
+   * @param {(levels: Uint8Array) => Marks} marks
    * @param {(time: number) => void} onPick told of the bit time that is picked
    */
   constructor(room, marks, onPick) {
@@ -30,10 +32,12 @@ export class BusPicture {
     /** @type {Set<number>} the ports whose rows are folded */
     this.folded = new Set();
     this.waits = false;
+    // what is asked of the browser each time would have it lay the page out each time
+    Object.assign(this, { width: 0, seen: 0, scrolled: 0 });
     this.head = svg('svg', { class: 'bus head', 'aria-hidden': 'true' });
     this.body = svg('svg', { class: 'bus body', 'aria-hidden': 'true' });
-    new ResizeObserver(() => this.drawSoon()).observe(room);
-    room.addEventListener('scroll', () => this.drawSoon());
+    new ResizeObserver(() => this.drawSoon({ width: room.clientWidth, seen: room.clientHeight - HEAD })).observe(room);
+    room.addEventListener('scroll', () => this.drawSoon({ scrolled: room.scrollTop }));
     this.listen();
   }
 
@@ -80,8 +84,7 @@ export class BusPicture {
   foldAll(folds) {
     this.folded = new Set(folds ? this.bus?.ports.keys() : []);
     this.node = 0;
-    this.room.scrollTop = 0;
-    this.drawSoon();
+    this.scrollTo(0);
   }
 
   /** Folds a port's row, or unfolds it. */
@@ -96,11 +99,17 @@ export class BusPicture {
     if (!this.bus) return;
     this.node = Math.min(Math.max(node, 0), this.bus.ports.length - 1);
     const [top, bottom] = [this.top(this.node), this.top(this.node + 1)];
-    const seen = this.room.clientHeight - HEAD;
-    if (top < this.room.scrollTop) this.room.scrollTop = top;
-    else if (bottom > this.room.scrollTop + seen) this.room.scrollTop = bottom - seen;
+    this.scrollTo(Math.min(Math.max(this.scrolled, bottom - this.seen), top));
+  }
+
+  /** @param {number} top */
+  scrollTo(top) {
+    if (top !== this.scrolled) this.room.scrollTop = top;
     this.drawSoon();
   }
+
+  /** Draws a port that has come, where it is in view. */
+  come(node) { if (this.inView.includes(node)) this.drawSoon(); }
 
   height(node) { return this.folded.has(node) ? FOLDED : ROW; }
 
@@ -114,11 +123,11 @@ export class BusPicture {
   /** The ports whose rows are in view. */
   get inView() {
     const nodes = [];
-    const end = this.room.scrollTop + this.room.clientHeight - HEAD;
+    const end = this.scrolled + this.seen;
     let top = 0;
     for (let node = 0; node < (this.bus?.ports.length ?? 0) && top < end; node += 1) {
       top += this.height(node);
-      if (top > this.room.scrollTop) nodes.push(node);
+      if (top > this.scrolled) nodes.push(node);
     }
     return nodes;
   }
@@ -159,12 +168,16 @@ export class BusPicture {
   }
 
   /** The width of the names, and of what is beside them. */
-  get names() { return this.room.clientWidth < 500 ? 62 : 78; }
+  get names() { return this.width < 500 ? 72 : 78; }
 
-  get plot() { return this.room.clientWidth - this.names; }
+  get plot() { return this.width - this.names; }
 
-  /** Draws once before the next frame is shown, however often it is asked. */
-  drawSoon() {
+  /**
+   * Draws once before the next frame is shown, however often it is asked.
+   * @param {{width?: number, seen?: number, scrolled?: number}} [sizes] those that have changed
+   */
+  drawSoon(sizes = {}) {
+    Object.assign(this, sizes);
     if (this.waits) return;
     this.waits = true;
     requestAnimationFrame(() => {
@@ -174,7 +187,7 @@ export class BusPicture {
   }
 
   draw() {
-    const width = this.room.clientWidth;
+    const { width } = this;
     if (!this.bus || width === 0) {
       this.room.replaceChildren();
       return;
@@ -208,8 +221,8 @@ export class BusPicture {
 
   /** The recorded levels, and the disturbances of the wire. */
   levelRow(scale) {
-    const { levels, hits, count } = this.bus;
-    return [svg('g', { class: 'row levels' }, [wave(scale, count, (time) => levels[time], AXIS + 10, HEAD - 6), ...arrows(scale, hits, AXIS + 9, 'hit')])];
+    const { levels, hits, count, dominant } = this.bus;
+    return [svg('g', { class: 'row levels' }, [wave(scale, count, (time) => levels[time], AXIS + 10, HEAD - 6, dominant), ...arrows(scale, hits, AXIS + 9, 'hit')])];
   }
 
   /** A port: its number, what it does, and unfolded the fields, what it drives, and its counters as they move. */

@@ -1,6 +1,8 @@
 /** Has workers run scenarios, each with the proved code in a memory of its own. */
 import { ANSWER } from './core.js';
 
+/** @typedef {import('./core.js').WrongField} WrongField */
+
 /** No more workers than these, each of which takes as much memory as the page. */
 const MOST_WORKERS = 4;
 
@@ -53,13 +55,14 @@ export class Runs {
   /**
    * The report of a scenario, or what is wrong in it; none where another text came meanwhile.
    * @param {Uint8Array} text
-   * @returns {Promise<{answer: number, wrong: import('./core.js').WrongField, report: Uint8Array} | null>}
+   * @returns {Promise<{answer: number, wrong: WrongField, report: Uint8Array} | null>}
    */
   async report(text) {
     this.number += 1;
     const { number } = this;
     this.drop();
     const told = await this.runners[0].ask({ ask: 'report', text });
+    if (told.failed) this.end(this.runners[0], told);
     return number === this.number ? told : null;
   }
 
@@ -67,23 +70,37 @@ export class Runs {
    * What each port of the scenario does, one after another.
    * @param {Uint8Array} text
    * @param {Uint8Array} levels those that are recorded
+   * @param {number} count of ports
    * @param {() => number | undefined} next the port that is asked for next
    * @param {(node: number, told: {times: Uint8Array, index: object}) => void} onPort
-   * @returns {Promise<boolean>} whether all were told, and no other text came meanwhile
+   * @returns {Promise<boolean>} whether no other text came meanwhile
    */
   async ports(text, levels, count, next, onPort) {
     const { number } = this;
     this.ready(Math.min(count, MOST_WORKERS, navigator.hardwareConcurrency || 1));
-    let whole = true;
-    const work = async (runner) => {
-      for (let node = next(); node !== undefined && whole; node = next()) {
+    const left = [];
+    const work = async (runner, nextNode) => {
+      for (let node = nextNode(); node !== undefined && number === this.number; node = nextNode()) {
         const told = await runner.ask({ ask: 'port', text, node, levels });
         if (number !== this.number) return;
-        if (told.answer === ANSWER.done) onPort(node, told);
-        else whole = false;
+        if (told.answer !== ANSWER.done) {
+          // a browser may have memory for fewer workers
+          left.push(node);
+          this.end(runner, told);
+          return;
+        }
+        onPort(node, told);
       }
     };
-    await Promise.all(this.runners.map(work));
-    return whole && number === this.number;
+    await Promise.all(this.runners.map((runner) => work(runner, next)));
+    while (left.length > 0 && number === this.number) await work(this.runners[0], () => left.pop());
+    return number === this.number;
+  }
+
+  /** Ends a worker that could not answer. */
+  end(runner, { failed = 'a port was not told' }) {
+    runner.worker.terminate();
+    this.runners = this.runners.filter((other) => other !== runner);
+    if (this.runners.length === 0) throw new Error(failed);
   }
 }

@@ -125,6 +125,9 @@ export class BusTimes {
     /** @type {Array<PortTimes | null>} */
     this.ports = Array.from({ length: count }, () => null);
     this.driven = new Uint8Array(levels.length).fill(1);
+    /** How many dominant levels stand before each. */
+    this.dominant = new Uint32Array(levels.length + 1);
+    for (let time = 0; time < levels.length; time += 1) this.dominant[time + 1] = this.dominant[time] + 1 - levels[time];
     this.hits = new Uint32Array();
     this.awaited = count;
   }

@@ -29,8 +29,12 @@ const ANSWERS = Object.freeze({
 });
 
 globalThis.onmessage = async ({ data }) => {
-  core ??= Core.load(data.module);
-  if (!data.ask) return;
-  const { told, handed } = ANSWERS[data.ask](await core, data);
-  globalThis.postMessage(told, handed);
+  try {
+    core ??= Core.load(data.module);
+    if (!data.ask) return;
+    const { told, handed } = ANSWERS[data.ask](await core, data);
+    globalThis.postMessage(told, handed);
+  } catch (error) {
+    if (data.ask) globalThis.postMessage({ failed: error.message });
+  }
 };

@@ -272,9 +272,9 @@ export class DecodeView {
     const picked = line === this.picked;
     const button = html('button', { type: 'button', class: 'link', 'aria-pressed': picked }, [found.start.toLocaleString('en')]);
     return html('tr', { 'data-line': line, class: picked ? 'picked' : '' }, [
-      html('td', {}, [button]),
-      html('td', { class: 'mono' }, [found.fault ? `${found.fault} at ${found.place}` : found.frame]),
-      html('td', {}, [found.fault ? FAULTS[found.fault].name : heardWords(found.heard)]),
+      html('td', { 'data-name': 'Place' }, [button]),
+      html('td', { class: 'mono', 'data-name': 'Frame or fault' }, [found.fault ? `${found.fault} at ${found.place}` : found.frame]),
+      html('td', { 'data-name': 'In words' }, [found.fault ? FAULTS[found.fault].name : heardWords(found.heard)]),
     ]);
   }
 }

@@ -97,6 +97,7 @@ class Views {
     }
     if (name === 'encode') this.shown.encode.wires.draw();
     if (Object.keys(what).length > 0) await this.shown[name].open(what);
+    else this.followSoon(name);
   }
 
   /** The part of the address that says what a view shows, or nothing where that is too long. */

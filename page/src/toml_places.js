@@ -7,10 +7,10 @@ const BARE = /[A-Za-z0-9_-]+/y;
 const BLANKS = /[ \t]*/y;
 const COMMENT = /#[^\n]*/y;
 const LINE_END = /\r?\n/y;
-const LITERAL = /(?:true|false|[+-]?(?:inf|nan)|\d{4}-\d\d-\d\d(?:[Tt ]\d\d:\d\d:\d\d(?:\.\d+)?(?:[Zz]|[+-]\d\d:\d\d)?)?|\d\d:\d\d:\d\d(?:\.\d+)?|0x[\dA-Fa-f]+(?:_[\dA-Fa-f]+)*|0o[0-7]+(?:_[0-7]+)*|0b[01]+(?:_[01]+)*|[+-]?(?:0|[1-9](?:_?\d)*)(?:\.\d(?:_?\d)*)?(?:[eE][+-]?\d(?:_?\d)*)?)(?![\w.+-])/y;
+const LITERAL = /(?:true|false|[+-]?(?:inf|nan)|\d{4}-\d\d-\d\d(?:[Tt ]\d\d:\d\d(?::\d\d(?:\.\d+)?)?(?:[Zz]|[+-]\d\d:\d\d)?)?|\d\d:\d\d(?::\d\d(?:\.\d+)?)?|0x[\dA-Fa-f]+(?:_[\dA-Fa-f]+)*|0o[0-7]+(?:_[0-7]+)*|0b[01]+(?:_[01]+)*|[+-]?(?:0|[1-9](?:_?\d)*)(?:\.\d(?:_?\d)*)?(?:[eE][+-]?\d(?:_?\d)*)?)(?![\w.+-])/y;
 const WHOLE = /^[+-]?\d[\d_]*$|^0[xob]/;
-const ESCAPE = /\\(?:[btnfr"\\]|u[\dA-Fa-f]{4}|U[\dA-Fa-f]{8})/y;
-const LONG_ESCAPE = /\\(?:[btnfr"\\]|u[\dA-Fa-f]{4}|U[\dA-Fa-f]{8}|[ \t]*\r?\n\s*)/y;
+const ESCAPE = /\\(?:[btnfre"\\]|x[\dA-Fa-f]{2}|u[\dA-Fa-f]{4}|U[\dA-Fa-f]{8})/y;
+const LONG_ESCAPE = /\\(?:[btnfre"\\]|x[\dA-Fa-f]{2}|u[\dA-Fa-f]{4}|U[\dA-Fa-f]{8}|[ \t]*\r?\n\s*)/y;
 const LEAST = -(2n ** 63n);
 const MOST = 2n ** 63n - 1n;
 
@@ -195,12 +195,11 @@ class Scanner {
 
   inline(path) {
     this.at += 1;
-    this.take(BLANKS);
-    if (this.skip('}')) return;
     for (;;) {
-      this.take(BLANKS);
+      this.gap();
+      if (this.skip('}')) return;
       this.pair(path);
-      this.take(BLANKS);
+      this.gap();
       if (this.skip('}')) return;
       if (!this.skip(',')) this.stop('“,” or “}” was expected here');
     }

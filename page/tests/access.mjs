@@ -151,6 +151,19 @@ export const accessTests = [
     const outlined = await page.run(() => { document.getElementById('copy-levels').focus(); return getComputedStyle(document.activeElement).outlineStyle; });
     assert.equal(outlined, 'solid');
   }],
+  ['the keyboard reaches a bus in the order of its view', async ({ open }) => {
+    const page = await open();
+    await page.click('tab-bus');
+    await settled(page);
+    await page.run(() => document.getElementById('tab-bus').focus());
+    const reached = [];
+    for (let step = 0; step < 16; step += 1) {
+      await page.key('Tab');
+      reached.push(await page.run(() => document.activeElement.id || document.activeElement.getAttribute('aria-label') || document.activeElement.textContent.slice(0, 14)));
+    }
+    assert.deepEqual(reached, ['bus-examples', 'bus-edit', 'bus-picture', 'bus-on', 'bus-previous', 'bus-next', 'bus-zoom-in', 'bus-zoom-out', 'bus-zoom-all', 'bus-earlier', 'bus-later',
+      'bus-fold', 'bus-unfold', 'bus-link', 'Ports in this bit time', 'Keys and marks']);
+  }],
   ['tabs are changed by keys', async ({ open }) => {
     const page = await open();
     await page.run(() => document.getElementById('tab-encode').focus());

@@ -38,7 +38,7 @@ const NO_TOML = [
   ['version = 1\nbits = 1\n[[port]]\nqueue = ["S 000 D 0" "S 001 D 0"]', [4, 22], /“,” or “]” was expected/],
   ['version = 1\nbits = 1\n[[port]]\nqueue = [', [4, 9], /array does not end/],
   ['version = 1\nbits = 99999999999999999999\n[[port]]', [2, 8], /does not fit 64 bits/],
-  ['version = 1\nbits = 1\nport = [{ log = 1, }]', [3, 20], /name was expected/],
+  ['version = 1\nbits = 1\nport = [{ log = 1, , }]', [3, 20], /name was expected/],
   ['version = 1\nbits = 1\n[[port]]\nqueue = ["\\q"]', [4, 11], /no escape/],
   ['version : 1', [1, 9], /“=” was expected/],
 ];
@@ -46,7 +46,7 @@ const NO_TOML = [
 /** Texts that are TOML in all its ways of writing, and scenarios. */
 const TOML = [
   "'version' = 1 # one\n\"bits\" = 0x8\r\n[[ port ]]\nqueue = [\n  'S 000 D 0', # first\n  \"\"\"S 001 D 0\"\"\",\n]\nlog = 1_0\n",
-  'version = +1\nbits = 0b1000\nport = [{ queue = ["S \\u0030\\U0000003000 D 0"], join = true }, {}]\n',
+  'version = +1\nbits = 0b1000\nport = [{ queue = ["S \\u0030\\U000000300 D 0"], join = true }, {}, {\n  log = 1, # last\n}]\n',
 ];
 
 export const busFaultTests = [

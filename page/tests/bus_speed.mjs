@@ -2,29 +2,19 @@
 import assert from 'node:assert/strict';
 import { busy, settled, shown } from './bus_page.mjs';
 import { within } from './limits.mjs';
+import { longestTask } from './tasks.mjs';
 
-/** How long a scenario takes until it is seen and until it is whole, and the longest time for which the page is blocked. */
+/** How long a scenario takes until its report is there, until the ports in view are seen, and until it is whole. */
 const timed = (page, text) => page.run(async (given) => {
   const state = () => document.getElementById('panel-bus').dataset.state;
   const paint = () => new Promise((resolve) => { requestAnimationFrame(() => requestAnimationFrame(resolve)); });
-  let longest = 0;
-  let last = performance.now();
-  const beat = new MessageChannel();
-  let beats = true;
-  beat.port1.onmessage = () => {
-    const now = performance.now();
-    longest = Math.max(longest, now - last);
-    last = now;
-    if (beats) beat.port2.postMessage(0);
-  };
-  const data = new DataTransfer();
-  data.setData('text/plain', given);
-  last = performance.now();
-  beat.port2.postMessage(0);
   const began = performance.now();
   const field = document.getElementById('bus-text');
-  if (given.length > 100000) field.dispatchEvent(new ClipboardEvent('paste', { bubbles: true, cancelable: true, clipboardData: data }));
-  else {
+  if (given.length > 100000) {
+    const data = new DataTransfer();
+    data.setData('text/plain', given);
+    field.dispatchEvent(new ClipboardEvent('paste', { bubbles: true, cancelable: true, clipboardData: data }));
+  } else {
     field.value = given;
     field.dispatchEvent(new Event('input', { bubbles: true }));
   }
@@ -34,8 +24,7 @@ const timed = (page, text) => page.run(async (given) => {
   while (rows().length === 0 || [...rows()].some((row) => row.textContent.includes('worked out'))) await paint();
   const seen = performance.now() - began;
   while (state() === 'reported') await paint();
-  beats = false;
-  return { reported, seen, whole: performance.now() - began, longest };
+  return { reported, seen, rows: rows().length, whole: performance.now() - began };
 }, text);
 
 /** The times that a picture takes to be drawn while it moves, in order. */
@@ -63,20 +52,21 @@ export const busSpeedTests = [
     within('the run', (await timed(page, busy(8, 100000, 100, 997))).whole, 2000);
     await draws(page);
   }],
-  ['64 busy ports of 20,000 bit times are seen within a second, and never block the page for more than 50 ms', async ({ open }) => {
-    const page = await shown(open);
-    const { seen, longest, whole } = await timed(page, busy(64, 20000, 6, 3000));
+  ['64 busy ports of 20,000 bit times are seen within a second, and never block the page for more than 50 ms', async ({ open, browser }) => {
+    const page = await shown(open, undefined, { dark: true });
+    const { done: { seen, rows, whole }, longest } = await longestTask(browser, () => timed(page, busy(64, 20000, 6, 3000)));
     console.log(`    seen in ${Math.round(seen)} ms, whole in ${Math.round(whole)} ms, blocked for ${Math.round(longest)} ms`);
+    assert.ok(rows > 10, `${rows} rows are drawn`);
     within('the ports in view', seen, 1000);
     within('the longest block', longest, 50);
     await draws(page);
     await page.click('bus-unfold');
     await draws(page);
   }],
-  ['a scenario of 70,000 frames answers within two seconds', async ({ open }) => {
+  ['a scenario of 70,000 frames answers within two seconds', async ({ open, browser }) => {
     const page = await shown(open);
     const queue = Array.from({ length: 70000 }, (_, k) => `"S ${(k % 2032).toString(16).padStart(3, '0')} D 0"`).join(',');
-    const { reported, longest } = await timed(page, `version = 1\nbits = 20000\n[[port]]\nqueue = [${queue}]\nlog = 100\n[[port]]\n`);
+    const { done: { reported }, longest } = await longestTask(browser, () => timed(page, `version = 1\nbits = 20000\n[[port]]\nqueue = [${queue}]\nlog = 100\n[[port]]\n`));
     console.log(`    answered in ${Math.round(reported)} ms, blocked for ${Math.round(longest)} ms`);
     within('the answer', reported, 2000);
     await settled(page);

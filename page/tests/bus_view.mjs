@@ -1,5 +1,7 @@
 // How the view Bus is read: what stands first, rows and their fields, folding, going from event to event, and logs.
 import assert from 'node:assert/strict';
+import { writeFileSync } from 'node:fs';
+import { join } from 'node:path';
 import { drawn, fill, report, rows, settled, shown, time } from './bus_page.mjs';
 
 const PAIR = '[[port]]\nqueue = ["S 001 D 0"]\n\n[[port]]\nqueue = ["S 000 D 0"]\n';
@@ -9,7 +11,7 @@ const DATA = 'version = 1\nbits = 80\n[[port]]\nqueue = ["S 555 D 2 aa55"]\n[[po
 const fields = (page) => page.run(() => [...document.querySelectorAll('#bus-picture [data-node]')].map((row) => ({
   names: [...row.querySelectorAll('.field-band')].map((band) => Number(band.dataset.field)),
   labels: [...row.querySelectorAll('.field-band .label')].map((label) => label.textContent),
-  hatched: row.querySelector('.hatch')?.dataset.times ?? '',
+  hatched: [...row.querySelectorAll('.hatch')].map((hatch) => hatch.dataset.times).join(' '),
 })));
 
 const names = (page) => page.run(() => [...document.querySelectorAll('#bus-picture .port-name')].map((name) => name.textContent));
@@ -155,8 +157,6 @@ export const busViewTests = [
       [['', 'none'], ['', 'none'], ['', 'none'], ['', 'none'], ['', '64'], ['', '0']]);
   }],
   ['a scenario is opened and saved as a file', async ({ open, work }) => {
-    const { writeFileSync } = await import('node:fs');
-    const { join } = await import('node:path');
     const text = `version = 1\nbits = 61\n${PAIR}`;
     writeFileSync(join(work, 'saved.toml'), text);
     const page = await shown(open);
@@ -171,5 +171,8 @@ export const busViewTests = [
       return blob.text();
     });
     assert.equal(saved, text);
+    writeFileSync(join(work, 'latin.toml'), Buffer.from('version = 1 # \xe9\n', 'latin1'));
+    await page.files('bus-file', [join(work, 'latin.toml')]);
+    await page.until("document.getElementById('bus-fault').textContent.startsWith('P2 toml: the file is no text in UTF-8')");
   }],
 ];

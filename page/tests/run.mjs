@@ -1,4 +1,5 @@
-// Tries the page: run.mjs CHROMIUM PAGE EXAMPLES WORK. WORK has the answers of canbit.
+// Tries the page: run.mjs CHROMIUM PAGE EXAMPLES WORK. WORK has the answers of canbit. PAGE_TEST, a regular expression, names
+// tests, where not all are to run.
 import { pathToFileURL } from 'node:url';
 import { Browser } from './browser.mjs';
 import { accessTests } from './access.mjs';
@@ -17,10 +18,11 @@ const browser = new Browser(program);
 const place = { browser, address: pathToFileURL(file).href, file, examples, work };
 // a run that is stopped leaves no browser behind
 for (const signal of ['SIGINT', 'SIGTERM']) process.on(signal, () => browser.close().then(() => process.exit(1)));
+const only = new RegExp(process.env.PAGE_TEST ?? '');
 let passed = 0;
 let failed = 0;
 
-for (const [name, test] of [...pageTests, ...callTests, ...encodeTests, ...decodeTests, ...busTests, ...busViewTests, ...busFaultTests, ...busSpeedTests, ...linkTests, ...accessTests].filter(([name]) => name.includes(process.env.PAGE_TEST ?? ''))) {
+for (const [name, test] of [...pageTests, ...callTests, ...encodeTests, ...decodeTests, ...busTests, ...busViewTests, ...busFaultTests, ...busSpeedTests, ...linkTests, ...accessTests].filter(([name]) => only.test(name))) {
   const pages = [];
   const open = async (how) => {
     const page = await browser.open(place.address, how);
