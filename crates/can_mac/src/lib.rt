@@ -12,7 +12,8 @@
 //! | `phase.rt` | [`Phase`], [`Role`], [`Overloads`], the parts of a controller's state | `specs/State.antt` |
 //! | `machine.rt` | [`MediumAccess`], a controller, bit by bit | `specs/Machine.antt` |
 //! | `driving.rt` | what it drives of a frame | `specs/Machine.antt` |
-//! | `moves.rt` | what a level makes of a phase, and the levels with which a controller just goes on | `specs/Moves.antt` |
+//! | `moves.rt` | what a level makes of a phase | `specs/Moves.antt` |
+//! | `moves/shortcuts.rt` | the quick ways of most levels, in the order in which they are asked | `specs/Moves.antt` |
 //! | `moves/stuffed_part.rt` | a frame up to the end of its CRC sequence, heard in place | `specs/Moves.antt` |
 //! | `moves/frame_end.rt` | CRC delimiter, ACK slot, ACK delimiter, end of frame | `specs/Moves.antt` |
 //! | `moves/flags.rt` | error flags, overload flags, their delimiters | `specs/Moves.antt` |
@@ -20,7 +21,7 @@
 //! | `laws.rt` | that what holds of every controller stays; a frame at each of them: where it leads, what is driven, who loses; that a check sequence agrees exactly where the generator divides | `specs/State.antt`, `specs/Frames.antt` |
 //!
 //! Each function of `moves` has the cases of one definition, in the same order. Most levels need none of
-//! them: `goes_on` takes these in place, and makes no move.
+//! them: the ways of `moves/shortcuts.rt` take these in place.
 //!
 //! A move names what is counted, and can_fault counts it; a phase reads nothing of the counters but whether the
 //! controller is error passive. While the stuffed part of a frame goes on, its phase holds a front, which is heard

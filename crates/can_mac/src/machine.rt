@@ -9,8 +9,8 @@ ghost use Rattle.can_mac.specs.Machine.{holding, IsSilent, mac_drives, mac_step,
 
 use crate::driving::{level_of_part, level_of_slot};
 use crate::event::Event;
-use crate::moves::in_place::move_in_place;
-use crate::moves::{Hearing, MOST_OVERLOADS, Move, Stance, enter, follows, goes_on, next_move};
+use crate::moves::shortcuts::{goes_on, goes_on_recessive, move_in_place};
+use crate::moves::{Hearing, MOST_OVERLOADS, Move, Stance, enter, next_move};
 use crate::phase::{Overloads, Phase, Role};
 use can_code::{CheckedBits, FrameBits, Front, PlainBits};
 use can_fault::{Cause, Confine, State};
@@ -145,7 +145,7 @@ impl<B: FrameBits> MediumAccess<B> {
         ensures unchanged { IsFalse result → self.new ≡ self.old }
         ensures kept { IsMac self.new }
     {
-        follows(&self.role, &mut self.phase, seen)
+        goes_on_recessive(&self.role, &mut self.phase, seen)
     }
 
     /// Asks for `count` overload frames of its own, in place of what was asked for before. `false`
@@ -204,7 +204,7 @@ impl<B: FrameBits> MediumAccess<B> {
         ensures event { result ≡ (on_step self.old (move (stance_of self.old) self.old.phase (option_copied waiting.entry) seen)).1 }
     {
         within_limits(waiting);
-        if let Some(event) = self.move_in_place(waiting, seen) {
+        if let Some(event) = self.make_in_place(waiting, seen) {
             return event;
         }
         self.make_move(waiting, seen)
@@ -212,7 +212,7 @@ impl<B: FrameBits> MediumAccess<B> {
 
     /// A level that makes a move of a frame that goes well: what is told. Else nothing changes.
     #[inline(always)]
-    fn move_in_place(&mut self, waiting: Option<&Frame>, seen: Level) -> Option<Option<Event>>
+    fn make_in_place(&mut self, waiting: Option<&Frame>, seen: Level) -> Option<Option<Event>>
         requires on_bus { is_off_phase self.old.phase ≡ false }
         requires waiting { IsFrameOrNone (option_copied waiting) }
         ensures state { IfSome result (λ event. self.new ≡ (on_step self.old (move (stance_of self.old) self.old.phase (option_copied waiting.entry) seen)).0) }

@@ -1,34 +1,29 @@
 //! What a level makes of each phase: one function for each definition of `specs/Moves.antt`, with its
-//! cases in the same order.
+//! cases in the same order. Most levels are taken before that, in the ways of `shortcuts`.
 
 pub(crate) mod between_frames;
 pub(crate) mod flags;
 pub(crate) mod frame_end;
-pub(crate) mod in_place;
+pub(crate) mod shortcuts;
 pub(crate) mod stuffed_part;
 
-ghost use Rattle.std.specs.Prelude.{◌≡◌, ◌≢◌, IsFalse, IsTrue, Option, false};
+ghost use Rattle.std.specs.Prelude.{◌≡◌, ◌≢◌, Option, false};
 ghost use Rattle.std.specs.Option.{option_copied};
 ghost use Rattle.can_code.specs.Front.{FrontParts};
-ghost use Rattle.can_frame.specs.Parts.{Parts};
-ghost use Rattle.can_mac.specs.Machine.{phase_drives};
-ghost use Rattle.can_mac.specs.State.{IsPhase, is_off_phase};
-ghost use Rattle.can_mac.specs.Moves.{begins_frame, enters_intermission, errs, errs_by, errs_in_flag, flag, goes, is_held_back, move, overload, part_phase, phase_after, move_keeping, tells};
-ghost use Rattle.can_mac.specs.declared.moves.Stance.{Stance as Standing};
-ghost use Rattle.can_mac.specs.declared.phase.Phase.TheVariants.{AckDelimiter, AckSlot, CrcDelimiter, EndOfFrame, StuffedPart};
-ghost use Rattle.can_mac.specs.declared.phase.Reading.{Reading as ReadingParts};
-ghost use Rattle.can_mac.specs.declared.phase.Role.{Role as Part};
+ghost use Rattle.can_mac.specs.State.{IsPhase};
+ghost use Rattle.can_mac.specs.Moves.{begins_frame, enters_intermission, errs, errs_by, errs_in_flag, flag, goes, is_held_back, move, overload, phase_after, move_keeping, tells};
+ghost use Rattle.can_mac.specs.declared.phase.Phase.TheVariants.{StuffedPart};
 
 use crate::event::{ErrorKind, Event};
 use crate::phase::{Overloads, Phase, Role};
-use between_frames::{LAST_OF_INTERMISSION, idle, intermission, joining, suspend};
-use can_code::{FrameBits, Front, Place};
+use between_frames::{idle, intermission, joining, suspend};
+use can_code::{FrameBits, Front};
 use can_fault::Cause;
 use can_frame::{Frame, Level};
 use flags::{after_flag, delimiter, error_flag, overload_flag, passive_flag};
-use frame_end::{LAST_OF_FRAME, ack_delimiter, ack_slot, crc_delimiter, end_of_frame, is_refused};
+use frame_end::{ack_delimiter, ack_slot, crc_delimiter, end_of_frame};
 use std::marker::Model;
-use stuffed_part::{end_of_part, is_in_order, stuffed_part};
+use stuffed_part::stuffed_part;
 
 /// A frame of which the start of frame alone has been heard.
 #[derive(Debug, Drop)]
@@ -242,147 +237,6 @@ impl Phase<NewFrame> {
             Phase::Suspend { place } => Phase::Suspend { place },
             Phase::BusOff => Phase::BusOff,
         }
-    }
-}
-
-/// Takes a level with which the controller just goes on, which most are: nothing but its phase changes, in
-/// place. It answers whether the level is one; else nothing changes.
-#[inline(always)]
-pub(crate) fn goes_on<B: FrameBits>(
-    role: &Role,
-    phase: &mut Phase<Front<B>>,
-    waiting: Option<&Frame>,
-    seen: Level,
-) -> bool
-    requires { IsPhase phase.old }
-    ensures on { IsTrue result → (s : Standing) → s.role ≡ role.now → move s phase.old (option_copied waiting.entry) seen ≡ goes s phase.new }
-    ensures on_bus { IsTrue result → is_off_phase phase.old ≡ false }
-    ensures unchanged { IsFalse result → phase.new ≡ phase.old }
-{
-    match phase {
-        Phase::StuffedPart(_) => hears_on(role, phase, seen),
-        _ => goes_on_outside(role, phase, waiting, seen),
-    }
-}
-
-/// The same, in the stuffed part of a frame, where what waits changes nothing.
-#[inline(always)]
-fn hears_on<B: FrameBits>(role: &Role, phase: &mut Phase<Front<B>>, seen: Level) -> bool
-    requires { IsPhase phase.old }
-    ensures on { IsTrue result → (s : Standing) (waiting : Option Parts) → s.role ≡ role.now → move s phase.old waiting seen ≡ goes s phase.new }
-    ensures silent { IsTrue result → (waiting : Option Parts) → phase_drives phase.new Role.Receiver waiting ≡ Level.Recessive }
-    ensures on_bus { IsTrue result → is_off_phase phase.old ≡ false }
-    ensures unchanged { IsFalse result → phase.new ≡ phase.old }
-{
-    let Phase::StuffedPart(front) = phase else {
-        return false;
-    };
-    if !is_in_order(role, front, seen) {
-        return false;
-    }
-    let _ = front.hear(seen);
-    if front.next_place() == Place::CrcDelimiter {
-        end_part(phase);
-    }
-    true
-}
-
-/// Takes a level with which the controller just goes on, and behind which it drives recessive whatever waits. It
-/// answers whether the level is one; else nothing changes.
-#[inline(always)]
-pub(crate) fn follows<B: FrameBits>(role: &Role, phase: &mut Phase<Front<B>>, seen: Level) -> bool
-    requires { IsPhase phase.old }
-    ensures on { IsTrue result → (s : Standing) (waiting : Option Parts) → s.role ≡ role.now → move s phase.old waiting seen ≡ goes s phase.new }
-    ensures silent { IsTrue result → (waiting : Option Parts) → phase_drives phase.new role.now waiting ≡ Level.Recessive }
-    ensures on_bus { IsTrue result → is_off_phase phase.old ≡ false }
-    ensures unchanged { IsFalse result → phase.new ≡ phase.old }
-{
-    if let Phase::StuffedPart(_) = phase {
-        return match role {
-            Role::Receiver => hears_on(role, phase, seen),
-            Role::Sender(_) => false,
-        };
-    }
-    follows_end(phase, seen)
-}
-
-/// The same, in the end of frame and in intermission. It stands apart, since most levels are of the stuffed part.
-#[inline(never)]
-fn follows_end<B: FrameBits>(phase: &mut Phase<Front<B>>, seen: Level) -> bool
-    requires { IsPhase phase.old }
-    ensures on { IsTrue result → (s : Standing) (waiting : Option Parts) → move s phase.old waiting seen ≡ goes s phase.new }
-    ensures silent { IsTrue result → (role : Part) (waiting : Option Parts) → phase_drives phase.new role waiting ≡ Level.Recessive }
-    ensures on_bus { IsTrue result → is_off_phase phase.old ≡ false }
-    ensures unchanged { IsFalse result → phase.new ≡ phase.old }
-{
-    match phase {
-        Phase::EndOfFrame { place, .. } if seen.is_recessive() && *place < LAST_OF_FRAME - 1 => {
-            *place += 1;
-            true
-        }
-        Phase::Intermission { place } if seen.is_recessive() && *place < LAST_OF_INTERMISSION => {
-            *place += 1;
-            true
-        }
-        _ => false,
-    }
-}
-
-/// The same, outside of the stuffed part of a frame. It stands apart, since most levels are of that part.
-#[inline(never)]
-fn goes_on_outside<B: FrameBits>(
-    role: &Role,
-    phase: &mut Phase<Front<B>>,
-    waiting: Option<&Frame>,
-    seen: Level,
-) -> bool
-    requires phase { IsPhase phase.old }
-    requires outside { (front : FrontParts) → phase.old ≢ StuffedPart front }
-    ensures on { IsTrue result → (s : Standing) → s.role ≡ role.now → move s phase.old (option_copied waiting.entry) seen ≡ goes s phase.new }
-    ensures on_bus { IsTrue result → is_off_phase phase.old ≡ false }
-    ensures unchanged { IsFalse result → phase.new ≡ phase.old }
-{
-    match phase {
-        Phase::Idle => waiting.is_none() && seen.is_recessive(),
-        Phase::CrcDelimiter(_) if seen.is_recessive() => {
-            pass_delimiter(phase);
-            true
-        }
-        Phase::AckDelimiter(reading) if seen.is_recessive() && !is_refused(role, reading) => {
-            pass_delimiter(phase);
-            true
-        }
-        Phase::EndOfFrame { .. } | Phase::Intermission { .. } => follows_end(phase, seen),
-        _ => false,
-    }
-}
-
-/// Ends the stuffed part of a frame, where it has ended.
-#[inline(never)]
-pub(crate) fn end_part<B: FrameBits>(phase: &mut Phase<Front<B>>)
-    ensures { (front : FrontParts) → phase.old ≡ StuffedPart front → phase.new ≡ part_phase front }
-{
-    if let Phase::StuffedPart(front) = phase {
-        let next = end_of_part(front);
-        enter(phase, next);
-    }
-}
-
-/// Passes the CRC delimiter or the ACK delimiter. It stands apart for the memory that a new phase takes.
-#[inline(never)]
-fn pass_delimiter<B: FrameBits>(phase: &mut Phase<Front<B>>)
-    ensures check { (r : ReadingParts) → phase.old ≡ CrcDelimiter r → phase.new ≡ AckSlot r }
-    ensures acknowledgement { (r : ReadingParts) → phase.old ≡ AckDelimiter r → phase.new ≡ EndOfFrame r 0 }
-{
-    match phase {
-        Phase::CrcDelimiter(reading) => *phase = Phase::AckSlot(*reading),
-        Phase::AckDelimiter(reading) => {
-            *phase = Phase::EndOfFrame {
-                reading: *reading,
-                place: 0,
-            };
-        }
-        _ => {}
     }
 }
 

@@ -41,11 +41,11 @@ pub fn holds(alloc: Global, kinds: [bool; 2], course: &str) -> Result<bool, Fail
 /// Whether its runs, one behind another, record these levels.
 fn records(alloc: Global, kinds: [bool; 2], course: &str) -> Result<bool, Fail> {
     let mut bus = bus_of(alloc, kinds, course)?;
-    follows(alloc, &mut bus, course)
+    goes_as_told(alloc, &mut bus, course)
 }
 
 /// Whether the bus goes on as all parts say.
-fn follows(alloc: Global, bus: &mut Bus<EitherNode>, course: &str) -> Result<bool, Fail> {
+fn goes_as_told(alloc: Global, bus: &mut Bus<EitherNode>, course: &str) -> Result<bool, Fail> {
     for part in course.split("\nthen\n") {
         for text in part.lines() {
             if !goes(alloc, bus, part, text)? {
@@ -61,14 +61,14 @@ fn goes(alloc: Global, bus: &mut Bus<EitherNode>, part: &str, text: &str) -> Res
     let (what, rest) = text.split_once(' ').unwrap_or((text, ""));
     match what {
         "offer" => offered(bus, rest)?,
-        "for" => passes(alloc, bus, part, rest)?,
+        "for" => runs_for(alloc, bus, part, rest)?,
         "records" => return recorded(alloc, bus, part, rest),
         _ => {}
     }
     Ok(true)
 }
 
-fn passes(alloc: Global, bus: &mut Bus<EitherNode>, part: &str, times: &str) -> Result<(), Fail> {
+fn runs_for(alloc: Global, bus: &mut Bus<EitherNode>, part: &str, times: &str) -> Result<(), Fail> {
     runs(alloc, bus, part, times.parse::<usize>()?)?;
     Ok(())
 }
@@ -135,7 +135,7 @@ fn refused_in(
     times: usize,
 ) -> Result<usize, Fail> {
     let (first, last) = course.split_once("\nthen\n").unwrap_or(("", course));
-    follows(alloc, bus, first)?;
+    goes_as_told(alloc, bus, first)?;
     let (_, refused) = runs(alloc, bus, last, times)?;
     Ok(refused)
 }

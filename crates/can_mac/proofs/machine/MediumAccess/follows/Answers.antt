@@ -8,11 +8,11 @@ invariant_of-self g c =
     let i = c.self.inside in
     let fields : MacState = record { phase = i.phase; role = i.role; overloads = i.overloads; counters = i.confine } in
     passes-IsMac fields c.self.invariant None tt c.args.seen
-    c.follows.result c.follows.new.phase (λ on s. c.follows.ensures.on on s None) c.follows.ensures.on_bus c.follows.ensures.unchanged
+    c.goes_on_recessive.result c.goes_on_recessive.new.phase (λ on s. c.goes_on_recessive.ensures.on on s None) c.goes_on_recessive.ensures.on_bus c.goes_on_recessive.ensures.unchanged
 
 pub returns-clause-kept : goal.returns-clause-kept
 returns-clause-kept g c =
     let i = c.self.inside in
     let fields : MacState = record { phase = i.phase; role = i.role; overloads = i.overloads; counters = i.confine } in
     passes-IsMac fields c.self.invariant None tt c.args.seen
-    c.follows.result c.follows.new.phase (λ on s. c.follows.ensures.on on s None) c.follows.ensures.on_bus c.follows.ensures.unchanged
+    c.goes_on_recessive.result c.goes_on_recessive.new.phase (λ on s. c.goes_on_recessive.ensures.on on s None) c.goes_on_recessive.ensures.on_bus c.goes_on_recessive.ensures.unchanged

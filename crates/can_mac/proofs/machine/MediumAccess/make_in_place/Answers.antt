@@ -3,7 +3,7 @@ use Rattle.std.specs.Option.{option_copied}
 use Rattle.can_mac.specs.declared.moves.Move.{Move}
 use Rattle.can_mac.specs.State.{MacPhase, MacState}
 use Rattle.can_mac.proofs.Landing.{lands-IsMac}
-use Rattle.can_mac.proofs.machine.MediumAccess.move_in_place.Goals as goal
+use Rattle.can_mac.proofs.machine.MediumAccess.make_in_place.Goals as goal
 
 pub invariant_of-self-2 : goal.invariant_of-self-2
 invariant_of-self-2 g c =

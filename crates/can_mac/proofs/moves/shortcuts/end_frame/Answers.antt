@@ -1,5 +1,5 @@
 use Rattle.std.proofs.Common.{rules}
-use Rattle.can_mac.proofs.moves.in_place.end_frame.Goals as goal
+use Rattle.can_mac.proofs.moves.shortcuts.end_frame.Goals as goal
 
 pub returns-in-Receiver-clause-made : goal.returns-in-Receiver-clause-made
 returns-in-Receiver-clause-made g c = search rules

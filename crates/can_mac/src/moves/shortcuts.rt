@@ -1,24 +1,182 @@
-//! The moves that each frame makes where nothing is wrong, in place: the memory of a [`Move`](crate::moves::Move) is
-//! spared. (Bosch CAN 2.0 part B, sections 3.2.1, 3.2.5 and 5)
+//! The quick ways of most levels. Each takes the levels that are its own in place, and spares the memory of a
+//! [`Move`](crate::moves::Move); on any other it changes nothing, and the next way is asked. (Bosch CAN 2.0 part B,
+//! sections 3.2.1, 3.2.5 and 5)
+//!
+//! | Way | Takes a level | Asked by |
+//! |---|---|---|
+//! | [`goes_on_recessive`] | with which nothing but the phase changes, and behind which the controller drives recessive whatever waits | a port's `turn`, by `MediumAccess::follows` |
+//! | [`goes_on`] | with which nothing but the phase changes | a port's `sample` and, behind the one above, its `turn`, by `MediumAccess::passes` |
+//! | [`move_in_place`] | that makes a move of a frame that goes well | `MediumAccess::sample` |
+//! | `next_move` of `moves.rt` | of any kind, by the cases of the definitions | the same |
+//!
+//! What each spares is told in docs/DECISIONS.md.
 
-ghost use Rattle.std.specs.Prelude.{◌≡◌, ◌≢◌, IfSome, IsNone, IsTrue, Option, None, Some, false};
+ghost use Rattle.std.specs.Prelude.{◌≡◌, ◌≢◌, IfSome, IsFalse, IsNone, IsTrue, Option, None, Some, false};
 ghost use Rattle.std.specs.Option.{option_copied};
-ghost use Rattle.can_code.specs.Front.{first_front, is_stuff_error, next_place as next_place_of};
+ghost use Rattle.can_code.specs.Front.{FrontParts, first_front, is_stuff_error, next_place as next_place_of};
 ghost use Rattle.can_frame.specs.Parts.{Parts};
-ghost use Rattle.can_mac.specs.State.{IsPhase};
-ghost use Rattle.can_mac.specs.Moves.{hears, move, next_role, stuffed_part_move};
+ghost use Rattle.can_mac.specs.Machine.{phase_drives};
+ghost use Rattle.can_mac.specs.State.{IsPhase, is_off_phase};
+ghost use Rattle.can_mac.specs.Moves.{goes, hears, move, next_role, part_phase, stuffed_part_move};
 ghost use Rattle.can_mac.specs.declared.moves.Stance.{Stance as Standing};
-ghost use Rattle.can_mac.specs.declared.phase.Phase.TheVariants.{Intermission, StuffedPart};
+ghost use Rattle.can_mac.specs.declared.phase.Phase.TheVariants.{AckDelimiter, AckSlot, CrcDelimiter, EndOfFrame, Intermission, StuffedPart};
+ghost use Rattle.can_mac.specs.declared.phase.Reading.{Reading as ReadingParts};
+ghost use Rattle.can_mac.specs.declared.phase.Role.{Role as Part};
 
 use crate::event::Event;
 use crate::moves::between_frames::{LAST_OF_INTERMISSION, role_in_next};
-use crate::moves::end_part;
-use crate::moves::frame_end::LAST_OF_FRAME;
-use crate::moves::stuffed_part::is_in_arbitration;
+use crate::moves::enter;
+use crate::moves::frame_end::{LAST_OF_FRAME, is_refused};
+use crate::moves::stuffed_part::{end_of_part, is_in_arbitration, is_in_order};
 use crate::phase::{Overloads, Phase, Role};
 use can_code::{FrameBits, Front, Place};
 use can_fault::Cause;
 use can_frame::{Frame, Level};
+
+/// Takes a level with which the controller just goes on, which most are: nothing but its phase changes, in
+/// place. It answers whether the level is one; else nothing changes.
+#[inline(always)]
+pub(crate) fn goes_on<B: FrameBits>(
+    role: &Role,
+    phase: &mut Phase<Front<B>>,
+    waiting: Option<&Frame>,
+    seen: Level,
+) -> bool
+    requires { IsPhase phase.old }
+    ensures on { IsTrue result → (s : Standing) → s.role ≡ role.now → move s phase.old (option_copied waiting.entry) seen ≡ goes s phase.new }
+    ensures on_bus { IsTrue result → is_off_phase phase.old ≡ false }
+    ensures unchanged { IsFalse result → phase.new ≡ phase.old }
+{
+    match phase {
+        Phase::StuffedPart(_) => hears_on(role, phase, seen),
+        _ => goes_on_outside(role, phase, waiting, seen),
+    }
+}
+
+/// The same, in the stuffed part of a frame, where what waits changes nothing.
+#[inline(always)]
+fn hears_on<B: FrameBits>(role: &Role, phase: &mut Phase<Front<B>>, seen: Level) -> bool
+    requires { IsPhase phase.old }
+    ensures on { IsTrue result → (s : Standing) (waiting : Option Parts) → s.role ≡ role.now → move s phase.old waiting seen ≡ goes s phase.new }
+    ensures silent { IsTrue result → (waiting : Option Parts) → phase_drives phase.new Role.Receiver waiting ≡ Level.Recessive }
+    ensures on_bus { IsTrue result → is_off_phase phase.old ≡ false }
+    ensures unchanged { IsFalse result → phase.new ≡ phase.old }
+{
+    let Phase::StuffedPart(front) = phase else {
+        return false;
+    };
+    if !is_in_order(role, front, seen) {
+        return false;
+    }
+    let _ = front.hear(seen);
+    if front.next_place() == Place::CrcDelimiter {
+        end_part(phase);
+    }
+    true
+}
+
+/// Takes a level with which the controller just goes on, and behind which it drives recessive whatever waits. It
+/// answers whether the level is one; else nothing changes.
+#[inline(always)]
+pub(crate) fn goes_on_recessive<B: FrameBits>(
+    role: &Role,
+    phase: &mut Phase<Front<B>>,
+    seen: Level,
+) -> bool
+    requires { IsPhase phase.old }
+    ensures on { IsTrue result → (s : Standing) (waiting : Option Parts) → s.role ≡ role.now → move s phase.old waiting seen ≡ goes s phase.new }
+    ensures silent { IsTrue result → (waiting : Option Parts) → phase_drives phase.new role.now waiting ≡ Level.Recessive }
+    ensures on_bus { IsTrue result → is_off_phase phase.old ≡ false }
+    ensures unchanged { IsFalse result → phase.new ≡ phase.old }
+{
+    if let Phase::StuffedPart(_) = phase {
+        return match role {
+            Role::Receiver => hears_on(role, phase, seen),
+            Role::Sender(_) => false,
+        };
+    }
+    goes_on_in_end(phase, seen)
+}
+
+/// The same, in the end of frame and in intermission. It stands apart, since most levels are of the stuffed part.
+#[inline(never)]
+fn goes_on_in_end<B: FrameBits>(phase: &mut Phase<Front<B>>, seen: Level) -> bool
+    requires { IsPhase phase.old }
+    ensures on { IsTrue result → (s : Standing) (waiting : Option Parts) → move s phase.old waiting seen ≡ goes s phase.new }
+    ensures silent { IsTrue result → (role : Part) (waiting : Option Parts) → phase_drives phase.new role waiting ≡ Level.Recessive }
+    ensures on_bus { IsTrue result → is_off_phase phase.old ≡ false }
+    ensures unchanged { IsFalse result → phase.new ≡ phase.old }
+{
+    match phase {
+        Phase::EndOfFrame { place, .. } if seen.is_recessive() && *place < LAST_OF_FRAME - 1 => {
+            *place += 1;
+            true
+        }
+        Phase::Intermission { place } if seen.is_recessive() && *place < LAST_OF_INTERMISSION => {
+            *place += 1;
+            true
+        }
+        _ => false,
+    }
+}
+
+/// The same, outside of the stuffed part of a frame. It stands apart, since most levels are of that part.
+#[inline(never)]
+fn goes_on_outside<B: FrameBits>(
+    role: &Role,
+    phase: &mut Phase<Front<B>>,
+    waiting: Option<&Frame>,
+    seen: Level,
+) -> bool
+    requires phase { IsPhase phase.old }
+    requires outside { (front : FrontParts) → phase.old ≢ StuffedPart front }
+    ensures on { IsTrue result → (s : Standing) → s.role ≡ role.now → move s phase.old (option_copied waiting.entry) seen ≡ goes s phase.new }
+    ensures on_bus { IsTrue result → is_off_phase phase.old ≡ false }
+    ensures unchanged { IsFalse result → phase.new ≡ phase.old }
+{
+    match phase {
+        Phase::Idle => waiting.is_none() && seen.is_recessive(),
+        Phase::CrcDelimiter(_) if seen.is_recessive() => {
+            pass_delimiter(phase);
+            true
+        }
+        Phase::AckDelimiter(reading) if seen.is_recessive() && !is_refused(role, reading) => {
+            pass_delimiter(phase);
+            true
+        }
+        Phase::EndOfFrame { .. } | Phase::Intermission { .. } => goes_on_in_end(phase, seen),
+        _ => false,
+    }
+}
+
+/// Ends the stuffed part of a frame, where it has ended.
+#[inline(never)]
+fn end_part<B: FrameBits>(phase: &mut Phase<Front<B>>)
+    ensures { (front : FrontParts) → phase.old ≡ StuffedPart front → phase.new ≡ part_phase front }
+{
+    if let Phase::StuffedPart(front) = phase {
+        let next = end_of_part(front);
+        enter(phase, next);
+    }
+}
+
+/// Passes the CRC delimiter or the ACK delimiter. It stands apart for the memory that a new phase takes.
+#[inline(never)]
+fn pass_delimiter<B: FrameBits>(phase: &mut Phase<Front<B>>)
+    ensures check { (r : ReadingParts) → phase.old ≡ CrcDelimiter r → phase.new ≡ AckSlot r }
+    ensures acknowledgement { (r : ReadingParts) → phase.old ≡ AckDelimiter r → phase.new ≡ EndOfFrame r 0 }
+{
+    match phase {
+        Phase::CrcDelimiter(reading) => *phase = Phase::AckSlot(*reading),
+        Phase::AckDelimiter(reading) => {
+            *phase = Phase::EndOfFrame {
+                reading: *reading,
+                place: 0,
+            };
+        }
+        _ => {}
+    }
+}
 
 /// What a move that is made in place counts and tells.
 #[derive(Debug, Drop)]
