@@ -30,11 +30,16 @@ class HitRate(NamedTuple):
         return self.burst + (long // self.spacing if self.spacing else 0)
 
 
+def busy_time(frame: Frame) -> int:
+    """How long a frame keeps the bus: its wire, and the intermission."""
+    return len(spelled(frame).wire) + len(INTERMISSION)
+
+
 def longest_busy(frame: Frame) -> int:
     """How long a frame with this identifier, of this kind and with this DLC keeps the bus at most."""
     count = 0 if frame.remote else min(frame.dlc, 8)
     if count == 0:
-        return len(spelled(frame._replace(data=b"")).wire) + len(INTERMISSION)
+        return busy_time(frame._replace(data=b""))
     return (80 if frame.extended else 55) + 10 * count
 
 

@@ -10,7 +10,7 @@ const LIMIT: u32 = 1_000_000;
 type Row = ([(u16, u32, u32); 3], (u16, u32), [Option<u64>; 3]);
 
 /// Worked out by hand, by the formulas of docs/PLANNING.md.
-const BOUNDS: &[Row] = &[
+const BOUNDS: [Row; 6] = [
     // of the third message the second frame in a busy period is the latest
     (
         [(1000, 2500, 0), (1000, 3500, 0), (1000, 3500, 0)],
@@ -67,7 +67,8 @@ fn has_bounds(row: &Row) -> bool {
 
 #[test]
 fn bounds_are_as_worked_out(rt: HostRuntime) -> Result<(), Fail> {
-    for (row, number) in BOUNDS.iter().zip(0..) {
+    let rows = BOUNDS;
+    for (row, number) in rows.iter().zip(0..) {
         assert!(rt; has_bounds(row), "row {number}");
     }
     Ok(())
