@@ -13,7 +13,7 @@ use Rattle.can_bus.specs.Network.{call_after, call_level}
 use Rattle.can_bus.specs.OpenBus.{all_offers, offered_first, own_offers, timed}
 use Rattle.can_bus.specs.Quiet.{AtEachNode, holds, queued}
 use Rattle.can_bus.specs.Run.{BusState}
-use Rattle.can_bus.specs.Schedule.{Timed, frames_of}
+use Rattle.can_bus.specs.Schedule.{TimedParts, frames_of}
 use Rattle.can_bus.proofs.Contests.{AllPorts}
 use Rattle.can_bus.proofs.CourseDelays.{offers-in_time, own}
 use Rattle.can_bus.proofs.CourseWaits.{IsOwn, sends-made}
@@ -53,11 +53,11 @@ module _ (most : ℕ → ℕ) (messages : List Message) (releases : List Release
       let offer : IsIn (all_offers offers bus.ports) (offer_of r) = subst (λ l. IsIn l (offer_of r)) is.same (stands-map offer_of releases r there) in
       elim (stands-either (offered_first (queued bus.ports)) (map timed offers) (offer_of r) offer) [
         | inl waits ↦
-            let from = map-stands (λ f. let x : Timed = record { time = 0; frame = f } in x) (queued bus.ports) (offer_of r) waits in
-            subst IsFrame (ap (λ (x : Timed). x.frame) from.2) (queued-frames bus.ports valid from.0 from.1)
+            let from = map-stands (λ f. let x : TimedParts = record { time = 0; frame = f } in x) (queued bus.ports) (offer_of r) waits in
+            subst IsFrame (ap (λ (x : TimedParts). x.frame) from.2) (queued-frames bus.ports valid from.0 from.1)
         | inr comes ↦
             let from = map-stands timed offers (offer_of r) comes in
-            subst IsFrame (ap (λ (x : Timed). x.frame) from.2) (is.frames from.1.0 from.0 from.1.1)
+            subst IsFrame (ap (λ (x : TimedParts). x.frame) from.2) (is.frames from.1.0 from.0 from.1.1)
       ]
 
   module _ (m : Message) (bound : ℕ) (ends : EndAlways most messages m bound) (place : ℕ) (r : Release) (at : slice_get releases place ≡ Some r) (of : IsOf m r) where

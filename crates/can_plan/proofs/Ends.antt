@@ -8,7 +8,7 @@ use Rattle.can_wire.specs.Wire.{wire}
 use Rattle.can_node.specs.Ports.{same_field}
 use Rattle.can_bus.specs.Course.{Transmission, hit_time}
 use Rattle.can_bus.specs.CourseWaiting.{of_field, sends_of, was_hit}
-use Rattle.can_bus.specs.Schedule.{Timed, busy_time}
+use Rattle.can_bus.specs.Schedule.{TimedParts, busy_time}
 use Rattle.can_bus.proofs.Members.{stands-none, stands-here, stands-later, stands-middle}
 use Rattle.can_plan.specs.declared.message.Message.{Message}
 use Rattle.can_plan.specs.Messages.{IsIn, IsMessageSet, IsOf, Release, offer_of}
@@ -123,7 +123,7 @@ module _ (m : Message) (bound : ℕ) (releases : List Release) (course : List Tr
       let turn : ℕ = length (filter (λ (x : Release). has_field m.field x.frame) (take place releases)) in
       let there = ends turn r (filter-place (λ (x : Release). has_field m.field x.frame) releases place r at (of-has m r of)) in
       let before : length (of_field r.frame (take place (map offer_of releases))) ≡ turn =
-      filter-map_length offer_of (λ (x : Timed). same_field r.frame x.frame) releases place
+      filter-map_length offer_of (λ (x : TimedParts). same_field r.frame x.frame) releases place
       ∙ ap length (filter-same (λ (x : Release). same_field r.frame x.frame) (λ (x : Release). has_field m.field x.frame) (λ x. field-tests m.field r.frame x.frame of) (take place releases)) in
       let sends : sends_by m course ≡ sends_of r.frame course =
       filter-same (λ (s : Transmission). not (was_hit s.hit) && has_field m.field s.frame) (λ (s : Transmission). same_field r.frame s.frame && not (was_hit s.hit))

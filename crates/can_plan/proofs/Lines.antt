@@ -10,7 +10,7 @@ use Rattle.can_wire.specs.Wire.{wire}
 use Rattle.can_hit.specs.declared.hit.Hit.{Hit}
 use Rattle.can_bus.specs.Course.{IsCourse, IsMade, Transmission, broken, course_at, over, sent}
 use Rattle.can_bus.specs.RepairedLine.{attempt_levels}
-use Rattle.can_bus.specs.Schedule.{Timed, busy_time}
+use Rattle.can_bus.specs.Schedule.{TimedParts, busy_time}
 use Rattle.can_bus.proofs.CourseTracks.{course-free, length-struck, track-behind, track-on}
 
 length-whole : (f : Parts) → length (attempt_levels (Some f) None) ≡ busy_time f
@@ -29,7 +29,7 @@ module _ (time : ℕ) (f : Parts) (course : List Transmission) (k : ℕ) (l : Le
       ∙ get_or_append_left (wire f) (replicate 3 Recessive) Recessive k within
       ∙ get_or_from_slice_get (wire f) k l Recessive at
 
-pub line-wire : {hits : List Hit} {number free : ℕ} {left : List Timed} {course : List Transmission} → IsCourse hits number free left course → (s : Transmission) → IsMade course s → s.hit ≡ None →
+pub line-wire : {hits : List Hit} {number free : ℕ} {left : List TimedParts} {course : List Transmission} → IsCourse hits number free left course → (s : Transmission) → IsMade course s → s.hit ≡ None →
     (k : ℕ) (l : Level) → slice_get (wire s.frame) k ≡ Some l → course_at course (s.time + k) ≡ l
 line-wire (over number free) s made unhit k l at = absurd made
 line-wire (sent number free time f left course is none more) s (inl here) unhit k l at =

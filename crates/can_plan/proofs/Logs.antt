@@ -12,7 +12,7 @@ use Rattle.can_hit.specs.declared.hit.Hit.{Hit}
 use Rattle.can_bus.specs.Course.{IsCourse, Transmission, and_sent, broken, ended_by, frames_sent, lasting, over, sent}
 use Rattle.can_bus.specs.CourseWaiting.{sends_of, was_hit}
 use Rattle.can_bus.specs.Quiet.{IsPrefixOf, holds, marked}
-use Rattle.can_bus.specs.Schedule.{Timed}
+use Rattle.can_bus.specs.Schedule.{TimedParts}
 use Rattle.can_bus.proofs.CourseTracks.{course-free}
 use Rattle.can_bus.proofs.CourseWaits.{sends-hit, sends-made, sends-more, sends-other}
 use Rattle.can_bus.proofs.CourseLogs.{ended-more}
@@ -22,7 +22,7 @@ use Rattle.can_plan.specs.OnBus.{entries_of}
 
 module _ (f : Parts) (t : ℕ) where
   -- an attempt that sends its frame keeps its turn among those that have ended by then
-  pub ended-turn : {hits : List Hit} {number free : ℕ} {left : List Timed} {course : List Transmission} → IsCourse hits number free left course → (n : ℕ) (s : Transmission) →
+  pub ended-turn : {hits : List Hit} {number free : ℕ} {left : List TimedParts} {course : List Transmission} → IsCourse hits number free left course → (n : ℕ) (s : Transmission) →
       slice_get (sends_of f course) n ≡ Some s → s.time + lasting s.frame s.hit ≤ t → slice_get (sends_of f (ended_by t course)) n ≡ Some s
   ended-turn (over number free) n s at ended = absurd (let h : None ≡ Some s = at in cc)
   ended-turn (broken number free time g offset left course is struck window rest) n s at ended =

@@ -9,7 +9,7 @@ use Rattle.can_hit.specs.declared.hit.Hit.{Hit}
 use Rattle.can_bus.specs.Course.{Transmission, IsNext, IsCourse, over, sent, broken, hit_time}
 use Rattle.can_bus.specs.CourseWaiting.{AreInTime, of_field}
 use Rattle.can_bus.specs.Repair.{IsInWindow}
-use Rattle.can_bus.specs.Schedule.{Timed, busy_time, without_offer}
+use Rattle.can_bus.specs.Schedule.{TimedParts, busy_time, without_offer}
 use Rattle.can_bus.proofs.CourseDelays.{course-costs}
 use Rattle.can_bus.proofs.CourseWaits.{FieldsInOrder, fields-without, first-left, next-first}
 use Rattle.can_bus.proofs.Fields.{field-more, field-skip}
@@ -28,7 +28,7 @@ pub data Runs : ℕ → List Release → List Transmission → Type 0 where
 
 -- ---- offers of one field, in time
 
-pub in-order : (offers : List Timed) → AreInTime offers → FieldsInOrder offers
+pub in-order : (offers : List TimedParts) → AreInTime offers → FieldsInOrder offers
 in-order [] rise f = tt
 in-order (x ∷ offers) rise f =
     let rest : AreInOrder (of_field f offers) = in-order offers (λ m n y z less a b. rise (suc m) (suc n) y z (omega (arith, less)) a b) f in
@@ -36,7 +36,7 @@ in-order (x ∷ offers) rise f =
       | inl same ↦
           subst AreInOrder (sym (field-more f x offers same)) (
             (λ y there.
-                let own = filter-stands (λ (z : Timed). same_field f z.frame) offers y there in
+                let own = filter-stands (λ (z : TimedParts). same_field f z.frame) offers y there in
                 rise 0 (suc own.0.0) x y (omega arith) refl own.0.1 (sym (same_field-Shares f x.frame same) ∙ same_field-Shares f y.frame own.1)),
             rest,
           )
@@ -56,7 +56,7 @@ record Found (releases : List Release) (f : Parts) (time : ℕ) : Type 0 where
   rest : without_offer f (map offer_of releases) ≡ map offer_of (before ++ after)
 
 module _ (f : Parts) (time : ℕ) where
-  find : (releases : List Release) (offer : Timed) (more : List Timed) → of_field f (map offer_of releases) ≡ offer ∷ more → offer.frame ≡ f → offer.time ≤ time → Found releases f time
+  find : (releases : List Release) (offer : TimedParts) (more : List TimedParts) → of_field f (map offer_of releases) ≡ offer ∷ more → offer.frame ≡ f → offer.time ≤ time → Found releases f time
   find [] offer more first e early = absurd (let h : [] ≡ offer ∷ more = first in cc)
   find (x ∷ releases) offer more first e early =
       elim (cases_Bool (same_field f x.frame)) [
@@ -68,8 +68,8 @@ module _ (f : Parts) (time : ℕ) where
               element = x;
               after = releases;
               parts = refl;
-              is_frame = ap (λ (z : Timed). z.frame) one ∙ e;
-              in_time = subst (λ (z : Timed). z.time ≤ time) (sym one) early;
+              is_frame = ap (λ (z : TimedParts). z.frame) one ∙ e;
+              in_time = subst (λ (z : TimedParts). z.time ≤ time) (sym one) early;
               foremost = λ z s. absurd (stands-none z s);
               rest = cond-true (same_field f x.frame) (map offer_of releases) (offer_of x ∷ without_offer f (map offer_of releases)) same;
             }
@@ -115,7 +115,7 @@ hit-behind f (suc offset) window = omega arith
 
 -- ---- the course
 
-pub runs-of : {hits : List Hit} {number free : ℕ} {left : List Timed} {course : List Transmission} → IsCourse hits number free left course →
+pub runs-of : {hits : List Hit} {number free : ℕ} {left : List TimedParts} {course : List Transmission} → IsCourse hits number free left course →
     (releases : List Release) → map offer_of releases ≡ left → FieldsInOrder (map offer_of releases) → ((r : Release) → IsIn releases r → IsFrame r.frame) → Runs free releases course
 runs-of (over number free) [] same order frames = none free
 runs-of (over number free) (x ∷ releases) same order frames = absurd (let h : offer_of x ∷ map offer_of releases ≡ [] = same in cc)

@@ -5,7 +5,7 @@ use Rattle.std.specs.List.{count_by}
 use Rattle.can_frame.specs.Parts.{Parts}
 use Rattle.can_frame.specs.Arbitration.{arbitration_field, Before}
 use Rattle.can_bus.specs.Course.{Transmission}
-use Rattle.can_bus.specs.Schedule.{Timed, busy_time}
+use Rattle.can_bus.specs.Schedule.{TimedParts, busy_time}
 use Rattle.can_plan.specs.declared.message.Message.{Message}
 use Rattle.can_plan.specs.declared.message.HitRate.{HitRate}
 
@@ -33,7 +33,7 @@ pub record Release : Type 0 where
   pub offered : ℕ
   pub frame : Parts
 
-abbrev pub offer_of : Release → Timed
+abbrev pub offer_of : Release → TimedParts
 offer_of r = record { time = r.offered; frame = r.frame }
 
 -- it is a frame of the message
