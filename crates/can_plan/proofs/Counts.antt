@@ -6,7 +6,7 @@ use Rattle.std.proofs.lemmas.Bool.{cases_Bool, le-leb, lt-ltb}
 use Rattle.std.proofs.lemmas.Nat.{le-div, mul-le}
 use Rattle.std.proofs.lemmas.List.Sums.{sum_by-cons}
 use Rattle.can_frame.specs.Arbitration.{arbitration_field}
-use Rattle.can_bus.specs.Schedule.{busy_time}
+use Rattle.can_bus.specs.Quiet.{busy_time}
 use Rattle.can_bus.proofs.Members.{stands-none, stands-here, stands-later, stands-cases}
 use Rattle.can_plan.specs.declared.message.Message.{Message}
 use Rattle.can_plan.specs.Messages.{IsIn, Release, IsOf, within_stretch}

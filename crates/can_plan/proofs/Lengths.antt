@@ -9,7 +9,7 @@ use Rattle.can_wire.specs.Wire.{head, tail, unstuffed, stuffed_part}
 use Rattle.can_wire.proofs.DivisionLemmas.{length-crc_of}
 use Rattle.can_wire.proofs.LayoutHead.{heard_head-sent, length-heard_head}
 use Rattle.can_wire.proofs.StuffingLemmas.{length-stuffed}
-use Rattle.can_bus.specs.Schedule.{busy_time}
+use Rattle.can_bus.specs.Quiet.{busy_time}
 
 abbrev longest : Bool → ℕ → ℕ
 longest true bytes = 80 + 10 * bytes

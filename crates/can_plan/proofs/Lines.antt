@@ -10,7 +10,8 @@ use Rattle.can_wire.specs.Wire.{wire}
 use Rattle.can_hit.specs.declared.hit.Hit.{Hit}
 use Rattle.can_bus.specs.Course.{IsCourse, IsMade, Transmission, broken, course_at, over, sent}
 use Rattle.can_bus.specs.RepairedLine.{attempt_levels}
-use Rattle.can_bus.specs.Schedule.{TimedParts, busy_time}
+use Rattle.can_bus.specs.Quiet.{busy_time}
+use Rattle.can_bus.specs.Schedule.{TimedParts}
 use Rattle.can_bus.proofs.CourseTracks.{course-free, length-struck, track-behind, track-on}
 
 length-whole : (f : Parts) → length (attempt_levels (Some f) None) ≡ busy_time f

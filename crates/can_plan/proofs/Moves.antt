@@ -7,7 +7,7 @@ use Rattle.can_frame.specs.Arbitration.{arbitration_field, Before}
 use Rattle.can_frame.proofs.BeforeLemmas.{Before-differs, Before-one_way}
 use Rattle.can_wire.specs.Wire.{wire}
 use Rattle.can_bus.specs.Course.{Transmission, hit_time}
-use Rattle.can_bus.specs.Schedule.{busy_time}
+use Rattle.can_bus.specs.Quiet.{busy_time}
 use Rattle.can_bus.proofs.Members.{stands-none, stands-here, stands-cases, stands-middle, stands-among, stands-either}
 use Rattle.can_plan.specs.declared.message.Message.{Message}
 use Rattle.can_plan.specs.Messages.{IsIn, Release, IsOf, IsWithin, hit_times}

@@ -5,7 +5,7 @@ use Rattle.std.proofs.lemmas.Bool.{cases_lt}
 use Rattle.std.proofs.lemmas.Nat.{mul-le}
 use Rattle.can_frame.specs.Arbitration.{arbitration_field, Before}
 use Rattle.can_bus.specs.Course.{Transmission}
-use Rattle.can_bus.specs.Schedule.{busy_time}
+use Rattle.can_bus.specs.Quiet.{busy_time}
 use Rattle.can_bus.proofs.Members.{stands-none, stands-later, stands-cases}
 use Rattle.can_plan.specs.declared.message.Message.{Message}
 use Rattle.can_plan.specs.Messages.{IsIn, Release, IsOf, IsWithin, hit_times, within_stretch}

@@ -1,7 +1,7 @@
 //! How long frames keep the bus at most.
 ghost use Rattle.std.specs.Prelude.{◌≡◌, ◌≢◌, ◌≤◌, [], IfSome, IsNone, length};
 ghost use Rattle.can_frame.specs.Parts.{IsFrame, Parts, byte_count as byte_count_of};
-ghost use Rattle.can_bus.specs.Schedule.{busy_time};
+ghost use Rattle.can_bus.specs.Quiet.{busy_time};
 ghost use Rattle.can_plan.specs.FramesOf.{IsFrameOf};
 
 use can_frame::{Frame, Id};
