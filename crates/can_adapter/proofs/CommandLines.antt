@@ -3,14 +3,13 @@ use Rattle.std.proofs.Common.{◌≡◌, ℕ, ◌≤◌, ◌<◌, ◌==◌, true
 use Rattle.std.proofs.lemmas.List.{length-append, length-map, length-take, take_all}
 use Rattle.std.proofs.lemmas.Bool.{and_from, and_parts, cases_lt, false≢true, or_cases}
 use Rattle.std.specs.List.{list_all}
-use Rattle.can_frame.specs.Parts.{Parts}
 use Rattle.can_frame.proofs.TextLengths.{length-frame_text}
 use Rattle.can_conform.specs.declared.script.Start.{Start}
 use Rattle.can_conform.specs.declared.script.Start.TheVariants.{Idle, Joining}
 use Rattle.can_conform.specs.declared.script.TesterLevel.{TesterLevel}
 use Rattle.can_conform.specs.declared.script.TesterLevel.TheVariants.{Dominant, Recessive, Forced}
 use Rattle.can_node.specs.Ports.{PortState}
-use Rattle.can_adapter.specs.Commands.{Command, begins, offers, wishes, plays, ends, is_tester_digit, quit_line, start_word, tester_digit, tester_of, IsCaseLine, IsCommandLine, IsHoldLine, IsOfferLine, IsPlayLine}
+use Rattle.can_adapter.specs.Commands.{Command, begins, offers, wishes, plays, ends, is_tester_digit, quit_line, start_word, tester_digit, tester_of, IsCaseLine, IsCommandLine, IsPlayLine}
 use Rattle.can_adapter.specs.Adapters.{answer_to, behind_command, IsStep}
 
 -- ---- digits
@@ -91,14 +90,6 @@ play_found line digits starts some few are = record {
 }
 
 -- ---- a line asks for one thing, or for none
-
-pub none-asked : (line : List ℕ) → ((start : Start) → IsCaseLine line (start_word start) → ⊥) → ((f : Parts) → IsOfferLine line f → ⊥) → ((n : ℕ) → IsHoldLine line n → ⊥)
-    → ((levels : List TesterLevel) → IsPlayLine line levels → ⊥) → (line ≡ codes "end" → ⊥) → (c : Command) → IsCommandLine line c → ⊥
-none-asked line no_case no_offer no_hold no_play no_end (begins start) is = no_case start is
-none-asked line no_case no_offer no_hold no_play no_end (offers f) is = no_offer f is
-none-asked line no_case no_offer no_hold no_play no_end (wishes n) is = no_hold n is
-none-asked line no_case no_offer no_hold no_play no_end (plays levels) is = no_play levels is
-none-asked line no_case no_offer no_hold no_play no_end ends is = no_end is
 
 -- what a line asks for is done
 pub step-done : {E : Type 0} (r : Result (Unit {0}) E) (line : List ℕ) (before : Option PortState) (cleared out : List ℕ) (after : Option PortState) (command : Command)

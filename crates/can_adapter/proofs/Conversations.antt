@@ -32,24 +32,6 @@ module _ (before after held holds : Option (List ℕ)) where
     pub number : ℕ
     pub at : AtLine (Answers port) before after held holds found line unread [] taken number
 
--- the greeting was written
-pub IsTalking-none : (before held holds : Option (List ℕ)) → Appends held holds greeting → IsTalking before before held holds None [] 0
-IsTalking-none before held holds greets = record {
-  number = 0;
-  answering = record {
-    input = [];
-    output = greeting;
-    lines = [];
-    consumes = Consumes-nil before;
-    appends = greets;
-    counted = refl;
-    each = tt;
-    split = refl;
-    answer = subst (Answers None []) (sym (append-nil greeting)) Answers-none;
-    number_is = refl;
-  };
-}
-
 -- a line is read where nothing waits, and what did is written
 pub HasRead-next : (before between after held holds holds_now : Option (List ℕ)) (port : Option PortState) (found : Bool) (kept : ℕ) (old new : LineReader kept) (waiting : List ℕ)
     → IsTalking before between held holds port old.inbox.unread old.inbox.taken → (reads : ReadsLine found between after kept old new) → PassesOn holds holds_now [] waiting []

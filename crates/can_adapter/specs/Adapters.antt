@@ -16,9 +16,9 @@ line_end = codes "\n"
 -- ---- bit times one behind another
 
 -- the port behind them
-abbrev pub played : List TesterLevel → PortState → PortState
-played [] p = p
-played (x ∷ xs) p = played xs (met x p)
+abbrev pub behind_levels : List TesterLevel → PortState → PortState
+behind_levels [] p = p
+behind_levels (x ∷ xs) p = behind_levels xs (met x p)
 
 -- the levels that it drives in them
 abbrev pub drove_in : List TesterLevel → PortState → List Level
@@ -72,7 +72,7 @@ abbrev pub behind_command : Command → Option PortState → Option PortState
 behind_command (begins start) p = Some (started start)
 behind_command (offers f) p = option_map (with_offer f) p
 behind_command (wishes n) p = option_map (wished n) p
-behind_command (plays levels) p = option_map (played levels) p
+behind_command (plays levels) p = option_map (behind_levels levels) p
 behind_command ends p = p
 
 -- the line asks for something, which is answered

@@ -1,7 +1,6 @@
 //! The reference between two lines of the runner, and its answer to one.
 ghost use Rattle.std.specs.Prelude.{◌≡◌, ◌≢◌, ◌≤◌, ◌++◌, length, map, option_map, OnOk};
-ghost use Rattle.can_node.specs.Ports.{PortState};
-ghost use Rattle.can_adapter.specs.Adapters.{event_line, play_answer, played, state_answer};
+ghost use Rattle.can_adapter.specs.Adapters.{event_line, play_answer, behind_levels, state_answer};
 ghost use Rattle.can_adapter.specs.Commands.{quit_line, tester_of as tester_by};
 
 use crate::command::{MOST_LEVELS, digits_in, frame_in, start_in, tester_of, wish_in};
@@ -27,9 +26,9 @@ pub(crate) struct Adapter {
 }
 
 impl Adapter {
-    ghost use Rattle.can_conform.specs.Runs.{started, wished};
+ghost use Rattle.can_conform.specs.Runs.{started, wished};
     ghost use Rattle.can_node.specs.Ports.{with_offer};
-    ghost use Rattle.can_adapter.specs.Adapters.{in_case, no_case_answer, IsStep};
+    ghost use Rattle.can_adapter.specs.Adapters.{in_case, IsStep};
     ghost use Rattle.std.specs.Prelude.{[], codes, None, Some};
 
     /// No case has begun.
@@ -109,7 +108,7 @@ impl Adapter {
     fn play(&mut self, digits: &[u8], out: &mut Vec<u8>) -> Result<(), AllocError>
         requires { length digits.now ≤ MOST_LEVELS }
         ensures text { OnOk result (out.new.items ≡ out.old.items ++ in_case (option_map ⟦<PackedNode as Port>⟧.port self.old.node) (play_answer (map tester_by digits.now))) }
-        ensures port { OnOk result (option_map ⟦<PackedNode as Port>⟧.port self.new.node ≡ option_map (played (map tester_by digits.now)) (option_map ⟦<PackedNode as Port>⟧.port self.old.node)) }
+        ensures port { OnOk result (option_map ⟦<PackedNode as Port>⟧.port self.new.node ≡ option_map (behind_levels (map tester_by digits.now)) (option_map ⟦<PackedNode as Port>⟧.port self.old.node)) }
     {
         match &mut self.node {
             Some(node) => play(node, digits, out),
@@ -132,7 +131,7 @@ impl Adapter {
 fn play<P: Port>(port: &mut P, digits: &[u8], out: &mut Vec<u8>) -> Result<(), AllocError>
     requires { length digits.now ≤ MOST_LEVELS }
     ensures text { OnOk result (out.new.items ≡ out.old.items ++ play_answer (map tester_by digits.now) (P.port port.old)) }
-    ensures port { OnOk result (P.port port.new ≡ played (map tester_by digits.now) (P.port port.old)) }
+    ensures port { OnOk result (P.port port.new ≡ behind_levels (map tester_by digits.now) (P.port port.old)) }
 {
     let mut drove: ArrayVec<u8, MOST_LEVELS> = ArrayVec::new();
     for (place, tester) in digits.iter().enumerate() {

@@ -1,5 +1,5 @@
 //! What a line of the runner asks for.
-ghost use Rattle.std.specs.Prelude.{◌≡◌, ◌≢◌, ◌↔◌, ◌≤◌, ◌<◌, ℕ, List, ◌++◌, length, map, codes, IsTrue, MatchOption};
+ghost use Rattle.std.specs.Prelude.{◌≡◌, ◌≢◌, ◌↔◌, ◌<◌, ℕ, List, ◌++◌, map, codes, IsTrue, MatchOption};
 ghost use Rattle.std.specs.List.{list_all};
 ghost use Rattle.can_conform.specs.declared.script.Start.{Start as StartSaid};
 ghost use Rattle.can_conform.specs.declared.script.TesterLevel.{TesterLevel as TesterSaid};

@@ -1,6 +1,6 @@
 -- What is compared of a transcript, bit time by bit time.
-use Rattle.std.specs.Prelude.{slice_get, IfSome, IsSomeAnd}
-use Rattle.std.proofs.Common.{◌≡◌, ◌≢◌, ℕ, zero, suc, ◌+◌, ◌<◌, ◌≤◌, Option, Some, None, length, refl, sym, ap, ◌∙◌, subst, inl, inr, arith}
+use Rattle.std.specs.Prelude.{IfSome}
+use Rattle.std.proofs.Common.{◌≡◌, ℕ, zero, suc, ◌+◌, ◌<◌, ◌≤◌, Option, Some, None, length, refl, sym, ap, ◌∙◌, subst, inl, inr, arith}
 use Rattle.std.proofs.lemmas.Bool.{cases_order}
 use Rattle.std.proofs.lemmas.Option.{slice_get_past}
 use Rattle.can_conform.specs.declared.judging.Difference.{Difference}
@@ -11,14 +11,12 @@ use Rattle.can_conform.specs.declared.script.Script.{Script}
 use Rattle.can_conform.specs.declared.script.Start.{Start}
 use Rattle.can_conform.specs.declared.script.Start.TheVariants as start
 use Rattle.can_conform.specs.declared.standing.Rule.{Rule}
-use Rattle.can_conform.specs.declared.standing.Standing.{Standing}
 use Rattle.can_conform.specs.declared.timed.Timed.{Timed}
 use Rattle.can_conform.specs.declared.transcript.Transcript.{Transcript}
 use Rattle.can_node.specs.Ports.{PortState}
 use Rattle.can_mac.specs.declared.event.Event.{Event}
-use Rattle.can_conform.specs.Runs.{before, counters_of, moment_at, rule_before, standing_before, started}
-use Rattle.can_conform.specs.Standings.{part_of, phase_name}
-use Rattle.can_conform.specs.Transcripts.{no_counts, told_at, told_before, AgreesAt, EndBefore}
+use Rattle.can_conform.specs.Runs.{before, counters_of, moment_at, started}
+use Rattle.can_conform.specs.Transcripts.{no_counts, told_before, AgreesAt, EndBefore}
 use Rattle.can_conform.specs.Verdicts.{IsDifference}
 use Rattle.can_conform.specs.Walks.{HasReached, IsDifferenceAt, Stands}
 use Rattle.can_conform.proofs.RunLemmas.{before-first, before-past, event-past, level-past, rule-past, since-past}
@@ -37,15 +35,6 @@ some-map P Q (Some x) each p = each x p
 pub some-both : {A : Type 0} (P Q R : A → Type 0) (o : Option A) → ((x : A) → P x → Q x → R x) → IfSome o P → IfSome o Q → IfSome o R
 some-both P Q R None each p q = tt
 some-both P Q R (Some x) each p q = each x p q
-
--- what is there, taken out
-pub some-out : {A : Type 0} (P : A → Type 0) (B : Type 0) (o : Option A) → ((x : A) → P x → B) → IsSomeAnd o P → B
-some-out P B None take p = absurd p
-some-out P B (Some x) take p = take x p
-
-pub some-there : {A : Type 0} (P Q R : A → Type 0) (o : Option A) → ((x : A) → P x → Q x → R x) → IsSomeAnd o P → IfSome o Q → IsSomeAnd o R
-some-there P Q R None each p q = absurd p
-some-there P Q R (Some x) each p q = each x p q
 
 -- ---- the walk
 
@@ -111,48 +100,7 @@ stands-past s t p now since past stands = record {
   last = stands.last ∙ since-past s t past;
 }
 
--- where it stands, by its parts
-pub standing-is : (s : Script) (t : ℕ) (p : PortState) (now : Rule) (since : Option (Timed Event)) (st : Standing) → Stands s t p now since → st.phase ≡ phase_name p.mac →
-    st.part ≡ part_of p.mac.role → st.rule ≡ now → st.since ≡ since → st ≡ standing_before s t
-standing-is s t p now since st stands phase part decides last =
-    let q = before s t in
-    ap (λ x. let r : Standing = record { phase = x; part = st.part; rule = st.rule; since = st.since } in r) (phase ∙ ap (λ (r : PortState). phase_name r.mac) stands.port)
-    ∙ ap (λ x. let r : Standing = record { phase = phase_name q.mac; part = x; rule = st.rule; since = st.since } in r) (part ∙ ap (λ (r : PortState). part_of r.mac.role) stands.port)
-    ∙ ap (λ x. let r : Standing = record { phase = phase_name q.mac; part = part_of q.mac.role; rule = x; since = st.since } in r) (decides ∙ stands.decides)
-    ∙ ap (λ x. let r : Standing = record { phase = phase_name q.mac; part = part_of q.mac.role; rule = rule_before s t; since = x } in r) (last ∙ stands.last)
-
 -- ---- differences
-
-pub level-differs : (told : Transcript) (t : ℕ) (m : Moment) (d : Difference) → d ≡ difference.Level (slice_get told.drove.items t) m.drove → slice_get told.drove.items t ≢ m.drove →
-    IsDifferenceAt told t m d
-level-differs told t m d is apart = rw is (record { is_told = refl; ought = refl; differs = apart })
-
-pub event-differs : (told : Transcript) (t : ℕ) (m : Moment) (d : Difference) → slice_get told.drove.items t ≡ m.drove →
-    IsSomeAnd told.events (λ events. d ≡ difference.Event (told_at events.items t) m.event) → IfSome told.events (λ events. told_at events.items t ≢ m.event) → IsDifferenceAt told t m d
-event-differs told t m (difference.Event one other) level is apart = record {
-  level = level;
-  is_told = some-there _ _ _ told.events (λ events e n. let k : told_at events.items t ≡ one = cc in k) is apart;
-  ought = some-out _ _ told.events (λ events e. let k : m.event ≡ other = cc in k) is;
-  differs = λ same. some-out _ _ told.events (λ events p. p) (some-there _ _ _ told.events (λ events e n. let k : told_at events.items t ≡ m.event = cc in n k) is apart);
-}
-event-differs told t m (difference.Level one other) level is apart = absurd (some-out _ _ told.events (λ events e. let k : ⊥ = cc in k) is)
-event-differs told t m (difference.Counters one other) level is apart = absurd (some-out _ _ told.events (λ events e. let k : ⊥ = cc in k) is)
-event-differs told t m (difference.End one other) level is apart = some-out _ _ told.events (λ events e. let k : ⊥ = cc in k) is
-
-pub counters-differ : (told : Transcript) (t : ℕ) (m : Moment) (d : Difference) → slice_get told.drove.items t ≡ m.drove → IfSome told.events (λ events. told_at events.items t ≡ m.event) →
-    IsSomeAnd told.counters (λ counters. d ≡ difference.Counters (told_before no_counts counters.items (t + 1)) m.counters) →
-    IfSome told.counters (λ counters. told_before no_counts counters.items (t + 1) ≢ m.counters) → IsDifferenceAt told t m d
-counters-differ told t m (difference.Counters one other) level event is apart = record {
-  level = level;
-  event = event;
-  is_told = some-there _ _ _ told.counters (λ counters e n. let k : told_before no_counts counters.items (t + 1) ≡ one = cc in k) is apart;
-  ought = some-out _ _ told.counters (λ counters e. let k : m.counters ≡ other = cc in k) is;
-  differs = λ same. some-out _ _ told.counters (λ counters p. p)
-      (some-there _ _ _ told.counters (λ counters e n. let k : told_before no_counts counters.items (t + 1) ≡ m.counters = cc in n k) is apart);
-}
-counters-differ told t m (difference.Level one other) level event is apart = absurd (some-out _ _ told.counters (λ counters e. let k : ⊥ = cc in k) is)
-counters-differ told t m (difference.Event one other) level event is apart = absurd (some-out _ _ told.counters (λ counters e. let k : ⊥ = cc in k) is)
-counters-differ told t m (difference.End one other) level event is apart = some-out _ _ told.counters (λ counters e. let k : ⊥ = cc in k) is
 
 -- a difference from a moment is one from the run
 pub difference-is : (s : Script) (told : Transcript) (t : ℕ) (m : Moment) (d : Difference) → m ≡ moment_at s t → IsDifferenceAt told t m d → IsDifference s told t d

@@ -126,13 +126,6 @@ kind-back (suc (suc zero)) = Crc
 kind-back (suc (suc (suc zero))) = Form
 kind-back (suc (suc (suc (suc n)))) = Ack
 
-kind-round : (k : ErrorKind) → kind-back (kind-code k) ≡ k
-kind-round Bit = refl
-kind-round Stuff = refl
-kind-round Crc = refl
-kind-round Form = refl
-kind-round Ack = refl
-
 -- an event by a number, and the frame that it tells
 abbrev event-code : Event → ℕ × Option Parts
 event-code (Sent f) = (0, Some f)

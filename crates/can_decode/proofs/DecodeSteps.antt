@@ -71,10 +71,6 @@ pub levels_in-row : (n : ℕ) → levels_in (replicate n 49) ≡ replicate n Rec
 levels_in-row zero = refl
 levels_in-row (suc n) = ap (λ l. Recessive ∷ l) (levels_in-row n)
 
-pub IsTraceText-row : (n : ℕ) → IsTraceText (replicate n 49)
-IsTraceText-row zero = tt
-IsTraceText-row (suc n) = (refl, IsTraceText-row n)
-
 -- the digits of levels
 pub levels_in-digits : (levels : List Level) → levels_in (map digit_of levels) ≡ levels
 levels_in-digits [] = refl
@@ -194,11 +190,6 @@ module _ (old new : Trace) (byte : ℕ) (level : Level) (is : (is_trace_byte byt
         takes = TakesFront-longer held holds waiting (flat_map finding_line (finding ∷ [])) front;
       } in
       subst (λ x. StopsHearing x old new start (byte ∷ []) held holds waiting waiting_now) (sym is_write) (fails, none)
-
-pub HearsText-skipped : (trace : Trace) (byte : ℕ) (held : Option (List ℕ)) (waiting : List ℕ) → (is_trace_byte byte ≡ true) × (levels_of_byte byte ≡ [])
-    → HearsText trace trace (byte ∷ []) held held waiting waiting
-HearsText-skipped trace byte held waiting is =
-    HearsText-untold trace trace (byte ∷ []) held waiting (is.0, tt) (subst (λ l. Hears trace trace l []) (sym (append-nil (levels_of_byte byte) ∙ is.1)) (Hears-none trace))
 
 pub MeetsBadByte-here : (trace : Trace) (place byte : ℕ) (rest : List ℕ) (held : Option (List ℕ)) (waiting : List ℕ) → is_trace_byte byte ≡ false
     → MeetsBadByte trace trace place place (byte ∷ rest) held held waiting waiting

@@ -1,5 +1,5 @@
 -- What one level more makes of a front that is heard as far as it goes, and of the marks behind it.
-use Rattle.std.proofs.Common.{◌≡◌, ◌≢◌, ℕ, suc, ◌+◌, ◌-◌, ◌<◌, ◌≤◌, Bool, true, false, Option, Some, None, List, [], ◌∷◌, ◌++◌, ◌&&◌, length, take, refl, sym, ◌∙◌, ap, subst, arith, cond, length-append}
+use Rattle.std.proofs.Common.{◌≡◌, ◌≢◌, suc, ◌+◌, ◌-◌, ◌<◌, ◌≤◌, Bool, true, false, Option, Some, None, List, [], ◌∷◌, ◌++◌, ◌&&◌, length, take, refl, ◌∙◌, ap, subst, arith, cond, length-append}
 use Rattle.std.specs.Option.{unwrap_or, option_map}
 use Rattle.std.proofs.Math.Dec.{eqb}
 use Rattle.std.proofs.lemmas.Bool.{eqb-false}
@@ -14,7 +14,6 @@ use Rattle.can_code.specs.Front.{FrontParts, IsFront, has_check, hear_at, heard_
 use Rattle.can_code.proofs.FrontLemmas.{IsFront-room}
 use Rattle.can_code.proofs.HeardLevels.{hear_at-going}
 use Rattle.can_fields.specs.Fields.{field_at}
-use Rattle.can_fields.specs.declared.mark.Mark.{Mark}
 use Rattle.can_fields.specs.Marks.{bit_of, stuff_bit_of, heard_to, marks_at, marks_behind, tail_marks}
 
 -- ---- how far a front is heard
@@ -39,24 +38,6 @@ hear_at-wrong f x CrcDelimiter at wrong = refl
 
 pub heard_to-wrong : (f : FrontParts) (x : Level) (xs : List Level) → is_stuff_error f x ≡ true → heard_to f (x ∷ xs) ≡ f
 heard_to-wrong f x xs wrong = ap (λ o. unwrap_or (option_map (λ g. heard_to g xs) o) f) (hear_at-wrong f x (next_place f) refl wrong)
-
--- what a level adds to the unstuffed levels
-pub heard_level-bit : (f : FrontParts) (x : Level) → next_place f ≡ Bit → (heard_level f x).unstuffed ≡ f.unstuffed ++ x ∷ []
-heard_level-bit f x at = by_test (eqb f.run 5) at
-  where
-    by_test : (due : Bool) → cond due StuffBit (cond (has_check f.unstuffed) CrcDelimiter Bit) ≡ Bit
-        → (cond {A = FrontParts} due (record { unstuffed = f.unstuffed; last = x; run = 1 }) (record { unstuffed = f.unstuffed ++ x ∷ []; last = x; run = run_after f.last f.run x })).unstuffed ≡ f.unstuffed ++ x ∷ []
-    by_test true h = cc
-    by_test false h = refl
-
-pub heard_level-stuff : (f : FrontParts) (x : Level) → next_place f ≡ StuffBit → (heard_level f x).unstuffed ≡ f.unstuffed
-heard_level-stuff f x at = by_test (eqb f.run 5) (has_check f.unstuffed) at
-  where
-    by_test : (due whole : Bool) → cond due StuffBit (cond whole CrcDelimiter Bit) ≡ StuffBit
-        → (cond {A = FrontParts} due (record { unstuffed = f.unstuffed; last = x; run = 1 }) (record { unstuffed = f.unstuffed ++ x ∷ []; last = x; run = run_after f.last f.run x })).unstuffed ≡ f.unstuffed
-    by_test true whole h = refl
-    by_test false true h = cc
-    by_test false false h = cc
 
 -- what a test for a bit tells
 pub is_bit : (p : Place) → sameb the_type p Bit ≡ true → p ≡ Bit
@@ -111,11 +92,6 @@ module _ (u : List Level) (f : FrontParts) (x : Level) (xs : List Level) where
   marks_behind-stuff at fine =
       ap (λ p. marks_at p u f x (length xs) (marks_behind u (heard_level f x) xs)) at
       ∙ ap (λ b. stuff_bit_of (field_at u (length f.unstuffed - 1)) ∷ cond b [] (marks_behind u (heard_level f x) xs)) fine
-
-  pub marks_behind-wrong : next_place f ≡ StuffBit → is_stuff_error f x ≡ true → marks_behind u f (x ∷ xs) ≡ stuff_bit_of (field_at u (length f.unstuffed - 1)) ∷ []
-  marks_behind-wrong at wrong =
-      ap (λ p. marks_at p u f x (length xs) (marks_behind u (heard_level f x) xs)) at
-      ∙ ap (λ b. stuff_bit_of (field_at u (length f.unstuffed - 1)) ∷ cond b [] (marks_behind u (heard_level f x) xs)) wrong
 
   pub marks_behind-ended : next_place f ≡ CrcDelimiter → marks_behind u f (x ∷ xs) ≡ take (suc (length xs)) tail_marks
   marks_behind-ended at = ap (λ p. marks_at p u f x (length xs) (marks_behind u (heard_level f x) xs)) at

@@ -1,23 +1,15 @@
 -- Marks that are written one by one: those that are there, and those that are left.
-use Rattle.std.proofs.Common.{◌≡◌, ◌≢◌, ℕ, suc, ◌+◌, ◌-◌, ◌<◌, ◌≤◌, true, false, List, [], ◌∷◌, ◌++◌, length, take, refl, sym, ◌∙◌, ap, arith, append_assoc}
+use Rattle.std.proofs.Common.{◌≡◌, suc, ◌+◌, ◌-◌, true, false, List, [], ◌∷◌, ◌++◌, length, take, refl, sym, ◌∙◌, ap, append_assoc}
 use Rattle.can_frame.specs.declared.level.Level.{Level}
 use Rattle.can_frame.specs.declared.level.Level.TheVariants.{Dominant, Recessive}
 use Rattle.can_frame.specs.Levels.{is_recessive}
 use Rattle.can_code.specs.declared.front.Place.TheVariants.{StuffBit, Bit, CrcDelimiter}
-use Rattle.can_code.specs.Front.{FrontParts, IsFront, first_front, heard_level, is_stuff_error, next_place}
+use Rattle.can_code.specs.Front.{FrontParts, first_front, heard_level, is_stuff_error, next_place}
 use Rattle.can_fields.specs.Fields.{field_at}
 use Rattle.can_fields.specs.declared.field.Field.TheVariants.{StartOfFrame}
 use Rattle.can_fields.specs.declared.mark.Mark.{Mark}
 use Rattle.can_fields.specs.Marks.{bit_of, stuff_bit_of, heard_to, marks_behind, marks_of, tail_marks}
-use Rattle.can_fields.proofs.MarkLemmas.{marks_behind-bit, marks_behind-stuff, marks_behind-wrong, marks_behind-ended}
-
--- a front has its start of frame
-pub some_unstuffed : (f : FrontParts) → IsFront f → 1 ≤ length f.unstuffed
-some_unstuffed f h = by_start f.unstuffed h.start
-  where
-    by_start : (u : List Level) → take 1 u ≡ Dominant ∷ [] → 1 ≤ length u
-    by_start [] e = cc
-    by_start (x ∷ u) e = omega arith
+use Rattle.can_fields.proofs.MarkLemmas.{marks_behind-bit, marks_behind-stuff, marks_behind-ended}
 
 module _ (written whole : List Mark) (u : List Level) (f : FrontParts) (x : Level) (xs : List Level) (told : written ++ marks_behind u f (x ∷ xs) ≡ whole) where
   -- one more, with these behind it
@@ -30,9 +22,6 @@ module _ (written whole : List Mark) (u : List Level) (f : FrontParts) (x : Leve
   pub marked_stuff : next_place f ≡ StuffBit → is_stuff_error f x ≡ false
       → (written ++ stuff_bit_of (field_at u (length f.unstuffed - 1)) ∷ []) ++ marks_behind u (heard_level f x) xs ≡ whole
   marked_stuff at fine = more (stuff_bit_of (field_at u (length f.unstuffed - 1))) (marks_behind u (heard_level f x) xs) (marks_behind-stuff u f x xs at fine)
-
-  pub marked_wrong : next_place f ≡ StuffBit → is_stuff_error f x ≡ true → written ++ stuff_bit_of (field_at u (length f.unstuffed - 1)) ∷ [] ≡ whole
-  marked_wrong at wrong = ap (λ t. written ++ t) (sym (marks_behind-wrong u f x xs at wrong)) ∙ told
 
   pub marked_ended : next_place f ≡ CrcDelimiter → written ++ take (suc (length xs)) tail_marks ≡ whole
   marked_ended at = ap (λ t. written ++ t) (sym (marks_behind-ended u f x xs at)) ∙ told

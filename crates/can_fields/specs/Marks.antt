@@ -1,6 +1,6 @@
 -- What each level of a frame on the wire is: the field in which it stands, and whether it is a stuff bit. The levels
 -- are heard one by one, as `can_code/specs/Front.antt` says. (Bosch CAN 2.0 part B, sections 3.2.1 and 6)
-use Rattle.std.specs.Prelude.{ℕ, suc, ◌-◌, Bool, true, false, if◌then◌else◌, List, [], ◌∷◌, length, map, take, unwrap_or, option_map}
+use Rattle.std.specs.Prelude.{ℕ, suc, ◌-◌, true, false, if◌then◌else◌, List, [], ◌∷◌, length, map, take, unwrap_or, option_map}
 use Rattle.can_frame.specs.declared.level.Level.{Level}
 use Rattle.can_frame.specs.declared.level.Level.TheVariants.{Dominant, Recessive}
 use Rattle.can_code.specs.declared.front.Place.{Place}

@@ -2,23 +2,23 @@
 use Rattle.std.proofs.Common.{ℕ, ◌≡◌, List, Option, Some, None, refl, inl, inr}
 use Rattle.std.specs.Prelude.{option_map}
 use Rattle.toml.specs.Data.{Data}
-use Rattle.can_stream.specs.declared.kit_field.KitField.{KitField}
-use Rattle.can_stream.specs.declared.kit_field.KitField.TheVariants as field
+use Rattle.can_kit.specs.declared.field.KitField.{KitField}
+use Rattle.can_kit.specs.declared.field.KitField.TheVariants as field
 use Rattle.can_toml.specs.Demands.{Demands, no_demands, demand, AllMet, IsFirstUnmet}
 use Rattle.can_toml.specs.Values.{IsDocument}
 use Rattle.can_toml.proofs.DemandLemmas.{unmet-first, unmet-later}
-use Rattle.can_hold.specs.Documents.{document_demands, IsFirstWrong}
+use Rattle.can_hold.specs.Documents.{document_demands, IsWrongKitField}
 use Rattle.can_hold.specs.Expectations.{cases_alone_demands, HasCasesAlone}
 
 abbrev no_list : Data → Demands KitField
 no_list d = demand field.Transcripts (HasCasesAlone d) no_demands
 
 -- what is wrong in a document is wrong in one without the list
-pub wrong-alone : (wrong : KitField) (bytes : List ℕ) (d : Data) → IsDocument bytes d → IsFirstUnmet wrong (document_demands d) → IsFirstWrong cases_alone_demands wrong bytes
+pub wrong-alone : (wrong : KitField) (bytes : List ℕ) (d : Data) → IsDocument bytes d → IsFirstUnmet wrong (document_demands d) → IsWrongKitField cases_alone_demands wrong bytes
 wrong-alone wrong bytes d is unmet = inr (d, is, unmet-first wrong (document_demands d) (no_list d) unmet)
 
 -- a document that has the list is refused for it
-pub listed : (bytes : List ℕ) (d : Data) → IsDocument bytes d → AllMet (document_demands d) → ¬ HasCasesAlone d → IsFirstWrong cases_alone_demands field.Transcripts bytes
+pub listed : (bytes : List ℕ) (d : Data) → IsDocument bytes d → AllMet (document_demands d) → ¬ HasCasesAlone d → IsWrongKitField cases_alone_demands field.Transcripts bytes
 listed bytes d is met some = inr (d, is, unmet-later field.Transcripts (document_demands d) (no_list d) met (inl (refl, some)))
 
 -- what is nothing when it is mapped was nothing

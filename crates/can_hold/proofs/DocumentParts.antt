@@ -3,7 +3,7 @@ use Rattle.std.proofs.Common.{◌≡◌, ℕ, suc, ◌<◌, List, [], ◌∷◌,
 use Rattle.std.proofs.lemmas.List.Elements.{All-cons, All-nil}
 use Rattle.std.proofs.lemmas.List.Quantifiers.{position-Some}
 use Rattle.toml.specs.Data.{Data, table, no_members, same_key}
-use Rattle.can_stream.specs.declared.kit_field.KitField.{KitField}
+use Rattle.can_kit.specs.declared.field.KitField.{KitField}
 use Rattle.can_toml.specs.Demands.{Demands, followed, AllMet, IsFirstUnmet}
 use Rattle.can_toml.specs.Values.{ArePaired, IsRequired}
 use Rattle.can_toml.proofs.DemandLemmas.{met-followed, unmet-first, unmet-later}

@@ -2,8 +2,8 @@
 use Rattle.std.specs.Prelude.{ℕ, ◌≡◌, codes, List, Some}
 use Rattle.std.specs.List.{slice_get}
 use Rattle.toml.specs.Data.{Data, string}
-use Rattle.can_stream.specs.declared.kit_field.KitField.{KitField}
-use Rattle.can_stream.specs.declared.kit_field.KitField.TheVariants.{Case, Transcript}
+use Rattle.can_kit.specs.declared.field.KitField.{KitField}
+use Rattle.can_kit.specs.declared.field.KitField.TheVariants.{Case, Transcript}
 use Rattle.can_toml.specs.Values.{elements_in, named, IsDocument}
 use Rattle.can_kit.specs.Words.{IsName}
 

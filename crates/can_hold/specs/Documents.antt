@@ -1,13 +1,11 @@
 -- Kit documents: what the bytes have to meet, in the order in which it is tested, and which document they are.
 -- (docs/CONFORMANCE.md, "Documents")
-use Rattle.std.specs.Prelude.{ℕ, ◌≡◌, ◌⊎◌, true, codes, List, [], ◌∷◌}
+use Rattle.std.specs.Prelude.{ℕ, ◌≡◌, true, codes, List, [], ◌∷◌}
 use Rattle.toml.specs.Data.{Data}
-use Rattle.can_stream.specs.declared.fault.TraceFault.{TraceFault}
-use Rattle.can_stream.specs.declared.fault.TraceFault.TheVariants.{ScenarioField, Memory}
-use Rattle.can_stream.specs.declared.field.Field.TheVariants.{Kit}
-use Rattle.can_stream.specs.declared.kit_field.KitField.{KitField}
-use Rattle.can_stream.specs.declared.kit_field.KitField.TheVariants as field
-use Rattle.can_toml.specs.Demands.{Demands, no_demands, demand, followed, AllMet, IsFirstUnmet}
+use Rattle.can_kit.specs.declared.field.KitField.{KitField}
+use Rattle.can_kit.specs.declared.field.KitField.TheVariants as field
+use Rattle.can_toml.specs.Demands.{Demands, no_demands, demand, followed, AllMet}
+use Rattle.can_toml.specs.Refusals.{IsWrongField}
 use Rattle.can_toml.specs.Values.{are_known, elements_in, members_in, named, ArePaired, IsDocument, IsOptional}
 use Rattle.can_kit.specs.Cases.{cases_demands, SaysCase}
 use Rattle.can_kit.specs.Lists.{IsArrayOf}
@@ -52,14 +50,6 @@ IsKitText bytes document = (d : Data) × IsDocument bytes d × SaysDocument d do
 
 -- ---- refusals
 
--- the field that is told of bytes that are no document
-abbrev pub IsNoDocument : KitField → List ℕ → Type 0
-IsNoDocument wrong bytes = (wrong ≡ field.Document) × ¬ ((d : Data) × IsDocument bytes d)
-
--- the field that is told of bytes that don't meet these demands: they are no document, or it is the first that isn't met
-abbrev pub IsFirstWrong : (Data → Demands KitField) → KitField → List ℕ → Type 0
-IsFirstWrong demands wrong bytes = IsNoDocument wrong bytes ⊎ ((d : Data) × IsDocument bytes d × IsFirstUnmet wrong (demands d))
-
--- a field of the document is wrong, or memory ran out
-abbrev pub IsFieldOrMemory : TraceFault → Type 0
-IsFieldOrMemory fault = ((wrong : KitField) × (fault ≡ ScenarioField (Kit wrong))) ⊎ (fault ≡ Memory)
+-- the field that is told of bytes that don't meet these demands
+abbrev pub IsWrongKitField : (Data → Demands KitField) → KitField → List ℕ → Type 0
+IsWrongKitField demands wrong bytes = IsWrongField field.Document demands wrong bytes

@@ -5,8 +5,8 @@ use Rattle.std.specs.String.{string_bytes}
 use Rattle.toml.specs.Data.{Data}
 use Rattle.can_conform.specs.declared.transcript.Transcript.{Transcript}
 use Rattle.can_conform.specs.Transcripts.{IsTranscript}
-use Rattle.can_stream.specs.declared.kit_field.KitField.{KitField}
-use Rattle.can_stream.specs.declared.kit_field.KitField.TheVariants as field
+use Rattle.can_kit.specs.declared.field.KitField.{KitField}
+use Rattle.can_kit.specs.declared.field.KitField.TheVariants as field
 use Rattle.can_toml.specs.Demands.{Demands, no_demands, demand, followed}
 use Rattle.can_toml.specs.Values.{named, IsDocument}
 use Rattle.can_kit.specs.declared.case.Case.{Case}

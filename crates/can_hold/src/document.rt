@@ -1,18 +1,17 @@
 //! Kit documents.
-ghost use Rattle.std.specs.Prelude.{◌≡◌, ◌≤◌, ◌<◌, All, codes, length, map, IfErr, IfOk, IfNone, IfSome, IsErrOf, OnOk, OnSome};
+ghost use Rattle.std.specs.Prelude.{◌≡◌, ◌≤◌, ◌<◌, All, length, map, IfOk, IfNone, IfSome, IsErrOf, OnOk, OnSome};
 ghost use Rattle.toml.specs.Data.{table};
 ghost use Rattle.toml.specs.View.{table_view, view};
 ghost use Rattle.can_conform.specs.Transcripts.{IsTold};
-ghost use Rattle.can_stream.specs.declared.field.Field.TheVariants.{Kit};
-ghost use Rattle.can_stream.specs.declared.kit_field.KitField.{KitField as Wrong};
+ghost use Rattle.can_kit.specs.declared.field.KitField.{KitField as Wrong};
 ghost use Rattle.can_toml.specs.Demands.{AllMet, IsFirstUnmet};
+ghost use Rattle.can_toml.specs.Refusals.{IsNoDocument};
 ghost use Rattle.can_toml.specs.Values.{elements_in, named, IsDocument, IsOptional};
 ghost use Rattle.can_kit.specs.Cases.{most_bits};
 ghost use Rattle.can_kit.specs.Lists.{IsArrayOf};
-ghost use Rattle.can_hold.specs.Documents.{cases_of, document_demands, top_demands, transcripts_of, IsFieldOrMemory, IsFirstWrong, IsKitText, IsNoDocument, SaysDocument};
+ghost use Rattle.can_hold.specs.Documents.{cases_of, document_demands, top_demands, transcripts_of, IsKitText, IsWrongKitField, SaysDocument};
 
-use can_kit::{Case, KitFault, read_cases};
-use can_stream::{KitField, TraceFault};
+use can_kit::{Case, KitFault, KitField, read_cases};
 use can_toml::{DocumentFault, elements_or_none, has_only, read_document};
 use can_transcript::{Told, read_transcripts};
 use std::alloc::Global;
@@ -37,17 +36,15 @@ impl Document {
     /// The kit document that the bytes are: a TOML document with a list of tables `case`, a list of tables
     /// `transcript`, and nothing else at the top.
     ///
-    /// `ScenarioField` names the first field that isn't as it has to be: the top is tested first, then each
-    /// case, then each transcript. `Memory` says that memory ran out. There is no other fault. The document
-    /// holds all memory that it needs.
-    pub fn from_text(alloc: Global, text: &[u8]) -> Result<Document, TraceFault>
+    /// `Field` names the first field that isn't as it has to be: the top is tested first, then each case, then
+    /// each transcript. `Memory` says that memory ran out. The document holds all memory that it needs.
+    pub fn from_text(alloc: Global, text: &[u8]) -> Result<Document, KitFault>
         ensures found { IfOk result (IsKitText text.now) }
         ensures short { IfOk result (λ document. All (λ one. length one.script.tester.items ≤ most_bits) document.cases.items) }
         ensures told { IfOk result (λ document. All (λ one. IsTold one.transcript) document.transcripts.items) }
         ensures known { IfOk result (λ document. All (λ one. one.case < length document.cases.items) document.transcripts.items) }
         ensures few { IfOk result (λ document. length document.transcripts.items ≤ 4096) }
-        ensures wrong { (wrong : Wrong) → IsErrOf result (TraceFault.ScenarioField (Kit wrong)) → IsFirstWrong document_demands wrong text.now }
-        ensures other { IfErr result IsFieldOrMemory }
+        ensures wrong { (wrong : Wrong) → IsErrOf result (KitFault.Field wrong) → IsWrongKitField document_demands wrong text.now }
     {
         let fields = read_fields(alloc, text)?;
         Ok(read_tables(alloc, &fields)?)
@@ -57,7 +54,7 @@ impl Document {
 /// The fields at the top of the TOML document that the bytes are.
 pub(crate) fn read_fields(alloc: Global, text: &[u8]) -> Result<Table, KitFault>
     ensures said { IfOk result (λ fields. IsDocument text.now (table (table_view fields))) }
-    ensures wrong { (wrong : Wrong) → IsErrOf result (KitFault.Field wrong) → IsNoDocument wrong text.now }
+    ensures wrong { (wrong : Wrong) → IsErrOf result (KitFault.Field wrong) → IsNoDocument KitField.Document wrong text.now }
 {
     match read_document(alloc, text) {
         Ok(fields) => Ok(fields),

@@ -1,15 +1,13 @@
 //! A document with the transcripts of the reference behind it.
-ghost use Rattle.std.specs.Prelude.{◌≤◌, All, length, IfErr, IfOk, IsErrOf, OnOk};
-ghost use Rattle.can_stream.specs.declared.field.Field.TheVariants.{Kit};
-ghost use Rattle.can_stream.specs.declared.kit_field.KitField.{KitField as Wrong};
+ghost use Rattle.std.specs.Prelude.{◌≤◌, All, length, IfOk, IsErrOf, OnOk};
+ghost use Rattle.can_kit.specs.declared.field.KitField.{KitField as Wrong};
 ghost use Rattle.can_kit.specs.Cases.{most_bits};
-ghost use Rattle.can_hold.specs.Documents.{IsFieldOrMemory, IsFirstWrong};
+ghost use Rattle.can_hold.specs.Documents.{IsWrongKitField};
 ghost use Rattle.can_hold.specs.Expectations.{cases_alone_demands, AddTables, IsCasesText, IsExpected};
 
 use crate::document::{Document, read_fields, read_tables};
 use can_conform::expect;
-use can_kit::{Case, KitFault};
-use can_stream::{KitField, TraceFault};
+use can_kit::{Case, KitFault, KitField};
 use can_toml::field;
 use can_verdict::push_transcript;
 use std::alloc::{AllocError, Global};
@@ -17,19 +15,14 @@ use std::alloc::{AllocError, Global};
 /// The kit document that the bytes are, and behind it a table for each of its cases: the transcript of the
 /// reference, with levels, events, counters and the end.
 ///
-/// `ScenarioField` names the first field that isn't as it has to be, as [`Document::from_text`] does; a
-/// document that has a list of transcripts, be it empty, is refused for that list. `Memory` says that memory
-/// ran out. There is no other fault.
-pub fn expected(alloc: Global, text: &[u8]) -> Result<Vec<u8>, TraceFault>
+/// `Field` names the first field that isn't as it has to be, as [`Document::from_text`] does; a document that has
+/// a list of transcripts, be it empty, is refused for that list. `Memory` says that memory ran out.
+pub fn expected(alloc: Global, text: &[u8]) -> Result<Vec<u8>, KitFault>
     ensures found { IfOk result (λ answer. IsExpected text.now answer.items) }
-    ensures wrong { (wrong : Wrong) → IsErrOf result (TraceFault.ScenarioField (Kit wrong)) → IsFirstWrong cases_alone_demands wrong text.now }
-    ensures other { IfErr result IsFieldOrMemory }
+    ensures wrong { (wrong : Wrong) → IsErrOf result (KitFault.Field wrong) → IsWrongKitField cases_alone_demands wrong text.now }
 {
     let document = read_alone(alloc, text)?;
-    let Ok(answer) = with_tables(alloc, text, &document.cases) else {
-        return Err(TraceFault::Memory);
-    };
-    Ok(answer)
+    Ok(with_tables(alloc, text, &document.cases)?)
 }
 
 /// The kit document that the bytes are, which has no list of transcripts: TOML takes no tables behind an empty
@@ -37,7 +30,7 @@ pub fn expected(alloc: Global, text: &[u8]) -> Result<Vec<u8>, TraceFault>
 fn read_alone(alloc: Global, text: &[u8]) -> Result<Document, KitFault>
     ensures read { IfOk result (IsCasesText text.now) }
     ensures short { IfOk result (λ document. All (λ one. length one.script.tester.items ≤ most_bits) document.cases.items) }
-    ensures wrong { (wrong : Wrong) → IsErrOf result (KitFault.Field wrong) → IsFirstWrong cases_alone_demands wrong text.now }
+    ensures wrong { (wrong : Wrong) → IsErrOf result (KitFault.Field wrong) → IsWrongKitField cases_alone_demands wrong text.now }
 {
     let fields = read_fields(alloc, text)?;
     let document = read_tables(alloc, &fields)?;

@@ -1,18 +1,16 @@
 //! Verdicts of the transcripts of a document.
-ghost use Rattle.std.specs.Prelude.{◌≡◌, ◌≤◌, ◌<◌, ◌+◌, ◌++◌, All, [], length, IfErr, IfOk, IsErrOf, OnOk};
+ghost use Rattle.std.specs.Prelude.{◌≡◌, ◌≤◌, ◌<◌, ◌+◌, ◌++◌, All, [], length, IfOk, IsErrOf, OnOk};
 ghost use Rattle.std.specs.String.{string_bytes};
 ghost use Rattle.can_verdict.specs.Verdicts.{verdict_line};
 ghost use Rattle.can_conform.specs.Transcripts.{IsTold};
-ghost use Rattle.can_stream.specs.declared.kit_field.KitField.{KitField as Wrong};
-ghost use Rattle.can_stream.specs.declared.field.Field.TheVariants.{Kit};
+ghost use Rattle.can_kit.specs.declared.field.KitField.{KitField as Wrong};
 ghost use Rattle.can_kit.specs.Cases.{most_bits};
-ghost use Rattle.can_hold.specs.Documents.{document_demands, IsFieldOrMemory, IsFirstWrong};
+ghost use Rattle.can_hold.specs.Documents.{document_demands, IsWrongKitField};
 ghost use Rattle.can_hold.specs.Judgements.{cases_without as without_in, counted as counted_as, has_one as is_one, lines_of, no_cases, AddVerdicts, AddsVerdict, IsAnswer, IsJudged};
 
 use crate::document::Document;
 use can_conform::{Verdict, judge};
-use can_kit::Case;
-use can_stream::TraceFault;
+use can_kit::{Case, KitFault};
 use can_transcript::Told;
 use can_verdict::{Tally, push_count, push_verdict};
 use std::alloc::{AllocError, Global};
@@ -29,18 +27,14 @@ pub struct Judgement {
 
 /// Judges each transcript of the kit document that the bytes are.
 ///
-/// `ScenarioField` names the first field that isn't as it has to be, as [`Document::from_text`] does.
-/// `Memory` says that memory ran out. There is no other fault.
-pub fn judged(alloc: Global, text: &[u8]) -> Result<Judgement, TraceFault>
+/// `Field` names the first field that isn't as it has to be, as [`Document::from_text`] does. `Memory` says that
+/// memory ran out.
+pub fn judged(alloc: Global, text: &[u8]) -> Result<Judgement, KitFault>
     ensures found { IfOk result (λ judgement. IsJudged text.now judgement.lines.items judgement.tally) }
-    ensures wrong { (wrong : Wrong) → IsErrOf result (TraceFault.ScenarioField (Kit wrong)) → IsFirstWrong document_demands wrong text.now }
-    ensures other { IfErr result IsFieldOrMemory }
+    ensures wrong { (wrong : Wrong) → IsErrOf result (KitFault.Field wrong) → IsWrongKitField document_demands wrong text.now }
 {
     let document = Document::from_text(alloc, text)?;
-    let Ok(judgement) = judge_all(alloc, &document) else {
-        return Err(TraceFault::Memory);
-    };
-    Ok(judgement)
+    Ok(judge_all(alloc, &document)?)
 }
 
 /// Judges each transcript of a document.

@@ -1,15 +1,12 @@
 //! The name of the case that a refused field is of.
-ghost use Rattle.std.specs.Prelude.{◌≡◌, ◌↔◌, IfSome, IsTrue};
-ghost use Rattle.std.specs.List.{list_all};
+ghost use Rattle.std.specs.Prelude.{IfSome};
 ghost use Rattle.std.specs.String.{string_bytes};
 ghost use Rattle.toml.specs.Data.{table};
 ghost use Rattle.toml.specs.View.{table_view};
-ghost use Rattle.can_kit.specs.Words.{is_name_byte, IsName};
 ghost use Rattle.can_hold.specs.CaseNames.{IsCaseIn, IsOfCase, NamesTable};
 
 use crate::document::read_fields;
-use can_kit::text_of;
-use can_stream::KitField;
+use can_kit::{KitField, is_name, text_of};
 use can_toml::{elements_or_none, field, fields_of};
 use std::alloc::Global;
 use toml::Table;
@@ -46,29 +43,8 @@ fn name_in<'a>(fields: &'a Table, list: &str, number: usize, part: &str) -> Opti
     let tables = elements_or_none(fields, list)?;
     let one = fields_of(tables.get(number)?)?;
     let name = text_of(field(one, part)?)?;
-    if !is_name(name) {
+    if !is_name(name, LONGEST_NAME) {
         return None;
     }
     Some(name)
-}
-
-/// Whether a text is 1 to 80 letters from a to z, digits and hyphens.
-fn is_name(text: &str) -> bool
-    ensures { IsTrue result ↔ IsName 80 text.now }
-{
-    !text.is_empty() && text.len() <= LONGEST_NAME && are_of_names(text.as_bytes())
-}
-
-/// Whether all are letters from a to z, digits and hyphens.
-fn are_of_names(bytes: &[u8]) -> bool
-    ensures { result ≡ list_all is_name_byte bytes.now }
-{
-    bytes.iter().all(|byte| is_of_names(*byte))
-}
-
-/// Whether it is a letter from a to z, a digit or a hyphen.
-fn is_of_names(byte: u8) -> bool
-    ensures { result ≡ is_name_byte byte }
-{
-    matches!(byte, b'a'..=b'z' | b'0'..=b'9' | b'-')
 }

@@ -3,7 +3,7 @@
 mod tables;
 
 use can_hold::{Document, expected, judged};
-use can_stream::{CaseField, Field, KitField, TraceFault};
+use can_kit::{CaseField, KitFault, KitField};
 use can_verdict::Tally;
 use std::alloc::{AllocError, Global};
 use std::test::Fail;
@@ -102,19 +102,17 @@ fn cases_without_a_transcript(rt: HostRuntime) -> Result<(), AllocError> {
     Ok(())
 }
 
-/// The fault that tells this field.
-fn told(wrong: KitField) -> TraceFault {
-    TraceFault::ScenarioField(Field::Kit(wrong))
-}
-
 #[test]
 fn documents_that_are_refused(rt: HostRuntime) -> Result<(), Fail> {
     let alloc = rt.alloc();
     let text = joined(alloc, &["transcript = []\n", FORM_ERROR])?;
     let refused = expected(alloc, text.as_bytes()).err().ok_or("taken")?;
-    assert_eq!(rt; refused, told(KitField::Transcripts));
+    assert_eq!(rt; refused, KitFault::Field(KitField::Transcripts));
     let refused = judged(alloc, b"case = [1]").err().ok_or("taken")?;
     let part = CaseField::Table;
-    assert_eq!(rt; refused, told(KitField::Case { number: 0, part }));
+    assert_eq!(rt;
+        refused,
+        KitFault::Field(KitField::Case { number: 0, part })
+    );
     Ok(())
 }

@@ -1,14 +1,14 @@
 -- The parts of a case, read one after another.
 use Rattle.std.proofs.Common.{◌≡◌, ℕ, true, List, Option, Some, None, codes, refl, sym, ap, inl, inr}
 use Rattle.toml.specs.Data.{Data}
-use Rattle.can_stream.specs.declared.kit_field.KitField.{KitField}
-use Rattle.can_stream.specs.declared.kit_field.CaseField.TheVariants as of_case
+use Rattle.can_kit.specs.declared.field.KitField.{KitField}
+use Rattle.can_kit.specs.declared.field.CaseField.TheVariants as of_case
 use Rattle.can_toml.specs.Demands.{Demands, no_demands, demand, followed, demands_on_each, AllMet, IsFirstUnmet}
 use Rattle.can_toml.specs.Values.{are_known, elements_in, members_in, named, IsNumber, IsRequired}
 use Rattle.can_toml.proofs.DemandLemmas.{met-followed, unmet-first, unmet-later}
 use Rattle.can_kit.specs.declared.words.Needs.{Needs}
 use Rattle.can_kit.specs.declared.lists.CaseList.TheVariants.{Offers, Holds, Forced}
-use Rattle.can_kit.specs.Cases.{bits_of, case_fields, fields_demands, forced_demands, head_demands, lists_demands, naming_demands, strings_of, tester_demands, told, NeedsAll}
+use Rattle.can_kit.specs.Cases.{bits_of, case_fields, fields_demands, forced_demands, head_demands, lists_demands, naming_demands, strings_of, tester_demands, in_case, NeedsAll}
 use Rattle.can_kit.specs.Lists.{list_demands, number_in, SaysHold, SaysOffer, SaysTime}
 
 -- the number of a field that has one
@@ -57,7 +57,7 @@ module _ (number bits : ℕ) (d : Data) where
 
 -- what a case has to meet behind its lists, behind the tester, behind the head, and behind the name
 abbrev behind_lists : ℕ → Data → Demands KitField
-behind_lists number d = demand (told number of_case.Needs) ((needs : Needs) × NeedsAll d needs) no_demands
+behind_lists number d = demand (in_case number of_case.Needs) ((needs : Needs) × NeedsAll d needs) no_demands
 
 abbrev behind_tester : ℕ → Data → Demands KitField
 behind_tester number d = followed (lists_demands number (bits_of d) d) (behind_lists number d)
@@ -79,9 +79,9 @@ module _ (earlier : List Data) (number : ℕ) (d : Data) (known : are_known case
   lists-unmet wrong tester unmet =
       behind wrong (unmet-later wrong (tester_demands number d) (behind_tester number d) tester (unmet-first wrong (lists_demands number (bits_of d) d) (behind_lists number d) unmet))
 
-  pub needs-unmet : AllMet (tester_demands number d) → AllMet (lists_demands number (bits_of d) d) → ((needs : Needs) → NeedsAll d needs → ⊥) → IsFirstUnmet (told number of_case.Needs) (fields_demands earlier number d)
+  pub needs-unmet : AllMet (tester_demands number d) → AllMet (lists_demands number (bits_of d) d) → ((needs : Needs) → NeedsAll d needs → ⊥) → IsFirstUnmet (in_case number of_case.Needs) (fields_demands earlier number d)
   needs-unmet tester lists none =
-      let wrong = told number of_case.Needs in
+      let wrong = in_case number of_case.Needs in
       behind wrong (unmet-later wrong (tester_demands number d) (behind_tester number d) tester
       (unmet-later wrong (lists_demands number (bits_of d) d) (behind_lists number d) lists (inl (refl, λ met. none met.0 met.1))))
 

@@ -6,13 +6,13 @@ use Rattle.std.proofs.lemmas.List.Elements.{All-cons, All-head, All-nil, All-tai
 use Rattle.toml.specs.Data.{Data}
 use Rattle.can_frame.specs.declared.level.Level.{Level}
 use Rattle.can_frame.specs.declared.level.Level.TheVariants.{Recessive}
-use Rattle.can_stream.specs.declared.kit_field.KitField.{KitField}
-use Rattle.can_stream.specs.declared.kit_field.CaseField.TheVariants as of_case
+use Rattle.can_kit.specs.declared.field.KitField.{KitField}
+use Rattle.can_kit.specs.declared.field.CaseField.TheVariants as of_case
 use Rattle.can_toml.specs.Demands.{AllMet, IsFirstUnmet, demands_on_each}
 use Rattle.can_toml.specs.Values.{ArePaired}
 use Rattle.can_conform.specs.declared.script.TesterLevel.{TesterLevel}
 use Rattle.can_conform.specs.declared.script.TesterLevel.TheVariants as tester
-use Rattle.can_kit.specs.Cases.{driven, forced_at, forced_demands, told}
+use Rattle.can_kit.specs.Cases.{driven, forced_at, forced_demands, in_case}
 use Rattle.can_kit.specs.Lists.{element_demands, time_in, SaysTime, SayStrings}
 use Rattle.can_kit.proofs.TesterParts.{one-strings}
 
@@ -40,13 +40,13 @@ module _ (number : ℕ) (strings : List Data) (levels : List Level) (said : SayS
       )
 
   pub recessive-unmet : (from : ℕ) (ds : List Data) (times : List ℕ) (place at : ℕ) → at ≡ from + place → place < length times → slice_get levels (get_or times place 0) ≢ Some Recessive
-      → All (λ time. slice_get levels time ≡ Some Recessive) (take place times) → ArePaired SaysTime ds times → IsFirstUnmet (told number (of_case.ForcedTime at)) (demands_on_each (forced_demands number strings) from ds)
+      → All (λ time. slice_get levels time ≡ Some Recessive) (take place times) → ArePaired SaysTime ds times → IsFirstUnmet (in_case number (of_case.ForcedTime at)) (demands_on_each (forced_demands number strings) from ds)
   recessive-unmet from ds [] place at is within other before pairs = absurd (omega (arith, within))
   recessive-unmet from [] (time ∷ times) place at is within other before pairs = absurd pairs
   recessive-unmet from (d ∷ ds) (time ∷ times) zero at is within other before pairs =
       let here : from ≡ at = omega (arith, is) in
       inl (
-        ap (λ (n : ℕ). told number (of_case.ForcedTime n)) here,
+        ap (λ (n : ℕ). in_case number (of_case.ForcedTime n)) here,
         λ met.
             other (subst (λ (ls : List Level). slice_get ls time ≡ Some Recessive) (one-strings strings met.0 levels met.1 said)
             (subst (λ (n : ℕ). slice_get met.0 n ≡ Some Recessive) (ap time_in pairs.0) met.2)),

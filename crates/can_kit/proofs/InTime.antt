@@ -2,23 +2,20 @@
 use Rattle.std.proofs.Common.{◌≡◌, ℕ, ◌+◌, ◌<◌, ◌≤◌, ◌⊎◌, List, [], ◌∷◌, ◌++◌, length, map, take, get_or, All, inl, inr, refl, sym, ap, subst, ◌∙◌, arith}
 use Rattle.std.specs.List.{Contains}
 use Rattle.std.proofs.lemmas.List.{take_more, get_or-map, length-map}
-use Rattle.std.proofs.lemmas.List.Elements.{All-contains, All-nil, All-push, All-weaker, Contains-push}
+use Rattle.std.proofs.lemmas.List.Elements.{All-contains, All-push, All-weaker, Contains-push}
 use Rattle.toml.specs.Data.{Data}
 use Rattle.toml.specs.View.{view}
 use Rattle.toml.specs.declared.value.Value.{Value}
-use Rattle.can_stream.specs.declared.kit_field.KitField.{KitField}
+use Rattle.can_kit.specs.declared.field.KitField.{KitField}
 use Rattle.can_toml.specs.Demands.{AllMet, IsFirstUnmet}
 use Rattle.can_toml.specs.Values.{ArePaired}
-use Rattle.can_toml.proofs.ReadLists.{IsRead, IsRead-none, IsRead-more, unmet-next, met-all, said-all}
+use Rattle.can_toml.proofs.ReadLists.{IsRead, IsRead-more, unmet-next, met-all, said-all}
 use Rattle.can_kit.specs.Lists.{element_demands, elements_demands, time_in, IsInTime}
 
 -- the next time has to be this one at least: none is before, or it is so far behind one of them
 pub record IsLeast (apart : ℕ) (before : List Data) (least : ℕ) : Type 0 where
   pub above : All (λ e. time_in e + apart ≤ least) before
   pub reached : (least ≡ 0) ⊎ ((e : Data) × Contains before e × (time_in e + apart ≡ least))
-
-pub IsLeast-none : (apart : ℕ) → IsLeast apart [] 0
-IsLeast-none apart = record { above = All-nil (λ e. time_in e + apart ≤ 0); reached = inl refl }
 
 pub IsLeast-more : (apart : ℕ) (before : List Data) (least : ℕ) (d : Data) → least ≤ time_in d → IsLeast apart before least → IsLeast apart (before ++ d ∷ []) (time_in d + apart)
 IsLeast-more apart before least d late is = record {
@@ -47,12 +44,6 @@ not_in_time end apart before least d is (inl early) in_time = elim is.reached [
 pub record IsReadInTime {B : Type 0} (Says : Data → B → Type 0) (end apart : ℕ) (values : List Value) (place least : ℕ) (read : List B) : Type 0 where
   pub elements : (told : ℕ → KitField) → IsRead (element_demands told Says end apart (map view values)) Says values place read
   pub least_is : IsLeast apart (take place (map view values)) least
-
-pub in_time-none : {B : Type 0} (Says : Data → B → Type 0) (end apart : ℕ) (values : List Value) → IsReadInTime Says end apart values 0 0 []
-in_time-none Says end apart values = record {
-  elements = λ told. IsRead-none (element_demands told Says end apart (map view values)) Says values;
-  least_is = IsLeast-none apart;
-}
 
 -- the elements before the next place
 next_before : (values : List Value) (place : ℕ) (value : Value) → place < length values → value ≡ get_or values place value → take (place + 1) (map view values) ≡ take place (map view values) ++ view value ∷ []

@@ -1,7 +1,7 @@
 -- What the needs of a case say, in one way.
-use Rattle.std.proofs.Common.{◌≡◌, ℕ, Bool, true, false, List, [], ◌∷◌, ◌++◌, map, codes, if◌then◌else◌, Option, Some, None, refl, sym, ap, subst, ◌∙◌}
-use Rattle.toml.specs.Data.{Data, string, integer, float, boolean, datetime, array, table}
-use Rattle.can_toml.specs.Values.{elements_in, named, IsArray, IsOptional}
+use Rattle.std.proofs.Common.{◌≡◌, ℕ, Bool, true, false, List, [], ◌∷◌, ◌++◌, map, codes, if◌then◌else◌, Option, refl, sym, ap, subst, ◌∙◌}
+use Rattle.toml.specs.Data.{Data, string}
+use Rattle.can_toml.specs.Values.{named}
 use Rattle.can_kit.specs.declared.words.Needs.{Needs}
 use Rattle.can_kit.specs.Cases.{NeedsAll}
 use Rattle.can_kit.specs.Words.{need_words, SaysNeeds}
@@ -52,14 +52,3 @@ one-needs field a b x y = needs-same a b (sym x.said ∙ y.said)
 -- needs that a case says have all where others that it says have
 pub needs-all : (d : Data) (a b : Needs) → SaysNeeds (named (codes "needs") d) a → NeedsAll d b → NeedsAll d a
 needs-all d a b said all = subst (NeedsAll d) (one-needs (named (codes "needs") d) b a all.said said) all
-
--- what is no array has no elements
-pub elements-none : (field : Option Data) → (IsOptional IsArray field → ⊥) → elements_in field ≡ []
-elements-none None none = absurd (none tt)
-elements-none (Some (array items)) none = absurd (none (items, refl))
-elements-none (Some (string s)) none = refl
-elements-none (Some (integer z)) none = refl
-elements-none (Some (float x)) none = refl
-elements-none (Some (boolean b)) none = refl
-elements-none (Some (datetime t)) none = refl
-elements-none (Some (table fields)) none = refl

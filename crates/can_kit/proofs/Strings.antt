@@ -1,20 +1,18 @@
 -- Strings of levels, read one after another, and forced bit times.
-use Rattle.std.proofs.Common.{◌≡◌, ℕ, ◌+◌, ◌<◌, ◌≤◌, List, [], ◌∷◌, ◌++◌, length, map, take, drop, get_or, set, refl, sym, ap, subst, ◌∙◌, inl, append_assoc, append-nil, arith}
-use Rattle.std.proofs.lemmas.List.{drop_more, length-take, take_all}
+use Rattle.std.proofs.Common.{◌≡◌, ℕ, ◌+◌, ◌<◌, ◌≤◌, List, [], ◌∷◌, ◌++◌, length, map, take, get_or, refl, sym, ap, subst, ◌∙◌, inl, append_assoc, append-nil, arith}
+use Rattle.std.proofs.lemmas.List.{length-take, take_all}
 use Rattle.toml.specs.Data.{Data}
 use Rattle.toml.specs.View.{view}
 use Rattle.toml.specs.declared.value.Value.{Value}
 use Rattle.can_frame.specs.declared.level.Level.{Level}
-use Rattle.can_conform.specs.declared.script.TesterLevel.{TesterLevel}
 use Rattle.can_conform.specs.declared.script.TesterLevel.TheVariants as tester
-use Rattle.can_stream.specs.declared.kit_field.KitField.{KitField}
-use Rattle.can_stream.specs.declared.kit_field.KitField.TheVariants.{Document}
+use Rattle.can_kit.specs.declared.field.KitField.{KitField}
+use Rattle.can_kit.specs.declared.field.KitField.TheVariants.{Document}
 use Rattle.can_toml.specs.Demands.{AllMet, IsFirstUnmet}
 use Rattle.can_toml.specs.Values.{ArePaired}
 use Rattle.can_toml.proofs.ReadLists.{IsRead, IsRead-none, IsRead-more, unmet-next, met-all, said-all}
 use Rattle.can_kit_text.specs.LevelTexts.{AddsLevels}
 use Rattle.can_kit_text.proofs.ReadPieces.{adds-few, take-joined}
-use Rattle.can_kit.specs.Cases.{forced_at}
 use Rattle.can_kit.specs.Lists.{string_demands, strings_demands, SaysString, SayStrings, SayUpTo}
 
 -- some levels behind others
@@ -80,6 +78,3 @@ all-said ds most levels room said =
     subst (λ (ls : List Level). SayStrings ds ls) same said.1
 
 -- ---- forced bit times
-
-pub forced-next : (times : List ℕ) (place : ℕ) (does : List TesterLevel) → place < length times → forced_at (drop place times) does ≡ forced_at (drop (place + 1) times) (set does (get_or times place 0) tester.Forced)
-forced-next times place does within = ap (λ (ts : List ℕ). forced_at ts does) (drop_more times place 0 within)

@@ -2,15 +2,15 @@
 use Rattle.std.proofs.Common.{◌≡◌, ◌≢◌, ℕ, List, [], ◌∷◌, ◌++◌, length, codes, refl, sym, ap, subst, ◌∙◌, inl, inr}
 use Rattle.toml.specs.Data.{Data, string}
 use Rattle.can_frame.specs.declared.level.Level.{Level}
-use Rattle.can_stream.specs.declared.kit_field.KitField.{KitField}
-use Rattle.can_stream.specs.declared.kit_field.CaseField.TheVariants as of_case
+use Rattle.can_kit.specs.declared.field.KitField.{KitField}
+use Rattle.can_kit.specs.declared.field.CaseField.TheVariants as of_case
 use Rattle.can_toml.specs.Demands.{AllMet, IsFirstUnmet}
 use Rattle.can_toml.specs.Values.{named, IsNumber, IsRequired}
 use Rattle.can_toml.proofs.DemandLemmas.{met-followed, unmet-first, unmet-later}
 use Rattle.can_toml.proofs.OneReading.{required-number}
 use Rattle.can_kit_text.specs.LevelTexts.{SaysLevels}
 use Rattle.can_kit_text.proofs.ReadPieces.{one-levels}
-use Rattle.can_kit.specs.Cases.{strings_of, tester_demands, told}
+use Rattle.can_kit.specs.Cases.{strings_of, tester_demands, in_case}
 use Rattle.can_kit.specs.Lists.{strings_demands, IsArrayOf, SaysString, SayStrings}
 
 one-string : (d : Data) (xs ys : List Level) → SaysString d xs → SaysString d ys → xs ≡ ys
@@ -28,15 +28,15 @@ one-strings (d ∷ ds) xs ys a b =
     a.4 ∙ ap (λ l. l ++ a.1) firsts ∙ ap (λ l. b.0 ++ l) rests ∙ sym b.4
 
 module _ (number : ℕ) (d : Data) (list : IsRequired (IsArrayOf 1 4096) (named (codes "tester") d)) where
-  pub tester-strings : (wrong : KitField) → IsFirstUnmet wrong (strings_demands (λ place. told number (of_case.Levels place)) (strings_of d)) → IsFirstUnmet wrong (tester_demands number d)
-  tester-strings wrong unmet = inr (list, unmet-first wrong (strings_demands (λ place. told number (of_case.Levels place)) (strings_of d)) _ unmet)
+  pub tester-strings : (wrong : KitField) → IsFirstUnmet wrong (strings_demands (λ place. in_case number (of_case.Levels place)) (strings_of d)) → IsFirstUnmet wrong (tester_demands number d)
+  tester-strings wrong unmet = inr (list, unmet-first wrong (strings_demands (λ place. in_case number (of_case.Levels place)) (strings_of d)) _ unmet)
 
-  pub tester-long : (levels : List Level) (bits : ℕ) → AllMet (strings_demands (λ place. told number (of_case.Levels place)) (strings_of d)) → SayStrings (strings_of d) levels
-      → IsRequired (IsNumber bits) (named (codes "bits") d) → length levels ≢ bits → IsFirstUnmet (told number of_case.Tester) (tester_demands number d)
+  pub tester-long : (levels : List Level) (bits : ℕ) → AllMet (strings_demands (λ place. in_case number (of_case.Levels place)) (strings_of d)) → SayStrings (strings_of d) levels
+      → IsRequired (IsNumber bits) (named (codes "bits") d) → length levels ≢ bits → IsFirstUnmet (in_case number of_case.Tester) (tester_demands number d)
   tester-long levels bits strings said bits_said long =
       inr (
         list,
-        unmet-later (told number of_case.Tester) (strings_demands (λ place. told number (of_case.Levels place)) (strings_of d)) _ strings
+        unmet-later (in_case number of_case.Tester) (strings_demands (λ place. in_case number (of_case.Levels place)) (strings_of d)) _ strings
             (inl (
               refl,
               λ met.
@@ -44,10 +44,10 @@ module _ (number : ℕ) (d : Data) (list : IsRequired (IsArrayOf 1 4096) (named 
             )),
       )
 
-  pub tester-met : (levels : List Level) (bits : ℕ) → AllMet (strings_demands (λ place. told number (of_case.Levels place)) (strings_of d)) → SayStrings (strings_of d) levels
+  pub tester-met : (levels : List Level) (bits : ℕ) → AllMet (strings_demands (λ place. in_case number (of_case.Levels place)) (strings_of d)) → SayStrings (strings_of d) levels
       → IsRequired (IsNumber bits) (named (codes "bits") d) → length levels ≡ bits → AllMet (tester_demands number d)
   tester-met levels bits strings said bits_said long = (
     list,
-    met-followed (strings_demands (λ place. told number (of_case.Levels place)) (strings_of d)) _ strings
+    met-followed (strings_demands (λ place. in_case number (of_case.Levels place)) (strings_of d)) _ strings
         ((levels, said, subst (λ (n : ℕ). IsRequired (IsNumber n) (named (codes "bits") d)) (sym long) bits_said), tt),
   )

@@ -36,10 +36,6 @@ choices-other (v ∷ values) (suc place) value within is none (choice ∷ choice
 unfoldable pub IsNotFirst : List ℕ → List (List ℕ) → Type 0
 IsNotFirst word words = (rest : List Data) → map string words ≢ string word ∷ rest
 
-not_first-none : (word : List ℕ) → IsNotFirst word []
-unfolding IsNotFirst
-not_first-none word = λ rest e. cc
-
 pub not_first-other : (word other : List ℕ) (b : Bool) (more : List (List ℕ)) → word ≢ other → IsNotFirst word more → IsNotFirst word ((if b then other ∷ [] else []) ++ more)
 unfolding IsNotFirst
 not_first-other word other false more differ none = none
@@ -49,10 +45,6 @@ not_first-other word other true more differ none = λ rest e. differ (let same :
 took : (word : List ℕ) (ds rest : List Data) (b : Bool) (more : List (List ℕ)) → TakesWord word ds b rest → rest ≡ map string more → ds ≡ map string ((if b then word ∷ [] else []) ++ more)
 took word ds rest true more takes is = takes ∙ ap (λ r. string word ∷ r) is
 took word ds rest false more takes is = sym takes.0 ∙ is
-
-took_last : (word : List ℕ) (ds rest : List Data) (b : Bool) → TakesWord word ds b rest → rest ≡ [] → ds ≡ map string (if b then word ∷ [] else [])
-took_last word ds rest true takes is = takes ∙ ap (λ r. string word ∷ r) is
-took_last word ds rest false takes is = sym takes.0 ∙ is
 
 -- what is left of the words behind one of them
 behind : (word : List ℕ) (ds rest : List Data) (b said : Bool) (more : List (List ℕ)) → IsNotFirst word more → TakesWord word ds b rest → ds ≡ map string ((if said then word ∷ [] else []) ++ more) → rest ≡ map string more
@@ -89,13 +81,6 @@ queue_words n = (if n.queue then codes "queue" ∷ [] else []) ++ recovery_word 
 
 abbrev pub hold_words : Needs → List (List ℕ)
 hold_words n = (if n.hold then codes "hold" ∷ [] else []) ++ queue_words n
-
-pub needs-said : (ds : List Data) (needs : Needs) → AreTaken ds needs [] → ds ≡ map string (need_words needs)
-needs-said ds needs are =
-    took (codes "forced") ds are.behind_forced needs.forced (hold_words needs) are.forced
-    (took (codes "hold") are.behind_forced are.behind_hold needs.hold (queue_words needs) are.hold
-    (took (codes "queue") are.behind_hold are.behind_queue needs.queue (recovery_word needs) are.queue
-    (took_last (codes "recovery") are.behind_queue [] needs.recovery are.recovery refl)))
 
 pub not_first-last : (word other : List ℕ) (b : Bool) → word ≢ other → IsNotFirst word (if b then other ∷ [] else [])
 unfolding IsNotFirst

@@ -9,10 +9,10 @@ use Rattle.can_frame.specs.declared.level.Level.TheVariants.{Dominant, Recessive
 use Rattle.can_conform.specs.declared.script.Start.{Start}
 use Rattle.can_conform.specs.declared.script.TesterLevel.{TesterLevel}
 use Rattle.can_conform.specs.declared.script.TesterLevel.TheVariants as tester
-use Rattle.can_stream.specs.declared.kit_field.KitField.{KitField}
-use Rattle.can_stream.specs.declared.kit_field.KitField.TheVariants as field
-use Rattle.can_stream.specs.declared.kit_field.CaseField.{CaseField}
-use Rattle.can_stream.specs.declared.kit_field.CaseField.TheVariants as of_case
+use Rattle.can_kit.specs.declared.field.KitField.{KitField}
+use Rattle.can_kit.specs.declared.field.KitField.TheVariants as field
+use Rattle.can_kit.specs.declared.field.CaseField.{CaseField}
+use Rattle.can_kit.specs.declared.field.CaseField.TheVariants as of_case
 use Rattle.can_toml.specs.Demands.{Demands, no_demands, demand, followed, demands_on_each}
 use Rattle.can_toml.specs.Values.{are_known, elements_in, members_in, named, ArePaired, IsNumber, IsOptional, IsRequired, IsTable}
 use Rattle.can_kit.specs.declared.case.Case.{Case}
@@ -23,8 +23,8 @@ use Rattle.can_kit.specs.declared.lists.CaseList.TheVariants.{Offers, Holds, For
 use Rattle.can_kit.specs.Lists.{list_demands, number_in, time_in, strings_demands, AreRecessive, IsArrayOf, SaysHold, SaysOffer, SayStrings, SaysTime}
 
 -- something of the case of this number
-abbrev pub told : ℕ → CaseField → KitField
-told number part = field.Case number part
+abbrev pub in_case : ℕ → CaseField → KitField
+in_case number part = field.Case number part
 
 -- ---- the head of a case
 
@@ -47,10 +47,10 @@ pub record IsNewName (earlier : List Data) (family name : List ℕ) : Type 0 whe
 -- which version it has and what it is named, behind these cases
 abbrev pub naming_demands : List Data → ℕ → Data → Demands KitField
 naming_demands earlier number d =
-    demand (told number of_case.Version) (IsRequired (IsNumber 1) (named (codes "version") d))
-    (demand (told number of_case.Family) (IsRequired (IsText (IsName 40)) (named (codes "family") d))
-    (demand (told number of_case.Name) (IsRequired (IsText (IsNewName earlier (text_in (named (codes "family") d)))) (named (codes "name") d))
-    (demand (told number of_case.Purpose) (IsOptional (IsText IsPurpose) (named (codes "purpose") d))
+    demand (in_case number of_case.Version) (IsRequired (IsNumber 1) (named (codes "version") d))
+    (demand (in_case number of_case.Family) (IsRequired (IsText (IsName 40)) (named (codes "family") d))
+    (demand (in_case number of_case.Name) (IsRequired (IsText (IsNewName earlier (text_in (named (codes "family") d)))) (named (codes "name") d))
+    (demand (in_case number of_case.Purpose) (IsOptional (IsText IsPurpose) (named (codes "purpose") d))
     no_demands)))
 
 -- how many bit times a case may have
@@ -64,10 +64,10 @@ IsLength d = (n : ℕ) × IsNumber n d × (0 < n) × (n ≤ most_bits)
 -- how it starts, what it needs, which choices it rests on, and how long it is
 abbrev pub head_demands : ℕ → Data → Demands KitField
 head_demands number d =
-    demand (told number of_case.Start) (IsRequired (λ start. (s : Start) × SaysStart start s) (named (codes "start") d))
-    (demand (told number of_case.Needs) ((needs : Needs) × SaysNeeds (named (codes "needs") d) needs)
-    (demand (told number of_case.Choices) ((choices : List Choice) × SaysChoices (named (codes "choices") d) choices)
-    (demand (told number of_case.Bits) (IsRequired IsLength (named (codes "bits") d))
+    demand (in_case number of_case.Start) (IsRequired (λ start. (s : Start) × SaysStart start s) (named (codes "start") d))
+    (demand (in_case number of_case.Needs) ((needs : Needs) × SaysNeeds (named (codes "needs") d) needs)
+    (demand (in_case number of_case.Choices) ((choices : List Choice) × SaysChoices (named (codes "choices") d) choices)
+    (demand (in_case number of_case.Bits) (IsRequired IsLength (named (codes "bits") d))
     no_demands)))
 
 -- ---- the tester
@@ -83,16 +83,16 @@ strings_of d = elements_in (named (codes "tester") d)
 -- 1 to 4096 strings, whose levels together are as many as the case has bit times
 abbrev pub tester_demands : ℕ → Data → Demands KitField
 tester_demands number d =
-    demand (told number of_case.Tester) (IsRequired (IsArrayOf 1 4096) (named (codes "tester") d))
-    (followed (strings_demands (λ place. told number (of_case.Levels place)) (strings_of d))
-    (demand (told number of_case.Tester) ((levels : List Level) × SayStrings (strings_of d) levels × IsRequired (IsNumber (length levels)) (named (codes "bits") d))
+    demand (in_case number of_case.Tester) (IsRequired (IsArrayOf 1 4096) (named (codes "tester") d))
+    (followed (strings_demands (λ place. in_case number (of_case.Levels place)) (strings_of d))
+    (demand (in_case number of_case.Tester) ((levels : List Level) × SayStrings (strings_of d) levels × IsRequired (IsNumber (length levels)) (named (codes "bits") d))
     no_demands))
 
 -- ---- what comes at its time
 
 -- the tester is recessive at a forced time
 abbrev pub forced_demands : ℕ → List Data → ℕ → Data → Demands KitField
-forced_demands number strings place d = demand (told number (of_case.ForcedTime place)) (AreRecessive strings (time_in d)) no_demands
+forced_demands number strings place d = demand (in_case number (of_case.ForcedTime place)) (AreRecessive strings (time_in d)) no_demands
 
 -- offers, wishes, and forced bit times of a case of so many bit times
 abbrev pub lists_demands : ℕ → ℕ → Data → Demands KitField
@@ -113,16 +113,16 @@ pub record NeedsAll (d : Data) (needs : Needs) : Type 0 where
 -- the fields of a case's table, behind these cases
 abbrev pub fields_demands : List Data → ℕ → Data → Demands KitField
 fields_demands earlier number d =
-    demand (told number of_case.Unknown) (are_known case_fields (members_in d) ≡ true)
+    demand (in_case number of_case.Unknown) (are_known case_fields (members_in d) ≡ true)
     (followed (naming_demands earlier number d)
     (followed (head_demands number d)
     (followed (tester_demands number d)
     (followed (lists_demands number (bits_of d) d)
-    (demand (told number of_case.Needs) ((needs : Needs) × NeedsAll d needs) no_demands)))))
+    (demand (in_case number of_case.Needs) ((needs : Needs) × NeedsAll d needs) no_demands)))))
 
 -- a case's table
 abbrev pub case_demands : List Data → ℕ → Data → Demands KitField
-case_demands earlier number d = demand (told number of_case.Table) (IsTable d) (fields_demands earlier number d)
+case_demands earlier number d = demand (in_case number of_case.Table) (IsTable d) (fields_demands earlier number d)
 
 -- the tables of all cases
 abbrev pub cases_demands : List Data → Demands KitField

@@ -2,4 +2,3 @@
 pub mod Words
 pub mod Lists
 pub mod Cases
-pub mod Faults

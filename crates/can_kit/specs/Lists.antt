@@ -8,10 +8,10 @@ use Rattle.can_conform.specs.declared.timed.Timed.{Timed}
 use Rattle.can_kit_text.specs.LevelTexts.{SaysLevels}
 use Rattle.can_toml.specs.Demands.{Demands, no_demands, demand, demands_on_each}
 use Rattle.can_toml.specs.Values.{elements, elements_in, named, two, IsArray, IsNumber, IsOptional, SaysFrame}
-use Rattle.can_stream.specs.declared.kit_field.KitField.{KitField}
-use Rattle.can_stream.specs.declared.kit_field.KitField.TheVariants as field
-use Rattle.can_stream.specs.declared.kit_field.CaseField.{CaseField}
-use Rattle.can_stream.specs.declared.kit_field.CaseField.TheVariants as of_case
+use Rattle.can_kit.specs.declared.field.KitField.{KitField}
+use Rattle.can_kit.specs.declared.field.KitField.TheVariants as field
+use Rattle.can_kit.specs.declared.field.CaseField.{CaseField}
+use Rattle.can_kit.specs.declared.field.CaseField.TheVariants as of_case
 use Rattle.can_kit.specs.declared.lists.CaseList.{CaseList}
 use Rattle.can_kit.specs.declared.lists.CaseList.TheVariants as list
 

@@ -2,20 +2,20 @@
 ghost use Rattle.std.specs.Prelude.{◌≡◌, ◌≢◌, ◌≤◌, [], All, codes, length, map, IfOk, IsErrOf, MatchBool, OnOk};
 ghost use Rattle.toml.specs.Data.{table};
 ghost use Rattle.toml.specs.View.{table_view, view};
-ghost use Rattle.can_stream.specs.declared.kit_field.KitField.{KitField as Wrong};
+ghost use Rattle.can_kit.specs.declared.field.KitField.{KitField as Wrong};
 ghost use Rattle.can_toml.specs.Demands.{AllMet, IsFirstUnmet};
 ghost use Rattle.can_toml.specs.Values.{elements_in, named, ArePaired};
 ghost use Rattle.can_kit.specs.Cases.{case_demands, cases_demands, fields_demands, most_bits, NeedsAll, SaysCase};
 ghost use Rattle.can_kit.specs.Words.{SaysNeeds};
 
 use crate::fault::KitFault;
+use crate::field::CaseField;
 use crate::head::read_head;
 use crate::naming::read_name;
 use crate::tester::read_tester;
 use crate::timed::read_lists;
 use crate::words::{Choice, Needs};
 use can_conform::Script;
-use can_stream::CaseField;
 use can_toml::{elements_or_none, fields_of, has_only};
 use std::alloc::Global;
 use toml::{Table, Value};

@@ -2,7 +2,7 @@
 ghost use Rattle.std.specs.Prelude.{◌≡◌};
 ghost use Rattle.can_kit.specs.declared.fault.KitFault.TheVariants.{Memory};
 
-use can_stream::{CaseField, Field, KitField, TraceFault};
+use crate::field::{CaseField, KitField};
 use std::alloc::{AllocError, AllocFailed};
 
 /// Why a document is not read: its first field that isn't as it has to be, or memory ran out.
@@ -36,18 +36,5 @@ impl From<AllocError> for KitFault {
 
     fn from(_refused: AllocError) -> KitFault {
         KitFault::Memory
-    }
-}
-
-impl From<KitFault> for TraceFault {
-    ghost use Rattle.can_kit.specs.Faults.{told_by};
-
-    ghost from_gives = { λ fault told. told ≡ told_by fault };
-
-    fn from(fault: KitFault) -> TraceFault {
-        match fault {
-            KitFault::Field(wrong) => TraceFault::ScenarioField(Field::Kit(wrong)),
-            KitFault::Memory => TraceFault::Memory,
-        }
     }
 }

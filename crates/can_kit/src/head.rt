@@ -1,18 +1,18 @@
 //! The head of a case: how it starts, what it needs, on which choices it rests, and how long it is.
-ghost use Rattle.std.specs.Prelude.{◌≡◌, ◌≤◌, codes, IfNone, IfOk, IfSome, IsErrOf, OnOk, OnSome};
+ghost use Rattle.std.specs.Prelude.{◌≤◌, codes, IfNone, IfOk, IfSome, IsErrOf, OnOk, OnSome};
 ghost use Rattle.toml.specs.Data.{table};
 ghost use Rattle.toml.specs.View.{table_view};
 ghost use Rattle.can_conform.specs.declared.script.Start.{Start as StartSaid};
-ghost use Rattle.can_stream.specs.declared.kit_field.KitField.{KitField as Wrong};
+ghost use Rattle.can_kit.specs.declared.field.KitField.{KitField as Wrong};
 ghost use Rattle.can_toml.specs.Demands.{AllMet, IsFirstUnmet};
 ghost use Rattle.can_toml.specs.Values.{named, IsNumber, IsRequired};
 ghost use Rattle.can_kit.specs.Words.{SaysChoices, SaysNeeds, SaysStart};
 ghost use Rattle.can_kit.specs.Cases.{head_demands, most_bits, IsLength};
 
 use crate::fault::KitFault;
+use crate::field::CaseField;
 use crate::words::{Choice, Needs, choices_in, needs_in, start_in};
 use can_conform::Start;
-use can_stream::CaseField;
 use can_toml::{field, required_number};
 use std::alloc::Global;
 use toml::Table;

@@ -1,7 +1,7 @@
 //! Laws of cases. Each is a function with no parameters and an empty body, whose contract is the law.
 ghost use Rattle.std.specs.Prelude.{◌≡◌, List};
 ghost use Rattle.toml.specs.Data.{Data};
-ghost use Rattle.can_stream.specs.declared.kit_field.KitField.{KitField as Wrong};
+ghost use Rattle.can_kit.specs.declared.field.KitField.{KitField as Wrong};
 ghost use Rattle.can_toml.specs.Demands.{AllMet, IsFirstUnmet};
 ghost use Rattle.can_kit.specs.declared.case.Case.{Case as CaseSaid};
 ghost use Rattle.can_kit.specs.Cases.{cases_demands, AreSame, SaysCase};

@@ -12,9 +12,10 @@
 //! | `case.rt` | [`Case`], [`read_case`], and [`read_cases`], all cases of a list | `specs/Cases.antt` |
 //! | `laws.rt` | [`one_case`]: a table says at most one case | `specs/Cases.antt` |
 //! | `fault.rt` | [`KitFault`], why a document is not read | |
+//! | `field.rt` | [`KitField`], what is wrong in one | |
 //!
-//! [`read_elements`] over the trait [`Element`], [`read_strings`], [`is_of_version_one`] and [`text_of`] are shared with
-//! the crate above that reads transcripts.
+//! [`read_elements`] over the trait [`Element`], [`read_strings`], [`is_of_version_one`], [`is_name`] and [`text_of`] are
+//! shared with the crates above.
 //!
 //! Of the lemmas, `InTime` has elements with their times, `Strings` strings of levels, `TesterParts` that these say
 //! one list of levels, `ForcedTimes` forced bit times, `WordLists` choices and names and needs, `OneNeeds` that
@@ -24,6 +25,7 @@
 
 mod case;
 mod fault;
+mod field;
 mod head;
 mod laws;
 mod lists;
@@ -34,8 +36,9 @@ mod words;
 
 pub use case::{Case, read_case, read_cases};
 pub use fault::KitFault;
+pub use field::{CaseField, KitField, TranscriptField};
 pub use laws::one_case;
 pub use lists::{Element, ElementFault, read_elements};
 pub use naming::is_of_version_one;
 pub use tester::read_strings;
-pub use words::{Choice, Needs, text_of};
+pub use words::{Choice, Needs, is_name, text_of};

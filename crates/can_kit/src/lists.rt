@@ -2,16 +2,16 @@
 ghost use Rattle.std.specs.Prelude.{ℕ, ◌≡◌, ◌⊎◌, ◌≤◌, ◌<◌, map, IfOk, IsErrOf, MatchOption, OnOk};
 ghost use Rattle.toml.specs.Data.{table, Data};
 ghost use Rattle.toml.specs.View.{table_view, view};
-ghost use Rattle.can_stream.specs.declared.kit_field.KitField.{KitField as Wrong};
+ghost use Rattle.can_kit.specs.declared.field.KitField.{KitField as Wrong};
 ghost use Rattle.can_toml.specs.Demands.{AllMet, IsFirstUnmet};
 ghost use Rattle.can_toml.specs.Values.{elements_in, named, ArePaired};
 ghost use Rattle.can_kit.specs.declared.lists.ElementFault.TheVariants.{Memory as OutOfMemory};
 ghost use Rattle.can_kit.specs.Lists.{apart as apart_of, element_field, elements_demands, list_demands, list_field, list_name, most_elements, time_in, SaysHold, SaysOffer, SaysTime};
 
 use crate::fault::KitFault;
+use crate::field::CaseField;
 use can_conform::Timed;
 use can_frame::Frame;
-use can_stream::CaseField;
 use can_toml::{elements_of, elements_or_none, frame, number, two_of, whole_number};
 use std::alloc::{AllocError, AllocFailed, Global};
 use toml::{Table, Value};

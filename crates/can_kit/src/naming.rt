@@ -3,15 +3,15 @@ ghost use Rattle.std.specs.List.{list_any};
 ghost use Rattle.std.specs.Prelude.{◌≡◌, ◌≢◌, ◌↔◌, ℕ, List, ◌∷◌, ◌++◌, codes, map, Some, IfNone, IfOk, IfSome, IsErrOf, IsTrue, MatchBool, MatchOption, OnOk, OnSome};
 ghost use Rattle.toml.specs.Data.{same_key, string, table};
 ghost use Rattle.toml.specs.View.{table_view, view};
-ghost use Rattle.can_stream.specs.declared.kit_field.KitField.{KitField as Wrong};
+ghost use Rattle.can_kit.specs.declared.field.KitField.{KitField as Wrong};
 ghost use Rattle.can_toml.specs.Demands.{AllMet, IsFirstUnmet};
 ghost use Rattle.can_toml.specs.Values.{named, IsNumber, IsOptional, IsRequired};
-ghost use Rattle.can_kit.specs.Words.{text_in, IsName, IsPurpose, IsText};
+ghost use Rattle.can_kit.specs.Words.{IsName, IsPurpose, IsText};
 ghost use Rattle.can_kit.specs.Cases.{name_of, naming_demands, IsNewName};
 
 use crate::fault::KitFault;
+use crate::field::CaseField;
 use crate::words::{is_name, is_purpose, text_of};
-use can_stream::CaseField;
 use can_toml::{field, fields_of, required_number};
 use toml::{Table, Value};
 

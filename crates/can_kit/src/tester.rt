@@ -2,7 +2,7 @@
 ghost use Rattle.std.specs.Prelude.{ℕ, ◌≡◌, ◌≤◌, ◌<◌, All, List, codes, false, map, length, true, IfNone, IfOk, IfSome, IsErrOf, OnOk, OnSome};
 ghost use Rattle.toml.specs.Data.{table};
 ghost use Rattle.toml.specs.View.{table_view, view};
-ghost use Rattle.can_stream.specs.declared.kit_field.KitField.{KitField as Wrong};
+ghost use Rattle.can_kit.specs.declared.field.KitField.{KitField as Wrong};
 ghost use Rattle.can_frame.specs.declared.level.Level.{Level as LevelSaid};
 ghost use Rattle.can_toml.specs.Demands.{AllMet, IsFirstUnmet};
 ghost use Rattle.can_toml.specs.Values.{named, IsNumber, IsRequired};
@@ -11,12 +11,12 @@ ghost use Rattle.can_kit.specs.Cases.{driven as driven_as, forced_at, strings_of
 ghost use Rattle.can_kit.specs.Lists.{strings_demands, IsArrayOf, SaysString, SayStrings, SayUpTo};
 
 use crate::fault::KitFault;
+use crate::field::CaseField;
 use crate::lists::ElementFault;
 use crate::words::text_of;
 use can_conform::TesterLevel;
 use can_frame::Level;
 use can_kit_text::read_levels;
-use can_stream::CaseField;
 use can_toml::{elements_of, field};
 use std::alloc::{AllocError, Global};
 use toml::{Table, Value};

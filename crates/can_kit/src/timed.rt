@@ -4,18 +4,18 @@ ghost use Rattle.std.specs.List.{slice_get};
 ghost use Rattle.toml.specs.Data.{table, Data};
 ghost use Rattle.toml.specs.View.{table_view};
 ghost use Rattle.can_frame.specs.declared.level.Level.TheVariants.{Recessive};
-ghost use Rattle.can_stream.specs.declared.kit_field.KitField.{KitField as Wrong};
+ghost use Rattle.can_kit.specs.declared.field.KitField.{KitField as Wrong};
 ghost use Rattle.can_toml.specs.Demands.{demands_on_each, AllMet, IsFirstUnmet};
 ghost use Rattle.can_toml.specs.Values.{elements_in, named, ArePaired};
 ghost use Rattle.can_kit.specs.Cases.{driven, forced_at, forced_demands, lists_demands, strings_of, SaysTester};
 ghost use Rattle.can_kit.specs.Lists.{SaysHold, SaysOffer, SaysTime, SayStrings};
 
 use crate::fault::KitFault;
+use crate::field::CaseField;
 use crate::lists::{CaseList, read_list};
 use crate::tester::forced_tester;
 use can_conform::{TesterLevel, Timed};
 use can_frame::{Frame, Level};
-use can_stream::CaseField;
 use std::alloc::Global;
 use toml::Table;
 

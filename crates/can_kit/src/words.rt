@@ -73,7 +73,7 @@ pub fn text_of(value: &Value) -> Option<&str>
 }
 
 /// Whether a text is 1 to so many letters from a to z, digits and hyphens.
-pub(crate) fn is_name(text: &str, most: usize) -> bool
+pub fn is_name(text: &str, most: usize) -> bool
     ensures { IsTrue result ↔ IsName most text.now }
 {
     !text.is_empty() && text.len() <= most && are_of_names(text.as_bytes())

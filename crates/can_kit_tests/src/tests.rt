@@ -3,10 +3,10 @@ mod refused;
 mod said;
 
 use can_conform::TesterLevel;
-use can_kit::{Case, KitFault, read_cases};
-use can_stream::{CaseField, Field, KitField, TraceFault};
+use can_kit::{Case, CaseField, KitFault, KitField, TranscriptField, read_cases};
 use can_toml::{elements_or_none, read_document};
 use std::alloc::{AllocError, Global};
+use std::test::Fail;
 
 /// The fields of a sound case, in the order in which they are tested.
 const SOUND: [&str; 12] = [
@@ -74,13 +74,39 @@ fn digit_of(level: TesterLevel) -> u8 {
     }
 }
 
+/// Fields, and how they print.
+const PRINTED: &[(KitField, &str)] = &[
+    (KitField::Document, "toml"),
+    (KitField::Unknown, "key"),
+    (KitField::Cases, "case"),
+    (
+        KitField::Case {
+            number: 3,
+            part: CaseField::Levels(1),
+        },
+        "case[3].tester[1]",
+    ),
+    (
+        KitField::Transcript {
+            number: 0,
+            part: TranscriptField::Event(12),
+        },
+        "transcript[0].events[12]",
+    ),
+    // the longest
+    (
+        KitField::Transcript {
+            number: usize::MAX,
+            part: TranscriptField::Change(usize::MAX),
+        },
+        "transcript[18446744073709551615].counters[18446744073709551615]",
+    ),
+];
+
 #[test]
-fn faults_as_they_are_told(rt: HostRuntime) {
-    let wrong = KitField::Case {
-        number: 3,
-        part: CaseField::Bits,
-    };
-    let told = TraceFault::ScenarioField(Field::Kit(wrong));
-    assert_eq!(rt; TraceFault::from(KitFault::Field(wrong)), told);
-    assert_eq!(rt; TraceFault::from(KitFault::Memory), TraceFault::Memory);
+fn printed_fields(rt: HostRuntime) -> Result<(), Fail> {
+    for (field, text) in PRINTED {
+        assert_eq!(rt; format!(in rt.alloc(); "{field}")?.as_str(), *text);
+    }
+    Ok(())
 }

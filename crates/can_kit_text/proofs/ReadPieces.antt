@@ -2,10 +2,9 @@
 use Rattle.std.specs.Str.{bytes_eq}
 use Rattle.std.proofs.lemmas.Bool.{cases_lt, false≢true}
 use Rattle.std.proofs.lemmas.Slice.Eq.{bytes_eq-Decides}
-use Rattle.std.proofs.Common.{Bool, false, Result, Ok, Err, IfOk, ◌≡◌, ◌≢◌, ℕ, ◌+◌, ◌^◌, ◌<◌, ◌≤◌, ◌⊎◌, take, append-nil, List, [], ◌∷◌, ◌++◌, length, map, get_or, replicate, Option, Bor, MatchOption, decimal, refl, sym, ap, subst, ◌∙◌, inl, inr, arith, append_assoc}
+use Rattle.std.proofs.Common.{Bool, false, Result, Ok, Err, IfOk, ◌≡◌, ◌≢◌, ℕ, ◌+◌, ◌^◌, ◌<◌, ◌≤◌, ◌⊎◌, take, append-nil, List, [], ◌∷◌, ◌++◌, length, map, get_or, replicate, decimal, refl, sym, ap, subst, ◌∙◌, inl, inr, arith, append_assoc}
 use Rattle.std.proofs.lemmas.List.{get_or-map, length-append, length-map, length-take, length-take-le, map-append, take-append-le, take-take, take_all, take_more}
 use Rattle.std.proofs.lemmas.Fmt.{decimal_injective}
-use Rattle.std.proofs.lemmas.Str.Pattern.{IsSplitOnceResult, split_after}
 use Rattle.can_frame.specs.declared.level.Level.{Level}
 use Rattle.can_frame.specs.declared.level.Level.TheVariants.{Dominant, Recessive}
 use Rattle.can_stream.specs.Digits.{digit_of}
@@ -68,17 +67,6 @@ pub one-levels : (text : List ℕ) (xs ys : List Level) → SaysLevels text xs �
 one-levels text xs ys a b = one-pieces (pieces_of text) xs ys a.pieces b.pieces
 
 -- ---- runs
-
-first-no-star : (x : Level) (i : ℕ) → i < length (digit_of x ∷ []) → get_or (digit_of x ∷ []) i 0 ≢ 42
-first-no-star x i within =
-    let first : i ≡ 0 = omega (arith, within) in
-    subst (λ k. get_or (digit_of x ∷ []) k 0 ≢ 42) (sym first) (no-star x)
-
--- the text of a run is cut behind its level
-pub run-cut : (piece : List ℕ) (levels : List Level) (r : Option (Bor (List ℕ) × Bor (List ℕ))) → IsSplitOnceResult 42 piece r → (run : IsRun piece levels) →
-    MatchOption r ⊥ (λ x. (x.0.now ≡ digit_of run.level ∷ []) × (x.1.now ≡ decimal run.count))
-run-cut piece levels r is run =
-    split_after 42 piece (digit_of run.level ∷ []) (decimal run.count) r is (omega arith) run.text (first-no-star run.level)
 
 -- ---- numbers
 

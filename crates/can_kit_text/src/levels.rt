@@ -1,6 +1,5 @@
 //! Levels as tokens.
 ghost use Rattle.std.specs.Prelude.{◌≡◌, ◌++◌, IfOk, OnOk};
-ghost use Rattle.can_stream.specs.Digits.{digit_of};
 ghost use Rattle.can_kit_text.specs.LevelTokens.{behind_run, gap_before_literal, gap_before_run, levels_text, run_text};
 
 use crate::words::{push_number, push_text};

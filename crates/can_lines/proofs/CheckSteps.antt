@@ -5,14 +5,14 @@ use Rattle.std.specs.List.{flat_map}
 use Rattle.can_stream.specs.Lines.{with_end}
 use Rattle.can_stream.specs.LineReader.{ReadsLine}
 use Rattle.can_stream.specs.Inbox.{StopsTurn}
-use Rattle.can_lines.specs.Checked.{pass, passes, verdict_line, Checks, IsVerdict, Judged}
+use Rattle.can_lines.specs.Checked.{pass, passes, verdict_line, Checks, IsVectorVerdict, Judged}
 use Rattle.can_lines.specs.Checking.{IsOpenFault, Judges, StopsChecking}
 use Rattle.can_stream.specs.declared.fault.TraceFault.{TraceFault}
 use Rattle.can_stream.specs.declared.fault.TraceFault.TheVariants.{BadByte, Read, Write, Long, FrameLine, ScenarioField, Memory}
 use Rattle.can_stream.specs.declared.lines.LineReader.{LineReader}
 use Rattle.can_lines.specs.declared.vector.Verdict.{Verdict}
 use Rattle.can_lines.proofs.Answering.{AtLine}
-use Rattle.can_lines.proofs.VectorFronts.{IsVerdict-front}
+use Rattle.can_lines.proofs.VectorFronts.{IsVectorVerdict-front}
 
 -- the answer to lines of which so many pass
 abbrev pub Passing : ℕ → List (List ℕ) → List ℕ → Type 0
@@ -23,7 +23,7 @@ Passing passed lines output = Checks lines passed output
 pub Checks-none : Checks [] 0 []
 Checks-none = record { verdicts = []; judged = tt; passed_is = refl; output_is = refl }
 
-Judged-push : (lines : List (List ℕ)) (verdicts : List Verdict) (line : List ℕ) (verdict : Verdict) → Judged lines verdicts → IsVerdict line verdict
+Judged-push : (lines : List (List ℕ)) (verdicts : List Verdict) (line : List ℕ) (verdict : Verdict) → Judged lines verdicts → IsVectorVerdict line verdict
     → Judged (lines ++ line ∷ []) (verdicts ++ verdict ∷ [])
 Judged-push [] [] line verdict h is = (is, tt)
 Judged-push [] (v ∷ vs) line verdict h is = absurd h
@@ -34,7 +34,7 @@ passes-push : (verdicts : List Verdict) (verdict : Verdict) → passes (verdicts
 passes-push [] verdict = omega arith
 passes-push (v ∷ vs) verdict = let rest = passes-push vs verdict in omega (arith, rest)
 
-pub Checks-push : (lines : List (List ℕ)) (passed : ℕ) (output line : List ℕ) (verdict : Verdict) (more : ℕ) → Checks lines passed output → IsVerdict line verdict → more ≡ pass verdict
+pub Checks-push : (lines : List (List ℕ)) (passed : ℕ) (output line : List ℕ) (verdict : Verdict) (more : ℕ) → Checks lines passed output → IsVectorVerdict line verdict → more ≡ pass verdict
     → Checks (lines ++ line ∷ []) (passed + more) (output ++ verdict_line verdict)
 Checks-push lines passed output line verdict more checks is more_is = record {
   verdicts = checks.verdicts ++ verdict ∷ [];
@@ -52,7 +52,7 @@ Checks-answered lines passed more output line waiting waiting_now held holds che
     let moved : (output ++ waiting) ++ put ≡ (output ++ taken) ++ waiting_now =
     append_assoc output waiting put ∙ ap (λ t. output ++ t) judges.put.same ∙ sym (append_assoc output taken waiting_now) in
     subst (Checks (lines ++ line ∷ []) (passed + more)) moved
-    (Checks-push lines passed (output ++ waiting) line judges.verdict more checks (IsVerdict-front line judges.verdict judges.is_verdict) judges.passed_is)
+    (Checks-push lines passed (output ++ waiting) line judges.verdict more checks (IsVectorVerdict-front line judges.verdict judges.is_verdict) judges.passed_is)
 
 -- ---- where a line begins
 

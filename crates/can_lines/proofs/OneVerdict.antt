@@ -8,7 +8,7 @@ use Rattle.can_frame.specs.Parts.{Parts, IsFrame}
 use Rattle.can_frame.specs.Text.{frame_text}
 use Rattle.can_wire.specs.Wire.{driven}
 use Rattle.can_stream.specs.Digits.{digit_of}
-use Rattle.can_lines.specs.Checked.{Checks, Compares, IsCommonFront, IsVerdict, Judged, passes, verdict_line}
+use Rattle.can_lines.specs.Checked.{Checks, Compares, IsCommonFront, IsVectorVerdict, Judged, passes, verdict_line}
 use Rattle.can_lines.specs.declared.vector.Verdict.{Verdict}
 use Rattle.can_lines.specs.declared.vector.Verdict.TheVariants.{Agrees, DiffersAt}
 use Rattle.can_lines.proofs.MarkLemmas.{marked-text, marked-others}
@@ -39,8 +39,8 @@ Compares-only xs ys (DiffersAt m) (DiffersAt n) h k = ap DiffersAt (IsCommonFron
 
 -- where no two frames have one text
 module _ (one : (f g : Parts) → IsFrame f → IsFrame g → frame_text f ≡ frame_text g → f ≡ g) where
-  pub IsVerdict-only : (line : List ℕ) (v w : Verdict) → IsVerdict line v → IsVerdict line w → v ≡ w
-  IsVerdict-only line v w h k =
+  pub IsVectorVerdict-only : (line : List ℕ) (v w : Verdict) → IsVectorVerdict line v → IsVectorVerdict line w → v ≡ w
+  IsVectorVerdict-only line v w h k =
       let p = h.vector.marked in
       let q = k.vector.marked in
       let frames : h.frame ≡ k.frame = one h.frame k.frame p.is_frame q.is_frame (marked-text line h.frame k.frame h.vector.digits k.vector.digits p q) in
@@ -56,7 +56,7 @@ module _ (one : (f g : Parts) → IsFrame f → IsFrame g → frame_text f ≡ f
   Judged-only [] (v ∷ vs) ws h k = absurd h
   Judged-only (line ∷ lines) [] ws h k = absurd h
   Judged-only (line ∷ lines) (v ∷ vs) [] h k = absurd k
-  Judged-only (line ∷ lines) (v ∷ vs) (w ∷ ws) h k = ap (λ x. x ∷ vs) (IsVerdict-only line v w h.0 k.0) ∙ ap (λ l. w ∷ l) (Judged-only lines vs ws h.1 k.1)
+  Judged-only (line ∷ lines) (v ∷ vs) (w ∷ ws) h k = ap (λ x. x ∷ vs) (IsVectorVerdict-only line v w h.0 k.0) ∙ ap (λ l. w ∷ l) (Judged-only lines vs ws h.1 k.1)
 
   pub Checks-only : (lines : List (List ℕ)) (m n : ℕ) (a b : List ℕ) → Checks lines m a → Checks lines n b → (m ≡ n) × (a ≡ b)
   Checks-only lines m n a b h k =

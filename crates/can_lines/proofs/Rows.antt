@@ -7,10 +7,10 @@ use Rattle.can_wire.specs.Crc.{crc_of}
 use Rattle.can_wire.specs.Stuffing.{stuffed}
 use Rattle.can_wire.specs.Wire.{head, unstuffed, stuffed_part, driven}
 use Rattle.can_stream.proofs.KnownFrame.{frame_001, frame_001-whole, text_001}
-use Rattle.can_lines.specs.Checked.{IsVerdict, mark}
+use Rattle.can_lines.specs.Checked.{IsVectorVerdict, mark}
 use Rattle.can_lines.specs.declared.vector.Verdict.TheVariants.{Agrees}
 
-verdict_001 : IsVerdict (codes "S 001 D 0 = 00000100000101000001000100010000100111111111111") Agrees
+verdict_001 : IsVectorVerdict (codes "S 001 D 0 = 00000100000101000001000100010000100111111111111") Agrees
 unfolding stuffed_part unstuffed stuffed crc_of head arbitration_field bits_of
 verdict_001 = record {
   frame = frame_001;

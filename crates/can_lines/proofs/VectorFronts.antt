@@ -10,7 +10,7 @@ use Rattle.std.specs.List.{starts_with}
 use Rattle.can_frame.specs.declared.text.TextFault.{TextFault}
 use Rattle.can_frame.specs.Text.{frame_text, IsTextFault}
 use Rattle.can_stream.specs.Digits.{digit_of}
-use Rattle.can_lines.specs.Checked.{mark, IsBadLevelByte, IsBadVectorLine, IsFramePart, IsVerdict}
+use Rattle.can_lines.specs.Checked.{mark, IsBadLevelByte, IsBadVectorLine, IsFramePart, IsVectorVerdict}
 use Rattle.can_lines.specs.declared.vector.Verdict.{Verdict}
 use Rattle.can_lines.proofs.TextLemmas.{length-frame_text, IsTextFault-front, IsTextFault-kept}
 use Rattle.can_lines.proofs.MarkLemmas.{mark_behind}
@@ -26,8 +26,8 @@ kept_whole line short = take_all 193 line (omega (arith, length-take 193 line))
 
 -- ---- a verdict
 
-pub IsVerdict-front : (line : List ℕ) (verdict : Verdict) → IsVerdict (kept_of line) verdict → IsVerdict line verdict
-IsVerdict-front line verdict v =
+pub IsVectorVerdict-front : (line : List ℕ) (verdict : Verdict) → IsVectorVerdict (kept_of line) verdict → IsVectorVerdict line verdict
+IsVectorVerdict-front line verdict v =
     let vector = v.vector in
     let marked = vector.marked in
     let short : length (kept_of line) ≤ 192 = omega (
@@ -40,7 +40,7 @@ IsVerdict-front line verdict v =
       length-map v.levels digit_of,
       vector.are_levels.within,
     ) in
-    subst (λ l. IsVerdict l verdict) (kept_whole line short) v
+    subst (λ l. IsVectorVerdict l verdict) (kept_whole line short) v
 
 -- ---- a bad byte
 

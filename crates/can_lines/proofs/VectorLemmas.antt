@@ -13,7 +13,7 @@ use Rattle.can_frame.specs.Text.{frame_text}
 use Rattle.can_frame.specs.declared.text.TextFault.{TextFault}
 use Rattle.can_wire.specs.Wire.{driven}
 use Rattle.can_stream.specs.Digits.{digit_of}
-use Rattle.can_lines.specs.Checked.{mark, ComparesDigits, IsBadLevelByte, IsBadVectorLine, IsFirstBadDigit, IsFramePart, IsLevels, IsMarked, IsVerdict}
+use Rattle.can_lines.specs.Checked.{mark, ComparesDigits, IsBadLevelByte, IsBadVectorLine, IsFirstBadDigit, IsFramePart, IsLevels, IsMarked, IsVectorVerdict}
 use Rattle.can_lines.specs.declared.vector.Verdict.{Verdict}
 use Rattle.can_lines.specs.declared.vector.Verdict.TheVariants.{Agrees}
 use Rattle.can_lines.proofs.DigitLemmas.{IsFirstBadDigit-only, IsLevels-good}
@@ -74,8 +74,8 @@ module _ (line : List ℕ) (f : Parts) (start : ℕ) (is : IsFrame f) (text : ta
   }
 
   -- the levels were compared
-  pub IsVerdict-read : (verdict : Verdict) → ComparesDigits (drop start line) f verdict → IsVerdict line verdict
-  IsVerdict-read verdict compares = record {
+  pub IsVectorVerdict-read : (verdict : Verdict) → ComparesDigits (drop start line) f verdict → IsVectorVerdict line verdict
+  IsVectorVerdict-read verdict compares = record {
     frame = f;
     levels = compares.levels;
     vector = record { digits = drop start line; marked = IsMarked-at; are_levels = compares.are_levels };

@@ -89,7 +89,7 @@ pub record ComparesDigits (digits : List ℕ) (f : Parts) (verdict : Verdict) : 
   pub compares : Compares levels (driven f) verdict
 
 -- the line is a vector, and this is what its levels come to
-pub record IsVerdict (line : List ℕ) (verdict : Verdict) : Type 0 where
+pub record IsVectorVerdict (line : List ℕ) (verdict : Verdict) : Type 0 where
   pub frame : Parts
   pub levels : List Level
   pub vector : IsVector line frame levels
@@ -117,7 +117,7 @@ abbrev pub Judged : List (List ℕ) → List Verdict → Type 0
 Judged [] [] = Unit {0}
 Judged [] (verdict ∷ verdicts) = ⊥
 Judged (line ∷ lines) [] = ⊥
-Judged (line ∷ lines) (verdict ∷ verdicts) = IsVerdict line verdict × Judged lines verdicts
+Judged (line ∷ lines) (verdict ∷ verdicts) = IsVectorVerdict line verdict × Judged lines verdicts
 
 -- how many pass
 abbrev pub passes : List Verdict → ℕ

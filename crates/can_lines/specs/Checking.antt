@@ -5,7 +5,7 @@ use Rattle.can_stream.specs.declared.fault.TraceFault.{TraceFault}
 use Rattle.can_stream.specs.declared.fault.TraceFault.TheVariants.{BadByte, Read, Write, Long, FrameLine, ScenarioField, Memory}
 use Rattle.can_lines.specs.declared.vector.Verdict.{Verdict}
 use Rattle.can_stream.specs.Outbox.{PassesOn, TakesFront}
-use Rattle.can_lines.specs.Checked.{pass, verdict_line, BeginsChecking, ChecksEnded, ChecksTooLong, IsBadLevelByte, IsBadVectorLine, IsFirstBadByte, IsFirstBadVectorLine, IsVerdict}
+use Rattle.can_lines.specs.Checked.{pass, verdict_line, BeginsChecking, ChecksEnded, ChecksTooLong, IsBadLevelByte, IsBadVectorLine, IsFirstBadByte, IsFirstBadVectorLine, IsVectorVerdict}
 
 abbrev pub is_bad_byte : TraceFault → Bool
 is_bad_byte (BadByte place) = true
@@ -19,7 +19,7 @@ is_bad_byte Memory = false
 -- the line has a verdict, whose line went into the buffer, and so many lines passed by it, one or none
 pub record Judges (line : List ℕ) (passed : ℕ) (held holds : Option (List ℕ)) (old new : List ℕ) : Type 0 where
   pub verdict : Verdict
-  pub is_verdict : IsVerdict line verdict
+  pub is_verdict : IsVectorVerdict line verdict
   pub passed_is : passed ≡ pass verdict
   pub put : PassesOn held holds old new (verdict_line verdict)
 

@@ -1,9 +1,9 @@
-ghost use Rattle.std.specs.Prelude.{◌≡◌, ◌⊎◌, ℕ, ◌+◌, ◌^◌, ◌<◌, ◌≤◌, ◌↔◌, true, false, not, [], ◌++◌, length, Ok, is_err, IsTrue, IsFalse, IsErrOf, IfOk, IfErr, OnOk, OnErr};
+ghost use Rattle.std.specs.Prelude.{◌≡◌, ◌⊎◌, ℕ, ◌+◌, ◌^◌, ◌<◌, ◌≤◌, ◌↔◌, true, false, not, [], ◌++◌, length, Ok, IsTrue, IsFalse, IsErrOf, IfOk, IfErr, OnOk, OnErr};
 ghost use Rattle.std.specs.Io.KnownBytes.{IsAtEnd};
 ghost use Rattle.can_frame.specs.declared.text.TextFault.{TextFault};
 ghost use Rattle.can_stream.specs.declared.field.Field.{Field};
 ghost use Rattle.can_stream.specs.Told.{Told};
-ghost use Rattle.can_stream.specs.Outbox.{Flushes, PassesOn, TakesFront};
+ghost use Rattle.can_stream.specs.Outbox.{Flushes};
 ghost use Rattle.can_stream.specs.LineReader.{ReadsLine, inbox_of, is_found, line_of};
 ghost use Rattle.can_stream.specs.Faults.{is_err_by, is_read, is_write};
 ghost use Rattle.can_lines.specs.Checked.{BeginsChecking, ChecksAll, ChecksEach, ChecksEnded, ChecksTooLong, IsFirstBadByte, IsFirstBadVectorLine};

@@ -4,7 +4,7 @@ ghost use Rattle.can_frame.specs.Parts.{IsFrame};
 ghost use Rattle.can_frame.specs.Text.{frame_text};
 ghost use Rattle.can_frame.specs.declared.level.Level.{Level as Bit};
 ghost use Rattle.can_stream.specs.Digits.{digit_of};
-ghost use Rattle.can_lines.specs.Checked.{mark, pass, Compares, ComparesDigits, IsBadAs, IsBadLevelByte, IsBadVectorLine, IsCommonFront, IsFirstBadDigit, IsFramePart, IsLevels, IsVerdict};
+ghost use Rattle.can_lines.specs.Checked.{mark, pass, Compares, ComparesDigits, IsBadAs, IsBadLevelByte, IsBadVectorLine, IsCommonFront, IsFirstBadDigit, IsFramePart, IsLevels, IsVectorVerdict};
 
 use crate::driven::write_driven;
 use arrayvec::ArrayVec;
@@ -44,7 +44,7 @@ pub(crate) enum BadLine {
 
 /// Compares the levels of the line with those that the sender of its frame drives.
 pub(crate) fn judge(line: &[u8]) -> Result<Verdict, BadLine>
-    ensures ok { IfOk result (IsVerdict line.now) }
+    ensures ok { IfOk result (IsVectorVerdict line.now) }
     ensures err { IfErr result (IsBadAs line.now) }
     ensures byte { (place : ℕ) → IsBadLevelByte line.now place → IsErrOf result (BadLine.Byte place) }
 {

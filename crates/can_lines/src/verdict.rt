@@ -1,5 +1,5 @@
 //! The lines that tell verdicts and their total.
-ghost use Rattle.std.specs.Prelude.{◌≡◌, ◌+◌, ◌≤◌, ◌<◌, ◌^◌, ◌++◌, false, [], length, decimal, is_err, IfErr, OnOk, OnErr};
+ghost use Rattle.std.specs.Prelude.{◌≡◌, ◌<◌, false, [], is_err, IfErr, OnOk, OnErr};
 ghost use Rattle.can_stream.specs.Outbox.{PassesOn, TakesFront};
 ghost use Rattle.can_lines.specs.Checked.{total_line, verdict_line};
 

@@ -1,13 +1,11 @@
 -- Trace text whose levels are written one by one.
-use Rattle.std.proofs.Common.{◌≡◌, ℕ, ◌+◌, ◌<◌, ◌≤◌, true, false, Option, Some, None, IfSome, append_assoc, List, [], ◌∷◌, ◌++◌, length, take, drop, get_or, set, sym, ◌∙◌, ap, subst, arith}
-use Rattle.std.proofs.lemmas.List.{append-nil, drop_more, length-take-le, take_all, take_more, take_more_set, take-append-drop, map-append}
+use Rattle.std.proofs.Common.{◌≡◌, ℕ, ◌+◌, ◌<◌, ◌≤◌, true, false, Option, Some, None, IfSome, append_assoc, List, [], ◌∷◌, ◌++◌, length, take, drop, get_or, sym, ◌∙◌, ap, subst, arith}
+use Rattle.std.proofs.lemmas.List.{drop_more, length-take-le, take_all, take_more, take-append-drop}
 use Rattle.std.specs.Io.KnownBytes.{Appends}
-use Rattle.can_frame.specs.declared.level.Level.{Level}
 use Rattle.can_stream.proofs.Elements.{AllByRecursion-append}
 use Rattle.can_decode.specs.Decoded.{DecodesToBadByte}
-use Rattle.can_decode.specs.TraceText.{IsFirstBadTraceByte, IsTraceText, is_trace_byte, levels_in, levels_of_byte}
-use Rattle.can_decode.proofs.DecodeSteps.{levels_in-append}
-use Rattle.can_page.specs.Codes.{level_code, level_codes}
+use Rattle.can_decode.specs.TraceText.{IsFirstBadTraceByte, IsTraceText, is_trace_byte, levels_in}
+use Rattle.can_page.specs.Codes.{level_codes}
 
 -- the levels of the first bytes are written
 pub record IsRead (text levels : List ℕ) (written index : ℕ) : Type 0 where
@@ -22,23 +20,6 @@ module _ (text levels : List ℕ) (written index : ℕ) (h : IsRead text levels 
 
   is_text : IsTraceText (take (index + 1) text)
   is_text = subst IsTraceText (sym one_more) (AllByRecursion-append (λ byte. is_trace_byte byte ≡ true) (take index text) (get_or text index 0 ∷ []) h.text_is (stands, tt))
-
-  in_text : levels_in (take (index + 1) text) ≡ levels_in (take index text) ++ (levels_of_byte (get_or text index 0) ++ [])
-  in_text = ap levels_in one_more ∙ levels_in-append (take index text) (get_or text index 0 ∷ [])
-
-  pub IsRead-skip : levels_of_byte (get_or text index 0) ≡ [] → IsRead text levels written (index + 1)
-  IsRead-skip none =
-      let same_levels : levels_in (take (index + 1) text) ≡ levels_in (take index text) = in_text ∙ ap (λ x. levels_in (take index text) ++ (x ++ [])) none ∙ append-nil (levels_in (take index text)) in
-      record { text_is = is_text; levels_are = h.levels_are ∙ ap level_codes (sym same_levels); within = omega (arith, h.within) }
-
-  pub IsRead-level : (x : Level) → levels_of_byte (get_or text index 0) ≡ x ∷ [] → written < length levels → IsRead text (set levels written (level_code x)) (written + 1) (index + 1)
-  IsRead-level x one room =
-      let more : levels_in (take (index + 1) text) ≡ levels_in (take index text) ++ x ∷ [] = in_text ∙ ap (λ y. levels_in (take index text) ++ (y ++ [])) one in
-      record {
-        text_is = is_text;
-        levels_are = take_more_set levels written (level_code x) room ∙ ap (λ t. t ++ level_code x ∷ []) h.levels_are ∙ sym (map-append level_code (levels_in (take index text)) (x ∷ [])) ∙ ap level_codes (sym more);
-        within = omega (arith, h.within);
-      }
 
 -- all bytes
 pub all_read : (text levels : List ℕ) (written index : ℕ) → IsRead text levels written index → length text ≤ index → (take written levels ≡ level_codes (levels_in text)) × IsTraceText text

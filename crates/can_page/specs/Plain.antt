@@ -101,4 +101,3 @@ wrong_field field.Ports = wrong_at 4 0 0
 wrong_field (field.Port number p) = wrong_in_port number p
 wrong_field (field.Hits hits) = wrong_list hits
 wrong_field (field.Hit hits place) = wrong_hit hits place
-wrong_field (field.Kit kit) = wrong_at 18 0 0

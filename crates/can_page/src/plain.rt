@@ -70,7 +70,6 @@ impl WrongField {
             Field::Port { number, part } => WrongField::in_port(number, part),
             Field::Hits(list) => WrongField::in_list(list),
             Field::Hit { list, place } => WrongField::in_hit(list, place),
-            Field::Kit(_) => WrongField::at(18, 0, 0),
         }
     }
 

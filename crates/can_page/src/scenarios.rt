@@ -1,7 +1,7 @@
-ghost use Rattle.std.specs.Prelude.{◌≡◌, ◌^◌, ◌<◌, ◌≤◌, ◌⊎◌, [], false, true, length, take, IfErr, IfOk, IfSome, IsErrOf, List, Some};
+ghost use Rattle.std.specs.Prelude.{◌≡◌, ◌<◌, ◌≤◌, ◌⊎◌, [], false, true, length, take, IfErr, IfOk, IfSome, IsErrOf, List, Some};
 ghost use Rattle.can_port_times.specs.PortTimes.{AreTold};
 ghost use Rattle.can_scenario.specs.Report.{report};
-ghost use Rattle.can_scenario_text.specs.Scenarios.{IsFirstWrong, IsScenarioText};
+ghost use Rattle.can_scenario_text.specs.Scenarios.{IsWrongScenarioField, IsScenarioText};
 ghost use Rattle.can_port_times.specs.declared.port_times.PortTime.{PortTime as Told};
 ghost use Rattle.can_scenario_text.specs.declared.scenario.Scenario.{Scenario as Planned};
 ghost use Rattle.can_stream.specs.declared.field.Field.{Field as Wrong};
@@ -27,7 +27,7 @@ pub extern "C" fn page_run(
     wrong: &mut WrongField,
 ) -> u8
     ensures report { result ≡ done → (s : Planned) × (IsScenarioText text.now s × (lines_of out.new ≡ report s)) }
-    ensures wrong { result ≡ bad_scenario → (field : Wrong) × (IsFirstWrong field text.now × (wrong.new ≡ wrong_field field)) }
+    ensures wrong { result ≡ bad_scenario → (field : Wrong) × (IsWrongScenarioField field text.now × (wrong.new ≡ wrong_field field)) }
     ensures room { result ≡ answer_code Answer.NoRoom → is_full out.new ≡ true }
 {
     out.clear();
@@ -44,7 +44,7 @@ pub(crate) fn run_onto<W: Sink>(
     requires unfailed { W.has_failed out.old ≡ false }
     requires empty { W.contents out.old ≡ Some [] }
     ensures report { result ≡ Answer.Done → IfSome (W.contents out.new) (λ bytes. (s : Planned) × (IsScenarioText text.now s × (bytes ≡ report s))) }
-    ensures wrong { result ≡ Answer.BadScenario → (field : Wrong) × (IsFirstWrong field text.now × (wrong.new ≡ wrong_field field)) }
+    ensures wrong { result ≡ Answer.BadScenario → (field : Wrong) × (IsWrongScenarioField field text.now × (wrong.new ≡ wrong_field field)) }
     ensures room { result ≡ Answer.NoRoom → W.has_failed out.new ≡ true }
 {
     match read(alloc, text, wrong) {
@@ -93,7 +93,7 @@ pub extern "C" fn page_port_times(
 /// The scenario that a document says, or the first field that is wrong.
 fn read(alloc: Global, text: &[u8], wrong: &mut WrongField) -> Result<Scenario, Answer>
     ensures found { IfOk result (IsScenarioText text.now) }
-    ensures wrong { IsErrOf result Answer.BadScenario → (field : Wrong) × (IsFirstWrong field text.now × (wrong.new ≡ wrong_field field)) }
+    ensures wrong { IsErrOf result Answer.BadScenario → (field : Wrong) × (IsWrongScenarioField field text.now × (wrong.new ≡ wrong_field field)) }
     ensures other { IfErr result (λ answer. (answer ≡ Answer.BadScenario) ⊎ (answer ≡ Answer.NoMemory)) }
 {
     match Scenario::from_text(alloc, text) {

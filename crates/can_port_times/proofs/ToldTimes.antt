@@ -15,7 +15,7 @@ use Rattle.can_hit.specs.declared.hit.Hit.{Hit}
 use Rattle.can_bus.specs.declared.offer.Offer.{Offer}
 use Rattle.can_bus.specs.Offers.{AreOffered, all_made, made, played, played_level}
 use Rattle.can_bus.specs.Run.{BusState, all_sampled, bus_after, bus_level, bus_run, bus_step, call_begun, hits_view, inverted_if, recorded}
-use Rattle.can_port_times.specs.PortTimes.{AreSeen, bus_by, first_port, level_seen, offers_meanwhile, own_made, seen_by, told, told_from}
+use Rattle.can_port_times.specs.PortTimes.{AreSeen, bus_by, first_port, level_seen, offers_meanwhile, own_made, seen_by, port_time, told_from}
 use Rattle.can_scenario.specs.Report.{level_by, levels_until, made_bus, made_port, recorded_levels, waiting_bus, waiting_port}
 use Rattle.can_scenario.specs.ScenarioOffers.{scenario_offers}
 use Rattle.can_scenario_text.specs.declared.scenario.PortPlan.{PortPlan}
@@ -118,7 +118,7 @@ module _ (node : ℕ) (offers : List Offer) (before ready : ℕ → List PortSta
     (makes : (t : ℕ) (p : PortState) → slice_get (before t) node ≡ Some p → slice_get (ready t) node ≡ Some (own_made node offers t p))
     (steps : (t : ℕ) (p : PortState) → slice_get (ready t) node ≡ Some p → slice_get (before (suc t)) node ≡ Some (port_step p (level t))) where
   told-each : (seen : List Level) (t : ℕ) (p : PortState) → slice_get (before t) node ≡ Some p → ((i : ℕ) → i < length seen → slice_get seen i ≡ Some (level (t + i))) →
-      (i : ℕ) (q : PortState) → i < length seen → slice_get (ready (t + i)) node ≡ Some q → slice_get (told_from node offers t p seen) i ≡ Some (told q (level (t + i)))
+      (i : ℕ) (q : PortState) → i < length seen → slice_get (ready (t + i)) node ≡ Some q → slice_get (told_from node offers t p seen) i ≡ Some (port_time q (level (t + i)))
   told-each [] t p is known i q h at = absurd (omega arith)
   told-each (x ∷ seen) t p is known zero q h at =
       let here : t + 0 ≡ t = omega arith in
@@ -126,7 +126,7 @@ module _ (node : ℕ) (offers : List Offer) (before ready : ℕ → List PortSta
       let port : own_made node offers t p ≡ q = (cc) in
       let first : Some x ≡ Some (level (t + 0)) = known 0 (omega arith) in
       let same : x ≡ level (t + 0) = (cc) in
-      ap (λ r. Some (told r x)) port ∙ ap (λ y. Some (told q y)) same
+      ap (λ r. Some (port_time r x)) port ∙ ap (λ y. Some (port_time q y)) same
   told-each (x ∷ seen) t p is known (suc i) q h at =
       let more : (t + 1) + i ≡ t + suc i = omega arith in
       let here : t + 0 ≡ t = omega arith in
@@ -137,14 +137,14 @@ module _ (node : ℕ) (offers : List Offer) (before ready : ℕ → List PortSta
       told-each seen (t + 1) (port_step (own_made node offers t p) x) next
       (λ j k. let further : (t + 1) + j ≡ t + suc j = omega arith in known (suc j) (omega arith) ∙ sym (ap (λ m. Some (level m)) further))
       i q (omega arith) (ap (λ k. slice_get (ready k) node) more ∙ at)
-      ∙ ap (λ k. Some (told q (level k))) more
+      ∙ ap (λ k. Some (port_time q (level k))) more
 
   pub told-times : (seen : List Level) (p : PortState) → slice_get (before 0) node ≡ Some p → ((t : ℕ) → t < length seen → slice_get seen t ≡ Some (level t)) →
-      (t : ℕ) (q : PortState) → t < length seen → slice_get (ready t) node ≡ Some q → slice_get (told_from node offers 0 p seen) t ≡ Some (told q (level t))
+      (t : ℕ) (q : PortState) → t < length seen → slice_get (ready t) node ≡ Some q → slice_get (told_from node offers 0 p seen) t ≡ Some (port_time q (level t))
   told-times seen p is known t q h at =
       let same : 0 + t ≡ t = zero-add t in
       told-each seen 0 p is (λ i k. known i k ∙ sym (ap (λ m. Some (level m)) (zero-add i))) t q h (ap (λ k. slice_get (ready k) node) same ∙ at)
-      ∙ ap (λ k. Some (told q (level k))) same
+      ∙ ap (λ k. Some (port_time q (level k))) same
 
 pub length-told : (node : ℕ) (offers : List Offer) (t : ℕ) (p : PortState) (seen : List Level) → length (told_from node offers t p seen) ≡ length seen
 length-told node offers t p [] = refl
@@ -203,7 +203,7 @@ first-at from plans n plan there = slice_get-map from plans n ∙ ap (option_map
 pub told-known : (hits : List Hit) (s : Scenario) (node : ℕ) (plan : PortPlan) (seen : List Level) → slice_get s.ports.items node ≡ Some plan →
     ((t : ℕ) → t < length seen → slice_get seen t ≡ Some (seen_by hits s node t)) →
     (t : ℕ) (p : PortState) → t < length seen → slice_get (bus_by hits s t).ports node ≡ Some p →
-    slice_get (told_from node (offers_meanwhile hits s) 0 (first_port hits plan) seen) t ≡ Some (told p (seen_by hits s node t))
+    slice_get (told_from node (offers_meanwhile hits s) 0 (first_port hits plan) seen) t ≡ Some (port_time p (seen_by hits s node t))
 told-known [] s node plan seen there known =
     let offers = scenario_offers s in
     told-times node offers (λ t. (played offers t (made_bus s)).ports) (λ t. (bus_by [] s t).ports) (seen_by [] s node)

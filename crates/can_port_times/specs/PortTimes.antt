@@ -58,8 +58,8 @@ brought (Some event.WentOff) = bring.WentOff
 brought (Some event.Recovered) = bring.Recovered
 
 -- a port, and what it does in a bit time in which it sees this level
-abbrev pub told : PortState → Level → PortTime
-told p seen = record {
+abbrev pub port_time : PortState → Level → PortTime
+port_time p seen = record {
   stage = stage_of p.mac.phase;
   sends = is_sender p.mac.role;
   transmit = p.mac.counters.tec;
@@ -89,7 +89,7 @@ level_seen s node t = seen_by s.hits.items s node t
 -- what the port of this number does in each bit time
 pub record AreTold (s : Scenario) (node : ℕ) (times : List PortTime) : Type 0 where
   pub each : length times ≡ s.bits
-  pub told : (t : ℕ) (p : PortState) → t < s.bits → slice_get (bus_at s t).ports node ≡ Some p → slice_get times t ≡ Some (told p (level_seen s node t))
+  pub told : (t : ℕ) (p : PortState) → t < s.bits → slice_get (bus_at s t).ports node ≡ Some p → slice_get times t ≡ Some (port_time p (level_seen s node t))
 
 -- ---- the same, of one port alone
 
@@ -110,7 +110,7 @@ own_made node (offer ∷ offers) t p = own_made node offers t (if (offer.time ==
 -- from time t on it sees these levels
 abbrev pub told_from : ℕ → List Offer → ℕ → PortState → List Level → List PortTime
 told_from node offers t p [] = []
-told_from node offers t p (x ∷ seen) = told (own_made node offers t p) x ∷ told_from node offers (t + 1) (port_step (own_made node offers t p) x) seen
+told_from node offers t p (x ∷ seen) = port_time (own_made node offers t p) x ∷ told_from node offers (t + 1) (port_step (own_made node offers t p) x) seen
 
 -- where these levels are recorded, the port of this number sees those
 abbrev pub AreSeen : List Hit → ℕ → List Level → List Level → Type 0

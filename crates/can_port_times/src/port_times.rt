@@ -5,7 +5,7 @@ ghost use Rattle.can_bus.specs.Run.{hits_view};
 ghost use Rattle.can_bus.specs.Walks.{IsReached};
 ghost use Rattle.can_frame.specs.Levels.{opposite};
 ghost use Rattle.can_node.specs.Ports.{port_step};
-ghost use Rattle.can_port_times.specs.PortTimes.{AreSeen, AreTold, brought, first_port, is_sender as is_sender_of, offers_meanwhile, own_made, stage_of, told, told_from};
+ghost use Rattle.can_port_times.specs.PortTimes.{AreSeen, AreTold, brought, first_port, is_sender as is_sender_of, offers_meanwhile, own_made, stage_of, port_time, told_from};
 
 use can_bus::{Hit, Offer};
 use can_code::{FrameBits, Front};
@@ -201,7 +201,7 @@ fn offer_own<P: Port>(port: &mut P, node: usize, offer: Offer)
 
 /// Has a port see a level, and tells what it does.
 fn tell(port: &mut PackedNode, seen: Level) -> PortTime
-    ensures told { result ≡ told (⟦<PackedNode as Port>⟧.port port.old) seen }
+    ensures told { result ≡ port_time (⟦<PackedNode as Port>⟧.port port.old) seen }
     ensures port { ⟦<PackedNode as Port>⟧.port port.new ≡ port_step (⟦<PackedNode as Port>⟧.port port.old) seen }
 {
     let (transmit, receive) = port.counters();

@@ -1,25 +1,26 @@
 -- What the exit status of a run says. (docs/CODES.md)
 use Rattle.std.specs.Prelude.{ℕ, Result, Ok, Err}
+use Rattle.can_stream.specs.declared.fault.TraceFault.{TraceFault}
 use Rattle.can_stream.specs.declared.fault.TraceFault.TheVariants.{BadByte, ScenarioField, Read, Write, Memory as OutOfMemory, Long, FrameLine}
-use Rattle.can_program.specs.declared.fault.RunFault.{RunFault}
-use Rattle.can_program.specs.declared.fault.RunFault.TheVariants.{VectorsDiffer, TranscriptsDiffer, NothingJudged, Usage, Memory, Stream}
+use Rattle.can_program.specs.declared.fault.WordsFault.{WordsFault}
+use Rattle.can_program.specs.declared.fault.WordsFault.TheVariants.{Usage, Memory}
 
--- 1: the input is refused. 2: the words are. 3: a stream failed. 4: memory ran out. 5: nothing was judged.
-abbrev pub status_of : RunFault → ℕ
-status_of (Stream (BadByte place)) = 1
-status_of (Stream (ScenarioField wrong)) = 1
-status_of (Stream Long) = 1
-status_of (Stream (FrameLine line fault)) = 1
-status_of VectorsDiffer = 1
-status_of TranscriptsDiffer = 1
-status_of Usage = 2
-status_of (Stream Read) = 3
-status_of (Stream Write) = 3
-status_of Memory = 4
-status_of (Stream OutOfMemory) = 4
-status_of NothingJudged = 5
+-- 1: the input is refused. 3: a stream failed. 4: memory ran out.
+abbrev pub stream_status : TraceFault → ℕ
+stream_status (BadByte place) = 1
+stream_status (ScenarioField wrong) = 1
+stream_status Long = 1
+stream_status (FrameLine line fault) = 1
+stream_status Read = 3
+stream_status Write = 3
+stream_status OutOfMemory = 4
 
--- 0 where all was done
-abbrev pub exit_status : Result (Unit {0}) RunFault → ℕ
-exit_status (Ok done) = 0
-exit_status (Err fault) = status_of fault
+-- 2: the words are refused. 4: memory ran out.
+abbrev pub words_status : WordsFault → ℕ
+words_status Usage = 2
+words_status Memory = 4
+
+-- 0 where all was done, and else that of the fault
+abbrev pub exit_status : {F : Type 0} → (F → ℕ) → Result (Unit {0}) F → ℕ
+exit_status status_of (Ok done) = 0
+exit_status status_of (Err fault) = status_of fault

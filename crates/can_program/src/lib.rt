@@ -1,9 +1,9 @@
-//! What the programs share: a run in its process, why a run did not do all that it was asked, its line on standard
-//! error and its exit status. (docs/CODES.md)
+//! What the programs share: a run in its process, and how it ends: the line of its fault on standard error, and its exit
+//! status. (docs/CODES.md) The faults of a program are its own; they have the trait [`RunFault`].
 //!
 //! | File | What it has | Defined in |
 //! |---|---|---|
-//! | `fault.rt` | [`RunFault`], the faults, their texts and statuses | `specs/Status.antt` |
+//! | `fault.rt` | [`RunFault`], what a fault has to tell; those of streams and of words, [`WordsFault`] | `specs/Status.antt` |
 //! | `ending.rt` | [`conclude`], [`conclude_of`] and [`refuse`], how a run ends; [`write_help`] | `specs/Status.antt` |
 //! | `process.rt` | [`run_program`], a run on the words and streams of its process; [`words_or_status`] | `specs/Status.antt` |
 #![tactic(auto)]
@@ -13,5 +13,5 @@ mod fault;
 mod process;
 
 pub use ending::{conclude, conclude_of, refuse, write_help};
-pub use fault::RunFault;
+pub use fault::{RunFault, WordsFault};
 pub use process::{run_program, words_or_status};

@@ -4,7 +4,7 @@ ghost use Rattle.std.specs.IoError.{error_kind};
 ghost use Rattle.can_stream.specs.Wrapped.{read_ended, read_failed, write_failed};
 
 use crate::ending::refuse;
-use crate::fault::RunFault;
+use crate::fault::WordsFault;
 use can_stream::{FromRead, Sink, ToWrite};
 use std::io;
 use std::io::{ErrorKind, Stderr, Stdin, Stdout};
@@ -42,7 +42,7 @@ pub fn words_or_status<E: Sink>(
 {
     match words {
         Ok(words) => Ok(words),
-        Err(error) => Err(refuse(name, RunFault::of_words(&error), e)),
+        Err(error) => Err(refuse(name, WordsFault::of(&error), e)),
     }
 }
 

@@ -1,14 +1,29 @@
 //! Faults, their lines and statuses.
 ghost use Rattle.std.specs.Prelude.{◌≡◌, false};
 
-use RunFault::{Memory, NothingJudged, Stream, TranscriptsDiffer, Usage, VectorsDiffer};
-use can_program::{RunFault, conclude, conclude_of, refuse, words_or_status, write_help};
+use can_program::{
+    RunFault, WordsFault, conclude, conclude_of, refuse, words_or_status, write_help,
+};
 use can_stream::pieces::{ROOM, Stop, Taker, writer_of};
-use can_stream::{Field, KitField, PortField, ToWrite, TraceFault, TranscriptField};
+use can_stream::{Field, PortField, ToWrite, TraceFault};
 use std::alloc::Global;
 use std::io;
 use std::io::{Error, ErrorKind};
 use std::test::Fail;
+use thiserror::Error as Fault;
+
+/// A fault of a program's own, whose text is as long as one may be.
+#[derive(Clone, Copy, Debug, PartialEq, Eq, Fault)]
+#[error("P2 transcript[18446744073709551615].counters[18446744073709551615]")]
+struct OwnFault;
+
+impl RunFault for OwnFault {
+    ghost status_of = { λ fault. 5 };
+
+    fn status(&self) -> u8 {
+        5
+    }
+}
 
 /// A writer that takes so many bytes.
 fn errors(alloc: Global, room: usize) -> ToWrite<Taker>
@@ -18,50 +33,36 @@ fn errors(alloc: Global, room: usize) -> ToWrite<Taker>
 }
 
 /// What a run came to, its status, and the line that is told of it.
-const ENDINGS: &[(Result<(), RunFault>, u8, &str)] = &[
+const ENDINGS: &[(Result<(), TraceFault>, u8, &str)] = &[
     (Ok(()), 0, ""),
     (
-        Err(Stream(TraceFault::BadByte { place: 13 })),
+        Err(TraceFault::BadByte { place: 13 }),
         1,
         "canbit: P1 byte 13\n",
     ),
     (
-        Err(Stream(TraceFault::ScenarioField(Field::Port {
+        Err(TraceFault::ScenarioField(Field::Port {
             number: 0,
             part: PortField::Log,
-        }))),
+        })),
         1,
         "canbit: P2 port[0].log\n",
     ),
-    // the longest line
-    (
-        Err(Stream(TraceFault::ScenarioField(Field::Kit(KitField::Transcript {
-            number: usize::MAX,
-            part: TranscriptField::Change(usize::MAX),
-        })))),
-        1,
-        "canbit: P2 transcript[18446744073709551615].counters[18446744073709551615]\n",
-    ),
-    (Err(Stream(TraceFault::Long)), 1, "canbit: P6 long\n"),
-    (Err(VectorsDiffer), 1, "canbit: vectors differ\n"),
-    (Err(TranscriptsDiffer), 1, "canbit: transcripts differ\n"),
-    (Err(Usage), 2, "canbit: usage\n"),
-    (Err(Stream(TraceFault::Read)), 3, "canbit: P3 read\n"),
-    (Err(Stream(TraceFault::Write)), 3, "canbit: P4 write\n"),
-    (Err(Memory), 4, "canbit: P5 memory\n"),
-    (Err(Stream(TraceFault::Memory)), 4, "canbit: P5 memory\n"),
-    (Err(NothingJudged), 5, "canbit: nothing judged\n"),
+    (Err(TraceFault::Long), 1, "canbit: P6 long\n"),
+    (Err(TraceFault::Read), 3, "canbit: P3 read\n"),
+    (Err(TraceFault::Write), 3, "canbit: P4 write\n"),
+    (Err(TraceFault::Memory), 4, "canbit: P5 memory\n"),
 ];
 
 /// Whether a run ends with this status and this line.
-fn ends_with(alloc: Global, outcome: Result<(), RunFault>, status: u8, line: &str) -> bool {
+fn ends_with(alloc: Global, outcome: Result<(), TraceFault>, status: u8, line: &str) -> bool {
     let mut told = errors(alloc, ROOM);
     let found = conclude("canbit", outcome, &mut told);
     found == status && told.into_inner().taken.as_slice() == line.as_bytes()
 }
 
 /// Whether a fault has this status, also where there is no room for its line.
-fn is_refused_with(alloc: Global, fault: RunFault, status: u8) -> bool {
+fn is_refused_with(alloc: Global, fault: TraceFault, status: u8) -> bool {
     let mut full = errors(alloc, 3);
     refuse("canbit", fault, &mut full) == status
 }
@@ -74,7 +75,6 @@ fn each_ending_has_a_line_and_a_status(rt: HostRuntime) {
             assert!(rt; is_refused_with(rt.alloc(), *fault, *status), "{line}");
         }
     }
-    assert!(rt; RunFault::from(TraceFault::Long) == Stream(TraceFault::Long));
 }
 
 /// A name of 80 letters, and the longest line, which ends with it.
@@ -83,17 +83,11 @@ const OF: &str = "xxxxxxxxxxxxxxxxxxxxxxxxxxxxxxxxxxxxxxxxxxxxxxxxxxxxxxxxxxxxxx
 const LONGEST: &str =
     "canhold: P2 transcript[18446744073709551615].counters[18446744073709551615] of xxxxxxxxxxxxxxxxxxxxxxxxxxxxxxxxxxxxxxxxxxxxxxxxxxxxxxxxxxxxxxxxxxxxxxxxxxxxxxxx\n";
 
-/// Whether a fault of this is told by this line.
+/// Whether the fault of this is told by this line.
 fn tells_of(alloc: Global, of: &str, line: &str) -> bool {
-    let part = TranscriptField::Change(usize::MAX);
-    let wrong = KitField::Transcript {
-        number: usize::MAX,
-        part,
-    };
-    let fault = Stream(TraceFault::ScenarioField(Field::Kit(wrong)));
     let mut told = errors(alloc, ROOM);
-    let status = conclude_of("canhold", Err(fault), of, &mut told);
-    status == 1 && told.into_inner().taken.as_slice() == line.as_bytes()
+    let status = conclude_of("canhold", Err(OwnFault), of, &mut told);
+    status == 5 && told.into_inner().taken.as_slice() == line.as_bytes()
 }
 
 #[test]
@@ -102,7 +96,7 @@ fn what_a_fault_is_of_stands_behind_it(rt: HostRuntime) {
 }
 
 /// Whether help comes to this, and as much of it is written, where the writer takes so many bytes.
-fn helps(alloc: Global, room: usize, outcome: Result<(), RunFault>, written: &[u8]) -> bool {
+fn helps(alloc: Global, room: usize, outcome: Result<(), TraceFault>, written: &[u8]) -> bool {
     let mut output = errors(alloc, room);
     let found = write_help("Usage\n", &mut output);
     found == outcome && output.into_inner().taken.as_slice() == written
@@ -111,14 +105,24 @@ fn helps(alloc: Global, room: usize, outcome: Result<(), RunFault>, written: &[u
 #[test]
 fn help_is_written_or_the_writer_failed(rt: HostRuntime) {
     assert!(rt; helps(rt.alloc(), ROOM, Ok(()), b"Usage\n"));
-    assert!(rt; helps(rt.alloc(), 3, Err(Stream(TraceFault::Write)), b"Usa"));
+    assert!(rt; helps(rt.alloc(), 3, Err(TraceFault::Write), b"Usa"));
 }
 
 /// Why words could not be read, the fault of that, its status and its line. Words that are not UTF-8 are no want of
 /// memory.
-const UNREAD: &[(ErrorKind, RunFault, u8, &[u8])] = &[
-    (ErrorKind::InvalidData, Usage, 2, b"canhold: usage\n"),
-    (ErrorKind::OutOfMemory, Memory, 4, b"canhold: P5 memory\n"),
+const UNREAD: &[(ErrorKind, WordsFault, u8, &[u8])] = &[
+    (
+        ErrorKind::InvalidData,
+        WordsFault::Usage,
+        2,
+        b"canhold: usage\n",
+    ),
+    (
+        ErrorKind::OutOfMemory,
+        WordsFault::Memory,
+        4,
+        b"canhold: P5 memory\n",
+    ),
 ];
 
 /// What a run goes on with or ends with, and the line that is told.
@@ -137,10 +141,7 @@ fn ends_unread(alloc: Global, kind: ErrorKind, status: u8, line: &[u8]) -> bool 
 #[test]
 fn words_that_could_not_be_read_end_the_run(rt: HostRuntime) {
     for (kind, fault, status, line) in UNREAD {
-        assert!(rt;
-            RunFault::of_words(&Error::from(*kind)) == *fault,
-            "{fault}"
-        );
+        assert!(rt; WordsFault::of(&Error::from(*kind)) == *fault, "{fault}");
         assert!(rt; ends_unread(rt.alloc(), *kind, *status, *line), "{fault}");
     }
 }

@@ -1,10 +1,10 @@
 -- What the ports of a scenario are offered, port by port, and all together.
 use Rattle.std.specs.Prelude.{filter, slice_get}
 use Rattle.std.specs.List.Sorted.{IsPermutation}
-use Rattle.std.proofs.Common.{◌≡◌, ◌≢◌, ℕ, zero, suc, ◌+◌, ◌<◌, ◌≤◌, Bool, Some, None, List, [], ◌∷◌, ◌++◌, length, map, get_or, drop, append_assoc, refl, sym, ap, subst, ◌∙◌, arith, inl, inr}
+use Rattle.std.proofs.Common.{◌≡◌, ◌≢◌, ℕ, zero, suc, ◌+◌, ◌<◌, Bool, Some, None, List, [], ◌∷◌, ◌++◌, length, map, refl, sym, ap, subst, ◌∙◌, arith, inl, inr}
 use Rattle.std.proofs.Math.Dec.{eqb}
 use Rattle.std.proofs.lemmas.Bool.{cond-true, cond-false, eq-eqb, ne_eqb}
-use Rattle.std.proofs.lemmas.List.{append-nil, drop_all, drop_more, length-map, map-append}
+use Rattle.std.proofs.lemmas.List.{append-nil, length-map, map-append}
 use Rattle.std.proofs.lemmas.List.Elements.{filter-append}
 use Rattle.std.proofs.lemmas.List.Sorted.{IsPermutation-map, length_permutation}
 use Rattle.can_frame.specs.Parts.{Parts}
@@ -128,14 +128,3 @@ each-offer P number (plan ∷ plans) each o there = elim (stands-either (map (of
 ]
 
 -- ---- offers that are listed one port after another
-
-pub offers-next : (plans : List PortPlan) (node : ℕ) (plan : PortPlan) (before after all : List Offer) → node < length plans → plan ≡ get_or plans node plan →
-    before ++ offers_from node (drop node plans) ≡ all → after ≡ before ++ map (offer_to node) plan.queue.items → after ++ offers_from (node + 1) (drop (node + 1) plans) ≡ all
-offers-next plans node plan before after all within is listed more =
-    let from : drop node plans ≡ plan ∷ drop (node + 1) plans = drop_more plans node plan within ∙ ap (λ (p : PortPlan). p ∷ drop (node + 1) plans) (sym is) in
-    ap (λ os. os ++ offers_from (node + 1) (drop (node + 1) plans)) more
-    ∙ append_assoc before (map (offer_to node) plan.queue.items) (offers_from (node + 1) (drop (node + 1) plans))
-    ∙ sym (ap (λ ps. before ++ offers_from node ps) from) ∙ listed
-
-pub offers-all : (plans : List PortPlan) (node : ℕ) (offers all : List Offer) → length plans ≤ node → offers ++ offers_from node (drop node plans) ≡ all → offers ≡ all
-offers-all plans node offers all past listed = sym (append-nil offers) ∙ sym (ap (λ ps. offers ++ offers_from node ps) (drop_all node plans past)) ∙ listed

@@ -1,14 +1,14 @@
 -- The ports of a scenario as they are made, and the levels that are recorded.
 use Rattle.std.specs.List.{slice_get}
 use Rattle.std.proofs.Common.{◌≡◌, ◌≢◌, ℕ, zero, suc, refl, ◌+◌, ◌<◌, ◌≤◌, Some, List, [], ◌∷◌, ◌++◌, length, map, get_or, set, take, drop, sym, ap, ◌∙◌, arith, length-take}
-use Rattle.std.proofs.lemmas.List.{append-nil, drop_all, nil_from_length, get_or-take, length-map, map_more, map_push, take_all, take_more}
+use Rattle.std.proofs.lemmas.List.{nil_from_length, get_or-take, length-map, map_more, map_push, take_all, take_more}
 use Rattle.std.proofs.lemmas.Option.{slice_get-get_or, get_or_from_slice_get}
 use Rattle.can_frame.specs.declared.level.Level.{Level}
 use Rattle.can_frame.specs.declared.level.Level.TheVariants.{Recessive}
 use Rattle.can_wire.specs.declared.checked_bits.CheckedBits.{CheckedBits}
 use Rattle.can_wire.specs.contracts.checked_bits.CheckedBitsFrameBits.TheImpl as checked_bits
 use Rattle.can_node.specs.declared.node.Node.{Node}
-use Rattle.can_node.specs.Ports.{PortState, IsPort}
+use Rattle.can_node.specs.Ports.{PortState}
 use Rattle.can_node.specs.Tournament.{frames_in}
 use Rattle.can_hit.specs.declared.hit.Hit.{Hit}
 use Rattle.can_bus.specs.declared.offer.Offer.{Offer}
@@ -22,10 +22,6 @@ use Rattle.can_scenario_text.specs.declared.scenario.Scenario.{Scenario}
 -- what a contract sees of a port with memory of its own
 abbrev pub node_port : Node CheckedBits checked_bits.ghosts → PortState
 node_port n = record { mac = n.mac; queue = frames_in n.queue.slots.items; queue_room = n.queue.room; log = n.log.entries.items; log_room = n.log.room; missed = n.log.missed }
-
--- it is a port
-pub node-valid : (n : Node CheckedBits checked_bits.ghosts) → IsPort (node_port n)
-node-valid n = record { mac = n.kept; queued = n.queue.are_frames; logged = n.log.are_frames; queue_fits = n.queue.fits; log_fits = n.log.fits; missed_fits = n.log.counted }
 
 -- one port more is made
 pub made-next : {N : Type 0} (port : N → PortState) (nodes : List N) (plans : List PortPlan) (n : ℕ) (node : N) (plan : PortPlan) → n < length plans →
@@ -72,12 +68,6 @@ waits-not port (x ∷ nodes) (p ∷ plans) (suc i) d plan h before is =
     let whole : port x ∷ map port nodes ≡ waiting_port p ∷ partly_waiting i plans = before in
     let rest : map port nodes ≡ partly_waiting i plans = cc in
     waits-not port nodes plans i d plan (omega arith) rest is
-
--- at the end all wait
-pub waits-all : (i : ℕ) (plans : List PortPlan) → length plans ≤ i → partly_waiting i plans ≡ map waiting_port plans
-waits-all i plans past =
-    ap (λ ps. map waiting_port ps ++ map made_port (drop i plans)) (take_all i plans past) ∙ ap (λ ps. map waiting_port plans ++ map made_port ps) (drop_all i plans past)
-    ∙ append-nil (map waiting_port plans)
 
 -- levels that are known one by one
 pub levels_until-is : (level : ℕ → Level) (n : ℕ) (levels : List Level) → length levels ≡ n → ((t : ℕ) → t < n → slice_get levels t ≡ Some (level t)) → levels ≡ levels_until level n

@@ -27,13 +27,6 @@ pub record IsReading (list : HitList) (ports : ℕ) (ds : List Data) (start : Li
   pub met : AllMet (hit_demands list ports place before rest) → AllMet (hit_demands list ports 0 None ds)
   pub unmet : (wrong : Field) → IsFirstUnmet wrong (hit_demands list ports place before rest) → IsFirstUnmet wrong (hit_demands list ports 0 None ds)
 
-pub IsReading-none : (list : HitList) (ports : ℕ) (ds : List Data) (start : List Hit) → IsReading list ports ds start 0 None ds start
-IsReading-none list ports ds start = record {
-  said = λ more said. record { added = more; said = said; all = refl };
-  met = λ met. met;
-  unmet = λ wrong unmet. unmet;
-}
-
 pub IsReading-more : (list : HitList) (ports : ℕ) (ds : List Data) (start : List Hit) (place : ℕ) (before : Option Hit) (d : Data) (rest : List Data) (hits : List Hit) (next : Hit) →
     IsReading list ports ds start place before (d ∷ rest) hits → hit_in list d ≡ Some next → IsSoundHit ports before (Some next) →
     IsReading list ports ds start (place + 1) (Some next) rest (hits ++ next ∷ [])

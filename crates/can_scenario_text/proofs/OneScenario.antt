@@ -14,7 +14,7 @@ use Rattle.can_stream.specs.declared.field.HitList.{HitList}
 use Rattle.can_stream.specs.declared.field.HitList.TheVariants.{At, In, View}
 use Rattle.can_toml.specs.Demands.{IsFirstUnmet}
 use Rattle.can_toml.specs.Values.{SaysFrame, elements_in, named}
-use Rattle.can_scenario_text.specs.Scenarios.{SaysTimedFrame, SaysQueueElement, version_of, SaysHit, SaysPort, SaysHits, SaysScenario, IsScenarioText, IsFirstWrong, AreSamePorts, AreSame, ports_in, scenario_demands}
+use Rattle.can_scenario_text.specs.Scenarios.{SaysTimedFrame, SaysQueueElement, version_of, SaysHit, SaysPort, SaysHits, SaysScenario, IsScenarioText, IsWrongScenarioField, AreSamePorts, AreSame, ports_in, scenario_demands}
 use Rattle.can_toml.proofs.DemandLemmas.{met-unmet, one-unmet}
 use Rattle.can_toml.proofs.OneReading.{one-document, required-number, said-number, said-whether, said-frame, paired-each, one-list}
 
@@ -74,12 +74,12 @@ pub one-scenario : (bytes : List ℕ) (s t : Scenario) → IsScenarioText bytes 
 one-scenario bytes s t a b = says-one a.0 s t a.2 (subst (λ d. SaysScenario d t) (one-document bytes b.0 a.0 b.1 a.1) b.2)
 
 -- bytes that say a scenario have no field that is told
-pub no-wrong : (bytes : List ℕ) (s : Scenario) (wrong : Field) → IsScenarioText bytes s → IsFirstWrong wrong bytes → ⊥
+pub no-wrong : (bytes : List ℕ) (s : Scenario) (wrong : Field) → IsScenarioText bytes s → IsWrongScenarioField wrong bytes → ⊥
 no-wrong bytes s wrong a (inl none) = none.1 (a.0, a.1)
 no-wrong bytes s wrong a (inr b) = met-unmet wrong (scenario_demands a.0) a.2.met (subst (λ d. IsFirstUnmet wrong (scenario_demands d)) (one-document bytes b.0 a.0 b.1 a.1) b.2)
 
 -- others have one
-pub one-wrong : (bytes : List ℕ) (wrong other : Field) → IsFirstWrong wrong bytes → IsFirstWrong other bytes → wrong ≡ other
+pub one-wrong : (bytes : List ℕ) (wrong other : Field) → IsWrongScenarioField wrong bytes → IsWrongScenarioField other bytes → wrong ≡ other
 one-wrong bytes wrong other (inl a) (inl b) = a.0 ∙ sym b.0
 one-wrong bytes wrong other (inl a) (inr b) = absurd (a.1 (b.0, b.1))
 one-wrong bytes wrong other (inr a) (inl b) = absurd (b.1 (a.0, a.1))

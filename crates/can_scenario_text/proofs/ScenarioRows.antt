@@ -10,7 +10,7 @@ use Rattle.can_stream.specs.declared.field.Field.TheVariants as field
 use Rattle.can_stream.specs.declared.field.PortField.TheVariants as of_port
 use Rattle.can_toml.specs.Demands.{AllMet, IsFirstUnmet}
 use Rattle.can_toml.specs.Values.{IsDocument, members_in}
-use Rattle.can_scenario_text.specs.Scenarios.{IsFirstWrong, IsTimedFrameValue, scenario_demands}
+use Rattle.can_scenario_text.specs.Scenarios.{IsWrongScenarioField, IsTimedFrameValue, scenario_demands}
 
 -- a document of one port
 abbrev one_port : List ℕ
@@ -40,7 +40,7 @@ no_port-parsed : parse_document no_port ≡ Some (member (codes "bits") (integer
 unfolding toml_on_literals
 no_port-parsed = refl
 
-no_port-wrong : IsFirstWrong field.Ports no_port
+no_port-wrong : IsWrongScenarioField field.Ports no_port
 no_port-wrong =
     inr (no_port_data, record { utf8 = search rules; members = _; parsed = no_port-parsed; is_table = refl }, inr (refl, inr (refl, inr ((5, refl, omega arith), inl (refl, λ none. none)))))
 
@@ -49,7 +49,7 @@ speed-parsed : parse_document (codes "speed = 1\n") ≡ Some (member (codes "spe
 unfolding toml_on_literals
 speed-parsed = refl
 
-speed-wrong : IsFirstWrong field.Unknown (codes "speed = 1\n")
+speed-wrong : IsWrongScenarioField field.Unknown (codes "speed = 1\n")
 speed-wrong =
     inr (table (member (codes "speed") (integer (pos 1)) no_members), record { utf8 = search rules; members = _; parsed = speed-parsed; is_table = refl }, inl (refl, false≢true))
 

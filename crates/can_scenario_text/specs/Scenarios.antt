@@ -2,7 +2,8 @@
 -- (docs/FORMATS.md, "`canbit run`")
 use Rattle.std.specs.Prelude.{◌≡◌, ◌⊎◌, ℕ, ◌+◌, ◌==◌, ◌≤◌, pos, true, if◌then◌else◌, List, [], ◌∷◌, ◌++◌, length, Option, Some, None, IsSome, unwrap_or, codes}
 use Rattle.toml.specs.Data.{Data, integer, array, no_items, item}
-use Rattle.can_toml.specs.Demands.{Demands, no_demands, demand, followed, demands_on_each, AllMet, IsFirstUnmet}
+use Rattle.can_toml.specs.Demands.{Demands, no_demands, demand, followed, demands_on_each, AllMet}
+use Rattle.can_toml.specs.Refusals.{IsWrongField}
 use Rattle.can_toml.specs.Values.{are_known, elements, elements_in, members_in, named, two, ArePaired, IsArray, IsDocument, IsFrameValue, IsNumber, IsOptional, IsRequired, IsTable, IsTruthValue, IsUpTo, SaysFrame, SaysNumber, SaysWhether}
 use Rattle.can_hit.specs.declared.hit.Hit.{Hit}
 use Rattle.can_hit.specs.declared.hit.Hit.TheVariants as hit
@@ -223,17 +224,11 @@ pub record SaysScenario (document : Data) (s : Scenario) : Type 0 where
 abbrev pub IsScenarioText : List ℕ → Scenario → Type 0
 IsScenarioText bytes s = (document : Data) × IsDocument bytes document × SaysScenario document s
 
--- the bytes are no document, which is told by this field
-abbrev pub TellsDocument : Field → List ℕ → Type 0
-TellsDocument wrong bytes = (wrong ≡ field.Document) × ¬ ((document : Data) × IsDocument bytes document)
-
--- the field that is told of bytes that say no scenario: they are no document, or it is the first that isn't met
-abbrev pub IsFirstWrong : Field → List ℕ → Type 0
-IsFirstWrong wrong bytes =
-    TellsDocument wrong bytes
-    ⊎ ((document : Data) × IsDocument bytes document × IsFirstUnmet wrong (scenario_demands document))
-
 -- ---- refusals
+
+-- the field that is told of bytes that say no scenario
+abbrev pub IsWrongScenarioField : Field → List ℕ → Type 0
+IsWrongScenarioField wrong bytes = IsWrongField field.Document scenario_demands wrong bytes
 
 -- a field of the document is wrong, or memory ran out
 abbrev pub IsFieldOrMemory : TraceFault → Type 0

@@ -47,7 +47,7 @@ pub struct PortPlan {
 impl Scenario {
     ghost use Rattle.std.specs.Prelude.{◌≡◌, IfErr, IfOk, IsErrOf};
     ghost use Rattle.can_stream.specs.declared.field.Field.{Field as Wrong};
-    ghost use Rattle.can_scenario_text.specs.Scenarios.{IsFieldOrMemory, IsFirstWrong, IsScenarioText};
+    ghost use Rattle.can_scenario_text.specs.Scenarios.{IsFieldOrMemory, IsWrongScenarioField, IsScenarioText};
 
     /// The scenario that a TOML document says: `version`, 1 or 2; `bits`, 0 to 1000000; `port`, an
     /// array of 1 to 64 tables; and in version 1 `at`, `in` and `view`, the disturbances, each list strictly
@@ -62,7 +62,7 @@ impl Scenario {
     /// says that memory ran out. The scenario holds all memory that it needs.
     pub fn from_text(alloc: Global, text: &[u8]) -> Result<Scenario, TraceFault>
         ensures found { IfOk result (IsScenarioText text.now) }
-        ensures wrong { (wrong : Wrong) → IsErrOf result (TraceFault.ScenarioField wrong) → IsFirstWrong wrong text.now }
+        ensures wrong { (wrong : Wrong) → IsErrOf result (TraceFault.ScenarioField wrong) → IsWrongScenarioField wrong text.now }
         ensures other { IfErr result IsFieldOrMemory }
     {
         let document = document::parse(alloc, text)?;

@@ -53,10 +53,6 @@ PutsPart-none held old text = record {
   whole = refl;
 }
 
--- all has
-pub PutsPart-all : (held holds : Option (List ℕ)) (old new text : List ℕ) → PutsPart held holds old new text [] → PassesOn held holds old new text
-PutsPart-all held holds old new text part = subst (PassesOn held holds old new) (sym (append-nil part.done) ∙ part.whole) part.passes
-
 module _ (held mid holds : Option (List ℕ)) (old between text left : List ℕ) (part : PutsPart held mid old between text left) where
   -- one part more
   pub PutsPart-more : (new piece rest : List ℕ) → left ≡ piece ++ rest → PassesOn mid holds between new piece → PutsPart held holds old new text rest

@@ -1,7 +1,6 @@
 -- What waits is written before each read.
 use Rattle.std.proofs.Common.{◌≡◌, ℕ, ◌++◌, Bool, true, false, List, [], Option, refl, sym, ap, subst, ◌∙◌, append_assoc, append-nil}
 use Rattle.std.proofs.KnownBytes.{Appends-nil}
-use Rattle.std.specs.Io.KnownBytes.{Appends}
 use Rattle.can_stream.specs.Faults.{is_write}
 use Rattle.can_stream.specs.Inbox.{StopsReading}
 use Rattle.can_stream.specs.Outbox.{Flushes, PassesOn, TakesFront}
@@ -14,10 +13,6 @@ use Rattle.can_stream.proofs.PutParts.{PassesOn-joined, TakesFront-joined}
 -- nothing was written
 pub PassesOn-none : (held : Option (List ℕ)) (waiting : List ℕ) → PassesOn held held waiting waiting []
 PassesOn-none held waiting = record { taken = []; appends = Appends-nil held; same = append-nil waiting }
-
--- all was
-pub PassesOn-all : (held holds : Option (List ℕ)) (waiting waiting_now : List ℕ) → Appends held holds waiting → waiting_now ≡ [] → PassesOn held holds waiting waiting_now []
-PassesOn-all held holds waiting waiting_now appends none = record { taken = waiting; appends = appends; same = ap (λ t. waiting ++ t) (sym none) }
 
 -- first some of it, and then more, or the writer failed
 pub Flushes-joined : (failed : Bool) (held mid holds : Option (List ℕ)) (old between new : List ℕ) → PassesOn held mid old between [] → Flushes failed mid holds between new → Flushes failed held holds old new

@@ -12,7 +12,7 @@ pub enum TraceFault {
     /// A byte stands where a level's digit should. Bytes of the input are counted from 0.
     #[error("P1 byte {place}")]
     BadByte { place: u64 },
-    /// A document, a scenario's or the conformance kit's, is refused for this field.
+    /// A scenario is refused for this field.
     #[error("P2 {0}")]
     ScenarioField(Field),
     /// The reader failed.

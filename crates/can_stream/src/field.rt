@@ -1,9 +1,7 @@
-//! The fields of a document, as a refusal names them.
-use crate::kit_field::KitField;
+//! The fields of a scenario, as a refusal names them.
 use thiserror::Error;
 
-/// What is wrong in a scenario: the document, or one of its fields; or in a kit document. Ports and elements are counted
-/// from 0.
+/// What is wrong in a scenario: the document, or one of its fields. Ports and elements are counted from 0.
 #[derive(Clone, Copy, Debug, PartialEq, Eq, Error)]
 pub enum Field {
     /// The bytes are no UTF-8, or no TOML document.
@@ -30,9 +28,6 @@ pub enum Field {
     /// An element of such a list.
     #[error("{list}[{place}]")]
     Hit { list: HitList, place: usize },
-    /// A field of a document of the conformance kit.
-    #[error("{0}")]
-    Kit(KitField),
 }
 
 /// What is wrong in a port's table.

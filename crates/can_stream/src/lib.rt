@@ -18,7 +18,6 @@
 //! | `pieces.rt` | readers and writers that give and take in pieces, to test streams with | |
 //! | `fault.rt` | [`TraceFault`], why an answer is not whole | `specs/Faults.antt` |
 //! | `field.rt` | [`Field`], what is wrong in a scenario | |
-//! | `kit_field.rt` | [`KitField`], what is wrong in a document of the conformance kit | |
 //!
 //! Crates above find lemmas in `proofs/`: how a text falls into lines (`LineLemmas`), how one is read
 //! (`Reading`), how a line is put together (`LineParts`) and a text in parts (`PutParts`), what is written
@@ -29,7 +28,6 @@ mod digits;
 mod fault;
 mod field;
 mod inbox;
-mod kit_field;
 pub mod line;
 mod lines;
 mod outbox;
@@ -42,7 +40,6 @@ pub use digits::{digit, write_digits};
 pub use fault::TraceFault;
 pub use field::{Field, HitList, PortField};
 pub use inbox::Inbox;
-pub use kit_field::{CaseField, KitField, TranscriptField};
 pub use lines::LineReader;
 pub use outbox::{OUTBOX_ROOM, Outbox, write_all};
 pub use sink::{Sink, ToWrite};

@@ -1,8 +1,7 @@
 //! Streams as the crates above use them, over readers and writers of pieces.
 use can_frame::{Level, TextFault, TextFaultKind};
 use can_stream::{
-    CaseField, Field, FromRead, HitList, KitField, PortField, Sink, Source, ToWrite, TraceFault,
-    TranscriptField, digit, write_digits,
+    Field, FromRead, HitList, PortField, Sink, Source, ToWrite, TraceFault, digit, write_digits,
 };
 use std::alloc::Global;
 use std::io;
@@ -27,20 +26,6 @@ const PRINTED: &[(TraceFault, &str)] = &[
             place: 2,
         }),
         "P2 view[2]",
-    ),
-    (
-        TraceFault::ScenarioField(Field::Kit(KitField::Case {
-            number: 3,
-            part: CaseField::Levels(1),
-        })),
-        "P2 case[3].tester[1]",
-    ),
-    (
-        TraceFault::ScenarioField(Field::Kit(KitField::Transcript {
-            number: 0,
-            part: TranscriptField::Event(12),
-        })),
-        "P2 transcript[0].events[12]",
     ),
     (TraceFault::Read, "P3 read"),
     (TraceFault::Write, "P4 write"),

@@ -4,11 +4,6 @@ use Rattle.toml.specs.Data.{Data, Items, array, item, no_items}
 use Rattle.toml.specs.View.{view}
 use Rattle.toml.specs.declared.value.Value.{Value}
 use Rattle.can_toml.specs.Values.{IsArray, elements, elements_of, three, two}
-use Rattle.std.proofs.lemmas.List.{length-map}
-
--- such an array has two elements
-pub two-elements : (values : List Value) (d a b : Data) → map view values ≡ elements d → d ≡ two a b → length values ≡ 2
-two-elements values d a b are is = sym (length-map values view) ∙ ap length are ∙ ap (λ (e : Data). length (elements e)) is
 
 -- an array is told by its elements
 same-items : (xs ys : Items) → elements_of xs ≡ elements_of ys → xs ≡ ys
@@ -48,14 +43,6 @@ three-values values d x y z is are size first second third =
     let listed : elements_of is.0 ≡ view x ∷ view y ∷ view z ∷ [] = sym (are ∙ ap elements is.1) ∙ three-view values x y z size first second third in
     is.1 ∙ ap array (same-items is.0 (item (view x) (item (view y) (item (view z) no_items))) listed)
 
--- such an array has three elements
-pub three-elements : (values : List Value) (d a b c : Data) → map view values ≡ elements d → d ≡ three a b c → length values ≡ 3
-three-elements values d a b c are is = sym (length-map values view) ∙ ap length are ∙ ap (λ (e : Data). length (elements e)) is
-
 -- the values of such arrays are their own
 pub same-three : (a b c x y z : Data) → three a b c ≡ three x y z → (a ≡ x) × (b ≡ y) × (c ≡ z)
 same-three a b c x y z e = (cc, cc, cc)
-
--- the values of an array of two are its own
-pub same-two : (a b x y : Data) → two a b ≡ two x y → (a ≡ x) × (b ≡ y)
-same-two a b x y e = (cc, cc)

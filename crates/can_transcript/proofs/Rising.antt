@@ -8,7 +8,7 @@ use Rattle.std.proofs.lemmas.Option.{get_or_from_slice_get, slice_get_within}
 use Rattle.toml.specs.Data.{Data}
 use Rattle.can_conform.specs.declared.timed.Timed.{Timed}
 use Rattle.can_conform.specs.Transcripts.{AreRising, EndBefore}
-use Rattle.can_stream.specs.declared.kit_field.KitField.{KitField}
+use Rattle.can_kit.specs.declared.field.KitField.{KitField}
 use Rattle.can_toml.specs.Demands.{AllMet, demands_on_each}
 use Rattle.can_toml.specs.Values.{elements, elements_in, ArePaired}
 use Rattle.can_kit.specs.Lists.{element_demands, elements_demands, time_in, IsInTime}

@@ -5,15 +5,15 @@ use Rattle.can_conform.specs.declared.timed.Timed.{Timed}
 use Rattle.can_conform.specs.declared.transcript.Counters.{Counters as CountersSaid}
 use Rattle.can_conform.specs.declared.transcript.Ending.{Ending}
 use Rattle.can_mac.specs.declared.event.Event.{Event}
-use Rattle.can_stream.specs.declared.kit_field.KitField.{KitField}
-use Rattle.can_stream.specs.declared.kit_field.TranscriptField.TheVariants as of_transcript
+use Rattle.can_kit.specs.declared.field.KitField.{KitField}
+use Rattle.can_kit.specs.declared.field.TranscriptField.TheVariants as of_transcript
 use Rattle.can_toml.specs.Demands.{AllMet, IsFirstUnmet}
 use Rattle.can_toml.specs.Values.{named, IsOptional}
 use Rattle.can_toml.proofs.DemandLemmas.{met-followed, unmet-first, unmet-later}
 use Rattle.can_kit.specs.Lists.{time_in}
 use Rattle.can_transcript.specs.declared.lists.TranscriptList.TheVariants.{Events, Counters}
 use Rattle.can_transcript.specs.Elements.{list_demands, SaysChange, SaysEnd, SaysEventAt}
-use Rattle.can_transcript.specs.Transcripts.{drove_demands, end_demands, telling_demands, told}
+use Rattle.can_transcript.specs.Transcripts.{drove_demands, end_demands, telling_demands, in_transcript}
 
 -- the time of an element is that of its value
 pub event-time : (d : Data) (event : Timed Event) → SaysEventAt d event → time_in d ≡ event.time
@@ -47,6 +47,6 @@ module _ (number : ℕ) (d : Data) where
       met-followed (drove_demands number d) _ drove (met-followed (list_demands Events SaysEventAt number d) _ events (met-followed (list_demands Counters SaysChange number d) _ counters end))
 
 -- an end that is there and says none isn't as it has to be
-pub end-none : (number : ℕ) (d value : Data) → named (codes "end") d ≡ Some value → ((end : Ending) → SaysEnd value end → ⊥) → IsFirstUnmet (told number of_transcript.End) (end_demands number d)
+pub end-none : (number : ℕ) (d value : Data) → named (codes "end") d ≡ Some value → ((end : Ending) → SaysEnd value end → ⊥) → IsFirstUnmet (in_transcript number of_transcript.End) (end_demands number d)
 end-none number d value is none =
     inl (refl, λ met. let end = subst (λ (field : Option Data). IsOptional (λ v. (e : Ending) × SaysEnd v e) field) is met in none end.0 end.1)

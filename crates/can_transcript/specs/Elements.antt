@@ -9,10 +9,10 @@ use Rattle.can_kit_text.specs.Words.{state_word, SaysEvent}
 use Rattle.can_toml.specs.Demands.{Demands, demand}
 use Rattle.can_toml.specs.Values.{elements_in, named, three, two, IsNumber, IsOptional}
 use Rattle.can_kit.specs.Lists.{elements_demands, IsArrayOf}
-use Rattle.can_stream.specs.declared.kit_field.KitField.{KitField}
-use Rattle.can_stream.specs.declared.kit_field.KitField.TheVariants as field
-use Rattle.can_stream.specs.declared.kit_field.TranscriptField.{TranscriptField}
-use Rattle.can_stream.specs.declared.kit_field.TranscriptField.TheVariants as of_transcript
+use Rattle.can_kit.specs.declared.field.KitField.{KitField}
+use Rattle.can_kit.specs.declared.field.KitField.TheVariants as field
+use Rattle.can_kit.specs.declared.field.TranscriptField.{TranscriptField}
+use Rattle.can_kit.specs.declared.field.TranscriptField.TheVariants as of_transcript
 use Rattle.can_transcript.specs.declared.lists.TranscriptList.{TranscriptList}
 use Rattle.can_transcript.specs.declared.lists.TranscriptList.TheVariants as list
 

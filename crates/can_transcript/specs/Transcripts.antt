@@ -6,10 +6,10 @@ use Rattle.toml.specs.Data.{Data, same_key}
 use Rattle.can_frame.specs.declared.level.Level.{Level}
 use Rattle.can_conform.specs.declared.transcript.Ending.{Ending}
 use Rattle.can_conform.specs.declared.transcript.Transcript.{Transcript}
-use Rattle.can_stream.specs.declared.kit_field.KitField.{KitField}
-use Rattle.can_stream.specs.declared.kit_field.KitField.TheVariants as field
-use Rattle.can_stream.specs.declared.kit_field.TranscriptField.{TranscriptField}
-use Rattle.can_stream.specs.declared.kit_field.TranscriptField.TheVariants as of_transcript
+use Rattle.can_kit.specs.declared.field.KitField.{KitField}
+use Rattle.can_kit.specs.declared.field.KitField.TheVariants as field
+use Rattle.can_kit.specs.declared.field.TranscriptField.{TranscriptField}
+use Rattle.can_kit.specs.declared.field.TranscriptField.TheVariants as of_transcript
 use Rattle.can_toml.specs.Demands.{Demands, no_demands, demand, followed, demands_on_each}
 use Rattle.can_toml.specs.Values.{are_known, elements, elements_in, members_in, named, ArePaired, IsNumber, IsOptional, IsRequired, IsTable}
 use Rattle.can_kit.specs.Cases.{name_of}
@@ -20,8 +20,8 @@ use Rattle.can_transcript.specs.declared.told.Told.{Told}
 use Rattle.can_transcript.specs.Elements.{list_demands, SaysChange, SaysEnd, SaysEventAt, SaysIfThere}
 
 -- something of the transcript of this number
-abbrev pub told : ℕ → TranscriptField → KitField
-told number part = field.Transcript number part
+abbrev pub in_transcript : ℕ → TranscriptField → KitField
+in_transcript number part = field.Transcript number part
 
 abbrev pub transcript_fields : List (List ℕ)
 transcript_fields = codes "version" ∷ codes "case" ∷ codes "drove" ∷ codes "events" ∷ codes "counters" ∷ codes "end" ∷ []
@@ -55,9 +55,9 @@ most_levels = 100000
 -- at most 4096 strings, which together say no more levels than that
 abbrev pub drove_demands : ℕ → Data → Demands KitField
 drove_demands number d =
-    demand (told number of_transcript.Drove) (IsRequired (IsArrayOf 0 4096) (named (codes "drove") d))
-    (followed (strings_demands (λ place. told number (of_transcript.Levels place)) (drove_of d))
-    (demand (told number of_transcript.Drove) ((levels : List Level) × SayStrings (drove_of d) levels × (length levels ≤ most_levels))
+    demand (in_transcript number of_transcript.Drove) (IsRequired (IsArrayOf 0 4096) (named (codes "drove") d))
+    (followed (strings_demands (λ place. in_transcript number (of_transcript.Levels place)) (drove_of d))
+    (demand (in_transcript number of_transcript.Drove) ((levels : List Level) × SayStrings (drove_of d) levels × (length levels ≤ most_levels))
     no_demands))
 
 -- ---- a transcript
@@ -65,14 +65,14 @@ drove_demands number d =
 -- what it has to tell first: its version, and one of these cases, which none of these transcripts is of
 abbrev pub naming_demands : List Data → List Data → ℕ → Data → Demands KitField
 naming_demands cases earlier number d =
-    demand (told number of_transcript.Unknown) (are_known transcript_fields (members_in d) ≡ true)
-    (demand (told number of_transcript.Version) (IsRequired (IsNumber 1) (named (codes "version") d))
-    (demand (told number of_transcript.Case) (IsRequired (IsText (IsUntold cases earlier)) (named (codes "case") d))
+    demand (in_transcript number of_transcript.Unknown) (are_known transcript_fields (members_in d) ≡ true)
+    (demand (in_transcript number of_transcript.Version) (IsRequired (IsNumber 1) (named (codes "version") d))
+    (demand (in_transcript number of_transcript.Case) (IsRequired (IsText (IsUntold cases earlier)) (named (codes "case") d))
     no_demands))
 
 -- the end, which may be left out
 abbrev pub end_demands : ℕ → Data → Demands KitField
-end_demands number d = demand (told number of_transcript.End) (IsOptional (λ value. (end : Ending) × SaysEnd value end) (named (codes "end") d)) no_demands
+end_demands number d = demand (in_transcript number of_transcript.End) (IsOptional (λ value. (end : Ending) × SaysEnd value end) (named (codes "end") d)) no_demands
 
 -- what it tells of the run of its case
 abbrev pub telling_demands : ℕ → Data → Demands KitField
@@ -85,7 +85,7 @@ telling_demands number d =
 -- a transcript's table, among these cases and behind these transcripts
 abbrev pub transcript_demands : List Data → List Data → ℕ → Data → Demands KitField
 transcript_demands cases earlier number d =
-    demand (told number of_transcript.Table) (IsTable d)
+    demand (in_transcript number of_transcript.Table) (IsTable d)
     (followed (naming_demands cases earlier number d)
     (telling_demands number d))
 

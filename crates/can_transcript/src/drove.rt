@@ -2,7 +2,7 @@
 ghost use Rattle.std.specs.Prelude.{◌≡◌, ◌≤◌, codes, length, map, IfNone, IfOk, IfSome, IsErrOf, OnOk, OnSome};
 ghost use Rattle.toml.specs.Data.{table};
 ghost use Rattle.toml.specs.View.{table_view, view};
-ghost use Rattle.can_stream.specs.declared.kit_field.KitField.{KitField as Wrong};
+ghost use Rattle.can_kit.specs.declared.field.KitField.{KitField as Wrong};
 ghost use Rattle.can_toml.specs.Demands.{AllMet, IsFirstUnmet};
 ghost use Rattle.can_toml.specs.Values.{named, IsRequired};
 ghost use Rattle.can_kit.specs.Lists.{IsArrayOf, SayStrings};
@@ -11,8 +11,7 @@ ghost use Rattle.can_transcript.specs.Transcripts.{drove_demands, drove_of, most
 use crate::fault::in_transcript;
 use crate::lists::array_of;
 use can_frame::Level;
-use can_kit::{ElementFault, KitFault, read_strings};
-use can_stream::TranscriptField;
+use can_kit::{ElementFault, KitFault, TranscriptField, read_strings};
 use can_toml::field;
 use std::alloc::Global;
 use toml::{Table, Value};

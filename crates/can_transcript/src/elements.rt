@@ -1,5 +1,5 @@
 //! Events, counters and the end of a transcript.
-ghost use Rattle.std.specs.Prelude.{◌≡◌, IfNone, IfSome, MatchOption};
+ghost use Rattle.std.specs.Prelude.{MatchOption};
 ghost use Rattle.toml.specs.View.{view};
 ghost use Rattle.can_conform.specs.declared.transcript.Counters.{Counters as CountersSaid};
 ghost use Rattle.can_conform.specs.declared.transcript.Ending.{Ending as EndingSaid};

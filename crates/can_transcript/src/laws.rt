@@ -1,7 +1,7 @@
 //! Laws of transcripts. Each is a function with no parameters and an empty body, whose contract is the law.
 ghost use Rattle.std.specs.Prelude.{◌≡◌, List};
 ghost use Rattle.toml.specs.Data.{Data};
-ghost use Rattle.can_stream.specs.declared.kit_field.KitField.{KitField as Wrong};
+ghost use Rattle.can_kit.specs.declared.field.KitField.{KitField as Wrong};
 ghost use Rattle.can_toml.specs.Demands.{AllMet, IsFirstUnmet};
 ghost use Rattle.can_transcript.specs.declared.told.Told.{Told as ToldSaid};
 ghost use Rattle.can_transcript.specs.Transcripts.{transcripts_demands, AreSame, SaysTranscript};

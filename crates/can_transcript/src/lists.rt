@@ -2,15 +2,14 @@
 ghost use Rattle.std.specs.Prelude.{◌≡◌, map, IfNone, IfOk, IfSome, IsErrOf, OnOk, OnSome};
 ghost use Rattle.toml.specs.Data.{table};
 ghost use Rattle.toml.specs.View.{table_view, view};
-ghost use Rattle.can_stream.specs.declared.kit_field.KitField.{KitField as Wrong};
+ghost use Rattle.can_kit.specs.declared.field.KitField.{KitField as Wrong};
 ghost use Rattle.can_toml.specs.Demands.{AllMet, IsFirstUnmet};
 ghost use Rattle.can_toml.specs.Values.{elements, named, ArePaired};
 ghost use Rattle.can_kit.specs.Lists.{IsArrayOf};
 ghost use Rattle.can_transcript.specs.Elements.{element_field, list_demands, list_field, list_name, SaysIfThere};
 
 use crate::fault::in_transcript;
-use can_kit::{Element, ElementFault, KitFault, read_elements};
-use can_stream::TranscriptField;
+use can_kit::{Element, ElementFault, KitFault, TranscriptField, read_elements};
 use can_toml::{elements_of, field};
 use std::alloc::Global;
 use toml::{Table, Value};

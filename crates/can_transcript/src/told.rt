@@ -3,7 +3,7 @@ ghost use Rattle.std.specs.Prelude.{◌≡◌, All, Some, codes, map, IfOk, IsEr
 ghost use Rattle.toml.specs.Data.{table};
 ghost use Rattle.toml.specs.View.{table_view, view};
 ghost use Rattle.can_conform.specs.Transcripts.{IsTold};
-ghost use Rattle.can_stream.specs.declared.kit_field.KitField.{KitField as Wrong};
+ghost use Rattle.can_kit.specs.declared.field.KitField.{KitField as Wrong};
 ghost use Rattle.can_toml.specs.Demands.{AllMet, IsFirstUnmet};
 ghost use Rattle.can_toml.specs.Values.{named, ArePaired, IsRequired};
 ghost use Rattle.can_kit.specs.Cases.{name_of};
@@ -17,8 +17,7 @@ use crate::fault::in_transcript;
 use crate::lists::{TranscriptList, read_list};
 use crate::naming::case_in;
 use can_conform::{Ending, Transcript};
-use can_kit::{KitFault, is_of_version_one};
-use can_stream::TranscriptField;
+use can_kit::{KitFault, TranscriptField, is_of_version_one};
 use can_toml::{field, fields_of, has_only};
 use std::alloc::Global;
 use toml::{Table, Value};

@@ -2,9 +2,8 @@
 use can_conform::{Counters, Ending, Timed};
 use can_fault::State;
 use can_frame::{Frame, Level};
-use can_kit::KitFault;
+use can_kit::{KitFault, KitField, TranscriptField};
 use can_mac::{ErrorKind, Event};
-use can_stream::{KitField, TranscriptField};
 use can_toml::{elements_or_none, read_document};
 use can_transcript::{Told, read_transcripts};
 use std::alloc::{AllocError, Global};

@@ -6,16 +6,15 @@ use Rattle.can_lines.specs.Checked.{ChecksAll}
 use Rattle.can_stream.specs.Told.{Told}
 use Rattle.can_stream.specs.declared.fault.TraceFault.{TraceFault}
 use Rattle.can_stream.specs.declared.fault.TraceFault.TheVariants.{BadByte, ScenarioField, Read, Write, Memory, Long, FrameLine}
-use Rattle.can_program.specs.declared.fault.RunFault.TheVariants.{Stream}
 use Rattle.canbit_words.specs.declared.subcommands.Chosen.{Chosen}
 use Rattle.canbit_words.specs.declared.subcommands.Chosen.TheVariants.{Run, Check}
 use Rattle.canbit_commands.specs.Answers.{AnswersAll, AnswersEnded, AnswersTooLong, BeginsAnswering, HasBadByte, HasBadLine, HasWrongField, PassesAll, RefusesInput}
 use Rattle.canbit_commands.specs.Ends.{Ends}
-use Rattle.can_program.specs.Status.{status_of}
+use Rattle.can_program.specs.Status.{stream_status}
 
 -- ---- the statuses of a stream's faults
 
-not-done : (fault : TraceFault) → status_of (Stream fault) ≡ 0 → ⊥
+not-done : (fault : TraceFault) → stream_status fault ≡ 0 → ⊥
 not-done (BadByte place) is = omega arith
 not-done (ScenarioField wrong) is = omega arith
 not-done Read is = omega arith
@@ -24,7 +23,7 @@ not-done Memory is = omega arith
 not-done Long is = omega arith
 not-done (FrameLine number fault) is = omega arith
 
-of-stream : (fault : TraceFault) → status_of (Stream fault) ≡ 3 → (fault ≡ Read) ⊎ (fault ≡ Write)
+of-stream : (fault : TraceFault) → stream_status fault ≡ 3 → (fault ≡ Read) ⊎ (fault ≡ Write)
 of-stream (BadByte place) is = absurd (omega arith)
 of-stream (ScenarioField wrong) is = absurd (omega arith)
 of-stream Read is = inl refl
@@ -33,7 +32,7 @@ of-stream Memory is = absurd (omega arith)
 of-stream Long is = absurd (omega arith)
 of-stream (FrameLine number fault) is = absurd (omega arith)
 
-of-memory : (fault : TraceFault) → status_of (Stream fault) ≡ 4 → fault ≡ Memory
+of-memory : (fault : TraceFault) → stream_status fault ≡ 4 → fault ≡ Memory
 of-memory (BadByte place) is = absurd (omega arith)
 of-memory (ScenarioField wrong) is = absurd (omega arith)
 of-memory Read is = absurd (omega arith)
@@ -42,7 +41,7 @@ of-memory Memory is = refl
 of-memory Long is = absurd (omega arith)
 of-memory (FrameLine number fault) is = absurd (omega arith)
 
-limits : (fault : TraceFault) → (status_of (Stream fault) < 5) × (status_of (Stream fault) ≢ 2)
+limits : (fault : TraceFault) → (stream_status fault < 5) × (stream_status fault ≢ 2)
 limits (BadByte place) = (omega arith, λ is. omega arith)
 limits (ScenarioField wrong) = (omega arith, λ is. omega arith)
 limits Read = (omega arith, λ is. omega arith)
@@ -94,7 +93,7 @@ module _ {R W : Type 0} (remaining : R → Option (List ℕ)) (before after : R)
   }
 
   -- a fault with status 1 is that of a refused input
-  pub refused : (chosen : Chosen) (reader_ended : Bool) (fault : TraceFault) → status_of (Stream fault) ≡ 1
+  pub refused : (chosen : Chosen) (reader_ended : Bool) (fault : TraceFault) → stream_status fault ≡ 1
       → ((place : ℕ) → fault ≡ BadByte place → Says (HasBadByte chosen place))
       → (fault ≡ Long → Says (AnswersTooLong chosen))
       → ((number : ℕ) (text_fault : _) → fault ≡ FrameLine number text_fault → Says (HasBadLine chosen number reader_ended))
@@ -166,7 +165,7 @@ module _ {R W : Type 0} (remaining : R → Option (List ℕ)) (before after : R)
     read-if-uncut fault write uncut (inr is) = absurd (let cut : is_cut ≡ true = write is in cc)
 
     by-cause : (chosen : Chosen) (fault : TraceFault) → ((place : ℕ) → fault ≡ BadByte place → Says (HasBadByte chosen place)) → Cause fault
-        → (status_of (Stream fault) ≡ 3) ⊎ ((status_of (Stream fault) ≡ 1) × ((place : ℕ) × Says (HasBadByte chosen place)))
+        → (stream_status fault ≡ 3) ⊎ ((stream_status fault ≡ 1) × ((place : ℕ) × Says (HasBadByte chosen place)))
     by-cause chosen fault byte (inl is) = inl (rw is refl)
     by-cause chosen fault byte (inr (inl is)) = inl (rw is refl)
     by-cause chosen fault byte (inr (inr at)) = inr (rw at.1 refl, (at.0, byte at.0 at.1))
@@ -183,7 +182,7 @@ module _ {R W : Type 0} (remaining : R → Option (List ℕ)) (before after : R)
         → (fault ≡ Write → IsTrue is_cut) → (IsTrue is_cut → fault ≡ Write)
         → (IsTrue has_failed → Cause fault)
         → (fault ≡ Memory → (chosen ≡ Run) × (holds ≡ held))
-        → Ended chosen (status_of (Stream fault))
+        → Ended chosen (stream_status fault)
     faulted chosen fault byte long line field read write read_failed write_failed failed_write cause memory = record {
       all_done = λ is. absurd (not-done fault is);
       all_read = λ is. absurd (not-done fault is);

@@ -5,7 +5,7 @@ use Rattle.std.specs.Prelude.{◌↔◌, IfErr}
 use Rattle.std.specs.Io.KnownBytes.{Appends, Consumes, IsAtEnd}
 use Rattle.can_stream.specs.Outbox.{TakesFront}
 use Rattle.can_scenario.specs.Report.{report}
-use Rattle.can_scenario_text.specs.Scenarios.{IsFieldOrMemory, IsFirstWrong, IsScenarioText}
+use Rattle.can_scenario_text.specs.Scenarios.{IsFieldOrMemory, IsWrongScenarioField, IsScenarioText}
 use Rattle.can_scenario_text.specs.declared.scenario.Scenario.{Scenario}
 use Rattle.can_stream.specs.Told.{Told}
 use Rattle.can_stream.specs.declared.fault.TraceFault.{TraceFault}
@@ -72,11 +72,11 @@ module _ {R W : Type 0} (remaining : R → Option (List ℕ)) (before after : R)
 
     module _ {T : Type 0} (whole : T) (failed : IsErrOf {T = T} (Ok whole) Read ↔ IsTrue has_failed) (read text : List ℕ) (consumes : Consumes (remaining before) (remaining after) read) (same : text ≡ read) (ended : IsTrue has_ended) where
       -- what was read says no scenario, or there was no memory for it
-      pub unsaid : {S : Type 0} (fault : TraceFault) → IsFieldOrMemory fault → ((wrong : Field) → IsErrOf {T = S} (Err fault) (ScenarioField wrong) → IsFirstWrong wrong text)
+      pub unsaid : {S : Type 0} (fault : TraceFault) → IsFieldOrMemory fault → ((wrong : Field) → IsErrOf {T = S} (Err fault) (ScenarioField wrong) → IsWrongScenarioField wrong text)
           → is_cut ≡ false → holds ≡ held → Outcome (Err fault)
       unsaid fault (inl is) first uncut kept = record {
         ok = tt;
-        field = λ wrong e. silent (RefusesScenario wrong) read consumes kept (subst (IsFirstWrong wrong) same (first wrong (let h : Err fault ≡ Err (ScenarioField wrong) = e in cc)), refl);
+        field = λ wrong e. silent (RefusesScenario wrong) read consumes kept (subst (IsWrongScenarioField wrong) same (first wrong (let h : Err fault ≡ Err (ScenarioField wrong) = e in cc)), refl);
         read = λ e. let h : fault ≡ ScenarioField is.0 = is.1 in cc;
         write = λ e. let h : fault ≡ ScenarioField is.0 = is.1 in cc;
         memory = λ e. kept;

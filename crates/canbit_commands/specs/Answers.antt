@@ -4,7 +4,7 @@ use Rattle.can_lines.specs.Checked.{BeginsChecking, ChecksAll, ChecksEnded, Chec
 use Rattle.can_lines.specs.Coded.{BeginsEncoding, EncodesAll, EncodesEnded, EncodesTooLong, IsFirstBadLine}
 use Rattle.can_decode.specs.Decoded.{BeginsDecoding, DecodesAll, DecodesSoFar, DecodesToBadByte, DecodesTooLong}
 use Rattle.can_scenario.specs.Report.{report}
-use Rattle.can_scenario_text.specs.Scenarios.{IsFirstWrong, IsScenarioText}
+use Rattle.can_scenario_text.specs.Scenarios.{IsWrongScenarioField, IsScenarioText}
 use Rattle.can_scenario_text.specs.declared.scenario.Scenario.{Scenario}
 use Rattle.can_stream.specs.declared.field.Field.{Field}
 use Rattle.canbit_words.specs.declared.subcommands.Chosen.{Chosen}
@@ -32,7 +32,7 @@ WritesNothing input output = output ≡ []
 
 -- the input says no scenario, for which this field is told, and nothing is written
 abbrev pub RefusesScenario : Field → List ℕ → List ℕ → Type 0
-RefusesScenario wrong input output = IsFirstWrong wrong input × WritesNothing input output
+RefusesScenario wrong input output = IsWrongScenarioField wrong input × WritesNothing input output
 
 -- all is done
 abbrev pub AnswersAll : Chosen → List ℕ → List ℕ → Type 0

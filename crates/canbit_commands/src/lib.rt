@@ -4,12 +4,15 @@
 //! | File | What it has | Defined in |
 //! |---|---|---|
 //! | `program.rt` | [`execute`], what the words ask for is done: for each status what was read and written; [`NAME`] | `specs/Answers.antt` |
+//! | `fault.rt` | [`CanbitFault`], why a subcommand did not do all that it was asked | `specs/Status.antt` |
 //! | `run.rt` | a scenario is read and run, and its report written | `specs/Answers.antt`, `specs/Ends.antt` |
 //!
 //! Which subcommand the words of the command line name is told by the crate `canbit_words`.
 #![tactic(auto)]
 
+mod fault;
 mod program;
 mod run;
 
+pub use fault::CanbitFault;
 pub use program::{NAME, execute};

@@ -4,14 +4,16 @@ ghost use Rattle.std.specs.Io.KnownBytes.{Appends, IsAtEnd};
 ghost use Rattle.can_stream.specs.Told.{Told};
 ghost use Rattle.canbit_commands.specs.Answers.{AnswersAll, AnswersEnded, BeginsAnswering, HasBadByte, RefusesInput};
 ghost use Rattle.canbit_commands.specs.Ends.{Ends};
+ghost use Rattle.canbit_commands.specs.Status.{fault_status};
 ghost use Rattle.can_program.specs.Status.{exit_status};
 ghost use Rattle.canbit_words.specs.Subcommands.{name_of};
 ghost use Rattle.canbit_words.specs.Words.{AsksFor, AsksForHelp, AsksForOne, IsMisuse, texts_of};
 
+use crate::fault::CanbitFault;
 use crate::run::run;
 use can_decode::decode_stream;
 use can_lines::{check_lines, encode_lines};
-use can_program::{RunFault, conclude, refuse, write_help};
+use can_program::{WordsFault, conclude, refuse, write_help};
 use can_stream::{Sink, Source};
 use canbit_words::{Chosen, WordFault, chosen};
 use std::alloc::Global;
@@ -83,8 +85,8 @@ pub fn execute<R: Source, W: Sink, E: Sink>(
     match chosen(alloc, words) {
         Ok(chosen) => conclude(NAME, answer(alloc, chosen, r, w), e),
         Err(WordFault::Help(text)) => conclude(NAME, write_help(text.as_str(), w), e),
-        Err(WordFault::Usage) => refuse(NAME, RunFault::Usage, e),
-        Err(WordFault::Memory) => refuse(NAME, RunFault::Memory, e),
+        Err(WordFault::Usage) => refuse(NAME, WordsFault::Usage, e),
+        Err(WordFault::Memory) => refuse(NAME, WordsFault::Memory, e),
     }
 }
 
@@ -94,11 +96,11 @@ fn answer<R: Source, W: Sink>(
     chosen: Chosen,
     r: &mut R,
     w: &mut W,
-) -> Result<(), RunFault>
+) -> Result<(), CanbitFault>
     requires reader_unfailed { R.has_failed r.old ≡ false }
     requires reader_unended { R.has_ended r.old ≡ false }
     requires writer_unfailed { W.has_failed w.old ≡ false }
-    ensures { Ends R.remaining r.old r.new W.contents w.old w.new (R.has_ended r.new) (R.has_failed r.new) (W.has_failed w.new) chosen (exit_status result) }
+    ensures { Ends R.remaining r.old r.new W.contents w.old w.new (R.has_ended r.new) (R.has_failed r.new) (W.has_failed w.new) chosen (exit_status fault_status result) }
 {
     match chosen {
         Chosen::Encode => Ok(encode_lines(r, w)?),
@@ -109,7 +111,7 @@ fn answer<R: Source, W: Sink>(
             if passed == count {
                 Ok(())
             } else {
-                Err(RunFault::VectorsDiffer)
+                Err(CanbitFault::VectorsDiffer)
             }
         }
     }

@@ -1,22 +1,20 @@
 -- What each subcommand has written for what it read, for each outcome. (docs/CONFORMANCE.md, "Line by line",
 -- "What is expected", "What is judged")
-use Rattle.std.specs.Prelude.{ℕ, ◌≡◌, ◌==◌, if◌then◌else◌, List, [], ◌++◌, Result, Ok, Err}
+use Rattle.std.specs.Prelude.{ℕ, ◌≡◌, ◌⊎◌, ◌==◌, if◌then◌else◌, List, [], ◌++◌, Result, Ok, Err}
 use Rattle.toml.specs.Data.{Data}
 use Rattle.can_adapter.specs.Plays.{Plays}
-use Rattle.can_hold.specs.Documents.{document_demands, IsFirstWrong}
+use Rattle.can_hold.specs.Documents.{document_demands, IsWrongKitField}
 use Rattle.can_hold.specs.Expectations.{cases_alone_demands, IsExpected}
 use Rattle.can_hold.specs.Judgements.{IsJudged}
-use Rattle.can_stream.specs.declared.fault.TraceFault.TheVariants.{BadByte, ScenarioField, Read, Write, Memory as OutOfMemory, Long, FrameLine}
-use Rattle.can_stream.specs.declared.field.Field.{Field}
-use Rattle.can_stream.specs.declared.field.Field.TheVariants.{Kit}
-use Rattle.can_stream.specs.declared.kit_field.KitField.{KitField}
+use Rattle.can_stream.specs.declared.fault.TraceFault.TheVariants.{Read, Write, Memory}
+use Rattle.can_kit.specs.declared.field.KitField.{KitField}
 use Rattle.can_toml.specs.Demands.{Demands}
 use Rattle.can_verdict.specs.declared.tally.Tally.{Tally}
 use Rattle.can_verdict.specs.Counts.{cases_in}
-use Rattle.can_program.specs.declared.fault.RunFault.{RunFault}
-use Rattle.can_program.specs.declared.fault.RunFault.TheVariants.{Usage, VectorsDiffer, TranscriptsDiffer, NothingJudged, Memory, Stream}
 use Rattle.canhold_commands.specs.declared.document.Finding.{Finding}
 use Rattle.canhold_commands.specs.declared.document.Finding.TheVariants.{Agree, Differ, Nothing}
+use Rattle.canhold_commands.specs.declared.fault.CanholdFault.{CanholdFault}
+use Rattle.canhold_commands.specs.declared.fault.CanholdFault.TheVariants.{Field, NothingJudged, Stream, TranscriptsDiffer}
 use Rattle.canhold_commands.specs.declared.words.Chosen.{Chosen}
 use Rattle.canhold_commands.specs.declared.words.Chosen.TheVariants.{Play, Document}
 use Rattle.canhold_commands.specs.declared.words.Question.{Question}
@@ -25,14 +23,12 @@ use Rattle.canhold_commands.specs.declared.words.Question.TheVariants.{Expect, J
 -- ---- lines that are played
 
 -- the reference has played the runner's lines
-abbrev pub PlaysLines : Result (Unit {0}) RunFault → List ℕ → List ℕ → Type 0
+abbrev pub PlaysLines : Result (Unit {0}) CanholdFault → List ℕ → List ℕ → Type 0
 PlaysLines (Ok done) input output = Plays (Ok done) input output
 PlaysLines (Err (Stream fault)) input output = Plays (Err fault) input output
-PlaysLines (Err Usage) input output = ⊥
-PlaysLines (Err VectorsDiffer) input output = ⊥
+PlaysLines (Err (Field wrong)) input output = ⊥
 PlaysLines (Err TranscriptsDiffer) input output = ⊥
 PlaysLines (Err NothingJudged) input output = ⊥
-PlaysLines (Err Memory) input output = ⊥
 
 -- ---- documents that are answered
 
@@ -56,7 +52,11 @@ WritesNothing input output = output ≡ []
 
 -- the document is refused for this field, and nothing is written
 abbrev pub Refuses : Question → KitField → List ℕ → List ℕ → Type 0
-Refuses question wrong input output = IsFirstWrong (demands_of question) wrong input × WritesNothing input output
+Refuses question wrong input output = IsWrongKitField (demands_of question) wrong input × WritesNothing input output
+
+-- a field is wrong, or memory ran out
+abbrev pub IsFieldOrMemory : CanholdFault → Type 0
+IsFieldOrMemory fault = ((wrong : KitField) × (fault ≡ Field wrong)) ⊎ (fault ≡ Stream Memory)
 
 -- the whole answer is written
 abbrev pub Answers : Question → Finding → List ℕ → List ℕ → Type 0
@@ -71,17 +71,17 @@ pub record BeginsAnswer (question : Question) (input output : List ℕ) : Type 0
   pub all : answer ≡ output ++ rest
 
 -- the document has been answered
-abbrev pub AnswersDocument : Question → Result (Unit {0}) RunFault → List ℕ → List ℕ → Type 0
+abbrev pub AnswersDocument : Question → Result (Unit {0}) CanholdFault → List ℕ → List ℕ → Type 0
 AnswersDocument question (Ok done) = Answers question Agree
+AnswersDocument question (Err (Field wrong)) = Refuses question wrong
 AnswersDocument question (Err TranscriptsDiffer) = Answers question Differ
 AnswersDocument question (Err NothingJudged) = Answers question Nothing
-AnswersDocument question (Err (Stream (ScenarioField (Kit wrong)))) = Refuses question wrong
 AnswersDocument question (Err (Stream Read)) = WritesNothing
 AnswersDocument question (Err (Stream Write)) = BeginsAnswer question
-AnswersDocument question (Err (Stream OutOfMemory)) = WritesNothing
-AnswersDocument question (Err _) = λ input output. ⊥
+AnswersDocument question (Err (Stream Memory)) = WritesNothing
+AnswersDocument question (Err (Stream _)) = λ input output. ⊥
 
 -- what is written where the subcommand ends so
-abbrev pub Does : Chosen → Result (Unit {0}) RunFault → List ℕ → List ℕ → Type 0
+abbrev pub Does : Chosen → Result (Unit {0}) CanholdFault → List ℕ → List ℕ → Type 0
 Does Play = PlaysLines
 Does (Document question) = AnswersDocument question

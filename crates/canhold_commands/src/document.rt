@@ -1,14 +1,15 @@
 //! Answering the kit document that a reader tells.
-ghost use Rattle.std.specs.Prelude.{◌≡◌, ◌⊎◌, ◌↔◌, ℕ, false, IfErr, IfOk, IsErrOf, IsTrue};
+ghost use Rattle.std.specs.Prelude.{◌≡◌, ◌⊎◌, ◌↔◌, false, IfErr, IfOk, IsErrOf, IsTrue};
 ghost use Rattle.can_stream.specs.Told.{Told};
-ghost use Rattle.can_stream.specs.declared.field.Field.TheVariants.{Kit};
-ghost use Rattle.can_stream.specs.declared.kit_field.KitField.{KitField};
-ghost use Rattle.can_hold.specs.Documents.{IsFieldOrMemory, IsFirstWrong};
-ghost use Rattle.canhold_commands.specs.Answers.{demands_of, finding_of, Answers, BeginsAnswer, IsAnswerTo, Refuses, WritesNothing};
+ghost use Rattle.can_kit.specs.declared.field.KitField.{KitField};
+ghost use Rattle.can_hold.specs.Documents.{IsWrongKitField};
+ghost use Rattle.canhold_commands.specs.Answers.{demands_of, finding_of, Answers, BeginsAnswer, IsAnswerTo, IsFieldOrMemory, Refuses, WritesNothing};
 
+use crate::fault::CanholdFault;
 use crate::words::Question;
 use can_hold::{case_of, expected, judged};
-use can_stream::{Field, Sink, Source, TraceFault, read_whole, write_all};
+use can_kit::KitFault;
+use can_stream::{Sink, Source, TraceFault, read_whole, write_all};
 use can_verdict::Tally;
 use std::alloc::Global;
 
@@ -32,23 +33,23 @@ pub fn answer_document<R: Source, W: Sink>(
     r: &mut R,
     w: &mut W,
     of: &mut String,
-) -> Result<Finding, TraceFault>
+) -> Result<Finding, CanholdFault>
     requires reader_unfailed { R.has_failed r.old ≡ false }
     requires reader_unended { R.has_ended r.old ≡ false }
     requires writer_unfailed { W.has_failed w.old ≡ false }
 
     // What was written of what was read.
     ensures ok { IfOk result (λ finding. Told R.remaining r.old r.new W.contents w.old w.new (Answers question finding)) }
-    ensures field { (wrong : KitField) → IsErrOf result (TraceFault.ScenarioField (Kit wrong)) →
+    ensures field { (wrong : KitField) → IsErrOf result (CanholdFault.Field wrong) →
         Told R.remaining r.old r.new W.contents w.old w.new (Refuses question wrong) }
-    ensures read { IsErrOf result TraceFault.Read → Told R.remaining r.old r.new W.contents w.old w.new WritesNothing }
-    ensures write { IsErrOf result TraceFault.Write → Told R.remaining r.old r.new W.contents w.old w.new (BeginsAnswer question) }
-    ensures memory { IsErrOf result TraceFault.Memory → Told R.remaining r.old r.new W.contents w.old w.new WritesNothing }
-    ensures other { IfErr result (λ fault. IsFieldOrMemory fault ⊎ (fault ≡ TraceFault.Read) ⊎ (fault ≡ TraceFault.Write)) }
+    ensures read { IsErrOf result (CanholdFault.Stream TraceFault.Read) → Told R.remaining r.old r.new W.contents w.old w.new WritesNothing }
+    ensures write { IsErrOf result (CanholdFault.Stream TraceFault.Write) → Told R.remaining r.old r.new W.contents w.old w.new (BeginsAnswer question) }
+    ensures memory { IsErrOf result (CanholdFault.Stream TraceFault.Memory) → Told R.remaining r.old r.new W.contents w.old w.new WritesNothing }
+    ensures other { IfErr result (λ fault. IsFieldOrMemory fault ⊎ (fault ≡ CanholdFault.Stream TraceFault.Read) ⊎ (fault ≡ CanholdFault.Stream TraceFault.Write)) }
 
     // What the reader and the writer came to.
-    ensures read_failed { IsErrOf result TraceFault.Read ↔ IsTrue (R.has_failed r.new) }
-    ensures write_failed { IsErrOf result TraceFault.Write ↔ IsTrue (W.has_failed w.new) }
+    ensures read_failed { IsErrOf result (CanholdFault.Stream TraceFault.Read) ↔ IsTrue (R.has_failed r.new) }
+    ensures write_failed { IsErrOf result (CanholdFault.Stream TraceFault.Write) ↔ IsTrue (W.has_failed w.new) }
 {
     let text = read_whole(alloc, r)?;
     let answer = answer_or_name(alloc, question, text.as_slice(), of)?;
@@ -69,13 +70,12 @@ fn answer_or_name(
     question: Question,
     text: &[u8],
     of: &mut String,
-) -> Result<Answer, TraceFault>
+) -> Result<Answer, KitFault>
     ensures found { IfOk result (λ answer. IsAnswerTo question text.now answer.bytes.items answer.finding) }
-    ensures wrong { (wrong : KitField) → IsErrOf result (TraceFault.ScenarioField (Kit wrong)) → IsFirstWrong (demands_of question) wrong text.now }
-    ensures other { IfErr result IsFieldOrMemory }
+    ensures wrong { (wrong : KitField) → IsErrOf result (KitFault.Field wrong) → IsWrongKitField (demands_of question) wrong text.now }
 {
     let answer = answer_to(alloc, question, text);
-    if let Err(TraceFault::ScenarioField(Field::Kit(wrong))) = answer {
+    if let Err(KitFault::Field(wrong)) = answer {
         if let Some(name) = case_of(alloc, text, wrong) {
             *of = name;
         }
@@ -84,10 +84,9 @@ fn answer_or_name(
 }
 
 /// The answer to the document that the bytes are.
-fn answer_to(alloc: Global, question: Question, text: &[u8]) -> Result<Answer, TraceFault>
+fn answer_to(alloc: Global, question: Question, text: &[u8]) -> Result<Answer, KitFault>
     ensures found { IfOk result (λ answer. IsAnswerTo question text.now answer.bytes.items answer.finding) }
-    ensures wrong { (wrong : KitField) → IsErrOf result (TraceFault.ScenarioField (Kit wrong)) → IsFirstWrong (demands_of question) wrong text.now }
-    ensures other { IfErr result IsFieldOrMemory }
+    ensures wrong { (wrong : KitField) → IsErrOf result (KitFault.Field wrong) → IsWrongKitField (demands_of question) wrong text.now }
 {
     match question {
         Question::Expect => Ok(Answer {

@@ -1,17 +1,18 @@
 //! What the program does, over any streams.
-ghost use Rattle.std.specs.Prelude.{◌≡◌, ◌≢◌, ◌⊎◌, ◌<◌, ◌++◌, false, Option, Result, IsTrue, ℕ, List};
+ghost use Rattle.std.specs.Prelude.{◌≡◌, ◌≢◌, ◌⊎◌, ◌<◌, false, Option, Result, IsTrue};
 ghost use Rattle.std.specs.Io.KnownBytes.{Appends};
 ghost use Rattle.can_stream.specs.Told.{Told};
-ghost use Rattle.can_stream.specs.Outbox.{TakesFront};
 ghost use Rattle.canhold_commands.specs.Answers.{AnswersDocument, Does};
 ghost use Rattle.can_program.specs.Status.{exit_status};
+ghost use Rattle.canhold_commands.specs.Status.{fault_status};
 ghost use Rattle.canhold_commands.specs.Words.{AsksFor, asked_by, texts_of};
 
 use crate::document::{Finding, answer_document};
+use crate::fault::CanholdFault;
 use crate::help::HELP;
 use crate::words::{Asked, Chosen, Question, read_words};
 use can_adapter::play_lines;
-use can_program::{RunFault, conclude, conclude_of, refuse, write_help};
+use can_program::{WordsFault, conclude, conclude_of, refuse, write_help};
 use can_stream::{Sink, Source};
 use std::alloc::Global;
 
@@ -45,7 +46,7 @@ pub fn execute<R: Source, W: Sink, E: Sink>(
 
     // What the subcommand wrote of what it read, by the outcome that the status tells.
     ensures told { (chosen : Chosen) → AsksFor chosen (texts_of words.now)
-        → (outcome : Result (Unit {0}) RunFault) × (result ≡ exit_status outcome)
+        → (outcome : Result (Unit {0}) CanholdFault) × (result ≡ exit_status fault_status outcome)
         × Told R.remaining r.old r.new W.contents w.old w.new (Does chosen outcome) }
 
     // A stream's failure is told, and nothing else is told so.
@@ -72,7 +73,7 @@ pub fn execute<R: Source, W: Sink, E: Sink>(
             conclude_of(NAME, outcome, of.as_str(), e)
         }
         Some(Asked::Help) => conclude(NAME, write_help(HELP, w), e),
-        None => refuse(NAME, RunFault::Usage, e),
+        None => refuse(NAME, WordsFault::Usage, e),
     }
 }
 
@@ -83,15 +84,15 @@ fn answer<R: Source, W: Sink>(
     r: &mut R,
     w: &mut W,
     of: &mut String,
-) -> Result<(), RunFault>
+) -> Result<(), CanholdFault>
     requires reader_unfailed { R.has_failed r.old ≡ false }
     requires reader_unended { R.has_ended r.old ≡ false }
     requires writer_unfailed { W.has_failed w.old ≡ false }
     ensures told { Told R.remaining r.old r.new W.contents w.old w.new (Does chosen result) }
-    ensures stream_failed { exit_status result ≡ 3 → IsTrue (R.has_failed r.new) ⊎ IsTrue (W.has_failed w.new) }
-    ensures write_told { IsTrue (W.has_failed w.new) → exit_status result ≡ 3 }
-    ensures read_told { IsTrue (R.has_failed r.new) → exit_status result ≡ 3 }
-    ensures no_misuse { exit_status result ≢ 2 }
+    ensures stream_failed { exit_status fault_status result ≡ 3 → IsTrue (R.has_failed r.new) ⊎ IsTrue (W.has_failed w.new) }
+    ensures write_told { IsTrue (W.has_failed w.new) → exit_status fault_status result ≡ 3 }
+    ensures read_told { IsTrue (R.has_failed r.new) → exit_status fault_status result ≡ 3 }
+    ensures no_misuse { exit_status fault_status result ≢ 2 }
 {
     match chosen {
         Chosen::Play => Ok(play_lines(alloc, r, w)?),
@@ -106,19 +107,19 @@ fn answered<R: Source, W: Sink>(
     r: &mut R,
     w: &mut W,
     of: &mut String,
-) -> Result<(), RunFault>
+) -> Result<(), CanholdFault>
     requires reader_unfailed { R.has_failed r.old ≡ false }
     requires reader_unended { R.has_ended r.old ≡ false }
     requires writer_unfailed { W.has_failed w.old ≡ false }
     ensures told { Told R.remaining r.old r.new W.contents w.old w.new (AnswersDocument question result) }
-    ensures stream_failed { exit_status result ≡ 3 → IsTrue (R.has_failed r.new) ⊎ IsTrue (W.has_failed w.new) }
-    ensures write_told { IsTrue (W.has_failed w.new) → exit_status result ≡ 3 }
-    ensures read_told { IsTrue (R.has_failed r.new) → exit_status result ≡ 3 }
-    ensures no_misuse { exit_status result ≢ 2 }
+    ensures stream_failed { exit_status fault_status result ≡ 3 → IsTrue (R.has_failed r.new) ⊎ IsTrue (W.has_failed w.new) }
+    ensures write_told { IsTrue (W.has_failed w.new) → exit_status fault_status result ≡ 3 }
+    ensures read_told { IsTrue (R.has_failed r.new) → exit_status fault_status result ≡ 3 }
+    ensures no_misuse { exit_status fault_status result ≢ 2 }
 {
     match answer_document(alloc, question, r, w, of)? {
         Finding::Agree => Ok(()),
-        Finding::Differ => Err(RunFault::TranscriptsDiffer),
-        Finding::Nothing => Err(RunFault::NothingJudged),
+        Finding::Differ => Err(CanholdFault::TranscriptsDiffer),
+        Finding::Nothing => Err(CanholdFault::NothingJudged),
     }
 }

@@ -4,6 +4,7 @@
 //! |---|---|---|
 //! | `words.rt` | [`Asked`], what the words of a command line ask for: a subcommand, [`Chosen`], or the help text | `specs/Words.antt` |
 //! | `help.rt` | [`HELP`], the help text | |
+//! | `fault.rt` | [`CanholdFault`], why a subcommand did not do all that it was asked | `specs/Status.antt` |
 //! | `document.rt` | a kit document in, the answer to it out | `specs/Answers.antt` |
 //! | `executing.rt` | [`execute`], what a run does, its fault line and its exit status | `specs/Answers.antt` |
 //!
@@ -12,9 +13,11 @@
 
 mod document;
 mod executing;
+mod fault;
 mod help;
 mod words;
 
 pub use executing::{NAME, execute};
+pub use fault::CanholdFault;
 pub use help::HELP;
 pub use words::{Asked, Chosen, Question};

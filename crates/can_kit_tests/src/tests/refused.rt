@@ -1,7 +1,6 @@
 //! The first field of a case that is refused.
 use super::{SOUND, document, read};
-use can_kit::KitFault;
-use can_stream::{CaseField, KitField};
+use can_kit::{CaseField, KitFault, KitField};
 use std::alloc::{AllocError, Global};
 
 /// Behind so many sound fields come these lines, and then the sound fields from a place on; and what is told of the

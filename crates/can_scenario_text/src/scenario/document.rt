@@ -4,8 +4,9 @@ ghost use Rattle.toml.specs.Data.{table};
 ghost use Rattle.toml.specs.View.{view, table_view};
 ghost use Rattle.can_stream.specs.declared.field.Field.{Field as Wrong};
 ghost use Rattle.can_toml.specs.Demands.{AllMet, IsFirstUnmet};
+ghost use Rattle.can_toml.specs.Refusals.{IsNoDocument};
 ghost use Rattle.can_toml.specs.Values.{are_known, named, IsDocument, IsNumber, IsRequired};
-ghost use Rattle.can_scenario_text.specs.Scenarios.{ports_in, top_demands, top_fields, version_in, version_of as version_of_document, IsFieldOrMemory, IsPortArray, TellsDocument};
+ghost use Rattle.can_scenario_text.specs.Scenarios.{ports_in, top_demands, top_fields, version_in, version_of as version_of_document, IsFieldOrMemory, IsPortArray};
 
 use crate::scenario::Field;
 use crate::scenario::version::Version;
@@ -29,7 +30,7 @@ const MOST_PORTS: usize = 64;
 /// The document that the bytes are.
 pub(crate) fn parse(alloc: Global, text: &[u8]) -> Result<Table, TraceFault>
     ensures said { IfOk result (λ fields. IsDocument text.now (table (table_view fields))) }
-    ensures unmet { (wrong : Wrong) → IsErrOf result (TraceFault.ScenarioField wrong) → TellsDocument wrong text.now }
+    ensures unmet { (wrong : Wrong) → IsErrOf result (TraceFault.ScenarioField wrong) → IsNoDocument Field.Document wrong text.now }
     ensures other { IfErr result IsFieldOrMemory }
 {
     match read_document(alloc, text) {

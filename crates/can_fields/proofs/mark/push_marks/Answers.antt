@@ -7,7 +7,7 @@ use Rattle.can_code.specs.Front.{first_front, heard_level, is_stuff_error, next_
 use Rattle.can_fields.specs.Fields.{field_at}
 use Rattle.can_fields.specs.Marks.{bit_of, stuff_bit_of, heard_to, marks_behind, tail_marks}
 use Rattle.can_fields.proofs.MarkLemmas.{heard_to-going, heard_to-longer}
-use Rattle.can_fields.proofs.MarkSteps.{marked_bit, marked_ended, marked_stuff, some_unstuffed}
+use Rattle.can_fields.proofs.MarkSteps.{marked_bit, marked_ended, marked_stuff}
 use Rattle.can_fields.proofs.mark.push_marks.Goals as goal
 use Rattle.can_fields.proofs.mark.push_marks.Goals.{in-StuffBit, in-Bit}
 

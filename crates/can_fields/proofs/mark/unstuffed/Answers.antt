@@ -1,4 +1,4 @@
-use Rattle.std.proofs.Common.{◌≡◌, drop, get_or, sym, ◌∙◌, ap, subst, arith, length, ◌+◌, ◌<◌}
+use Rattle.std.proofs.Common.{◌≡◌, drop, get_or, sym, ◌∙◌, ap, subst, length, ◌+◌, ◌<◌}
 use Rattle.std.proofs.lemmas.List.{at_drop_more}
 use Rattle.can_frame.specs.declared.level.Level.TheVariants.{Dominant}
 use Rattle.can_code.proofs.DecoderLemmas.{is_ended}

@@ -1,10 +1,10 @@
 use Rattle.std.proofs.Common.{◌≡◌, subst, rules}
 use Rattle.toml.specs.Data.{table}
 use Rattle.toml.specs.View.{table_view}
-use Rattle.can_stream.specs.declared.kit_field.KitField.{KitField}
-use Rattle.can_stream.specs.declared.kit_field.KitField.TheVariants as field
+use Rattle.can_kit.specs.declared.field.KitField.{KitField}
+use Rattle.can_kit.specs.declared.field.KitField.TheVariants as field
 use Rattle.can_toml.specs.Demands.{IsFirstUnmet}
-use Rattle.can_hold.specs.Documents.{document_demands, IsFirstWrong}
+use Rattle.can_hold.specs.Documents.{document_demands, IsWrongKitField}
 use Rattle.can_hold.specs.Expectations.{cases_alone_demands, HasCasesAlone}
 use Rattle.can_hold.proofs.CasesAlone.{listed, none-mapped, wrong-alone}
 use Rattle.can_hold.proofs.expecting.read_alone.Goals as goal
@@ -22,4 +22,4 @@ returns-then-is_some-clause-wrong c = λ wrong is.
     let some : ¬ HasCasesAlone d = λ none.
     let left_out = none-mapped _ c.field.result _ c.field.ensures none in
     search (rules, left_out) in
-    subst (λ (w : KitField). IsFirstWrong cases_alone_demands w c.args.text.now) same (listed c.args.text.now d c.in_ok-fields.ensures.said c.in_ok-document.ensures.said.met some)
+    subst (λ (w : KitField). IsWrongKitField cases_alone_demands w c.args.text.now) same (listed c.args.text.now d c.in_ok-fields.ensures.said c.in_ok-document.ensures.said.met some)

@@ -1,11 +1,11 @@
 use Rattle.std.proofs.Common.{◌≡◌, ℕ, true, map, codes, subst, rules}
 use Rattle.toml.specs.Data.{table}
 use Rattle.toml.specs.View.{table_view, view}
-use Rattle.can_stream.specs.declared.kit_field.KitField.{KitField}
-use Rattle.can_stream.specs.declared.kit_field.CaseField.TheVariants as of_case
+use Rattle.can_kit.specs.declared.field.KitField.{KitField}
+use Rattle.can_kit.specs.declared.field.CaseField.TheVariants as of_case
 use Rattle.can_toml.specs.Demands.{AllMet, IsFirstUnmet}
 use Rattle.can_toml.specs.Values.{are_known, members_in, named}
-use Rattle.can_kit.specs.Cases.{bits_of, case_fields, fields_demands, lists_demands, tester_demands, told, NeedsAll}
+use Rattle.can_kit.specs.Cases.{bits_of, case_fields, fields_demands, lists_demands, tester_demands, in_case, NeedsAll}
 use Rattle.can_kit.proofs.CaseParts.{fields-met, lists-unmet, needs-unmet, number-said, tester-unmet}
 use Rattle.can_kit.proofs.OneNeeds.{needs-all}
 use Rattle.can_kit.proofs.case.read_fields.Goals as goal
@@ -33,7 +33,7 @@ returns-then-not-has_all-clause-unmet c = λ wrong is.
     let bits : c.in_ok-head.head.bits ≡ bits_of d = number-said (named (codes "bits") d) c.in_ok-head.head.bits c.in_ok-head.ensures.bits in
     let lists = subst (λ (n : ℕ). AllMet (lists_demands c.args.number n d)) bits c.in_ok-lists.ensures.met in
     let none : NeedsAll d c.in_ok-head.head.needs → ⊥ = search rules in
-    let same : told c.args.number of_case.Needs ≡ wrong = cc in
+    let same : in_case c.args.number of_case.Needs ≡ wrong = cc in
     subst (λ (w : KitField). IsFirstUnmet w (fields_demands (map view c.args.earlier.now) c.args.number d)) same
     (needs-unmet (map view c.args.earlier.now) c.args.number d known c.in_ok-name.ensures.met c.in_ok-head.ensures.met c.in_ok-levels.ensures.met lists
     (λ needs all. none (needs-all d c.in_ok-head.head.needs needs c.in_ok-head.ensures.needs all)))

@@ -1,6 +1,6 @@
 use Rattle.std.proofs.Common.{◌≡◌, ℕ, ◌+◌, [], ◌∷◌, ◌++◌, map, subst, arith}
 use Rattle.toml.specs.View.{view}
-use Rattle.can_stream.specs.declared.kit_field.KitField.TheVariants.{Document}
+use Rattle.can_kit.specs.declared.field.KitField.TheVariants.{Document}
 use Rattle.can_toml.specs.Demands.{IsFirstUnmet}
 use Rattle.can_kit.specs.Lists.{elements_demands}
 use Rattle.can_kit.proofs.InTime.{IsReadInTime, in_time-late, in_time-met, in_time-more, in_time-said, in_time-unsaid}

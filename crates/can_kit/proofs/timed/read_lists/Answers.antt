@@ -1,11 +1,11 @@
 use Rattle.std.proofs.Common.{ℕ, ◌<◌, All, List, ap, codes, length, subst, sym, ◌∙◌, rules}
 use Rattle.toml.specs.Data.{table}
 use Rattle.toml.specs.View.{table_view}
-use Rattle.can_stream.specs.declared.kit_field.CaseField.TheVariants as of_case
+use Rattle.can_kit.specs.declared.field.CaseField.TheVariants as of_case
 use Rattle.can_toml.specs.Demands.{demands_on_each, IsFirstUnmet}
 use Rattle.can_toml.specs.Values.{elements_in, named, ArePaired}
 use Rattle.can_kit.specs.declared.lists.CaseList.TheVariants.{Offers, Holds, Forced}
-use Rattle.can_kit.specs.Cases.{forced_demands, strings_of, told}
+use Rattle.can_kit.specs.Cases.{forced_demands, strings_of, in_case}
 use Rattle.can_kit.specs.Lists.{list_demands, SaysHold, SaysOffer, SaysTime}
 use Rattle.can_kit.proofs.CaseParts.{forced-unmet, holds-unmet, lists-met, offers-unmet, times-unmet}
 use Rattle.can_kit.proofs.ForcedTimes.{length-tester, times-below}
@@ -32,7 +32,7 @@ returns-in_err-times-clause-unmet c = λ wrong is.
 pub read_forced-requires : goal.read_forced-requires
 read_forced-requires c =
     let ds = elements_in (named (codes "forced") (table (table_view c.args.fields.now))) in
-    let named = λ (place : ℕ). told c.args.number (of_case.ForcedTime place) in
+    let named = λ (place : ℕ). in_case c.args.number (of_case.ForcedTime place) in
     let below = times-below named c.args.bits 1 ds 0 ds c.in_ok-times.times.items c.in_ok-times.ensures.met.1 c.in_ok-times.ensures.said in
     subst (λ (n : ℕ). All (λ time. time < n) c.deref.result.now) (sym c.requires.long)
     (subst (λ (times : List ℕ). All (λ time. time < c.args.bits) times) (sym c.deref.ensures.value) below)

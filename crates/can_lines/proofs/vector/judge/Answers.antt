@@ -1,7 +1,7 @@
 use Rattle.std.proofs.Common.{Err, ap}
 use Rattle.std.proofs.lemmas.List.{take_rest}
 use Rattle.can_lines.specs.declared.vector.BadLine.TheVariants.{Byte}
-use Rattle.can_lines.proofs.VectorLemmas.{IsVerdict-read, IsBadLevelByte-good, IsBadLevelByte-read, IsBadLevelByte-only, IsBadVectorLine-unbroken}
+use Rattle.can_lines.proofs.VectorLemmas.{IsVectorVerdict-read, IsBadLevelByte-good, IsBadLevelByte-read, IsBadLevelByte-only, IsBadVectorLine-unbroken}
 use Rattle.can_lines.proofs.vector.judge.Goals as goal
 
 pub returns-in-Ok-judge_digits-clause-ok : goal.returns-in-Ok-judge_digits-clause-ok
@@ -9,7 +9,7 @@ returns-in-Ok-judge_digits-clause-ok c =
     let line = c.args.line.now in
     let opening = c.in-Ok.opening in
     let compares = rw (take_rest line opening.start) at c.in-Ok-judge_digits.ensures.ok in
-    IsVerdict-read line opening.frame opening.start c.in-Ok.ensures.frame c.in-Ok.ensures.text c.in-Ok-judge_digits.verdict compares
+    IsVectorVerdict-read line opening.frame opening.start c.in-Ok.ensures.frame c.in-Ok.ensures.text c.in-Ok-judge_digits.verdict compares
 
 pub returns-in-Ok-judge_digits-clause-byte : goal.returns-in-Ok-judge_digits-clause-byte
 returns-in-Ok-judge_digits-clause-byte c place bad =

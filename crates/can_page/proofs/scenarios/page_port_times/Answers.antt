@@ -1,4 +1,4 @@
-use Rattle.std.proofs.Common.{◌≡◌, ◌<◌, length, take, ap, sym, subst, arith, ◌∙◌}
+use Rattle.std.proofs.Common.{◌≡◌, ◌<◌, length, take, ap, sym, arith, ◌∙◌}
 use Rattle.can_page.specs.Plain.{plain_times}
 use Rattle.can_page.proofs.scenarios.page_port_times.Goals as goal
 

@@ -5,7 +5,7 @@ use Rattle.can_toml.specs.Demands.{IsFirstUnmet}
 use Rattle.can_toml.specs.Values.{named}
 use Rattle.can_transcript.specs.declared.lists.TranscriptList.TheVariants.{Counters, Events}
 use Rattle.can_transcript.specs.Elements.{element_field, list_demands, SaysChange, SaysEventAt}
-use Rattle.can_transcript.specs.Transcripts.{drove_demands, end_demands, told}
+use Rattle.can_transcript.specs.Transcripts.{drove_demands, end_demands, in_transcript}
 use Rattle.can_transcript.proofs.Rising.{list-end, list-rising}
 use Rattle.can_transcript.proofs.TellingParts.{change-time, counters-unmet, drove-unmet, end-unmet, event-time, events-unmet, telling-met}
 use Rattle.can_transcript.proofs.told.read_telling.Goals as goal
@@ -37,8 +37,8 @@ returns-in_err-end-clause-unmet c = λ wrong is.
 pub returns-clause-told : goal.returns-clause-told
 returns-clause-told c =
     let d = table (table_view c.args.fields.now) in
-    let events_told = λ (place : ℕ). told c.args.number (element_field Events place) in
-    let changes_told = λ (place : ℕ). told c.args.number (element_field Counters place) in
+    let events_told = λ (place : ℕ). in_transcript c.args.number (element_field Events place) in
+    let changes_told = λ (place : ℕ). in_transcript c.args.number (element_field Counters place) in
     let few = c.in_ok-drove.ensures.few in
     let events = c.in_ok-events.ensures in
     let changes = c.in_ok-counters.ensures in

@@ -1,0 +1,10 @@
+-- What the exit status of `canbit` says. (docs/CODES.md)
+use Rattle.std.specs.Prelude.{ℕ}
+use Rattle.can_program.specs.Status.{stream_status}
+use Rattle.canbit_commands.specs.declared.fault.CanbitFault.{CanbitFault}
+use Rattle.canbit_commands.specs.declared.fault.CanbitFault.TheVariants.{Stream, VectorsDiffer}
+
+-- 1: the input is refused, or vectors differ. 3: a stream failed. 4: memory ran out.
+abbrev pub fault_status : CanbitFault → ℕ
+fault_status VectorsDiffer = 1
+fault_status (Stream fault) = stream_status fault

@@ -1,0 +1,38 @@
+//! Why `canbit` did not do all that it was asked.
+ghost use Rattle.std.specs.Prelude.{◌≡◌};
+ghost use Rattle.canbit_commands.specs.Status.{fault_status};
+ghost use Rattle.canbit_commands.specs.declared.fault.CanbitFault.TheVariants.{Stream};
+
+use can_program::RunFault;
+use can_stream::TraceFault;
+use thiserror::Error;
+
+/// Why a subcommand did not do all that it was asked.
+#[derive(Clone, Copy, Debug, PartialEq, Eq, Error)]
+pub enum CanbitFault {
+    /// Not all vectors have the levels of their frames.
+    #[error("vectors differ")]
+    VectorsDiffer,
+    /// The input was not read or is refused, the answer was not written, or memory ran out.
+    #[error(transparent)]
+    Stream(TraceFault),
+}
+
+impl From<TraceFault> for CanbitFault {
+    ghost from_gives = { λ fault own. own ≡ Stream fault };
+
+    fn from(fault: TraceFault) -> CanbitFault {
+        CanbitFault::Stream(fault)
+    }
+}
+
+impl RunFault for CanbitFault {
+    ghost status_of = { fault_status };
+
+    fn status(&self) -> u8 {
+        match self {
+            CanbitFault::VectorsDiffer => 1,
+            CanbitFault::Stream(fault) => fault.status(),
+        }
+    }
+}

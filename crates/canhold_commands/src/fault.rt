@@ -1,0 +1,57 @@
+//! Why `canhold` did not do all that it was asked.
+ghost use Rattle.std.specs.Prelude.{◌≡◌};
+ghost use Rattle.canhold_commands.specs.Status.{fault_of, fault_status};
+ghost use Rattle.canhold_commands.specs.declared.fault.CanholdFault.TheVariants.{Stream};
+
+use can_kit::{KitFault, KitField};
+use can_program::RunFault;
+use can_stream::TraceFault;
+use thiserror::Error;
+
+/// Why a subcommand did not do all that it was asked.
+#[derive(Clone, Copy, Debug, PartialEq, Eq, Error)]
+pub enum CanholdFault {
+    /// The document is refused for this field.
+    #[error("P2 {0}")]
+    Field(KitField),
+    /// Not all transcripts tell what the reference does.
+    #[error("transcripts differ")]
+    TranscriptsDiffer,
+    /// There was no transcript to judge.
+    #[error("nothing judged")]
+    NothingJudged,
+    /// The input was not read or a runner's lines are refused, the answer was not written, or memory ran out.
+    #[error(transparent)]
+    Stream(TraceFault),
+}
+
+impl From<TraceFault> for CanholdFault {
+    ghost from_gives = { λ fault own. own ≡ Stream fault };
+
+    fn from(fault: TraceFault) -> CanholdFault {
+        CanholdFault::Stream(fault)
+    }
+}
+
+impl From<KitFault> for CanholdFault {
+    ghost from_gives = { λ fault own. own ≡ fault_of fault };
+
+    fn from(fault: KitFault) -> CanholdFault {
+        match fault {
+            KitFault::Field(wrong) => CanholdFault::Field(wrong),
+            KitFault::Memory => CanholdFault::Stream(TraceFault::Memory),
+        }
+    }
+}
+
+impl RunFault for CanholdFault {
+    ghost status_of = { fault_status };
+
+    fn status(&self) -> u8 {
+        match self {
+            CanholdFault::Field(_) | CanholdFault::TranscriptsDiffer => 1,
+            CanholdFault::NothingJudged => 5,
+            CanholdFault::Stream(fault) => fault.status(),
+        }
+    }
+}
