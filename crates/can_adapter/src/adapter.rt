@@ -26,7 +26,7 @@ pub(crate) struct Adapter {
 }
 
 impl Adapter {
-ghost use Rattle.can_conform.specs.Runs.{started, wished};
+    ghost use Rattle.can_conform.specs.Runs.{started, wished};
     ghost use Rattle.can_node.specs.Ports.{with_offer};
     ghost use Rattle.can_adapter.specs.Adapters.{in_case, IsStep};
     ghost use Rattle.std.specs.Prelude.{[], codes, None, Some};
