@@ -169,7 +169,8 @@ static void exact_lists(riddlesage_port *port)
     WANT(OK, riddlesage_port_run(port, in, size, out, told_here));
     WANT(NO_START, riddlesage_decode(in, size, &heard, &place));
     memset(in, 0, size);
-    want(size < 6 ? RIDDLESAGE_SHORT : RIDDLESAGE_STUFF, riddlesage_decode(in, size, &heard, &place), "decode", (int)size);
+    want(size < 6 ? RIDDLESAGE_SHORT : RIDDLESAGE_STUFF, riddlesage_decode(in, size, &heard, &place), "decode",
+         (int)size);
     free(in);
     free(out);
     free(told_here);

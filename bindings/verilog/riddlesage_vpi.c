@@ -11,8 +11,8 @@
  *   tec = $riddlesage_tec(port); rec = $riddlesage_rec(port);
  *
  * The data of a frame are its lowest 64 bits, the first byte the highest. What the library refuses, a port that is
- * none, and a level of x or z end the simulation with a message. Nothing here is proved, and nothing here knows a rule
- * of CAN.
+ * none, and an x or a z as a level or in a frame end the simulation with a message. Nothing here is proved, and nothing
+ * here knows a rule of CAN.
  */
 #include "riddlesage.h"
 
@@ -152,7 +152,7 @@ static PLI_INT32 call_reset(PLI_BYTE8 *data)
   return 0;
 }
 
-/* So many bits of a vector, 32 at most, from this one on. */
+/* So many bits of a vector, 32 at most, from this one on; none of them x or z. */
 static uint32_t bits(const s_vpi_vecval *words, int low, int count)
 {
   uint32_t value = 0;
@@ -165,6 +165,17 @@ static uint32_t bits(const s_vpi_vecval *words, int low, int count)
   return value;
 }
 
+/* Whether x or z stands among so many bits of a vector, the lowest. */
+static bool is_unknown(const s_vpi_vecval *words, int count)
+{
+  int place;
+
+  for (place = 0; place < count; place++)
+    if (((uint32_t)words[place / 32].bval >> place % 32 & 1) != 0)
+      return true;
+  return false;
+}
+
 static void put_bits(s_vpi_vecval *words, int low, int count, uint32_t value)
 {
   int place;
@@ -175,27 +186,41 @@ static void put_bits(s_vpi_vecval *words, int low, int count, uint32_t value)
   }
 }
 
+static riddlesage_frame frame_of(const s_vpi_vecval *words)
+{
+  riddlesage_frame frame = { 0, 0, 0, 0, { 0 } };
+  int place;
+
+  frame.extended = (uint8_t)bits(words, EXTENDED, 1);
+  frame.remote = (uint8_t)bits(words, REMOTE, 1);
+  frame.identifier = bits(words, IDENTIFIER, 29);
+  frame.dlc = (uint8_t)bits(words, DLC, 4);
+  for (place = 0; place < DATA_BYTES; place++)
+    frame.data[place] = (uint8_t)bits(words, 8 * (DATA_BYTES - 1 - place), 8);
+  return frame;
+}
+
 static PLI_INT32 call_offer(PLI_BYTE8 *data)
 {
   struct arguments of = arguments();
-  int port = port_of(&of), place;
+  int port = port_of(&of);
   vpiHandle argument = next(&of);
-  riddlesage_frame frame = { 0, 0, 0, 0, { 0 } };
+  riddlesage_frame frame;
   s_vpi_value value;
 
   (void)data;
+  memset(&value, 0, sizeof value);
+  value.format = vpiVectorVal;
   if (argument == NULL || vpi_get(vpiSize, argument) < FRAME_BITS) {
     end("a frame has 99 bits");
+    done(&of);
+    return 0;
+  }
+  vpi_get_value(argument, &value);
+  if (is_unknown(value.value.vector, FRAME_BITS)) {
+    end("a bit of a frame is neither 0 nor 1");
   } else {
-    memset(&value, 0, sizeof value);
-    value.format = vpiVectorVal;
-    vpi_get_value(argument, &value);
-    frame.extended = (uint8_t)bits(value.value.vector, EXTENDED, 1);
-    frame.remote = (uint8_t)bits(value.value.vector, REMOTE, 1);
-    frame.identifier = bits(value.value.vector, IDENTIFIER, 29);
-    frame.dlc = (uint8_t)bits(value.value.vector, DLC, 4);
-    for (place = 0; place < DATA_BYTES; place++)
-      frame.data[place] = (uint8_t)bits(value.value.vector, 8 * (DATA_BYTES - 1 - place), 8);
+    frame = frame_of(value.value.vector);
     demand(riddlesage_port_offer(&ports[port], &frame));
   }
   done(&of);

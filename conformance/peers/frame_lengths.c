@@ -24,11 +24,11 @@ static const char *const names[KINDS] = {
   "remote frames with a DLC above 0",
 };
 
-static unsigned long seed = 1;
+static uint64_t seed = 1;
 
 static uint32_t chance(void)
 {
-  seed = (seed * 6364136223846793005UL + 1442695040888963407UL) & 0xffffffffffffffffUL;
+  seed = seed * UINT64_C(6364136223846793005) + UINT64_C(1442695040888963407);
   return (uint32_t)(seed >> 32);
 }
 

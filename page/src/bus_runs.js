@@ -15,10 +15,11 @@ class Runner {
     this.busy = false;
   }
 
-  /** @param {object} asked @returns {Promise<object>} */
+  /** @param {object} asked @returns {Promise<object>} the answer, which says nothing where the worker was ended */
   ask(asked) {
     this.busy = true;
     return new Promise((resolve, reject) => {
+      this.giveUp = () => resolve({});
       this.worker.onmessage = ({ data }) => {
         this.busy = false;
         resolve(data);
@@ -26,6 +27,11 @@ class Runner {
       this.worker.onerror = (event) => reject(new Error(event.message));
       this.worker.postMessage(asked);
     });
+  }
+
+  end() {
+    this.worker.terminate();
+    this.giveUp?.();
   }
 }
 
@@ -47,7 +53,7 @@ export class Runs {
 
   /** Ends what is still being done for an older text. */
   drop() {
-    for (const { worker } of this.runners.filter(({ busy }) => busy)) worker.terminate();
+    for (const runner of this.runners.filter(({ busy }) => busy)) runner.end();
     this.runners = this.runners.filter(({ busy }) => !busy);
     this.ready(1);
   }
@@ -99,7 +105,7 @@ export class Runs {
 
   /** Ends a worker that could not answer. */
   end(runner, { failed = 'a port was not told' }) {
-    runner.worker.terminate();
+    runner.end();
     this.runners = this.runners.filter((other) => other !== runner);
     if (this.runners.length === 0) throw new Error(failed);
   }

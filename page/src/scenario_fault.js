@@ -1,4 +1,4 @@
-/** What is wrong in a scenario, where it stands, and what is wrong in it. */
+/** What is wrong in a scenario, and where. */
 import { ANSWER } from './core.js';
 import { WRONG, wrongWords } from './bus_words.js';
 import { textFault } from './text_fault.js';

@@ -217,7 +217,8 @@ function unescaped(inside) {
 
 /**
  * @param {string} text
- * @returns {Scanner & {stop: {offset: number, message: string} | null}} what was found, up to where the text stops being a document
+ * @returns {Pick<Scanner, 'places' | 'strings' | 'names'> & {stopped: {offset: number, message: string} | null}} what was found, up to
+ *   where the text stops being a document
  */
 export function scanned(text) {
   const scanner = new Scanner(text);

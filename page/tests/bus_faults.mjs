@@ -23,6 +23,8 @@ const WRONG = [
   ['version = 1\nbits = 1\n[[port]]\njoin = 1', 'port[0].join', [4, 8], ['bus-join-0']],
   ['version = 1\nbits = 1\n[[port]]\nhold = 3', 'port[0].hold', [4, 8], ['bus-hold-0']],
   ['version = 1\nbits = 1\nat = 1\n[[port]]', 'at', [3, 6], []],
+  ['version = 1\nbits = 1\nin = 1\n[[port]]', 'in', [3, 6], []],
+  ['version = 1\nbits = 1\nview = 1\n[[port]]', 'view', [3, 8], []],
   ['version = 1\nbits = 1\nat = [5, 5]\n[[port]]', 'at[1]', [3, 10], ['bus-at']],
   ['version = 1\nbits = 1\nin = [[0, 1], [0]]\n[[port]]', 'in[1]', [3, 15], ['bus-in']],
   ['version = 1\nbits = 1\nview = [[0, 1]]\n[[port]]', 'view[0]', [3, 9], ['bus-view']],

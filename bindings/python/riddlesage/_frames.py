@@ -39,7 +39,7 @@ class Status(enum.IntEnum):
 
 
 class RiddlesageError(Exception):
-    """What all errors of this module are."""
+    """What all errors of this package are."""
 
 
 class Refused(RiddlesageError):
@@ -111,7 +111,7 @@ class Frame:
             object.__setattr__(self, "dlc", len(self.data))
         if len(self.data) != (0 if self.remote else min(self.dlc, 8)):
             raise ValueError(f"{len(self.data)} data bytes are not those of DLC {self.dlc}")
-        encoded(self)
+        encode(self)
 
     @classmethod
     def from_text(cls, text: str) -> Frame:
@@ -143,16 +143,6 @@ class Frame:
         return plain
 
 
-def encoded(frame: Frame) -> bytes:
-    """The levels of a frame, which the library refuses where it is none."""
-    levels = ctypes.create_string_buffer(_MOST_LEVELS)
-    count = ctypes.c_size_t()
-    status = lib.riddlesage_encode(plain_of(frame), levels, _MOST_LEVELS, count)
-    if status:
-        raise BadFrame(Status(status))
-    return levels.raw[: count.value]
-
-
 def plain_of(frame: Frame) -> PlainFrame:
     """The frame as it crosses to the library."""
     if not isinstance(frame, Frame):
@@ -181,7 +171,12 @@ class Heard:
 
 def encode(frame: Frame) -> bytes:
     """The levels of the frame as its sender drives them, from the start of frame to the end of frame."""
-    return encoded(frame)
+    levels = ctypes.create_string_buffer(_MOST_LEVELS)
+    count = ctypes.c_size_t()
+    status = lib.riddlesage_encode(plain_of(frame), levels, _MOST_LEVELS, count)
+    if status:
+        raise BadFrame(Status(status))
+    return levels.raw[: count.value]
 
 
 def decode(levels: bytes) -> Heard:
