@@ -1,4 +1,5 @@
--- How many releases of each message a list has, how long they keep the bus, and how many hits fall in a stretch of bit times.
+-- How many releases of each message a list has, how long they keep the bus, and how many hits fall in a stretch of bit
+-- times.
 use Rattle.std.proofs.Common.{◌≡◌, ℕ, ◌+◌, ◌-◌, ◌*◌, ◌<◌, ◌≤◌, Bool, true, false, cond, Some, List, [], ◌∷◌, length, sym, ◌∙◌, ap, subst, inl, inr, arith}
 use Rattle.std.specs.Prelude.{max, fold, nat_le, nat_lt, ◌&&◌}
 use Rattle.std.specs.List.{sum_by, count_by}

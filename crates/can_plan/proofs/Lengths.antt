@@ -15,7 +15,8 @@ abbrev longest : Bool → ℕ → ℕ
 longest true bytes = 80 + 10 * bytes
 longest false bytes = 55 + 10 * bytes
 
--- with 34 + 8 s or 54 + 8 s unstuffed levels, whose number leaves 2 by 4, one more than four for each stuff bit is no stuff bit more
+-- with 34 + 8 s or 54 + 8 s unstuffed levels, whose number leaves 2 by 4, one more than four for each stuff bit is no
+-- stuff bit more
 by_format : (extended : Bool) (head_long bytes part whole : ℕ) → head_long ≡ data_place extended + 8 * bytes → 4 * part ≤ 5 * (head_long + 15) → whole ≡ part + 13 → whole ≤ longest extended bytes
 by_format true h b p w e f g = omega arith
 by_format false h b p w e f g = omega arith

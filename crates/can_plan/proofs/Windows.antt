@@ -1,4 +1,5 @@
--- A window over a course: since when the bus has had no older frame of a message, and of those before it, to send, and what it has done since.
+-- A window over a course: since when the bus has had no older frame of a message, and of those before it, to send, and
+-- what it has done since.
 use Rattle.std.proofs.Common.{◌≡◌, ◌≢◌, ℕ, ◌+◌, ◌-◌, ◌*◌, ◌<◌, ◌≤◌, ◌⊎◌, List, [], ◌∷◌, ◌++◌, length, subst, inl, inr, arith}
 use Rattle.std.specs.Prelude.{max}
 use Rattle.std.proofs.lemmas.Bool.{cases_lt}
@@ -12,7 +13,7 @@ use Rattle.can_plan.specs.Messages.{IsIn, Release, IsOf, IsWithin, hit_times, wi
 use Rattle.can_plan.specs.Analysis.{Ranking, arrivals, blocking, widest, delayed, busied}
 use Rattle.can_plan.proofs.Counts.{count, Spaced, count-le, busy_times, weighed, weighed-cons, weighed-of, AreOf, busy-weighed, weighed-load, stretch-all}
 
--- ---- releases, as the messages has them
+-- ---- releases, as the messages have them
 
 pub record Fits (messages : List Message) (x : Release) : Type 0 where
   pub known : (m : Message) × IsIn messages m × IsOf m x

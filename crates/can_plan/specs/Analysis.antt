@@ -1,9 +1,10 @@
--- The response time analysis: which numbers it gives as bounds on the time from a frame's release to the end of its wire.
--- (docs/PLANNING.md, "The analysis")
+-- The response time analysis: which numbers it gives as bounds on the time from a frame's release to the end of its
+-- wire. (docs/PLANNING.md, "The analysis")
 --
--- It is the exact test of Davis, Burns, Bril and Lukkien (2007), with their names: C is a message's longest time on the bus, T its period, J
--- its jitter; B the blocking by messages behind it in arbitration; hp(m) the messages before it. All numbers are whole bit times, and a
--- stretch of L bit times is those from t to t + L - 1. Where a formula has a number more or less than theirs, it is told why.
+-- It is the test that Davis, Burns, Bril and Lukkien (2007) call exact, with their names: C is a message's longest time
+-- on the bus, T its period, J its jitter; B the blocking by messages behind it in arbitration; hp(m) the messages
+-- before it. All numbers are whole bit times, and a stretch of L bit times is those from t to t + L - 1. Where a
+-- formula has a number more or less than theirs, it is told why.
 use Rattle.std.specs.Prelude.{ℕ, ◌+◌, ◌-◌, ◌*◌, ◌/◌, ◌<◌, ◌≤◌, max, List, ◌∷◌, take, drop, fold}
 use Rattle.std.specs.List.{sum_by}
 use Rattle.can_plan.specs.declared.message.Message.{Message}
@@ -18,11 +19,12 @@ pub record Ranking : Type 0 where
 abbrev pub ranking_at : List Message → ℕ → Message → Ranking
 ranking_at messages place message = record { higher = take place messages; message = message; lower = drop (place + 1) messages }
 
+-- the greatest of these numbers, or 0
 abbrev pub greatest : (Message → ℕ) → List Message → ℕ
 greatest f messages = fold (λ most m. max most (f m)) 0 messages
 
--- How many frames of a message are offered in L bit times at most: ⌈(L + J) / T⌉. The first may be offered J behind its release, and each
--- other as it is released.
+-- How many frames of a message are offered in L bit times at most: ⌈(L + J) / T⌉. The first may be offered J behind its
+-- release, and each other as it is released.
 abbrev pub arrivals : Message → ℕ → ℕ
 arrivals m long = (long + m.jitter + m.period - 1) / m.period
 
@@ -30,8 +32,8 @@ arrivals m long = (long + m.jitter + m.period - 1) / m.period
 abbrev pub load : List Message → ℕ → ℕ
 load messages long = sum_by (λ m. arrivals m long * m.longest) messages
 
--- B: how long a frame of a lower message goes on that has started before. It has started a bit time before at least, since of frames that
--- are there in one bit time the higher goes first: so C - 1, where the paper has C.
+-- B: how long a frame of a lower message goes on that has started before. It has started a bit time before at least,
+-- since of frames that are there in one bit time the higher goes first: so C - 1, where theirs is C.
 abbrev pub blocking : Ranking → ℕ
 blocking r = greatest (λ m. m.longest - 1) r.lower
 
@@ -39,10 +41,11 @@ blocking r = greatest (λ m. m.longest - 1) r.lower
 abbrev pub widest : Ranking → ℕ
 widest r = greatest (λ m. m.longest) (r.message ∷ r.higher)
 
--- What hits cost in attempts that begin within L bit times. A hit falls at the last but one level of the end of frame at the latest, C - 5 bit
--- times behind the start of its attempt, so L + M - 5 bit times have all of these hits. From the hit on it takes 18 bit times until the bus is
--- free again: that level, six of an error flag, and eleven of delimiter and intermission. Up to six more it takes where receivers are late, but
--- they are so in the stuffed part alone, which is over 13 bit times before C is: so C - 14 + 24, or C - 5 + 18, which is C + 13.
+-- What hits cost in attempts that begin within L bit times. A hit falls at the last but one level of the end of frame
+-- at the latest, C - 5 bit times behind the start of its attempt, so L + M - 5 bit times have all of these hits. From
+-- the hit on it takes 18 bit times until the bus is free again: that level, six of an error flag, and eleven of
+-- delimiter and intermission. Up to six more it takes where receivers are late, but they are so in the stuffed part
+-- alone, which is over 13 bit times before C is: so C - 14 + 24, or C - 5 + 18, which is C + 13.
 abbrev pub hits_cost : (ℕ → ℕ) → ℕ → ℕ → ℕ
 hits_cost most widest long = most (long + widest - 5) * (widest + 13)
 
@@ -50,23 +53,26 @@ hits_cost most widest long = most (long + widest - 5) * (widest + 13)
 abbrev pub demand : (ℕ → ℕ) → ℕ → ℕ → List Message → ℕ → ℕ
 demand most time widest messages long = time + load messages long + hits_cost most widest long
 
--- The busy period: within L bit times the bus has been free of the message and of those before it, where this is L or less. The frame for
--- which it would begin anew is the one that is offered L later, so L itself is counted, and no bit time more.
+-- The busy period: within L bit times the bus has been free of the message and of those before it, where this is L or
+-- less. The frame for which it would begin anew is the one that is offered L later, so L itself is counted, and no bit
+-- time more.
 abbrev pub busied : (ℕ → ℕ) → Ranking → ℕ → ℕ
 busied most r long = demand most (blocking r) (widest r) (r.message ∷ r.higher) long
 
--- The delay w of instance q, the frames of the message in a busy period counted from 0: how long behind the period's begin it starts, where this is
--- w or less. A higher frame that is offered for the bit time in which it would start, w behind the begin, goes first: so w + 1 bit times are
--- counted, the bit time more for which the paper has τ_bit.
+-- The delay w of instance q, the frames of the message in a busy period counted from 0: how long behind the period's
+-- begin it starts, where this is w or less. A higher frame that is offered for the bit time in which it would start, w
+-- behind the begin, goes first: so w + 1 bit times are counted, the bit time more for which they have τ_bit.
 abbrev pub delayed : (ℕ → ℕ) → Ranking → ℕ → ℕ → ℕ
 delayed most r q delay = demand most (blocking r + q * r.message.longest) (widest r) r.higher (delay + 1)
 
--- The wire of instance q ends within the bound: J + w + C - q T, less the three bit times of intermission, which C has, and a wire has not.
+-- The wire of instance q ends within the bound: J + w + C - q T, less the three bit times of intermission, which C has,
+-- and a wire has not.
 pub record IsDelay (most : ℕ → ℕ) (r : Ranking) (bound q delay : ℕ) : Type 0 where
   pub delays : delayed most r q delay ≤ delay
   pub enough : r.message.jitter + delay + r.message.longest ≤ bound + 3 + q * r.message.period
 
--- The analysis, with numbers up to a limit, gives this bound: each instance in a busy period ends within it, not the first alone.
+-- The analysis, with numbers up to a limit, gives this bound: each instance in a busy period ends within it, not the
+-- first alone.
 pub record IsBound (most : ℕ → ℕ) (limit : ℕ) (r : Ranking) (bound : ℕ) : Type 0 where
   pub long : ℕ
   pub some : 0 < long

@@ -1,5 +1,5 @@
--- Messages: frames of one arbitration field that are released again and again; and what releases and hits keep to, where a network
--- is as its messages and its rate of hits say. (docs/PLANNING.md, "What a network keeps to")
+-- Messages: frames of one arbitration field that are released again and again; and what releases and hits keep to,
+-- where a network is as its messages and its rate of hits say. (docs/PLANNING.md, "What a network keeps to")
 use Rattle.std.specs.Prelude.{ℕ, ◌≡◌, ◌+◌, ◌/◌, ◌<◌, ◌≤◌, ◌==◌, nat_le, nat_lt, ◌&&◌, if◌then◌else◌, List, [], ◌∷◌, Option, Some, None, slice_get}
 use Rattle.std.specs.List.{count_by}
 use Rattle.can_frame.specs.Parts.{Parts}

@@ -5,7 +5,7 @@ ghost use Rattle.can_plan.specs.Messages.{most_hits};
 
 use crate::message::HitRate;
 
-/// How many hits leave every port error active, wherever they fall.
+/// How many hits at most leave every port error active, wherever they fall.
 const MOST_BORNE: u16 = 15;
 
 /// For how long every port is sure to stay error active.
@@ -19,8 +19,8 @@ pub enum Borne {
     Never,
 }
 
-/// For how long a rate allows no more than fifteen hits, which leave every port error active, wherever they fall, that has counted
-/// no error before.
+/// For how long a rate allows no more than fifteen hits. So many leave each port that has counted no error before error
+/// active, wherever they fall.
 pub fn borne_for(rate: &HitRate) -> Borne
     ensures { (long : ℕ) → Allows result long ↔ (most_hits rate.now long ≤ 15) }
 {

@@ -8,7 +8,7 @@ use crate::message::{HitRate, Message};
 /// How many bit times before the end of the frame's time on the bus a hit falls at the latest.
 const LEFT_BEHIND_HIT: u64 = 5;
 
-/// How many bit times longer than its frame's time on the bus an attempt takes at most that is hit.
+/// How many bit times more than its frame's time on the bus an attempt that is hit takes at most.
 const HIT_COST: u64 = 13;
 
 /// How many frames of a message are offered at most in a stretch of so many bit times.
@@ -22,7 +22,7 @@ pub(crate) fn arrivals(message: &Message, long: u64) -> u64
     (long + u64::from(message.jitter) + period - 1) / period
 }
 
-/// How long they keep the bus.
+/// How long the frames of a message that are offered in such a stretch keep the bus.
 pub(crate) fn own_load(message: &Message, long: u64) -> u64
     requires periodic { 0 < message.now.period }
     requires short { long ≤ 2 ^ 32 }
@@ -49,7 +49,7 @@ fn load(messages: &[Message], long: u64, limit: u32) -> Option<u64>
     Some(total)
 }
 
-/// How long a frame of these messages, and another that is so long, keeps the bus at most.
+/// The longest time on the bus of these messages, or `first` where that is longer.
 pub(crate) fn widest(first: u16, messages: &[Message]) -> u16
     ensures { (message : Message) → message.longest ≡ first → result ≡ greatest (λ m. m.longest) (message ∷ messages.now) }
 {
@@ -60,7 +60,7 @@ pub(crate) fn widest(first: u16, messages: &[Message]) -> u16
     wide
 }
 
-/// How long a frame of these messages keeps the bus at most that started one bit time before.
+/// How long a frame of these messages that started one bit time before goes on at most.
 pub(crate) fn blocking(messages: &[Message]) -> u16
     ensures { result ≡ greatest (λ m. m.longest - 1) messages.now }
 {
@@ -71,7 +71,7 @@ pub(crate) fn blocking(messages: &[Message]) -> u16
     long
 }
 
-/// How many hits there are at most in such a stretch.
+/// How many hits there are at most in so many bit times.
 fn most_hits(rate: &HitRate, long: u64) -> u64
     requires short { long ≤ 2 ^ 33 }
     ensures value { result ≡ most_hits_of rate.now long }

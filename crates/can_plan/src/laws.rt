@@ -11,9 +11,9 @@ ghost use Rattle.can_plan.specs.Ends.{EndAlways};
 ghost use Rattle.can_plan.specs.Messages.{AreHitAtMost};
 ghost use Rattle.can_plan.specs.OnBus.{LogNames, OnPlannedCall, StandsWithin};
 
-/// A bound that holds on every course holds on every bus: of each frame of the message the whole wire is recorded, and each port's
-/// log names the frame, at most so many bit times behind its release, if the run is as long. `Bus::play_disturbed` says that these
-/// are the levels that it records, and the ports that it leaves.
+/// A bound that holds on every course holds on every bus: of each frame of the message the whole wire is recorded, and
+/// each port's log names the frame, at most so many bit times behind its release, if the run is as long.
+/// `Bus::play_disturbed` says that these are the levels that it records, and the ports that it leaves.
 pub fn frames_end_in_time_on_the_bus()
     ensures levels { (most : ℕ → ℕ) (messages : List Sent) (message : Sent) (bound : ℕ) → EndAlways most messages message bound →
         OnPlannedCall most messages message (λ releases place r offers hits bus. StandsWithin bound r (λ t. call_level offers hits t bus)) }
@@ -22,8 +22,8 @@ pub fn frames_end_in_time_on_the_bus()
         AtEachNode (LogNames offers releases place r) bus.ports (call_after offers hits bits bus).bus.ports) }
 {}
 
-/// Fifteen errors in all, those that were counted before included, leave every port error active, wherever they fall. On a course
-/// whose hits fall within so many bit times there are no more hits than their rate allows in these.
+/// Fifteen errors in all, those that were counted before included, leave every port error active, wherever they fall.
+/// On a course whose hits fall within so many bit times there are no more hits than their rate allows in these.
 pub fn few_hits_are_borne()
     ensures fifteen { (offers : List Offer) (ports : List PortState) (course : List Transmission) (errors : ℕ) → AllCountAtMost errors ports →
         errors + hits_made course ≤ 15 → CourseIsBorne offers ports course }

@@ -1,7 +1,7 @@
 //! How late a frame can be on a network: the response time analysis of messages, proved of the course of the bus.
 //!
-//! A [`Message`] is released again and again, and keeps the bus no longer than it says ([`longest_busy`] tells it for an
-//! identifier, a kind and a DLC). Hits that all ports see fall no more often than a [`HitRate`] allows.
+//! A [`Message`] is released again and again, and keeps the bus no longer than it says ([`longest_busy`] tells it for
+//! an identifier, a kind and a DLC). Hits that all ports see fall no more often than a [`HitRate`] allows.
 //! [`response_bound`] answers how long behind a frame's release its wire ends at most, on every course of the bus.
 //!
 //! | File | What it has | Defined in |
@@ -13,9 +13,9 @@
 //! | `borne.rt` | [`borne_for`], for how long a rate of hits is borne wherever they fall | `specs/Borne.antt` |
 //! | `laws.rt` | what a bound says of the levels and logs of a bus; that fifteen hits are borne | `specs/OnBus.antt`, `specs/Borne.antt` |
 //!
-//! The proof goes forward along the course, with a window (`proofs/Windows.antt`): since when the bus has had no older frame
-//! to send of the message and of those before it, and what it has sent since. What each attempt makes of a window stands
-//! in `proofs/Moves.antt`. No call takes memory.
+//! The proof goes forward along the course, with a window (`proofs/Windows.antt`): since when the bus has had no older
+//! frame to send of the message and of those before it, and what it has sent since. What each attempt makes of a window
+//! stands in `proofs/Moves.antt`. No call takes memory.
 #![tactic(auto)]
 
 mod borne;

@@ -42,8 +42,8 @@ fn without_data(id: Id, remote: bool, dlc: u8) -> Option<Frame>
 }
 
 /// How long each frame of this format with so many data bytes keeps the bus at most. It has 34 levels of head and check
-/// sequence, 54 where its identifier is extended, and eight for each byte; a stuff bit for each four of them behind the first; ten
-/// levels that are never stuffed, and three of intermission.
+/// sequence, 54 where its identifier is extended, and eight for each byte; a stuff bit for each four of them behind the
+/// first; ten levels that are never stuffed, and three of intermission.
 fn longest_with_bytes(extended: bool, bytes: u16) -> u16
     requires few { bytes ≤ 8 }
     ensures { (f : Parts) → IsFrame f → f.id.extended ≡ extended → length f.bytes ≡ bytes → busy_time f ≤ result }
@@ -55,9 +55,10 @@ fn longest_with_bytes(extended: bool, bytes: u16) -> u16
     }
 }
 
-/// How long each frame with this identifier, of this kind and with this DLC keeps the bus at most: its wire, and three bit
-/// times of intermission. Of the frames without data, the remote ones and those whose DLC is 0, there is one for each identifier
-/// and DLC, and the answer is exactly how long it takes. Of the others it is told by the format and the number of bytes.
+/// How long each frame with this identifier, of this kind and with this DLC keeps the bus at most: its wire, and three
+/// bit times of intermission. Of the frames without data, the remote ones and those whose DLC is 0, there is one for
+/// each identifier and DLC, and the answer is exactly how long it takes. Of the others it is told by the format and the
+/// number of bytes.
 pub fn longest_busy(id: Id, remote: bool, dlc: u8) -> u16
     ensures bound { (f : Parts) → IsFrameOf id remote dlc f → busy_time f ≤ result }
     ensures exact { (f : Parts) → IsFrameOf id remote dlc f → f.bytes ≡ [] → busy_time f ≡ result }

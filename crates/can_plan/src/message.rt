@@ -1,3 +1,5 @@
+//! Messages, and how often the bus is hit.
+
 use can_frame::Key;
 
 /// A message of a network: frames of one arbitration field that are released again and again. All times are
@@ -14,7 +16,7 @@ pub struct Message {
     pub jitter: u32,
 }
 
-/// How often the bus is hit at most: in any stretch of bit times so often as the burst says, and once more for each
+/// How often the bus is hit at most: in any stretch of bit times as often as the burst says, and once more for each
 /// spacing that fits into it. Where the spacing is 0 there are no more hits than the burst in all.
 #[derive(Clone, Copy, Debug)]
 pub struct HitRate {

@@ -29,8 +29,8 @@ fn delay(time: u64, widest: u16, higher: &[Message], rate: &HitRate, limit: u32)
     None
 }
 
-/// The busy period: the least number of bit times, above 0, within which the bus has been free of a message and of those that go
-/// before it; none where it is above the limit.
+/// The busy period: the least number of bit times, above 0, within which the bus has been free of a message and of
+/// those that go before it; none where it is above the limit.
 fn busy(
     blocking: u16,
     widest: u16,
@@ -64,8 +64,8 @@ fn busy(
     None
 }
 
-/// How long behind the release of the q-th frame its wire ends at most, told by its least delay; none where that is above the
-/// limit.
+/// How long behind the release of the frame of number q, counted from 0, its wire ends at most, told by its least
+/// delay; none where that is above the limit.
 fn ends(
     q: u64,
     blocking: u16,
@@ -94,8 +94,8 @@ fn ends(
     Some(until.saturating_sub(INTERMISSION + q * u64::from(message.period)))
 }
 
-/// A bound on the time from the release of a frame of this message to the end of its wire, by the messages that go before it and
-/// those that go behind it; none where the analysis finds none with numbers up to the limit.
+/// A bound on the time from the release of a frame of this message to the end of its wire, by the messages that go
+/// before it and those that go behind it; none where the analysis finds none with numbers up to the limit.
 fn ranked_response(
     higher: &[Message],
     message: &Message,
@@ -128,13 +128,14 @@ fn are_periodic(messages: &[Message]) -> bool
     messages.iter().all(|message| message.period > 0)
 }
 
-/// How many bit times lie between the release of a frame of the message at this place and the end of its wire, at most, where the
-/// messages stand in the order of arbitration: the least bound that the analysis gives with numbers up to the limit; none where
-/// it gives none, where there is no such place, and where a period is 0. It holds on every course of the bus, as long as releases
-/// keep to the messages, and hits to the rate.
+/// How many bit times lie between the release of a frame of the message at this place and the end of its wire, at most,
+/// where the messages stand in the order of arbitration, no two of one field and none with a `longest` of 0: the least
+/// bound that the analysis gives with numbers up to the limit; none where it gives none, where there is no such place,
+/// and where a period is 0. It holds on every course of the bus, as long as releases keep to the messages, and hits to
+/// the rate.
 ///
-/// Its work is in proportion to the messages, to the frames of this one in a busy period, and to the steps of the sums that grow up
-/// to the limit.
+/// Its work is in proportion to the messages, to the frames of this one in a busy period, and to the steps of the sums
+/// that grow up to the limit.
 pub fn response_bound(messages: &[Message], place: usize, rate: &HitRate, limit: u32) -> Option<u64>
     ensures least { (message : Sent) → slice_get messages.now place ≡ Some message → ArePeriodic messages.now → let ranking = ranking_at messages.now place message in
         MatchOption result ((other : ℕ) → IsBound (most_hits_of rate.now) limit ranking other → ⊥) (λ b. IsLeastBound (most_hits_of rate.now) limit ranking b) }
