@@ -9,7 +9,7 @@ import subprocess
 import time
 from typing import IO, Sequence
 
-from kit.documents import Event, State, is_event
+from .documents import Event, State, is_event
 
 LONGEST_LINE = 8192
 MOST_LEVELS = 4096

@@ -7,7 +7,7 @@ from __future__ import annotations
 
 from typing import Sequence, Tuple
 
-from kit.documents import Event, State, Transcript
+from .documents import Event, State, Transcript
 
 LEVEL, EVENT, COUNTERS, END = range(4)
 Difference = Tuple[int, int, str]

@@ -6,8 +6,8 @@ import re
 from dataclasses import dataclass, field
 from typing import Any, Callable, Iterable, Tuple
 
-from kit.frames import Frame
-from kit.levels import read_levels, write_levels
+from .frames import Frame
+from .levels import read_levels, write_levels
 
 loads: Callable[[str], dict[str, Any]]
 try:
@@ -15,7 +15,7 @@ try:
 
     loads = tomllib.loads
 except ImportError:  # Python before 3.11
-    from kit import toml_subset
+    from . import toml_subset
 
     loads = toml_subset.loads
 

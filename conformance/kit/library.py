@@ -6,7 +6,7 @@ import glob
 import os
 from typing import Iterable
 
-from kit.documents import Case, DocumentFault, Transcript, read_document
+from .documents import Case, DocumentFault, Transcript, read_document
 
 _TOP = os.path.dirname(os.path.dirname(os.path.realpath(__file__)))
 FOLDER = os.path.join(_TOP, "cases")

@@ -5,9 +5,9 @@ from __future__ import annotations
 from collections import Counter
 from dataclasses import dataclass
 
-from kit.comparing import COUNTERS, END, EVENT, LEVEL, differences
-from kit.documents import Case, Transcript
-from kit.mistakes import Mistake
+from .comparing import COUNTERS, END, EVENT, LEVEL, differences
+from .documents import Case, Transcript
+from .mistakes import Mistake
 
 KINDS = {LEVEL: "levels", EVENT: "events", COUNTERS: "counters", END: "counters"}
 

@@ -4,8 +4,8 @@ from __future__ import annotations
 
 from typing import Iterator
 
-from kit.adapter import MOST_LEVELS, Adapter
-from kit.documents import Case, Event, Transcript
+from .adapter import MOST_LEVELS, Adapter
+from .documents import Case, Event, Transcript
 
 
 def seen_levels(case: Case) -> str:

@@ -6,8 +6,8 @@ import xml.etree.ElementTree as ET
 from dataclasses import dataclass
 from typing import Iterable
 
-from kit.documents import Case, Transcript
-from kit.playing import seen_levels
+from .documents import Case, Transcript
+from .playing import seen_levels
 
 KINDS = ("pass", "fail", "void", "skip")
 _WORDS = {"pass": "passed", "fail": "failed", "void": "void", "skip": "skipped"}

@@ -5,9 +5,9 @@ from __future__ import annotations
 import time
 from typing import Iterable, Iterator, Sequence
 
-from kit.adapter import MOST_LEVELS, Adapter, Skip, Void
-from kit.documents import Case, Transcript
-from kit.playing import play
+from .adapter import MOST_LEVELS, Adapter, Skip, Void
+from .documents import Case, Transcript
+from .playing import play
 
 MOST_VOIDS = 3
 

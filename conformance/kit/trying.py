@@ -4,8 +4,8 @@ from __future__ import annotations
 
 import subprocess
 
-from kit.documents import Case, Event, Transcript
-from kit.playing import cuts, seen_levels
+from .documents import Case, Event, Transcript
+from .playing import cuts, seen_levels
 
 SECONDS = 20
 

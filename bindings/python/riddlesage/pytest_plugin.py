@@ -14,10 +14,13 @@ repository has it. What the rules demand of each case stands in its transcripts,
 
 from __future__ import annotations
 
+import importlib
+import importlib.util
 import os
 import pathlib
 import sys
-from typing import TYPE_CHECKING, Protocol, cast
+from types import ModuleType
+from typing import TYPE_CHECKING, Any, Protocol, cast
 
 import pytest
 
@@ -42,12 +45,32 @@ _EVENTS = {
 _STATES = {State.ERROR_ACTIVE: "active", State.ERROR_PASSIVE: "passive", State.BUS_OFF: "off"}
 
 
-def _kit() -> pathlib.Path | None:
-    """The folder with the modules, cases and transcripts of the kit."""
+# The kit's package goes by this name, so that a project may have a `kit` of its own.
+_PACKAGE = "riddlesage_kit"
+
+
+def _find_kit() -> pathlib.Path:
+    """The file of the kit's package."""
     here = pathlib.Path(__file__).resolve()
     named = os.environ.get("RIDDLESAGE_KIT")
     places = [pathlib.Path(named)] if named else [here.parent / "conformance", here.parents[3] / "conformance"]
-    return next((place for place in places if (place / "kit").is_dir()), None)
+    found = (place / "kit" / "__init__.py" for place in places)
+    kit = next((file for file in found if file.is_file()), None)
+    if kit is None:
+        raise pytest.UsageError("the conformance kit is not found: RIDDLESAGE_KIT names its folder")
+    return kit
+
+
+def _kit(module: str) -> Any:
+    """A module of the kit."""
+    if _PACKAGE not in sys.modules:
+        file = _find_kit()
+        spec = importlib.util.spec_from_file_location(_PACKAGE, file, submodule_search_locations=[str(file.parent)])
+        assert spec is not None and spec.loader is not None
+        package: ModuleType = importlib.util.module_from_spec(spec)
+        sys.modules[_PACKAGE] = package
+        spec.loader.exec_module(package)
+    return importlib.import_module(f"{_PACKAGE}.{module}")
 
 
 def _told_text(told: Told) -> str:
@@ -83,42 +106,38 @@ class CanCase:
 
     def hold_against(self, device: Device) -> None:
         """Plays the case to a new device, and fails at the first bit time in which it does not as the rules demand."""
-        from kit.comparing import LEVEL, differences
-        from kit.reports import Verdict, window_lines
-
+        comparing, reports = _kit("comparing"), _kit("reports")
         given = self._play(device)
-        found = differences(given, self._expected)
+        found = comparing.differences(given, self._expected)
         if found:
             time, kind, text = found[0]
-            lines = [Verdict(self._case, "fail", f"{time}: {text}").line(), f"  {self.purpose}"]
-            if kind == LEVEL:
-                lines += window_lines(self._case, time, given, self._expected)
+            lines = [reports.Verdict(self._case, "fail", f"{time}: {text}").line(), f"  {self.purpose}"]
+            if kind == comparing.LEVEL:
+                lines += reports.window_lines(self._case, time, given, self._expected)
             pytest.fail("\n".join(lines), pytrace=False)
 
     def _play(self, device: Device) -> Transcript:
         """What the device does in the case."""
-        from kit.documents import Transcript
-        from kit.playing import seen_levels
-
         offers, holds = self._case.offers[::-1], self._case.holds[::-1]
         drove, events = "", []
-        for time, tester in enumerate(seen_levels(self._case)):
+        for time, tester in enumerate(_kit("playing").seen_levels(self._case)):
             while offers and offers[-1][0] == time:
                 device.offer(Frame.from_text(offers.pop()[1]))
             while holds and holds[-1][0] == time:
                 cast(_Holding, device).hold(holds.pop()[1])
             driven = device.drive()
             # with `f` it sees a recessive level whatever it drives
-            told = device.sample(1 if tester == "f" else driven & int(tester))
+            event = device.sample(1 if tester == "f" else driven & int(tester))
             drove += str(int(driven))
-            if told is not None:
-                events.append((time, _told_text(told)))
+            if event is not None:
+                events.append((time, _told_text(event)))
         state, counters = getattr(device, "state", None), getattr(device, "counters", None)
         end = None
         if state is not None and counters is not None:
             transmit, receive = counters
             end = (_STATES[State(state)], int(transmit), int(receive))
-        return Transcript(self.name, drove, events or None, None, end)
+        told: Transcript = _kit("documents").Transcript(self.name, drove, events or None, None, end)
+        return told
 
 
 def pytest_addoption(parser: pytest.Parser) -> None:
@@ -134,14 +153,8 @@ def pytest_generate_tests(metafunc: pytest.Metafunc) -> None:
     """Runs a test that asks for `can_case` with each case."""
     if "can_case" not in metafunc.fixturenames:
         return
-    kit = _kit()
-    if kit is None:
-        raise pytest.UsageError("the conformance kit is not found: RIDDLESAGE_KIT names its folder")
-    if str(kit) not in sys.path:
-        sys.path.insert(0, str(kit))
-    from kit.library import FOLDER, TRANSCRIPTS, read_library
-
-    cases, expected = read_library([FOLDER, TRANSCRIPTS])
+    library = _kit("library")
+    cases, expected = library.read_library([library.FOLDER, library.TRANSCRIPTS])
     only = tuple(metafunc.config.getoption("--can-only") or ("",))
     lacks = {need for need in metafunc.config.getoption("--can-without").split(",") if need}
     chosen = []
