@@ -9,7 +9,7 @@ import re
 import subprocess
 import sys
 
-from making.staging import Layout, Parts, link, put, settled, stage
+from making.staging import SONAME, Layout, Parts, link, put, settled, stage
 from making.tree import TOP, VERSION, commit_time, told
 
 sys.path.insert(0, str(TOP / "bindings" / "python"))
@@ -95,6 +95,7 @@ def debian_package(into: pathlib.Path, room: pathlib.Path, parts: Parts) -> None
     put(root / "DEBIAN" / "control", control)
     put(root / "DEBIAN" / "md5sums", md5sums)
     put(root / "DEBIAN" / "prerm", _PRERM, 0o755)
+    put(root / "DEBIAN" / "shlibs", f"libriddlesage {SONAME.rpartition('.')[2]} riddlesage (>= {VERSION})\n")
     put(root / "DEBIAN" / "triggers", "activate-noawait ldconfig\n")
     settled(root)
     for it in root.rglob("*"):

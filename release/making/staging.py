@@ -19,7 +19,7 @@ BINDINGS = ("bindings/examples", "bindings/rust", "bindings/sv", "bindings/veril
 SHARED = ("conformance", "examples", *BINDINGS)
 OF_THE_REPOSITORY = ("check", "record", "mechanical", "mutants", "mistakes", "peers", "tests", ".clang-tidy")
 LGPL = pathlib.Path("/usr/share/common-licenses/LGPL-2.1")
-DOCUMENTS = (":(glob)*.md", "docs", "bench/README.md", "bindings", "conformance", "examples", "page")
+DOCUMENTS = (":(glob)*.md", "docs", "bench/README.md", "bindings", "conformance", "examples", "page", "release")
 
 
 class Layout(NamedTuple):

@@ -23,8 +23,8 @@ def told(*command: str | pathlib.Path) -> str:
 
 
 def tracked(*patterns: str) -> list[str]:
-    """The files of the repository below these paths, by name."""
-    return told("git", "ls-files", "--", *patterns).splitlines()
+    """The files of the repository below these paths, by name: those that are committed, and those that could be."""
+    return sorted(told("git", "ls-files", "--cached", "--others", "--exclude-standard", "--", *patterns).splitlines())
 
 
 def commit() -> str:
