@@ -84,6 +84,7 @@ def proved() -> Record:
         raise Refusal(f"tests/all passed on commit {record.sources.commit}, and this is {now.commit}")
     if told("rt", "version") != record.toolchain:
         raise Refusal(f"tests/all passed by {record.toolchain}, and this is {told('rt', 'version')}")
-    if changed := [it for it, digest in record.parts.items() if sums().get(it) != digest]:
+    built = sums()
+    if changed := [it for it in PARTS if built.get(it) != record.parts.get(it)]:
         raise Refusal(f"not as tests/all left it: {' '.join(changed)}")
     return record
