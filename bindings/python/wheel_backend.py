@@ -31,7 +31,7 @@ def files(tag: str) -> Iterator[tuple[str, bytes]]:
     for folder, pattern in (("kit", "*.py"), ("cases", "*.toml"), ("transcripts", "*.toml")):
         for path in sorted((TOP / "conformance" / folder).glob(pattern)):
             yield f"riddlesage/conformance/{folder}/{path.name}", path.read_bytes()
-    if tag == BUILT:
+    if tag != PURE:
         yield "riddlesage/libriddlesage.so", LIBRARY.read_bytes()
     yield f"{INFO}/entry_points.txt", b"[pytest11]\nriddlesage = riddlesage.pytest_plugin\n"
     words = (
@@ -40,13 +40,18 @@ def files(tag: str) -> Iterator[tuple[str, bytes]]:
     )
     yield f"{INFO}/METADATA", words.encode("ascii")
     pure = str(tag == PURE).lower()
-    kind = f"Wheel-Version: 1.0\nGenerator: riddlesage\nRoot-Is-Purelib: {pure}\nTag: {tag}\n"
-    yield f"{INFO}/WHEEL", kind.encode("ascii")
+    python, abi, platforms = tag.split("-")
+    tags = "".join(f"Tag: {python}-{abi}-{it}\n" for it in platforms.split("."))
+    yield f"{INFO}/WHEEL", f"Wheel-Version: 1.0\nGenerator: riddlesage\nRoot-Is-Purelib: {pure}\n{tags}".encode("ascii")
 
 
 def build_wheel(folder: str, settings: dict[str, Any] | None = None, metadata: str | None = None) -> str:
-    """Writes the wheel to a folder, and gives its name. The same files make the same bytes."""
-    tag = BUILT if LIBRARY.is_file() else PURE
+    """Writes the wheel to a folder, and gives its name."""
+    return write_wheel(folder, BUILT if LIBRARY.is_file() else PURE)
+
+
+def write_wheel(folder: str, tag: str) -> str:
+    """Writes the wheel of this tag to a folder, and gives its name. The same files make the same bytes."""
     name = f"riddlesage-{VERSION}-{tag}.whl"
     record = ""
     with zipfile.ZipFile(os.path.join(folder, name), "w", zipfile.ZIP_DEFLATED) as wheel:

@@ -1,0 +1,63 @@
+"""Completions for bash, zsh and fish, of what the programs tell of themselves."""
+
+from __future__ import annotations
+
+from making.programs import Program
+
+
+def bash(told: Program) -> str:
+    """The completion for bash."""
+    commands = " ".join(told.commands)
+    helped = " ".join(it for it in told.commands if it != "help")
+    return f"""\
+# bash completion of {told.name}
+_{told.name}() {{
+    local words=
+    case $COMP_CWORD,${{COMP_WORDS[1]}} in
+        1,*) words='{commands} --help' ;;
+        2,help) words='{helped}' ;;
+        2,*) words=--help ;;
+    esac
+    mapfile -t COMPREPLY < <(compgen -W "$words" -- "$2")
+}}
+complete -F _{told.name} {told.name}
+"""
+
+
+def zsh(told: Program) -> str:
+    """The completion for zsh."""
+    commands = "\n".join(f"    {_quoted(f'{name}:{does}')}" for name, does in told.commands.items())
+    return f"""\
+#compdef {told.name}
+local -a subcommands
+subcommands=(
+{commands}
+)
+if (( CURRENT == 2 )); then
+    _describe command subcommands
+elif (( CURRENT == 3 )) && [[ $words[2] == help ]]; then
+    subcommands=(${{subcommands:#help:*}})
+    _describe command subcommands
+fi
+_arguments '(-h --help)'{{-h,--help}}'[print help]'
+"""
+
+
+def fish(told: Program) -> str:
+    """The completion for fish."""
+    name = told.name
+    lines = [f"# fish completion of {name}", f"complete -c {name} -f"]
+    lines += [
+        f"complete -c {name} -n __fish_is_first_arg -a {command} -d {_quoted(does)}"
+        for command, does in told.commands.items()
+    ]
+    if "help" in told.commands:
+        helped = " ".join(it for it in told.commands if it != "help")
+        lines.append(f"complete -c {name} -n '__fish_seen_subcommand_from help' -a '{helped}'")
+    lines.append(f"complete -c {name} -s h -l help -d 'Print help'")
+    return "\n".join(lines) + "\n"
+
+
+def _quoted(text: str) -> str:
+    """The text for a shell, in double quotes."""
+    return '"' + "".join(f"\\{it}" if it in '\\"$`' else it for it in text) + '"'

@@ -1,0 +1,75 @@
+"""Pages of the manual, in mdoc, of what the programs tell of themselves."""
+
+from __future__ import annotations
+
+import time
+from collections.abc import Iterator
+
+from making.programs import PROGRAMS, Help, Program
+
+_SIGNS = {"\\": r"\e", "-": r"\-", "`": r"\(ga", "'": r"\(aq", "^": r"\(ha", "~": r"\(ti", '"': r"\(dq"}
+
+
+def _plain(line: str) -> str:
+    """The line, as it is to be read."""
+    text = "".join(_SIGNS.get(it, it) for it in line)
+    return rf"\&{text}" if text.startswith(".") else text
+
+
+def _as_is(paragraphs: Iterator[list[str]]) -> Iterator[str]:
+    """Paragraphs as they stand in the help text, with their columns."""
+    lines = [line for it in paragraphs for line in ["", *it]][1:]
+    if lines:
+        yield from [".Bd -literal", *map(_plain, lines), ".Ed"]
+
+
+def _status(text: Help) -> Iterator[str]:
+    block = text.block("Exit status:")
+    if block:
+        yield ".Sh EXIT STATUS"
+        first = block[0][len("Exit status:") :].strip()
+        yield from _as_is(iter([[first] * bool(first) + block[1:]]))
+
+
+def _commands(told: Program) -> Iterator[str]:
+    for name, text in told.helps.items():
+        yield from [f".Sh {name.upper()}", f"{_plain(text.summary)}."]
+        yield from _as_is(text.others("Options:"))
+
+
+def _see_also(told: Program) -> Iterator[str]:
+    others = sorted(PROGRAMS.keys() - {told.name})
+    yield ".Sh SEE ALSO"
+    yield from (f".Xr {it} 1{' ,' * (it != others[-1])}" for it in others)
+    for document, what in PROGRAMS[told.name].items():
+        yield from [".Pp", f".Pa share/doc/riddlesage/docs/{document}.md", f"has {what}."]
+
+
+def page(told: Program, version: str, seconds: int) -> str:
+    """The page of the manual of a program of this version, of this time."""
+    day = time.gmtime(seconds)
+    summary = told.help.summary
+    lines = [
+        f".Dd {time.strftime('%B', day)} {day.tm_mday}, {day.tm_year}",
+        f".Dt {told.name.upper()} 1",
+        f".Os riddlesage {version}",
+        ".Sh NAME",
+        f".Nm {told.name}",
+        f".Nd {_plain(summary[0].lower() + summary[1:])}",
+        ".Sh SYNOPSIS",
+        ".Nm",
+        *(_word(it) for it in told.help.usage.split()[1:]),
+        ".Sh DESCRIPTION",
+        *_as_is(told.help.others("Exit status:", "Options:")),
+        *_commands(told),
+        *_status(told.help),
+        *_see_also(told),
+    ]
+    return "\n".join(lines) + "\n"
+
+
+def _word(word: str) -> str:
+    """A word of a call: what is to be put in its place, or an option."""
+    if word.startswith("["):
+        return f".Op Fl {_plain(word.strip('[]')[1:])}"
+    return f".Ar {word.strip('<>').lower()}"

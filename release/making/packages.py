@@ -1,0 +1,105 @@
+"""The three things that are installed: an archive, a Debian package and a wheel."""
+
+from __future__ import annotations
+
+import hashlib
+import os
+import pathlib
+import re
+import subprocess
+import sys
+
+from making.staging import SONAME, Layout, Parts, link, put, settled, stage
+from making.tree import TOP, VERSION, commit_time, told
+
+sys.path.insert(0, str(TOP / "bindings" / "python"))
+
+import wheel_backend
+
+NAME = f"riddlesage-{VERSION}-linux-x86_64"
+_MODULE = "lib/python3/dist-packages"
+# Python writes its own files beside those of the package, which dpkg knows nothing of.
+_PRERM = f"""\
+#!/bin/sh
+set -e
+find /usr/{_MODULE}/riddlesage /usr/share/riddlesage -name __pycache__ -prune -exec rm -rf {{}} +
+"""
+_CONTROL = """\
+Package: riddlesage
+Version: {version}
+Architecture: amd64
+Section: electronics
+Priority: optional
+Maintainer: nobody yet <nobody@example.invalid>
+Installed-Size: {size}
+Depends: libc6 (>= {libc})
+Recommends: python3 (>= 3.9)
+Suggests: python3-pytest, pkg-config, iverilog, verilator, ghdl
+Description: proved reference for classical CAN controllers
+ canbit turns frames into levels, traces into frames and faults, and scenarios
+ into what was on the bus; canhold judges controllers by a conformance kit. With
+ a golden model for C, C++, Rust, Python, Verilog, SystemVerilog and VHDL.
+"""
+
+
+def _sum(path: pathlib.Path, algorithm: str) -> str:
+    return hashlib.new(algorithm, path.read_bytes()).hexdigest()
+
+
+def sums(root: pathlib.Path, algorithm: str) -> str:
+    """A line with the sum of each file below a folder, as sha256sum writes and reads them."""
+    files = sorted(it for it in root.rglob("*") if it.is_file() and not it.is_symlink())
+    return "".join(f"{_sum(it, algorithm)}  {it.relative_to(root)}\n" for it in files)
+
+
+def libc_needed() -> str:
+    """The oldest C library that has all that the shared object names."""
+    names = told("readelf", "--version-info", "--wide", TOP / wheel_backend.LIBRARY)
+    return max(re.findall(r"GLIBC_([\d.]+)", names), key=lambda it: [int(part) for part in it.split(".")])
+
+
+def wheel(into: pathlib.Path) -> pathlib.Path:
+    """Makes the wheel. Its tag names the C library that it needs; that of 2014 is for a pip that knows no such tag."""
+    libc = libc_needed()
+    tags = [f"manylinux_{libc.replace('.', '_')}_x86_64"]
+    tags += ["manylinux2014_x86_64"] * (int(libc.split(".")[1]) <= 17)
+    return into / wheel_backend.write_wheel(str(into), f"py3-none-{'.'.join(tags)}")
+
+
+def archive(into: pathlib.Path, room: pathlib.Path, parts: Parts, wheel: pathlib.Path) -> None:
+    """Makes the archive, which can be unpacked anywhere."""
+    root = room / NAME
+    stage(root, Layout("lib", "${pcfiledir}/../.."), parts)
+    put(root / "python" / wheel.name, wheel.read_bytes())
+    for name in ("README.md", "BUILT-FROM"):
+        link(root / name, f"share/doc/riddlesage/{name}")
+    put(root / "SHA256SUMS", sums(root, "sha256"))
+    settled(root)
+    words = ["tar", "--sort=name", f"--mtime=@{commit_time()}", "--owner=0", "--group=0", "--numeric-owner"]
+    words += ["--format=gnu", "--use-compress-program=xz -9 -T1", "-cf", f"{into}/{NAME}.tar.xz", NAME]
+    subprocess.run(words, check=True, cwd=room)
+
+
+def debian_package(into: pathlib.Path, room: pathlib.Path, parts: Parts) -> None:
+    """Makes the package, with files where Debian has them."""
+    root = room / "package"
+    usr = root / "usr"
+    stage(usr, Layout("lib/x86_64-linux-gnu", "/usr"), parts)
+    for file, content in wheel_backend.files(wheel_backend.PURE):
+        if not file.startswith("riddlesage/conformance/"):
+            put(usr / _MODULE / file, content)
+    link(usr / _MODULE / "riddlesage" / "conformance", "../../../../share/riddlesage/conformance")
+    size = sum(it.stat().st_size for it in usr.rglob("*") if it.is_file() and not it.is_symlink()) // 1024
+    control = _CONTROL.format(version=VERSION, size=size, libc=libc_needed())
+    md5sums = sums(root, "md5")
+    put(root / "DEBIAN" / "control", control)
+    put(root / "DEBIAN" / "md5sums", md5sums)
+    put(root / "DEBIAN" / "prerm", _PRERM, 0o755)
+    put(root / "DEBIAN" / "shlibs", f"libriddlesage {SONAME.rpartition('.')[2]} riddlesage (>= {VERSION})\n")
+    put(root / "DEBIAN" / "triggers", "activate-noawait ldconfig\n")
+    settled(root)
+    for it in root.rglob("*"):
+        os.utime(it, (commit_time(), commit_time()), follow_symlinks=False)
+    words = ["dpkg-deb", "--root-owner-group", "-Zxz", "--build", str(root), f"{into}/riddlesage_{VERSION}_amd64.deb"]
+    times = {**os.environ, "SOURCE_DATE_EPOCH": str(commit_time())}
+    subprocess.run(words, check=True, env=times, stdout=subprocess.DEVNULL)

@@ -1,0 +1,58 @@
+"""The programs of a release, and what they tell of themselves: this is the one list of them."""
+
+from __future__ import annotations
+
+import pathlib
+import re
+from collections.abc import Iterator
+from typing import NamedTuple
+
+from making.tree import told
+
+# The name of each program's crate, and the documents that its page of the manual leads to.
+PROGRAMS = {
+    "canbit": {"FORMATS": "the formats", "CODES": "every code that is printed"},
+    "canhold": {"CONFORMANCE": "cases, transcripts and verdicts"},
+}
+_COMMAND = re.compile(r"  (\w[\w-]*) +(\S.*)")
+
+
+class Help(NamedTuple):
+    """A help text: its first line, how the program is called, and its other paragraphs."""
+
+    summary: str
+    usage: str
+    paragraphs: list[list[str]]
+
+    def block(self, head: str) -> list[str] | None:
+        """The paragraph whose first line begins so."""
+        return next((it for it in self.paragraphs if it[0].startswith(head)), None)
+
+    def others(self, *heads: str) -> Iterator[list[str]]:
+        """The paragraphs whose first lines begin with none of these."""
+        return (it for it in self.paragraphs if not it[0].startswith(heads))
+
+
+class Program(NamedTuple):
+    """A program, its help text, and each of its commands: what it does, and its own help where it has one."""
+
+    name: str
+    help: Help
+    commands: dict[str, str]
+    helps: dict[str, Help]
+
+
+def _read(text: str) -> Help:
+    summary, *paragraphs = (it.splitlines() for it in re.split(r"\n\n+", text.strip("\n")))
+    (usage,) = (it for it in paragraphs if it[0].startswith("Usage: "))
+    return Help(summary[0], usage[0][len("Usage: ") :], [it for it in paragraphs if it is not usage])
+
+
+def program(path: pathlib.Path) -> Program:
+    """What the program at this path tells of itself."""
+    whole = told(path, "--help")
+    text = _read(whole)
+    lines = (text.block("Commands:") or ["Commands:"])[1:]
+    commands = {it[1]: it[2] for it in map(_COMMAND.fullmatch, lines) if it}
+    helps = {it: told(path, it, "--help") for it in commands if it != "help"}
+    return Program(path.name, text, commands, {it: _read(own) for it, own in helps.items() if own != whole})

@@ -1,0 +1,131 @@
+"""The files of a release, put where a system or an archive has them."""
+
+from __future__ import annotations
+
+import gzip
+import os
+import pathlib
+import shutil
+from typing import NamedTuple
+
+from making import completions, man_pages
+from making.programs import Program
+from making.record import LIBRARY, OBJECTS, PAGE
+from making.tree import TOP, VERSION, commit_time, told, toolchain, tracked
+
+SONAME = f"libriddlesage.so.{VERSION.split('.')[0]}"
+# What is of use without the repository, and what of it is not: the tests of what stands there.
+BINDINGS = ("bindings/examples", "bindings/rust", "bindings/sv", "bindings/verilog", "bindings/vhdl")
+SHARED = ("conformance", "examples", *BINDINGS)
+OF_THE_REPOSITORY = ("check", "record", "mechanical", "mutants", "mistakes", "peers", "tests", ".clang-tidy")
+LGPL = pathlib.Path("/usr/share/common-licenses/LGPL-2.1")
+DOCUMENTS = (":(glob)*.md", "docs", "bench/README.md", "bindings", "conformance", "examples", "page", "release")
+
+
+class Layout(NamedTuple):
+    """Where a system has its libraries, below its prefix."""
+
+    libraries: str
+    # the prefix, and that of pkg-config's file
+    prefix: str
+
+
+class Parts(NamedTuple):
+    """What the files are made of: the folder of the linked programs, what they tell, and the words on their origin."""
+
+    programs: pathlib.Path
+    told: list[Program]
+    built_from: str
+
+
+def put(path: pathlib.Path, content: bytes | str, mode: int = 0o644) -> None:
+    """Writes a file, and the folders that it is in."""
+    path.parent.mkdir(parents=True, exist_ok=True)
+    path.write_bytes(content.encode("utf-8") if isinstance(content, str) else content)
+    path.chmod(mode)
+
+
+def link(path: pathlib.Path, to: str) -> None:
+    """Makes a link to a name that is relative to its folder."""
+    path.parent.mkdir(parents=True, exist_ok=True)
+    path.symlink_to(to)
+
+
+def copy(name: str, to: pathlib.Path) -> None:
+    """Copies a file of the repository, which may be run where it may be there."""
+    file = TOP / name
+    put(to, file.read_bytes(), 0o755 if os.access(file, os.X_OK) else 0o644)
+
+
+def stage(root: pathlib.Path, layout: Layout, parts: Parts) -> None:
+    """Puts all files that an archive and a package have in common below a folder."""
+    share = root / "share"
+    _programs(root, parts)
+    _library(root, layout)
+    for name in tracked(*SHARED):
+        if not name.endswith(".md") and not set(name.split("/")) & set(OF_THE_REPOSITORY):
+            copy(name, share / "riddlesage" / name)
+    copy(PAGE, share / "riddlesage" / "riddlesage.html")
+    documents = share / "doc" / "riddlesage"
+    for name in tracked(*DOCUMENTS):
+        if name.endswith((".md", ".png")):
+            copy(name, documents / name)
+    put(documents / "BUILT-FROM", parts.built_from)
+    for name, text in _notices().items():
+        put(documents / "notices" / name, text)
+
+
+def _programs(root: pathlib.Path, parts: Parts) -> None:
+    """The programs, and what they are linked of, for whoever wants another C library in them."""
+    share = root / "share"
+    for part in linked():
+        put(root / "lib" / "riddlesage" / part.name, part.read_bytes())
+    for it in parts.told:
+        put(root / "bin" / it.name, (parts.programs / it.name).read_bytes(), 0o755)
+        page = man_pages.page(it, VERSION, commit_time()).encode("ascii")
+        put(share / "man" / "man1" / f"{it.name}.1.gz", gzip.compress(page, 9, mtime=0))
+        put(share / "bash-completion" / "completions" / it.name, completions.bash(it))
+        put(share / "zsh" / "vendor-completions" / f"_{it.name}", completions.zsh(it))
+        put(share / "fish" / "vendor_completions.d" / f"{it.name}.fish", completions.fish(it))
+
+
+def _library(root: pathlib.Path, layout: Layout) -> None:
+    archive, shared = (TOP / it for it in LIBRARY)
+    libraries = root / layout.libraries
+    put(libraries / archive.name, archive.read_bytes())
+    put(libraries / f"libriddlesage.so.{VERSION}", shared.read_bytes())
+    link(libraries / SONAME, f"libriddlesage.so.{VERSION}")
+    link(libraries / "libriddlesage.so", SONAME)
+    places = [layout.prefix, "${prefix}/include", f"${{prefix}}/{layout.libraries}"]
+    put(libraries / "pkgconfig" / "riddlesage.pc", told(TOP / "bindings" / "pkg-config", *places) + "\n")
+    for name in ("bindings/riddlesage.h", "bindings/cpp/riddlesage.hpp"):
+        copy(name, root / "include" / os.path.basename(name))
+
+
+def linked() -> list[pathlib.Path]:
+    """What the programs are linked of, besides the C library."""
+    return [*(TOP / it for it in OBJECTS.values()), *(toolchain() / "c" / it for it in ("libos_c.a", "liblibc_c.a"))]
+
+
+def _notices() -> dict[str, bytes]:
+    """The licences of the toolchain's libraries that the programs hold, which ask to be handed on."""
+    lines = (it.partition(":") for it in (TOP / "crates.txt").read_text("utf-8").splitlines() if not it.startswith("#"))
+    used = {name for _, _, names in lines for name in names.split()}
+    # of which those of toml come with it
+    files = (file for name in [*used, "toml_*"] for file in (toolchain() / "rattle").glob(f"{name}/LICENSE*"))
+    notices = {f"{it.parent.name}-{it.name}": it.read_bytes() for it in files}
+    return {**notices, "glibc-LICENSE-LGPL-2.1": LGPL.read_bytes()}
+
+
+def settled(root: pathlib.Path) -> pathlib.Path:
+    """The folder, of which each folder can be read by all."""
+    for folder in [root, *(it for it in root.rglob("*") if it.is_dir() and not it.is_symlink())]:
+        folder.chmod(0o755)
+    return root
+
+
+def cleared(folder: pathlib.Path) -> pathlib.Path:
+    """A new, empty folder in its place."""
+    shutil.rmtree(folder, ignore_errors=True)
+    folder.mkdir(parents=True)
+    return folder

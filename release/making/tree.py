@@ -1,0 +1,44 @@
+"""The repository, and the commands that tell of it."""
+
+from __future__ import annotations
+
+import functools
+import pathlib
+import subprocess
+
+TOP = pathlib.Path(__file__).resolve().parents[2]
+VERSION = (TOP / "VERSION").read_text("ascii").strip()
+
+
+class Refusal(Exception):
+    """Why no release is made."""
+
+
+def told(*command: str | pathlib.Path) -> str:
+    """What a command prints, in the tree's top, without the last line's end."""
+    ran = subprocess.run(
+        command, cwd=TOP, check=True, stdout=subprocess.PIPE, stdin=subprocess.DEVNULL, text=True, errors="replace"
+    )
+    return ran.stdout.rstrip("\n")
+
+
+def tracked(*patterns: str) -> list[str]:
+    """The files of the repository below these paths, by name: those that are committed, and those that could be."""
+    return sorted(told("git", "ls-files", "--cached", "--others", "--exclude-standard", "--", *patterns).splitlines())
+
+
+def commit() -> str:
+    """The commit that is checked out."""
+    return told("git", "rev-parse", "HEAD")
+
+
+@functools.cache
+def commit_time() -> int:
+    """When it was made, in seconds: the time of all files of a release."""
+    return int(told("git", "log", "-1", "--format=%ct"))
+
+
+@functools.cache
+def toolchain() -> pathlib.Path:
+    """The folder of the Rattle toolchain."""
+    return pathlib.Path(told("rt", "doc")).parent
