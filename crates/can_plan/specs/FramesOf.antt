@@ -1,5 +1,5 @@
 -- Frames that differ in nothing but their data. (Bosch CAN 2.0 part B, section 3.2.1)
-use Rattle.std.specs.Prelude.{ℕ, ◌≡◌, Bool}
+use Rattle.std.specs.Prelude.{ℕ, ◌≡◌, ◌+◌, ◌*◌, if◌then◌else◌, Bool}
 use Rattle.can_frame.specs.Ident.{Ident}
 use Rattle.can_frame.specs.Parts.{Parts, IsFrame}
 
@@ -9,3 +9,8 @@ pub record IsFrameOf (id : Ident) (remote : Bool) (dlc : ℕ) (f : Parts) : Type
   pub same_id : f.id ≡ id
   pub same_kind : f.remote ≡ remote
   pub same_dlc : f.dlc ≡ dlc
+
+-- How long a frame with so many data bytes keeps the bus that has as many stuff bits as there can be. (docs/PLANNING.md,
+-- "What a network keeps to")
+abbrev pub longest_with : Bool → ℕ → ℕ
+longest_with extended bytes = (if extended then 80 else 55) + 10 * bytes

@@ -2,7 +2,7 @@
 ghost use Rattle.std.specs.Prelude.{◌≡◌, ◌≢◌, ◌≤◌, [], IfSome, IsNone, length};
 ghost use Rattle.can_frame.specs.Parts.{IsFrame, Parts, byte_count as byte_count_of};
 ghost use Rattle.can_bus.specs.Quiet.{busy_time};
-ghost use Rattle.can_plan.specs.FramesOf.{IsFrameOf};
+ghost use Rattle.can_plan.specs.FramesOf.{IsFrameOf, longest_with};
 
 use can_frame::{Frame, Id};
 use can_wire::encode;
@@ -31,6 +31,7 @@ fn byte_count(remote: bool, dlc: u8) -> u16
 fn without_data(id: Id, remote: bool, dlc: u8) -> Option<Frame>
     ensures only { IfSome result (λ frame. (f : Parts) → IsFrameOf id remote dlc f → f ≡ frame) }
     ensures none { IsNone result → (f : Parts) → IsFrameOf id remote dlc f → f.bytes ≢ [] }
+    ensures data { byte_count_of remote dlc ≢ 0 → IsNone result }
 {
     if remote {
         Frame::remote(id, dlc).ok()
@@ -46,7 +47,8 @@ fn without_data(id: Id, remote: bool, dlc: u8) -> Option<Frame>
 /// first; ten levels that are never stuffed, and three of intermission.
 fn longest_with_bytes(extended: bool, bytes: u16) -> u16
     requires few { bytes ≤ 8 }
-    ensures { (f : Parts) → IsFrame f → f.id.extended ≡ extended → length f.bytes ≡ bytes → busy_time f ≤ result }
+    ensures bound { (f : Parts) → IsFrame f → f.id.extended ≡ extended → length f.bytes ≡ bytes → busy_time f ≤ result }
+    ensures value { result ≡ longest_with extended bytes }
 {
     if extended {
         LONGEST_EXTENDED + LONGEST_BYTE * bytes
@@ -62,6 +64,7 @@ fn longest_with_bytes(extended: bool, bytes: u16) -> u16
 pub fn longest_busy(id: Id, remote: bool, dlc: u8) -> u16
     ensures bound { (f : Parts) → IsFrameOf id remote dlc f → busy_time f ≤ result }
     ensures exact { (f : Parts) → IsFrameOf id remote dlc f → f.bytes ≡ [] → busy_time f ≡ result }
+    ensures data { byte_count_of remote dlc ≢ 0 → result ≡ longest_with id.extended (byte_count_of remote dlc) }
 {
     match without_data(id, remote, dlc) {
         Some(frame) => encode(&frame).len() as u16 + INTERMISSION,

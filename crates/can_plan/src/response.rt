@@ -1,5 +1,5 @@
 //! How long the frames of a message may take from their release to the end of their wire.
-ghost use Rattle.std.specs.Prelude.{◌≡◌, ◌+◌, ◌-◌, ◌*◌, ◌^◌, ◌<◌, ◌≤◌, ◌∷◌, ℕ, IfSome, MatchOption, Some, nat_lt, slice_get};
+ghost use Rattle.std.specs.Prelude.{◌≡◌, ◌+◌, ◌-◌, ◌*◌, ◌^◌, ◌<◌, ◌≤◌, ◌∷◌, ℕ, IfSome, IsFalse, IsNone, MatchOption, Some, length, nat_lt, slice_get};
 ghost use Rattle.std.specs.List.{list_all};
 ghost use Rattle.can_plan.specs.declared.message.Message.{Message as Sent};
 ghost use Rattle.can_plan.specs.Analysis.{IsBound, IsLeast, IsLeastBound, Ranking, demand as demand_of, ranking_at};
@@ -139,6 +139,8 @@ fn are_periodic(messages: &[Message]) -> bool
 pub fn response_bound(messages: &[Message], place: usize, rate: &HitRate, limit: u32) -> Option<u64>
     ensures least { (message : Sent) → slice_get messages.now place ≡ Some message → ArePeriodic messages.now → let ranking = ranking_at messages.now place message in
         MatchOption result ((other : ℕ) → IsBound (most_hits_of rate.now) limit ranking other → ⊥) (λ b. IsLeastBound (most_hits_of rate.now) limit ranking b) }
+    ensures absent { length messages.now ≤ place → IsNone result }
+    ensures aperiodic { IsFalse (list_all (λ m. nat_lt 0 m.period) messages.now) → IsNone result }
     ensures holds { (message : Sent) → slice_get messages.now place ≡ Some message → IsMessageSet messages.now →
         IfSome result (λ b. EndAlways (most_hits_of rate.now) messages.now message b) }
 {
