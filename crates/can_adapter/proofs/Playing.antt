@@ -1,7 +1,7 @@
 -- Bit times that are played one behind another.
-use Rattle.std.proofs.Common.{◌≡◌, ℕ, ◌+◌, List, [], ◌++◌, length, drop, map}
+use Rattle.std.proofs.Common.{◌≡◌, ℕ, List, ◌++◌, length, drop, map}
 use Rattle.can_node.specs.Ports.{PortState}
-use Rattle.can_stream.specs.Digits.{digit_of}
+use Rattle.can_frame.specs.Levels.{digit_of}
 use Rattle.can_adapter.specs.Adapters.{drove_in, event_lines, behind_levels}
 use Rattle.can_adapter.specs.Commands.{tester_of}
 

@@ -6,8 +6,9 @@ use Rattle.can_mac.specs.declared.event.Event.{Event}
 use Rattle.can_node.specs.Ports.{PortState, port_drives, with_offer}
 use Rattle.can_conform.specs.declared.script.TesterLevel.{TesterLevel}
 use Rattle.can_conform.specs.Runs.{met, started, told_of, wished}
-use Rattle.can_stream.specs.Digits.{digit_of}
-use Rattle.can_kit_text.specs.Words.{event_text, state_word}
+use Rattle.can_frame.specs.Levels.{digit_of}
+use Rattle.can_fault.specs.Words.{state_word}
+use Rattle.can_kit_text.specs.Words.{event_text}
 use Rattle.can_adapter.specs.Commands.{Command, begins, offers, wishes, plays, ends, IsCommandLine, quit_line}
 
 abbrev pub line_end : List ℕ

@@ -6,6 +6,7 @@ use Rattle.can_conform.specs.declared.script.Start.{Start}
 use Rattle.can_conform.specs.declared.script.Start.TheVariants.{Idle, Joining}
 use Rattle.can_conform.specs.declared.script.TesterLevel.{TesterLevel}
 use Rattle.can_conform.specs.declared.script.TesterLevel.TheVariants.{Dominant, Recessive, Forced}
+use Rattle.can_kit_text.specs.Names.{longest_name}
 
 -- a case begins; a frame is offered; overload frames are asked for; bit times are played; the case ends
 pub data Command : Type 0 where
@@ -33,10 +34,6 @@ tester_of digit = if digit == 48 then Dominant else (if digit == 49 then Recessi
 abbrev pub start_word : Start → List ℕ
 start_word Idle = codes " idle"
 start_word Joining = codes " joining"
-
--- how many bytes the name of a case has at most
-abbrev pub longest_name : ℕ
-longest_name = 80
 
 -- how many bit times a line plays at most
 abbrev pub most_levels : ℕ

@@ -10,7 +10,6 @@ use can_frame::Frame;
 use can_kit_text::{push_event, push_number, push_state, push_text};
 use can_mac::Event;
 use can_node::{PackedNode, Port};
-use can_stream::digit;
 use std::alloc::{AllocError, Global};
 
 /// What answers a line that wants a case where none has begun.
@@ -137,7 +136,7 @@ fn play<P: Port>(port: &mut P, digits: &[u8], out: &mut Vec<u8>) -> Result<(), A
     for (place, tester) in digits.iter().enumerate() {
         let meeting = meet(port, tester_of(*tester));
         tell_event(place, meeting.event, out)?;
-        drove.push(digit(meeting.drove));
+        drove.push(meeting.drove.digit());
     }
     push_text(out, b"drove ")?;
     push_text(out, &drove)?;

@@ -8,9 +8,7 @@ ghost use Rattle.can_adapter.specs.Commands.{is_tester_digit, start_word, tester
 
 use can_conform::{Start, TesterLevel};
 use can_frame::Frame;
-
-/// How many bytes the name of a case has at most.
-const LONGEST_NAME: usize = 80;
+use can_kit_text::LONGEST_NAME;
 
 /// How many bit times a line plays at most.
 pub(crate) const MOST_LEVELS: usize = 4096;

@@ -2,8 +2,7 @@
 use Rattle.std.proofs.Common.{◌≡◌, ℕ, List, Result, Ok, take, sym, ◌∙◌, ap}
 use Rattle.std.proofs.lemmas.List.{take-map}
 use Rattle.can_frame.specs.declared.level.Level.{Level}
-use Rattle.can_frame.specs.Levels.{level_of}
-use Rattle.can_c.specs.Codes.{levels_of_codes}
+use Rattle.can_frame.specs.Levels.{level_of, levels_of_codes}
 
 -- they are the first 157
 pub first_levels : (codes front : List ℕ) (levels looked_at : List Level) → front ≡ take 157 codes → levels ≡ levels_of_codes front → looked_at ≡ levels → looked_at ≡ take 157 (levels_of_codes codes)

@@ -1,5 +1,4 @@
 mod StatusLemmas
-mod CodeLemmas
 mod FrameLemmas
 mod RunLemmas
 mod LongestFrame

@@ -2,10 +2,10 @@
 use Rattle.std.proofs.Common.{◌≡◌, ℕ, ◌+◌, ◌<◌, ◌≤◌, List, [], ◌∷◌, ◌++◌, length, take, drop, map, get_or, set, refl, sym, ◌∙◌, ap, subst, arith, length-set}
 use Rattle.std.proofs.lemmas.List.{append-nil, append_assoc, drop_all, drop_more, take_all, take_more_set}
 use Rattle.can_frame.specs.declared.level.Level.{Level}
-use Rattle.can_frame.specs.Levels.{level_of}
+use Rattle.can_frame.specs.Levels.{level_of, level_code, levels_of_codes}
 use Rattle.can_node.specs.Ports.{PortState, port_drives, port_event, port_events, port_run, port_step}
 use Rattle.can_c.specs.BitTimes.{drives_over}
-use Rattle.can_c.specs.Codes.{event_code, level_code, levels_of_codes}
+use Rattle.can_c.specs.Codes.{event_code}
 
 -- the numbers of what a port drives, and of what it tells
 abbrev pub drives_codes : PortState → List ℕ → List ℕ
@@ -21,10 +21,6 @@ pub record IsPassed (p q : PortState) (codes drives events : List ℕ) (n : ℕ)
   pub told : take n events ++ event_codes q (drop n codes) ≡ event_codes p codes
   pub long_drives : length drives ≡ length codes
   pub long_events : length events ≡ length codes
-
--- none has
-pub none_passed : (p : PortState) (codes drives events : List ℕ) → length drives ≡ length codes → length events ≡ length codes → IsPassed p p codes drives events 0
-none_passed p codes drives events long_drives long_events = record { run = refl; driven = refl; told = refl; long_drives = long_drives; long_events = long_events }
 
 -- the next one
 run_first : (q : PortState) (c : ℕ) (rest : List ℕ) → port_run q (levels_of_codes (c ∷ rest)) ≡ port_run (port_step q (level_of c)) (levels_of_codes rest)

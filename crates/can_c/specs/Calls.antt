@@ -6,7 +6,7 @@ use Rattle.can_node.specs.Ports.{PortState}
 use Rattle.can_c.specs.declared.plain.PlainFrame.{PlainFrame}
 use Rattle.can_c.specs.declared.status.Status.{Status}
 use Rattle.can_c.specs.declared.status.Status.TheVariants.{Done, NoPort, QueueFull, NoEntry, BadLevel, BadCount, NoLevels, NoRoom}
-use Rattle.can_c.specs.Codes.{are_levels, is_level_code}
+use Rattle.can_frame.specs.Levels.{are_level_codes, is_level_code}
 use Rattle.can_c.specs.PlainFrames.{frame_in, refusal}
 
 -- a call that a port never refuses
@@ -34,7 +34,7 @@ abbrev pub run_status : Option PortState → List ℕ → List ℕ → List ℕ 
 run_status None levels drives events = NoPort
 run_status (Some p) levels drives events =
     if length levels == 0 then NoLevels
-    else if length drives == length levels then (if length events == length levels then (if are_levels levels then Done else BadLevel) else NoRoom)
+    else if length drives == length levels then (if length events == length levels then (if are_level_codes levels then Done else BadLevel) else NoRoom)
     else NoRoom
 
 -- the entry of the log with this number, counted from 0

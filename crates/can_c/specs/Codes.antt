@@ -1,10 +1,6 @@
--- The numbers by which C knows what a bit time brought, the state of a port, and levels. They are those of
+-- The numbers by which C knows what a bit time brought and the state of a port. They are those of
 -- bindings/riddlesage.h.
-use Rattle.std.specs.Prelude.{ℕ, nat_lt, Bool, true, false, Option, Some, None, List, map}
-use Rattle.std.specs.List.{list_all}
-use Rattle.can_frame.specs.declared.level.Level.{Level}
-use Rattle.can_frame.specs.declared.level.Level.TheVariants.{Dominant, Recessive}
-use Rattle.can_frame.specs.Levels.{level_of}
+use Rattle.std.specs.Prelude.{ℕ, Option, Some, None}
 use Rattle.can_fault.specs.declared.state.State.{State}
 use Rattle.can_fault.specs.declared.state.State.TheVariants.{Active, Passive, BusOff}
 use Rattle.can_mac.specs.declared.event.ErrorKind.{ErrorKind}
@@ -33,23 +29,3 @@ abbrev pub state_code : State → ℕ
 state_code Active = 0
 state_code Passive = 1
 state_code BusOff = 2
-
-abbrev pub flag_code : Bool → ℕ
-flag_code false = 0
-flag_code true = 1
-
-abbrev pub level_code : Level → ℕ
-level_code Dominant = 0
-level_code Recessive = 1
-
--- whether this is a level's number
-abbrev pub is_level_code : ℕ → Bool
-is_level_code code = nat_lt code 2
-
--- whether all of these are
-abbrev pub are_levels : List ℕ → Bool
-are_levels codes = list_all is_level_code codes
-
--- the levels of numbers
-abbrev pub levels_of_codes : List ℕ → List Level
-levels_of_codes codes = map level_of codes

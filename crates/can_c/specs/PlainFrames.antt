@@ -8,7 +8,8 @@ use Rattle.can_c.specs.declared.plain.PlainFrame.{PlainFrame}
 use Rattle.can_c.specs.declared.plain.PlainHeard.{PlainHeard}
 use Rattle.can_c.specs.declared.status.Status.{Status}
 use Rattle.can_c.specs.declared.status.Status.TheVariants.{BadFlag, BadIdentifier, BadDlc}
-use Rattle.can_c.specs.Codes.{flag_code, level_code}
+use Rattle.std.specs.Int.{from_bool}
+use Rattle.can_frame.specs.Levels.{level_code}
 
 -- why plain fields are no frame, the first reason that fits: a flag that is neither 0 nor 1, an identifier that
 -- its kind has not, a data length code above 15
@@ -30,8 +31,8 @@ frame_in f = record { id = ident_in f; remote = f.remote == 1; dlc = f.dlc; byte
 abbrev pub plain_frame : Parts → PlainFrame
 plain_frame f = record {
   identifier = f.id.raw;
-  extended = flag_code f.id.extended;
-  remote = flag_code f.remote;
+  extended = from_bool f.id.extended;
+  remote = from_bool f.remote;
   dlc = f.dlc;
   bytes = f.bytes ++ replicate (8 - length f.bytes) 0;
 }
@@ -40,7 +41,7 @@ plain_frame f = record {
 abbrev pub plain_heard : HeardParts → PlainHeard
 plain_heard h = record {
   frame = plain_frame h.frame;
-  acknowledged = flag_code h.acked;
+  acknowledged = from_bool h.acked;
   srr = level_code h.srr;
   r1 = level_code h.r1;
   r0 = level_code h.r0;

@@ -1,14 +1,15 @@
 ghost use Rattle.std.specs.Prelude.{◌≡◌, ◌≢◌, Some, IfSome, length, map, option_map};
-ghost use Rattle.can_frame.specs.Levels.{level_of};
+ghost use Rattle.can_frame.specs.Levels.{level_of, level_code, levels_of_codes};
 ghost use Rattle.can_node.specs.Ports.{port_drives, port_event, port_events, port_run, port_step};
 ghost use Rattle.can_c.specs.BitTimes.{drives_over, told_frame};
 ghost use Rattle.can_c.specs.Calls.{port_status, run_status, sample_status};
-ghost use Rattle.can_c.specs.Codes.{event_code as event_code_of, level_code as level_code_of, levels_of_codes};
+ghost use Rattle.can_c.specs.Codes.{event_code as event_code_of};
 ghost use Rattle.can_c.specs.Statuses.{done, status_code};
 
-use crate::codes::{are_levels, event_code, is_level, level_code, level_of_code};
+use crate::codes::event_code;
 use crate::plain::PlainFrame;
 use crate::status::Status;
+use can_frame::Level;
 use can_handle::{Controller, Handle};
 use can_mac::Event;
 use std::alloc::Global;
@@ -17,14 +18,14 @@ use std::alloc::Global;
 #[unsafe(no_mangle)]
 pub extern "C" fn can_c_drive(alloc: Global, handle: &mut Handle, level: &mut u8) -> u8
     ensures status { result ≡ status_code (port_status handle.old.held) }
-    ensures level { IfSome handle.old.held (λ p. level.new ≡ level_code_of (port_drives p)) }
+    ensures level { IfSome handle.old.held (λ p. level.new ≡ level_code (port_drives p)) }
     ensures unchanged { handle.new.held ≡ handle.old.held }
     ensures unwritten { result ≢ done → level.new ≡ level.old }
 {
     match handle.take(alloc) {
         None => Status::NoPort.code(),
         Some(port) => {
-            *level = level_code(port.drive());
+            *level = port.drive().code();
             handle.put(alloc, port);
             Status::Done.code()
         }
@@ -68,10 +69,10 @@ fn sample(port: &mut Controller, level: u8, event: &mut u8, frame: &mut PlainFra
     ensures unchanged { result ≢ Status.Done → port.new ≡ port.old }
     ensures unwritten { result ≢ Status.Done → (event.new ≡ event.old) × (frame.new ≡ frame.old) }
 {
-    if !is_level(level) {
+    if !Level::is_code(level) {
         return Status::BadLevel;
     }
-    let told = port.sample(level_of_code(level));
+    let told = port.sample(Level::from_code(level));
     *event = event_code(&told);
     tell(&told, frame);
     Status::Done
@@ -103,7 +104,7 @@ pub extern "C" fn can_c_run(
 ) -> u8
     ensures status { result ≡ status_code (run_status handle.old.held levels.now drives.old events.old) }
     ensures run { result ≡ done → handle.new.held ≡ option_map (λ p. port_run p (levels_of_codes levels.now)) handle.old.held }
-    ensures drives { result ≡ done → IfSome handle.old.held (λ p. drives.new ≡ map level_code_of (drives_over p (levels_of_codes levels.now))) }
+    ensures drives { result ≡ done → IfSome handle.old.held (λ p. drives.new ≡ map level_code (drives_over p (levels_of_codes levels.now))) }
     ensures events { result ≡ done → IfSome handle.old.held (λ p. events.new ≡ map event_code_of (port_events p (levels_of_codes levels.now))) }
     ensures unchanged { result ≢ done → handle.new.held ≡ handle.old.held }
     ensures unwritten { result ≢ done → (drives.new ≡ drives.old) × (events.new ≡ events.old) }
@@ -122,7 +123,7 @@ pub extern "C" fn can_c_run(
 fn run(port: &mut Controller, levels: &[u8], drives: &mut [u8], events: &mut [u8]) -> Status
     ensures status { result ≡ run_status (Some port.old) levels.now drives.old events.old }
     ensures run { result ≡ Status.Done → port.new ≡ port_run port.old (levels_of_codes levels.now) }
-    ensures drives { result ≡ Status.Done → drives.new ≡ map level_code_of (drives_over port.old (levels_of_codes levels.now)) }
+    ensures drives { result ≡ Status.Done → drives.new ≡ map level_code (drives_over port.old (levels_of_codes levels.now)) }
     ensures events { result ≡ Status.Done → events.new ≡ map event_code_of (port_events port.old (levels_of_codes levels.now)) }
     ensures unchanged { result ≢ Status.Done → port.new ≡ port.old }
     ensures unwritten { result ≢ Status.Done → (drives.new ≡ drives.old) × (events.new ≡ events.old) }
@@ -133,7 +134,7 @@ fn run(port: &mut Controller, levels: &[u8], drives: &mut [u8], events: &mut [u8
     if drives.len() != levels.len() || events.len() != levels.len() {
         return Status::NoRoom;
     }
-    if !are_levels(levels) {
+    if !Level::are_codes(levels) {
         return Status::BadLevel;
     }
     pass(port, levels, drives, events);
@@ -145,11 +146,11 @@ fn pass(port: &mut Controller, levels: &[u8], drives: &mut [u8], events: &mut [u
     requires drives { length drives.old ≡ length levels.now }
     requires events { length events.old ≡ length levels.now }
     ensures run { port.new ≡ port_run port.old (levels_of_codes levels.now) }
-    ensures drives { drives.new ≡ map level_code_of (drives_over port.old (levels_of_codes levels.now)) }
+    ensures drives { drives.new ≡ map level_code (drives_over port.old (levels_of_codes levels.now)) }
     ensures events { events.new ≡ map event_code_of (port_events port.old (levels_of_codes levels.now)) }
 {
     for place in 0..levels.len() {
-        drives[place] = level_code(port.drive());
-        events[place] = event_code(&port.sample(level_of_code(levels[place])));
+        drives[place] = port.drive().code();
+        events[place] = event_code(&port.sample(Level::from_code(levels[place])));
     }
 }

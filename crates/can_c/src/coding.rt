@@ -5,11 +5,10 @@ ghost use Rattle.can_code.specs.declared.fault.CodeFault.{CodeFault as Fault};
 ghost use Rattle.can_wire.specs.Heard.{HeardParts, Spells};
 ghost use Rattle.can_wire.specs.Wire.{driven};
 ghost use Rattle.can_c.specs.Calls.{encode_status};
-ghost use Rattle.can_c.specs.Codes.{are_levels as are_levels_of, level_code as level_code_of, levels_of_codes};
+ghost use Rattle.can_frame.specs.Levels.{are_level_codes, level_code, levels_of_codes};
 ghost use Rattle.can_c.specs.PlainFrames.{frame_in, plain_heard, refusal};
 ghost use Rattle.can_c.specs.Statuses.{done, fault_status, status_code};
 
-use crate::codes::{are_levels, level_code, level_of_code};
 use crate::plain::{PlainFrame, PlainHeard};
 use crate::status::Status;
 use arrayvec::ArrayVec;
@@ -26,7 +25,7 @@ const MOST_LEVELS: usize = 157;
 pub extern "C" fn can_c_encode(frame: &PlainFrame, levels: &mut [u8], count: &mut usize) -> u8
     ensures status { result ≡ status_code (encode_status frame.now levels.old) }
     ensures count { result ≡ done → count.new ≡ length (driven (frame_in frame.now)) }
-    ensures levels { result ≡ done → take count.new levels.new ≡ map level_code_of (driven (frame_in frame.now)) }
+    ensures levels { result ≡ done → take count.new levels.new ≡ map level_code (driven (frame_in frame.now)) }
     ensures behind { result ≡ done → drop count.new levels.new ≡ drop count.new levels.old }
     ensures unwritten { result ≢ done → (levels.new ≡ levels.old) × (count.new ≡ count.old) }
 {
@@ -47,11 +46,11 @@ pub extern "C" fn can_c_encode(frame: &PlainFrame, levels: &mut [u8], count: &mu
 /// Writes the levels' numbers in front of what stands there.
 fn write(wire: &[Level], levels: &mut [u8])
     requires { length wire.now ≤ length levels.old }
-    ensures front { take (length wire.now) levels.new ≡ map level_code_of wire.now }
+    ensures front { take (length wire.now) levels.new ≡ map level_code wire.now }
     ensures behind { drop (length wire.now) levels.new ≡ drop (length wire.now) levels.old }
 {
     for place in 0..wire.len() {
-        levels[place] = level_code(wire[place]);
+        levels[place] = wire[place].code();
     }
 }
 
@@ -62,16 +61,16 @@ fn write(wire: &[Level], levels: &mut [u8])
 #[tactic(auto, using(crate::proofs::StatusLemmas::fault_not_done))]
 #[unsafe(no_mangle)]
 pub extern "C" fn can_c_decode(levels: &[u8], heard: &mut PlainHeard, place: &mut usize) -> u8
-    ensures bad { are_levels_of (take 157 levels.now) ≡ false → result ≡ status_code Status.BadLevel }
+    ensures bad { are_level_codes (take 157 levels.now) ≡ false → result ≡ status_code Status.BadLevel }
     ensures found { result ≡ done → (h : HeardParts) × (Spells h (take place.new (levels_of_codes levels.now)) × (heard.new ≡ plain_heard h)) }
     ensures within { result ≡ done → place.new ≤ length levels.now }
-    ensures only { are_levels_of (take 157 levels.now) ≡ true → (h : HeardParts) (w rest : List Bit) → Spells h w → w ++ rest ≡ levels_of_codes levels.now → (result ≡ done) × (heard.new ≡ plain_heard h) × (place.new ≡ length w) }
-    ensures fault { are_levels_of (take 157 levels.now) ≡ true → result ≢ done → (f : Fault) × (IsCodeFault (levels_of_codes levels.now) f × (result ≡ status_code (fault_status f.kind)) × (place.new ≡ f.place)) }
+    ensures only { are_level_codes (take 157 levels.now) ≡ true → (h : HeardParts) (w rest : List Bit) → Spells h w → w ++ rest ≡ levels_of_codes levels.now → (result ≡ done) × (heard.new ≡ plain_heard h) × (place.new ≡ length w) }
+    ensures fault { are_level_codes (take 157 levels.now) ≡ true → result ≢ done → (f : Fault) × (IsCodeFault (levels_of_codes levels.now) f × (result ≡ status_code (fault_status f.kind)) × (place.new ≡ f.place)) }
     ensures unheard { result ≢ done → heard.new ≡ heard.old }
-    ensures unplaced { are_levels_of (take 157 levels.now) ≡ false → place.new ≡ place.old }
+    ensures unplaced { are_level_codes (take 157 levels.now) ≡ false → place.new ≡ place.old }
 {
     let front = front_of(levels);
-    if !are_levels(front) {
+    if !Level::are_codes(front) {
         return Status::BadLevel.code();
     }
     match decode(levels_in(front).as_slice()) {
@@ -106,7 +105,7 @@ fn levels_in(codes: &[u8]) -> ArrayVec<Level, 157>
 {
     let mut levels = ArrayVec::new();
     for code in codes {
-        levels.push(level_of_code(*code));
+        levels.push(Level::from_code(*code));
     }
     levels
 }

@@ -8,7 +8,7 @@
 //! | File | What it has | Defined in |
 //! |---|---|---|
 //! | `status.rt` | [`Status`], what a call answers | `specs/Codes.antt` |
-//! | `codes.rt` | the numbers of events, states and levels | `specs/Codes.antt` |
+//! | `codes.rt` | the numbers of events and states | `specs/Codes.antt` |
 //! | `plain.rt` | [`PlainFrame`], [`PlainHeard`], frames as plain fields | `specs/PlainFrames.antt` |
 //! | `ports.rt` | the exports that make a port, and what is done at one between two bit times | `specs/Calls.antt` |
 //! | `bit_times.rt` | the exports that take a port through bit times, one or many | `specs/Calls.antt`, `specs/BitTimes.antt` |

@@ -3,7 +3,6 @@ ghost use Rattle.can_frame.specs.Ident.{ident_count};
 ghost use Rattle.can_frame.specs.Parts.{byte_count};
 ghost use Rattle.can_c.specs.PlainFrames.{frame_in, ident_in, plain_frame, plain_heard, refusal};
 
-use crate::codes::{flag_code, level_code};
 use crate::status::Status;
 use can_code::Heard;
 use can_frame::{Frame, Id};
@@ -110,8 +109,8 @@ impl PlainFrame {
     {
         PlainFrame {
             identifier: frame.id().raw(),
-            extended: flag_code(frame.is_extended()),
-            remote: flag_code(frame.is_remote()),
+            extended: u8::from(frame.is_extended()),
+            remote: u8::from(frame.is_remote()),
             dlc: frame.dlc(),
             bytes: padded(frame.bytes()),
         }
@@ -125,11 +124,11 @@ impl PlainHeard {
     {
         PlainHeard {
             frame: PlainFrame::of(&heard.frame()),
-            acknowledged: flag_code(heard.acked()),
-            srr: level_code(heard.srr()),
-            r1: level_code(heard.r1()),
-            r0: level_code(heard.r0()),
-            last: level_code(heard.last()),
+            acknowledged: u8::from(heard.acked()),
+            srr: heard.srr().code(),
+            r1: heard.r1().code(),
+            r0: heard.r0().code(),
+            last: heard.last().code(),
         }
     }
 }

@@ -1,11 +1,12 @@
 ghost use Rattle.std.specs.Prelude.{◌≡◌, ◌≢◌, IfSome, Some, length, slice_get};
 ghost use Rattle.can_fault.specs.Counters.{state_of};
 ghost use Rattle.can_c.specs.Calls.{entry_status, port_status};
-ghost use Rattle.can_c.specs.Codes.{flag_code as flag_code_of, state_code as state_code_of};
+ghost use Rattle.std.specs.Int.{from_bool};
+ghost use Rattle.can_c.specs.Codes.{state_code as state_code_of};
 ghost use Rattle.can_c.specs.PlainFrames.{plain_frame};
 ghost use Rattle.can_c.specs.Statuses.{done, status_code};
 
-use crate::codes::{flag_code, state_code};
+use crate::codes::state_code;
 use crate::plain::PlainFrame;
 use crate::status::Status;
 use can_handle::{Controller, Handle};
@@ -104,7 +105,7 @@ pub extern "C" fn can_c_entry(
 ) -> u8
     ensures status { result ≡ status_code (entry_status handle.old.held number) }
     ensures frame { IfSome handle.old.held (λ p. IfSome (slice_get p.log number) (λ entry. frame.new ≡ plain_frame entry.frame)) }
-    ensures sent { IfSome handle.old.held (λ p. IfSome (slice_get p.log number) (λ entry. sent.new ≡ flag_code_of entry.sent)) }
+    ensures sent { IfSome handle.old.held (λ p. IfSome (slice_get p.log number) (λ entry. sent.new ≡ from_bool entry.sent)) }
     ensures unchanged { handle.new.held ≡ handle.old.held }
     ensures unwritten { result ≢ done → (frame.new ≡ frame.old) × (sent.new ≡ sent.old) }
 {
@@ -122,14 +123,14 @@ pub extern "C" fn can_c_entry(
 fn entry(port: &Controller, number: usize, frame: &mut PlainFrame, sent: &mut u8) -> Status
     ensures status { result ≡ entry_status (Some port.now) number }
     ensures frame { IfSome (slice_get port.now.log number) (λ entry. frame.new ≡ plain_frame entry.frame) }
-    ensures sent { IfSome (slice_get port.now.log number) (λ entry. sent.new ≡ flag_code_of entry.sent) }
+    ensures sent { IfSome (slice_get port.now.log number) (λ entry. sent.new ≡ from_bool entry.sent) }
     ensures unwritten { result ≢ Status.Done → (frame.new ≡ frame.old) × (sent.new ≡ sent.old) }
 {
     match port.log().get(number) {
         None => Status::NoEntry,
         Some(entry) => {
             *frame = PlainFrame::of(&entry.frame);
-            *sent = flag_code(entry.sent);
+            *sent = u8::from(entry.sent);
             Status::Done
         }
     }

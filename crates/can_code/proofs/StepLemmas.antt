@@ -12,11 +12,11 @@ use lib.Lanes.{mask_l}
 use mir.Val.{bool_byte}
 use Rattle.can_frame.specs.declared.level.Level.{Level}
 use Rattle.can_frame.specs.declared.level.Level.TheVariants.{Dominant, Recessive}
-use Rattle.can_frame.specs.Levels.{bits_of, is_recessive, level_of, same}
+use Rattle.can_frame.specs.Levels.{bits_of, is_recessive, level_of, same, level_code, digit_of}
 use Rattle.can_wire.specs.Stuffing.{run_after}
 use Rattle.can_wire.specs.Layout.{frame_len}
 use Rattle.can_code.specs.Front.{FrontParts, next_place, heard_level, hear_at, heard_levels}
-use Rattle.can_code.specs.Digits.{BeginWith, HearsDigits, bit_of, digit_of, levels_up}
+use Rattle.can_code.specs.Digits.{BeginWith, HearsDigits, levels_up}
 use Rattle.can_code.specs.Steps.{RunParts, Step, begun, step_on, steps_on}
 use Rattle.can_code.specs.Unstuffing.{HasRoom, Unstuffs}
 use Rattle.can_code.specs.declared.unstuffing.UnstuffedRun.{UnstuffedRun}
@@ -27,13 +27,9 @@ use Rattle.can_code.proofs.HeardLevels.{hear_at-going}
 use Rattle.can_code.proofs.DecoderLemmas.{heard_levels-append}
 use Rattle.can_code.proofs.UnstuffingLemmas.{HearsDigits-begin, next_place-room}
 
-pub bit_small : (x : Level) → bit_of x ≤ 1
-bit_small Dominant = omega arith
-bit_small Recessive = omega arith
-
-bit_of-byte : (x : Level) → bool_byte (is_recessive x) ≡ bit_of x
-bit_of-byte Dominant = refl
-bit_of-byte Recessive = refl
+level_code-byte : (x : Level) → bool_byte (is_recessive x) ≡ level_code x
+level_code-byte Dominant = refl
+level_code-byte Recessive = refl
 
 -- ---- one level
 
@@ -42,14 +38,14 @@ abbrev Stuffed : Step → Level → Step → Type 0
 Stuffed s x t = (s.run ≡ 5) × (same x s.last ≡ false) × (t ≡ record { number = s.number; len = s.len; last = x; run = 1 })
 
 abbrev Unstuffed : Step → Level → Step → Type 0
-Unstuffed s x t = (s.run ≢ 5) × (t ≡ record { number = 2 * s.number + bit_of x; len = s.len + 1; last = x; run = run_after s.last s.run x })
+Unstuffed s x t = (s.run ≢ 5) × (t ≡ record { number = 2 * s.number + level_code x; len = s.len + 1; last = x; run = run_after s.last s.run x })
 
 step_on-some : (s t : Step) (x : Level) → step_on s x ≡ Some t → Stuffed s x t ⊎ Unstuffed s x t
 step_on-some s t x taken = of (eqb s.run 5) (same x s.last) refl refl taken
   where
     of : (due wrong : Bool) → eqb s.run 5 ≡ due → same x s.last ≡ wrong
         → cond due (cond wrong None (Some (record { number = s.number; len = s.len; last = x; run = 1 })))
-        (Some (record { number = 2 * s.number + bit_of x; len = s.len + 1; last = x; run = run_after s.last s.run x })) ≡ Some t
+        (Some (record { number = 2 * s.number + level_code x; len = s.len + 1; last = x; run = run_after s.last s.run x })) ≡ Some t
         → Stuffed s x t ⊎ Unstuffed s x t
     of true true is_due is_wrong h = cc
     of true false is_due is_right h = inl (eqb-true s.run 5 is_due, is_right, cc)
@@ -69,7 +65,7 @@ step_on-bounds s t x n h taken = elim (step_on-some s t x taken) [
       let not_due : s.run ≢ 5 = unstuffed.0 in
       subst (λ u. StepBounds u (n + 1)) (sym unstuffed.1)
       (record {
-        small = subst (λ b. 2 * s.number + b < 2 ^ (s.len + 1)) (bit_of-byte x) (next-small s.len s.number x h.small);
+        small = subst (λ b. 2 * s.number + b < 2 ^ (s.len + 1)) (level_code-byte x) (next-small s.len s.number x h.small);
         few = omega (arith, h.few);
         some = run_after-ge s.last s.run x;
         short = omega (arith, h.short, run_after-le s.last s.run x);
@@ -95,8 +91,8 @@ step_on-heard u s t x room taken =
           let not_due = ne_eqb s.run 5 unstuffed.0 in
           let level : heard_level f x ≡ record { unstuffed = v ++ x ∷ []; last = x; run = run_after s.last s.run x } =
           cond-false (eqb s.run 5) (record { unstuffed = v; last = x; run = 1 }) (record { unstuffed = v ++ x ∷ []; last = x; run = run_after s.last s.run x }) not_due in
-          let longer : v ++ x ∷ [] ≡ u ++ bits_of (s.len + 1) (2 * s.number + bit_of x) =
-          append_assoc u (bits_of s.len s.number) (x ∷ []) ∙ ap (λ l. u ++ l) (sym (bits_of-next s.len s.number x)) ∙ ap (λ b. u ++ bits_of (s.len + 1) (2 * s.number + b)) (bit_of-byte x) in
+          let longer : v ++ x ∷ [] ≡ u ++ bits_of (s.len + 1) (2 * s.number + level_code x) =
+          append_assoc u (bits_of s.len s.number) (x ∷ []) ∙ ap (λ l. u ++ l) (sym (bits_of-next s.len s.number x)) ∙ ap (λ b. u ++ bits_of (s.len + 1) (2 * s.number + b)) (level_code-byte x) in
           hear_at-going f x (next_place f) going (and_left (eqb s.run 5) (same x s.last) not_due) ∙ ap Some level
           ∙ ap (λ l. Some (record { unstuffed = l; last = x; run = run_after s.last s.run x })) longer ∙ ap (λ y. Some (front_of u y)) (sym unstuffed.1)
     ]

@@ -1,14 +1,13 @@
 -- The table of steps, by computing each of its entries, and what code reads of an entry.
 use Rattle.std.proofs.Common.{◌≡◌, ◌≢◌, ℕ, zero, suc, ◌+◌, ◌-◌, ◌*◌, ◌/◌, ◌%◌, ◌^◌, ◌<◌, ◌≤◌, ltb, cond, Option, Some, None, List, [], ◌∷◌, map, get_or, refl, ◌∙◌, ap, arith}
 use Rattle.std.specs.List.{range_with_len}
-use Rattle.std.proofs.Math.Dec.{eqb}
 use Rattle.std.proofs.Math.Pow.{pow-add, pow_mono, mod-pow-add}
 use Rattle.std.proofs.lemmas.Bool.{cond-false, le-ltb}
 use Rattle.std.proofs.lemmas.List.FromFn.{get_or-map-range_with_len}
 use Rattle.std.proofs.lemmas.Nat.{pow_pos, mod_below}
 use Rattle.can_frame.specs.declared.level.Level.{Level}
 use Rattle.can_frame.specs.declared.level.Level.TheVariants.{Dominant, Recessive}
-use Rattle.can_frame.specs.Levels.{level_from, level_of}
+use Rattle.can_frame.specs.Levels.{level_of}
 use Rattle.can_code.specs.Digits.{levels_up}
 use Rattle.can_code.specs.Steps.{Step, begun, entry_of, in_table, last_of, row_of, run_of, steps_on}
 use Rattle.can_code.specs.declared.steps.TableStep.{TableStep}
@@ -79,12 +78,6 @@ row_of-run Recessive r some short = omega arith
 pub row_of-small : (x : Level) (r : ℕ) → r ≤ 5 → row_of x r < 10
 row_of-small Dominant r short = omega arith
 row_of-small Recessive r short = omega arith
-
--- the last level before a row, as code reads it
-pub last_read : (n : ℕ) → n < 2 → level_from (eqb n 1) ≡ level_of n
-last_read zero h = refl
-last_read (suc zero) h = refl
-last_read (suc (suc n)) h = absurd (omega arith)
 
 -- ---- what code reads of an entry
 

@@ -8,7 +8,7 @@ use Rattle.std.proofs.lemmas.Bool.{and_left, and_right, cond-true, cond-false, e
 use Rattle.std.proofs.lemmas.List.{append-nil, map-append, take_more}
 use Rattle.can_frame.specs.declared.level.Level.{Level}
 use Rattle.can_frame.specs.declared.level.Level.TheVariants.{Dominant, Recessive}
-use Rattle.can_frame.specs.Levels.{bits_of, is_recessive, same}
+use Rattle.can_frame.specs.Levels.{bits_of, is_recessive, same, digit_of}
 use Rattle.can_code.specs.declared.front.Place.TheVariants.{CrcDelimiter}
 use Rattle.can_wire.specs.Crc.{IsCrc}
 use Rattle.can_wire.specs.Stuffing.{run_after}
@@ -18,7 +18,7 @@ use Rattle.can_wire.specs.Layout.{check_of, extended_of, data_place, frame_len, 
 use Rattle.can_code.specs.Reading.{TellsLength}
 use Rattle.can_code.specs.Front.{FrontParts, IsFront, next_place, is_stuff_error, heard_level, heard_levels}
 use Rattle.can_code.specs.Decoder.{DecoderParts, HasHeard}
-use Rattle.can_code.specs.Digits.{DecodesDigits, HearsDigits, HearsTail, digit_of}
+use Rattle.can_code.specs.Digits.{DecodesDigits, HearsDigits, HearsTail}
 use Rattle.can_code.specs.Unstuffing.{HasRoom}
 use mir.Val.{bool_byte}
 use Rattle.can_wire.proofs.LevelLemmas.{bits_of-zero}
@@ -155,10 +155,6 @@ DecodesDigits-part d e digits going agrees same_behind h = record {
   heard = λ before heard. HasHeard-run d before heard going h.levels e h.heard same_behind agrees;
 }
 
--- no digits
-pub DecodesDigits-none : (d : DecoderParts) (digits : List ℕ) → DecodesDigits d d (take 0 digits)
-DecodesDigits-none d digits = record { levels = []; digits_are = refl; heard = λ before heard. subst (HasHeard d) (sym (append-nil before)) heard }
-
 -- some, and then more
 pub DecodesDigits-join : (d e g : DecoderParts) (digits : List ℕ) (n k : ℕ) → DecodesDigits d e (take n digits) → DecodesDigits e g (take k (drop n digits)) → DecodesDigits d g (take (n + k) digits)
 DecodesDigits-join d e g digits n k some more = record {
@@ -167,15 +163,7 @@ DecodesDigits-join d e g digits n k some more = record {
   heard = λ before heard. subst (HasHeard g) (append_assoc before some.levels more.levels) (more.heard (before ++ some.levels) (some.heard before heard));
 }
 
--- behind it
-pub HearsTail-none : (k : ℕ) (acked : Bool) (digits : List ℕ) → HearsTail k acked (k + 0) acked (take 0 digits)
-HearsTail-none k acked digits = record {
-  levels = [];
-  digits_are = refl;
-  follow = (let same_count : k + 0 ≡ k = omega arith in ap (λ n. take n (tail (ack_slot acked) Recessive)) same_count) ∙ sym (append-nil (take k (tail (ack_slot acked) Recessive)));
-}
-
--- one more
+-- behind it, one level more
 module _ (k : ℕ) (acked : Bool) (n : ℕ) (between : Bool) (digits : List ℕ) (so_far : HearsTail k acked (k + n) between (take n digits)) (more : n < length digits) (x : Level) (is : get_or digits n 0 ≡ digit_of x) where
   pub HearsTail-level : (after : Bool) → take (k + n + 1) (tail (ack_slot after) Recessive) ≡ take (k + n) (tail (ack_slot between) Recessive) ++ x ∷ [] → HearsTail k acked (k + (n + 1)) after (take (n + 1) digits)
   HearsTail-level after follows = record {

@@ -3,7 +3,8 @@ use Rattle.std.proofs.Common.{◌≡◌, ℕ, ◌+◌, ◌%◌, ◌^◌, ◌≤�
 use Rattle.can_frame.specs.declared.level.Level.TheVariants.{Recessive}
 use Rattle.can_wire.specs.Wire.{tail}
 use Rattle.can_wire.specs.Heard.{ack_slot}
-use Rattle.can_code.specs.Digits.{HearsTail, digit_of, levels_up}
+use Rattle.can_frame.specs.Levels.{digit_of}
+use Rattle.can_code.specs.Digits.{HearsTail, levels_up}
 use Rattle.can_code.proofs.StepLemmas.{digits-levels_up}
 use Rattle.can_code.proofs.StepTable.{levels_below, levels_below-up}
 

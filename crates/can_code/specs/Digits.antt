@@ -1,22 +1,12 @@
 -- Levels as digits, and what a front and a decoder have heard of them.
 use Rattle.std.specs.Prelude.{ℕ, zero, suc, ◌≡◌, ◌≤◌, ◌/◌, ◌%◌, Bool, Some, List, [], ◌∷◌, ◌++◌, length, map, take}
 use Rattle.can_frame.specs.declared.level.Level.{Level}
-use Rattle.can_frame.specs.declared.level.Level.TheVariants.{Dominant, Recessive}
-use Rattle.can_frame.specs.Levels.{level_of}
+use Rattle.can_frame.specs.declared.level.Level.TheVariants.{Recessive}
+use Rattle.can_frame.specs.Levels.{digit_of, level_of}
 use Rattle.can_wire.specs.Wire.{tail}
 use Rattle.can_wire.specs.Heard.{ack_slot}
 use Rattle.can_code.specs.Front.{FrontParts, heard_levels}
 use Rattle.can_code.specs.Decoder.{DecoderParts, HasHeard}
-
--- a level as a digit, `0` or `1`
-abbrev pub digit_of : Level → ℕ
-digit_of Dominant = 48
-digit_of Recessive = 49
-
--- a level as a bit
-abbrev pub bit_of : Level → ℕ
-bit_of Dominant = 0
-bit_of Recessive = 1
 
 -- the n lowest bits of a number, the lowest first
 abbrev pub levels_up : ℕ → ℕ → List Level

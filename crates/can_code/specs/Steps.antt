@@ -1,9 +1,8 @@
 -- Levels of a stuffed part that are taken at once. (Bosch CAN 2.0 part B, section 6)
 use Rattle.std.specs.Prelude.{ℕ, ◌+◌, ◌-◌, ◌*◌, ◌/◌, ◌%◌, ◌==◌, Option, Some, None, option_and_then, if◌then◌else◌, List, [], ◌∷◌}
 use Rattle.can_frame.specs.declared.level.Level.{Level}
-use Rattle.can_frame.specs.Levels.{level_of, same}
+use Rattle.can_frame.specs.Levels.{level_of, same, level_code}
 use Rattle.can_wire.specs.Stuffing.{run_after}
-use Rattle.can_code.specs.Digits.{bit_of}
 use Rattle.can_code.specs.declared.steps.TableStep.{TableStep}
 
 -- Levels without their stuff bits: the unstuffed ones as a number whose bits they are, the first of them the
@@ -23,7 +22,7 @@ begun last run = record { number = 0; len = 0; last = last; run = run }
 abbrev pub step_on : Step → Level → Option Step
 step_on s x =
     if s.run == 5 then (if same x s.last then None else Some (record { number = s.number; len = s.len; last = x; run = 1 }))
-    else Some (record { number = 2 * s.number + bit_of x; len = s.len + 1; last = x; run = run_after s.last s.run x })
+    else Some (record { number = 2 * s.number + level_code x; len = s.len + 1; last = x; run = run_after s.last s.run x })
 
 -- levels, one after another
 abbrev pub steps_on : Step → List Level → Option Step
@@ -39,7 +38,7 @@ pub record RunParts : Type 0 where
 
 -- its row behind a run of this level and length, and what stands before a row
 abbrev pub row_of : Level → ℕ → ℕ
-row_of last run = 5 * bit_of last + (run - 1)
+row_of last run = 5 * level_code last + (run - 1)
 
 abbrev pub last_of : ℕ → Level
 last_of row = level_of (row / 5)

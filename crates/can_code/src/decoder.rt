@@ -7,7 +7,7 @@ ghost use Rattle.can_code.specs.Decoder.{HasHeard};
 ghost use Rattle.can_code.specs.Digits.{DecodesDigits, HearsTail};
 ghost use Rattle.can_code.specs.Front.{next_place};
 
-use crate::digits::{BLOCK, level_of, levels_of};
+use crate::digits::{BLOCK, levels_of};
 use crate::fault::CodeFaultKind;
 use crate::front::{Front, Place};
 use can_frame::Level;
@@ -191,7 +191,7 @@ fn tail_levels(digits: &[u8], behind: usize, acked: bool) -> TailRun
 {
     let mut now = TailRun { taken: 0, acked };
     while now.taken < digits.len() && behind + now.taken < LAST_LEVEL {
-        let Some(level) = level_of(digits[now.taken]) else {
+        let Some(level) = Level::from_digit(digits[now.taken]) else {
             return now;
         };
         if behind + now.taken == ACK_SLOT {

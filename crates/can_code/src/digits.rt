@@ -1,26 +1,12 @@
-ghost use Rattle.std.specs.Prelude.{◌≡◌, ◌≤◌, ◌==◌, IfSome, map, take};
+ghost use Rattle.std.specs.Prelude.{◌≡◌, ◌≤◌, ◌==◌, map, take};
 ghost use lib.Lanes.{mask_l};
-ghost use Rattle.can_code.specs.Digits.{digit_of, levels_up};
+ghost use Rattle.can_frame.specs.Levels.{digit_of};
+ghost use Rattle.can_code.specs.Digits.{levels_up};
 
-use can_frame::Level;
 use std::simd::prelude::*;
 
 /// How many digits are read at once.
 pub(crate) const BLOCK: usize = 16;
-
-/// The level whose digit the byte is, if it is one.
-#[inline]
-pub(crate) fn level_of(byte: u8) -> Option<Level>
-    ensures { IfSome result (λ level. byte ≡ digit_of level) }
-{
-    // no branch on which level it is, since none could be foretold
-    let bit = byte.wrapping_sub(b'0');
-    if bit <= 1 {
-        Some(Level::from_bool(bit == 1))
-    } else {
-        None
-    }
-}
 
 /// Levels whose digits stand at the front of a block.
 #[derive(Clone, Copy)]

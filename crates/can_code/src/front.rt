@@ -4,7 +4,6 @@ ghost use Rattle.can_wire.specs.Layout.{check_of, extended_of, frame_of, head_of
 ghost use Rattle.can_code.specs.Digits.{HearsDigits};
 ghost use Rattle.can_code.specs.Front.{IsFront, first_front, heard_level, is_stuff_error, next_place as next_place_of};
 
-use crate::digits::level_of;
 use crate::reading::{frame, frame_len, heard, is_extended};
 use crate::run::Run;
 use crate::unstuffing::{NUMBER_BITS, room_behind, unstuff};
@@ -175,7 +174,7 @@ impl<B: FrameBits> Front<B> {
         if self.run.is_longest() || self.length != Some(self.bits.len() + 1) || digits.is_empty() {
             return 0;
         }
-        match level_of(digits[0]) {
+        match Level::from_digit(digits[0]) {
             Some(level) if self.bits.agrees_with(level) && self.hear(level).is_ok() => 1,
             _ => 0,
         }

@@ -5,9 +5,10 @@ ghost use Rattle.can_code.specs.Reading.{TellsLength};
 ghost use Rattle.can_code.specs.Steps.{RunParts, run_at};
 ghost use Rattle.can_code.specs.Unstuffing.{HasRoom, Unstuffs, as_run};
 
-use crate::digits::{BLOCK, level_of, levels_of};
+use crate::digits::{BLOCK, levels_of};
 use crate::run::Run;
 use crate::steps::{STEP_LEVELS, take_step};
+use can_frame::Level;
 
 /// How many unstuffed levels tell the length of a standard frame: all that stand before its data.
 const STANDARD_HEADER: usize = 19;
@@ -219,7 +220,7 @@ fn unstuff_levels(digits: &[u8], room: usize, before: Run) -> UnstuffedRun
 {
     let mut now = UnstuffedRun::begin(before);
     while now.len < room && now.taken < digits.len() {
-        let Some(level) = level_of(digits[now.taken]) else {
+        let Some(level) = Level::from_digit(digits[now.taken]) else {
             return now;
         };
         if now.behind.is_longest() {

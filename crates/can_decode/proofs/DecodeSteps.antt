@@ -8,7 +8,7 @@ use Rattle.std.specs.List.{flat_map}
 use Rattle.can_frame.specs.declared.level.Level.{Level}
 use Rattle.can_frame.specs.declared.level.Level.TheVariants.{Dominant, Recessive}
 use Rattle.can_stream.specs.Outbox.{PassesOn, TakesFront}
-use Rattle.can_code.specs.Digits.{digit_of}
+use Rattle.can_frame.specs.Levels.{digit_of}
 use Rattle.can_decode.specs.TraceText.{IsTraceText, is_trace_byte, levels_in, levels_of_byte}
 use Rattle.can_decode.specs.Decoded.{finding_line}
 use Rattle.can_decode.specs.Decoding.{Hearing, Hears, HearsText, FailsToTell, MeetsBadByte, StopsHearing}

@@ -3,7 +3,7 @@ use Rattle.std.proofs.Common.{◌≡◌, ℕ, ◌+◌, ◌<◌, List, [], ◌∷
 use Rattle.std.proofs.lemmas.List.{append-nil, take_more}
 use Rattle.can_frame.specs.declared.level.Level.{Level}
 use Rattle.can_frame.specs.declared.level.Level.TheVariants.{Dominant, Recessive}
-use Rattle.can_code.specs.Digits.{digit_of}
+use Rattle.can_frame.specs.Levels.{digit_of}
 use Rattle.can_decode.specs.TraceText.{IsTraceText, is_trace_byte, levels_in}
 use Rattle.can_decode.specs.Decoding.{IsLost, Searches}
 use Rattle.can_decode.specs.declared.finding.Finding.{Finding}

@@ -122,7 +122,7 @@ fn hear_bytes<W: Sink>(
 {
     let mut index = 0;
     while index < bytes.len() {
-        index += hear_run(&bytes[index..], trace);
+        index += hear_untold(&bytes[index..], trace);
         if index < bytes.len() {
             hear_byte(bytes[index], place + index as u64, trace, w, out)?;
             index += 1;
@@ -132,7 +132,7 @@ fn hear_bytes<W: Sink>(
 }
 
 /// Hears bytes at the front of which nothing is told, as many as it likes, and answers how many.
-fn hear_run(bytes: &[u8], trace: &mut Trace) -> usize
+fn hear_untold(bytes: &[u8], trace: &mut Trace) -> usize
     requires { trace.old.place + length bytes.now < 2 ^ 64 }
     ensures within { result ≤ length bytes.now }
     ensures text { IsTraceText (take result bytes.now) }
@@ -153,7 +153,7 @@ fn hear_levels(bytes: &[u8], trace: &mut Trace) -> usize
 {
     let row = skip_row(bytes, trace);
     let begun = row + hear_start(&bytes[row..], trace);
-    begun + trace.hear_run(&bytes[begun..])
+    begun + trace.hear_digits(&bytes[begun..])
 }
 
 /// Skips the recessive levels at the front of the bytes, if they stand between frames, and answers how many

@@ -126,7 +126,7 @@ impl Trace {
     /// Hears levels from the front of these digits within a frame or behind a fault, as many as it likes, and
     /// answers how many. Nothing is told of them.
     #[inline(never)]
-    pub(crate) fn hear_run(&mut self, digits: &[u8]) -> usize
+    pub(crate) fn hear_digits(&mut self, digits: &[u8]) -> usize
         requires { self.old.place + length digits.now < 2 ^ 64 }
         ensures within { result ≤ length digits.now }
         ensures text { IsTraceText (take result digits.now) }

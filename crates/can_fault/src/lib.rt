@@ -4,7 +4,7 @@
 //! | File | What it has | Defined in |
 //! |---|---|---|
 //! | `cause.rt` | [`Cause`], what changes a counter | `specs/Counters.antt` |
-//! | `state.rt` | [`State`], what the counters make of a node | `specs/Counters.antt` |
+//! | `state.rt` | [`State`], what the counters make of a node, and its word | `specs/Counters.antt`, `specs/Words.antt` |
 //! | `confine.rt` | [`Confine`], the counters of a node, and how far it has come back from bus off | `specs/Counters.antt`, `specs/Recovery.antt` |
 //! | `laws.rt` | that what holds of a node stays, what the runs of a list are, that recovery goes level by level, and how long bus off lasts | `specs/Recovery.antt` |
 //!

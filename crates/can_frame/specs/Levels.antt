@@ -1,5 +1,6 @@
 -- Levels, and the levels of a number. (Bosch CAN 2.0 part B, sections 2 and 3.2.1)
-use Rattle.std.specs.Prelude.{ℕ, zero, suc, Bool, true, false, ◌+◌, ◌*◌, ◌/◌, ◌%◌, ◌^◌, List, [], ◌∷◌}
+use Rattle.std.specs.Prelude.{ℕ, zero, suc, Bool, true, false, nat_lt, ◌+◌, ◌*◌, ◌/◌, ◌%◌, ◌^◌, List, [], ◌∷◌, map}
+use Rattle.std.specs.List.{list_all}
 use Rattle.can_frame.specs.declared.level.Level.{Level}
 use Rattle.can_frame.specs.declared.level.Level.TheVariants.{Dominant, Recessive}
 
@@ -26,6 +27,28 @@ same Recessive Dominant = false
 abbrev pub level_of : ℕ → Level
 level_of zero = Dominant
 level_of (suc n) = Recessive
+
+-- the number of a level, which is its bit
+abbrev pub level_code : Level → ℕ
+level_code Dominant = 0
+level_code Recessive = 1
+
+-- whether this is a level's number
+abbrev pub is_level_code : ℕ → Bool
+is_level_code code = nat_lt code 2
+
+-- whether all of these are
+abbrev pub are_level_codes : List ℕ → Bool
+are_level_codes codes = list_all is_level_code codes
+
+-- the levels of numbers
+abbrev pub levels_of_codes : List ℕ → List Level
+levels_of_codes codes = map level_of codes
+
+-- a level as a digit, `0` or `1`
+abbrev pub digit_of : Level → ℕ
+digit_of Dominant = 48
+digit_of Recessive = 49
 
 -- the n lowest bits of a number, the highest first
 unfoldable pub bits_of : ℕ → ℕ → List Level

@@ -2,7 +2,7 @@
 //!
 //! | File | What it has | Defined in |
 //! |---|---|---|
-//! | `level.rt` | [`Level`], what the bus carries in one bit time, and [`IDLE_ROW`], how many recessive ones end a frame | `specs/Levels.antt`, `specs/IdleRow.antt` |
+//! | `level.rt` | [`Level`], what the bus carries in one bit time, its number and its digit, and [`IDLE_ROW`], how many recessive ones end a frame | `specs/Levels.antt`, `specs/IdleRow.antt` |
 //! | `id.rt` | [`Id`], an identifier of 11 or 29 bits | `specs/Ident.antt` |
 //! | `frame.rt` | [`Frame`], a data or remote frame, which holds just what it was made of | `specs/Parts.antt` |
 //! | `key.rt` | [`Key`], a frame's arbitration field, whose order is that of arbitration | `specs/Arbitration.antt`, `specs/KeyBits.antt` |

@@ -19,23 +19,38 @@ fn id_of(extended: bool, raw: u32) -> Option<Id> {
     }
 }
 
-/// Each level, the bit that it is, and the other level.
-const LEVELS: &[(Level, bool, Level)] = &[
-    (Level::Dominant, false, Level::Recessive),
-    (Level::Recessive, true, Level::Dominant),
+/// Each level, the bit that it is, its number and its digit, and the other level.
+const LEVELS: &[(Level, bool, u8, u8, Level)] = &[
+    (Level::Dominant, false, 0, b'0', Level::Recessive),
+    (Level::Recessive, true, 1, b'1', Level::Dominant),
 ];
+
+/// Whether a level has this number and this digit, and is the level of each.
+fn has_code(level: Level, code: u8, digit: u8) -> bool {
+    level.code() == code
+        && Level::from_code(code) == level
+        && level.digit() == digit
+        && Level::from_digit(digit) == Some(level)
+}
 
 #[test]
 fn levels(rt: HostRuntime) {
-    for (level, bit, other) in LEVELS {
+    for (level, bit, code, digit, other) in LEVELS {
         assert!(rt;
             Level::from_bool(*bit) == *level
                 && level.is_recessive() == *bit
-                && level.opposite() == *other,
+                && level.opposite() == *other
+                && has_code(*level, *code, *digit),
             "{level:?}"
         );
     }
     assert!(rt; Level::Dominant < Level::Recessive);
+}
+
+#[test]
+fn numbers_and_bytes_of_no_level(rt: HostRuntime) {
+    assert!(rt; Level::are_codes(&[0, 1]) && !Level::are_codes(&[0, 2]));
+    assert!(rt; Level::from_digit(b'2').is_none() && Level::from_digit(b'/').is_none());
 }
 
 // A frame ends with ACK delimiter, end of frame and intermission, an error frame with delimiter and intermission.

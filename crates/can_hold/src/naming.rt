@@ -6,13 +6,11 @@ ghost use Rattle.toml.specs.View.{table_view};
 ghost use Rattle.can_hold.specs.CaseNames.{IsCaseIn, IsOfCase, NamesTable};
 
 use crate::document::read_fields;
-use can_kit::{KitField, is_name, text_of};
+use can_kit::{KitField, text_of};
+use can_kit_text::{LONGEST_NAME, is_name};
 use can_toml::{elements_or_none, field, fields_of};
 use std::alloc::Global;
 use toml::Table;
-
-/// How many bytes the name of a case may have.
-const LONGEST_NAME: usize = 80;
 
 /// The name of the case of this field in the kit document that the bytes are, as its table says it, or that of its
 /// transcript. There is none where the field is of no case, where the table says no name of 1 to 80 letters from a to

@@ -5,7 +5,6 @@ use Rattle.toml.specs.Data.{Data}
 use Rattle.toml.specs.View.{view}
 use Rattle.toml.specs.declared.value.Value.{Value}
 use Rattle.can_frame.specs.declared.level.Level.{Level}
-use Rattle.can_conform.specs.declared.script.TesterLevel.TheVariants as tester
 use Rattle.can_kit.specs.declared.field.KitField.{KitField}
 use Rattle.can_kit.specs.declared.field.KitField.TheVariants.{Document}
 use Rattle.can_toml.specs.Demands.{AllMet, IsFirstUnmet}

@@ -18,7 +18,8 @@ use Rattle.can_toml.specs.Values.{are_known, elements_in, members_in, named, Are
 use Rattle.can_kit.specs.declared.case.Case.{Case}
 use Rattle.can_kit.specs.declared.words.Choice.{Choice}
 use Rattle.can_kit.specs.declared.words.Needs.{Needs}
-use Rattle.can_kit.specs.Words.{text_in, IsName, IsPurpose, IsText, SaysChoices, SaysNeeds, SaysStart}
+use Rattle.can_kit_text.specs.Names.{longest_name, IsName}
+use Rattle.can_kit.specs.Words.{text_in, IsPurpose, IsText, SaysChoices, SaysNeeds, SaysStart}
 use Rattle.can_kit.specs.declared.lists.CaseList.TheVariants.{Offers, Holds, Forced}
 use Rattle.can_kit.specs.Lists.{list_demands, number_in, time_in, strings_demands, AreRecessive, IsArrayOf, SaysHold, SaysOffer, SayStrings, SaysTime}
 
@@ -39,7 +40,7 @@ name_of d = text_in (named (codes "name") d)
 
 -- a name that begins with the family and a hyphen, and that none of the cases before has
 pub record IsNewName (earlier : List Data) (family name : List ℕ) : Type 0 where
-  pub word : IsName 80 name
+  pub word : IsName longest_name name
   pub rest : List ℕ
   pub begins : name ≡ family ++ (45 ∷ rest)
   pub new : list_any (λ other. same_key name (name_of other)) earlier ≡ false

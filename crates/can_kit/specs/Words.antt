@@ -1,5 +1,5 @@
 -- The words of a case's table: names, what is known of a bench, choices. (docs/CONFORMANCE.md, "Documents")
-use Rattle.std.specs.Prelude.{ℕ, ◌≡◌, ◌≢◌, MatchBool, ◌==◌, ◌≤◌, ◌<◌, nat_le, Bool, true, ◌&&◌, ◌||◌, not, if◌then◌else◌, List, [], ◌∷◌, ◌++◌, length, map, Option, Some, codes}
+use Rattle.std.specs.Prelude.{ℕ, ◌≡◌, ◌≢◌, MatchBool, ◌==◌, ◌≤◌, Bool, true, not, if◌then◌else◌, List, [], ◌∷◌, ◌++◌, length, map, Option, Some, codes}
 use Rattle.std.specs.List.{list_all}
 use Rattle.toml.specs.Data.{Data, string}
 use Rattle.can_toml.specs.Values.{elements_in, IsArray, IsOptional}
@@ -19,16 +19,6 @@ IsText P d = (text : List ℕ) × (d ≡ string text) × P text
 abbrev pub text_in : Option Data → List ℕ
 text_in (Some (string text)) = text
 text_in _ = []
-
--- a letter from a to z, a digit or a hyphen
-abbrev pub is_name_byte : ℕ → Bool
-is_name_byte byte = (nat_le 97 byte && nat_le byte 122) || ((nat_le 48 byte && nat_le byte 57) || (byte == 45))
-
--- 1 to so many letters, digits and hyphens
-pub record IsName (most : ℕ) (text : List ℕ) : Type 0 where
-  pub some : 0 < length text
-  pub few : length text ≤ most
-  pub letters : list_all is_name_byte text ≡ true
 
 -- one line of at most 200 bytes
 pub record IsPurpose (text : List ℕ) : Type 0 where

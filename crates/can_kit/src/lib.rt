@@ -14,8 +14,8 @@
 //! | `fault.rt` | [`KitFault`], why a document is not read | |
 //! | `field.rt` | [`KitField`], what is wrong in one | |
 //!
-//! [`read_elements`] over the trait [`Element`], [`read_strings`], [`is_of_version_one`], [`is_name`] and [`text_of`] are
-//! shared with the crates above.
+//! [`read_elements`] over the trait [`Element`], [`read_strings`], [`is_of_version_one`] and [`text_of`] are shared with
+//! the crates above.
 //!
 //! Of the lemmas, `InTime` has elements with their times, `Strings` strings of levels, `TesterParts` that these say
 //! one list of levels, `ForcedTimes` forced bit times, `WordLists` choices and names and needs, `OneNeeds` that
@@ -41,4 +41,4 @@ pub use laws::one_case;
 pub use lists::{Element, ElementFault, read_elements};
 pub use naming::is_of_version_one;
 pub use tester::read_strings;
-pub use words::{Choice, Needs, is_name, text_of};
+pub use words::{Choice, Needs, text_of};

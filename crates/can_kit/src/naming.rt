@@ -6,20 +6,19 @@ ghost use Rattle.toml.specs.View.{table_view, view};
 ghost use Rattle.can_kit.specs.declared.field.KitField.{KitField as Wrong};
 ghost use Rattle.can_toml.specs.Demands.{AllMet, IsFirstUnmet};
 ghost use Rattle.can_toml.specs.Values.{named, IsNumber, IsOptional, IsRequired};
-ghost use Rattle.can_kit.specs.Words.{IsName, IsPurpose, IsText};
+ghost use Rattle.can_kit_text.specs.Names.{IsName};
+ghost use Rattle.can_kit.specs.Words.{IsPurpose, IsText};
 ghost use Rattle.can_kit.specs.Cases.{name_of, naming_demands, IsNewName};
 
 use crate::fault::KitFault;
 use crate::field::CaseField;
-use crate::words::{is_name, is_purpose, text_of};
+use crate::words::{is_purpose, text_of};
+use can_kit_text::{LONGEST_NAME, is_name};
 use can_toml::{field, fields_of, required_number};
 use toml::{Table, Value};
 
 /// How many bytes the name of a family may have.
 const LONGEST_FAMILY: usize = 40;
-
-/// How many bytes the name of a case may have.
-const LONGEST_NAME: usize = 80;
 
 /// Reads the name of the case of this number, with these fields, behind these cases.
 pub(crate) fn read_name<'a>(

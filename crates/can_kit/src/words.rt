@@ -7,7 +7,7 @@ ghost use Rattle.can_toml.specs.Values.{named};
 ghost use Rattle.can_conform.specs.declared.script.Start.{Start as StartSaid};
 ghost use Rattle.can_kit.specs.declared.words.Needs.{Needs as NeedsSaid};
 ghost use Rattle.can_kit.specs.declared.words.Choice.{Choice as ChoiceSaid};
-ghost use Rattle.can_kit.specs.Words.{choice_word, is_name_byte as is_of_name, IsName, IsPurpose, SaysChoices, SaysNeeds, SaysStart};
+ghost use Rattle.can_kit.specs.Words.{choice_word, IsPurpose, SaysChoices, SaysNeeds, SaysStart};
 ghost use Rattle.can_kit.specs.Words.{TakesWord};
 
 use can_conform::Start;
@@ -70,27 +70,6 @@ pub fn text_of(value: &Value) -> Option<&str>
     ensures { MatchOption result ((text : List ℕ) → view value.now ≢ string text) (λ text. view value.now ≡ string text.now) }
 {
     value.as_str()
-}
-
-/// Whether a text is 1 to so many letters from a to z, digits and hyphens.
-pub fn is_name(text: &str, most: usize) -> bool
-    ensures { IsTrue result ↔ IsName most text.now }
-{
-    !text.is_empty() && text.len() <= most && are_of_names(text.as_bytes())
-}
-
-/// Whether all are letters from a to z, digits and hyphens.
-fn are_of_names(bytes: &[u8]) -> bool
-    ensures { result ≡ list_all is_of_name bytes.now }
-{
-    bytes.iter().all(|byte| is_name_byte(*byte))
-}
-
-/// Whether it is a letter from a to z, a digit or a hyphen.
-fn is_name_byte(byte: u8) -> bool
-    ensures { result ≡ is_of_name byte }
-{
-    matches!(byte, b'a'..=b'z' | b'0'..=b'9' | b'-')
 }
 
 /// Whether a text is one line of at most 200 bytes.

@@ -59,14 +59,14 @@ fn does(tester: &[TesterLevel], digits: &str) -> bool {
         return false;
     }
     for (level, digit) in tester.iter().zip(digits.as_bytes()) {
-        if digit_of(*level) != *digit {
+        if tester_digit(*level) != *digit {
             return false;
         }
     }
     true
 }
 
-fn digit_of(level: TesterLevel) -> u8 {
+fn tester_digit(level: TesterLevel) -> u8 {
     match level {
         TesterLevel::Dominant => b'0',
         TesterLevel::Recessive => b'1',

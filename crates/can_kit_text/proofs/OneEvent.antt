@@ -10,7 +10,8 @@ use Rattle.can_mac.specs.declared.event.Event.{Event}
 use Rattle.can_mac.specs.declared.event.Event.TheVariants.{Sent, Received, Lost, Error, Overload, WentOff, Recovered}
 use Rattle.can_mac.specs.declared.event.ErrorKind.{ErrorKind}
 use Rattle.can_mac.specs.declared.event.ErrorKind.TheVariants.{Bit, Stuff, Crc, Form, Ack}
-use Rattle.can_kit_text.specs.Words.{event_text, kind_word, state_word, SaysEvent}
+use Rattle.can_fault.specs.Words.{state_word}
+use Rattle.can_kit_text.specs.Words.{event_text, kind_word, SaysEvent}
 
 -- ---- kinds of errors, and states, by their first letter
 

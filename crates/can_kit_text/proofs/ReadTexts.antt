@@ -3,7 +3,7 @@ use Rattle.std.proofs.Common.{Bool, true, false, not, MatchBool, ◌==◌, ◌�
 use Rattle.std.proofs.lemmas.Bool.Decides.{nat_tests}
 use Rattle.std.proofs.Math.Seq.{take-append-add}
 use Rattle.std.proofs.lemmas.List.{length-append, length-map, length-replicate, take-replicate, take_all, take_min}
-use Rattle.can_stream.specs.Digits.{digit_of}
+use Rattle.can_frame.specs.Levels.{digit_of}
 use Rattle.can_frame.specs.declared.level.Level.{Level}
 use Rattle.can_kit_text.specs.LevelTexts.{AddsLevels, IsRun, SaysLevels, SaysPiece, SayPieces, pieces_of}
 use Rattle.can_kit_text.proofs.ReadPieces.{one-pieces, take-joined}

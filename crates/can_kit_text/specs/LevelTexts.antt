@@ -2,7 +2,7 @@
 use Rattle.std.specs.Prelude.{ℕ, ◌≡◌, ◌⊎◌, ◌==◌, ◌≤◌, ◌<◌, List, [], ◌∷◌, ◌++◌, length, map, take, codes, decimal, replicate}
 use Rattle.std.specs.List.{slice_split}
 use Rattle.can_frame.specs.declared.level.Level.{Level}
-use Rattle.can_stream.specs.Digits.{digit_of}
+use Rattle.can_frame.specs.Levels.{digit_of}
 
 -- what stands between the blanks of a text, nothing between two that follow one another
 abbrev pub pieces_of : List ℕ → List (List ℕ)

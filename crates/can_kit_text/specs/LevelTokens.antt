@@ -2,8 +2,7 @@
 -- (docs/CONFORMANCE.md)
 use Rattle.std.specs.Prelude.{ℕ, ◌+◌, nat_le, if◌then◌else◌, List, [], ◌∷◌, ◌++◌, codes, decimal, replicate}
 use Rattle.can_frame.specs.declared.level.Level.{Level}
-use Rattle.can_frame.specs.Levels.{same}
-use Rattle.can_stream.specs.Digits.{digit_of}
+use Rattle.can_frame.specs.Levels.{same, digit_of}
 use Rattle.can_kit_text.specs.declared.levels.Before.{Before}
 use Rattle.can_kit_text.specs.declared.levels.Before.TheVariants.{Nothing, Literal, LongRun}
 

@@ -1,4 +1,5 @@
 -- To believe: what public calls and laws promise is said in these words
 pub mod Words
+pub mod Names
 pub mod LevelTokens
 pub mod LevelTexts

@@ -1,9 +1,7 @@
--- The words for events and states, in documents and in the line protocol. (docs/CONFORMANCE.md)
+-- The words for events, in documents and in the line protocol. (docs/CONFORMANCE.md)
 use Rattle.std.specs.Prelude.{ℕ, ◌≡◌, List, ◌++◌, codes, Option, Some, None, IfSome}
 use Rattle.can_frame.specs.Parts.{Parts, IsFrame}
 use Rattle.can_frame.specs.Text.{frame_text}
-use Rattle.can_fault.specs.declared.state.State.{State}
-use Rattle.can_fault.specs.declared.state.State.TheVariants.{Active, Passive, BusOff}
 use Rattle.can_mac.specs.declared.event.Event.{Event}
 use Rattle.can_mac.specs.declared.event.Event.TheVariants.{Sent, Received, Lost, Error, Overload, WentOff, Recovered}
 use Rattle.can_mac.specs.declared.event.ErrorKind.{ErrorKind}
@@ -37,9 +35,3 @@ frame_in _ = None
 pub record SaysEvent (text : List ℕ) (event : Event) : Type 0 where
   pub text_is : text ≡ event_text event
   pub frame : IfSome (frame_in event) IsFrame
-
--- the word for a state
-abbrev pub state_word : State → List ℕ
-state_word Active = codes "active"
-state_word Passive = codes "passive"
-state_word BusOff = codes "off"

@@ -4,7 +4,8 @@ ghost use Rattle.can_fault.specs.declared.state.State.{State as StateSaid};
 ghost use Rattle.can_frame.specs.Parts.{IsFrame, Parts};
 ghost use Rattle.can_frame.specs.Text.{frame_text};
 ghost use Rattle.can_mac.specs.declared.event.Event.{Event as EventSaid};
-ghost use Rattle.can_kit_text.specs.Words.{event_text, frame_in, state_word, SaysEvent};
+ghost use Rattle.can_fault.specs.Words.{state_word};
+ghost use Rattle.can_kit_text.specs.Words.{event_text, frame_in, SaysEvent};
 
 use can_fault::State;
 use can_frame::Frame;

@@ -4,7 +4,6 @@ ghost use Rattle.can_kit_text.specs.LevelTokens.{behind_run, gap_before_literal,
 
 use crate::words::{push_number, push_text};
 use can_frame::Level;
-use can_stream::digit;
 use std::alloc::AllocError;
 
 /// From how many levels on a run is written as `L*N`.
@@ -75,7 +74,7 @@ fn push_run(
     ensures text { OnOk result (out.new.items ≡ out.old.items ++ run_text before level count) }
     ensures before { IfOk result (λ next. next ≡ behind_run count) }
 {
-    let digit = digit(level);
+    let digit = level.digit();
     if count >= LONG_RUN {
         push_text(out, before.gap_before_run())?;
         push_text(out, &[digit, b'*'])?;

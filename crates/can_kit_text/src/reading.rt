@@ -1,7 +1,7 @@
 //! The levels that a text says.
 ghost use Rattle.std.specs.Prelude.{ℕ, ◌≡◌, ◌≢◌, ◌<◌, ◌≤◌, ◌^◌, List, decimal, false, length, map, replicate, true, IfOk, MatchOption};
 ghost use Rattle.can_frame.specs.declared.level.Level.{Level as LevelSaid};
-ghost use Rattle.can_stream.specs.Digits.{digit_of};
+ghost use Rattle.can_frame.specs.Levels.{digit_of};
 ghost use Rattle.can_kit_text.specs.LevelTexts.{longest_run, AddsLevels, IsRun, SaysLevels, SaysPiece};
 
 use can_frame::Level;
@@ -54,7 +54,7 @@ fn read_digits(levels: &mut Vec<Level>, most: usize, digits: &[u8]) -> Result<bo
     ensures few { IfOk result (λ said. length levels.new.items ≤ most) }
 {
     for digit in digits {
-        let Some(level) = level_of(*digit) else {
+        let Some(level) = Level::from_digit(*digit) else {
             return Ok(false);
         };
         if levels.len() < most {
@@ -64,24 +64,13 @@ fn read_digits(levels: &mut Vec<Level>, most: usize, digits: &[u8]) -> Result<bo
     Ok(true)
 }
 
-/// The level of a digit.
-fn level_of(digit: u8) -> Option<Level>
-    ensures { MatchOption result ((level : LevelSaid) → digit_of level ≢ digit) (λ level. digit_of level ≡ digit) }
-{
-    match digit {
-        b'0' => Some(Level::Dominant),
-        b'1' => Some(Level::Recessive),
-        _ => None,
-    }
-}
-
 /// The level of a token `L*N`, and how many there are.
 fn run_in(piece: &str) -> Option<(Level, u32)>
     ensures { MatchOption result ((levels : List LevelSaid) → ¬ IsRun piece.now levels) (λ run. IsRun piece.now (replicate run.1 run.0)) }
 {
     let (digit, count) = piece.split_once('*')?;
     match digit.as_bytes() {
-        [digit] => Some((level_of(*digit)?, count_in(count)?)),
+        [digit] => Some((Level::from_digit(*digit)?, count_in(count)?)),
         _ => None,
     }
 }

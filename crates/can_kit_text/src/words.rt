@@ -1,7 +1,8 @@
 //! Numbers, events and states as text.
 ghost use Rattle.std.specs.Prelude.{◌≡◌, ◌++◌, codes, decimal, OnOk};
 ghost use Rattle.can_frame.specs.Text.{frame_text};
-ghost use Rattle.can_kit_text.specs.Words.{event_text, kind_word as word_of_kind, state_word as word_of_state};
+ghost use Rattle.can_fault.specs.Words.{state_word};
+ghost use Rattle.can_kit_text.specs.Words.{event_text, kind_word as word_of_kind};
 
 use can_fault::State;
 use can_frame::Frame;
@@ -70,18 +71,7 @@ fn kind_word(kind: ErrorKind) -> &'static [u8]
 
 /// Appends the word for a state: `active`, `passive` or `off`.
 pub fn push_state(out: &mut Vec<u8>, state: State) -> Result<(), AllocError>
-    ensures { OnOk result (out.new.items ≡ out.old.items ++ word_of_state state) }
+    ensures { OnOk result (out.new.items ≡ out.old.items ++ state_word state) }
 {
-    push_text(out, state_word(state))
-}
-
-/// The word for a state.
-fn state_word(state: State) -> &'static [u8]
-    ensures { result.now ≡ word_of_state state }
-{
-    match state {
-        State::Active => b"active",
-        State::Passive => b"passive",
-        State::BusOff => b"off",
-    }
+    push_text(out, state.word().as_bytes())
 }

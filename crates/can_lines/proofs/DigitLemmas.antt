@@ -3,7 +3,7 @@ use Rattle.std.proofs.Common.{◌≡◌, ℕ, ◌+◌, ◌<◌, ◌≤◌, ◌�
 use Rattle.std.proofs.lemmas.Bool.{cases_order}
 use Rattle.std.proofs.lemmas.List.{append-nil, drop_more, length-append, length-map, length-take, take_all, take-append-drop}
 use Rattle.can_frame.specs.declared.level.Level.{Level}
-use Rattle.can_stream.specs.Digits.{digit_of}
+use Rattle.can_frame.specs.Levels.{digit_of}
 use Rattle.can_lines.specs.Checked.{IsFirstBadDigit, IsLevels}
 
 -- a byte among the digits of levels is one of them

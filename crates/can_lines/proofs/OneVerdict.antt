@@ -7,7 +7,7 @@ use Rattle.can_frame.specs.declared.level.Level.TheVariants.{Dominant, Recessive
 use Rattle.can_frame.specs.Parts.{Parts, IsFrame}
 use Rattle.can_frame.specs.Text.{frame_text}
 use Rattle.can_wire.specs.Wire.{driven}
-use Rattle.can_stream.specs.Digits.{digit_of}
+use Rattle.can_frame.specs.Levels.{digit_of}
 use Rattle.can_lines.specs.Checked.{Checks, Compares, IsCommonFront, IsVectorVerdict, Judged, passes, verdict_line}
 use Rattle.can_lines.specs.declared.vector.Verdict.{Verdict}
 use Rattle.can_lines.specs.declared.vector.Verdict.TheVariants.{Agrees, DiffersAt}

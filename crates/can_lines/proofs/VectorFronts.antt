@@ -9,7 +9,7 @@ use Rattle.std.proofs.Math.Seq.{take-append-add}
 use Rattle.std.specs.List.{starts_with}
 use Rattle.can_frame.specs.declared.text.TextFault.{TextFault}
 use Rattle.can_frame.specs.Text.{frame_text, IsTextFault}
-use Rattle.can_stream.specs.Digits.{digit_of}
+use Rattle.can_frame.specs.Levels.{digit_of}
 use Rattle.can_lines.specs.Checked.{mark, IsBadLevelByte, IsBadVectorLine, IsFramePart, IsVectorVerdict}
 use Rattle.can_lines.specs.declared.vector.Verdict.{Verdict}
 use Rattle.can_lines.proofs.TextLemmas.{length-frame_text, IsTextFault-front, IsTextFault-kept}

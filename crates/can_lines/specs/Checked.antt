@@ -9,7 +9,7 @@ use Rattle.can_frame.specs.Text.{frame_text, IsFrameText, IsTextFault}
 use Rattle.can_wire.specs.Wire.{driven}
 use Rattle.can_stream.specs.Lines.{lines_of, ended_lines, with_end}
 use Rattle.can_lines.specs.Answered.{BeginsAnswer, StopsAtLine}
-use Rattle.can_stream.specs.Digits.{digit_of}
+use Rattle.can_frame.specs.Levels.{digit_of}
 use Rattle.can_lines.specs.declared.vector.Verdict.{Verdict}
 use Rattle.can_lines.specs.declared.vector.Verdict.TheVariants.{Agrees, DiffersAt}
 use Rattle.can_lines.specs.declared.vector.BadLine.{BadLine}

@@ -5,7 +5,7 @@ use Rattle.can_frame.specs.declared.text.TextFault.{TextFault}
 use Rattle.can_frame.specs.Parts.{Parts, IsFrame}
 use Rattle.can_frame.specs.Text.{frame_text, IsFrameText, IsTextFault}
 use Rattle.can_wire.specs.Wire.{driven}
-use Rattle.can_stream.specs.Digits.{digit_of}
+use Rattle.can_frame.specs.Levels.{digit_of}
 use Rattle.can_stream.specs.Lines.{lines_of, ended_lines}
 use Rattle.can_lines.specs.Answered.{BeginsAnswer, StopsAtLine}
 

@@ -1,7 +1,7 @@
 //! The digits of the levels that the sender of a frame drives.
 ghost use Rattle.std.specs.Prelude.{◌≡◌, ◌≤◌, length, map, take};
 ghost use Rattle.can_wire.specs.Wire.{driven};
-ghost use Rattle.can_stream.specs.Digits.{digit_of};
+ghost use Rattle.can_frame.specs.Levels.{digit_of};
 
 use can_frame::{Frame, Level};
 use can_stream::write_digits;

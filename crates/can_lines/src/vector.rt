@@ -3,7 +3,7 @@ ghost use Rattle.std.specs.Prelude.{◌≡◌, ℕ, ◌≤◌, ◌<◌, ◌++◌
 ghost use Rattle.can_frame.specs.Parts.{IsFrame};
 ghost use Rattle.can_frame.specs.Text.{frame_text};
 ghost use Rattle.can_frame.specs.declared.level.Level.{Level as Bit};
-ghost use Rattle.can_stream.specs.Digits.{digit_of};
+ghost use Rattle.can_frame.specs.Levels.{digit_of};
 ghost use Rattle.can_lines.specs.Checked.{mark, pass, Compares, ComparesDigits, IsBadAs, IsBadLevelByte, IsBadVectorLine, IsCommonFront, IsFirstBadDigit, IsFramePart, IsLevels, IsVectorVerdict};
 
 use crate::driven::write_driven;
@@ -124,23 +124,12 @@ fn read_levels(digits: &[u8]) -> Result<ArrayVec<Level, 157>, usize>
 {
     let mut levels = ArrayVec::new();
     for (place, digit) in digits.iter().enumerate() {
-        match level_of(*digit) {
+        match Level::from_digit(*digit) {
             Some(level) if !levels.is_full() => levels.push(level),
             _ => return Err(place),
         }
     }
     Ok(levels)
-}
-
-/// The level whose digit this is.
-fn level_of(digit: u8) -> Option<Level>
-    ensures { MatchOption result ((level : Bit) → digit_of level ≡ digit → ⊥) (λ level. digit_of level ≡ digit) }
-{
-    match digit {
-        b'0' => Some(Level::Dominant),
-        b'1' => Some(Level::Recessive),
-        _ => None,
-    }
 }
 
 /// Compares levels with those that are driven.

@@ -1,3 +1,2 @@
-mod CodeLemmas
 mod ReportLemmas
 mod TraceLemmas

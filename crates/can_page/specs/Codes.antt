@@ -1,35 +1,14 @@
 -- The numbers by which the page knows levels, fields and flags.
-use Rattle.std.specs.Prelude.{ℕ, nat_lt, Bool, true, false, List, map}
-use Rattle.std.specs.List.{list_all}
+use Rattle.std.specs.Prelude.{ℕ, List, map}
+use Rattle.std.specs.Int.{from_bool}
 use Rattle.can_frame.specs.declared.level.Level.{Level}
-use Rattle.can_frame.specs.declared.level.Level.TheVariants.{Dominant, Recessive}
-use Rattle.can_frame.specs.Levels.{level_of}
+use Rattle.can_frame.specs.Levels.{level_code}
 use Rattle.can_fields.specs.declared.field.Field.{Field}
 use Rattle.can_fields.specs.declared.field.Field.TheVariants.{StartOfFrame, Identifier, RemoteOrSubstitute, RemoteRequest, SubstituteRequest, IdentifierExtension, ReservedOne, ReservedZero, DataLength, Data, CheckSequence, CheckDelimiter, AckSlot, AckDelimiter, EndOfFrame}
 use Rattle.can_fields.specs.declared.mark.Mark.{Mark}
 
-abbrev pub level_code : Level → ℕ
-level_code Dominant = 0
-level_code Recessive = 1
-
 abbrev pub level_codes : List Level → List ℕ
 level_codes levels = map level_code levels
-
--- whether this is a level's number
-abbrev pub is_level_code : ℕ → Bool
-is_level_code code = nat_lt code 2
-
--- whether all of these are
-abbrev pub are_levels : List ℕ → Bool
-are_levels codes = list_all is_level_code codes
-
--- the levels of numbers
-abbrev pub levels_of_codes : List ℕ → List Level
-levels_of_codes codes = map level_of codes
-
-abbrev pub flag_code : Bool → ℕ
-flag_code false = 0
-flag_code true = 1
 
 abbrev pub field_code : Field → ℕ
 field_code StartOfFrame = 0
@@ -54,4 +33,4 @@ field_codes marks = map (λ m. field_code m.field) marks
 
 -- which levels are stuff bits
 abbrev pub stuff_codes : List Mark → List ℕ
-stuff_codes marks = map (λ m. flag_code m.stuffed) marks
+stuff_codes marks = map (λ m. from_bool m.stuffed) marks

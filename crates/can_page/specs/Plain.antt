@@ -13,7 +13,8 @@ use Rattle.can_stream.specs.declared.field.HitList.{HitList}
 use Rattle.can_stream.specs.declared.field.HitList.TheVariants as list
 use Rattle.can_stream.specs.declared.field.PortField.{PortField}
 use Rattle.can_stream.specs.declared.field.PortField.TheVariants as part
-use Rattle.can_page.specs.Codes.{flag_code, level_code}
+use Rattle.std.specs.Int.{from_bool}
+use Rattle.can_frame.specs.Levels.{level_code}
 use Rattle.can_page.specs.declared.plain.PlainTime.{PlainTime}
 use Rattle.can_page.specs.declared.plain.WrongField.{WrongField}
 
@@ -58,7 +59,7 @@ plain_time time = record {
   transmit = time.transmit;
   receive = time.receive;
   stage = stage_code time.stage;
-  sends = flag_code time.sends;
+  sends = from_bool time.sends;
   drove = level_code time.drove;
   saw = level_code time.saw;
   brought = brought_code time.brought;

@@ -9,7 +9,6 @@ ghost use Rattle.can_page.specs.Calls.{IsRefusal, parts_of};
 ghost use Rattle.can_page.specs.Codes.{level_codes};
 
 use crate::answer::Answer;
-use crate::codes::level_code;
 use can_code::encode;
 use can_frame::{Frame, Id, Level};
 
@@ -53,7 +52,7 @@ fn write_levels(wire: &[Level], levels: &mut [u8])
     ensures { take (length wire.now) levels.new ≡ level_codes wire.now }
 {
     for place in 0..wire.len() {
-        levels[place] = level_code(wire[place]);
+        levels[place] = wire[place].code();
     }
 }
 

@@ -2,7 +2,6 @@
 ghost use Rattle.std.specs.Prelude.{◌≡◌};
 ghost use Rattle.can_page.specs.Plain.{brought_code as brought_code_of, kind_code as kind_code_of, plain_time, stage_code as stage_code_of, wrong_at, wrong_field, wrong_hit, wrong_in_port, wrong_list};
 
-use crate::codes::{flag_code, level_code};
 use can_mac::ErrorKind;
 use can_port_times::{Brought, PortTime, Stage};
 use can_scenario::{Field, HitList, PortField};
@@ -48,9 +47,9 @@ impl PlainTime {
             transmit: time.transmit,
             receive: time.receive,
             stage: stage_code(time.stage),
-            sends: flag_code(time.sends),
-            drove: level_code(time.drove),
-            saw: level_code(time.saw),
+            sends: u8::from(time.sends),
+            drove: time.drove.code(),
+            saw: time.saw.code(),
             brought: brought_code(time.brought),
         }
     }

@@ -6,7 +6,6 @@ ghost use Rattle.can_page.specs.Codes.{level_codes};
 ghost use Rattle.can_page.specs.Lines.{is_full, lines_of};
 
 use crate::answer::Answer;
-use crate::codes::level_code;
 use crate::lines::Lines;
 use crate::text::Text;
 use can_decode::decode_stream;
@@ -70,7 +69,7 @@ pub extern "C" fn page_levels(
         match read_byte(*byte) {
             Ok(None) => {}
             Ok(Some(level)) => {
-                levels[written] = level_code(level);
+                levels[written] = level.code();
                 written += 1;
             }
             Err(BadByte) => {

@@ -1,10 +1,11 @@
 ghost use Rattle.std.specs.Prelude.{◌≡◌, ◌≤◌, false, true, length, take};
 ghost use Rattle.can_fields.specs.Marks.{marks_of};
 ghost use Rattle.can_page.specs.Answers.{answer_code, done};
-ghost use Rattle.can_page.specs.Codes.{are_levels as are_levels_of, field_codes, levels_of_codes, stuff_codes};
+ghost use Rattle.can_frame.specs.Levels.{are_level_codes, levels_of_codes};
+ghost use Rattle.can_page.specs.Codes.{field_codes, stuff_codes};
 
 use crate::answer::Answer;
-use crate::codes::{are_levels, field_code, flag_code, level_of_code};
+use crate::codes::field_code;
 use arrayvec::ArrayVec;
 use can_fields::{MOST_LEVELS, Mark, marks};
 use can_frame::Level;
@@ -21,14 +22,14 @@ pub extern "C" fn page_marks(
     ensures fields { result ≡ done → take count.new fields.new ≡ field_codes (marks_of (levels_of_codes (take 157 levels.now))) }
     ensures stuffed { result ≡ done → take count.new stuffed.new ≡ stuff_codes (marks_of (levels_of_codes (take 157 levels.now))) }
     ensures count { result ≡ done → count.new ≡ length (marks_of (levels_of_codes (take 157 levels.now))) }
-    ensures bad { result ≡ answer_code Answer.BadLevel → are_levels_of (take 157 levels.now) ≡ false }
-    ensures taken { 157 ≤ length fields.old → 157 ≤ length stuffed.old → are_levels_of (take 157 levels.now) ≡ true → result ≡ done }
+    ensures bad { result ≡ answer_code Answer.BadLevel → are_level_codes (take 157 levels.now) ≡ false }
+    ensures taken { 157 ≤ length fields.old → 157 ≤ length stuffed.old → are_level_codes (take 157 levels.now) ≡ true → result ≡ done }
 {
     if fields.len() < MOST_LEVELS || stuffed.len() < MOST_LEVELS {
         return Answer::NoRoom.code();
     }
     let front = front_of(levels);
-    if !are_levels(front) {
+    if !Level::are_codes(front) {
         return Answer::BadLevel.code();
     }
     let found = marks(&levels_in(front));
@@ -57,7 +58,7 @@ fn levels_in(codes: &[u8]) -> ArrayVec<Level, 157>
 {
     let mut levels = ArrayVec::new();
     for code in codes {
-        levels.push(level_of_code(*code));
+        levels.push(Level::from_code(*code));
     }
     levels
 }
@@ -78,6 +79,6 @@ fn write_stuffed(marks: &[Mark], stuffed: &mut [u8])
     ensures { take (length marks.now) stuffed.new ≡ stuff_codes marks.now }
 {
     for place in 0..marks.len() {
-        stuffed[place] = flag_code(marks[place].stuffed);
+        stuffed[place] = u8::from(marks[place].stuffed);
     }
 }

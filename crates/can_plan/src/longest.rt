@@ -16,8 +16,8 @@ const LONGEST_EXTENDED: u16 = 80;
 /// How much longer it does so with each data byte: eight levels and two stuff bits.
 const LONGEST_BYTE: u16 = 10;
 
-/// How many bit times of intermission there are behind a frame.
-const INTERMISSION: u16 = 3;
+/// How many bit times of intermission there are behind a frame: in its longest time on the bus, and not in its wire.
+pub(crate) const INTERMISSION: u16 = 3;
 
 /// How many data bytes a frame has.
 fn byte_count(remote: bool, dlc: u8) -> u16

@@ -7,10 +7,8 @@ ghost use Rattle.can_plan.specs.Ends.{EndAlways};
 ghost use Rattle.can_plan.specs.Messages.{ArePeriodic, IsMessageSet, most_hits as most_hits_of};
 
 use crate::demand::{arrivals, blocking, demand, own_load, widest};
+use crate::longest::INTERMISSION;
 use crate::message::{HitRate, Message};
-
-/// How many bit times of intermission there are in a message's longest time on the bus, and not in a wire.
-const INTERMISSION: u64 = 3;
 
 /// The least delay that is enough for what keeps the bus meanwhile; none where it is above the limit.
 fn delay(time: u64, widest: u16, higher: &[Message], rate: &HitRate, limit: u32) -> Option<u32>
@@ -91,7 +89,7 @@ fn ends(
         limit,
     )?;
     let until = u64::from(message.jitter) + u64::from(delay) + longest;
-    Some(until.saturating_sub(INTERMISSION + q * u64::from(message.period)))
+    Some(until.saturating_sub(u64::from(INTERMISSION) + q * u64::from(message.period)))
 }
 
 /// A bound on the time from the release of a frame of this message to the end of its wire, by the messages that go

@@ -5,7 +5,7 @@
 //! | `port_times.rt` | [`told_times`], what a port does in each bit time: [`PortTime`]s, each with a [`Stage`] and what is [`Brought`] | `specs/PortTimes.antt` |
 //!
 //! The port is played alone, over the levels that it saw and with the offers that were made to it. `ToldTimes` has that
-//! it does the same among the others, `SeenLevels` what it saw.
+//! it does the same among the others.
 #![tactic(auto)]
 
 mod port_times;

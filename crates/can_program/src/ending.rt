@@ -47,7 +47,7 @@ pub fn conclude_of<F: RunFault, E: Sink>(
 }
 
 /// Tells a fault of the program of this name in a line on `e`, and answers its exit status. A line that `e` does not
-/// take changes nothing, as one that is longer than 164 bytes.
+/// take, or that has more than 164 bytes, is left out, and the status is the same.
 pub fn refuse<F: RunFault, E: Sink>(name: &str, fault: F, e: &mut E) -> u8
     ensures status { result ≡ F.status_of fault }
     ensures told { 0 < result }

@@ -11,7 +11,7 @@ use thiserror::Error;
 /// Why a run did not do all that it was asked. Its text, of at most 66 bytes, is told on standard error, and its status
 /// is the exit status. Each program has faults of its own, such as the fields of the documents that it reads.
 pub trait RunFault: Display + Copy {
-    /// The exit status of each.
+    /// The exit status of each fault.
     ghost status_of: { Self → ℕ };
 
     /// The exit status, which is not 0.

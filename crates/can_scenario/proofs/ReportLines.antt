@@ -5,7 +5,7 @@ use Rattle.std.specs.List.{flat_map}
 use Rattle.can_frame.specs.declared.level.Level.{Level}
 use Rattle.can_node.specs.declared.entry.Entry.{Entry}
 use Rattle.can_node.specs.Ports.{PortState}
-use Rattle.can_stream.specs.Digits.{digit_of}
+use Rattle.can_frame.specs.Levels.{digit_of}
 use Rattle.can_scenario.specs.Report.{entry_line, line_end, port_lines, ports_lines, reported}
 
 -- how the pieces of a port's line are put together

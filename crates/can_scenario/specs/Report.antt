@@ -7,15 +7,15 @@ use Rattle.can_frame.specs.declared.level.Level.{Level}
 use Rattle.can_frame.specs.Parts.{Parts}
 use Rattle.can_frame.specs.Text.{frame_text}
 use Rattle.can_fault.specs.declared.state.State.{State}
-use Rattle.can_fault.specs.declared.state.State.TheVariants.{Active, Passive, BusOff}
 use Rattle.can_fault.specs.Counters.{state_of}
+use Rattle.can_fault.specs.Words.{state_word}
 use Rattle.can_mac.specs.State.{idle, joining}
 use Rattle.can_node.specs.declared.entry.Entry.{Entry}
 use Rattle.can_node.specs.Ports.{PortState, fresh_port, port_holding, all_offered}
 use Rattle.can_hit.specs.declared.hit.Hit.{Hit}
 use Rattle.can_bus.specs.Offers.{played, played_level}
 use Rattle.can_bus.specs.Run.{BusState, bus_level, bus_run}
-use Rattle.can_stream.specs.Digits.{digit_of}
+use Rattle.can_frame.specs.Levels.{digit_of}
 use Rattle.can_scenario.specs.ScenarioOffers.{scenario_offers}
 use Rattle.can_scenario_text.specs.declared.scenario.Scenario.{Scenario}
 use Rattle.can_scenario_text.specs.declared.scenario.PortPlan.{PortPlan}
@@ -79,11 +79,6 @@ pub record PortReport : Type 0 where
 
 abbrev pub reported : PortState → PortReport
 reported p = record { state = state_of p.mac.counters; tec = p.mac.counters.tec; rec = p.mac.counters.rec; missed = p.missed; log = p.log }
-
-abbrev pub state_word : State → List ℕ
-state_word Active = codes "active"
-state_word Passive = codes "passive"
-state_word BusOff = codes "off"
 
 abbrev pub line_end : List ℕ
 line_end = 10 ∷ []

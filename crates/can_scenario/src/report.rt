@@ -2,12 +2,11 @@
 ghost use Rattle.std.specs.Prelude.{◌≡◌, ◌≤◌, false, [], length, map, is_err, IfErr, OnOk, OnErr};
 ghost use Rattle.std.specs.Io.KnownBytes.{Appends};
 ghost use Rattle.std.specs.List.{flat_map};
-ghost use Rattle.can_stream.specs.Digits.{digit_of};
+ghost use Rattle.can_frame.specs.Levels.{digit_of};
 ghost use Rattle.can_stream.specs.Outbox.{Puts, TakesFront};
-ghost use Rattle.can_scenario.specs.Report.{bits_line, entry_line, levels_line, mark_word, port_line, port_lines, ports_lines, report_text, reported, state_word as state_word_of};
+ghost use Rattle.can_scenario.specs.Report.{bits_line, entry_line, levels_line, mark_word, port_line, port_lines, ports_lines, report_text, reported};
 
 use arrayvec::ArrayVec;
-use can_fault::State;
 use can_frame::Level;
 use can_node::{Entry, Port};
 use can_stream::line::{Line, push, push_named};
@@ -140,7 +139,7 @@ fn written_port<P: Port>(number: usize, port: &P) -> Line
     let mut line = ArrayVec::new();
     push_named(&mut line, b"port ", number as u64);
     push(&mut line, b" ");
-    push(&mut line, state_word(port.state()));
+    push(&mut line, port.state().word().as_bytes());
     push_named(&mut line, b" tec ", u64::from(transmit));
     push_named(&mut line, b" rec ", u64::from(receive));
     push_named(&mut line, b" missed ", u64::from(port.missed()));
@@ -166,16 +165,4 @@ fn mark(sent: bool) -> &'static [u8]
     ensures length { length result.now ≡ 5 }
 {
     if sent { b"sent " } else { b"took " }
-}
-
-/// The word for a state.
-fn state_word(state: State) -> &'static [u8]
-    ensures word { result.now ≡ state_word_of state }
-    ensures bound { length result.now ≤ 7 }
-{
-    match state {
-        State::Active => b"active",
-        State::Passive => b"passive",
-        State::BusOff => b"off",
-    }
 }

@@ -3,7 +3,6 @@ pub mod Told
 pub mod Wrapped
 pub mod Outbox
 pub mod Lines
-pub mod Digits
 -- For proofs only: what the streams of the crates above make of their buffers
 pub mod Faults
 pub mod Inbox

@@ -14,7 +14,7 @@
 //! | `lines.rt` | [`LineReader`], the lines of a source, one after another | `specs/Lines.antt`, `specs/LineReader.antt` |
 //! | `whole.rt` | [`read_whole`], all that a source tells | |
 //! | `line.rt` | a line that is put together | |
-//! | `digits.rt` | [`digit`] and [`write_digits`], levels as digits | `specs/Digits.antt` |
+//! | `digits.rt` | [`write_digits`], levels as digits | can_frame's `specs/Levels.antt` |
 //! | `pieces.rt` | readers and writers that give and take in pieces, to test streams with | |
 //! | `fault.rt` | [`TraceFault`], why an answer is not whole | `specs/Faults.antt` |
 //! | `field.rt` | [`Field`], what is wrong in a scenario | |
@@ -36,7 +36,7 @@ mod sink;
 mod source;
 mod whole;
 
-pub use digits::{digit, write_digits};
+pub use digits::write_digits;
 pub use fault::TraceFault;
 pub use field::{Field, HitList, PortField};
 pub use inbox::Inbox;

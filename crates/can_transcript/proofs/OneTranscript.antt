@@ -6,7 +6,8 @@ use Rattle.can_conform.specs.declared.transcript.Counters.{Counters}
 use Rattle.can_conform.specs.declared.transcript.Ending.{Ending}
 use Rattle.can_mac.specs.declared.event.Event.{Event}
 use Rattle.can_fault.specs.declared.state.State.{State}
-use Rattle.can_kit_text.specs.Words.{state_word, SaysEvent}
+use Rattle.can_fault.specs.Words.{state_word}
+use Rattle.can_kit_text.specs.Words.{SaysEvent}
 use Rattle.can_kit_text.proofs.OneEvent.{one-event, one-state}
 use Rattle.can_toml.specs.Values.{elements, named, three, two, ArePaired, IsRequired}
 use Rattle.can_toml.proofs.OneReading.{one-list, one-number}

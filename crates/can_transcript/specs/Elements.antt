@@ -5,7 +5,8 @@ use Rattle.can_conform.specs.declared.timed.Timed.{Timed}
 use Rattle.can_conform.specs.declared.transcript.Counters.{Counters}
 use Rattle.can_conform.specs.declared.transcript.Ending.{Ending}
 use Rattle.can_mac.specs.declared.event.Event.{Event}
-use Rattle.can_kit_text.specs.Words.{state_word, SaysEvent}
+use Rattle.can_fault.specs.Words.{state_word}
+use Rattle.can_kit_text.specs.Words.{SaysEvent}
 use Rattle.can_toml.specs.Demands.{Demands, demand}
 use Rattle.can_toml.specs.Values.{elements_in, named, three, two, IsNumber, IsOptional}
 use Rattle.can_kit.specs.Lists.{elements_demands, IsArrayOf}

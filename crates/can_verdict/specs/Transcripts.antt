@@ -7,7 +7,8 @@ use Rattle.can_conform.specs.declared.transcript.Counters.{Counters}
 use Rattle.can_conform.specs.declared.transcript.Ending.{Ending}
 use Rattle.can_conform.specs.declared.transcript.Transcript.{Transcript}
 use Rattle.can_kit_text.specs.LevelTokens.{levels_text}
-use Rattle.can_kit_text.specs.Words.{event_text, state_word}
+use Rattle.can_fault.specs.Words.{state_word}
+use Rattle.can_kit_text.specs.Words.{event_text}
 
 -- what is left out has no text
 abbrev pub where_told : {A : Type 0} → (A → List ℕ) → Option A → List ℕ

@@ -9,10 +9,11 @@ use Rattle.can_conform.specs.declared.judging.Verdict.{Verdict}
 use Rattle.can_conform.specs.declared.judging.Verdict.TheVariants.{Pass, Fail}
 use Rattle.can_conform.specs.declared.transcript.Counters.{Counters}
 use Rattle.can_conform.specs.declared.transcript.Ending.{Ending}
-use Rattle.can_stream.specs.Digits.{digit_of}
+use Rattle.can_frame.specs.Levels.{digit_of}
 use Rattle.can_kit.specs.declared.words.Choice.{Choice}
 use Rattle.can_kit.specs.Words.{choice_word}
-use Rattle.can_kit_text.specs.Words.{event_text, state_word}
+use Rattle.can_fault.specs.Words.{state_word}
+use Rattle.can_kit_text.specs.Words.{event_text}
 use Rattle.can_verdict.specs.Standings.{standing_text}
 
 -- ---- what is told, and what ought to be

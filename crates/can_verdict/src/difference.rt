@@ -6,7 +6,6 @@ use can_conform::{Counters, Difference, Ending};
 use can_frame::Level;
 use can_kit_text::{push_event, push_number, push_state, push_text};
 use can_mac::Event;
-use can_stream::digit;
 use std::alloc::AllocError;
 
 /// What stands between what is told and what ought to be.
@@ -63,7 +62,7 @@ fn push_level_difference(
 fn push_level(out: &mut Vec<u8>, level: Level) -> Result<(), AllocError>
     ensures { OnOk result (out.new.items ≡ out.old.items ++ level_text level) }
 {
-    push_text(out, &[digit(level)])
+    push_text(out, &[level.digit()])
 }
 
 /// Appends an event, or `nothing`.

@@ -1,12 +1,12 @@
 -- What is heard has one spelling.
-use Rattle.std.proofs.Common.{◌≡◌, ℕ, ◌≤◌, Bool, true, false, List, length, refl, sym, ◌∙◌, ap, arith, cond}
+use Rattle.std.proofs.Common.{◌≡◌, ◌≤◌, false, List, length, refl, sym, ◌∙◌, ap, cond}
 use Rattle.can_frame.specs.declared.level.Level.{Level}
 use Rattle.can_frame.specs.declared.level.Level.TheVariants.{Dominant, Recessive}
 use Rattle.can_frame.specs.Parts.{Parts}
 use Rattle.can_wire.specs.Wire.{wire, driven}
 use Rattle.can_wire.specs.Heard.{HeardParts, IsHeard, sent, heard_head, ack_slot, Spells, spelling}
 use Rattle.can_wire.proofs.LayoutHead.{heard_head-sent, length-heard_head-le}
-use Rattle.can_wire.proofs.WireLemmas.{stuffed_with_check, spelling_of, IsSpelling-spelling_of, IsSpelling-only, length-stuffed_with_check-le, length-spelling_of-le, wire-spelling_of, driven-spelling_of}
+use Rattle.can_wire.proofs.WireLemmas.{spelling_of, IsSpelling-spelling_of, IsSpelling-only, length-spelling_of-le, wire-spelling_of, driven-spelling_of}
 
 -- the spelling is that of the head, with its tail
 pub spelling-spelling_of : (h : HeardParts) → spelling h ≡ spelling_of (heard_head h) (ack_slot h.acked) h.last
@@ -24,14 +24,6 @@ unfolding spelling
 Spells-only h w s = IsSpelling-only (heard_head h) (ack_slot h.acked) h.last w s.spelling
 
 module _ (h : HeardParts) (is : IsHeard h) where
-  -- the longest stuffed part
-  pub length-stuffed-le : length (stuffed_with_check (heard_head h)) ≤ 147
-  length-stuffed-le = by h.frame.id.extended _ (length-stuffed_with_check-le h.frame.id.extended (heard_head h) (length-heard_head-le h is.frame))
-    where
-      by : (e : Bool) (s : ℕ) → s ≤ cond e 147 122 → s ≤ 147
-      by true s p = omega arith
-      by false s p = omega arith
-
   -- the longest spelling of each format
   pub length-spelling-le : length (spelling h) ≤ cond h.frame.id.extended 157 132
   unfolding spelling

@@ -1,5 +1,3 @@
-ghost use Rattle.std.specs.Prelude.{◌≡◌, ◌^◌, ◌<◌};
-
 use crate::crc_run::CrcRun;
 use crate::frame_bits::{FrameBits, START_OF_FRAME};
 use crate::two_words::TwoWords;

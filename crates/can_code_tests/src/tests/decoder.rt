@@ -15,7 +15,7 @@ pub(super) type Digits = ArrayVec<u8, 200>;
 pub(super) fn digits_of(levels: &[Level]) -> Digits {
     let mut digits = ArrayVec::new();
     for level in levels {
-        let _ = digits.try_push(if level.is_recessive() { b'1' } else { b'0' });
+        let _ = digits.try_push(level.digit());
     }
     digits
 }

@@ -1,8 +1,7 @@
 use Rattle.std.proofs.Common.{refl, ◌∙◌, ap, subst, arith}
 use Rattle.std.proofs.lemmas.List.{length-map}
-use Rattle.can_frame.specs.Levels.{level_of}
+use Rattle.can_frame.specs.Levels.{level_of, levels_of_codes}
 use Rattle.can_wire.specs.Heard.{Spells}
-use Rattle.can_c.specs.Codes.{levels_of_codes}
 use Rattle.can_c.specs.PlainFrames.{plain_heard}
 use Rattle.can_c.specs.Statuses.{status_code}
 use Rattle.can_c.proofs.DecodeLemmas.{first_levels, one_found}

@@ -1,5 +1,5 @@
 use Rattle.std.proofs.Common.{◌≡◌, length, take}
-use Rattle.can_c.specs.Codes.{levels_of_codes}
+use Rattle.can_frame.specs.Levels.{levels_of_codes}
 use Rattle.can_c.proofs.coding.levels_in.Given as goal
 
 abbrev pub invariant-loop-code : goal.invariant-loop-code

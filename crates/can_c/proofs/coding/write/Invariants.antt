@@ -1,5 +1,5 @@
 use Rattle.std.proofs.Common.{◌≡◌, length, take, drop, map}
-use Rattle.can_c.specs.Codes.{level_code}
+use Rattle.can_frame.specs.Levels.{level_code}
 use Rattle.can_c.proofs.coding.write.Given as goal
 
 abbrev pub invariant-loop-place : goal.invariant-loop-place

@@ -11,7 +11,7 @@ loop-now-preserved c =
     let n = c.loop-now.now.taken in
     let before = c.loop-now.now.acked in
     let x = c.in-Some.level in
-    let go_on = HearsTail-level k c.args.acked n before c.args.digits.now c.loop-now.invariant.tail c.loop-now-test.true x c.in-Some.ensures in
+    let go_on = HearsTail-level k c.args.acked n before c.args.digits.now c.loop-now.invariant.tail c.loop-now-test.true x (sym c.in-Some.ensures) in
     elim c.if-behind-now-eq-ACK_SLOT.branch [
       | then-behind-now-eq-ACK_SLOT w ↦ rw (w.now-is, w.is_recessive.ensures) (
           record {

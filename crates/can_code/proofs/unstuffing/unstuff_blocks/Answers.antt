@@ -1,7 +1,8 @@
 use Rattle.std.proofs.Common.{◌≡◌, ◌+◌, ◌/◌, ◌^◌, ◌≤◌, arith, length, length-drop, take, drop, map, refl, sym, subst}
 use Rattle.std.proofs.lemmas.List.{take_rest}
 use Rattle.can_code.specs.Steps.{run_at}
-use Rattle.can_code.specs.Digits.{BeginWith, digit_of, levels_up}
+use Rattle.can_frame.specs.Levels.{digit_of}
+use Rattle.can_code.specs.Digits.{BeginWith, levels_up}
 use Rattle.can_code.proofs.StepLemmas.{BeginWith-block, BeginWith-half, Unstuffs-begin}
 use Rattle.can_code.proofs.unstuffing.unstuff_blocks.Goals as goal
 

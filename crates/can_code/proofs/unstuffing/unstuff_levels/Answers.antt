@@ -48,7 +48,7 @@ loop-now-preserved c =
             short = omega arith;
             heard = λ u room.
                 HearsDigits-stuff_bit (record { unstuffed = u; last = c.args.before.last; run = c.args.before.run }) (u ++ bits) s.behind.last s.behind.run c.args.digits.now s.taken x
-                c.if-now-digits.true c.in-Some.ensures (room bits few) (inv.heard u room) (eqb-true s.behind.run 5 (sym c.is_longest.ensures ∙ w.if-is_longest.true)) (other_level x s.behind.last (ap (λ l. sameb the_type x l) (sym w.level.ensures) ∙ sym w.eq.ensures ∙ w.if-eq.false));
+                c.if-now-digits.true (sym c.in-Some.ensures) (room bits few) (inv.heard u room) (eqb-true s.behind.run 5 (sym c.is_longest.ensures ∙ w.if-is_longest.true)) (other_level x s.behind.last (ap (λ l. sameb the_type x l) (sym w.level.ensures) ∙ sym w.eq.ensures ∙ w.if-eq.false));
           })
       | else-is_longest w ↦
           let not_due : s.behind.run ≢ 5 = eqb-false s.behind.run 5 (sym c.is_longest.ensures ∙ w.if-is_longest.false) in
@@ -61,6 +61,6 @@ loop-now-preserved c =
             short = omega (arith, inv.short, run_after-le s.behind.last s.behind.run x);
             heard = λ u room.
                 HearsDigits-number (record { unstuffed = u; last = c.args.before.last; run = c.args.before.run }) u s.len s.number s.behind.last s.behind.run c.args.digits.now s.taken x
-                c.if-now-digits.true c.in-Some.ensures (room bits few) not_due (inv.heard u room);
+                c.if-now-digits.true (sym c.in-Some.ensures) (room bits few) not_due (inv.heard u room);
           })
     ]

@@ -12,8 +12,8 @@ returns-clause-text c =
     let second = take_rest bytes (row.result + start.result) in
     let begun = Untold-then c.args.trace.now row.new.trace start.new.trace bytes row.result start.result row.ensures.text row.ensures.hears
     (rw first at start.ensures.text) (rw first at start.ensures.hears) in
-    (Untold-then c.args.trace.now start.new.trace c.hear_run.new.self bytes (row.result + start.result) c.hear_run.result begun.0 begun.1
-    (rw second at c.hear_run.ensures.text) (rw second at c.hear_run.ensures.hears)).0
+    (Untold-then c.args.trace.now start.new.trace c.hear_digits.new.self bytes (row.result + start.result) c.hear_digits.result begun.0 begun.1
+    (rw second at c.hear_digits.ensures.text) (rw second at c.hear_digits.ensures.hears)).0
 
 pub returns-clause-hears : goal.returns-clause-hears
 returns-clause-hears c =
@@ -24,5 +24,5 @@ returns-clause-hears c =
     let second = take_rest bytes (row.result + start.result) in
     let begun = Untold-then c.args.trace.now row.new.trace start.new.trace bytes row.result start.result row.ensures.text row.ensures.hears
     (rw first at start.ensures.text) (rw first at start.ensures.hears) in
-    (Untold-then c.args.trace.now start.new.trace c.hear_run.new.self bytes (row.result + start.result) c.hear_run.result begun.0 begun.1
-    (rw second at c.hear_run.ensures.text) (rw second at c.hear_run.ensures.hears)).1
+    (Untold-then c.args.trace.now start.new.trace c.hear_digits.new.self bytes (row.result + start.result) c.hear_digits.result begun.0 begun.1
+    (rw second at c.hear_digits.ensures.text) (rw second at c.hear_digits.ensures.hears)).1

@@ -1,6 +1,6 @@
 use Rattle.std.proofs.Common.{take, map, ap, ◌∙◌}
 use Rattle.std.proofs.lemmas.List.{take-map}
-use Rattle.can_stream.specs.Digits.{digit_of}
+use Rattle.can_frame.specs.Levels.{digit_of}
 use Rattle.can_lines.proofs.driven.write_driven.Goals as goal
 
 pub returns-clause-digits : goal.returns-clause-digits

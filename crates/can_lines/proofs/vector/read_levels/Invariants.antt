@@ -1,5 +1,5 @@
 use Rattle.std.proofs.Common.{◌≡◌, ◌≤◌, length, map, take}
-use Rattle.can_stream.specs.Digits.{digit_of}
+use Rattle.can_frame.specs.Levels.{digit_of}
 use Rattle.can_lines.proofs.vector.read_levels.Given as goal
 
 abbrev pub invariant-loop-place : goal.invariant-loop-place

@@ -1,5 +1,5 @@
 use Rattle.std.proofs.Common.{◌≡◌, length, take, map}
-use Rattle.can_page.specs.Codes.{level_code}
+use Rattle.can_frame.specs.Levels.{level_code}
 use Rattle.can_page.proofs.frames.write_levels.Given as goal
 
 abbrev pub invariant-loop-place : goal.invariant-loop-place

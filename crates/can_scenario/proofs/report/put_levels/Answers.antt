@@ -1,7 +1,7 @@
 use Rattle.std.proofs.Common.{◌≡◌, [], ◌++◌, length, map, rules}
 use Rattle.std.proofs.lemmas.List.{nil_from_length}
 use Rattle.std.proofs.lemmas.Result.{err_from_is_err_and}
-use Rattle.can_stream.specs.Digits.{digit_of}
+use Rattle.can_frame.specs.Levels.{digit_of}
 use Rattle.can_scenario.specs.Report.{levels_line, line_end}
 use Rattle.can_stream.proofs.PutParts.{PutsPart-failed, PutsPart-last, PutsPart-more, Puts-at_once}
 use Rattle.can_scenario.proofs.ReportLines.{digits-split}

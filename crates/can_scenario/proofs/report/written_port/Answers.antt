@@ -1,5 +1,6 @@
 use Rattle.std.proofs.Common.{◌≡◌, ◌++◌, ap, ◌∙◌, codes, decimal, refl, rules, arith}
-use Rattle.can_scenario.specs.Report.{port_line, reported, state_word}
+use Rattle.can_fault.specs.Words.{state_word}
+use Rattle.can_scenario.specs.Report.{port_line, reported}
 use Rattle.can_scenario.proofs.ReportLines.{port_parts, pushed}
 use Rattle.can_scenario.proofs.report.written_port.Goals as goal
 
@@ -15,7 +16,7 @@ returns g c =
     let first : c.push_named.new.line.items ≡ codes "port " ++ number = pushed _ _ _ _ _ c.push_named.ensures.text refl c.new-line.ensures in
     let second : c.push.new.line.items ≡ (codes "port " ++ number) ++ codes " " = pushed _ _ _ _ _ c.push.ensures refl first in
     let third : c.push-2.new.line.items ≡ ((codes "port " ++ number) ++ codes " ") ++ word =
-    pushed _ _ _ _ _ c.push-2.ensures (c.state_word.ensures.word ∙ ap state_word c.state.ensures) second in
+    pushed _ _ _ _ _ c.push-2.ensures (c.as_bytes.ensures.value ∙ c.word.ensures.word ∙ ap state_word c.state.ensures) second in
     let fourth : c.push_named-2.new.line.items ≡ (((codes "port " ++ number) ++ codes " ") ++ word) ++ (codes " tec " ++ decimal port.tec) =
     pushed _ _ _ _ _ c.push_named-2.ensures.text (ap (λ n. codes " tec " ++ decimal n) tec) third in
     let fifth : c.push_named-3.new.line.items ≡ ((((codes "port " ++ number) ++ codes " ") ++ word) ++ (codes " tec " ++ decimal port.tec)) ++ (codes " rec " ++ decimal port.rec) =

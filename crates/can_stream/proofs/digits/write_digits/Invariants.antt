@@ -1,5 +1,5 @@
 use Rattle.std.proofs.Common.{◌≡◌, map, take}
-use Rattle.can_stream.specs.Digits.{digit_of}
+use Rattle.can_frame.specs.Levels.{digit_of}
 use Rattle.can_stream.proofs.digits.write_digits.Given as goal
 
 abbrev pub invariant-loop-place : goal.invariant-loop-place

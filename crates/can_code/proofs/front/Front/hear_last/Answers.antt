@@ -17,4 +17,4 @@ returns-in-Some-clause-heard g c =
     let no_error : is_stuff_error f x ≡ false = and_left (eqb f.run 5) (same x f.last) (ne_eqb f.run 5 no_stuff_bit) in
     let next : c.hear.new.self ≡ heard_level f x = at_ok c.hear.result c.if-is_ok.ensures.negation c.hear.ensures.ok in
     let some : length digits ≢ 0 = λ none. false≢true (sym (sym c.is_empty.ensures ∙ c.if-is_empty.false) ∙ eq-eqb _ _ none) in
-    subst (λ e. HearsDigits f e (take 1 digits)) (sym next) (HearsDigits-level f f digits 0 x (omega arith) c.in-Some.ensures c.requires no_error (HearsDigits-none f digits))
+    subst (λ e. HearsDigits f e (take 1 digits)) (sym next) (HearsDigits-level f f digits 0 x (omega arith) (sym c.in-Some.ensures) c.requires no_error (HearsDigits-none f digits))

@@ -6,8 +6,8 @@ use Rattle.can_decode.specs.declared.trace.State.TheVariants.{InFrame, Lost}
 use Rattle.can_decode.specs.declared.trace.Trace.{Trace}
 use Rattle.can_decode.proofs.DecodeSteps.{levels_in-digits, IsTraceText-digits, length-digits}
 use Rattle.can_decode.proofs.TraceSteps.{Hearing-run, Hearing-row, Hearing-search}
-use Rattle.can_decode.proofs.trace.Trace.hear_run.Goals.{in-Idle, in-InFrame, in-Lost}
-use Rattle.can_decode.proofs.trace.Trace.hear_run.Goals as goal
+use Rattle.can_decode.proofs.trace.Trace.hear_digits.Goals.{in-Idle, in-InFrame, in-Lost}
+use Rattle.can_decode.proofs.trace.Trace.hear_digits.Goals as goal
 
 pub returns-clause-text : goal.returns-clause-text
 returns-clause-text c = elim c.match-self.branch [

@@ -2,7 +2,7 @@ use Rattle.std.proofs.Common.{[], sym, subst}
 use Rattle.std.proofs.lemmas.List.{take_rest}
 use Rattle.can_decode.specs.Decoding.{Hears}
 use Rattle.can_decode.proofs.DecodeSteps.{Hears-none, Untold-then}
-use Rattle.can_decode.proofs.decode.hear_run.Goals as goal
+use Rattle.can_decode.proofs.decode.hear_untold.Goals as goal
 
 pub returns-clause-text : goal.returns-clause-text
 returns-clause-text c =
