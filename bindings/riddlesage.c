@@ -20,6 +20,7 @@ uint8_t can_c_run(struct riddlesage_handle *handle, const uint8_t *levels, size_
                   size_t drives_length, uint8_t *events, size_t events_length);
 uint8_t can_c_counters(struct riddlesage_handle *handle, uint16_t *transmit, uint16_t *receive);
 uint8_t can_c_state(struct riddlesage_handle *handle, uint8_t *state);
+uint8_t can_c_phase(struct riddlesage_handle *handle, riddlesage_standing *standing);
 uint8_t can_c_log_length(struct riddlesage_handle *handle, size_t *count);
 uint8_t can_c_missed(struct riddlesage_handle *handle, uint32_t *count);
 uint8_t can_c_entry(struct riddlesage_handle *handle, size_t number, riddlesage_frame *frame, uint8_t *sent);
@@ -161,6 +162,16 @@ EXPORT riddlesage_status riddlesage_port_state(riddlesage_port *port, uint8_t *s
   return (riddlesage_status)can_c_state(&port->handle, state);
 }
 
+EXPORT riddlesage_status riddlesage_port_phase(riddlesage_port *port, riddlesage_standing *standing)
+{
+  riddlesage_status status = port_at(port);
+  if (status != RIDDLESAGE_OK)
+    return status;
+  if (standing == NULL)
+    return RIDDLESAGE_NULL_POINTER;
+  return (riddlesage_status)can_c_phase(&port->handle, standing);
+}
+
 EXPORT riddlesage_status riddlesage_port_log_length(riddlesage_port *port, size_t *count)
 {
   riddlesage_status status = port_at(port);
@@ -211,7 +222,7 @@ EXPORT const char *riddlesage_status_name(riddlesage_status status)
   static const char *const names[] = {
     "ok",       "null pointer",   "moved",   "no port",   "no memory", "queue full", "no entry",
     "bad flag", "bad identifier", "bad dlc", "bad level", "bad count", "no levels",  "no room",
-    "short",    "no start",       "stuff",   "crc",       "form",
+    "short",    "no start",       "stuff",   "crc",       "form",      "bad scenario", "bad byte",
   };
   return (size_t)status < sizeof names / sizeof names[0] ? names[status] : NULL;
 }
@@ -223,6 +234,37 @@ EXPORT const char *riddlesage_event_name(riddlesage_event event)
     "crc error", "form error", "ack error", "overload", "went off",  "recovered",
   };
   return (size_t)event < sizeof names / sizeof names[0] ? names[event] : NULL;
+}
+
+EXPORT const char *riddlesage_phase_name(riddlesage_phase phase)
+{
+  static const char *const names[] = {
+    "joining",      "idle",          "stuffed",     "crc-delimiter", "ack-slot",
+    "ack-delimiter", "end-of-frame", "active-flag", "passive-flag",  "overload-flag",
+    "behind-flag",  "delimiter",     "intermission", "suspend",      "bus-off",
+  };
+  return (size_t)phase < sizeof names / sizeof names[0] ? names[phase] : NULL;
+}
+
+EXPORT const char *riddlesage_rule_name(riddlesage_rule rule)
+{
+  static const char *const names[] = {
+    [RIDDLESAGE_RULE_JOINING] = "Joining",
+    [RIDDLESAGE_RULE_START_OF_FRAME] = "Start of frame",
+    [RIDDLESAGE_RULE_KEPT_FRAME] = "Kept frame",
+    [RIDDLESAGE_RULE_INTERMISSION] = "Intermission",
+    [RIDDLESAGE_RULE_SUSPEND_TRANSMISSION] = "Suspend transmission",
+    [RIDDLESAGE_RULE_BUS_OFF] = "Bus off",
+    [RIDDLESAGE_RULE_ARBITRATION] = "Arbitration",
+    [RIDDLESAGE_RULE_STUFF_PLACES] = "Stuff places",
+    [RIDDLESAGE_RULE_FIXED_FORM] = "Fixed form",
+    [RIDDLESAGE_RULE_ACKNOWLEDGEMENT] = "Acknowledgement",
+    [RIDDLESAGE_RULE_ERROR_FLAGS] = "Error flags",
+    [RIDDLESAGE_RULE_BEHIND_A_FLAG] = "Behind a flag",
+    [RIDDLESAGE_RULE_DELIMITER] = "Delimiter",
+    [RIDDLESAGE_RULE_OVERLOAD_FLAGS] = "Overload flags",
+  };
+  return (size_t)rule < sizeof names / sizeof names[0] ? names[rule] : NULL;
 }
 
 EXPORT const char *riddlesage_version(void)

@@ -18,12 +18,13 @@
  * riddlesage_port_free(&port);
  * @endcode
  *
- * What each call does is proved in the repository that this file belongs to: the functions of crates/can_c, of which
- * those below are the public face. Not proved are this header and riddlesage.c, which tests what a pointer can be
- * tested for and hands on.
+ * What each call does is proved in the repository that this file belongs to: the functions of crates/can_c, and for
+ * riddlesage_run() and riddlesage_decode_trace() those of crates/can_page, of which those below are the public face.
+ * Not proved are this header, and riddlesage.c and texts.c, which test what a pointer can be tested for and hand on.
  *
  * A call that can be refused answers a status, which is named without RIDDLESAGE_ below. Where that is not OK, the port
- * is as it was, and nothing has been written, but for what riddlesage_decode() says. Numbers of every size are allowed
+ * is as it was, and nothing has been written, but for what riddlesage_decode(), riddlesage_run() and
+ * riddlesage_decode_trace() say. Numbers of every size are allowed
  * in every argument and field: what is none of a field's values is refused by its status. Where several fit it is the
  * first in the order of the call's arguments, the port first of all. What a caller owes:
  *
@@ -34,7 +35,8 @@
  *   over;
  * - calls for one port don't run at the same time. Ports are independent of each other, and belong to no thread.
  *
- * Only riddlesage_port_new(), riddlesage_port_idle() and riddlesage_port_joining() take memory, by malloc.
+ * Only riddlesage_port_new(), riddlesage_port_idle(), riddlesage_port_joining(), riddlesage_run() and
+ * riddlesage_decode_trace() take memory, by malloc; what these last two take is free when they return.
  */
 #ifndef RIDDLESAGE_H
 #define RIDDLESAGE_H
@@ -70,7 +72,9 @@ typedef enum riddlesage_status {
   RIDDLESAGE_NO_START = 15,      /**< the first level is recessive, and no start of frame */
   RIDDLESAGE_STUFF = 16,         /**< a stuff place repeats the level before it */
   RIDDLESAGE_CRC = 17,           /**< the check sequence is wrong */
-  RIDDLESAGE_FORM = 18           /**< a delimiter or one of the first six levels of the end of frame is dominant */
+  RIDDLESAGE_FORM = 18,          /**< a delimiter or one of the first six levels of the end of frame is dominant */
+  RIDDLESAGE_BAD_SCENARIO = 19,  /**< the text says no scenario */
+  RIDDLESAGE_BAD_BYTE = 20       /**< a byte of a trace is neither a level, nor a blank, nor of a line end */
 } riddlesage_status;
 
 /** Levels, in every list of levels one byte each. Dominant overrides recessive. */
@@ -98,6 +102,51 @@ typedef enum riddlesage_state {
   RIDDLESAGE_ERROR_PASSIVE = 1,
   RIDDLESAGE_BUS_OFF = 2
 } riddlesage_state;
+
+/** The phase in which a port is before a bit time, named without RIDDLESAGE_PHASE_ as a verdict of canhold names it. */
+typedef enum riddlesage_phase {
+  RIDDLESAGE_PHASE_JOINING = 0,       /**< not yet on the bus; `place` recessive levels in a row, 0 to 10 */
+  RIDDLESAGE_PHASE_IDLE = 1,          /**< between frames */
+  RIDDLESAGE_PHASE_STUFFED = 2,       /**< `place` unstuffed levels of a frame, 1 to 118, up to its CRC sequence */
+  RIDDLESAGE_PHASE_CRC_DELIMITER = 3, /**< the CRC delimiter is next */
+  RIDDLESAGE_PHASE_ACK_SLOT = 4,      /**< the ACK slot is */
+  RIDDLESAGE_PHASE_ACK_DELIMITER = 5, /**< the ACK delimiter is */
+  RIDDLESAGE_PHASE_END_OF_FRAME = 6,  /**< `place` of its levels, 0 to 6 */
+  RIDDLESAGE_PHASE_ACTIVE_FLAG = 7,   /**< an active error flag, 0 to 5 */
+  RIDDLESAGE_PHASE_PASSIVE_FLAG = 8,  /**< a passive error flag: the last `place` levels are equal, 0 to 5 */
+  RIDDLESAGE_PHASE_OVERLOAD_FLAG = 9, /**< 0 to 5 */
+  RIDDLESAGE_PHASE_BEHIND_FLAG = 10,  /**< behind a flag: `place` dominant levels, modulo 8 */
+  RIDDLESAGE_PHASE_DELIMITER = 11,    /**< the delimiter behind a flag, 1 to 7 */
+  RIDDLESAGE_PHASE_INTERMISSION = 12, /**< 0 to 2 */
+  RIDDLESAGE_PHASE_SUSPEND = 13,      /**< suspend transmission, 0 to 7 */
+  RIDDLESAGE_PHASE_BUS_OFF = 14       /**< `place` rows of eleven recessive levels, 0 to 127 */
+} riddlesage_phase;
+
+/** A rule of docs/ACCESS.md, which decides in a bit time. */
+typedef enum riddlesage_rule {
+  RIDDLESAGE_RULE_JOINING = 0,
+  RIDDLESAGE_RULE_START_OF_FRAME = 1,
+  RIDDLESAGE_RULE_KEPT_FRAME = 2, /**< a sender behind arbitration */
+  RIDDLESAGE_RULE_INTERMISSION = 3,
+  RIDDLESAGE_RULE_SUSPEND_TRANSMISSION = 4,
+  RIDDLESAGE_RULE_BUS_OFF = 5,
+  RIDDLESAGE_RULE_ARBITRATION = 6,
+  RIDDLESAGE_RULE_STUFF_PLACES = 7,
+  RIDDLESAGE_RULE_FIXED_FORM = 8,
+  RIDDLESAGE_RULE_ACKNOWLEDGEMENT = 9,
+  RIDDLESAGE_RULE_ERROR_FLAGS = 12,
+  RIDDLESAGE_RULE_BEHIND_A_FLAG = 14,
+  RIDDLESAGE_RULE_DELIMITER = 15,
+  RIDDLESAGE_RULE_OVERLOAD_FLAGS = 16
+} riddlesage_rule;
+
+/** Where a port stands before a bit time. */
+typedef struct riddlesage_standing {
+  uint8_t phase;  /**< a riddlesage_phase */
+  uint8_t place;  /**< how much of the phase has come; 0 where it has no places */
+  uint8_t sender; /**< 1 where the port is the sender of the frame on the bus, else 0 */
+  uint8_t rule;   /**< the riddlesage_rule that decides in the phase */
+} riddlesage_standing;
 
 /** A data frame or a remote frame. */
 typedef struct riddlesage_frame {
@@ -244,6 +293,16 @@ riddlesage_status riddlesage_port_counters(riddlesage_port *port, uint16_t *tran
 riddlesage_status riddlesage_port_state(riddlesage_port *port, uint8_t *state);
 
 /**
+ * Tells where the port stands before the next bit time: its phase, and the rule that decides there. It is what a verdict
+ * of `canhold judge` tells, but for the first level of an error or overload flag: a verdict names the rule that started
+ * the flag there, and this call that of the flag. What started it is the event of the bit time before.
+ * @param port the port
+ * @param[out] standing where it stands
+ * @return OK, NULL_POINTER, MOVED, NO_PORT
+ */
+riddlesage_status riddlesage_port_phase(riddlesage_port *port, riddlesage_standing *standing);
+
+/**
  * Tells how many entries the log has.
  * @param port the port
  * @param[out] count how many
@@ -293,6 +352,41 @@ riddlesage_status riddlesage_encode(const riddlesage_frame *frame, uint8_t *leve
  */
 riddlesage_status riddlesage_decode(const uint8_t *levels, size_t count, riddlesage_heard *heard, size_t *place);
 
+/** No text that a call below writes has more bytes. */
+enum { RIDDLESAGE_MOST_TEXT = 33554432 };
+
+/** So many bytes have room for the name of a field of a scenario. */
+enum { RIDDLESAGE_FIELD_ROOM = 64 };
+
+/**
+ * Runs a scenario, and writes its report: byte for byte what `canbit run` writes (docs/FORMATS.md).
+ * @param[in] text the scenario, a document in TOML
+ * @param length how many bytes it has
+ * @param[out] report the report, without a 0 behind it
+ * @param room how many bytes `report` has
+ * @param[out] count how many bytes the report has; with NO_ROOM too, but 0 where it has more than RIDDLESAGE_MOST_TEXT
+ * @param[out] field with BAD_SCENARIO the first field that is wrong, as `port[0].log`, with a 0 behind it:
+ * RIDDLESAGE_FIELD_ROOM bytes; may be NULL
+ * @return OK, NULL_POINTER, NO_MEMORY, BAD_SCENARIO, NO_ROOM
+ */
+riddlesage_status riddlesage_run(const char *text, size_t length, char *report, size_t room, size_t *count,
+                                 char *field);
+
+/**
+ * Finds the frames and the faults in a trace, and writes their lines: byte for byte what `canbit decode` writes
+ * (docs/FORMATS.md).
+ * @param[in] text the trace: digits 0 and 1, blanks and line ends
+ * @param length how many bytes it has
+ * @param[out] lines the lines, without a 0 behind them; with BAD_BYTE those of the levels before that byte
+ * @param room how many bytes `lines` has
+ * @param[out] count how many bytes the lines have, also with BAD_BYTE; with NO_ROOM too, but 0 where they have more than
+ * RIDDLESAGE_MOST_TEXT
+ * @param[out] place with BAD_BYTE how many bytes stand before that one; may be NULL
+ * @return OK, NULL_POINTER, NO_MEMORY, BAD_BYTE, NO_ROOM
+ */
+riddlesage_status riddlesage_decode_trace(const char *text, size_t length, char *lines, size_t room, size_t *count,
+                                          size_t *place);
+
 /**
  * Names a status.
  * @param status the status
@@ -306,6 +400,20 @@ const char *riddlesage_status_name(riddlesage_status status);
  * @return its name, as "bit error", which is never freed; NULL for a number that is none
  */
 const char *riddlesage_event_name(riddlesage_event event);
+
+/**
+ * Names a phase, as a verdict of canhold does.
+ * @param phase the phase
+ * @return its name, as "end-of-frame", which is never freed; NULL for a number that is none
+ */
+const char *riddlesage_phase_name(riddlesage_phase phase);
+
+/**
+ * Names a rule, as docs/ACCESS.md does.
+ * @param rule the rule
+ * @return its name, as "Stuff places", which is never freed; NULL for a number that is none
+ */
+const char *riddlesage_rule_name(riddlesage_rule rule);
 
 /**
  * Tells the version of the library, with which RIDDLESAGE_VERSION is to agree.

@@ -2,7 +2,7 @@
 /// @brief riddlesage.h for C++20: a classical CAN controller at whole bit times, as a golden model.
 ///
 /// A Port frees itself, can be moved and kept in containers, and takes and gives enumerations and spans in place of
-/// numbers and pointers. Nothing throws but text(), where there is no memory for it. A call that can be refused answers
+/// numbers and pointers. Nothing throws but text(), run() and decode_trace(), where there is no memory for a text. A call that can be refused answers
 /// a Status, and nothing has changed where that is not Status::ok. What each call does stands in riddlesage.h; that is
 /// proved, and this header is not.
 #ifndef RIDDLESAGE_HPP
@@ -57,7 +57,9 @@ enum class Status : std::uint8_t {
   no_start = RIDDLESAGE_NO_START,
   stuff = RIDDLESAGE_STUFF,
   crc = RIDDLESAGE_CRC,
-  form = RIDDLESAGE_FORM
+  form = RIDDLESAGE_FORM,
+  bad_scenario = RIDDLESAGE_BAD_SCENARIO,
+  bad_byte = RIDDLESAGE_BAD_BYTE
 };
 
 /// What a bit time brings to a port.
@@ -83,6 +85,43 @@ enum class State : std::uint8_t {
   bus_off = RIDDLESAGE_BUS_OFF
 };
 
+/// The phase in which a port is before a bit time.
+enum class Phase : std::uint8_t {
+  joining = RIDDLESAGE_PHASE_JOINING,
+  idle = RIDDLESAGE_PHASE_IDLE,
+  stuffed = RIDDLESAGE_PHASE_STUFFED,
+  crc_delimiter = RIDDLESAGE_PHASE_CRC_DELIMITER,
+  ack_slot = RIDDLESAGE_PHASE_ACK_SLOT,
+  ack_delimiter = RIDDLESAGE_PHASE_ACK_DELIMITER,
+  end_of_frame = RIDDLESAGE_PHASE_END_OF_FRAME,
+  active_flag = RIDDLESAGE_PHASE_ACTIVE_FLAG,
+  passive_flag = RIDDLESAGE_PHASE_PASSIVE_FLAG,
+  overload_flag = RIDDLESAGE_PHASE_OVERLOAD_FLAG,
+  behind_flag = RIDDLESAGE_PHASE_BEHIND_FLAG,
+  delimiter = RIDDLESAGE_PHASE_DELIMITER,
+  intermission = RIDDLESAGE_PHASE_INTERMISSION,
+  suspend = RIDDLESAGE_PHASE_SUSPEND,
+  bus_off = RIDDLESAGE_PHASE_BUS_OFF
+};
+
+/// A rule of docs/ACCESS.md, which decides in a bit time.
+enum class Rule : std::uint8_t {
+  joining = RIDDLESAGE_RULE_JOINING,
+  start_of_frame = RIDDLESAGE_RULE_START_OF_FRAME,
+  kept_frame = RIDDLESAGE_RULE_KEPT_FRAME,
+  intermission = RIDDLESAGE_RULE_INTERMISSION,
+  suspend_transmission = RIDDLESAGE_RULE_SUSPEND_TRANSMISSION,
+  bus_off = RIDDLESAGE_RULE_BUS_OFF,
+  arbitration = RIDDLESAGE_RULE_ARBITRATION,
+  stuff_places = RIDDLESAGE_RULE_STUFF_PLACES,
+  fixed_form = RIDDLESAGE_RULE_FIXED_FORM,
+  acknowledgement = RIDDLESAGE_RULE_ACKNOWLEDGEMENT,
+  error_flags = RIDDLESAGE_RULE_ERROR_FLAGS,
+  behind_a_flag = RIDDLESAGE_RULE_BEHIND_A_FLAG,
+  delimiter = RIDDLESAGE_RULE_DELIMITER,
+  overload_flags = RIDDLESAGE_RULE_OVERLOAD_FLAGS
+};
+
 /// The name of a status, as "queue full".
 [[nodiscard]] inline std::string_view name(Status status) noexcept
 {
@@ -94,6 +133,20 @@ enum class State : std::uint8_t {
 [[nodiscard]] inline std::string_view name(Event event) noexcept
 {
   const char *const found = riddlesage_event_name(static_cast<riddlesage_event>(event));
+  return found != nullptr ? found : "";
+}
+
+/// The name of a phase, as "end-of-frame".
+[[nodiscard]] inline std::string_view name(Phase phase) noexcept
+{
+  const char *const found = riddlesage_phase_name(static_cast<riddlesage_phase>(phase));
+  return found != nullptr ? found : "";
+}
+
+/// The name of a rule, as "Stuff places".
+[[nodiscard]] inline std::string_view name(Rule rule) noexcept
+{
+  const char *const found = riddlesage_rule_name(static_cast<riddlesage_rule>(rule));
   return found != nullptr ? found : "";
 }
 
@@ -135,6 +188,16 @@ struct Told {
 struct Entry {
   Frame frame;
   bool sent = false;
+};
+
+/// Where a port stands before a bit time.
+struct Standing {
+  Phase phase = Phase::idle;
+  std::uint8_t place = 0; ///< how much of the phase has come; 0 where it has no places
+  bool sender = false;    ///< whether the port is the sender of the frame on the bus
+  Rule rule = Rule::start_of_frame;
+
+  [[nodiscard]] friend constexpr bool operator==(const Standing &, const Standing &) noexcept = default;
 };
 
 /// The error counters.
@@ -299,6 +362,14 @@ public:
     return static_cast<State>(state);
   }
 
+  /// Where the port stands before the next bit time, and the rule that decides there.
+  [[nodiscard]] Standing phase() const noexcept
+  {
+    riddlesage_standing at{};
+    detail::demand(riddlesage_port_phase(at_.get(), &at));
+    return {static_cast<Phase>(at.phase), at.place, at.sender != 0, static_cast<Rule>(at.rule)};
+  }
+
   /// How many entries the log has.
   [[nodiscard]] std::size_t log_length() const noexcept
   {
@@ -375,6 +446,58 @@ private:
   const auto level = [](std::uint8_t number) { return static_cast<Level>(number); };
   return Heard{detail::frame_of(heard.frame), heard.acknowledged != 0, level(heard.srr), level(heard.r1),
                level(heard.r0), level(heard.last), place};
+}
+
+/// What a scenario or a trace is answered: the report, or the lines.
+struct Written {
+  Status status = Status::ok;
+  std::string text;      ///< with bad_byte the lines of the levels before that byte
+  std::string field;     ///< with bad_scenario the first field that is wrong, as "port[0].log"
+  std::size_t place = 0; ///< with bad_byte how many bytes stand before that one
+};
+
+namespace detail {
+
+/// What a call of this sort answers, once there is room for the text that it writes.
+template <typename Call> [[nodiscard]] Written written(const Call &call)
+{
+  constexpr std::size_t room = 65536;
+  Written out;
+  std::size_t count = 0;
+  out.text.resize(room);
+  out.status = status_of(call(out, &count));
+  if (out.status == Status::no_room && count > room) {
+    out.text.resize(count);
+    out.status = status_of(call(out, &count));
+  }
+  out.text.resize(out.status == Status::ok || out.status == Status::bad_byte ? count : 0);
+  return out;
+}
+
+} // namespace detail
+
+/// Runs a scenario, a document in TOML, and gives its report: what `canbit run` writes. bad_scenario, no_memory, and
+/// no_room where the report has more than RIDDLESAGE_MOST_TEXT bytes.
+[[nodiscard]] inline Written run(std::string_view scenario)
+{
+  std::array<char, RIDDLESAGE_FIELD_ROOM> field{};
+  const char *const at = scenario.empty() ? "" : scenario.data();
+  Written out = detail::written([&](Written &to, std::size_t *count) {
+    return riddlesage_run(at, scenario.size(), to.text.data(), to.text.size(), count, field.data());
+  });
+  if (out.status == Status::bad_scenario)
+    out.field = field.data();
+  return out;
+}
+
+/// Finds the frames and the faults in a trace, a text of `0` and `1` with blanks and line ends, and gives their lines:
+/// what `canbit decode` writes. bad_byte, no_memory, and no_room where they have more than RIDDLESAGE_MOST_TEXT bytes.
+[[nodiscard]] inline Written decode_trace(std::string_view trace)
+{
+  const char *const at = trace.empty() ? "" : trace.data();
+  return detail::written([&](Written &to, std::size_t *count) {
+    return riddlesage_decode_trace(at, trace.size(), to.text.data(), to.text.size(), count, &to.place);
+  });
 }
 
 /// The text of a frame, as `S 123 D 2 aa55`.

@@ -48,7 +48,29 @@ void coding()
                                              "E 01234567 R 9",
        "texts");
   want(name(Status::queue_full) == "queue full" && name(Event::ack_error) == "ack error", "names");
+  want(name(Phase::end_of_frame) == "end-of-frame" && name(Rule::stuff_places) == "Stuff places", "their names");
   want(version() == RIDDLESAGE_VERSION, "the version");
+}
+
+void texts()
+{
+  const std::string_view report = "bits 3\n111\nport 0 active tec 0 rec 0 missed 0\n";
+  const Written ran = run("version = 1\nbits = 3\nport = [{}]");
+  want(ran.status == Status::ok && ran.text == report, "a report");
+  want(run("version = 1\nbits = 100000\nport = [{}]").text.size() == report.size() + 100002, "a long one");
+  want(run("version = 1\nbits = 3\nport = [1]").field == "port[0]" && run({}).status == Status::bad_scenario,
+       "what is no scenario");
+  want(decode_trace("111 000000").text == "3 fault C3 at 8\n" && decode_trace({}).text.empty(), "traces");
+  const Written bad = decode_trace("0000001x0");
+  want(bad.status == Status::bad_byte && bad.place == 7 && bad.text == "0 fault C3 at 5\n", "what is no level");
+}
+
+void standings()
+{
+  Port port = made(1, 0);
+  want(port.phase() == Standing{}, "a port that is idle");
+  want(port.offer(some) == Status::ok && !port.sample(Level::dominant), "a start of frame");
+  want(port.phase() == Standing{Phase::stuffed, 1, true, Rule::arbitration}, "a sender");
 }
 
 void refusals()
@@ -98,6 +120,8 @@ void moves()
 int main()
 {
   coding();
+  texts();
+  standings();
   refusals();
   moves();
   return wrong == 0 ? EXIT_SUCCESS : EXIT_FAILURE;

@@ -36,11 +36,13 @@ static void want_same(const void *one, const void *other, size_t size, int line)
 /* What is written by calls that are not refused. */
 static riddlesage_frame frame, told;
 static riddlesage_heard heard;
+static riddlesage_standing standing;
 static uint8_t level, event, state, sent, levels[RIDDLESAGE_MOST_LEVELS], drives[RIDDLESAGE_MOST_LEVELS],
     events[RIDDLESAGE_MOST_LEVELS];
 static uint16_t transmit, receive;
 static uint32_t missed;
 static size_t count, place;
+static char text[4096], field[RIDDLESAGE_FIELD_ROOM];
 
 /* Each call on a port, with arguments that nothing is wrong with. */
 static void call_all(riddlesage_port *port, riddlesage_status wanted)
@@ -53,6 +55,7 @@ static void call_all(riddlesage_port *port, riddlesage_status wanted)
   want(wanted, riddlesage_port_run(port, levels, 3, drives, events), "run", __LINE__);
   want(wanted, riddlesage_port_counters(port, &transmit, &receive), "counters", __LINE__);
   want(wanted, riddlesage_port_state(port, &state), "state", __LINE__);
+  want(wanted, riddlesage_port_phase(port, &standing), "phase", __LINE__);
   want(wanted, riddlesage_port_log_length(port, &count), "log_length", __LINE__);
   want(wanted, riddlesage_port_missed(port, &missed), "missed", __LINE__);
   if (wanted != RIDDLESAGE_OK)
@@ -75,6 +78,7 @@ static void null_pointers(riddlesage_port *port)
   WANT(NULL_POINTER, riddlesage_port_counters(port, NULL, &receive));
   WANT(NULL_POINTER, riddlesage_port_counters(port, &transmit, NULL));
   WANT(NULL_POINTER, riddlesage_port_state(port, NULL));
+  WANT(NULL_POINTER, riddlesage_port_phase(port, NULL));
   WANT(NULL_POINTER, riddlesage_port_log_length(port, NULL));
   WANT(NULL_POINTER, riddlesage_port_missed(port, NULL));
   WANT(NULL_POINTER, riddlesage_port_entry(port, 0, NULL, &sent));
@@ -87,6 +91,12 @@ static void null_pointers(riddlesage_port *port)
   WANT(NULL_POINTER, riddlesage_decode(NULL, 0, &heard, &place));
   WANT(NULL_POINTER, riddlesage_decode(levels, 1, NULL, &place));
   WANT(NULL_POINTER, riddlesage_decode(levels, 1, &heard, NULL));
+  WANT(NULL_POINTER, riddlesage_run(NULL, 0, text, sizeof text, &count, field));
+  WANT(NULL_POINTER, riddlesage_run("", 0, NULL, sizeof text, &count, field));
+  WANT(NULL_POINTER, riddlesage_run("", 0, text, sizeof text, NULL, field));
+  WANT(NULL_POINTER, riddlesage_decode_trace(NULL, 0, text, sizeof text, &count, &place));
+  WANT(NULL_POINTER, riddlesage_decode_trace("", 0, NULL, sizeof text, &count, &place));
+  WANT(NULL_POINTER, riddlesage_decode_trace("", 0, text, sizeof text, NULL, &place));
 }
 
 /* Frames with one field that is none of its values. */
@@ -258,6 +268,67 @@ static void kept(void)
   WANT(OK, riddlesage_port_delete(port));
 }
 
+static void want_text(const char *wanted, const char *given, int line)
+{
+  tried++;
+  if (strcmp(wanted, given) == 0)
+    return;
+  wrong++;
+  printf("line %d: %s and not %s\n", line, given, wanted);
+}
+
+#define WANT_FIELD(name, scenario)                                                                        \
+  do {                                                                                                    \
+    WANT(BAD_SCENARIO, riddlesage_run(scenario, strlen(scenario), text, sizeof text, &count, field));     \
+    want_text(name, field, __LINE__);                                                                     \
+  } while (0)
+
+/* Documents that say no scenario, by the field that is wrong, as docs/FORMATS.md orders them. */
+static void bad_scenarios(void)
+{
+  WANT_FIELD("toml", "version = ");
+  WANT_FIELD("toml", "\xff");
+  WANT_FIELD("version", "");
+  WANT_FIELD("version", "version = 3");
+  WANT_FIELD("key", "version = 1\nbits = 1\ncolour = 1\n[[port]]\nlog = 1\n[[port]]\nlog = 1");
+  WANT_FIELD("bits", "version = 1\n[[port]]\nlog = 1");
+  WANT_FIELD("port", "version = 1\nbits = 1");
+  WANT_FIELD("port[0].log", "version = 1\nbits = 1\nport = [{ log = -1 }]");
+  WANT_FIELD("port[0].key", "version = 1\nbits = 1\nport = [{ colour = 1 }]");
+  WANT_FIELD("port[1]", "version = 1\nbits = 1\nport = [{}, 1]");
+  WANT_FIELD("port[0].queue", "version = 1\nbits = 1\nport = [{ queue = 1 }]");
+  WANT_FIELD("port[0].queue[1]", "version = 1\nbits = 1\nport = [{ queue = [\"S 001 D 0\", \"S 800 D 0\"] }]");
+  WANT_FIELD("port[0].join", "version = 1\nbits = 1\nport = [{ join = 1 }]");
+  WANT_FIELD("port[0].hold", "version = 1\nbits = 1\nport = [{ hold = 3 }]");
+}
+
+/* A scenario and a trace that are taken, with room enough, just enough, and too little. */
+static void texts(void)
+{
+  static const char scenario[] = "version = 1\nbits = 3\nport = [{}]\n", trace[] = "111 000000\n", bad[] = "0000001x0";
+  static const char report[] = "bits 3\n111\nport 0 active tec 0 rec 0 missed 0\n", lines[] = "3 fault C3 at 8\n";
+  const size_t needed = sizeof report - 1;
+
+  WANT(OK, riddlesage_run(scenario, sizeof scenario - 1, text, needed, &count, NULL));
+  want(count == needed ? RIDDLESAGE_OK : RIDDLESAGE_NO_ROOM, RIDDLESAGE_OK, "the length of a report", __LINE__);
+  text[count] = '\0';
+  want_text(report, text, __LINE__);
+  memset(text, 'x', sizeof text);
+  count = 0;
+  WANT(NO_ROOM, riddlesage_run(scenario, sizeof scenario - 1, text, needed - 1, &count, field));
+  want(count == needed && text[0] == 'x' ? RIDDLESAGE_OK : RIDDLESAGE_NO_ROOM, RIDDLESAGE_OK, "no room", __LINE__);
+  WANT(OK, riddlesage_decode_trace(trace, sizeof trace - 1, text, sizeof lines - 1, &count, NULL));
+  text[count] = '\0';
+  want_text(lines, text, __LINE__);
+  WANT(NO_ROOM, riddlesage_decode_trace(trace, sizeof trace - 1, text, sizeof lines - 2, &count, &place));
+  WANT(OK, riddlesage_decode_trace("", 0, text, 0, &count, &place));
+  WANT(BAD_BYTE, riddlesage_decode_trace(bad, sizeof bad - 1, text, sizeof text, &count, &place));
+  want(place == 7 ? RIDDLESAGE_OK : RIDDLESAGE_BAD_BYTE, RIDDLESAGE_OK, "the place of a byte", __LINE__);
+  text[count] = '\0';
+  want_text("0 fault C3 at 5\n", text, __LINE__);
+  WANT(BAD_BYTE, riddlesage_decode_trace("2", 1, text, 0, &count, NULL));
+}
+
 int main(void)
 {
   riddlesage_port port = RIDDLESAGE_PORT_INIT;
@@ -275,8 +346,11 @@ int main(void)
   WANT_SAME(nothing_told, told);
   exact_lists(&port);
   behind_the_longest();
+  bad_scenarios();
+  texts();
   WANT(OK, riddlesage_port_free(&port));
-  if (riddlesage_status_name((riddlesage_status)19) != NULL || riddlesage_event_name((riddlesage_event)12) != NULL)
+  if (riddlesage_status_name((riddlesage_status)21) != NULL || riddlesage_event_name((riddlesage_event)12) != NULL ||
+      riddlesage_phase_name((riddlesage_phase)15) != NULL || riddlesage_rule_name((riddlesage_rule)17) != NULL)
     wrong++;
   printf("%u of %u refused or taken as they should be\n", tried - wrong, tried);
   return wrong == 0 ? EXIT_SUCCESS : EXIT_FAILURE;

@@ -55,6 +55,21 @@ static bool play(void)
   return riddlesage_port_delete(port) == RIDDLESAGE_OK && well;
 }
 
+/* A scenario is run and a trace decoded: the same. */
+static bool play_texts(void)
+{
+  static const char scenario[] = "version = 1\nbits = 60\nport = [{ queue = [\"S 001 D 0\"], log = 1 }, { log = 1 }]\n";
+  static char text[4096];
+  size_t count;
+  bool before = refused, well;
+  riddlesage_status status = riddlesage_run(scenario, sizeof scenario - 1, text, sizeof text, &count, NULL);
+
+  well = status == (refused != before ? RIDDLESAGE_NO_MEMORY : RIDDLESAGE_OK);
+  before = refused;
+  status = riddlesage_decode_trace("111 000000", 10, text, sizeof text, &count, NULL);
+  return well && status == (refused != before ? RIDDLESAGE_NO_MEMORY : RIDDLESAGE_OK);
+}
+
 int main(void)
 {
   int number = 0;
@@ -62,11 +77,11 @@ int main(void)
   do {
     refused = false;
     given = number++;
-    if (!play()) {
+    if (!play() || !play_texts()) {
       printf("allocation %d is refused, and not told so\n", number);
       return EXIT_FAILURE;
     }
   } while (refused);
   printf("%d allocations refused\n", number - 1);
-  return number > 3 ? EXIT_SUCCESS : EXIT_FAILURE;
+  return number > 20 ? EXIT_SUCCESS : EXIT_FAILURE;
 }

@@ -137,6 +137,22 @@ static bool state(struct row *row, const char *text)
   return riddlesage_port_state(&row->port, &code) == RIDDLESAGE_OK && text_is(text, states[code]);
 }
 
+/* `stands active-flag 3, receiver; Error flags`: as a verdict of canhold has it */
+static bool stands(struct row *row, const char *text)
+{
+  static const bool has_places[] = { true, false, true, false, false, false, true, true, true, true, true, true, true, true, true };
+  char wanted[LINE_ROOM], place[8] = "";
+  riddlesage_standing at;
+
+  if (riddlesage_port_phase(&row->port, &at) != RIDDLESAGE_OK)
+    return false;
+  if (has_places[at.phase])
+    sprintf(place, " %u", at.place);
+  sprintf(wanted, "%s%s, %s; %s", riddlesage_phase_name((riddlesage_phase)at.phase), place,
+          at.sender ? "sender" : "receiver", riddlesage_rule_name((riddlesage_rule)at.rule));
+  return text_is(text, wanted);
+}
+
 static bool missed(struct row *row, const char *text)
 {
   uint32_t count;
@@ -240,6 +256,7 @@ static bool holds(struct row *row, const char *line)
   } words[] = {
     { "see ", see },     { "told ", told },     { "drives ", drives }, { "drove ", drove },
     { "state ", state }, { "missed ", missed }, { "log ", whole_log }, { "counters ", counters },
+    { "stands ", stands },
   };
   char refusal[LINE_ROOM];
   const char *text = handed_in(line, refusal);

@@ -19,7 +19,24 @@ TOP = HERE.parent.parent
 sys.path[:0] = [str(HERE), str(HERE.parent / "python")]
 
 import riddlesage
-from riddlesage import BadFrame, Event, Fault, Frame, Port, Refused, State, Status, Told, decode, encode
+from riddlesage import (
+    BadByte,
+    BadFrame,
+    BadScenario,
+    Event,
+    Fault,
+    Frame,
+    Phase,
+    Port,
+    Refused,
+    Rule,
+    State,
+    Status,
+    Told,
+    decode,
+    decode_trace,
+    encode,
+)
 from riddlesage._library import lib
 from scenarios import STATES, report
 
@@ -108,6 +125,8 @@ class Row:
             return tuple(map(int, rest.split())), tuple(self.port.counters)
         if word == "state":
             return rest, STATES[self.port.state]
+        if word == "stands":
+            return rest, str(self.port.phase)
         if word == "missed":
             return int(rest), self.port.missed
         if word == "log":
@@ -163,8 +182,18 @@ class Scenarios(unittest.TestCase):
                 lines = report(tomllib.loads(path.read_text(encoding="utf-8")))
                 self.assertEqual(path.with_suffix(".report").read_text(encoding="ascii").splitlines(), list(lines))
 
+    def test_run(self) -> None:
+        """The library's own run of each, as text and as bytes, and of one whose report is long."""
+        for path in sorted((TOP / "examples" / "scenarios").glob("*.toml")):
+            with self.subTest(path.name):
+                wanted = path.with_suffix(".report").read_text(encoding="ascii")
+                self.assertEqual(wanted, riddlesage.run(path.read_text(encoding="utf-8")))
+                self.assertEqual(wanted, riddlesage.run(path.read_bytes()))
+        report = riddlesage.run("version = 1\nbits = 1000000\nport = [{}]")
+        self.assertEqual(f"bits 1000000\n{'1' * 1000000}\nport 0 active tec 0 rec 0 missed 0\n", report)
+
     def test_trace(self) -> None:
-        """The script that decodes a trace."""
+        """The script that decodes a trace, and the library's own decoding of it."""
         script, path = HERE.parent / "examples" / "decode_trace.py", TOP / "examples" / "trace.txt"
         told = subprocess.run([sys.executable, script, path], capture_output=True, check=True)
         with path.open("rb") as trace:
@@ -178,6 +207,10 @@ class Scenarios(unittest.TestCase):
             "258 S 000 R 8 ack",
         ]
         self.assertEqual(told.stdout.decode("ascii").splitlines(), lines)
+        text = path.read_text(encoding="ascii")
+        self.assertEqual(decode_trace(text), lines)
+        self.assertEqual(decode_trace(levels_of("".join(text.split()))), lines)
+        self.assertEqual(decode_trace(b""), [])
 
 
 class Refusals(unittest.TestCase):
@@ -220,7 +253,8 @@ class Refusals(unittest.TestCase):
 
     def test_copies(self) -> None:
         """Errors are pickled as they are, and ports are not."""
-        for error in (Refused(Status.QUEUE_FULL), BadFrame(Status.BAD_DLC), Fault(Status.STUFF, 5)):
+        errors = (Refused(Status.QUEUE_FULL), BadFrame(Status.BAD_DLC), Fault(Status.STUFF, 5))
+        for error in (*errors, BadScenario("bits"), BadByte(7, ["0 fault C3 at 5"])):
             again = pickle.loads(pickle.dumps(error))
             self.assertEqual((type(again), str(again), again.__dict__), (type(error), str(error), error.__dict__))
         port = Port()
@@ -278,7 +312,7 @@ class Refusals(unittest.TestCase):
         self.refused(Status.NO_PORT, port.drive)
         for call, word in ((port.sample, 1), (port.run, b"\x01"), (port.offer, Frame(0)), (port.hold, 0)):
             self.refused(Status.NO_PORT, call, word)
-        for name in ("counters", "state", "log", "missed"):
+        for name in ("counters", "state", "phase", "log", "missed"):
             self.refused(Status.NO_PORT, getattr, port, name)
 
     def test_faults(self) -> None:
@@ -292,15 +326,31 @@ class Refusals(unittest.TestCase):
         self.assertEqual(("SHORT", 0), (caught.exception.name, caught.exception.place))
         self.refused(Status.BAD_LEVEL, decode, b"\x00\x07")
 
+    def test_texts(self) -> None:
+        """Texts that are no scenario, and no trace."""
+        for text, field in (("version = ", "toml"), ("", "version"), ("version = 1\nbits = 1\nport = [1]", "port[0]")):
+            with self.assertRaises(BadScenario) as refused:
+                riddlesage.run(text)
+            self.assertEqual((field, f"bad scenario: {field}"), (refused.exception.field, str(refused.exception)))
+        traces: tuple[str | bytes, ...] = ("0000001x0", b"\0\0\0\0\0\0\1\2\0")
+        for trace in traces:
+            with self.assertRaises(BadByte) as bad:
+                decode_trace(trace)
+            self.assertEqual((7, ["0 fault C3 at 5"]), (bad.exception.place, bad.exception.lines))
+
     def test_names(self) -> None:
         """The names are those of the library."""
         for function, names in (
             ("riddlesage_status_name", [name_of(status) for status in Status]),
             ("riddlesage_event_name", [name_of(event) for event in Event]),
+            ("riddlesage_phase_name", [phase.name.lower().replace("_", "-") for phase in Phase]),
         ):
             told = getattr(lib, function)
             self.assertEqual(names, [told(code).decode("ascii") for code in range(len(names))])
             self.assertIsNone(told(len(names)))
+        told = lib.riddlesage_rule_name
+        rules = {rule.value: rule.name.replace("_", " ").capitalize() for rule in Rule}
+        self.assertEqual(rules, {code: told(code).decode("ascii") for code in range(20) if told(code)})
 
 
 class Text(unittest.TestCase):

@@ -9,6 +9,7 @@
  *   told = $riddlesage_sample(port, level);      what the bit time brought, a riddlesage_event
  *   frame = $riddlesage_frame(port);             the last frame that was sent or received
  *   tec = $riddlesage_tec(port); rec = $riddlesage_rec(port);
+ *   $riddlesage_stands(port);                    writes where it stands: its phase, its part, and the rule there
  *
  * The data of a frame are its lowest 64 bits, the first byte the highest. What the library refuses, a port that is
  * none, and an x or a z as a level or in a frame end the simulation with a message. Nothing here is proved, and nothing
@@ -301,6 +302,25 @@ static PLI_INT32 call_counter(PLI_BYTE8 *data)
   return 0;
 }
 
+/* As a verdict of canhold has it: `suspend 7, sender; Suspend transmission`. */
+static PLI_INT32 call_stands(PLI_BYTE8 *data)
+{
+  struct arguments of = arguments();
+  riddlesage_standing at = { RIDDLESAGE_PHASE_IDLE, 0, 0, RIDDLESAGE_RULE_START_OF_FRAME };
+  riddlesage_phase phase;
+
+  (void)data;
+  demand(riddlesage_port_phase(&ports[port_of(&of)], &at));
+  done(&of);
+  phase = (riddlesage_phase)at.phase;
+  vpi_printf("%s", riddlesage_phase_name(phase));
+  if (phase != RIDDLESAGE_PHASE_IDLE && phase != RIDDLESAGE_PHASE_CRC_DELIMITER && phase != RIDDLESAGE_PHASE_ACK_SLOT &&
+      phase != RIDDLESAGE_PHASE_ACK_DELIMITER)
+    vpi_printf(" %u", at.place);
+  vpi_printf(", %s; %s", at.sender != 0 ? "sender" : "receiver", riddlesage_rule_name((riddlesage_rule)at.rule));
+  return 0;
+}
+
 static PLI_INT32 frame_size(PLI_BYTE8 *data)
 {
   (void)data;
@@ -330,6 +350,7 @@ static void announce_all(void)
   announce("$riddlesage_drive", call_drive, vpiIntFunc, NULL);
   announce("$riddlesage_sample", call_sample, vpiIntFunc, NULL);
   announce("$riddlesage_frame", call_frame, vpiSizedFunc, NULL);
+  announce("$riddlesage_stands", call_stands, 0, NULL);
   announce("$riddlesage_tec", call_counter, vpiIntFunc, transmit_counter);
   announce("$riddlesage_rec", call_counter, vpiIntFunc, receive_counter);
 }

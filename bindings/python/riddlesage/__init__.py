@@ -33,12 +33,15 @@ from riddlesage._frames import (
     encode,
 )
 from riddlesage._library import VERSION
-from riddlesage._ports import Counters, Entry, Event, Port, Run, State, Told
+from riddlesage._ports import Counters, Entry, Event, Phase, Port, Rule, Run, Standing, State, Told
+from riddlesage._texts import BadByte, BadScenario, decode_trace, run
 
 __all__ = [
     "DOMINANT",
     "RECESSIVE",
+    "BadByte",
     "BadFrame",
+    "BadScenario",
     "Bus",
     "Counters",
     "Device",
@@ -48,16 +51,21 @@ __all__ = [
     "Frame",
     "Happened",
     "Heard",
+    "Phase",
     "Port",
     "Refused",
     "RiddlesageError",
+    "Rule",
     "Run",
+    "Standing",
     "State",
     "Status",
     "Told",
     "__version__",
     "decode",
+    "decode_trace",
     "encode",
+    "run",
 ]
 
 __version__ = VERSION

@@ -36,6 +36,8 @@ class Status(enum.IntEnum):
     STUFF = 16
     CRC = 17
     FORM = 18
+    BAD_SCENARIO = 19
+    BAD_BYTE = 20
 
 
 class RiddlesageError(Exception):

@@ -9,6 +9,9 @@ import pathlib
 # The name that the system's loader knows: with the first number of the version.
 _SONAME = "libriddlesage.so.0"
 
+# Room for the name of a field of a scenario.
+FIELD_ROOM = 64
+
 
 class PlainFrame(ctypes.Structure):
     """A riddlesage_frame."""
@@ -32,6 +35,17 @@ class PlainHeard(ctypes.Structure):
         ("r1", ctypes.c_uint8),
         ("r0", ctypes.c_uint8),
         ("last", ctypes.c_uint8),
+    )
+
+
+class PlainStanding(ctypes.Structure):
+    """A riddlesage_standing."""
+
+    _fields_ = (
+        ("phase", ctypes.c_uint8),
+        ("place", ctypes.c_uint8),
+        ("sender", ctypes.c_uint8),
+        ("rule", ctypes.c_uint8),
     )
 
 
@@ -72,12 +86,29 @@ _PARAMETERS = {
     "riddlesage_port_hold": (_PORT, ctypes.c_uint8),
     "riddlesage_port_counters": (_PORT, ctypes.POINTER(ctypes.c_uint16), ctypes.POINTER(ctypes.c_uint16)),
     "riddlesage_port_state": (_PORT, _U8),
+    "riddlesage_port_phase": (_PORT, ctypes.POINTER(PlainStanding)),
     "riddlesage_port_log_length": (_PORT, _SIZE),
     "riddlesage_port_missed": (_PORT, ctypes.POINTER(ctypes.c_uint32)),
     "riddlesage_port_entry": (_PORT, ctypes.c_size_t, _FRAME, _U8),
     "riddlesage_port_run": (_PORT, ctypes.c_char_p, ctypes.c_size_t, ctypes.c_char_p, ctypes.c_char_p),
     "riddlesage_encode": (_FRAME, ctypes.c_char_p, ctypes.c_size_t, _SIZE),
     "riddlesage_decode": (ctypes.c_char_p, ctypes.c_size_t, ctypes.POINTER(PlainHeard), _SIZE),
+    "riddlesage_run": (
+        ctypes.c_char_p,
+        ctypes.c_size_t,
+        ctypes.c_char_p,
+        ctypes.c_size_t,
+        _SIZE,
+        ctypes.c_char_p,
+    ),
+    "riddlesage_decode_trace": (
+        ctypes.c_char_p,
+        ctypes.c_size_t,
+        ctypes.c_char_p,
+        ctypes.c_size_t,
+        _SIZE,
+        _SIZE,
+    ),
 }
 
 for _name, _parameters in _PARAMETERS.items():
@@ -85,9 +116,9 @@ for _name, _parameters in _PARAMETERS.items():
     _function.argtypes = _parameters
     _function.restype = ctypes.c_int
 
-for _name, _code in (("riddlesage_status_name", ctypes.c_int), ("riddlesage_event_name", ctypes.c_int)):
-    _function = getattr(lib, _name)
-    _function.argtypes = (_code,)
+for _named in ("status", "event", "phase", "rule"):
+    _function = getattr(lib, f"riddlesage_{_named}_name")
+    _function.argtypes = (ctypes.c_int,)
     _function.restype = ctypes.c_char_p
 
 lib.riddlesage_version.argtypes = ()

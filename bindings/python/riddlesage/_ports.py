@@ -10,7 +10,7 @@ from types import TracebackType
 from typing import NamedTuple, NoReturn
 
 from riddlesage._frames import Frame, Refused, Status, demand, frame_of, in_range, plain_of
-from riddlesage._library import PlainFrame, PlainPort, lib
+from riddlesage._library import PlainFrame, PlainPort, PlainStanding, lib
 
 # These two are called in each bit time. Their arguments are made once for each port, as the right types, so that no
 # call has to convert them.
@@ -41,6 +41,64 @@ class State(enum.IntEnum):
     ERROR_ACTIVE = 0
     ERROR_PASSIVE = 1
     BUS_OFF = 2
+
+
+class Phase(enum.IntEnum):
+    """The phase in which a port is before a bit time."""
+
+    JOINING = 0
+    IDLE = 1
+    STUFFED = 2
+    CRC_DELIMITER = 3
+    ACK_SLOT = 4
+    ACK_DELIMITER = 5
+    END_OF_FRAME = 6
+    ACTIVE_FLAG = 7
+    PASSIVE_FLAG = 8
+    OVERLOAD_FLAG = 9
+    BEHIND_FLAG = 10
+    DELIMITER = 11
+    INTERMISSION = 12
+    SUSPEND = 13
+    BUS_OFF = 14
+
+
+_WITHOUT_PLACES = (Phase.IDLE, Phase.CRC_DELIMITER, Phase.ACK_SLOT, Phase.ACK_DELIMITER)
+
+
+class Rule(enum.IntEnum):
+    """A rule of docs/ACCESS.md, which decides in a bit time."""
+
+    JOINING = 0
+    START_OF_FRAME = 1
+    KEPT_FRAME = 2
+    INTERMISSION = 3
+    SUSPEND_TRANSMISSION = 4
+    BUS_OFF = 5
+    ARBITRATION = 6
+    STUFF_PLACES = 7
+    FIXED_FORM = 8
+    ACKNOWLEDGEMENT = 9
+    ERROR_FLAGS = 12
+    BEHIND_A_FLAG = 14
+    DELIMITER = 15
+    OVERLOAD_FLAGS = 16
+
+
+class Standing(NamedTuple):
+    """Where a port stands before a bit time: how much of its phase has come, and the rule that decides in it."""
+
+    phase: Phase
+    place: int
+    sender: bool
+    rule: Rule
+
+    def __str__(self) -> str:
+        """As a verdict of canhold has it: `active-flag 3, receiver; Error flags`."""
+        phase = self.phase.name.lower().replace("_", "-")
+        place = "" if self.phase in _WITHOUT_PLACES else f" {self.place}"
+        rule = self.rule.name.replace("_", " ").capitalize()
+        return f"{phase}{place}, {'sender' if self.sender else 'receiver'}; {rule}"
 
 
 class Told(NamedTuple):
@@ -185,6 +243,14 @@ class Port:
         with self._lock:
             demand(lib.riddlesage_port_state(self._port, state))
         return State(state.value)
+
+    @property
+    def phase(self) -> Standing:
+        """Where the port stands before the next bit time, and the rule that decides there."""
+        plain = PlainStanding()
+        with self._lock:
+            demand(lib.riddlesage_port_phase(self._port, plain))
+        return Standing(Phase(plain.phase), plain.place, bool(plain.sender), Rule(plain.rule))
 
     @property
     def missed(self) -> int:

@@ -26,13 +26,15 @@
 mod frame;
 mod port;
 mod sys;
+mod text;
 
 use std::error::Error;
 use std::ffi::CStr;
 use std::fmt;
 
 pub use frame::{decode, encode, Fault, FaultKind, Frame, Heard, Level};
-pub use port::{Counters, Entry, Event, Port, State};
+pub use port::{Counters, Entry, Event, EventKind, Phase, Port, Rule, Standing, State};
+pub use text::{decode_trace, run, ScenarioFault, TraceFault};
 
 /// Why a call was refused; nothing has changed then.
 #[derive(Clone, Copy, Debug, PartialEq, Eq, Hash)]

@@ -51,6 +51,178 @@ impl Event {
     }
 }
 
+/// What a bit time brings to a port, without the frame where one was sent or received.
+#[derive(Clone, Copy, Debug, PartialEq, Eq, Hash)]
+pub enum EventKind {
+    /// A frame was sent.
+    Sent,
+    /// A frame was received.
+    Received,
+    /// Arbitration was lost.
+    Lost,
+    /// A bit differs from the one that was sent.
+    BitError,
+    /// A stuff place repeats the level before it.
+    StuffError,
+    /// The CRC sequence is not that of the levels before it.
+    CrcError,
+    /// A bit of fixed form has the other level.
+    FormError,
+    /// No receiver acknowledges.
+    AckError,
+    /// An overload flag starts with the next bit time.
+    Overload,
+    /// The port is bus off from the next bit time on.
+    WentOff,
+    /// Bus off has ended.
+    Recovered,
+}
+
+impl EventKind {
+    fn of(code: u8) -> Option<Self> {
+        Some(match code {
+            0 => return None,
+            1 => Self::Sent,
+            2 => Self::Received,
+            3 => Self::Lost,
+            4 => Self::BitError,
+            5 => Self::StuffError,
+            6 => Self::CrcError,
+            7 => Self::FormError,
+            8 => Self::AckError,
+            9 => Self::Overload,
+            10 => Self::WentOff,
+            11 => Self::Recovered,
+            _ => unreachable!("riddlesage tells event {code}"),
+        })
+    }
+}
+
+/// The phase in which a port is before a bit time, and how many of its levels have come.
+#[derive(Clone, Copy, Debug, PartialEq, Eq, Hash)]
+pub enum Phase {
+    /// Not yet on the bus: so many recessive levels in a row, 0 to 10.
+    Joining(u8),
+    /// Between frames.
+    Idle,
+    /// So many unstuffed levels of a frame, 1 to 118.
+    Stuffed(u8),
+    /// The CRC delimiter is next.
+    CrcDelimiter,
+    /// The ACK slot is next.
+    AckSlot,
+    /// The ACK delimiter is next.
+    AckDelimiter,
+    /// 0 to 6.
+    EndOfFrame(u8),
+    /// An active error flag, 0 to 5.
+    ActiveFlag(u8),
+    /// A passive error flag: the last so many levels are equal, 0 to 5.
+    PassiveFlag(u8),
+    /// 0 to 5.
+    OverloadFlag(u8),
+    /// Behind a flag: so many dominant levels, modulo 8.
+    BehindFlag(u8),
+    /// The delimiter behind a flag, 1 to 7.
+    Delimiter(u8),
+    /// 0 to 2.
+    Intermission(u8),
+    /// Suspend transmission, 0 to 7.
+    Suspend(u8),
+    /// So many rows of eleven recessive levels, 0 to 127.
+    BusOff(u8),
+}
+
+impl Phase {
+    fn of(code: u8, place: u8) -> Self {
+        match code {
+            0 => Self::Joining(place),
+            1 => Self::Idle,
+            2 => Self::Stuffed(place),
+            3 => Self::CrcDelimiter,
+            4 => Self::AckSlot,
+            5 => Self::AckDelimiter,
+            6 => Self::EndOfFrame(place),
+            7 => Self::ActiveFlag(place),
+            8 => Self::PassiveFlag(place),
+            9 => Self::OverloadFlag(place),
+            10 => Self::BehindFlag(place),
+            11 => Self::Delimiter(place),
+            12 => Self::Intermission(place),
+            13 => Self::Suspend(place),
+            14 => Self::BusOff(place),
+            _ => unreachable!("riddlesage tells phase {code}"),
+        }
+    }
+}
+
+/// A rule of `docs/ACCESS.md`, which decides in a bit time.
+#[derive(Clone, Copy, Debug, PartialEq, Eq, Hash)]
+#[non_exhaustive]
+pub enum Rule {
+    /// Not yet on the bus.
+    Joining,
+    /// What begins a frame.
+    StartOfFrame,
+    /// A sender behind arbitration.
+    KeptFrame,
+    /// Intermission.
+    Intermission,
+    /// Suspend transmission.
+    SuspendTransmission,
+    /// Bus off.
+    BusOff,
+    /// A sender up to its RTR bit.
+    Arbitration,
+    /// The stuffed part of a frame.
+    StuffPlaces,
+    /// The levels of fixed form.
+    FixedForm,
+    /// The ACK slot.
+    Acknowledgement,
+    /// An active or a passive error flag.
+    ErrorFlags,
+    /// Behind a flag, before the first recessive level.
+    BehindAFlag,
+    /// The delimiter behind a flag.
+    Delimiter,
+    /// An overload flag.
+    OverloadFlags,
+}
+
+impl Rule {
+    fn of(code: u8) -> Self {
+        match code {
+            0 => Self::Joining,
+            1 => Self::StartOfFrame,
+            2 => Self::KeptFrame,
+            3 => Self::Intermission,
+            4 => Self::SuspendTransmission,
+            5 => Self::BusOff,
+            6 => Self::Arbitration,
+            7 => Self::StuffPlaces,
+            8 => Self::FixedForm,
+            9 => Self::Acknowledgement,
+            12 => Self::ErrorFlags,
+            14 => Self::BehindAFlag,
+            15 => Self::Delimiter,
+            16 => Self::OverloadFlags,
+            _ => unreachable!("riddlesage tells rule {code}"),
+        }
+    }
+}
+
+/// Where a port stands before a bit time.
+#[derive(Clone, Copy, Debug, PartialEq, Eq, Hash)]
+pub struct Standing {
+    /// Its phase.
+    pub phase: Phase,
+    /// Whether it is the sender of the frame on the bus.
+    pub sender: bool,
+    /// The rule that decides in the phase.
+    pub rule: Rule,
+}
+
 /// The state of fault confinement.
 #[derive(Clone, Copy, Debug, PartialEq, Eq, Hash)]
 pub enum State {
@@ -164,13 +336,13 @@ impl Port {
         Event::of(code, &frame)
     }
 
-    /// Samples these levels, one a bit time, whatever the port drives. Gives the level that it drove in each, and the
-    /// number of what each brought: a `riddlesage_event`, 0 where it brought nothing.
+    /// Samples these levels, one a bit time, whatever the port drives. Gives the level that it drove in each, and what
+    /// each brought, if anything.
     ///
     /// # Errors
     ///
     /// [`Refused::NoLevels`].
-    pub fn run(&mut self, levels: &[Level]) -> Result<(Vec<Level>, Vec<u8>), Refused> {
+    pub fn run(&mut self, levels: &[Level]) -> Result<(Vec<Level>, Vec<Option<EventKind>>), Refused> {
         let count = levels.len();
         let (mut drives, mut events) = (vec![0; count], vec![0; count]);
         // SAFETY: as for an offer; a Level is a byte
@@ -183,7 +355,7 @@ impl Port {
                 events.as_mut_ptr(),
             )
         })?;
-        Ok((drives.into_iter().map(Level::of).collect(), events))
+        Ok((drives.into_iter().map(Level::of).collect(), events.into_iter().map(EventKind::of).collect()))
     }
 
     /// The error counters.
@@ -208,6 +380,15 @@ impl Port {
             1 => State::ErrorPassive,
             _ => State::BusOff,
         }
+    }
+
+    /// Where the port stands before the next bit time, and the rule that decides there.
+    #[must_use]
+    pub fn phase(&self) -> Standing {
+        let mut at = sys::Standing::default();
+        // SAFETY: as for an offer; the port stays as it is
+        Self::sure(unsafe { sys::riddlesage_port_phase(self.at.as_ptr(), &mut at) });
+        Standing { phase: Phase::of(at.phase, at.place), sender: at.sender != 0, rule: Rule::of(at.rule) }
     }
 
     /// How many entries the log had no room for.

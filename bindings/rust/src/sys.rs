@@ -24,6 +24,15 @@ pub struct Heard {
     pub last: u8,
 }
 
+#[repr(C)]
+#[derive(Clone, Copy, Default)]
+pub struct Standing {
+    pub phase: u8,
+    pub place: u8,
+    pub sender: u8,
+    pub rule: u8,
+}
+
 /// A port that the library keeps: only its place is known here.
 #[repr(C)]
 pub struct Port {
@@ -41,13 +50,17 @@ pub const BAD_IDENTIFIER: Status = 8;
 pub const BAD_DLC: Status = 9;
 pub const BAD_COUNT: Status = 11;
 pub const NO_LEVELS: Status = 12;
+pub const NO_ROOM: Status = 13;
 pub const SHORT: Status = 14;
 pub const NO_START: Status = 15;
 pub const STUFF: Status = 16;
 pub const CRC: Status = 17;
 pub const FORM: Status = 18;
+pub const BAD_SCENARIO: Status = 19;
+pub const BAD_BYTE: Status = 20;
 
 pub const MOST_LEVELS: usize = 157;
+pub const FIELD_ROOM: usize = 64;
 
 extern "C" {
     pub fn riddlesage_port_new() -> *mut Port;
@@ -67,10 +80,27 @@ extern "C" {
     ) -> Status;
     pub fn riddlesage_port_counters(port: *mut Port, transmit: *mut u16, receive: *mut u16) -> Status;
     pub fn riddlesage_port_state(port: *mut Port, state: *mut u8) -> Status;
+    pub fn riddlesage_port_phase(port: *mut Port, standing: *mut Standing) -> Status;
     pub fn riddlesage_port_log_length(port: *mut Port, count: *mut usize) -> Status;
     pub fn riddlesage_port_missed(port: *mut Port, count: *mut u32) -> Status;
     pub fn riddlesage_port_entry(port: *mut Port, number: usize, frame: *mut Frame, sent: *mut u8) -> Status;
     pub fn riddlesage_encode(frame: *const Frame, levels: *mut u8, room: usize, count: *mut usize) -> Status;
     pub fn riddlesage_decode(levels: *const u8, count: usize, heard: *mut Heard, place: *mut usize) -> Status;
+    pub fn riddlesage_run(
+        text: *const u8,
+        length: usize,
+        report: *mut u8,
+        room: usize,
+        count: *mut usize,
+        field: *mut u8,
+    ) -> Status;
+    pub fn riddlesage_decode_trace(
+        text: *const u8,
+        length: usize,
+        lines: *mut u8,
+        room: usize,
+        count: *mut usize,
+        place: *mut usize,
+    ) -> Status;
     pub fn riddlesage_version() -> *const c_char;
 }

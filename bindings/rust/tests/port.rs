@@ -1,6 +1,9 @@
 //! What the crate adds to `riddlesage.h`: types, refusals, ports that move and go to threads.
 
-use riddlesage::{decode, encode, version, Counters, Entry, Event, FaultKind, Frame, Level, Port, Refused, State};
+use riddlesage::{
+    decode, decode_trace, encode, run, version, Counters, Entry, Event, EventKind, FaultKind, Frame, Level, Phase,
+    Port, Refused, Rule, ScenarioFault, Standing, State, TraceFault,
+};
 
 fn frame() -> Frame {
     Frame::standard(0x123, &[0xaa, 0x55]).expect("a frame")
@@ -79,7 +82,30 @@ fn many_bit_times_at_once() {
     levels.extend([Level::Recessive; 11]);
     let (drives, events) = receiver.run(&levels).expect("levels");
     // the port acknowledges, and the slot stays recessive
-    assert_eq!((drives[53], events[53]), (Level::Dominant, 4));
+    assert_eq!((drives[53], events[53]), (Level::Dominant, Some(EventKind::BitError)));
+    assert_eq!(events[52], None);
+}
+
+#[test]
+fn where_a_port_stands() {
+    let mut sender = port(1, 0);
+    assert_eq!(sender.phase(), Standing { phase: Phase::Idle, sender: false, rule: Rule::StartOfFrame });
+    sender.offer(&frame()).expect("room for a frame");
+    sender.sample(Level::Dominant);
+    assert_eq!(sender.phase(), Standing { phase: Phase::Stuffed(1), sender: true, rule: Rule::Arbitration });
+}
+
+#[test]
+fn texts() {
+    let report = "bits 3\n111\nport 0 active tec 0 rec 0 missed 0\n";
+    assert_eq!(run("version = 1\nbits = 3\nport = [{}]").as_deref(), Ok(report));
+    let long = run("version = 1\nbits = 100000\nport = [{}]").expect("a report");
+    assert_eq!(long.len(), "bits 100000\n\nport 0 active tec 0 rec 0 missed 0\n".len() + 100_000);
+    let field = ScenarioFault::Field("port[0].log".to_string());
+    assert_eq!(run("version = 1\nbits = 3\nport = [{ log = -1 }]"), Err(field));
+    assert_eq!(decode_trace("111 000000\n").as_deref(), Ok("3 fault C3 at 8\n"));
+    let fault = TraceFault::BadByte { place: 7, lines: "0 fault C3 at 5\n".to_string() };
+    assert_eq!(decode_trace("0000001x0"), Err(fault));
 }
 
 #[test]

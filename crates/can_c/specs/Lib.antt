@@ -2,5 +2,6 @@
 pub mod Statuses
 pub mod Codes
 pub mod PlainFrames
+pub mod PlainStandings
 pub mod BitTimes
 pub mod Calls

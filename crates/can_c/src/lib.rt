@@ -12,6 +12,7 @@
 //! | `plain.rt` | [`PlainFrame`], [`PlainHeard`], frames as plain fields | `specs/PlainFrames.antt` |
 //! | `ports.rt` | the exports that make a port, and what is done at one between two bit times | `specs/Calls.antt` |
 //! | `bit_times.rt` | the exports that take a port through bit times, one or many | `specs/Calls.antt`, `specs/BitTimes.antt` |
+//! | `standing.rt` | [`can_c_phase`], the phase of a port and the rule there | `specs/PlainStandings.antt` |
 //! | `told.rt` | the exports that tell of a port: counters, state, log | `specs/Calls.antt` |
 //! | `coding.rt` | the exports that encode and decode | `specs/Calls.antt` |
 //!
@@ -23,6 +24,7 @@ mod codes;
 mod coding;
 mod plain;
 mod ports;
+mod standing;
 mod status;
 mod told;
 
@@ -30,5 +32,6 @@ pub use bit_times::{can_c_drive, can_c_run, can_c_sample};
 pub use coding::{can_c_decode, can_c_encode};
 pub use plain::{PlainFrame, PlainHeard};
 pub use ports::{can_c_free, can_c_hold, can_c_idle, can_c_joining, can_c_offer};
+pub use standing::{PlainStanding, can_c_phase};
 pub use status::Status;
 pub use told::{can_c_counters, can_c_entry, can_c_log_length, can_c_missed, can_c_state};

@@ -5,7 +5,7 @@ ghost use Rattle.can_node.specs.Ports.{fresh_port, port_offered, port_drives, po
 
 use can_fault::State;
 use can_frame::{Frame, Level};
-use can_mac::Event;
+use can_mac::{Event, PackedMac};
 use can_node::{Entry, PackedNode, Port};
 use std::alloc::{AllocError, Global};
 use std::marker::Model;
@@ -45,6 +45,13 @@ impl Controller {
         Ok(Controller {
             node: PackedNode::joining(alloc, queue, log)?,
         })
+    }
+
+    /// The medium access of its controller.
+    pub fn access(&self) -> &PackedMac
+        ensures { result.now ≡ self.now.mac }
+    {
+        self.node.access()
     }
 
     /// What it drives in this bit time.

@@ -1,0 +1,77 @@
+"""Scenarios and traces, as canbit runs and decodes them."""
+
+from __future__ import annotations
+
+import ctypes
+from collections.abc import Callable
+
+from riddlesage._frames import RiddlesageError, Status, demand
+from riddlesage._library import FIELD_ROOM, lib
+
+# Room that most texts have enough of.
+_ROOM = 1 << 16
+# The digits of levels; what is none is no byte of a trace.
+_DIGITS = b"01" + b"?" * 254
+
+
+class BadScenario(RiddlesageError, ValueError):
+    """A text says no scenario. `field` is the first one that is wrong, as `port[0].log`."""
+
+    def __init__(self, field: str) -> None:
+        super().__init__(f"bad scenario: {field}")
+        self.field = field
+
+    def __reduce__(self) -> tuple[type[BadScenario], tuple[str]]:
+        """How it is made again, where it is pickled or copied."""
+        return type(self), (self.field,)
+
+
+class BadByte(RiddlesageError, ValueError):
+    """A trace has something that is no level. `place` bytes stand before it; `lines` are those of the levels there."""
+
+    def __init__(self, place: int, lines: list[str]) -> None:
+        super().__init__(f"bad byte at {place}")
+        self.place = place
+        self.lines = lines
+
+    def __reduce__(self) -> tuple[type[BadByte], tuple[int, list[str]]]:
+        """How it is made again, where it is pickled or copied."""
+        return type(self), (self.place, self.lines)
+
+
+def _written(call: Callable[..., int], document: bytes, told: object) -> tuple[Status, str]:
+    """What a call answers of a document, and the text that it writes, once there is room for it."""
+    room, count = _ROOM, ctypes.c_size_t()
+    while True:
+        text = ctypes.create_string_buffer(room)
+        status = Status(call(document, len(document), text, room, count, told))
+        if status == Status.NO_MEMORY:
+            raise MemoryError
+        if status != Status.NO_ROOM or count.value <= room:
+            return status, text.raw[: count.value].decode("ascii")
+        room = count.value
+
+
+def run(scenario: str | bytes) -> str:
+    """Runs a scenario, a document in TOML, and gives its report: what `canbit run` writes."""
+    document = scenario.encode("utf-8") if isinstance(scenario, str) else bytes(scenario)
+    field = ctypes.create_string_buffer(FIELD_ROOM)
+    status, report = _written(lib.riddlesage_run, document, field)
+    if status == Status.BAD_SCENARIO:
+        raise BadScenario(field.value.decode("ascii"))
+    demand(status)
+    return report
+
+
+def decode_trace(trace: str | bytes) -> list[str]:
+    """Finds the frames and the faults in a trace, and gives a line for each: those that `canbit decode` writes.
+
+    A trace is a text of `0` and `1`, with blanks and line ends, or it is levels.
+    """
+    document = trace.encode("utf-8") if isinstance(trace, str) else bytes(trace).translate(_DIGITS)
+    place = ctypes.c_size_t()
+    status, lines = _written(lib.riddlesage_decode_trace, document, place)
+    if status == Status.BAD_BYTE:
+        raise BadByte(place.value, lines.splitlines())
+    demand(status)
+    return lines.splitlines()

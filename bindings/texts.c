@@ -1,0 +1,124 @@
+/*
+ * The public calls over the proved ones of crates/can_page, which write texts: each tests its pointers, takes room for
+ * the text while it is written, and copies it. Nothing here is proved, and nothing here knows a rule of CAN.
+ */
+#include "riddlesage.h"
+
+#include <stdio.h>
+#include <stdlib.h>
+#include <string.h>
+
+#define EXPORT __attribute__((visibility("default")))
+
+/* What a proved call answers. */
+enum { DONE = 0, FULL = 1, BAD_LEVEL = 2, BAD_SCENARIO = 6 };
+
+/* The room for a text. Each content is allowed before it is written. */
+struct lines {
+  size_t count;
+  bool full;
+  char bytes[RIDDLESAGE_MOST_TEXT];
+};
+
+/* What is wrong in a scenario: the number of the field, with the port or element where it is one of these. */
+struct wrong {
+  size_t number;
+  size_t element;
+  uint8_t field;
+};
+
+/* The proved functions. A slice is a pointer, which is not NULL, and its length. */
+uint8_t page_run(const char *text, size_t length, struct lines *out, struct wrong *wrong);
+uint8_t page_decode(const char *text, size_t length, struct lines *out, uint64_t *place);
+
+/* Gives a text, or tells how long it is where there is too little room. */
+static riddlesage_status give(const struct lines *lines, char *out, size_t room, size_t *count)
+{
+  *count = lines->count;
+  if (room < lines->count)
+    return RIDDLESAGE_NO_ROOM;
+  memcpy(out, lines->bytes, lines->count);
+  return RIDDLESAGE_OK;
+}
+
+/* The name of a field, as canbit tells it. */
+static void name_field(const struct wrong *wrong, char *field)
+{
+  static const char *const names[] = {
+    "toml",   "key",    "version",  "bits",  "port",  "port[%zu]", "port[%zu].key", "port[%zu].queue",
+    "port[%zu].queue[%zu]", "port[%zu].log", "port[%zu].join", "port[%zu].hold", "at", "in", "view",
+    "at[%zu]", "in[%zu]", "view[%zu]",
+  };
+  snprintf(field, RIDDLESAGE_FIELD_ROOM, names[wrong->field], wrong->number, wrong->element);
+}
+
+static riddlesage_status run(const char *text, size_t length, struct lines *lines, char *report, size_t room,
+                             size_t *count, char *field)
+{
+  struct wrong wrong = { 0, 0, 0 };
+
+  switch (page_run(text, length, lines, &wrong)) {
+  case DONE:
+    return give(lines, report, room, count);
+  case FULL:
+    *count = 0;
+    return RIDDLESAGE_NO_ROOM;
+  case BAD_SCENARIO:
+    if (field != NULL)
+      name_field(&wrong, field);
+    return RIDDLESAGE_BAD_SCENARIO;
+  default:
+    return RIDDLESAGE_NO_MEMORY;
+  }
+}
+
+EXPORT riddlesage_status riddlesage_run(const char *text, size_t length, char *report, size_t room, size_t *count,
+                                        char *field)
+{
+  struct lines *lines;
+  riddlesage_status status;
+
+  if (text == NULL || report == NULL || count == NULL)
+    return RIDDLESAGE_NULL_POINTER;
+  lines = malloc(sizeof *lines);
+  if (lines == NULL)
+    return RIDDLESAGE_NO_MEMORY;
+  status = run(text, length, lines, report, room, count, field);
+  free(lines);
+  return status;
+}
+
+static riddlesage_status decode(const char *text, size_t length, struct lines *lines, char *out, size_t room,
+                                size_t *count, size_t *place)
+{
+  uint64_t bad = 0;
+  uint8_t answer = page_decode(text, length, lines, &bad);
+  riddlesage_status status;
+
+  if (answer != DONE && answer != BAD_LEVEL) {
+    *count = 0;
+    return RIDDLESAGE_NO_ROOM;
+  }
+  status = give(lines, out, room, count);
+  if (status != RIDDLESAGE_OK || answer == DONE)
+    return status;
+  if (place != NULL)
+    *place = (size_t)bad;
+  return RIDDLESAGE_BAD_BYTE;
+}
+
+EXPORT riddlesage_status riddlesage_decode_trace(const char *text, size_t length, char *lines, size_t room,
+                                                 size_t *count, size_t *place)
+{
+  struct lines *all;
+  riddlesage_status status;
+
+  if (text == NULL || lines == NULL || count == NULL)
+    return RIDDLESAGE_NULL_POINTER;
+  all = malloc(sizeof *all);
+  if (all == NULL)
+    return RIDDLESAGE_NO_MEMORY;
+  status = decode(text, length, all, lines, room, count, place);
+  free(all);
+  return status;
+}

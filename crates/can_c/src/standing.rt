@@ -1,0 +1,152 @@
+ghost use Rattle.std.specs.Prelude.{◌≡◌, ◌≢◌, IfSome};
+ghost use Rattle.can_conform.specs.Standings.{phase_name, phase_rule, stuffed_rule as stuffed_rule_of};
+ghost use Rattle.can_c.specs.Calls.{port_status};
+ghost use Rattle.can_c.specs.PlainStandings.{phase_code, phase_place, plain_standing, rule_code as rule_code_of};
+ghost use Rattle.can_c.specs.Statuses.{done, status_code};
+
+use crate::codes::flag_code;
+use crate::status::Status;
+use can_code::{CheckedBits, Front, Place, rtr_place};
+use can_conform::Rule;
+use can_handle::Handle;
+use can_mac::{PackedMac, Phase, Role};
+use std::alloc::Global;
+
+/// Where a port stands before a bit time, as it crosses to C.
+#[repr(C)]
+#[derive(Clone, Copy, Debug)]
+pub struct PlainStanding {
+    /// The number of its phase.
+    pub phase: u8,
+    /// How much of the phase has come: 0 to 118 of a frame's unstuffed levels, and less of the others.
+    pub place: u8,
+    /// 1 where it is the sender of the frame on the bus, else 0.
+    pub sender: u8,
+    /// The number of the rule that decides in the phase.
+    pub rule: u8,
+}
+
+/// Writes where the port stands before the next bit time.
+#[unsafe(no_mangle)]
+pub extern "C" fn can_c_phase(
+    alloc: Global,
+    handle: &mut Handle,
+    standing: &mut PlainStanding,
+) -> u8
+    ensures status { result ≡ status_code (port_status handle.old.held) }
+    ensures standing { IfSome handle.old.held (λ p. standing.new ≡ plain_standing p.mac) }
+    ensures unchanged { handle.new.held ≡ handle.old.held }
+    ensures unwritten { result ≢ done → standing.new ≡ standing.old }
+{
+    match handle.take(alloc) {
+        None => Status::NoPort.code(),
+        Some(port) => {
+            *standing = PlainStanding::of(port.access());
+            handle.put(alloc, port);
+            Status::Done.code()
+        }
+    }
+}
+
+impl PlainStanding {
+    /// Where a controller stands.
+    fn of(access: &PackedMac) -> PlainStanding
+        ensures { result ≡ plain_standing access.now }
+    {
+        let (phase, place) = phase_of(access);
+        PlainStanding {
+            phase,
+            place,
+            sender: flag_code(matches!(access.role(), Role::Sender(_))),
+            rule: rule_code(rule_in(access)),
+        }
+    }
+}
+
+/// The number of a controller's phase, and how much of it has come.
+fn phase_of(access: &PackedMac) -> (u8, u8)
+    ensures phase { result.0 ≡ phase_code (phase_name access.now) }
+    ensures place { result.1 ≡ phase_place (phase_name access.now) }
+{
+    // Who asks what it drives knows how many levels of a frame it may have heard.
+    let _ = access.drive(None);
+    match access.phase() {
+        Phase::Joining { row } => (0, *row),
+        Phase::Idle => (1, 0),
+        Phase::StuffedPart(front) => (2, front.len() as u8),
+        Phase::CrcDelimiter(_) => (3, 0),
+        Phase::AckSlot(_) => (4, 0),
+        Phase::AckDelimiter(_) => (5, 0),
+        Phase::EndOfFrame { place, .. } => (6, *place),
+        Phase::ErrorFlag { place } => (7, *place),
+        Phase::PassiveFlag { run, .. } => (8, *run),
+        Phase::OverloadFlag { place } => (9, *place),
+        Phase::AfterFlag { dominant, .. } => (10, *dominant),
+        Phase::Delimiter { place } => (11, *place),
+        Phase::Intermission { place } => (12, *place),
+        Phase::Suspend { place } => (13, *place),
+        Phase::BusOff => (14, access.confine().occurrences()),
+    }
+}
+
+/// The rule that decides in a controller's phase.
+fn rule_in(access: &PackedMac) -> Rule
+    ensures { result ≡ phase_rule access.now.phase access.now.role }
+{
+    match access.phase() {
+        Phase::Joining { .. } => Rule::Joining,
+        Phase::Idle => Rule::StartOfFrame,
+        Phase::StuffedPart(front) => stuffed_rule(front, access.role()),
+        Phase::AckSlot(_) => Rule::Acknowledgement,
+        Phase::CrcDelimiter(_) | Phase::AckDelimiter(_) | Phase::EndOfFrame { .. } => {
+            Rule::FixedForm
+        }
+        Phase::ErrorFlag { .. } | Phase::PassiveFlag { .. } => Rule::ErrorFlags,
+        Phase::OverloadFlag { .. } => Rule::OverloadFlags,
+        Phase::AfterFlag { .. } => Rule::BehindAFlag,
+        Phase::Delimiter { .. } => Rule::Delimiter,
+        Phase::Intermission { .. } => Rule::Intermission,
+        Phase::Suspend { .. } => Rule::SuspendTransmission,
+        Phase::BusOff => Rule::BusOff,
+    }
+}
+
+/// The rule in the stuffed part of a frame.
+fn stuffed_rule(front: &Front<CheckedBits>, role: &Role) -> Rule
+    ensures { result ≡ stuffed_rule_of front.now role.now }
+{
+    match role {
+        Role::Receiver => Rule::StuffPlaces,
+        Role::Sender(_) if front.next_place() == Place::StuffBit => Rule::StuffPlaces,
+        Role::Sender(sending) if front.len() <= rtr_place(sending.frame().is_extended()) => {
+            Rule::Arbitration
+        }
+        Role::Sender(_) => Rule::KeptFrame,
+    }
+}
+
+/// The number of a rule.
+fn rule_code(rule: Rule) -> u8
+    ensures { result ≡ rule_code_of rule }
+{
+    match rule {
+        Rule::Joining => 0,
+        Rule::StartOfFrame => 1,
+        Rule::KeptFrame => 2,
+        Rule::Intermission => 3,
+        Rule::SuspendTransmission => 4,
+        Rule::BusOff => 5,
+        Rule::Arbitration => 6,
+        Rule::StuffPlaces => 7,
+        Rule::FixedForm => 8,
+        Rule::Acknowledgement => 9,
+        Rule::RefusedCheckSequence => 10,
+        Rule::DominantLastLevel => 11,
+        Rule::ErrorFlags => 12,
+        Rule::ErrorInAnOwnFlag => 13,
+        Rule::BehindAFlag => 14,
+        Rule::Delimiter => 15,
+        Rule::OverloadFlags => 16,
+        Rule::OwnOverloadFrames => 17,
+    }
+}
