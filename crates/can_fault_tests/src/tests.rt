@@ -203,6 +203,11 @@ fn counters_and_states(rt: HostRuntime) {
 }
 
 #[test]
+fn words_of_states(rt: HostRuntime) {
+    assert!(rt; Active.word() == "active" && Passive.word() == "passive" && BusOff.word() == "off");
+}
+
+#[test]
 fn each_cause(rt: HostRuntime) {
     for (cause, tec, rec) in EACH_CAUSE {
         assert!(rt;

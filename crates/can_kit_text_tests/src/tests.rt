@@ -2,7 +2,7 @@
 use can_fault::State;
 use can_frame::{Frame, Level};
 use can_kit_text::{
-    push_event, push_levels, push_number, push_state, push_text, read_event, read_levels,
+    is_name, push_event, push_levels, push_number, push_state, push_text, read_event, read_levels,
     read_state,
 };
 use can_mac::{ErrorKind, Event};
@@ -273,4 +273,20 @@ fn a_state_and_its_counters(rt: HostRuntime) -> Result<(), AllocError> {
         assert!(rt; is_written(rt.alloc(), *state, *count, text)?, "{text}");
     }
     Ok(())
+}
+
+/// Texts, each of at most three bytes, and whether they are names.
+const NAMES: &[(&str, bool)] = &[
+    ("a-9", true),
+    ("", false),
+    ("abcd", false),
+    ("Ab", false),
+    ("a_b", false),
+];
+
+#[test]
+fn names(rt: HostRuntime) {
+    for (text, is_one) in NAMES {
+        assert!(rt; is_name(text, 3) == *is_one, "{text}");
+    }
 }
