@@ -18,7 +18,8 @@ use std::alloc::Global;
 pub struct PlainStanding {
     /// The number of its phase.
     pub phase: u8,
-    /// How much of the phase has come: 0 to 118 of a frame's unstuffed levels, and less of the others.
+    /// How much of the phase has come: up to 118 unstuffed levels of a frame, up to 127 rows off the bus, and less of
+    /// the others.
     pub place: u8,
     /// 1 where it is the sender of the frame on the bus, else 0.
     pub sender: u8,
