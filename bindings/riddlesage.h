@@ -293,9 +293,9 @@ riddlesage_status riddlesage_port_counters(riddlesage_port *port, uint16_t *tran
 riddlesage_status riddlesage_port_state(riddlesage_port *port, uint8_t *state);
 
 /**
- * Tells where the port stands before the next bit time: its phase, and the rule that decides there. It is what a verdict
- * of `canhold judge` tells, but for the first level of an error or overload flag: a verdict names the rule that started
- * the flag there, and this call that of the flag. What started it is the event of the bit time before.
+ * Tells where the port stands before the next bit time: its phase, and the rule that decides there. It is what a
+ * verdict of `canhold judge` tells, but for the first level of an error or overload flag: a verdict names the rule that
+ * started the flag there, and this call that of the flag. What started it is the event of the bit time before.
  * @param port the port
  * @param[out] standing where it stands
  * @return OK, NULL_POINTER, MOVED, NO_PORT
@@ -379,8 +379,8 @@ riddlesage_status riddlesage_run(const char *text, size_t length, char *report, 
  * @param length how many bytes it has
  * @param[out] lines the lines, without a 0 behind them; with BAD_BYTE those of the levels before that byte
  * @param room how many bytes `lines` has
- * @param[out] count how many bytes the lines have, also with BAD_BYTE; with NO_ROOM too, but 0 where they have more than
- * RIDDLESAGE_MOST_TEXT
+ * @param[out] count how many bytes the lines have, also with BAD_BYTE; with NO_ROOM too, but 0 where they have more
+ * than RIDDLESAGE_MOST_TEXT
  * @param[out] place with BAD_BYTE how many bytes stand before that one; may be NULL
  * @return OK, NULL_POINTER, NO_MEMORY, BAD_BYTE, NO_ROOM
  */

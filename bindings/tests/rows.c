@@ -140,13 +140,13 @@ static bool state(struct row *row, const char *text)
 /* `stands active-flag 3, receiver; Error flags`: as a verdict of canhold has it */
 static bool stands(struct row *row, const char *text)
 {
-  static const bool has_places[] = { true, false, true, false, false, false, true, true, true, true, true, true, true, true, true };
   char wanted[LINE_ROOM], place[8] = "";
   riddlesage_standing at;
 
   if (riddlesage_port_phase(&row->port, &at) != RIDDLESAGE_OK)
     return false;
-  if (has_places[at.phase])
+  if (at.phase != RIDDLESAGE_PHASE_IDLE && at.phase != RIDDLESAGE_PHASE_CRC_DELIMITER &&
+      at.phase != RIDDLESAGE_PHASE_ACK_SLOT && at.phase != RIDDLESAGE_PHASE_ACK_DELIMITER)
     sprintf(place, " %u", at.place);
   sprintf(wanted, "%s%s, %s; %s", riddlesage_phase_name((riddlesage_phase)at.phase), place,
           at.sender ? "sender" : "receiver", riddlesage_rule_name((riddlesage_rule)at.rule));

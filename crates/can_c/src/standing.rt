@@ -1,10 +1,9 @@
 ghost use Rattle.std.specs.Prelude.{◌≡◌, ◌≢◌, IfSome};
-ghost use Rattle.can_conform.specs.Standings.{phase_name, phase_rule, stuffed_rule as stuffed_rule_of};
+ghost use Rattle.can_conform.specs.Standings.{part_of, phase_name, phase_rule, stuffed_rule as stuffed_rule_of};
 ghost use Rattle.can_c.specs.Calls.{port_status};
-ghost use Rattle.can_c.specs.PlainStandings.{phase_code, phase_place, plain_standing, rule_code as rule_code_of};
+ghost use Rattle.can_c.specs.PlainStandings.{part_code as part_code_of, phase_code, phase_place, plain_standing, rule_code as rule_code_of};
 ghost use Rattle.can_c.specs.Statuses.{done, status_code};
 
-use crate::codes::flag_code;
 use crate::status::Status;
 use can_code::{CheckedBits, Front, Place, rtr_place};
 use can_conform::Rule;
@@ -18,7 +17,8 @@ use std::alloc::Global;
 pub struct PlainStanding {
     /// The number of its phase.
     pub phase: u8,
-    /// How much of the phase has come: 0 to 118 of a frame's unstuffed levels, and less of the others.
+    /// How much of the phase has come: up to 118 unstuffed levels of a frame, up to 127 rows off the bus, and less of
+    /// the others.
     pub place: u8,
     /// 1 where it is the sender of the frame on the bus, else 0.
     pub sender: u8,
@@ -57,7 +57,7 @@ impl PlainStanding {
         PlainStanding {
             phase,
             place,
-            sender: flag_code(matches!(access.role(), Role::Sender(_))),
+            sender: part_code(access.role()),
             rule: rule_code(rule_in(access)),
         }
     }
@@ -86,6 +86,16 @@ fn phase_of(access: &PackedMac) -> (u8, u8)
         Phase::Intermission { place } => (12, *place),
         Phase::Suspend { place } => (13, *place),
         Phase::BusOff => (14, access.confine().occurrences()),
+    }
+}
+
+/// The number of what a controller is to the frame on the bus.
+fn part_code(role: &Role) -> u8
+    ensures { result ≡ part_code_of (part_of role.now) }
+{
+    match role {
+        Role::Receiver => 0,
+        Role::Sender(_) => 1,
     }
 }
 
