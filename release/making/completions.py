@@ -9,12 +9,13 @@ def bash(told: Program) -> str:
     """The completion for bash."""
     commands = " ".join(told.commands)
     helped = " ".join(it for it in told.commands if it != "help")
+    options = " ".join(["--help"] + ["--version"] * told.has_version)
     return f"""\
 # bash completion of {told.name}
 _{told.name}() {{
     local words=
     case $COMP_CWORD,${{COMP_WORDS[1]}} in
-        1,*) words='{commands} --help' ;;
+        1,*) words='{commands} {options}' ;;
         2,help) words='{helped}' ;;
         2,*) words=--help ;;
     esac
@@ -27,6 +28,7 @@ complete -F _{told.name} {told.name}
 def zsh(told: Program) -> str:
     """The completion for zsh."""
     commands = "\n".join(f"    {_quoted(f'{name}:{does}')}" for name, does in told.commands.items())
+    version = " '(- *)'{-V,--version}'[print version]'" if told.has_version else ""
     return f"""\
 #compdef {told.name}
 local -a subcommands
@@ -39,7 +41,7 @@ elif (( CURRENT == 3 )) && [[ $words[2] == help ]]; then
     subcommands=(${{subcommands:#help:*}})
     _describe command subcommands
 fi
-_arguments '(-h --help)'{{-h,--help}}'[print help]'
+_arguments '(-h --help)'{{-h,--help}}'[print help]'{version}
 """
 
 
@@ -55,6 +57,8 @@ def fish(told: Program) -> str:
         helped = " ".join(it for it in told.commands if it != "help")
         lines.append(f"complete -c {name} -n '__fish_seen_subcommand_from help' -a '{helped}'")
     lines.append(f"complete -c {name} -s h -l help -d 'Print help'")
+    if told.has_version:
+        lines.append(f"complete -c {name} -n __fish_is_first_arg -s V -l version -d 'Print version'")
     return "\n".join(lines) + "\n"
 
 

@@ -57,8 +57,7 @@ def page(told: Program, version: str, seconds: int) -> str:
         f".Nm {told.name}",
         f".Nd {_plain(summary[0].lower() + summary[1:])}",
         ".Sh SYNOPSIS",
-        ".Nm",
-        *(_word(it) for it in told.help.usage.split()[1:]),
+        *(line for call in told.help.usage for line in [".Nm", *map(_word, call)]),
         ".Sh DESCRIPTION",
         *_as_is(told.help.others("Exit status:", "Options:")),
         *_commands(told),
@@ -72,4 +71,6 @@ def _word(word: str) -> str:
     """A word of a call: what is to be put in its place, or an option."""
     if word.startswith("["):
         return f".Op Fl {_plain(word.strip('[]')[1:])}"
+    if word.startswith("-"):
+        return f".Fl {_plain(word[1:])}"
     return f".Ar {word.strip('<>').lower()}"

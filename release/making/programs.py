@@ -18,10 +18,10 @@ _COMMAND = re.compile(r"  (\w[\w-]*) +(\S.*)")
 
 
 class Help(NamedTuple):
-    """A help text: its first line, how the program is called, and its other paragraphs."""
+    """A help text: its first line, the words of each way to call the program, and its other paragraphs."""
 
     summary: str
-    usage: str
+    usage: list[list[str]]
     paragraphs: list[list[str]]
 
     def block(self, head: str) -> list[str] | None:
@@ -41,11 +41,17 @@ class Program(NamedTuple):
     commands: dict[str, str]
     helps: dict[str, Help]
 
+    @property
+    def has_version(self) -> bool:
+        """Whether it tells its version."""
+        return ["--version"] in self.help.usage
+
 
 def _read(text: str) -> Help:
     summary, *paragraphs = (it.splitlines() for it in re.split(r"\n\n+", text.strip("\n")))
     (usage,) = (it for it in paragraphs if it[0].startswith("Usage: "))
-    return Help(summary[0], usage[0][len("Usage: ") :], [it for it in paragraphs if it is not usage])
+    calls = [it.removeprefix("Usage: ").split()[1:] for it in usage]
+    return Help(summary[0], calls, [it for it in paragraphs if it is not usage])
 
 
 def program(path: pathlib.Path) -> Program:

@@ -4,7 +4,7 @@ use Rattle.std.specs.Str.{bytes_eq}
 use Rattle.std.specs.declared.alloc.Global.{Global}
 use Rattle.std.specs.declared.string.String.{String}
 use Rattle.canhold_commands.specs.declared.words.Asked.{Asked}
-use Rattle.canhold_commands.specs.declared.words.Asked.TheVariants.{Run, Help}
+use Rattle.canhold_commands.specs.declared.words.Asked.TheVariants.{Run, Help, Version}
 use Rattle.canhold_commands.specs.declared.words.Chosen.{Chosen}
 use Rattle.canhold_commands.specs.declared.words.Chosen.TheVariants.{Play, Document}
 use Rattle.canhold_commands.specs.declared.words.Question.TheVariants.{Expect, Judge}
@@ -13,13 +13,14 @@ use Rattle.canhold_commands.specs.declared.words.Question.TheVariants.{Expect, J
 abbrev pub texts_of : List (String Global) → List (List ℕ)
 texts_of words = map string_bytes words
 
--- what one word asks for: it names a subcommand, or asks for help
+-- what one word asks for: it names a subcommand, or asks for help or for the version
 abbrev pub asked_word : List ℕ → Option Asked
 asked_word word =
     if bytes_eq word (codes "play") then Some (Run Play)
     else if bytes_eq word (codes "expect") then Some (Run (Document Expect))
     else if bytes_eq word (codes "judge") then Some (Run (Document Judge))
-    else (if bytes_eq word (codes "help") || (bytes_eq word (codes "--help") || bytes_eq word (codes "-h")) then Some Help else None)
+    else if bytes_eq word (codes "help") || (bytes_eq word (codes "--help") || bytes_eq word (codes "-h")) then Some Help
+    else (if bytes_eq word (codes "--version") || bytes_eq word (codes "-V") then Some Version else None)
 
 -- a word that names a subcommand
 abbrev pub is_subcommand : List ℕ → Bool

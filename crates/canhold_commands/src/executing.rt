@@ -9,7 +9,7 @@ ghost use Rattle.canhold_commands.specs.Words.{AsksFor, asked_by, texts_of};
 
 use crate::document::{Finding, answer_document};
 use crate::fault::CanholdFault;
-use crate::help::HELP;
+use crate::help::{HELP, VERSION};
 use crate::words::{Asked, Chosen, Question, read_words};
 use can_adapter::play_lines;
 use can_program::{WordsFault, conclude, conclude_of, refuse, write_help};
@@ -20,8 +20,8 @@ use std::alloc::Global;
 pub const NAME: &str = "canhold";
 
 /// Does what the words ask, and answers the exit status. The first of the words is the program's name. The
-/// subcommand reads `r` and writes its answer to `w`; the text of help goes to `w`, and the line of a fault
-/// to `e`.
+/// subcommand reads `r` and writes its answer to `w`; the text of help and the version go to `w`, and the line of a
+/// fault to `e`.
 ///
 /// | Status | Line | Why |
 /// |---|---|---|
@@ -61,9 +61,15 @@ pub fn execute<R: Source, W: Sink, E: Sink>(
     ensures refused { asked_by (texts_of words.now) ≡ Option.None → result ≡ 2 }
     ensures misuse { result ≡ 2 → asked_by (texts_of words.now) ≡ Option.None }
 
+    // So is the version.
+    ensures version_status { asked_by (texts_of words.now) ≡ Option.Some Asked.Version → (result ≡ 0) ⊎ (result ≡ 3) }
+    ensures version_written { asked_by (texts_of words.now) ≡ Option.Some Asked.Version → result ≡ 0
+        → Appends (W.contents w.old) (W.contents w.new) VERSION.now }
+
     // Nothing else is read or written.
     ensures untouched { result ≡ 2 → (r.new ≡ r.old) × (w.new ≡ w.old) }
     ensures help_reads_nothing { asked_by (texts_of words.now) ≡ Option.Some Asked.Help → r.new ≡ r.old }
+    ensures version_reads_nothing { asked_by (texts_of words.now) ≡ Option.Some Asked.Version → r.new ≡ r.old }
     ensures no_fault_line { result ≡ 0 → e.new ≡ e.old }
 {
     match read_words(words) {
@@ -73,6 +79,7 @@ pub fn execute<R: Source, W: Sink, E: Sink>(
             conclude_of(NAME, outcome, of.as_str(), e)
         }
         Some(Asked::Help) => conclude(NAME, write_help(HELP, w), e),
+        Some(Asked::Version) => conclude(NAME, write_help(VERSION, w), e),
         None => refuse(NAME, WordsFault::Usage, e),
     }
 }

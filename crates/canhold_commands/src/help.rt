@@ -1,10 +1,11 @@
-//! The help text.
+//! The help text, and the version.
 
 /// What the program does, its faults and its statuses.
 pub const HELP: &str = "\
 The proved reference of the conformance kit for classical CAN controllers
 
 Usage: canhold COMMAND [--help]
+       canhold --version
 
 Commands:
   expect  Writes a kit document, and behind it what the reference does in its cases
@@ -45,3 +46,6 @@ Faults, on standard error as canhold: P3 read:
 Exit status: 0 all done, and all pass; 1 P2, P6, or not all pass; 2 wrong use;
 3 P3, P4; 4 P5; 5 nothing judged
 ";
+
+/// The program's name and its version, which is that of the file VERSION.
+pub const VERSION: &str = "canhold 0.9.0\n";

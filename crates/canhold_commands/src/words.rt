@@ -25,10 +25,11 @@ pub enum Chosen {
 pub enum Asked {
     Run(Chosen),
     Help,
+    Version,
 }
 
-/// What the words ask for, the first of which is the program's name: a subcommand by its name, or the help
-/// text, also by an option behind a subcommand. Other words are no use of the program.
+/// What the words ask for, the first of which is the program's name: a subcommand by its name, the help text,
+/// also by an option behind a subcommand, or the version. Other words are no use of the program.
 pub fn read_words(words: &[String]) -> Option<Asked>
     ensures { result ≡ asked_by (texts_of words.now) }
 {
@@ -48,6 +49,7 @@ fn read_word(word: &str) -> Option<Asked>
         "expect" => Some(Asked::Run(Chosen::Document(Question::Expect))),
         "judge" => Some(Asked::Run(Chosen::Document(Question::Judge))),
         "help" | "--help" | "-h" => Some(Asked::Help),
+        "--version" | "-V" => Some(Asked::Version),
         _ => None,
     }
 }
