@@ -1,0 +1,153 @@
+//! The answer to a network, as text.
+ghost use Rattle.std.specs.Prelude.{◌≡◌, ◌++◌, OnOk};
+ghost use Rattle.std.specs.List.{flat_map};
+ghost use Rattle.can_plan_text.specs.Report.{borne_line, bound_text, first_line, head_text, last_line, load_of, message_line, report_text, share_of, thousandths};
+
+use crate::analysis::{Analysis, Verdict};
+use can_frame::Frame;
+use can_kit_text::{push_number, push_text};
+use can_plan::Borne;
+use std::alloc::AllocError;
+
+/// Of which part of a second's time a share is counted.
+const BILLION: u64 = 1_000_000_000;
+
+/// How many billionths a thousandth has.
+const MILLION: u64 = 1_000_000;
+
+/// Appends the answer to a network whose times are told by this rate: a line for the whole, one for each message in the
+/// order of arbitration, and one that counts those that are late; where the document has errors, one that tells for how
+/// long they are borne. Each ends with 0x0a.
+pub fn push_report(out: &mut Vec<u8>, rate: u32, analysis: &Analysis) -> Result<(), AllocError>
+    ensures { OnOk result (out.new.items ≡ out.old.items ++ report_text rate analysis.now) }
+{
+    push_first(out, rate, analysis)?;
+    for verdict in &analysis.verdicts {
+        push_message(out, verdict)?;
+    }
+    push_last(out, analysis)?;
+    push_borne(out, analysis.borne)
+}
+
+/// Appends the line of the whole: how many messages there are, their load, and the rate.
+fn push_first(out: &mut Vec<u8>, rate: u32, analysis: &Analysis) -> Result<(), AllocError>
+    ensures { OnOk result (out.new.items ≡ out.old.items ++ first_line rate analysis.now.verdicts.items) }
+{
+    push_text(out, b"network messages ")?;
+    push_number(out, analysis.verdicts.len() as u64)?;
+    push_text(out, b" load ")?;
+    push_thousandths(out, load(analysis))?;
+    push_text(out, b" rate ")?;
+    push_number(out, u64::from(rate))?;
+    push_text(out, b"\n")
+}
+
+/// Appends a message's line.
+fn push_message(out: &mut Vec<u8>, verdict: &Verdict) -> Result<(), AllocError>
+    ensures { OnOk result (out.new.items ≡ out.old.items ++ message_line verdict.now) }
+{
+    push_head(out, &verdict.planned.head)?;
+    push_number(out, u64::from(verdict.planned.dlc))?;
+    push_text(out, b" longest ")?;
+    push_number(out, u64::from(verdict.planned.message.longest))?;
+    push_text(out, b" blocking ")?;
+    push_number(out, u64::from(verdict.blocking))?;
+    push_bound(out, u64::from(verdict.planned.deadline), verdict.bound)
+}
+
+/// Appends a frame's text up to its DLC, which has one digit.
+fn push_head(out: &mut Vec<u8>, frame: &Frame) -> Result<(), AllocError>
+    ensures { OnOk result (out.new.items ≡ out.old.items ++ head_text frame.now) }
+{
+    let text = frame.to_text();
+    let bytes = text.as_bytes();
+    push_text(out, &bytes[..bytes.len().saturating_sub(1)])
+}
+
+/// Appends bound and deadline, and whether the deadline is met.
+fn push_bound(out: &mut Vec<u8>, deadline: u64, bound: Option<u64>) -> Result<(), AllocError>
+    ensures { OnOk result (out.new.items ≡ out.old.items ++ bound_text deadline bound) }
+{
+    let Some(bound) = bound else {
+        push_text(out, b" bound none deadline ")?;
+        push_number(out, deadline)?;
+        return push_text(out, b" late\n");
+    };
+    push_text(out, b" bound ")?;
+    push_number(out, bound)?;
+    push_text(out, b" deadline ")?;
+    push_number(out, deadline)?;
+    push_slack(out, deadline, bound)
+}
+
+/// Appends by how much a bound is within the deadline, or that it is late.
+fn push_slack(out: &mut Vec<u8>, deadline: u64, bound: u64) -> Result<(), AllocError>
+{
+    if bound > deadline {
+        return push_text(out, b" late\n");
+    }
+    push_text(out, b" slack ")?;
+    push_number(out, deadline - bound)?;
+    push_text(out, b" ok\n")
+}
+
+/// Appends the line that counts the messages that may be late.
+fn push_last(out: &mut Vec<u8>, analysis: &Analysis) -> Result<(), AllocError>
+    ensures { OnOk result (out.new.items ≡ out.old.items ++ last_line analysis.now.verdicts.items) }
+{
+    push_text(out, b"load ")?;
+    push_thousandths(out, load(analysis))?;
+    push_text(out, b" late ")?;
+    push_number(out, analysis.late() as u64)?;
+    push_text(out, b" of ")?;
+    push_number(out, analysis.verdicts.len() as u64)?;
+    push_text(out, b"\n")
+}
+
+/// Appends the line that tells for how long hits are borne.
+fn push_borne(out: &mut Vec<u8>, borne: Option<Borne>) -> Result<(), AllocError>
+    ensures { OnOk result (out.new.items ≡ out.old.items ++ borne_line borne) }
+{
+    match borne {
+        None => Ok(()),
+        Some(Borne::Ever) => push_text(out, b"hits at most 15 for ever\n"),
+        Some(Borne::For(long)) => {
+            push_text(out, b"hits at most 15 within ")?;
+            push_number(out, long)?;
+            push_text(out, b"\n")
+        }
+        Some(Borne::Never) => push_text(out, b"hits above 15 at once\n"),
+    }
+}
+
+/// The load of all messages, in thousandths.
+fn load(analysis: &Analysis) -> u64
+    ensures { result ≡ load_of analysis.now.verdicts.items }
+{
+    let mut total = 0;
+    for verdict in &analysis.verdicts {
+        total += share(verdict);
+    }
+    total / MILLION
+}
+
+/// Which part of the time a message's frames take at most, in billionths.
+fn share(verdict: &Verdict) -> u64
+    ensures value { result ≡ share_of verdict.now }
+    ensures range { result < 2 ^ 47 }
+{
+    let message = &verdict.planned.message;
+    let period = u64::from(message.period);
+    (u64::from(message.longest) * BILLION + period - 1) / period
+}
+
+/// Appends thousandths with their point, as `0.972`.
+fn push_thousandths(out: &mut Vec<u8>, number: u64) -> Result<(), AllocError>
+    ensures { OnOk result (out.new.items ≡ out.old.items ++ thousandths number) }
+{
+    push_number(out, number / 1000)?;
+    push_text(out, b".")?;
+    push_number(out, number / 100 % 10)?;
+    push_number(out, number / 10 % 10)?;
+    push_number(out, number % 10)
+}
