@@ -1,5 +1,5 @@
 -- What is answered of each message of a network. (docs/PLANNING.md, "`canplan`")
-use Rattle.std.specs.Prelude.{ℕ, ◌≡◌, ◌↔◌, ◌≤◌, nat_lt, Bool, true, false, List, map, Option, Some, None, MatchOption, unwrap_or, slice_get}
+use Rattle.std.specs.Prelude.{ℕ, ◌≡◌, ◌↔◌, ◌≤◌, nat_lt, Bool, true, false, List, map, Option, Some, None, MatchOption, unwrap_or, length, slice_get, take}
 use Rattle.std.specs.List.{count_by}
 use Rattle.can_plan.specs.declared.borne.Borne.{Borne}
 use Rattle.can_plan.specs.declared.message.HitRate.{HitRate}
@@ -7,8 +7,8 @@ use Rattle.can_plan.specs.Analysis.{IsBound, IsLeastBound, Ranking, blocking, ra
 use Rattle.can_plan.specs.Borne.{Allows}
 use Rattle.can_plan.specs.Ends.{EndAlways}
 use Rattle.can_plan.specs.Messages.{IsMessageSet, most_hits}
-use Rattle.can_plan_text.specs.declared.analysis.Analysis.{Analysis}
-use Rattle.can_plan_text.specs.declared.analysis.Verdict.{Verdict}
+use Rattle.can_plan_text.specs.declared.verdict.Analysis.{Analysis}
+use Rattle.can_plan_text.specs.declared.verdict.Verdict.{Verdict}
 use Rattle.can_plan_text.specs.declared.plan.Plan.{Plan}
 use Rattle.can_plan_text.specs.declared.plan.Planned.{Planned}
 use Rattle.can_plan_text.specs.Plans.{messages_of}
@@ -47,6 +47,12 @@ pub record IsVerdict (plan : Plan) (place : ℕ) (v : Verdict) : Type 0 where
 abbrev pub Keeps : Plan → Verdict → Type 0
 Keeps plan v = is_late v ≡ false → EndAlways (most_of plan) (messages_of plan.messages.items) v.planned.message v.planned.deadline
 
+-- all that is answered of the messages before a place
+pub record AreVerdicts (plan : Plan) (place : ℕ) (verdicts : List Verdict) : Type 0 where
+  pub same : map (λ v. v.planned) verdicts ≡ take place plan.messages.items
+  pub each : (n : ℕ) (v : Verdict) → slice_get verdicts n ≡ Some v → IsVerdict plan n v
+  pub kept : IsMessageSet (messages_of plan.messages.items) → (n : ℕ) (v : Verdict) → slice_get verdicts n ≡ Some v → Keeps plan v
+
 -- for how long the rate of hits is borne, where the document has one
 abbrev pub IsBorneFor : Option HitRate → Option Borne → Type 0
 IsBorneFor None borne = borne ≡ None
@@ -54,7 +60,5 @@ IsBorneFor (Some rate) borne = (b : Borne) × (borne ≡ Some b) × ((long : ℕ
 
 -- all that is answered of a network
 pub record IsAnalysis (plan : Plan) (analysis : Analysis) : Type 0 where
-  pub same : map (λ v. v.planned) analysis.verdicts.items ≡ plan.messages.items
-  pub each : (place : ℕ) (v : Verdict) → slice_get analysis.verdicts.items place ≡ Some v → IsVerdict plan place v
-  pub kept : IsMessageSet (messages_of plan.messages.items) → (place : ℕ) (v : Verdict) → slice_get analysis.verdicts.items place ≡ Some v → Keeps plan v
+  pub verdicts : AreVerdicts plan (length plan.messages.items) analysis.verdicts.items
   pub borne : IsBorneFor plan.errors analysis.borne

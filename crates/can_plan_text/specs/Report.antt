@@ -1,13 +1,13 @@
 -- The answer to a network, as text. (docs/PLANNING.md, "`canplan`")
-use Rattle.std.specs.Prelude.{ℕ, ◌≡◌, ◌+◌, ◌-◌, ◌*◌, ◌/◌, ◌%◌, ◌^◌, Bool, if◌then◌else◌, nat_lt, List, [], ◌∷◌, ◌++◌, length, take, slice_get, codes, decimal, Option, Some, None}
+use Rattle.std.specs.Prelude.{ℕ, ◌≡◌, ◌+◌, ◌-◌, ◌*◌, ◌/◌, ◌%◌, ◌^◌, Bool, if◌then◌else◌, nat_le, List, [], ◌∷◌, ◌++◌, length, take, slice_get, codes, decimal, Option, Some, None}
 use Rattle.std.specs.List.{flat_map, sum_by}
-use Rattle.can_frame.specs.Parts.{Parts}
 use Rattle.can_frame.specs.Text.{frame_text}
 use Rattle.can_plan.specs.declared.borne.Borne.{Borne}
 use Rattle.can_plan.specs.declared.borne.Borne.TheVariants.{Ever, For, Never}
-use Rattle.can_plan_text.specs.declared.analysis.Analysis.{Analysis}
-use Rattle.can_plan_text.specs.declared.analysis.Verdict.{Verdict}
+use Rattle.can_plan_text.specs.declared.verdict.Analysis.{Analysis}
+use Rattle.can_plan_text.specs.declared.verdict.Verdict.{Verdict}
 use Rattle.can_plan_text.specs.declared.plan.Plan.{Plan}
+use Rattle.can_plan_text.specs.declared.plan.Planned.{Planned}
 use Rattle.can_plan_text.specs.Answers.{IsAnalysis, Keeps, late_in}
 use Rattle.can_plan_text.specs.Plans.{IsPlanText}
 
@@ -27,22 +27,33 @@ thousandths n = decimal (n / 1000) ++ (codes "." ++ (decimal (n / 100 % 10) ++ (
 
 -- ---- lines
 
--- the frame's text without its last digit, which is the DLC
-abbrev pub head_text : Parts → List ℕ
-head_text f = take (length (frame_text f) - 1) (frame_text f)
+-- `S 100 D 7`: the text of the head up to its last digit, which is its DLC, and the DLC of the message
+abbrev pub name_text : Planned → List ℕ
+name_text p = take (length (frame_text p.head) - 1) (frame_text p.head) ++ decimal p.dlc
 
--- `bound 246 deadline 312 slack 66 ok`, `bound 540 deadline 437 late`, or `bound none deadline 437 late`
-abbrev pub bound_text : ℕ → Option ℕ → List ℕ
-bound_text deadline None = codes " bound none deadline " ++ (decimal deadline ++ codes " late\n")
-bound_text deadline (Some bound) =
-    codes " bound " ++ (decimal bound ++ (codes " deadline " ++ (decimal deadline ++
-    (if nat_lt deadline bound then codes " late\n" else codes " slack " ++ (decimal (deadline - bound) ++ codes " ok\n")))))
+-- `246`, or `none`
+abbrev pub bound_text : Option ℕ → List ℕ
+bound_text None = codes "none"
+bound_text (Some bound) = decimal bound
 
--- `S 100 D 7 longest 125 blocking 124`, and its bound
+-- ` slack 66 ok`
+abbrev pub slack_text : ℕ → List ℕ
+slack_text slack = codes " slack " ++ (decimal slack ++ codes " ok\n")
+
+-- by how much a bound is within the deadline; ` late` where it isn't, or there is none
+abbrev pub outcome_text : ℕ → Option ℕ → List ℕ
+outcome_text deadline None = codes " late\n"
+outcome_text deadline (Some bound) = if nat_le bound deadline then slack_text (deadline - bound) else codes " late\n"
+
+-- ` bound 246 deadline 312`, and the outcome
+abbrev pub times_text : ℕ → Option ℕ → List ℕ
+times_text deadline bound = codes " bound " ++ (bound_text bound ++ (codes " deadline " ++ (decimal deadline ++ outcome_text deadline bound)))
+
+-- `S 100 D 7 longest 125 blocking 124`, and bound and deadline
 abbrev pub message_line : Verdict → List ℕ
 message_line v =
-    head_text v.planned.head ++ (decimal v.planned.dlc ++ (codes " longest " ++ (decimal v.planned.message.longest ++
-    (codes " blocking " ++ (decimal v.blocking ++ bound_text v.planned.deadline v.bound)))))
+    name_text v.planned ++ (codes " longest " ++ (decimal v.planned.message.longest ++
+    (codes " blocking " ++ (decimal v.blocking ++ times_text v.planned.deadline v.bound))))
 
 -- `network messages 3 load 0.972 rate 125000`
 abbrev pub first_line : ℕ → List Verdict → List ℕ
@@ -56,11 +67,15 @@ last_line verdicts =
     codes "load " ++ (thousandths (load_of verdicts) ++ (codes " late " ++ (decimal (late_in verdicts) ++
     (codes " of " ++ (decimal (length verdicts) ++ codes "\n")))))
 
--- `hits at most 15 within 149999`, where the document has errors
+-- `hits at most 15 within 149999`
+abbrev pub within_line : ℕ → List ℕ
+within_line long = codes "hits at most 15 within " ++ (decimal long ++ codes "\n")
+
+-- for how long hits are borne, where the document has errors
 abbrev pub borne_line : Option Borne → List ℕ
 borne_line None = []
 borne_line (Some Ever) = codes "hits at most 15 for ever\n"
-borne_line (Some (For long)) = codes "hits at most 15 within " ++ (decimal long ++ codes "\n")
+borne_line (Some (For long)) = within_line long
 borne_line (Some Never) = codes "hits above 15 at once\n"
 
 -- the whole answer

@@ -4,7 +4,7 @@ ghost use Rattle.can_plan_text.specs.declared.field.PlanField.{PlanField as Wron
 ghost use Rattle.can_plan_text.specs.Plans.{IsWrongPlanField};
 ghost use Rattle.can_plan_text.specs.Report.{IsAnswer};
 
-use crate::analysis::Analysis;
+use crate::analysis::analysed;
 use crate::fault::PlanFault;
 use crate::plan::Plan;
 use crate::report::push_report;
@@ -26,7 +26,7 @@ pub fn answered(alloc: Global, text: &[u8]) -> Result<Answer, PlanFault>
     ensures wrong { (wrong : Wrong) → IsErrOf result (PlanFault.Field wrong) → IsWrongPlanField wrong text.now }
 {
     let plan = Plan::from_text(alloc, text)?;
-    let analysis = Analysis::of(alloc, &plan)?;
+    let analysis = analysed(alloc, &plan)?;
     let mut bytes = Vec::new(alloc);
     push_report(&mut bytes, plan.rate, &analysis)?;
     Ok(Answer {

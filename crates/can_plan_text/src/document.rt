@@ -1,5 +1,5 @@
 //! The document of a network, and its fields at the top.
-ghost use Rattle.std.specs.Prelude.{◌≡◌, ◌≤◌, length, map, codes, IfNone, IfOk, IfSome, IsErrOf, OnOk, OnSome};
+ghost use Rattle.std.specs.Prelude.{◌≡◌, ◌≤◌, length, map, codes, IfNone, IfOk, IfSome, IsErrOf, IsFalse, IsTrue, OnOk, OnSome};
 ghost use Rattle.toml.specs.Data.{table};
 ghost use Rattle.toml.specs.View.{view, table_view};
 ghost use Rattle.can_plan_text.specs.declared.field.PlanField.{PlanField as Wrong};
@@ -70,7 +70,7 @@ pub(crate) fn read_top(document: &Table) -> Result<Top<'_>, PlanFault>
     ensures unmet { (wrong : Wrong) → IsErrOf result (PlanFault.Field wrong) → IsFirstUnmet wrong (top_demands (table (table_view document.now))) }
 {
     let rate = read_rate(document)?;
-    let errors = read_errors(rate, field(document, "errors"))?;
+    let errors = read_errors(rate, document)?;
     let messages = message_values(document).ok_or(PlanFault::Field(PlanField::Messages))?;
     Ok(Top {
         rate,
@@ -105,13 +105,13 @@ fn is_of_version_one(document: &Table) -> bool
 }
 
 /// How often the bus is hit, if the document tells it.
-fn read_errors(rate: u32, value: Option<&Value>) -> Result<Option<HitRate>, PlanFault>
+fn read_errors(rate: u32, document: &Table) -> Result<Option<HitRate>, PlanFault>
     requires { rate ≤ 1000000 }
-    ensures said { IfOk result (SaysErrors rate (option_map (λ v. view v.now) value)) }
-    ensures met { OnOk result (AllMet (errors_demands rate (option_map (λ v. view v.now) value))) }
-    ensures unmet { (wrong : Wrong) → IsErrOf result (PlanFault.Field wrong) → IsFirstUnmet wrong (errors_demands rate (option_map (λ v. view v.now) value)) }
+    ensures said { IfOk result (SaysErrors rate (named (codes "errors") (table (table_view document.now)))) }
+    ensures met { OnOk result (AllMet (errors_demands rate (named (codes "errors") (table (table_view document.now))))) }
+    ensures unmet { (wrong : Wrong) → IsErrOf result (PlanFault.Field wrong) → IsFirstUnmet wrong (errors_demands rate (named (codes "errors") (table (table_view document.now)))) }
 {
-    let Some(value) = value else {
+    let Some(value) = field(document, "errors") else {
         return Ok(None);
     };
     let fields = fields_of(value).ok_or(PlanFault::Field(PlanField::Errors))?;
@@ -129,7 +129,7 @@ fn read_hit_rate(rate: u32, fields: &Table) -> Result<HitRate, PlanFault>
         return Err(PlanFault::Field(PlanField::UnknownError));
     }
     let burst = number_or(fields, "burst", 0, MOST_BURST).ok_or(PlanFault::Field(PlanField::Burst))?;
-    let spacing = spacing(rate, field(fields, "spacing")).ok_or(PlanFault::Field(PlanField::Spacing))?;
+    let spacing = spacing(rate, fields).ok_or(PlanFault::Field(PlanField::Spacing))?;
     Ok(HitRate {
         burst: burst as u16,
         spacing,
@@ -138,13 +138,13 @@ fn read_hit_rate(rate: u32, fields: &Table) -> Result<HitRate, PlanFault>
 
 /// How many bit times the spacing of hits has, 0 where it is left out. One that is less than a bit time is none: a
 /// spacing of 0 would say that no more hits come than the burst.
-fn spacing(rate: u32, value: Option<&Value>) -> Option<u32>
+fn spacing(rate: u32, fields: &Table) -> Option<u32>
     requires { rate ≤ 1000000 }
-    ensures said { IfSome result (SaysSpacing rate (option_map (λ v. view v.now) value)) }
-    ensures met { OnSome result (IsOptional (IsSpacing rate) (option_map (λ v. view v.now) value)) }
-    ensures unmet { IfNone result (¬ IsOptional (IsSpacing rate) (option_map (λ v. view v.now) value)) }
+    ensures said { IfSome result (SaysSpacing rate (named (codes "spacing") (table (table_view fields.now)))) }
+    ensures met { OnSome result (IsOptional (IsSpacing rate) (named (codes "spacing") (table (table_view fields.now)))) }
+    ensures unmet { IfNone result (¬ IsOptional (IsSpacing rate) (named (codes "spacing") (table (table_view fields.now)))) }
 {
-    let Some(value) = value else {
+    let Some(value) = field(fields, "spacing") else {
         return Some(0);
     };
     let said = number(value, MOST_TIME)?;

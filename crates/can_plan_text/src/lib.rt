@@ -8,7 +8,8 @@
 //! | `messages.rt` | its messages, one after another | `specs/Plans.antt` |
 //! | `times.rt` | microseconds as whole bit times | `specs/Times.antt` |
 //! | `order.rt` | messages in the order of arbitration | `specs/Plans.antt` |
-//! | `analysis.rt` | [`Analysis`], what is answered of each message | `specs/Answers.antt` |
+//! | `verdict.rt` | [`Analysis`], what is answered of a network, a [`Verdict`] for each message | `specs/Answers.antt` |
+//! | `analysis.rt` | [`analysed`], which answers it by can_plan | `specs/Answers.antt` |
 //! | `answer.rt` | [`answered`], a document in, the answer to it out | `specs/Report.antt` |
 //! | `report.rt` | [`push_report`], the answer as text | `specs/Report.antt` |
 //! | `fault.rt` | [`PlanFault`], why a document is not read | |
@@ -25,10 +26,12 @@ mod order;
 mod plan;
 mod report;
 mod times;
+mod verdict;
 
-pub use analysis::{Analysis, Verdict};
+pub use analysis::analysed;
 pub use answer::{Answer, answered};
 pub use fault::PlanFault;
 pub use field::{MessageField, PlanField};
 pub use plan::{Plan, Planned};
 pub use report::push_report;
+pub use verdict::{Analysis, Verdict};

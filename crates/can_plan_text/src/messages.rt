@@ -2,11 +2,12 @@
 ghost use Rattle.std.specs.Prelude.{◌≡◌, ◌<◌, ◌≤◌, codes, length, map, ℕ, IfNone, IfOk, IfSome, IsErrOf, OnOk, OnSome};
 ghost use Rattle.toml.specs.Data.{table};
 ghost use Rattle.toml.specs.View.{view, table_view};
+ghost use Rattle.can_frame.specs.Parts.{Parts};
 ghost use Rattle.can_plan_text.specs.declared.field.PlanField.{PlanField as Wrong};
 ghost use Rattle.can_toml.specs.Demands.{demands_on_each, AllMet, IsFirstUnmet};
 ghost use Rattle.can_toml.specs.Values.{named, ArePaired, IsNumber, IsRequired, IsUpTo};
 ghost use Rattle.can_plan_text.specs.Times.{bits_down as bits_within};
-ghost use Rattle.can_plan_text.specs.Plans.{fields_demands, message_demands, IsHead, IsPeriod, SaysFields, SaysHead, SaysMessage};
+ghost use Rattle.can_plan_text.specs.Plans.{fields_demands, message_demands, IsHead, IsHeadText, IsPeriod, IsPlanned, NamesHead, SaysFields, SaysMessage};
 
 use crate::document::MOST_TIME;
 use crate::fault::PlanFault;
@@ -102,7 +103,7 @@ fn read_fields(place: usize, rate: u32, fields: &Table) -> Result<Fields, PlanFa
 
 /// The frame with DLC 0 of which a message has the identifier and the kind.
 fn head(fields: &Table) -> Option<Frame>
-    ensures said { IfSome result (λ head. IsRequired (λ d. SaysHead d head) (named (codes "frame") (table (table_view fields.now)))) }
+    ensures said { IfSome result (NamesHead (table (table_view fields.now))) }
     ensures met { OnSome result (IsRequired IsHead (named (codes "frame") (table (table_view fields.now)))) }
     ensures unmet { IfNone result (¬ IsRequired IsHead (named (codes "frame") (table (table_view fields.now)))) }
 {
@@ -111,6 +112,8 @@ fn head(fields: &Table) -> Option<Frame>
 
 /// The frame of whose text this is all but the DLC, which is 0.
 fn head_of(text: &str) -> Option<Frame>
+    ensures said { IfSome result (IsHeadText text.now) }
+    ensures unmet { IfNone result (¬ ((f : Parts) × IsHeadText text.now f)) }
 {
     let mut whole = ArrayVec::<u8, LONGEST_TEXT>::new();
     whole.try_extend_from_slice(text.as_bytes()).ok()?;

@@ -40,6 +40,7 @@ pub struct Plan {
 impl Plan {
     ghost use Rattle.std.specs.Prelude.{IfErr, IfOk, IsErrOf};
     ghost use Rattle.can_plan_text.specs.declared.field.PlanField.{PlanField as Wrong};
+    ghost use Rattle.can_plan_text.specs.Answers.{hit_rate_of};
     ghost use Rattle.can_plan_text.specs.Plans.{IsPlanText, IsWrongPlanField};
 
     /// The network that a TOML document says: `version`, which is 1; `rate`, bits a second, 0 to 1000000; `errors`, a

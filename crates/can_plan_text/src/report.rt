@@ -1,10 +1,9 @@
 //! The answer to a network, as text.
-ghost use Rattle.std.specs.Prelude.{◌≡◌, ◌++◌, OnOk};
-ghost use Rattle.std.specs.List.{flat_map};
-ghost use Rattle.can_plan_text.specs.Report.{borne_line, bound_text, first_line, head_text, last_line, load_of, message_line, report_text, share_of, thousandths};
+ghost use Rattle.std.specs.Prelude.{◌≡◌, ◌++◌, ◌^◌, ◌<◌, OnOk};
+ghost use Rattle.can_plan_text.specs.Report.{borne_line, bound_text, first_line, last_line, load_of, message_line, name_text, outcome_text, report_text, share_of, slack_text, thousandths, times_text, within_line};
 
-use crate::analysis::{Analysis, Verdict};
-use can_frame::Frame;
+use crate::plan::Planned;
+use crate::verdict::{Analysis, Verdict};
 use can_kit_text::{push_number, push_text};
 use can_plan::Borne;
 use std::alloc::AllocError;
@@ -46,48 +45,61 @@ fn push_first(out: &mut Vec<u8>, rate: u32, analysis: &Analysis) -> Result<(), A
 fn push_message(out: &mut Vec<u8>, verdict: &Verdict) -> Result<(), AllocError>
     ensures { OnOk result (out.new.items ≡ out.old.items ++ message_line verdict.now) }
 {
-    push_head(out, &verdict.planned.head)?;
-    push_number(out, u64::from(verdict.planned.dlc))?;
+    push_name(out, &verdict.planned)?;
     push_text(out, b" longest ")?;
     push_number(out, u64::from(verdict.planned.message.longest))?;
     push_text(out, b" blocking ")?;
     push_number(out, u64::from(verdict.blocking))?;
-    push_bound(out, u64::from(verdict.planned.deadline), verdict.bound)
+    push_times(out, u64::from(verdict.planned.deadline), verdict.bound)
 }
 
-/// Appends a frame's text up to its DLC, which has one digit.
-fn push_head(out: &mut Vec<u8>, frame: &Frame) -> Result<(), AllocError>
-    ensures { OnOk result (out.new.items ≡ out.old.items ++ head_text frame.now) }
+/// Appends what a message's frames have in common: a frame's text up to its DLC.
+fn push_name(out: &mut Vec<u8>, planned: &Planned) -> Result<(), AllocError>
+    ensures { OnOk result (out.new.items ≡ out.old.items ++ name_text planned.now) }
 {
-    let text = frame.to_text();
+    let text = planned.head.to_text();
     let bytes = text.as_bytes();
-    push_text(out, &bytes[..bytes.len().saturating_sub(1)])
+    push_text(out, &bytes[..bytes.len().saturating_sub(1)])?;
+    push_number(out, u64::from(planned.dlc))
 }
 
 /// Appends bound and deadline, and whether the deadline is met.
-fn push_bound(out: &mut Vec<u8>, deadline: u64, bound: Option<u64>) -> Result<(), AllocError>
-    ensures { OnOk result (out.new.items ≡ out.old.items ++ bound_text deadline bound) }
+fn push_times(out: &mut Vec<u8>, deadline: u64, bound: Option<u64>) -> Result<(), AllocError>
+    ensures { OnOk result (out.new.items ≡ out.old.items ++ times_text deadline bound) }
 {
-    let Some(bound) = bound else {
-        push_text(out, b" bound none deadline ")?;
-        push_number(out, deadline)?;
-        return push_text(out, b" late\n");
-    };
     push_text(out, b" bound ")?;
-    push_number(out, bound)?;
+    push_bound(out, bound)?;
     push_text(out, b" deadline ")?;
     push_number(out, deadline)?;
-    push_slack(out, deadline, bound)
+    push_outcome(out, deadline, bound)
 }
 
-/// Appends by how much a bound is within the deadline, or that it is late.
-fn push_slack(out: &mut Vec<u8>, deadline: u64, bound: u64) -> Result<(), AllocError>
+/// Appends a bound.
+fn push_bound(out: &mut Vec<u8>, bound: Option<u64>) -> Result<(), AllocError>
+    ensures { OnOk result (out.new.items ≡ out.old.items ++ bound_text bound) }
 {
-    if bound > deadline {
-        return push_text(out, b" late\n");
+    match bound {
+        Some(bound) => push_number(out, bound),
+        None => push_text(out, b"none"),
     }
+}
+
+/// Appends by how much a bound is within the deadline, or that a frame may be late.
+fn push_outcome(out: &mut Vec<u8>, deadline: u64, bound: Option<u64>) -> Result<(), AllocError>
+    ensures { OnOk result (out.new.items ≡ out.old.items ++ outcome_text deadline bound) }
+{
+    match bound {
+        Some(bound) if bound <= deadline => push_slack(out, deadline - bound),
+        _ => push_text(out, b" late\n"),
+    }
+}
+
+/// Appends by how much a bound is within the deadline.
+fn push_slack(out: &mut Vec<u8>, slack: u64) -> Result<(), AllocError>
+    ensures { OnOk result (out.new.items ≡ out.old.items ++ slack_text slack) }
+{
     push_text(out, b" slack ")?;
-    push_number(out, deadline - bound)?;
+    push_number(out, slack)?;
     push_text(out, b" ok\n")
 }
 
@@ -111,13 +123,18 @@ fn push_borne(out: &mut Vec<u8>, borne: Option<Borne>) -> Result<(), AllocError>
     match borne {
         None => Ok(()),
         Some(Borne::Ever) => push_text(out, b"hits at most 15 for ever\n"),
-        Some(Borne::For(long)) => {
-            push_text(out, b"hits at most 15 within ")?;
-            push_number(out, long)?;
-            push_text(out, b"\n")
-        }
+        Some(Borne::For(long)) => push_within(out, long),
         Some(Borne::Never) => push_text(out, b"hits above 15 at once\n"),
     }
+}
+
+/// Appends the line of so many bit times in which hits are borne.
+fn push_within(out: &mut Vec<u8>, long: u64) -> Result<(), AllocError>
+    ensures { OnOk result (out.new.items ≡ out.old.items ++ within_line long) }
+{
+    push_text(out, b"hits at most 15 within ")?;
+    push_number(out, long)?;
+    push_text(out, b"\n")
 }
 
 /// The load of all messages, in thousandths.

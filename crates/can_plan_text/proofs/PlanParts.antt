@@ -1,0 +1,1 @@
+-- The parts of a document, read one after another.
