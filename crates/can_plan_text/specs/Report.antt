@@ -50,19 +50,19 @@ abbrev pub times_text : ℕ → Option ℕ → List ℕ
 times_text deadline bound = codes " bound " ++ (bound_text bound ++ (codes " deadline " ++ (decimal deadline ++ outcome_text deadline bound)))
 
 -- `S 100 D 7 longest 125 blocking 124`, and bound and deadline
-abbrev pub message_line : Verdict → List ℕ
+unfoldable pub message_line : Verdict → List ℕ
 message_line v =
     name_text v.planned ++ (codes " longest " ++ (decimal v.planned.message.longest ++
     (codes " blocking " ++ (decimal v.blocking ++ times_text v.planned.deadline v.bound))))
 
 -- `network messages 3 load 0.972 rate 125000`
-abbrev pub first_line : ℕ → List Verdict → List ℕ
+unfoldable pub first_line : ℕ → List Verdict → List ℕ
 first_line rate verdicts =
     codes "network messages " ++ (decimal (length verdicts) ++ (codes " load " ++ (thousandths (load_of verdicts) ++
     (codes " rate " ++ (decimal rate ++ codes "\n")))))
 
 -- `load 0.972 late 1 of 3`
-abbrev pub last_line : List Verdict → List ℕ
+unfoldable pub last_line : List Verdict → List ℕ
 last_line verdicts =
     codes "load " ++ (thousandths (load_of verdicts) ++ (codes " late " ++ (decimal (late_in verdicts) ++
     (codes " of " ++ (decimal (length verdicts) ++ codes "\n")))))

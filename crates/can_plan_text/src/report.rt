@@ -1,5 +1,6 @@
 //! The answer to a network, as text.
-ghost use Rattle.std.specs.Prelude.{◌≡◌, ◌++◌, ◌^◌, ◌<◌, OnOk};
+ghost use Rattle.std.specs.Prelude.{◌≡◌, ◌++◌, ◌^◌, ◌<◌, decimal, OnOk};
+ghost use Rattle.std.specs.List.{flat_map};
 ghost use Rattle.can_plan_text.specs.Report.{borne_line, bound_text, first_line, last_line, load_of, message_line, name_text, outcome_text, report_text, share_of, slack_text, thousandths, times_text, within_line};
 
 use crate::plan::Planned;
@@ -21,35 +22,40 @@ pub fn push_report(out: &mut Vec<u8>, rate: u32, analysis: &Analysis) -> Result<
     ensures { OnOk result (out.new.items ≡ out.old.items ++ report_text rate analysis.now) }
 {
     push_first(out, rate, analysis)?;
-    for verdict in &analysis.verdicts {
-        push_message(out, verdict)?;
-    }
+    push_messages(out, &analysis.verdicts)?;
     push_last(out, analysis)?;
     push_borne(out, analysis.borne)
 }
 
 /// Appends the line of the whole: how many messages there are, their load, and the rate.
+#[tactic(auto, unfolding(crate::specs::Report::first_line))]
 fn push_first(out: &mut Vec<u8>, rate: u32, analysis: &Analysis) -> Result<(), AllocError>
     ensures { OnOk result (out.new.items ≡ out.old.items ++ first_line rate analysis.now.verdicts.items) }
 {
-    push_text(out, b"network messages ")?;
-    push_number(out, analysis.verdicts.len() as u64)?;
-    push_text(out, b" load ")?;
-    push_thousandths(out, load(analysis))?;
-    push_text(out, b" rate ")?;
-    push_number(out, u64::from(rate))?;
+    push_named(out, b"network messages ", analysis.verdicts.len() as u64)?;
+    push_load(out, b" load ", analysis)?;
+    push_named(out, b" rate ", u64::from(rate))?;
     push_text(out, b"\n")
 }
 
+/// Appends a line for each message.
+fn push_messages(out: &mut Vec<u8>, verdicts: &[Verdict]) -> Result<(), AllocError>
+    ensures { OnOk result (out.new.items ≡ out.old.items ++ flat_map message_line verdicts.now) }
+{
+    for verdict in verdicts {
+        push_message(out, verdict)?;
+    }
+    Ok(())
+}
+
 /// Appends a message's line.
+#[tactic(auto, unfolding(crate::specs::Report::message_line))]
 fn push_message(out: &mut Vec<u8>, verdict: &Verdict) -> Result<(), AllocError>
     ensures { OnOk result (out.new.items ≡ out.old.items ++ message_line verdict.now) }
 {
     push_name(out, &verdict.planned)?;
-    push_text(out, b" longest ")?;
-    push_number(out, u64::from(verdict.planned.message.longest))?;
-    push_text(out, b" blocking ")?;
-    push_number(out, u64::from(verdict.blocking))?;
+    push_named(out, b" longest ", u64::from(verdict.planned.message.longest))?;
+    push_named(out, b" blocking ", u64::from(verdict.blocking))?;
     push_times(out, u64::from(verdict.planned.deadline), verdict.bound)
 }
 
@@ -69,8 +75,7 @@ fn push_times(out: &mut Vec<u8>, deadline: u64, bound: Option<u64>) -> Result<()
 {
     push_text(out, b" bound ")?;
     push_bound(out, bound)?;
-    push_text(out, b" deadline ")?;
-    push_number(out, deadline)?;
+    push_named(out, b" deadline ", deadline)?;
     push_outcome(out, deadline, bound)
 }
 
@@ -98,21 +103,18 @@ fn push_outcome(out: &mut Vec<u8>, deadline: u64, bound: Option<u64>) -> Result<
 fn push_slack(out: &mut Vec<u8>, slack: u64) -> Result<(), AllocError>
     ensures { OnOk result (out.new.items ≡ out.old.items ++ slack_text slack) }
 {
-    push_text(out, b" slack ")?;
-    push_number(out, slack)?;
+    push_named(out, b" slack ", slack)?;
     push_text(out, b" ok\n")
 }
 
 /// Appends the line that counts the messages that may be late.
+#[tactic(auto, unfolding(crate::specs::Report::last_line))]
 fn push_last(out: &mut Vec<u8>, analysis: &Analysis) -> Result<(), AllocError>
     ensures { OnOk result (out.new.items ≡ out.old.items ++ last_line analysis.now.verdicts.items) }
 {
-    push_text(out, b"load ")?;
-    push_thousandths(out, load(analysis))?;
-    push_text(out, b" late ")?;
-    push_number(out, analysis.late() as u64)?;
-    push_text(out, b" of ")?;
-    push_number(out, analysis.verdicts.len() as u64)?;
+    push_load(out, b"load ", analysis)?;
+    push_named(out, b" late ", analysis.late() as u64)?;
+    push_named(out, b" of ", analysis.verdicts.len() as u64)?;
     push_text(out, b"\n")
 }
 
@@ -132,9 +134,16 @@ fn push_borne(out: &mut Vec<u8>, borne: Option<Borne>) -> Result<(), AllocError>
 fn push_within(out: &mut Vec<u8>, long: u64) -> Result<(), AllocError>
     ensures { OnOk result (out.new.items ≡ out.old.items ++ within_line long) }
 {
-    push_text(out, b"hits at most 15 within ")?;
-    push_number(out, long)?;
+    push_named(out, b"hits at most 15 within ", long)?;
     push_text(out, b"\n")
+}
+
+/// Appends a word, and the load of all messages behind it.
+fn push_load(out: &mut Vec<u8>, word: &[u8], analysis: &Analysis) -> Result<(), AllocError>
+    ensures { OnOk result (out.new.items ≡ out.old.items ++ (word.now ++ thousandths (load_of analysis.now.verdicts.items))) }
+{
+    push_text(out, word)?;
+    push_thousandths(out, load(analysis))
 }
 
 /// The load of all messages, in thousandths.
@@ -156,6 +165,14 @@ fn share(verdict: &Verdict) -> u64
     let message = &verdict.planned.message;
     let period = u64::from(message.period);
     (u64::from(message.longest) * BILLION + period - 1) / period
+}
+
+/// Appends a word, and a number in decimal behind it.
+fn push_named(out: &mut Vec<u8>, word: &[u8], number: u64) -> Result<(), AllocError>
+    ensures { OnOk result (out.new.items ≡ out.old.items ++ (word.now ++ decimal number)) }
+{
+    push_text(out, word)?;
+    push_number(out, number)
 }
 
 /// Appends thousandths with their point, as `0.972`.
