@@ -1,5 +1,5 @@
 -- Messages as the analysis takes them, that one within its deadline meets it, and verdicts one after another.
-use Rattle.std.proofs.Common.{◌≡◌, ℕ, zero, suc, ◌+◌, ◌<◌, ◌≤◌, true, false, List, [], ◌∷◌, ◌++◌, length, get_or, map, take, Option, Some, None, MatchOption, refl, sym, ap, subst, ◌∙◌, inl, inr, arith}
+use Rattle.std.proofs.Common.{◌≡◌, ℕ, zero, suc, ◌+◌, ◌<◌, ◌≤◌, false, List, [], ◌∷◌, ◌++◌, length, get_or, take, Option, Some, None, MatchOption, refl, sym, ap, subst, ◌∙◌, inl, inr, arith}
 use Rattle.std.specs.Prelude.{◌⊎◌, IfSome, slice_get}
 use Rattle.std.proofs.lemmas.Bool.{ltb-false}
 use Rattle.std.proofs.lemmas.List.{length-map, length-take-le, map-append, take_more}
@@ -33,7 +33,7 @@ abbrev pub Judged : ℕ → Verdict → List Message → HitRate → Planned →
 Judged place v messages rate p =
     (v.blocking ≡ blocking (ranking_at messages place p.message))
     × MatchOption v.bound ((other : ℕ) → IsBound (most_hits rate) limit (ranking_at messages place p.message) other → ⊥)
-      (λ b. IsLeastBound (most_hits rate) limit (ranking_at messages place p.message) b)
+    (λ b. IsLeastBound (most_hits rate) limit (ranking_at messages place p.message) b)
     × (IsMessageSet messages → is_late v ≡ false → EndAlways (most_hits rate) messages p.message p.deadline)
 
 last-cases : {A : Type 0} (xs : List A) (x y : A) (n : ℕ) → slice_get (xs ++ x ∷ []) n ≡ Some y → (slice_get xs n ≡ Some y) ⊎ ((n ≡ length xs) × (x ≡ y))
@@ -43,9 +43,8 @@ last-cases (z ∷ xs) x y zero is = inl is
 last-cases (z ∷ xs) x y (suc n) is = elim (last-cases xs x y n is) [ inl early ↦ inl early | inr last ↦ inr (ap suc last.0, last.1) ]
 
 module _ (plan : Plan) (place : ℕ) (within : place < length plan.messages.items) (p : Planned) (is : p ≡ get_or plan.messages.items place p)
-  (messages : List Message) (all : messages ≡ messages_of plan.messages.items) (rate : HitRate) (hits : rate ≡ hit_rate_of plan.errors)
-  (v : Verdict) (its : v.planned ≡ p) (said : Judged place v messages rate p) where
-
+    (messages : List Message) (all : messages ≡ messages_of plan.messages.items) (rate : HitRate) (hits : rate ≡ hit_rate_of plan.errors)
+    (v : Verdict) (its : v.planned ≡ p) (said : Judged place v messages rate p) where
   moved : Judged place v (messages_of plan.messages.items) (hit_rate_of plan.errors) v.planned
   moved =
       subst (λ (m : List Message). Judged place v m (hit_rate_of plan.errors) v.planned) all

@@ -1,13 +1,12 @@
 -- The parts of a document, read one after another.
-use Rattle.std.proofs.Common.{◌≡◌, ◌≢◌, ℕ, zero, suc, ◌+◌, ◌<◌, ◌≤◌, List, [], ◌∷◌, ◌++◌, length, Option, Some, None, codes, refl, sym, ap, subst, ◌∙◌, inl, inr, arith}
+use Rattle.std.proofs.Common.{◌≡◌, ℕ, zero, suc, ◌+◌, ◌<◌, List, [], ◌∷◌, ◌++◌, length, Option, Some, None, codes, refl, sym, ap, subst, ◌∙◌, inl, arith}
 use Rattle.std.specs.Prelude.{slice_get}
 use Rattle.std.proofs.lemmas.Option.{slice_get_within}
 use Rattle.toml.specs.Data.{Data, string}
 use Rattle.can_frame.specs.Arbitration.{arbitration_field}
 use Rattle.can_frame.specs.Parts.{Parts}
-use Rattle.can_frame.specs.Text.{frame_text}
 use Rattle.can_frame.proofs.OneText.{same_frame}
-use Rattle.can_toml.specs.Demands.{Demands, demands_on_each, followed, AllMet, IsFirstUnmet}
+use Rattle.can_toml.specs.Demands.{Demands, demands_on_each, AllMet, IsFirstUnmet}
 use Rattle.can_toml.specs.Values.{named, ArePaired, IsRequired}
 use Rattle.can_toml.proofs.DemandLemmas.{met-followed, unmet-first, unmet-later}
 use Rattle.can_plan_text.specs.declared.field.PlanField.{PlanField}
@@ -97,7 +96,7 @@ module _ (rate : ℕ) (ds : List Data) (listed : List Planned) (paired : ArePair
       let d = paired-back (SaysMessage rate) ds listed r.place r.second paired r.is_second in
       let seen : IsNew ds r.place d.0 → ⊥ = λ new.
       new r.before e.0 r.first.head r.second.head r.earlier e.1 (head-named rate e.0 r.first e.2) (head-named rate d.0 r.second d.2)
-          (sym r.first.named ∙ r.same ∙ r.second.named) in
+      (sym r.first.named ∙ r.same ∙ r.second.named) in
       each-first (new_demands ds) wrong 0 ds r.place d.0 d.1
       (λ k p y less at is. subst (λ (n : ℕ). AllMet (new_demands ds n y)) (omega (arith, at)) (new-at r.place k y r.apart less is, tt))
       (λ p at. subst (λ (n : ℕ). IsFirstUnmet wrong (new_demands ds n d.0)) (omega (arith, at)) (inl (sym r.told, seen)))

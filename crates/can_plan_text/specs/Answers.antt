@@ -10,7 +10,6 @@ use Rattle.can_plan.specs.Messages.{IsMessageSet, most_hits}
 use Rattle.can_plan_text.specs.declared.verdict.Analysis.{Analysis}
 use Rattle.can_plan_text.specs.declared.verdict.Verdict.{Verdict}
 use Rattle.can_plan_text.specs.declared.plan.Plan.{Plan}
-use Rattle.can_plan_text.specs.declared.plan.Planned.{Planned}
 use Rattle.can_plan_text.specs.Plans.{messages_of}
 
 -- up to which number of bit times the analysis looks for a bound

@@ -1,6 +1,6 @@
 -- Networks in documents: what a document has to meet, in the order in which it is tested, and which network it says.
 -- (docs/PLANNING.md, "`canplan`")
-use Rattle.std.specs.Prelude.{ℕ, ◌≡◌, ◌≢◌, ◌+◌, ◌<◌, ◌≤◌, pos, true, List, [], ◌∷◌, ◌++◌, length, map, Option, Some, None, slice_get, codes}
+use Rattle.std.specs.Prelude.{ℕ, ◌≡◌, ◌≢◌, ◌<◌, ◌≤◌, pos, true, List, [], ◌∷◌, ◌++◌, length, map, Option, Some, None, slice_get, codes}
 use Rattle.std.specs.List.Sorted.{IsPermutation}
 use Rattle.toml.specs.Data.{Data, string, integer}
 use Rattle.can_frame.specs.Arbitration.{arbitration_field}

@@ -1,5 +1,5 @@
 -- The answer to a network, as text. (docs/PLANNING.md, "`canplan`")
-use Rattle.std.specs.Prelude.{ℕ, ◌≡◌, ◌+◌, ◌-◌, ◌*◌, ◌/◌, ◌%◌, ◌^◌, Bool, if◌then◌else◌, nat_le, List, [], ◌∷◌, ◌++◌, length, take, slice_get, codes, decimal, Option, Some, None}
+use Rattle.std.specs.Prelude.{ℕ, ◌≡◌, ◌+◌, ◌-◌, ◌*◌, ◌/◌, ◌%◌, if◌then◌else◌, nat_le, List, [], ◌++◌, length, take, slice_get, codes, decimal, Option, Some, None}
 use Rattle.std.specs.List.{flat_map, sum_by}
 use Rattle.can_frame.specs.Text.{frame_text}
 use Rattle.can_plan.specs.declared.borne.Borne.{Borne}
@@ -67,15 +67,11 @@ last_line verdicts =
     codes "load " ++ (thousandths (load_of verdicts) ++ (codes " late " ++ (decimal (late_in verdicts) ++
     (codes " of " ++ (decimal (length verdicts) ++ codes "\n")))))
 
--- `hits at most 15 within 149999`
-abbrev pub within_line : ℕ → List ℕ
-within_line long = codes "hits at most 15 within " ++ (decimal long ++ codes "\n")
-
--- for how long hits are borne, where the document has errors
+-- `hits at most 15 within 149999`, where the document has errors
 abbrev pub borne_line : Option Borne → List ℕ
 borne_line None = []
 borne_line (Some Ever) = codes "hits at most 15 for ever\n"
-borne_line (Some (For long)) = within_line long
+borne_line (Some (For long)) = codes "hits at most 15 within " ++ (decimal long ++ codes "\n")
 borne_line (Some Never) = codes "hits above 15 at once\n"
 
 -- the whole answer

@@ -128,7 +128,9 @@ fn read_hit_rate(rate: u32, fields: &Table) -> Result<HitRate, PlanFault>
     if !has_only(fields, &ERROR_FIELDS) {
         return Err(PlanFault::Field(PlanField::UnknownError));
     }
-    let burst = number_or(fields, "burst", 0, MOST_BURST).ok_or(PlanFault::Field(PlanField::Burst))?;
+    let burst = number_or(fields, "burst", 0, MOST_BURST).ok_or(PlanFault::Field(
+        PlanField::Burst,
+    ))?;
     let spacing = spacing(rate, fields).ok_or(PlanFault::Field(PlanField::Spacing))?;
     Ok(HitRate {
         burst: burst as u16,

@@ -85,13 +85,18 @@ fn read_fields(place: usize, rate: u32, fields: &Table) -> Result<Fields, PlanFa
         return Err(PlanFault::of_message(place, MessageField::Unknown));
     }
     let head = head(fields).ok_or(PlanFault::of_message(place, MessageField::Frame))?;
-    let dlc = number_or(fields, "dlc", USUAL_DLC, MOST_DLC)
-        .ok_or(PlanFault::of_message(place, MessageField::Dlc))?;
+    let dlc = number_or(fields, "dlc", USUAL_DLC, MOST_DLC).ok_or(PlanFault::of_message(
+        place,
+        MessageField::Dlc,
+    ))?;
     let period = period(rate, fields).ok_or(PlanFault::of_message(place, MessageField::Period))?;
-    let jitter = number_or(fields, "jitter", 0, MOST_TIME)
-        .ok_or(PlanFault::of_message(place, MessageField::Jitter))?;
-    let deadline = number_or(fields, "deadline", u64::from(period), MOST_TIME)
-        .ok_or(PlanFault::of_message(place, MessageField::Deadline))?;
+    let jitter = number_or(fields, "jitter", 0, MOST_TIME).ok_or(PlanFault::of_message(
+        place,
+        MessageField::Jitter,
+    ))?;
+    let deadline = number_or(fields, "deadline", u64::from(period), MOST_TIME).ok_or(
+        PlanFault::of_message(place, MessageField::Deadline),
+    )?;
     Ok(Fields {
         head,
         dlc: dlc as u8,

@@ -72,6 +72,9 @@ impl Plan {
     pub fn hit_rate(&self) -> HitRate
         ensures { result ≡ hit_rate_of self.now.errors }
     {
-        self.errors.unwrap_or(HitRate { burst: 0, spacing: 0 })
+        self.errors.unwrap_or(HitRate {
+            burst: 0,
+            spacing: 0,
+        })
     }
 }

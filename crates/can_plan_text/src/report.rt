@@ -1,7 +1,7 @@
 //! The answer to a network, as text.
-ghost use Rattle.std.specs.Prelude.{◌≡◌, ◌++◌, ◌^◌, ◌<◌, decimal, OnOk};
+ghost use Rattle.std.specs.Prelude.{◌≡◌, ◌++◌, ◌^◌, ◌<◌, codes, decimal, OnOk};
 ghost use Rattle.std.specs.List.{flat_map};
-ghost use Rattle.can_plan_text.specs.Report.{borne_line, bound_text, first_line, last_line, load_of, message_line, name_text, outcome_text, report_text, share_of, slack_text, thousandths, times_text, within_line};
+ghost use Rattle.can_plan_text.specs.Report.{borne_line, bound_text, first_line, last_line, load_of, message_line, name_text, outcome_text, report_text, share_of, slack_text, thousandths, times_text};
 
 use crate::plan::Planned;
 use crate::verdict::{Analysis, Verdict};
@@ -21,7 +21,7 @@ const MILLION: u64 = 1_000_000;
 pub fn push_report(out: &mut Vec<u8>, rate: u32, analysis: &Analysis) -> Result<(), AllocError>
     ensures { OnOk result (out.new.items ≡ out.old.items ++ report_text rate analysis.now) }
 {
-    push_first(out, rate, analysis)?;
+    push_first(out, u64::from(rate), analysis)?;
     push_messages(out, &analysis.verdicts)?;
     push_last(out, analysis)?;
     push_borne(out, analysis.borne)
@@ -29,13 +29,12 @@ pub fn push_report(out: &mut Vec<u8>, rate: u32, analysis: &Analysis) -> Result<
 
 /// Appends the line of the whole: how many messages there are, their load, and the rate.
 #[tactic(auto, unfolding(crate::specs::Report::first_line))]
-fn push_first(out: &mut Vec<u8>, rate: u32, analysis: &Analysis) -> Result<(), AllocError>
+fn push_first(out: &mut Vec<u8>, rate: u64, analysis: &Analysis) -> Result<(), AllocError>
     ensures { OnOk result (out.new.items ≡ out.old.items ++ first_line rate analysis.now.verdicts.items) }
 {
     push_named(out, b"network messages ", analysis.verdicts.len() as u64)?;
     push_load(out, b" load ", analysis)?;
-    push_named(out, b" rate ", u64::from(rate))?;
-    push_text(out, b"\n")
+    push_ended(out, b" rate ", rate)
 }
 
 /// Appends a line for each message.
@@ -54,7 +53,11 @@ fn push_message(out: &mut Vec<u8>, verdict: &Verdict) -> Result<(), AllocError>
     ensures { OnOk result (out.new.items ≡ out.old.items ++ message_line verdict.now) }
 {
     push_name(out, &verdict.planned)?;
-    push_named(out, b" longest ", u64::from(verdict.planned.message.longest))?;
+    push_named(
+        out,
+        b" longest ",
+        u64::from(verdict.planned.message.longest),
+    )?;
     push_named(out, b" blocking ", u64::from(verdict.blocking))?;
     push_times(out, u64::from(verdict.planned.deadline), verdict.bound)
 }
@@ -114,8 +117,7 @@ fn push_last(out: &mut Vec<u8>, analysis: &Analysis) -> Result<(), AllocError>
 {
     push_load(out, b"load ", analysis)?;
     push_named(out, b" late ", analysis.late() as u64)?;
-    push_named(out, b" of ", analysis.verdicts.len() as u64)?;
-    push_text(out, b"\n")
+    push_ended(out, b" of ", analysis.verdicts.len() as u64)
 }
 
 /// Appends the line that tells for how long hits are borne.
@@ -125,17 +127,9 @@ fn push_borne(out: &mut Vec<u8>, borne: Option<Borne>) -> Result<(), AllocError>
     match borne {
         None => Ok(()),
         Some(Borne::Ever) => push_text(out, b"hits at most 15 for ever\n"),
-        Some(Borne::For(long)) => push_within(out, long),
+        Some(Borne::For(long)) => push_ended(out, b"hits at most 15 within ", long),
         Some(Borne::Never) => push_text(out, b"hits above 15 at once\n"),
     }
-}
-
-/// Appends the line of so many bit times in which hits are borne.
-fn push_within(out: &mut Vec<u8>, long: u64) -> Result<(), AllocError>
-    ensures { OnOk result (out.new.items ≡ out.old.items ++ within_line long) }
-{
-    push_named(out, b"hits at most 15 within ", long)?;
-    push_text(out, b"\n")
 }
 
 /// Appends a word, and the load of all messages behind it.
@@ -173,6 +167,14 @@ fn push_named(out: &mut Vec<u8>, word: &[u8], number: u64) -> Result<(), AllocEr
 {
     push_text(out, word)?;
     push_number(out, number)
+}
+
+/// Appends a word, a number in decimal behind it, and the end of the line.
+fn push_ended(out: &mut Vec<u8>, word: &[u8], number: u64) -> Result<(), AllocError>
+    ensures { OnOk result (out.new.items ≡ out.old.items ++ (word.now ++ (decimal number ++ codes "\n"))) }
+{
+    push_named(out, word, number)?;
+    push_text(out, b"\n")
 }
 
 /// Appends thousandths with their point, as `0.972`.

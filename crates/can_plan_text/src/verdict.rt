@@ -45,6 +45,9 @@ impl Analysis {
     pub fn late(&self) -> usize
         ensures { result ≡ late_in self.now.verdicts.items }
     {
-        self.verdicts.iter().filter(|verdict| verdict.is_late()).count()
+        self.verdicts
+            .iter()
+            .filter(|verdict| verdict.is_late())
+            .count()
     }
 }

@@ -1,4 +1,4 @@
-use Rattle.std.proofs.Common.{◌≡◌, List, subst, sym, arith, rules}
+use Rattle.std.proofs.Common.{List, subst, sym, arith, rules}
 use Rattle.can_plan.specs.declared.message.Message.{Message}
 use Rattle.can_plan.specs.Messages.{ArePeriodic}
 use Rattle.can_plan_text.proofs.Kept.{periodic, verdicts-more}
@@ -11,4 +11,4 @@ pub loop-place-preserved : goal.loop-place-preserved
 loop-place-preserved c =
     let said = c.judge.ensures in
     rw c.in_ok-push.ensures.items (verdicts-more c.args.plan.now c.loop-place.place (omega arith) c.planned-item.result (search rules)
-      c.args.messages.now c.requires c.hit_rate-rate.result c.hit_rate-rate.ensures c.judge.result said.planned (said.block, said.least, said.kept) c.loop-place.verdicts.items c.loop-place.invariant)
+    c.args.messages.now c.requires c.hit_rate-rate.result c.hit_rate-rate.ensures c.judge.result said.planned (said.block, said.least, said.kept) c.loop-place.verdicts.items c.loop-place.invariant)

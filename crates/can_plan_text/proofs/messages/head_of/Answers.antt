@@ -1,4 +1,4 @@
-use Rattle.std.proofs.Common.{◌≡◌, ◌<◌, ◌+◌, length, arith, rules}
+use Rattle.std.proofs.Common.{◌<◌, ◌+◌, length, arith, rules}
 use Rattle.can_frame.specs.Parts.{Parts}
 use Rattle.can_plan_text.specs.Plans.{IsHeadText}
 use Rattle.can_plan_text.proofs.Heads.{head-short}
