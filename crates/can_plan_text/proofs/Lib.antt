@@ -6,3 +6,5 @@ pub mod Kept
 pub mod Heads
 -- the parts of a document, read one after another
 pub mod PlanParts
+-- the definitions on numbers worked out by hand
+pub mod Rows
