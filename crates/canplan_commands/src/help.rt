@@ -4,7 +4,7 @@
 pub const HELP: &str = "\
 How late the frames of a CAN network can be: proved response time analysis
 
-Usage: canplan [help | --help | -h]
+Usage: canplan [--help]
 
 It reads a network from standard input, a document of TOML, and answers for
 each message how long behind its release a frame ends at most:
