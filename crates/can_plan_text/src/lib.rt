@@ -12,6 +12,7 @@
 //! | `analysis.rt` | [`analysed`], which answers it by can_plan | `specs/Answers.antt` |
 //! | `answer.rt` | [`answered`], a document in, the answer to it out | `specs/Report.antt` |
 //! | `report.rt` | [`push_report`], the answer as text | `specs/Report.antt` |
+//! | `laws.rt` | [`one_plan_field`]: of bytes at most one field is told | `specs/Plans.antt` |
 //! | `fault.rt` | [`PlanFault`], why a document is not read | |
 //! | `field.rt` | [`PlanField`], what is wrong in one | |
 #![tactic(auto)]
@@ -21,6 +22,7 @@ mod answer;
 mod document;
 mod fault;
 mod field;
+mod laws;
 mod messages;
 mod order;
 mod plan;
@@ -32,6 +34,7 @@ pub use analysis::analysed;
 pub use answer::{Answer, answered};
 pub use fault::PlanFault;
 pub use field::{MessageField, PlanField};
+pub use laws::one_plan_field;
 pub use plan::{Plan, Planned};
 pub use report::push_report;
 pub use verdict::{Analysis, Verdict};
