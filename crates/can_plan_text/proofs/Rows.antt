@@ -1,5 +1,5 @@
 -- The definitions, computed on numbers worked out by hand.
-use Rattle.std.proofs.Common.{◌≡◌, ◌<◌, ◌≤◌, ℕ, true, false, Some, None, pos, refl, subst, arith}
+use Rattle.std.proofs.Common.{◌≡◌, ◌<◌, ℕ, true, false, Some, None, pos, refl, subst, arith}
 use Rattle.std.specs.Prelude.{codes}
 use Rattle.toml.specs.Data.{integer}
 use Rattle.can_plan_text.specs.Answers.{is_above}

@@ -1,5 +1,5 @@
 -- The answer to a network, as text. (docs/PLANNING.md, "`canplan`")
-use Rattle.std.specs.Prelude.{ℕ, ◌≡◌, ◌+◌, ◌-◌, ◌*◌, ◌/◌, ◌%◌, if◌then◌else◌, nat_le, List, [], ◌++◌, length, take, slice_get, codes, decimal, Option, Some, None}
+use Rattle.std.specs.Prelude.{ℕ, ◌≡◌, ◌+◌, ◌-◌, ◌*◌, ◌/◌, ◌%◌, if◌then◌else◌, nat_lt, List, [], ◌++◌, length, take, slice_get, codes, decimal, Option, Some, None}
 use Rattle.std.specs.List.{flat_map, sum_by}
 use Rattle.can_frame.specs.Text.{frame_text}
 use Rattle.can_plan.specs.declared.borne.Borne.{Borne}
@@ -43,7 +43,7 @@ slack_text slack = codes " slack " ++ (decimal slack ++ codes " ok\n")
 -- by how much a bound is within the deadline; ` late` where it isn't, or there is none
 abbrev pub outcome_text : ℕ → Option ℕ → List ℕ
 outcome_text deadline None = codes " late\n"
-outcome_text deadline (Some bound) = if nat_le bound deadline then slack_text (deadline - bound) else codes " late\n"
+outcome_text deadline (Some bound) = if nat_lt deadline bound then codes " late\n" else slack_text (deadline - bound)
 
 -- ` bound 246 deadline 312`, and the outcome
 abbrev pub times_text : ℕ → Option ℕ → List ℕ

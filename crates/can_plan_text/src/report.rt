@@ -9,7 +9,7 @@ use can_kit_text::{push_number, push_text};
 use can_plan::Borne;
 use std::alloc::AllocError;
 
-/// Of which part of a second's time a share is counted.
+/// How many billionths a whole has.
 const BILLION: u64 = 1_000_000_000;
 
 /// How many billionths a thousandth has.
