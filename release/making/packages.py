@@ -37,7 +37,8 @@ Recommends: python3 (>= 3.9)
 Suggests: python3-pytest, pkg-config, iverilog, verilator, ghdl
 Description: proved reference for classical CAN controllers
  canbit turns frames into levels, traces into frames and faults, and scenarios
- into what was on the bus; canhold judges controllers by a conformance kit. With
+ into what was on the bus; canhold judges controllers by a conformance kit;
+ canplan tells how late the frames of a network can be. With
  a golden model for C, C++, Rust, Python, Verilog, SystemVerilog and VHDL.
 """
 

@@ -13,6 +13,7 @@ from making.tree import told
 PROGRAMS = {
     "canbit": {"FORMATS": "the formats", "CODES": "every code that is printed"},
     "canhold": {"CONFORMANCE": "cases, transcripts and verdicts"},
+    "canplan": {"PLANNING": "networks, their documents and answers", "CODES": "every code that is printed"},
 }
 _COMMAND = re.compile(r"  (\w[\w-]*) +(\S.*)")
 

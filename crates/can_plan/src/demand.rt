@@ -61,7 +61,7 @@ pub(crate) fn widest(first: u16, messages: &[Message]) -> u16
 }
 
 /// How long a frame of these messages that started one bit time before goes on at most.
-pub(crate) fn blocking(messages: &[Message]) -> u16
+pub fn blocking(messages: &[Message]) -> u16
     ensures { result ≡ greatest (λ m. m.longest - 1) messages.now }
 {
     let mut long = 0;

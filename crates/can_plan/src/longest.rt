@@ -1,5 +1,5 @@
 //! How long frames keep the bus at most.
-ghost use Rattle.std.specs.Prelude.{◌≡◌, ◌≢◌, ◌≤◌, [], IfSome, IsNone, length};
+ghost use Rattle.std.specs.Prelude.{◌≡◌, ◌≢◌, ◌<◌, ◌≤◌, [], IfSome, IsNone, length};
 ghost use Rattle.can_frame.specs.Parts.{IsFrame, Parts, byte_count as byte_count_of};
 ghost use Rattle.can_bus.specs.Quiet.{busy_time};
 ghost use Rattle.can_plan.specs.FramesOf.{IsFrameOf, longest_with};
@@ -65,6 +65,7 @@ pub fn longest_busy(id: Id, remote: bool, dlc: u8) -> u16
     ensures bound { (f : Parts) → IsFrameOf id remote dlc f → busy_time f ≤ result }
     ensures exact { (f : Parts) → IsFrameOf id remote dlc f → f.bytes ≡ [] → busy_time f ≡ result }
     ensures data { byte_count_of remote dlc ≢ 0 → result ≡ longest_with id.extended (byte_count_of remote dlc) }
+    ensures some { 0 < result }
 {
     match without_data(id, remote, dlc) {
         Some(frame) => encode(&frame).len() as u16 + INTERMISSION,

@@ -1,0 +1,12 @@
+-- messages that are put in the order of arbitration, one after another
+pub mod InOrder
+-- that a message within its deadline meets it; what analyses ask of messages
+pub mod Kept
+-- the text of a head
+pub mod Heads
+-- the parts of a document, read one after another
+pub mod PlanParts
+-- that at most one field is told
+pub mod OneField
+-- the definitions on numbers worked out by hand
+pub mod Rows

@@ -1,0 +1,132 @@
+-- The parts of a document, read one after another.
+use Rattle.std.proofs.Common.{◌≡◌, ℕ, zero, suc, ◌+◌, ◌<◌, List, [], ◌∷◌, ◌++◌, length, Option, Some, None, codes, refl, sym, ap, subst, ◌∙◌, inl, arith}
+use Rattle.std.specs.Prelude.{slice_get}
+use Rattle.std.proofs.lemmas.Option.{slice_get_within}
+use Rattle.toml.specs.Data.{Data, string}
+use Rattle.can_frame.specs.Arbitration.{arbitration_field}
+use Rattle.can_frame.specs.Parts.{Parts}
+use Rattle.can_frame.proofs.OneText.{same_frame}
+use Rattle.can_toml.specs.Demands.{Demands, demands_on_each, AllMet, IsFirstUnmet}
+use Rattle.can_toml.specs.Values.{named, ArePaired, IsRequired}
+use Rattle.can_toml.proofs.DemandLemmas.{met-followed, unmet-first, unmet-later}
+use Rattle.can_plan_text.specs.declared.field.PlanField.{PlanField}
+use Rattle.can_plan_text.specs.declared.plan.Planned.{Planned}
+use Rattle.can_plan_text.specs.Order.{AreApart, IsRepeated}
+use Rattle.can_plan_text.specs.Plans.{IsNew, NamesHead, SaysHead, SaysMessage, message_demands, messages_in, new_demands, plan_demands, rate_in, top_demands}
+
+-- ---- pairs
+
+pub length-paired : {A B : Type 0} (R : A → B → Type 0) (xs : List A) (ys : List B) → ArePaired R xs ys → length xs ≡ length ys
+length-paired R [] [] p = refl
+length-paired R [] (y ∷ ys) p = absurd p
+length-paired R (x ∷ xs) [] p = absurd p
+length-paired R (x ∷ xs) (y ∷ ys) p = ap suc (length-paired R xs ys p.1)
+
+paired-at : {A B : Type 0} (R : A → B → Type 0) (xs : List A) (ys : List B) (n : ℕ) (x : A) → ArePaired R xs ys → slice_get xs n ≡ Some x → (y : B) × (slice_get ys n ≡ Some y) × R x y
+paired-at R [] ys n x p is = absurd (cc)
+paired-at R (z ∷ xs) [] n x p is = absurd p
+paired-at R (z ∷ xs) (y ∷ ys) zero x p is = let e : z ≡ x = (let s : Some z ≡ Some x = is in cc) in (y, refl, subst (λ w. R w y) e p.0)
+paired-at R (z ∷ xs) (y ∷ ys) (suc n) x p is = paired-at R xs ys n x p.1 is
+
+paired-back : {A B : Type 0} (R : A → B → Type 0) (xs : List A) (ys : List B) (n : ℕ) (y : B) → ArePaired R xs ys → slice_get ys n ≡ Some y → (x : A) × (slice_get xs n ≡ Some x) × R x y
+paired-back R xs [] n y p is = absurd (cc)
+paired-back R [] (z ∷ ys) n y p is = absurd p
+paired-back R (x ∷ xs) (z ∷ ys) zero y p is = let e : z ≡ y = (let s : Some z ≡ Some y = is in cc) in (x, refl, subst (λ w. R x w) e p.0)
+paired-back R (x ∷ xs) (z ∷ ys) (suc n) y p is = paired-back R xs ys n y p.1 is
+
+-- ---- demands on each
+
+module _ {F A : Type 0} (one : ℕ → A → Demands F) where
+  each-met : (from : ℕ) (xs : List A) → ((k p : ℕ) (y : A) → p ≡ from + k → slice_get xs k ≡ Some y → AllMet (one p y)) → AllMet (demands_on_each one from xs)
+  each-met from [] met = tt
+  each-met from (x ∷ xs) met =
+      met-followed (one from x) _ (met 0 from x (omega arith) refl) (each-met (from + 1) xs (λ k p y e is. met (suc k) p y (omega (arith, e)) is))
+
+  each-first : (wrong : F) (from : ℕ) (xs : List A) (n : ℕ) (x : A) → slice_get xs n ≡ Some x →
+      ((k p : ℕ) (y : A) → k < n → p ≡ from + k → slice_get xs k ≡ Some y → AllMet (one p y)) → ((p : ℕ) → p ≡ from + n → IsFirstUnmet wrong (one p x)) →
+      IsFirstUnmet wrong (demands_on_each one from xs)
+  each-first wrong from [] n x is met unmet = absurd (cc)
+  each-first wrong from (z ∷ xs) zero x is met unmet =
+      let e : x ≡ z = (let s : Some z ≡ Some x = is in cc) in
+      unmet-first wrong (one from z) _ (subst (λ w. IsFirstUnmet wrong (one from w)) e (unmet from (omega arith)))
+  each-first wrong from (z ∷ xs) (suc n) x is met unmet =
+      unmet-later wrong (one from z) _ (met 0 from z (omega arith) (omega arith) refl)
+      (each-first wrong (from + 1) xs n x is (λ k p y less e there. met (suc k) p y (omega (arith, less)) (omega (arith, e)) there) (λ p e. unmet p (omega (arith, e))))
+
+-- ---- heads
+
+one-head : (h : Data) (f g : Parts) → SaysHead h f → SaysHead h g → f ≡ g
+one-head h f g a b =
+    let texts : a.0 ≡ b.0 = (let e : string a.0 ≡ string b.0 = sym a.1 ∙ b.1 in cc) in
+    same_frame f g a.2.0 b.2.0 (a.2.1 ∙ ap (λ text. text ++ codes " 0") texts ∙ sym b.2.1)
+
+one-required : (o : Option Data) (f g : Parts) → IsRequired (λ h. SaysHead h f) o → IsRequired (λ h. SaysHead h g) o → f ≡ g
+one-required None f g a b = absurd a
+one-required (Some h) f g a b = one-head h f g a b
+
+one-name : (d : Data) (f g : Parts) → NamesHead d f → NamesHead d g → f ≡ g
+one-name d f g a b = one-required (named (codes "frame") d) f g a b
+
+module _ (rate : ℕ) (d : Data) (p : Planned) (says : SaysMessage rate d p) where
+  head-named : NamesHead d p.head
+  head-named = subst (λ (f : Parts). NamesHead d f) (sym says.2.head) says.1.head
+
+  field-named : (f : Parts) → NamesHead d f → arbitration_field f ≡ p.message.field
+  field-named f names = ap arbitration_field (one-name d f p.head names head-named) ∙ sym p.named
+
+-- ---- messages with fields of their own
+
+module _ (rate : ℕ) (ds : List Data) (listed : List Planned) (paired : ArePaired (SaysMessage rate) ds listed) where
+  new-at : (place k : ℕ) (d : Data) → AreApart place listed → k < place → slice_get ds k ≡ Some d → IsNew ds k d
+  new-at place k d apart less here n e f g earlier there names_f names_g =
+      let a = paired-at (SaysMessage rate) ds listed n e paired there in
+      let b = paired-at (SaysMessage rate) ds listed k d paired here in
+      λ same. apart n k a.0 b.0 earlier less a.1 b.1 (sym (field-named rate e a.0 a.2 f names_f) ∙ same ∙ field-named rate d b.0 b.2 g names_g)
+
+  all-new : AreApart (length listed) listed → AllMet (demands_on_each (new_demands ds) 0 ds)
+  all-new apart = each-met (new_demands ds) 0 ds (λ k p d e is.
+      let size = length-paired (SaysMessage rate) ds listed paired in
+      let within = slice_get_within ds k d is in
+      let same : k ≡ p = omega (arith, e) in
+      subst (λ (n : ℕ). AllMet (new_demands ds n d)) same (new-at (length listed) k d apart (omega (arith, size, within)) is, tt))
+
+  first-repeated : (wrong : PlanField) → IsRepeated wrong listed → IsFirstUnmet wrong (demands_on_each (new_demands ds) 0 ds)
+  first-repeated wrong r =
+      let e = paired-back (SaysMessage rate) ds listed r.before r.first paired r.is_first in
+      let d = paired-back (SaysMessage rate) ds listed r.place r.second paired r.is_second in
+      let seen : IsNew ds r.place d.0 → ⊥ = λ new.
+      new r.before e.0 r.first.head r.second.head r.earlier e.1 (head-named rate e.0 r.first e.2) (head-named rate d.0 r.second d.2)
+      (sym r.first.named ∙ r.same ∙ r.second.named) in
+      each-first (new_demands ds) wrong 0 ds r.place d.0 d.1
+      (λ k p y less at is. subst (λ (n : ℕ). AllMet (new_demands ds n y)) (omega (arith, at)) (new-at r.place k y r.apart less is, tt))
+      (λ p at. subst (λ (n : ℕ). IsFirstUnmet wrong (new_demands ds n d.0)) (omega (arith, at)) (inl (sym r.told, seen)))
+
+-- ---- the document
+
+module _ (document : Data) (ds : List Data) (rate : ℕ) (are : ds ≡ messages_in document) (said : rate ≡ rate_in document) where
+  pub top-unmet : (wrong : PlanField) → IsFirstUnmet wrong (top_demands document) → IsFirstUnmet wrong (plan_demands document)
+  top-unmet wrong unmet = unmet-first wrong (top_demands document) _ unmet
+
+  abbrev listed_demands : Demands PlanField
+  listed_demands = demands_on_each (message_demands rate) 0 ds
+
+  to-document : (P : Demands PlanField → Type 0) → P listed_demands → P (demands_on_each (message_demands (rate_in document)) 0 (messages_in document))
+  to-document P p = subst (λ (r : ℕ). P (demands_on_each (message_demands r) 0 (messages_in document))) said (subst (λ (xs : List Data). P (demands_on_each (message_demands rate) 0 xs)) are p)
+
+  pub listed-unmet : (wrong : PlanField) → AllMet (top_demands document) → IsFirstUnmet wrong listed_demands → IsFirstUnmet wrong (plan_demands document)
+  listed-unmet wrong top unmet =
+      unmet-later wrong (top_demands document) _ top
+      (unmet-first wrong (demands_on_each (message_demands (rate_in document)) 0 (messages_in document)) _ (to-document (λ d. IsFirstUnmet wrong d) unmet))
+
+  module _ (top : AllMet (top_demands document)) (met : AllMet listed_demands) (listed : List Planned) (paired : ArePaired (SaysMessage rate) ds listed) where
+    pub repeated-unmet : (wrong : PlanField) → IsRepeated wrong listed → IsFirstUnmet wrong (plan_demands document)
+    repeated-unmet wrong r =
+        unmet-later wrong (top_demands document) _ top
+        (unmet-later wrong (demands_on_each (message_demands (rate_in document)) 0 (messages_in document)) _ (to-document AllMet met)
+        (subst (λ (xs : List Data). IsFirstUnmet wrong (demands_on_each (new_demands xs) 0 xs)) are (first-repeated rate ds listed paired wrong r)))
+
+    pub plan-met : AreApart (length listed) listed → AllMet (plan_demands document)
+    plan-met apart =
+        met-followed (top_demands document) _ top
+        (met-followed (demands_on_each (message_demands (rate_in document)) 0 (messages_in document)) _ (to-document AllMet met)
+        (subst (λ (xs : List Data). AllMet (demands_on_each (new_demands xs) 0 xs)) are (all-new rate ds listed paired apart)))

@@ -1,0 +1,63 @@
+-- The definitions, computed on numbers worked out by hand.
+use Rattle.std.proofs.Common.{◌≡◌, ◌<◌, ℕ, true, false, Some, None, pos, refl, subst, arith}
+use Rattle.std.specs.Prelude.{codes}
+use Rattle.toml.specs.Data.{integer}
+use Rattle.can_plan_text.specs.Answers.{is_above}
+use Rattle.can_plan_text.specs.Plans.{IsPeriod, IsSpacing}
+use Rattle.can_plan_text.specs.Report.{outcome_text}
+use Rattle.can_plan_text.specs.Times.{bits_down, bits_up}
+
+-- at 125 kbit/s a bit time is 8 microseconds
+down-whole : bits_down 125000 2496 ≡ 312
+down-whole = refl
+
+down-more : bits_down 125000 2503 ≡ 312
+down-more = refl
+
+up-whole : bits_up 125000 2496 ≡ 312
+up-whole = refl
+
+up-more : bits_up 125000 2497 ≡ 313
+up-more = refl
+
+up-one : bits_up 125000 1 ≡ 1
+up-one = refl
+
+-- at 1 Mbit/s it is one, and without a rate times are bit times
+fastest : bits_down 1000000 4294967295 ≡ 4294967295
+fastest = refl
+
+untold-down : bits_down 0 2503 ≡ 2503
+untold-down = refl
+
+untold-up : bits_up 0 2503 ≡ 2503
+untold-up = refl
+
+-- 7 microseconds are less than a bit time: no period, and no spacing, as 0 is; 8 are one
+seven-no-period : IsPeriod 125000 (integer (pos 7)) → ⊥
+seven-no-period (n, is, within, some) = let e : n ≡ 7 = cc in let none : 0 < bits_down 125000 7 = subst (λ (k : ℕ). 0 < bits_down 125000 k) e some in omega (arith, none)
+
+seven-no-spacing : IsSpacing 125000 (integer (pos 7)) → ⊥
+seven-no-spacing (n, is, within, some) =
+    let e : n ≡ 7 = cc in
+    let none : 0 < 7 → 0 < bits_down 125000 7 = subst (λ (k : ℕ). 0 < k → 0 < bits_down 125000 k) e some in
+    let f = none (omega arith) in omega (arith, f)
+
+eight-spacing : IsSpacing 125000 (integer (pos 8))
+eight-spacing = (8, refl, omega arith, λ some. omega arith)
+
+zero-spacing : IsSpacing 125000 (integer (pos 0))
+zero-spacing = (0, refl, omega arith, λ some. absurd (omega (arith, some)))
+
+-- a bound that is the deadline meets it
+in-time : is_above 132 (Some 132) ≡ false
+in-time = refl
+
+late : is_above 131 (Some 132) ≡ true
+late = refl
+
+unbound : is_above 4294967295 None ≡ true
+unbound = refl
+
+late-told : outcome_text 131 (Some 132) ≡ codes " late\n"
+late-told = refl

@@ -1,0 +1,7 @@
+-- To believe: what public calls promise is said in these words
+pub mod Times
+pub mod Plans
+pub mod Answers
+pub mod Report
+-- For proofs only
+pub mod Order

@@ -1,0 +1,78 @@
+//! What the analysis answers of each message of a network.
+ghost use Rattle.std.specs.Prelude.{◌≡◌, ◌≤◌, ℕ, false, IfOk, MatchOption, Some, length, slice_get};
+ghost use Rattle.can_plan.specs.Analysis.{IsBound, IsLeastBound, blocking as blocking_of, ranking_at};
+ghost use Rattle.can_plan.specs.Ends.{EndAlways};
+ghost use Rattle.can_plan.specs.Messages.{ArePeriodic, IsMessageSet, most_hits};
+ghost use Rattle.can_plan_text.specs.Answers.{is_late, limit, AreVerdicts, IsAnalysis, IsBorneFor};
+ghost use Rattle.can_plan_text.specs.Plans.{messages_of as messages_in};
+
+use crate::plan::{Plan, Planned};
+use crate::verdict::{Analysis, Verdict};
+use can_plan::{Borne, HitRate, Message, blocking, borne_for, response_bound};
+use std::alloc::{AllocError, Global};
+
+/// Up to which number of bit times a bound is looked for.
+const LIMIT: u32 = 10_000_000;
+
+/// What the analysis answers of a network.
+pub fn analysed(alloc: Global, plan: &Plan) -> Result<Analysis, AllocError>
+    ensures { IfOk result (IsAnalysis plan.now) }
+{
+    let messages = messages_of(alloc, &plan.messages)?;
+    let verdicts = judge_each(alloc, plan, &messages)?;
+    Ok(Analysis {
+        verdicts,
+        borne: borne(plan.errors),
+    })
+}
+
+/// For how long hits at this rate are borne, if there is one.
+fn borne(errors: Option<HitRate>) -> Option<Borne>
+    ensures { IsBorneFor errors result }
+{
+    match errors {
+        Some(rate) => Some(borne_for(&rate)),
+        None => None,
+    }
+}
+
+/// What the analysis has to know of these messages.
+fn messages_of(alloc: Global, planned: &[Planned]) -> Result<Vec<Message>, AllocError>
+    ensures { IfOk result (λ messages. messages.items ≡ messages_in planned.now) }
+{
+    let mut messages = Vec::new(alloc);
+    for each in planned {
+        messages.push(each.message)?;
+    }
+    Ok(messages)
+}
+
+/// What is answered of each message of a network.
+fn judge_each(alloc: Global, plan: &Plan, messages: &[Message]) -> Result<Vec<Verdict>, AllocError>
+    requires { messages.now ≡ messages_in plan.now.messages.items }
+    ensures { IfOk result (λ verdicts. AreVerdicts plan.now (length plan.now.messages.items) verdicts.items) }
+{
+    let rate = plan.hit_rate();
+    let mut verdicts = Vec::new(alloc);
+    for (place, planned) in plan.messages.iter().enumerate() {
+        verdicts.push(judge(planned, place, messages, &rate))?;
+    }
+    Ok(verdicts)
+}
+
+/// What is answered of the message at this place.
+fn judge(planned: &Planned, place: usize, messages: &[Message], rate: &HitRate) -> Verdict
+    requires here { slice_get messages.now place ≡ Some planned.now.message }
+    requires periodic { ArePeriodic messages.now }
+    ensures planned { result.planned ≡ planned.now }
+    ensures block { result.blocking ≡ blocking_of (ranking_at messages.now place planned.now.message) }
+    ensures least { let ranking = ranking_at messages.now place planned.now.message in
+        MatchOption result.bound ((other : ℕ) → IsBound (most_hits rate.now) limit ranking other → ⊥) (λ b. IsLeastBound (most_hits rate.now) limit ranking b) }
+    ensures kept { IsMessageSet messages.now → is_late result ≡ false → EndAlways (most_hits rate.now) messages.now planned.now.message planned.now.deadline }
+{
+    Verdict {
+        planned: *planned,
+        blocking: blocking(&messages[place + 1..]),
+        bound: response_bound(messages, place, rate, LIMIT),
+    }
+}

@@ -1,0 +1,40 @@
+//! Networks as documents say them, and what the analysis of can_plan answers of their messages, as text.
+//! (docs/PLANNING.md, "`canplan`")
+//!
+//! | File | What it has | Defined in |
+//! |---|---|---|
+//! | `plan.rt` | [`Plan`], a network that was read: its messages in the order of arbitration | `specs/Plans.antt` |
+//! | `document.rt` | the document, and its fields at the top | `specs/Plans.antt` |
+//! | `messages.rt` | its messages, one after another | `specs/Plans.antt` |
+//! | `times.rt` | microseconds as whole bit times | `specs/Times.antt` |
+//! | `order.rt` | messages in the order of arbitration | `specs/Plans.antt` |
+//! | `verdict.rt` | [`Analysis`], what is answered of a network, a [`Verdict`] for each message | `specs/Answers.antt` |
+//! | `analysis.rt` | [`analysed`], which answers it by can_plan | `specs/Answers.antt` |
+//! | `answer.rt` | [`answered`], a document in, the answer to it out | `specs/Report.antt` |
+//! | `report.rt` | [`push_report`], the answer as text | `specs/Report.antt` |
+//! | `laws.rt` | [`one_plan_field`]: of bytes at most one field is told | `specs/Plans.antt` |
+//! | `fault.rt` | [`PlanFault`], why a document is not read | |
+//! | `field.rt` | [`PlanField`], what is wrong in one | |
+#![tactic(auto)]
+
+mod analysis;
+mod answer;
+mod document;
+mod fault;
+mod field;
+mod laws;
+mod messages;
+mod order;
+mod plan;
+mod report;
+mod times;
+mod verdict;
+
+pub use analysis::analysed;
+pub use answer::{Answer, answered};
+pub use fault::PlanFault;
+pub use field::{MessageField, PlanField};
+pub use laws::one_plan_field;
+pub use plan::{Plan, Planned};
+pub use report::push_report;
+pub use verdict::{Analysis, Verdict};

@@ -1,0 +1,189 @@
+//! The answer to a network, as text.
+ghost use Rattle.std.specs.Prelude.{◌≡◌, ◌++◌, ◌^◌, ◌<◌, codes, decimal, OnOk};
+ghost use Rattle.std.specs.List.{flat_map};
+ghost use Rattle.can_plan_text.specs.Report.{borne_line, bound_text, first_line, last_line, load_of, message_line, name_text, outcome_text, report_text, share_of, slack_text, thousandths, times_text};
+
+use crate::plan::Planned;
+use crate::verdict::{Analysis, Verdict};
+use can_kit_text::{push_number, push_text};
+use can_plan::Borne;
+use std::alloc::AllocError;
+
+/// How many billionths a whole has.
+const BILLION: u64 = 1_000_000_000;
+
+/// How many billionths a thousandth has.
+const MILLION: u64 = 1_000_000;
+
+/// Appends the answer to a network whose times are told by this rate: a line for the whole, one for each message in the
+/// order of arbitration, and one that counts those that are late; where the document has errors, one that tells for how
+/// long they are borne. Each ends with 0x0a.
+pub fn push_report(out: &mut Vec<u8>, rate: u32, analysis: &Analysis) -> Result<(), AllocError>
+    ensures { OnOk result (out.new.items ≡ out.old.items ++ report_text rate analysis.now) }
+{
+    push_first(out, u64::from(rate), analysis)?;
+    push_messages(out, &analysis.verdicts)?;
+    push_last(out, analysis)?;
+    push_borne(out, analysis.borne)
+}
+
+/// Appends the line of the whole: how many messages there are, their load, and the rate.
+#[tactic(auto, unfolding(crate::specs::Report::first_line))]
+fn push_first(out: &mut Vec<u8>, rate: u64, analysis: &Analysis) -> Result<(), AllocError>
+    ensures { OnOk result (out.new.items ≡ out.old.items ++ first_line rate analysis.now.verdicts.items) }
+{
+    push_named(out, b"network messages ", analysis.verdicts.len() as u64)?;
+    push_load(out, b" load ", analysis)?;
+    push_ended(out, b" rate ", rate)
+}
+
+/// Appends a line for each message.
+fn push_messages(out: &mut Vec<u8>, verdicts: &[Verdict]) -> Result<(), AllocError>
+    ensures { OnOk result (out.new.items ≡ out.old.items ++ flat_map message_line verdicts.now) }
+{
+    for verdict in verdicts {
+        push_message(out, verdict)?;
+    }
+    Ok(())
+}
+
+/// Appends a message's line.
+#[tactic(auto, unfolding(crate::specs::Report::message_line))]
+fn push_message(out: &mut Vec<u8>, verdict: &Verdict) -> Result<(), AllocError>
+    ensures { OnOk result (out.new.items ≡ out.old.items ++ message_line verdict.now) }
+{
+    push_name(out, &verdict.planned)?;
+    push_named(
+        out,
+        b" longest ",
+        u64::from(verdict.planned.message.longest),
+    )?;
+    push_named(out, b" blocking ", u64::from(verdict.blocking))?;
+    push_times(out, u64::from(verdict.planned.deadline), verdict.bound)
+}
+
+/// Appends what a message's frames have in common: a frame's text up to its DLC.
+fn push_name(out: &mut Vec<u8>, planned: &Planned) -> Result<(), AllocError>
+    ensures { OnOk result (out.new.items ≡ out.old.items ++ name_text planned.now) }
+{
+    let text = planned.head.to_text();
+    let bytes = text.as_bytes();
+    push_text(out, &bytes[..bytes.len().saturating_sub(1)])?;
+    push_number(out, u64::from(planned.dlc))
+}
+
+/// Appends bound and deadline, and whether the deadline is met.
+fn push_times(out: &mut Vec<u8>, deadline: u64, bound: Option<u64>) -> Result<(), AllocError>
+    ensures { OnOk result (out.new.items ≡ out.old.items ++ times_text deadline bound) }
+{
+    push_text(out, b" bound ")?;
+    push_bound(out, bound)?;
+    push_named(out, b" deadline ", deadline)?;
+    push_outcome(out, deadline, bound)
+}
+
+/// Appends a bound.
+fn push_bound(out: &mut Vec<u8>, bound: Option<u64>) -> Result<(), AllocError>
+    ensures { OnOk result (out.new.items ≡ out.old.items ++ bound_text bound) }
+{
+    match bound {
+        Some(bound) => push_number(out, bound),
+        None => push_text(out, b"none"),
+    }
+}
+
+/// Appends by how much a bound is within the deadline, or that a frame may be late.
+fn push_outcome(out: &mut Vec<u8>, deadline: u64, bound: Option<u64>) -> Result<(), AllocError>
+    ensures { OnOk result (out.new.items ≡ out.old.items ++ outcome_text deadline bound) }
+{
+    match bound {
+        Some(bound) if bound <= deadline => push_slack(out, deadline - bound),
+        _ => push_text(out, b" late\n"),
+    }
+}
+
+/// Appends by how much a bound is within the deadline.
+fn push_slack(out: &mut Vec<u8>, slack: u64) -> Result<(), AllocError>
+    ensures { OnOk result (out.new.items ≡ out.old.items ++ slack_text slack) }
+{
+    push_named(out, b" slack ", slack)?;
+    push_text(out, b" ok\n")
+}
+
+/// Appends the line that counts the messages that may be late.
+#[tactic(auto, unfolding(crate::specs::Report::last_line))]
+fn push_last(out: &mut Vec<u8>, analysis: &Analysis) -> Result<(), AllocError>
+    ensures { OnOk result (out.new.items ≡ out.old.items ++ last_line analysis.now.verdicts.items) }
+{
+    push_load(out, b"load ", analysis)?;
+    push_named(out, b" late ", analysis.late() as u64)?;
+    push_ended(out, b" of ", analysis.verdicts.len() as u64)
+}
+
+/// Appends the line that tells for how long hits are borne.
+fn push_borne(out: &mut Vec<u8>, borne: Option<Borne>) -> Result<(), AllocError>
+    ensures { OnOk result (out.new.items ≡ out.old.items ++ borne_line borne) }
+{
+    match borne {
+        None => Ok(()),
+        Some(Borne::Ever) => push_text(out, b"hits at most 15 for ever\n"),
+        Some(Borne::For(long)) => push_ended(out, b"hits at most 15 within ", long),
+        Some(Borne::Never) => push_text(out, b"hits above 15 at once\n"),
+    }
+}
+
+/// Appends a word, and the load of all messages behind it.
+fn push_load(out: &mut Vec<u8>, word: &[u8], analysis: &Analysis) -> Result<(), AllocError>
+    ensures { OnOk result (out.new.items ≡ out.old.items ++ (word.now ++ thousandths (load_of analysis.now.verdicts.items))) }
+{
+    push_text(out, word)?;
+    push_thousandths(out, load(analysis))
+}
+
+/// The load of all messages, in thousandths.
+fn load(analysis: &Analysis) -> u64
+    ensures { result ≡ load_of analysis.now.verdicts.items }
+{
+    let mut total = 0;
+    for verdict in &analysis.verdicts {
+        total += share(verdict);
+    }
+    total / MILLION
+}
+
+/// Which part of the time a message's frames take at most, in billionths.
+fn share(verdict: &Verdict) -> u64
+    ensures value { result ≡ share_of verdict.now }
+    ensures range { result < 2 ^ 47 }
+{
+    let message = &verdict.planned.message;
+    let period = u64::from(message.period);
+    (u64::from(message.longest) * BILLION + period - 1) / period
+}
+
+/// Appends a word, and a number in decimal behind it.
+fn push_named(out: &mut Vec<u8>, word: &[u8], number: u64) -> Result<(), AllocError>
+    ensures { OnOk result (out.new.items ≡ out.old.items ++ (word.now ++ decimal number)) }
+{
+    push_text(out, word)?;
+    push_number(out, number)
+}
+
+/// Appends a word, a number in decimal behind it, and the end of the line.
+fn push_ended(out: &mut Vec<u8>, word: &[u8], number: u64) -> Result<(), AllocError>
+    ensures { OnOk result (out.new.items ≡ out.old.items ++ (word.now ++ (decimal number ++ codes "\n"))) }
+{
+    push_named(out, word, number)?;
+    push_text(out, b"\n")
+}
+
+/// Appends thousandths with their point, as `0.972`.
+fn push_thousandths(out: &mut Vec<u8>, number: u64) -> Result<(), AllocError>
+    ensures { OnOk result (out.new.items ≡ out.old.items ++ thousandths number) }
+{
+    push_number(out, number / 1000)?;
+    push_text(out, b".")?;
+    push_number(out, number / 100 % 10)?;
+    push_number(out, number / 10 % 10)?;
+    push_number(out, number % 10)
+}

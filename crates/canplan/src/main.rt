@@ -1,0 +1,16 @@
+//! The command `canplan`: how late the frames of a network can be, from standard input to standard output.
+//!
+//! What a run does over any reader and writers is told by the crate `canplan_commands`. That `main` joins its
+//! `execute` to the process's words and standard streams is only tested.
+#![tactic(auto)]
+
+use can_program::run_program;
+use canplan_commands::{NAME, execute};
+use std::process::ExitCode;
+
+fn main(rt: HostRuntime) -> ExitCode {
+    let alloc = rt.alloc();
+    run_program(rt, NAME, |words, reader, writer, errors| {
+        execute(alloc, words.as_slice(), reader, writer, errors)
+    })
+}

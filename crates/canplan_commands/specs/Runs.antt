@@ -1,0 +1,46 @@
+-- What a run of `canplan` has written for what it read, for each outcome. (docs/PLANNING.md, "`canplan`")
+use Rattle.std.specs.Prelude.{ℕ, ◌≡◌, ◌⊎◌, ◌<◌, List, [], ◌++◌, Result, Ok, Err}
+use Rattle.can_plan_text.specs.declared.field.PlanField.{PlanField}
+use Rattle.can_plan_text.specs.Plans.{IsWrongPlanField}
+use Rattle.can_plan_text.specs.Report.{IsAnswer}
+use Rattle.can_stream.specs.declared.fault.TraceFault.TheVariants.{Read, Write, Memory}
+use Rattle.canplan_commands.specs.declared.fault.CanplanFault.{CanplanFault}
+use Rattle.canplan_commands.specs.declared.fault.CanplanFault.TheVariants.{Field, DeadlinesMissed, Stream}
+
+-- nothing is written
+abbrev pub WritesNothing : List ℕ → List ℕ → Type 0
+WritesNothing input output = output ≡ []
+
+-- the document is refused for this field, and nothing is written
+abbrev pub Refuses : PlanField → List ℕ → List ℕ → Type 0
+Refuses wrong input output = IsWrongPlanField wrong input × WritesNothing input output
+
+-- a field is wrong, or memory ran out
+abbrev pub IsFieldOrMemory : CanplanFault → Type 0
+IsFieldOrMemory fault = ((wrong : PlanField) × (fault ≡ Field wrong)) ⊎ (fault ≡ Stream Memory)
+
+-- the whole answer is written, by which so many messages may be late
+abbrev pub Answers : ℕ → List ℕ → List ℕ → Type 0
+Answers late input output = IsAnswer input output late
+
+-- some may be
+abbrev pub AnswersLate : List ℕ → List ℕ → Type 0
+AnswersLate input output = (late : ℕ) × (0 < late) × Answers late input output
+
+-- a beginning of the answer is written
+pub record BeginsAnswer (input output : List ℕ) : Type 0 where
+  pub answer : List ℕ
+  pub late : ℕ
+  pub is : IsAnswer input answer late
+  pub rest : List ℕ
+  pub all : answer ≡ output ++ rest
+
+-- what is written where the run ends so
+abbrev pub Does : Result (Unit {0}) CanplanFault → List ℕ → List ℕ → Type 0
+Does (Ok done) = Answers 0
+Does (Err (Field wrong)) = Refuses wrong
+Does (Err DeadlinesMissed) = AnswersLate
+Does (Err (Stream Read)) = WritesNothing
+Does (Err (Stream Write)) = BeginsAnswer
+Does (Err (Stream Memory)) = WritesNothing
+Does (Err (Stream _)) = λ input output. ⊥

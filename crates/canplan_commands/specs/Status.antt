@@ -1,0 +1,19 @@
+-- What the exit status of `canplan` says. (docs/CODES.md)
+use Rattle.std.specs.Prelude.{ℕ}
+use Rattle.can_plan_text.specs.declared.fault.PlanFault.{PlanFault}
+use Rattle.can_plan_text.specs.declared.fault.PlanFault.TheVariants as plan
+use Rattle.can_program.specs.Status.{stream_status}
+use Rattle.can_stream.specs.declared.fault.TraceFault.TheVariants.{Memory}
+use Rattle.canplan_commands.specs.declared.fault.CanplanFault.{CanplanFault}
+use Rattle.canplan_commands.specs.declared.fault.CanplanFault.TheVariants.{Field, DeadlinesMissed, Stream}
+
+-- 1: the document is refused, or some message is not sure to meet its deadline. 3: a stream failed. 4: memory ran out.
+abbrev pub fault_status : CanplanFault → ℕ
+fault_status (Field wrong) = 1
+fault_status DeadlinesMissed = 1
+fault_status (Stream fault) = stream_status fault
+
+-- how it is told that a document is not read
+abbrev pub fault_of : PlanFault → CanplanFault
+fault_of (plan.Field wrong) = Field wrong
+fault_of plan.Memory = Stream Memory

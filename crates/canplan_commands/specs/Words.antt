@@ -1,0 +1,22 @@
+-- What the words of a command line ask for. (docs/PLANNING.md, "`canplan`")
+use Rattle.std.specs.Prelude.{ℕ, ◌||◌, if◌then◌else◌, List, [], ◌∷◌, Option, Some, None, codes, map, string_bytes}
+use Rattle.std.specs.Str.{bytes_eq}
+use Rattle.std.specs.declared.alloc.Global.{Global}
+use Rattle.std.specs.declared.string.String.{String}
+use Rattle.canplan_commands.specs.declared.words.Asked.{Asked}
+use Rattle.canplan_commands.specs.declared.words.Asked.TheVariants.{Answer, Help}
+
+-- the words as texts
+abbrev pub texts_of : List (String Global) → List (List ℕ)
+texts_of words = map string_bytes words
+
+-- what one word asks for
+abbrev pub asked_word : List ℕ → Option Asked
+asked_word word = if bytes_eq word (codes "help") || (bytes_eq word (codes "--help") || bytes_eq word (codes "-h")) then Some Help else None
+
+-- what the words ask for: the program's name, whatever it is, and no word or one
+abbrev pub asked_by : List (List ℕ) → Option Asked
+asked_by [] = None
+asked_by (name ∷ []) = Some Answer
+asked_by (name ∷ word ∷ []) = asked_word word
+asked_by (name ∷ word ∷ other ∷ words) = None

@@ -1,0 +1,89 @@
+//! What the program does, over any streams.
+ghost use Rattle.std.specs.Prelude.{◌≡◌, ◌≢◌, ◌⊎◌, ◌<◌, false, Option, Result, IsTrue};
+ghost use Rattle.std.specs.Io.KnownBytes.{Appends};
+ghost use Rattle.can_stream.specs.Told.{Told};
+ghost use Rattle.can_program.specs.Status.{exit_status};
+ghost use Rattle.canplan_commands.specs.Runs.{Does};
+ghost use Rattle.canplan_commands.specs.Status.{fault_status};
+ghost use Rattle.canplan_commands.specs.Words.{asked_by, texts_of};
+
+use crate::document::answer_document;
+use crate::fault::CanplanFault;
+use crate::help::HELP;
+use crate::words::{Asked, read_words};
+use can_program::{WordsFault, conclude, refuse, write_help};
+use can_stream::{Sink, Source};
+use std::alloc::Global;
+
+/// The program's name, before the line of a fault.
+pub const NAME: &str = "canplan";
+
+/// Does what the words ask, and answers the exit status. The first of the words is the program's name. Where there is
+/// no other, it reads a network's document from `r` and writes the answer to `w`; the text of help goes to `w`, and the
+/// line of a fault to `e`.
+///
+/// | Status | Line | Why |
+/// |---|---|---|
+/// | 0 | none | all was done, and each message is sure to meet its deadline |
+/// | 1 | `canplan: P2 message[3].period` | the document is refused |
+/// | 1 | `canplan: deadlines missed` | all was done, and some message is not sure to |
+/// | 2 | `canplan: usage` | the words are refused |
+/// | 3 | `canplan: P3 read`, `canplan: P4 write` | `r` or `w` failed |
+/// | 4 | `canplan: P5 memory` | memory ran out |
+pub fn execute<R: Source, W: Sink, E: Sink>(
+    alloc: Global,
+    words: &[String],
+    r: &mut R,
+    w: &mut W,
+    e: &mut E,
+) -> u8
+    requires reader_unfailed { R.has_failed r.old ≡ false }
+    requires reader_unended { R.has_ended r.old ≡ false }
+    requires writer_unfailed { W.has_failed w.old ≡ false }
+    ensures status { result < 5 }
+
+    // What was written of what was read, by the outcome that the status tells.
+    ensures told { asked_by (texts_of words.now) ≡ Option.Some Asked.Answer
+        → (outcome : Result (Unit {0}) CanplanFault) × (result ≡ exit_status fault_status outcome)
+        × Told R.remaining r.old r.new W.contents w.old w.new (Does outcome) }
+
+    // A stream's failure is told, and nothing else is told so.
+    ensures stream_failed { result ≡ 3 → IsTrue (R.has_failed r.new) ⊎ IsTrue (W.has_failed w.new) }
+    ensures write_told { IsTrue (W.has_failed w.new) → result ≡ 3 }
+    ensures read_told { IsTrue (R.has_failed r.new) → result ≡ 3 }
+
+    // Help is written where the words ask for it, and other words are refused.
+    ensures help_status { asked_by (texts_of words.now) ≡ Option.Some Asked.Help → (result ≡ 0) ⊎ (result ≡ 3) }
+    ensures helped { asked_by (texts_of words.now) ≡ Option.Some Asked.Help → result ≡ 0
+        → Appends (W.contents w.old) (W.contents w.new) HELP.now }
+    ensures refused { asked_by (texts_of words.now) ≡ Option.None → result ≡ 2 }
+    ensures misuse { result ≡ 2 → asked_by (texts_of words.now) ≡ Option.None }
+
+    // Nothing else is read or written.
+    ensures untouched { result ≡ 2 → (r.new ≡ r.old) × (w.new ≡ w.old) }
+    ensures help_reads_nothing { asked_by (texts_of words.now) ≡ Option.Some Asked.Help → r.new ≡ r.old }
+    ensures no_fault_line { result ≡ 0 → e.new ≡ e.old }
+{
+    match read_words(words) {
+        Some(Asked::Answer) => conclude(NAME, answer(alloc, r, w), e),
+        Some(Asked::Help) => conclude(NAME, write_help(HELP, w), e),
+        None => refuse(NAME, WordsFault::Usage, e),
+    }
+}
+
+/// Answers the document that the reader tells.
+fn answer<R: Source, W: Sink>(alloc: Global, r: &mut R, w: &mut W) -> Result<(), CanplanFault>
+    requires reader_unfailed { R.has_failed r.old ≡ false }
+    requires reader_unended { R.has_ended r.old ≡ false }
+    requires writer_unfailed { W.has_failed w.old ≡ false }
+    ensures told { Told R.remaining r.old r.new W.contents w.old w.new (Does result) }
+    ensures stream_failed { exit_status fault_status result ≡ 3 → IsTrue (R.has_failed r.new) ⊎ IsTrue (W.has_failed w.new) }
+    ensures write_told { IsTrue (W.has_failed w.new) → exit_status fault_status result ≡ 3 }
+    ensures read_told { IsTrue (R.has_failed r.new) → exit_status fault_status result ≡ 3 }
+    ensures no_misuse { exit_status fault_status result ≢ 2 }
+{
+    match answer_document(alloc, r, w)? {
+        0 => Ok(()),
+        _ => Err(CanplanFault::DeadlinesMissed),
+    }
+}

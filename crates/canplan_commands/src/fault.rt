@@ -1,0 +1,53 @@
+//! Why `canplan` did not do all that it was asked.
+ghost use Rattle.std.specs.Prelude.{◌≡◌};
+ghost use Rattle.canplan_commands.specs.Status.{fault_of, fault_status};
+ghost use Rattle.canplan_commands.specs.declared.fault.CanplanFault.TheVariants.{Stream};
+
+use can_plan_text::{PlanFault, PlanField};
+use can_program::RunFault;
+use can_stream::TraceFault;
+use thiserror::Error;
+
+/// Why a run did not do all that it was asked.
+#[derive(Clone, Copy, Debug, PartialEq, Eq, Error)]
+pub enum CanplanFault {
+    /// The document is refused for this field.
+    #[error("P2 {0}")]
+    Field(PlanField),
+    /// Not each message is sure to meet its deadline.
+    #[error("deadlines missed")]
+    DeadlinesMissed,
+    /// The input was not read, the answer was not written, or memory ran out.
+    #[error(transparent)]
+    Stream(TraceFault),
+}
+
+impl From<TraceFault> for CanplanFault {
+    ghost from_gives = { λ fault own. own ≡ Stream fault };
+
+    fn from(fault: TraceFault) -> CanplanFault {
+        CanplanFault::Stream(fault)
+    }
+}
+
+impl From<PlanFault> for CanplanFault {
+    ghost from_gives = { λ fault own. own ≡ fault_of fault };
+
+    fn from(fault: PlanFault) -> CanplanFault {
+        match fault {
+            PlanFault::Field(wrong) => CanplanFault::Field(wrong),
+            PlanFault::Memory => CanplanFault::Stream(TraceFault::Memory),
+        }
+    }
+}
+
+impl RunFault for CanplanFault {
+    ghost status_of = { fault_status };
+
+    fn status(&self) -> u8 {
+        match self {
+            CanplanFault::Field(_) | CanplanFault::DeadlinesMissed => 1,
+            CanplanFault::Stream(fault) => fault.status(),
+        }
+    }
+}

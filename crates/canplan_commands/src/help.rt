@@ -1,0 +1,45 @@
+//! The help text.
+
+/// What the program does, its faults and its statuses.
+pub const HELP: &str = "\
+How late the frames of a CAN network can be: proved response time analysis
+
+Usage: canplan [--help]
+
+It reads a network from standard input, a document of TOML, and answers for
+each message how long behind its release a frame ends at most:
+  version = 1
+  rate = 125000        bits a second, up to 1000000; times are microseconds then,
+                       without it bit times
+  [errors]             hits that all ports see; without it there are none
+  burst = 1            so many at once, up to 65535
+  spacing = 80000      and one more in each such time; 0: none
+  [[message]]          1 to 512 of them, each of its own identifier or kind
+  frame = 'S 100 D'    S or E, identifier, D or R, as in a frame text
+  dlc = 8              0 to 15; 8 where it is left out
+  period = 5000        how far apart releases are at least
+  jitter = 100         from release to offer at most; 0 where it is left out
+  deadline = 5000      from release to the end of the frame; the period where
+                       it is left out
+
+The answer is a line for the whole, one for each message in the order of
+arbitration, and one for the whole again, with all times in bit times:
+  network messages 3 load 0.972 rate 0
+  S 100 D 7 longest 125 blocking 124 bound 246 deadline 312 slack 66 ok
+  S 200 D 7 longest 125 blocking 124 bound 371 deadline 437 slack 66 ok
+  S 300 D 7 longest 125 blocking 0 bound 435 deadline 437 slack 2 ok
+  load 0.972 late 0 of 3
+late stands for ok where the bound is above the deadline, or is none. With
+errors a last line tells for how long no port can become error passive:
+  hits at most 15 within 149999
+
+Faults, on standard error as canplan: P3 read:
+  P2 FIELD           the document's first field that isn't as it has to be, as
+                     P2 message[3].period; nothing has been written
+  P3 read, P4 write  standard input could not be read, standard output not be written
+  P5 memory          no memory for the words of the command line or the document
+  deadlines missed   some message is late
+
+Exit status: 0 all done, and each message is ok; 1 P2, or some message is late;
+2 wrong use; 3 P3, P4; 4 P5
+";
