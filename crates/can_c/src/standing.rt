@@ -1,12 +1,11 @@
 ghost use Rattle.std.specs.Prelude.{◌≡◌, ◌≢◌, IfSome};
-ghost use Rattle.can_conform.specs.Standings.{part_of, phase_name, phase_rule, stuffed_rule as stuffed_rule_of};
+ghost use Rattle.can_conform.specs.Standings.{part_of, phase_name};
 ghost use Rattle.can_c.specs.Calls.{port_status};
 ghost use Rattle.can_c.specs.PlainStandings.{part_code as part_code_of, phase_code, phase_place, plain_standing, rule_code as rule_code_of};
 ghost use Rattle.can_c.specs.Statuses.{done, status_code};
 
 use crate::status::Status;
-use can_code::{CheckedBits, Front, Place, rtr_place};
-use can_conform::Rule;
+use can_conform::{Rule, phase_rule};
 use can_handle::Handle;
 use can_mac::{PackedMac, Phase, Role};
 use std::alloc::Global;
@@ -58,7 +57,7 @@ impl PlainStanding {
             phase,
             place,
             sender: part_code(access.role()),
-            rule: rule_code(rule_in(access)),
+            rule: rule_code(phase_rule(access.phase(), access.role())),
         }
     }
 }
@@ -96,42 +95,6 @@ fn part_code(role: &Role) -> u8
     match role {
         Role::Receiver => 0,
         Role::Sender(_) => 1,
-    }
-}
-
-/// The rule that decides in a controller's phase.
-fn rule_in(access: &PackedMac) -> Rule
-    ensures { result ≡ phase_rule access.now.phase access.now.role }
-{
-    match access.phase() {
-        Phase::Joining { .. } => Rule::Joining,
-        Phase::Idle => Rule::StartOfFrame,
-        Phase::StuffedPart(front) => stuffed_rule(front, access.role()),
-        Phase::AckSlot(_) => Rule::Acknowledgement,
-        Phase::CrcDelimiter(_) | Phase::AckDelimiter(_) | Phase::EndOfFrame { .. } => {
-            Rule::FixedForm
-        }
-        Phase::ErrorFlag { .. } | Phase::PassiveFlag { .. } => Rule::ErrorFlags,
-        Phase::OverloadFlag { .. } => Rule::OverloadFlags,
-        Phase::AfterFlag { .. } => Rule::BehindAFlag,
-        Phase::Delimiter { .. } => Rule::Delimiter,
-        Phase::Intermission { .. } => Rule::Intermission,
-        Phase::Suspend { .. } => Rule::SuspendTransmission,
-        Phase::BusOff => Rule::BusOff,
-    }
-}
-
-/// The rule in the stuffed part of a frame.
-fn stuffed_rule(front: &Front<CheckedBits>, role: &Role) -> Rule
-    ensures { result ≡ stuffed_rule_of front.now role.now }
-{
-    match role {
-        Role::Receiver => Rule::StuffPlaces,
-        Role::Sender(_) if front.next_place() == Place::StuffBit => Rule::StuffPlaces,
-        Role::Sender(sending) if front.len() <= rtr_place(sending.frame().is_extended()) => {
-            Rule::Arbitration
-        }
-        Role::Sender(_) => Rule::KeptFrame,
     }
 }
 

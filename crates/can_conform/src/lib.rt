@@ -46,6 +46,6 @@ pub use laws::{one_transcript, one_verdict};
 pub use meeting::{Meeting, counters_of, ending_of, meet, started_node};
 pub use moment::Moment;
 pub use script::{Script, Start, TesterLevel};
-pub use standing::{Part, PhaseName, Rule, Standing};
+pub use standing::{Part, PhaseName, Rule, Standing, phase_rule};
 pub use timed::Timed;
 pub use transcript::{Counters, Ending, Transcript};

@@ -119,8 +119,8 @@ pub(crate) fn part_in(role: &Role) -> Part
     }
 }
 
-/// The rule that decides in a phase.
-pub(crate) fn phase_rule<B: FrameBits>(phase: &Phase<Front<B>>, role: &Role) -> Rule
+/// The rule that decides in a phase, for a controller with this role.
+pub fn phase_rule<B: FrameBits>(phase: &Phase<Front<B>>, role: &Role) -> Rule
     ensures { result ≡ phase_rule_of phase.now role.now }
 {
     match phase {
