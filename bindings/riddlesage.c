@@ -11,6 +11,7 @@
 /* The proved functions. A slice is a pointer, which is not NULL, and its length. */
 uint8_t can_c_idle(struct riddlesage_handle *handle, size_t queue, size_t log);
 uint8_t can_c_joining(struct riddlesage_handle *handle, size_t queue, size_t log);
+uint8_t can_c_copy(struct riddlesage_handle *handle, struct riddlesage_handle *from);
 void can_c_free(struct riddlesage_handle *handle);
 uint8_t can_c_offer(struct riddlesage_handle *handle, const riddlesage_frame *frame);
 uint8_t can_c_hold(struct riddlesage_handle *handle, uint8_t count);
@@ -39,13 +40,21 @@ static riddlesage_status port_at(const riddlesage_port *port)
   return port->self == port ? RIDDLESAGE_OK : RIDDLESAGE_MOVED;
 }
 
+/* Whether a port may be made there. Where none was, the room is made ready. */
+static riddlesage_status room_at(riddlesage_port *port)
+{
+  riddlesage_status status = port_at(port);
+  if (status != RIDDLESAGE_NO_PORT)
+    return status;
+  *port = none;
+  return RIDDLESAGE_OK;
+}
+
 static riddlesage_status make(riddlesage_port *port, size_t queue, size_t log,
                               uint8_t (*made)(struct riddlesage_handle *, size_t, size_t))
 {
-  riddlesage_status status = port_at(port);
-  if (status == RIDDLESAGE_NO_PORT)
-    *port = none;
-  else if (status != RIDDLESAGE_OK)
+  riddlesage_status status = room_at(port);
+  if (status != RIDDLESAGE_OK)
     return status;
   status = (riddlesage_status)made(&port->handle, queue, log);
   if (status == RIDDLESAGE_OK)
@@ -77,6 +86,20 @@ EXPORT riddlesage_status riddlesage_port_idle(riddlesage_port *port, size_t queu
 EXPORT riddlesage_status riddlesage_port_joining(riddlesage_port *port, size_t queue, size_t log)
 {
   return make(port, queue, log, can_c_joining);
+}
+
+EXPORT riddlesage_status riddlesage_port_copy(riddlesage_port *port, riddlesage_port *from)
+{
+  riddlesage_status status = room_at(port);
+  if (status != RIDDLESAGE_OK)
+    return status;
+  status = port_at(from);
+  if (status != RIDDLESAGE_OK || port == from)
+    return status;
+  status = (riddlesage_status)can_c_copy(&port->handle, &from->handle);
+  if (status == RIDDLESAGE_OK)
+    port->self = port;
+  return status;
 }
 
 EXPORT riddlesage_status riddlesage_port_free(riddlesage_port *port)

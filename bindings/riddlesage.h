@@ -35,8 +35,8 @@
  *   over;
  * - calls for one port don't run at the same time. Ports are independent of each other, and belong to no thread.
  *
- * Only riddlesage_port_new(), riddlesage_port_idle(), riddlesage_port_joining(), riddlesage_run() and
- * riddlesage_decode_trace() take memory, by malloc; what these last two take is free when they return.
+ * Only riddlesage_port_new(), riddlesage_port_idle(), riddlesage_port_joining(), riddlesage_port_copy(), riddlesage_run()
+ * and riddlesage_decode_trace() take memory, by malloc; what these last two take is free when they return.
  */
 #ifndef RIDDLESAGE_H
 #define RIDDLESAGE_H
@@ -218,6 +218,15 @@ riddlesage_status riddlesage_port_idle(riddlesage_port *port, size_t queue, size
  * @return OK, NULL_POINTER, MOVED, NO_MEMORY
  */
 riddlesage_status riddlesage_port_joining(riddlesage_port *port, size_t queue, size_t log);
+
+/**
+ * Makes a port that is what another one is, with its queue and its log, and does the same from then on. A port that was
+ * there is freed; without memory it stays. The other port is as before.
+ * @param port where the port is to be; where it is the other one nothing is done
+ * @param from the other port
+ * @return OK, NULL_POINTER, MOVED of either; NO_PORT and NO_MEMORY of the other
+ */
+riddlesage_status riddlesage_port_copy(riddlesage_port *port, riddlesage_port *from);
 
 /**
  * Frees the port; a riddlesage_port of riddlesage_port_new() keeps its room. Where there is no port, this does nothing.

@@ -306,6 +306,19 @@ public:
     return made(riddlesage_port_joining, queue, log);
   }
 
+  /// A port that is what this one is, and does the same from then on; none where there is no memory.
+  [[nodiscard]] std::optional<Port> copy() const noexcept
+  {
+    Place at(riddlesage_port_new());
+    if (at == nullptr)
+      return std::nullopt;
+    const riddlesage_status status = riddlesage_port_copy(at.get(), at_.get());
+    if (status == RIDDLESAGE_NO_MEMORY)
+      return std::nullopt;
+    detail::demand(status);
+    return Port(std::move(at));
+  }
+
   /// Offers a frame, which waits behind those that were offered before. bad_identifier, bad_dlc, queue_full.
   [[nodiscard]] Status offer(const Frame &frame) noexcept
   {

@@ -71,6 +71,8 @@ void standings()
   want(port.phase() == Standing{}, "a port that is idle");
   want(port.offer(some) == Status::ok && !port.sample(Level::dominant), "a start of frame");
   want(port.phase() == Standing{Phase::stuffed, 1, true, Rule::arbitration}, "a sender");
+  auto copy = port.copy();
+  want(copy && copy->phase() == port.phase() && copy->offer(some) == Status::queue_full, "a copy of it");
 }
 
 void refusals()

@@ -242,6 +242,26 @@ static void handles(void)
   WANT(QUEUE_FULL, riddlesage_port_offer(&port, &frame));
   WANT(OK, riddlesage_port_free(&port));
 
+  /* copied over nothing, over itself, from what is none */
+  WANT(OK, riddlesage_port_idle(&port, 1, 1));
+  WANT(OK, riddlesage_port_copy(&zeros, &port));
+  WANT(OK, riddlesage_port_offer(&zeros, &frame));
+  WANT(QUEUE_FULL, riddlesage_port_offer(&zeros, &frame));
+  WANT(OK, riddlesage_port_copy(&zeros, &zeros));
+  WANT(QUEUE_FULL, riddlesage_port_offer(&zeros, &frame));
+  WANT(OK, riddlesage_port_copy(&port, &zeros));
+  WANT(QUEUE_FULL, riddlesage_port_offer(&port, &frame));
+  copy = port;
+  WANT(MOVED, riddlesage_port_copy(&copy, &port));
+  WANT(MOVED, riddlesage_port_copy(&port, &copy));
+  WANT(OK, riddlesage_port_free(&zeros));
+  WANT(NO_PORT, riddlesage_port_copy(&port, &zeros));
+  WANT(NO_PORT, riddlesage_port_copy(&zeros, &zeros));
+  WANT(NULL_POINTER, riddlesage_port_copy(NULL, &port));
+  WANT(NULL_POINTER, riddlesage_port_copy(&port, NULL));
+  WANT(QUEUE_FULL, riddlesage_port_offer(&port, &frame));
+  WANT(OK, riddlesage_port_free(&port));
+
   /* no room at all */
   WANT(OK, riddlesage_port_idle(&port, 0, 0));
   WANT(QUEUE_FULL, riddlesage_port_offer(&port, &frame));

@@ -55,6 +55,23 @@ static bool play(void)
   return riddlesage_port_delete(port) == RIDDLESAGE_OK && well;
 }
 
+/* A port is copied: the same; and where there is no memory, the port that was there stays. */
+static bool play_copy(void)
+{
+  riddlesage_port one = RIDDLESAGE_PORT_INIT, other = RIDDLESAGE_PORT_INIT;
+  bool before, well = true;
+  riddlesage_status status;
+  uint8_t level;
+
+  if (riddlesage_port_idle(&one, 4, 4) == RIDDLESAGE_OK && riddlesage_port_idle(&other, 0, 0) == RIDDLESAGE_OK) {
+    before = refused;
+    status = riddlesage_port_copy(&other, &one);
+    well = status == (refused != before ? RIDDLESAGE_NO_MEMORY : RIDDLESAGE_OK) &&
+           riddlesage_port_drive(&other, &level) == RIDDLESAGE_OK;
+  }
+  return riddlesage_port_free(&one) == RIDDLESAGE_OK && riddlesage_port_free(&other) == RIDDLESAGE_OK && well;
+}
+
 /* A scenario is run and a trace decoded: the same. */
 static bool play_texts(void)
 {
@@ -77,7 +94,7 @@ int main(void)
   do {
     refused = false;
     given = number++;
-    if (!play() || !play_texts()) {
+    if (!play() || !play_copy() || !play_texts()) {
       printf("allocation %d is refused, and not told so\n", number);
       return EXIT_FAILURE;
     }

@@ -1,6 +1,6 @@
 /*
- * Plays rows.txt through the C library, bit time by bit time (`rows step FILE`) or each list of levels in one call
- * (`rows run FILE`). Prints each line that does not hold, and at the end how many hold: `214 of 214 lines hold`.
+ * Plays rows.txt through the C library, bit time by bit time (`rows step FILE`), each on a copy of the port, or each list
+ * of levels in one call (`rows run FILE`). Prints each line that does not hold, and at the end how many hold: `214 of 214 lines hold`.
  */
 #include "../examples/frame_text.h"
 #include "riddlesage.h"
@@ -53,6 +53,16 @@ static void take_frames_from_log(struct row *row, unsigned from, size_t entry)
       riddlesage_port_entry(&row->port, entry++, &row->frames[time], &sent);
 }
 
+/* The port goes on as a copy of itself. */
+static bool copy(struct row *row)
+{
+  riddlesage_port other = RIDDLESAGE_PORT_INIT;
+  bool copied = riddlesage_port_copy(&other, &row->port) == RIDDLESAGE_OK &&
+                riddlesage_port_copy(&row->port, &other) == RIDDLESAGE_OK;
+
+  return riddlesage_port_free(&other) == RIDDLESAGE_OK && copied;
+}
+
 static bool see(struct row *row, const char *text)
 {
   uint8_t levels[MOST_TIMES];
@@ -72,6 +82,8 @@ static bool see(struct row *row, const char *text)
   }
   for (place = 0; place < count; place++) {
     unsigned time = from + (unsigned)place;
+    if (!copy(row))
+      return false;
     if (riddlesage_port_drive(&row->port, &row->drives[time]) != RIDDLESAGE_OK ||
         riddlesage_port_sample(&row->port, levels[place], &row->events[time], &row->frames[time]) != RIDDLESAGE_OK)
       return false;

@@ -85,6 +85,7 @@ class Row:
                 self.told.append((now + time, Told(event, frame)))
             return
         for time, level in enumerate(levels, now):
+            self.port = self.port.copy()
             self.drove.append(self.port.drive())
             told = self.port.sample(level)
             if told:
@@ -310,6 +311,7 @@ class Refusals(unittest.TestCase):
             self.assertEqual(port.state, State.ERROR_ACTIVE)
         port.close()
         self.refused(Status.NO_PORT, port.drive)
+        self.refused(Status.NO_PORT, port.copy)
         for call, word in ((port.sample, 1), (port.run, b"\x01"), (port.offer, Frame(0)), (port.hold, 0)):
             self.refused(Status.NO_PORT, call, word)
         for name in ("counters", "state", "phase", "log", "missed"):

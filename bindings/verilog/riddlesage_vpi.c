@@ -3,6 +3,7 @@
  *
  *   port = $riddlesage_port(waiting, joins);     a new port, a number from 0 on
  *   $riddlesage_reset(port, waiting, joins);     a new port in its place: so many frames may wait; idle, or joining
+ *   $riddlesage_copy(port, from);                what another port is, in place of this one
  *   $riddlesage_offer(port, frame);              a frame of 99 bits: extended, remote, identifier, DLC, data
  *   $riddlesage_hold(port, count);               overload frames of its own, 0 to 2
  *   level = $riddlesage_drive(port);
@@ -149,6 +150,18 @@ static PLI_INT32 call_reset(PLI_BYTE8 *data)
 
   (void)data;
   make(port, &of);
+  done(&of);
+  return 0;
+}
+
+static PLI_INT32 call_copy(PLI_BYTE8 *data)
+{
+  struct arguments of = arguments();
+  int port = port_of(&of), from = port_of(&of);
+
+  (void)data;
+  demand(riddlesage_port_copy(&ports[port], &ports[from]));
+  frames[port] = frames[from];
   done(&of);
   return 0;
 }
@@ -345,6 +358,7 @@ static void announce_all(void)
 {
   announce("$riddlesage_port", call_port, vpiIntFunc, NULL);
   announce("$riddlesage_reset", call_reset, 0, NULL);
+  announce("$riddlesage_copy", call_copy, 0, NULL);
   announce("$riddlesage_offer", call_offer, 0, NULL);
   announce("$riddlesage_hold", call_hold, 0, NULL);
   announce("$riddlesage_drive", call_drive, vpiIntFunc, NULL);

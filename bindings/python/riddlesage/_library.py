@@ -81,6 +81,7 @@ _SIZE = ctypes.POINTER(ctypes.c_size_t)
 _PARAMETERS = {
     "riddlesage_port_idle": (_PORT, ctypes.c_size_t, ctypes.c_size_t),
     "riddlesage_port_joining": (_PORT, ctypes.c_size_t, ctypes.c_size_t),
+    "riddlesage_port_copy": (_PORT, _PORT),
     "riddlesage_port_free": (_PORT,),
     "riddlesage_port_offer": (_PORT, _FRAME),
     "riddlesage_port_hold": (_PORT, ctypes.c_uint8),

@@ -136,8 +136,8 @@ class Run(NamedTuple):
 class Port:
     """A controller with a queue of frames to send and a log of the frames that were on the bus.
 
-    Threads may share a port: each call waits until that of another thread has ended. A port is neither copied nor
-    pickled.
+    Threads may share a port: each call waits until that of another thread has ended. A port is copied by `copy` alone,
+    and not pickled.
     """
 
     def __init__(self, queue: int = 16, log: int = 64, *, joining: bool = False) -> None:
@@ -162,6 +162,16 @@ class Port:
             raise MemoryError
         demand(status)
 
+    def copy(self) -> Port:
+        """Makes a port that is what this one is, and does the same from then on."""
+        port = Port(0, 0)
+        with self._lock:
+            status = lib.riddlesage_port_copy(port._port, self._port)
+        if status == Status.NO_MEMORY:
+            raise MemoryError
+        demand(status)
+        return port
+
     def close(self) -> None:
         """Frees the port. Further calls are refused, but for this one."""
         with self._lock:
@@ -184,7 +194,7 @@ class Port:
 
     def __reduce__(self) -> NoReturn:
         """A port stays where it was made."""
-        raise TypeError("a port is neither copied nor pickled")
+        raise TypeError("a port is copied by its method copy, and not pickled")
 
     def offer(self, frame: Frame) -> None:
         """Offers a frame, which waits behind those that were offered before."""

@@ -294,6 +294,20 @@ impl Port {
         Ok(port)
     }
 
+    /// A port that is what this one is, and does the same from then on.
+    ///
+    /// # Errors
+    ///
+    /// [`Refused::NoMemory`].
+    pub fn copy(&self) -> Result<Self, Refused> {
+        // SAFETY: this needs nothing
+        let at = NonNull::new(unsafe { sys::riddlesage_port_new() }).ok_or(Refused::NoMemory)?;
+        let port = Self { at };
+        // SAFETY: both ports are in their places; this one stays as it is
+        Refused::of(unsafe { sys::riddlesage_port_copy(port.at.as_ptr(), self.at.as_ptr()) })?;
+        Ok(port)
+    }
+
     /// For calls that are refused nothing, as the port is live.
     fn sure(status: sys::Status) {
         assert_eq!(status, sys::OK, "a port that is live is refused");

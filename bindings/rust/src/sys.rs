@@ -67,6 +67,7 @@ extern "C" {
     pub fn riddlesage_port_delete(port: *mut Port) -> Status;
     pub fn riddlesage_port_idle(port: *mut Port, queue: usize, log: usize) -> Status;
     pub fn riddlesage_port_joining(port: *mut Port, queue: usize, log: usize) -> Status;
+    pub fn riddlesage_port_copy(port: *mut Port, from: *mut Port) -> Status;
     pub fn riddlesage_port_offer(port: *mut Port, frame: *const Frame) -> Status;
     pub fn riddlesage_port_hold(port: *mut Port, count: u8) -> Status;
     pub fn riddlesage_port_drive(port: *mut Port, level: *mut u8) -> Status;

@@ -93,6 +93,9 @@ fn where_a_port_stands() {
     sender.offer(&frame()).expect("room for a frame");
     sender.sample(Level::Dominant);
     assert_eq!(sender.phase(), Standing { phase: Phase::Stuffed(1), sender: true, rule: Rule::Arbitration });
+    let mut copy = sender.copy().expect("memory");
+    assert_eq!(copy.phase(), sender.phase());
+    assert_eq!(copy.offer(&frame()), Err(Refused::QueueFull));
 }
 
 #[test]

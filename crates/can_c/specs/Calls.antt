@@ -5,7 +5,7 @@ use Rattle.can_wire.specs.Wire.{driven}
 use Rattle.can_node.specs.Ports.{PortState}
 use Rattle.can_c.specs.declared.plain.PlainFrame.{PlainFrame}
 use Rattle.can_c.specs.declared.status.Status.{Status}
-use Rattle.can_c.specs.declared.status.Status.TheVariants.{Done, NoPort, QueueFull, NoEntry, BadLevel, BadCount, NoLevels, NoRoom}
+use Rattle.can_c.specs.declared.status.Status.TheVariants.{Done, NoPort, NoMemory, QueueFull, NoEntry, BadLevel, BadCount, NoLevels, NoRoom}
 use Rattle.can_frame.specs.Levels.{are_level_codes, is_level_code}
 use Rattle.can_c.specs.PlainFrames.{frame_in, refusal}
 
@@ -13,6 +13,11 @@ use Rattle.can_c.specs.PlainFrames.{frame_in, refusal}
 abbrev pub port_status : Option PortState → Status
 port_status None = NoPort
 port_status (Some p) = Done
+
+-- why there is no copy of a port
+abbrev pub copy_refusal : Option PortState → Status
+copy_refusal None = NoPort
+copy_refusal (Some p) = NoMemory
 
 -- a frame that is offered
 abbrev pub offer_status : Option PortState → PlainFrame → Status

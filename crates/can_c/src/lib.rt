@@ -31,7 +31,7 @@ mod told;
 pub use bit_times::{can_c_drive, can_c_run, can_c_sample};
 pub use coding::{can_c_decode, can_c_encode};
 pub use plain::{PlainFrame, PlainHeard};
-pub use ports::{can_c_free, can_c_hold, can_c_idle, can_c_joining, can_c_offer};
+pub use ports::{can_c_copy, can_c_free, can_c_hold, can_c_idle, can_c_joining, can_c_offer};
 pub use standing::{PlainStanding, can_c_phase};
 pub use status::Status;
 pub use told::{can_c_counters, can_c_entry, can_c_log_length, can_c_missed, can_c_state};

@@ -1,7 +1,7 @@
 ghost use Rattle.std.specs.Prelude.{◌≡◌, ◌≢◌, None, Some, option_map};
 ghost use Rattle.can_mac.specs.State.{idle, joining};
 ghost use Rattle.can_node.specs.Ports.{fresh_port, port_offered, port_holding};
-ghost use Rattle.can_c.specs.Calls.{hold_status, offer_status};
+ghost use Rattle.can_c.specs.Calls.{copy_refusal, hold_status, offer_status};
 ghost use Rattle.can_c.specs.PlainFrames.{frame_in};
 ghost use Rattle.can_c.specs.Statuses.{done, status_code};
 
@@ -35,6 +35,38 @@ pub extern "C" fn can_c_joining(alloc: Global, handle: &mut Handle, queue: usize
         return Status::NoMemory.code();
     };
     put(alloc, handle, port)
+}
+
+/// Makes a port that is what another one is, its queue and its log too, and frees the one that the handle held.
+/// Without memory for it nothing changes.
+#[unsafe(no_mangle)]
+pub extern "C" fn can_c_copy(alloc: Global, handle: &mut Handle, from: &mut Handle) -> u8
+    ensures answers { result ≢ done → result ≡ status_code (copy_refusal from.old.held) }
+    ensures none { from.old.held ≡ None → result ≡ status_code Status.NoPort }
+    ensures copied { result ≡ done → handle.new.held ≡ from.old.held }
+    ensures unchanged { result ≢ done → handle.new.held ≡ handle.old.held }
+    ensures kept { from.new.held ≡ from.old.held }
+{
+    match from.take(alloc) {
+        None => Status::NoPort.code(),
+        Some(port) => {
+            let status = put_copy(alloc, handle, &port);
+            from.put(alloc, port);
+            status
+        }
+    }
+}
+
+/// Puts a copy of a port on the heap and into the handle, if there is memory for it.
+fn put_copy(alloc: Global, handle: &mut Handle, port: &Controller) -> u8
+    ensures answers { result ≢ done → result ≡ status_code Status.NoMemory }
+    ensures made { result ≡ done → handle.new.held ≡ Some port.now }
+    ensures unchanged { result ≢ done → handle.new.held ≡ handle.old.held }
+{
+    let Ok(copy) = port.copied(alloc) else {
+        return Status::NoMemory.code();
+    };
+    put(alloc, handle, copy)
 }
 
 /// Puts a port on the heap and into the handle, if there is memory for it.

@@ -1,4 +1,4 @@
-ghost use Rattle.std.specs.Prelude.{◌≡◌, ◌≢◌, ◌<◌, ◌≤◌, ◌↔◌, length, take, IsTrue, IsErr, OnOk, OnErr};
+ghost use Rattle.std.specs.Prelude.{◌≡◌, ◌≢◌, ◌<◌, ◌≤◌, ◌↔◌, ◌∷◌, [], length, take, IsTrue, IsErr, OnOk, OnErr};
 ghost use Rattle.can_wire.specs.Crc.{IsCrc};
 ghost use Rattle.can_wire.specs.Layout.{check_of, extended_of, frame_of, head_of, heard_of};
 ghost use Rattle.can_code.specs.Digits.{HearsDigits};
@@ -180,6 +180,17 @@ impl<B: FrameBits> Front<B> {
         }
     }
 
+    /// The same once more.
+    pub fn copied(&self) -> Self
+        ensures { result ≡ self.now }
+    {
+        Front {
+            bits: levels_copied(&self.bits),
+            run: self.run,
+            length: self.length,
+        }
+    }
+
     /// How many unstuffed levels have been heard.
     pub fn len(&self) -> usize
         ensures { result ≡ length self.now.unstuffed }
@@ -226,4 +237,17 @@ impl<B: FrameBits> Front<B> {
     {
         heard(&self.bits, acked, last)
     }
+}
+
+/// The same unstuffed levels once more.
+fn levels_copied<B: FrameBits>(bits: &B) -> B
+    requires start { take 1 (B.levels bits.now) ≡ Level.Dominant ∷ [] }
+    requires longest { length (B.levels bits.now) ≤ 118 }
+    ensures { B.levels result ≡ B.levels bits.now }
+{
+    let mut copy = B::start();
+    for place in 1..bits.len() {
+        copy.push(bits.level_at(place));
+    }
+    copy
 }

@@ -47,6 +47,16 @@ impl Controller {
         })
     }
 
+    /// The same port once more, with memory of its own. It fails only where an allocation does, and then keeps
+    /// nothing.
+    pub fn copied(&self, alloc: Global) -> Result<Controller, AllocError>
+        ensures { IfOk result (λ c. c ≡ self.now) }
+    {
+        Ok(Controller {
+            node: self.node.copied(alloc)?,
+        })
+    }
+
     /// The medium access of its controller.
     pub fn access(&self) -> &PackedMac
         ensures { result.now ≡ self.now.mac }

@@ -11,6 +11,7 @@
 //! | `event.rt` | [`Event`], what a bit time brings, [`ErrorKind`] | |
 //! | `phase.rt` | [`Phase`], [`Role`], [`Overloads`], the parts of a controller's state | `specs/State.antt` |
 //! | `machine.rt` | [`MediumAccess`], a controller, bit by bit | `specs/Machine.antt` |
+//! | `copying.rt` | a controller once more | |
 //! | `driving.rt` | what it drives of a frame | `specs/Machine.antt` |
 //! | `moves.rt` | what a level makes of a phase | `specs/Moves.antt` |
 //! | `moves/shortcuts.rt` | the quick ways of most levels, in the order in which they are asked | `specs/Moves.antt` |
@@ -32,6 +33,7 @@
 //! definitions on levels whose outcome is known: docs/ACCESS.md leads from each rule to its rows.
 #![tactic(auto)]
 
+mod copying;
 mod driving;
 mod event;
 mod laws;

@@ -7,6 +7,7 @@ ghost use Rattle.can_mac.specs.State.{idle as idle_state, IsMac, IsPhase, IsFram
 ghost use Rattle.can_mac.specs.Moves.{move, move_keeping};
 ghost use Rattle.can_mac.specs.Machine.{holding, IsSilent, mac_drives, mac_step, off_step, on_step, stance as stance_of, step_counting};
 
+use crate::copying::phase_copied;
 use crate::driving::{level_of_part, level_of_slot};
 use crate::event::Event;
 use crate::moves::shortcuts::{goes_on, goes_on_recessive, move_in_place};
@@ -76,6 +77,18 @@ impl<B: FrameBits> MediumAccess<B> {
                 used: 0,
             },
             confine: Confine::new(),
+        }
+    }
+
+    /// The same controller once more.
+    pub fn copied(&self) -> Self
+        ensures { result ≡ self.now }
+    {
+        MediumAccess {
+            phase: phase_copied(&self.phase),
+            role: self.role,
+            overloads: self.overloads,
+            confine: self.confine,
         }
     }
 

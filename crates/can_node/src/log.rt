@@ -33,6 +33,21 @@ impl Log {
         })
     }
 
+    /// The same log once more, with memory of its own.
+    pub fn copied(&self, alloc: Global) -> Result<Log, AllocError>
+        ensures entries { IfOk result (λ l. l.entries.items ≡ self.now.entries.items) }
+        ensures room { IfOk result (λ l. l.room ≡ self.now.room) }
+        ensures missed { IfOk result (λ l. l.missed ≡ self.now.missed) }
+    {
+        let mut entries = Vec::with_capacity(alloc, self.room)?;
+        entries.extend_from_slice(&self.entries)?;
+        Ok(Log {
+            entries,
+            room: self.room,
+            missed: self.missed,
+        })
+    }
+
     /// The entries, the oldest first.
     pub fn entries(&self) -> &[Entry]
         ensures { result.now ≡ self.now.entries.items }

@@ -49,6 +49,18 @@ impl<B: FrameBits> Node<B> {
         Node::starting(MediumAccess::joining(), alloc, queue, log)
     }
 
+    /// The same port once more, with memory of its own. It fails only where an allocation does, and then keeps
+    /// nothing.
+    pub fn copied(&self, alloc: Global) -> Result<Self, AllocError>
+        ensures { IfOk result (λ n. ⟦<Node<B> as Port>⟧.port n ≡ ⟦<Node<B> as Port>⟧.port self.now) }
+    {
+        Ok(Node {
+            mac: self.mac.copied(),
+            queue: self.queue.copied(alloc)?,
+            log: self.log.copied(alloc)?,
+        })
+    }
+
     /// A port with this controller, before anything was offered to it.
     fn starting(
         mac: MediumAccess<B>,

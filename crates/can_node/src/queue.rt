@@ -56,6 +56,22 @@ impl Queue {
         })
     }
 
+    /// The same queue once more, with memory of its own.
+    pub fn copied(&self, alloc: Global) -> Result<Queue, AllocError>
+        ensures frames { IfOk result (λ q. frames_in q.slots.items ≡ frames_in self.now.slots.items) }
+        ensures room { IfOk result (λ q. q.room ≡ self.now.room) }
+    {
+        let mut slots = Vec::with_capacity(alloc, 2 * self.room)?;
+        slots.extend_from_slice(&self.slots)?;
+        Ok(Queue {
+            slots,
+            winners: self.winners.copied(alloc, 2 * self.room)?,
+            first: self.first,
+            count: self.count,
+            room: self.room,
+        })
+    }
+
     /// The frame that goes first.
     pub fn waiting(&self) -> Option<&Frame>
         ensures { option_copied result ≡ waiting (frames_in self.now.slots.items) }

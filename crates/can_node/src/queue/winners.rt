@@ -29,6 +29,16 @@ impl Winners {
         })
     }
 
+    /// The same tournament once more, with memory for so many slots.
+    pub fn copied(&self, alloc: Global, room: usize) -> Result<Winners, AllocError>
+        ensures same { IfOk result (λ w. w.entrants.items ≡ self.now.entrants.items) }
+        ensures room { IfOk result (λ w. room ≤ vec_capacity w.entrants) }
+    {
+        let mut entrants = Vec::with_capacity(alloc, room)?;
+        entrants.extend_from_slice(&self.entrants)?;
+        Ok(Winners { entrants })
+    }
+
     /// For how many slots there are nodes.
     pub fn width(&self) -> usize
         ensures { result ≡ length self.now.entrants.items }
