@@ -9,8 +9,8 @@ ghost use Rattle.can_c.specs.Statuses.{done, status_code};
 use crate::codes::event_code;
 use crate::plain::PlainFrame;
 use crate::status::Status;
+use can_c_handle::{Controller, Handle};
 use can_frame::Level;
-use can_handle::{Controller, Handle};
 use can_mac::Event;
 use std::alloc::Global;
 

@@ -7,7 +7,7 @@ ghost use Rattle.can_c.specs.Statuses.{done, status_code};
 
 use crate::plain::PlainFrame;
 use crate::status::Status;
-use can_handle::{Controller, Handle};
+use can_c_handle::{Controller, Handle};
 use std::alloc::Global;
 
 /// Makes a port that is on the bus and idle, with room for so many frames that wait and so many entries of the

@@ -5,8 +5,8 @@ ghost use Rattle.can_c.specs.PlainStandings.{part_code as part_code_of, phase_co
 ghost use Rattle.can_c.specs.Statuses.{done, status_code};
 
 use crate::status::Status;
+use can_c_handle::Handle;
 use can_conform::{Rule, phase_rule};
-use can_handle::Handle;
 use can_mac::{PackedMac, Phase, Role};
 use std::alloc::Global;
 

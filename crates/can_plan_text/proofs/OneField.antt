@@ -1,8 +1,8 @@
 -- Bytes say a network, or have one field that is told.
 use Rattle.std.proofs.Common.{◌≡◌, ℕ, List, sym, ◌∙◌, subst, inl, inr}
-use Rattle.can_toml.specs.Demands.{IsFirstUnmet}
-use Rattle.can_toml.proofs.DemandLemmas.{met-unmet, one-unmet}
-use Rattle.can_toml.proofs.OneReading.{one-document}
+use Rattle.document_values.specs.Demands.{IsFirstUnmet}
+use Rattle.document_values.proofs.DemandLemmas.{met-unmet, one-unmet}
+use Rattle.document_values.proofs.OneReading.{one-document}
 use Rattle.can_plan_text.specs.declared.field.PlanField.{PlanField}
 use Rattle.can_plan_text.specs.declared.plan.Plan.{Plan}
 use Rattle.can_plan_text.specs.Plans.{IsPlanText, IsWrongPlanField, plan_demands}

@@ -6,9 +6,9 @@ use Rattle.toml.specs.Data.{Data, string}
 use Rattle.can_frame.specs.Arbitration.{arbitration_field}
 use Rattle.can_frame.specs.Parts.{Parts}
 use Rattle.can_frame.proofs.OneText.{same_frame}
-use Rattle.can_toml.specs.Demands.{Demands, demands_on_each, AllMet, IsFirstUnmet}
-use Rattle.can_toml.specs.Values.{named, ArePaired, IsRequired}
-use Rattle.can_toml.proofs.DemandLemmas.{met-followed, unmet-first, unmet-later}
+use Rattle.document_values.specs.Demands.{Demands, demands_on_each, AllMet, IsFirstUnmet}
+use Rattle.document_values.specs.Values.{named, ArePaired, IsRequired}
+use Rattle.document_values.proofs.DemandLemmas.{met-followed, unmet-first, unmet-later}
 use Rattle.can_plan_text.specs.declared.field.PlanField.{PlanField}
 use Rattle.can_plan_text.specs.declared.plan.Planned.{Planned}
 use Rattle.can_plan_text.specs.Order.{AreApart, IsRepeated}

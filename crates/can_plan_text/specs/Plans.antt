@@ -11,9 +11,9 @@ use Rattle.can_plan.specs.declared.message.HitRate.{HitRate}
 use Rattle.can_plan.specs.declared.message.Message.{Message}
 use Rattle.can_plan.specs.FramesOf.{IsFrameOf, longest_with}
 use Rattle.can_plan.specs.Messages.{IsMessageSet}
-use Rattle.can_toml.specs.Demands.{Demands, no_demands, demand, followed, demands_on_each, AllMet}
-use Rattle.can_toml.specs.Refusals.{IsWrongField}
-use Rattle.can_toml.specs.Values.{are_known, elements, elements_in, members_in, named, ArePaired, IsArray, IsDocument, IsNumber, IsOptional, IsRequired, IsTable, IsUpTo, SaysNumber}
+use Rattle.document_values.specs.Demands.{Demands, no_demands, demand, followed, demands_on_each, AllMet}
+use Rattle.document_values.specs.Refusals.{IsWrongField}
+use Rattle.document_values.specs.Values.{are_known, elements, elements_in, members_in, named, ArePaired, IsArray, IsDocument, IsNumber, IsOptional, IsRequired, IsTable, IsUpTo, SaysNumber}
 use Rattle.can_plan_text.specs.declared.field.PlanField.{PlanField}
 use Rattle.can_plan_text.specs.declared.field.PlanField.TheVariants as field
 use Rattle.can_plan_text.specs.declared.field.MessageField.TheVariants as of_message

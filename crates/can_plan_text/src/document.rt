@@ -3,16 +3,16 @@ ghost use Rattle.std.specs.Prelude.{◌≡◌, ◌≤◌, length, map, codes, If
 ghost use Rattle.toml.specs.Data.{table};
 ghost use Rattle.toml.specs.View.{view, table_view};
 ghost use Rattle.can_plan_text.specs.declared.field.PlanField.{PlanField as Wrong};
-ghost use Rattle.can_toml.specs.Demands.{AllMet, IsFirstUnmet};
-ghost use Rattle.can_toml.specs.Refusals.{IsNoDocument};
-ghost use Rattle.can_toml.specs.Values.{named, IsDocument, IsNumber, IsOptional, IsRequired, SaysNumber};
+ghost use Rattle.document_values.specs.Demands.{AllMet, IsFirstUnmet};
+ghost use Rattle.document_values.specs.Refusals.{IsNoDocument};
+ghost use Rattle.document_values.specs.Values.{named, IsDocument, IsNumber, IsOptional, IsRequired, SaysNumber};
 ghost use Rattle.can_plan_text.specs.Plans.{errors_demands, messages_in, most_rate, most_time, rate_demands, rate_in, table_demands, top_demands, IsMessageArray, IsSpacing, SaysErrors, SaysHitRate, SaysSpacing};
 
 use crate::fault::PlanFault;
 use crate::field::PlanField;
 use crate::times::bits_down;
 use can_plan::HitRate;
-use can_toml::{
+use document_values::{
     DocumentFault, elements_of, field, fields_of, has_only, number, number_or, read_document,
 };
 use std::alloc::Global;

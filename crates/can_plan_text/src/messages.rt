@@ -4,8 +4,8 @@ ghost use Rattle.toml.specs.Data.{table};
 ghost use Rattle.toml.specs.View.{view, table_view};
 ghost use Rattle.can_frame.specs.Parts.{Parts};
 ghost use Rattle.can_plan_text.specs.declared.field.PlanField.{PlanField as Wrong};
-ghost use Rattle.can_toml.specs.Demands.{demands_on_each, AllMet, IsFirstUnmet};
-ghost use Rattle.can_toml.specs.Values.{named, ArePaired, IsNumber, IsRequired, IsUpTo};
+ghost use Rattle.document_values.specs.Demands.{demands_on_each, AllMet, IsFirstUnmet};
+ghost use Rattle.document_values.specs.Values.{named, ArePaired, IsNumber, IsRequired, IsUpTo};
 ghost use Rattle.can_plan_text.specs.Times.{bits_down as bits_within};
 ghost use Rattle.can_plan_text.specs.Plans.{fields_demands, message_demands, IsHead, IsHeadText, IsPeriod, IsPlanned, NamesHead, SaysFields, SaysMessage};
 
@@ -17,7 +17,7 @@ use crate::times::{bits_down, bits_up};
 use arrayvec::ArrayVec;
 use can_frame::Frame;
 use can_plan::{Message, longest_busy};
-use can_toml::{field, fields_of, has_only, number, number_or};
+use document_values::{field, fields_of, has_only, number, number_or};
 use std::alloc::Global;
 use toml::{Table, Value};
 

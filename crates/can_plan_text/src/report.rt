@@ -5,8 +5,8 @@ ghost use Rattle.can_plan_text.specs.Report.{borne_line, bound_text, first_line,
 
 use crate::plan::Planned;
 use crate::verdict::{Analysis, Verdict};
-use can_kit_text::{push_number, push_text};
 use can_plan::Borne;
+use kit_words::{push_number, push_text};
 use std::alloc::AllocError;
 
 /// How many billionths a whole has.

@@ -14,10 +14,10 @@ use Rattle.can_stream.specs.declared.field.Field.{Field}
 use Rattle.can_stream.specs.declared.field.Field.TheVariants as field
 use Rattle.can_stream.specs.declared.field.HitList.{HitList}
 use Rattle.can_stream.specs.declared.field.HitList.TheVariants.{At, In, View}
-use Rattle.can_toml.specs.Demands.{AllMet, IsFirstUnmet}
-use Rattle.can_toml.specs.Values.{ArePaired, IsArray, IsOptional, elements_in, named}
+use Rattle.document_values.specs.Demands.{AllMet, IsFirstUnmet}
+use Rattle.document_values.specs.Values.{ArePaired, IsArray, IsOptional, elements_in, named}
 use Rattle.can_scenario_text.specs.Scenarios.{AddsHits, IsSoundHit, SaysHit, SaysHits, hit_demands, hit_in, list_demands, list_name}
-use Rattle.can_toml.proofs.DemandLemmas.{elements-view}
+use Rattle.document_values.proofs.DemandLemmas.{elements-view}
 
 -- ---- the elements of a list
 

@@ -12,11 +12,11 @@ use Rattle.can_scenario_text.specs.declared.scenario.version.Version.TheVariants
 use Rattle.can_stream.specs.declared.field.Field.{Field}
 use Rattle.can_stream.specs.declared.field.HitList.{HitList}
 use Rattle.can_stream.specs.declared.field.HitList.TheVariants.{At, In, View}
-use Rattle.can_toml.specs.Demands.{IsFirstUnmet}
-use Rattle.can_toml.specs.Values.{SaysFrame, elements_in, named}
+use Rattle.document_values.specs.Demands.{IsFirstUnmet}
+use Rattle.document_values.specs.Values.{SaysFrame, elements_in, named}
 use Rattle.can_scenario_text.specs.Scenarios.{SaysTimedFrame, SaysQueueElement, version_of, SaysHit, SaysPort, SaysHits, SaysScenario, IsScenarioText, IsWrongScenarioField, AreSamePorts, AreSame, ports_in, scenario_demands}
-use Rattle.can_toml.proofs.DemandLemmas.{met-unmet, one-unmet}
-use Rattle.can_toml.proofs.OneReading.{one-document, required-number, said-number, said-whether, said-frame, paired-each, one-list}
+use Rattle.document_values.proofs.DemandLemmas.{met-unmet, one-unmet}
+use Rattle.document_values.proofs.OneReading.{one-document, required-number, said-number, said-whether, said-frame, paired-each, one-list}
 
 -- ---- values
 

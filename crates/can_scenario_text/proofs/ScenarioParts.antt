@@ -6,10 +6,10 @@ use Rattle.can_scenario_text.specs.declared.scenario.PortPlan.{PortPlan}
 use Rattle.can_scenario_text.specs.declared.scenario.TimedFrame.{TimedFrame}
 use Rattle.can_scenario_text.specs.declared.scenario.version.Version.{Version}
 use Rattle.can_stream.specs.declared.field.Field.{Field}
-use Rattle.can_toml.specs.Demands.{AllMet, IsFirstUnmet}
-use Rattle.can_toml.specs.Values.{IsRequired, ArePaired, are_known, elements_in, named, SaysNumber, SaysWhether}
+use Rattle.document_values.specs.Demands.{AllMet, IsFirstUnmet}
+use Rattle.document_values.specs.Values.{IsRequired, ArePaired, are_known, elements_in, named, SaysNumber, SaysWhether}
 use Rattle.can_scenario_text.specs.Scenarios.{IsPortArray, port_demands, port_fields, ports_demands, ports_in, queue_demands, room_demands, hits_demands, scenario_demands, top_demands, usual_log_room, version_of, SaysPort, SaysQueueElement}
-use Rattle.can_toml.proofs.DemandLemmas.{met-followed, unmet-first, unmet-later}
+use Rattle.document_values.proofs.DemandLemmas.{met-followed, unmet-first, unmet-later}
 
 -- ---- a port
 

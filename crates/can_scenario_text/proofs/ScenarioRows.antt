@@ -8,8 +8,8 @@ use Rattle.toml.specs.Parse.{parse_document}
 use Rattle.can_stream.proofs.KnownFrame.{frame_001, frame_001-whole, text_001}
 use Rattle.can_stream.specs.declared.field.Field.TheVariants as field
 use Rattle.can_stream.specs.declared.field.PortField.TheVariants as of_port
-use Rattle.can_toml.specs.Demands.{AllMet, IsFirstUnmet}
-use Rattle.can_toml.specs.Values.{IsDocument, members_in}
+use Rattle.document_values.specs.Demands.{AllMet, IsFirstUnmet}
+use Rattle.document_values.specs.Values.{IsDocument, members_in}
 use Rattle.can_scenario_text.specs.Scenarios.{IsWrongScenarioField, IsTimedFrameValue, scenario_demands}
 
 -- a document of one port

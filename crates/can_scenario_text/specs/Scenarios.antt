@@ -2,9 +2,9 @@
 -- (docs/FORMATS.md, "`canbit run`")
 use Rattle.std.specs.Prelude.{◌≡◌, ◌⊎◌, ℕ, ◌+◌, ◌==◌, ◌≤◌, pos, true, if◌then◌else◌, List, [], ◌∷◌, ◌++◌, length, Option, Some, None, IsSome, unwrap_or, codes}
 use Rattle.toml.specs.Data.{Data, integer, array, no_items, item}
-use Rattle.can_toml.specs.Demands.{Demands, no_demands, demand, followed, demands_on_each, AllMet}
-use Rattle.can_toml.specs.Refusals.{IsWrongField}
-use Rattle.can_toml.specs.Values.{are_known, elements, elements_in, members_in, named, two, ArePaired, IsArray, IsDocument, IsFrameValue, IsNumber, IsOptional, IsRequired, IsTable, IsTruthValue, IsUpTo, SaysFrame, SaysNumber, SaysWhether}
+use Rattle.document_values.specs.Demands.{Demands, no_demands, demand, followed, demands_on_each, AllMet}
+use Rattle.document_values.specs.Refusals.{IsWrongField}
+use Rattle.document_values.specs.Values.{are_known, elements, elements_in, members_in, named, two, ArePaired, IsArray, IsDocument, IsFrameValue, IsNumber, IsOptional, IsRequired, IsTable, IsTruthValue, IsUpTo, SaysFrame, SaysNumber, SaysWhether}
 use Rattle.can_hit.specs.declared.hit.Hit.{Hit}
 use Rattle.can_hit.specs.declared.hit.Hit.TheVariants as hit
 use Rattle.can_hit.specs.Hits.{is_above, hit_names_port}

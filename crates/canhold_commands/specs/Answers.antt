@@ -2,15 +2,15 @@
 -- "What is expected", "What is judged")
 use Rattle.std.specs.Prelude.{ℕ, ◌≡◌, ◌⊎◌, ◌==◌, if◌then◌else◌, List, [], ◌++◌, Result, Ok, Err}
 use Rattle.toml.specs.Data.{Data}
-use Rattle.can_adapter.specs.Plays.{Plays}
-use Rattle.can_hold.specs.Documents.{document_demands, IsWrongKitField}
-use Rattle.can_hold.specs.Expectations.{cases_alone_demands, IsExpected}
-use Rattle.can_hold.specs.Judgements.{IsJudged}
+use Rattle.kit_adapter.specs.Plays.{Plays}
+use Rattle.kit_answers.specs.Documents.{document_demands, IsWrongKitField}
+use Rattle.kit_answers.specs.Expectations.{cases_alone_demands, IsExpected}
+use Rattle.kit_answers.specs.Judgements.{IsJudged}
 use Rattle.can_stream.specs.declared.fault.TraceFault.TheVariants.{Read, Write, Memory}
-use Rattle.can_kit.specs.declared.field.KitField.{KitField}
-use Rattle.can_toml.specs.Demands.{Demands}
-use Rattle.can_verdict.specs.declared.tally.Tally.{Tally}
-use Rattle.can_verdict.specs.Counts.{cases_in}
+use Rattle.kit_cases.specs.declared.field.KitField.{KitField}
+use Rattle.document_values.specs.Demands.{Demands}
+use Rattle.kit_verdicts.specs.declared.tally.Tally.{Tally}
+use Rattle.kit_verdicts.specs.Counts.{cases_in}
 use Rattle.canhold_commands.specs.declared.document.Finding.{Finding}
 use Rattle.canhold_commands.specs.declared.document.Finding.TheVariants.{Agree, Differ, Nothing}
 use Rattle.canhold_commands.specs.declared.fault.CanholdFault.{CanholdFault}

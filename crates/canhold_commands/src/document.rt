@@ -1,16 +1,16 @@
 //! Answering the kit document that a reader tells.
 ghost use Rattle.std.specs.Prelude.{◌≡◌, ◌⊎◌, ◌↔◌, false, IfErr, IfOk, IsErrOf, IsTrue};
 ghost use Rattle.can_stream.specs.Told.{Told};
-ghost use Rattle.can_kit.specs.declared.field.KitField.{KitField};
-ghost use Rattle.can_hold.specs.Documents.{IsWrongKitField};
+ghost use Rattle.kit_cases.specs.declared.field.KitField.{KitField};
+ghost use Rattle.kit_answers.specs.Documents.{IsWrongKitField};
 ghost use Rattle.canhold_commands.specs.Answers.{demands_of, finding_of, Answers, BeginsAnswer, IsAnswerTo, IsFieldOrMemory, Refuses, WritesNothing};
 
 use crate::fault::CanholdFault;
 use crate::words::Question;
-use can_hold::{case_of, expected, judged};
-use can_kit::KitFault;
 use can_stream::{Sink, Source, TraceFault, read_whole, write_all};
-use can_verdict::Tally;
+use kit_answers::{case_of, expected, judged};
+use kit_cases::KitFault;
+use kit_verdicts::Tally;
 use std::alloc::Global;
 
 /// What was found in a document.

@@ -11,9 +11,9 @@ use crate::document::{Finding, answer_document};
 use crate::fault::CanholdFault;
 use crate::help::{HELP, VERSION};
 use crate::words::{Asked, Chosen, Question, read_words};
-use can_adapter::play_lines;
 use can_program::{WordsFault, conclude, conclude_of, refuse, write_help};
 use can_stream::{Sink, Source};
+use kit_adapter::play_lines;
 use std::alloc::Global;
 
 /// The program's name, before the line of a fault.

@@ -3,9 +3,9 @@ ghost use Rattle.std.specs.Prelude.{◌≡◌};
 ghost use Rattle.canhold_commands.specs.Status.{fault_of, fault_status};
 ghost use Rattle.canhold_commands.specs.declared.fault.CanholdFault.TheVariants.{Stream};
 
-use can_kit::{KitFault, KitField};
 use can_program::RunFault;
 use can_stream::TraceFault;
+use kit_cases::{KitFault, KitField};
 use thiserror::Error;
 
 /// Why a subcommand did not do all that it was asked.

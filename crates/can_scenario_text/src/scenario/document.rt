@@ -3,15 +3,17 @@ ghost use Rattle.std.specs.Prelude.{◌≡◌, codes, map, IfErr, IfNone, IfOk, 
 ghost use Rattle.toml.specs.Data.{table};
 ghost use Rattle.toml.specs.View.{view, table_view};
 ghost use Rattle.can_stream.specs.declared.field.Field.{Field as Wrong};
-ghost use Rattle.can_toml.specs.Demands.{AllMet, IsFirstUnmet};
-ghost use Rattle.can_toml.specs.Refusals.{IsNoDocument};
-ghost use Rattle.can_toml.specs.Values.{are_known, named, IsDocument, IsNumber, IsRequired};
+ghost use Rattle.document_values.specs.Demands.{AllMet, IsFirstUnmet};
+ghost use Rattle.document_values.specs.Refusals.{IsNoDocument};
+ghost use Rattle.document_values.specs.Values.{are_known, named, IsDocument, IsNumber, IsRequired};
 ghost use Rattle.can_scenario_text.specs.Scenarios.{ports_in, top_demands, top_fields, version_in, version_of as version_of_document, IsFieldOrMemory, IsPortArray};
 
 use crate::scenario::Field;
 use crate::scenario::version::Version;
 use can_stream::TraceFault;
-use can_toml::{DocumentFault, elements_of, field, has_only, read_document, required_number};
+use document_values::{
+    DocumentFault, elements_of, field, has_only, read_document, required_number,
+};
 use std::alloc::Global;
 use toml::{Table, Value};
 

@@ -3,15 +3,15 @@ ghost use Rattle.std.specs.Prelude.{◌≡◌, ◌↔◌, ℕ, Option, Some, map
 ghost use Rattle.can_hit.specs.Hits.{AreTaken, hit_names_port as names_port_of};
 ghost use Rattle.toml.specs.Data.{table};
 ghost use Rattle.toml.specs.View.{view, table_view};
-ghost use Rattle.can_toml.specs.Demands.{AllMet, IsFirstUnmet};
-ghost use Rattle.can_toml.specs.Values.{elements_in, named, IsNumber};
+ghost use Rattle.document_values.specs.Demands.{AllMet, IsFirstUnmet};
+ghost use Rattle.document_values.specs.Values.{elements_in, named, IsNumber};
 ghost use Rattle.can_scenario_text.specs.Scenarios.{hit_in as hit_said, hit_demands, hits_demands, list_demands, list_name, AddsHits, IsAboveBefore, IsFieldOrMemory, IsPair, IsSoundHit, SaysHits};
 ghost use Rattle.can_stream.specs.declared.field.Field.{Field as Wrong};
 
 use crate::scenario::{Field, HitList};
 use can_hit::Hit;
 use can_stream::TraceFault;
-use can_toml::{field, two_of, whole_number};
+use document_values::{field, two_of, whole_number};
 use std::alloc::Global;
 use toml::{Table, Value};
 

@@ -3,15 +3,15 @@ ghost use Rattle.std.specs.Prelude.{◌≡◌, codes, map, IfErr, IfOk, IsErrOf,
 ghost use Rattle.toml.specs.Data.{table};
 ghost use Rattle.toml.specs.View.{view, table_view};
 ghost use Rattle.can_stream.specs.declared.field.Field.{Field as Wrong};
-ghost use Rattle.can_toml.specs.Demands.{demands_on_each, AllMet, IsFirstUnmet};
-ghost use Rattle.can_toml.specs.Values.{elements_in, named, ArePaired, SaysNumber, SaysWhether};
+ghost use Rattle.document_values.specs.Demands.{demands_on_each, AllMet, IsFirstUnmet};
+ghost use Rattle.document_values.specs.Values.{elements_in, named, ArePaired, SaysNumber, SaysWhether};
 ghost use Rattle.can_scenario_text.specs.Scenarios.{frame_demands, port_demands, ports_demands, queue_demands, room_demands, usual_log_room, IsFieldOrMemory, SaysPort, SaysQueueElement};
 
 use crate::scenario::values::queued;
 use crate::scenario::version::Version;
 use crate::scenario::{Field, PortField, PortPlan, TimedFrame};
 use can_stream::TraceFault;
-use can_toml::{elements_or_none, fields_of, has_only, number_or, truth};
+use document_values::{elements_or_none, fields_of, has_only, number_or, truth};
 use std::alloc::Global;
 use toml::{Table, Value};
 

@@ -1,12 +1,12 @@
 //! The elements of a queue.
 ghost use Rattle.std.specs.Prelude.{IfSome, IfNone, OnSome};
 ghost use Rattle.toml.specs.View.{view};
-ghost use Rattle.can_toml.specs.Values.{IsFrameValue};
+ghost use Rattle.document_values.specs.Values.{IsFrameValue};
 ghost use Rattle.can_scenario_text.specs.Scenarios.{IsQueueElement, IsTimedFrameValue, SaysQueueElement, SaysTimedFrame};
 
 use crate::scenario::TimedFrame;
 use crate::scenario::version::Version;
-use can_toml::{frame, number, two_of};
+use document_values::{frame, number, two_of};
 use toml::Value;
 
 /// Before which bit time a frame may be offered at most.

@@ -1,8 +1,8 @@
 use Rattle.std.proofs.Common.{rules, arith}
 use Rattle.toml.specs.View.{view}
-use Rattle.can_toml.specs.Demands.{IsFirstUnmet}
+use Rattle.document_values.specs.Demands.{IsFirstUnmet}
 use Rattle.can_plan_text.specs.Plans.{message_demands, SaysMessage}
-use Rattle.can_toml.proofs.ReadLists.{IsRead-more, unmet-next, met-all, said-all}
+use Rattle.document_values.proofs.ReadLists.{IsRead-more, unmet-next, met-all, said-all}
 use Rattle.can_plan_text.proofs.messages.read_messages.Goals as goal
 
 pub returns-in_err-read_message-clause-unmet : goal.returns-in_err-read_message-clause-unmet

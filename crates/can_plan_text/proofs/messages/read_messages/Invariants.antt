@@ -1,5 +1,5 @@
 use Rattle.can_plan_text.specs.Plans.{message_demands, SaysMessage}
-use Rattle.can_toml.proofs.ReadLists.{IsRead}
+use Rattle.document_values.proofs.ReadLists.{IsRead}
 use Rattle.can_plan_text.proofs.messages.read_messages.Given as goal
 
 abbrev pub invariant-loop-place : goal.invariant-loop-place

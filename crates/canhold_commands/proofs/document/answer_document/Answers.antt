@@ -1,7 +1,7 @@
 use Rattle.std.proofs.Common.{◌≡◌, ap, rules, Err}
-use Rattle.can_kit.specs.declared.field.KitField.{KitField}
-use Rattle.can_kit.specs.declared.fault.KitFault.{KitFault}
-use Rattle.can_kit.specs.declared.fault.KitFault.TheVariants as kit
+use Rattle.kit_cases.specs.declared.field.KitField.{KitField}
+use Rattle.kit_cases.specs.declared.fault.KitFault.{KitFault}
+use Rattle.kit_cases.specs.declared.fault.KitFault.TheVariants as kit
 use Rattle.canhold_commands.specs.declared.fault.CanholdFault.TheVariants.{Field}
 use Rattle.canhold_commands.specs.Status.{fault_of}
 use Rattle.canhold_commands.proofs.document.answer_document.Goals as goal

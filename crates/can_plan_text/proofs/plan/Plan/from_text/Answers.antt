@@ -2,8 +2,8 @@ use Rattle.std.proofs.Common.{◌≡◌, ℕ, List, length, map, codes, refl, su
 use Rattle.std.proofs.lemmas.List.{length-map}
 use Rattle.toml.specs.Data.{Data, table}
 use Rattle.toml.specs.View.{view, table_view}
-use Rattle.can_toml.specs.Demands.{IsFirstUnmet}
-use Rattle.can_toml.specs.Values.{named, ArePaired}
+use Rattle.document_values.specs.Demands.{IsFirstUnmet}
+use Rattle.document_values.specs.Values.{named, ArePaired}
 use Rattle.can_plan_text.specs.Order.{IsRepeated}
 use Rattle.can_plan_text.specs.Plans.{SaysErrors, SaysMessage, messages_in, rate_in, top_demands}
 use Rattle.can_plan_text.proofs.PlanParts.{length-paired, listed-unmet, plan-met, repeated-unmet, top-unmet}

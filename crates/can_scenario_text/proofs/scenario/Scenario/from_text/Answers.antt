@@ -3,8 +3,8 @@ use Rattle.can_hit.specs.Hits.{AreTaken}
 use Rattle.toml.specs.Data.{Data, table}
 use Rattle.toml.specs.View.{view, table_view}
 use Rattle.can_scenario_text.specs.declared.scenario.version.Version.{Version}
-use Rattle.can_toml.specs.Demands.{AllMet, IsFirstUnmet}
-use Rattle.can_toml.specs.Values.{named, ArePaired, IsNumber, IsRequired}
+use Rattle.document_values.specs.Demands.{AllMet, IsFirstUnmet}
+use Rattle.document_values.specs.Values.{named, ArePaired, IsNumber, IsRequired}
 use Rattle.can_scenario_text.specs.Scenarios.{hits_demands, ports_demands, ports_in, top_demands, version_of, SaysPort}
 use Rattle.can_scenario_text.proofs.ScenarioParts.{ports-unmet, hits-unmet, scenario-met, length-paired, port-count}
 use Rattle.can_scenario_text.proofs.scenario.Scenario.from_text.Goals as goal

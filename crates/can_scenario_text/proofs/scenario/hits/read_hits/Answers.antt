@@ -2,9 +2,9 @@ use Rattle.std.proofs.lemmas.Result.{err_from_is_err_and}
 use Rattle.toml.specs.Data.{table}
 use Rattle.toml.specs.View.{table_view}
 use Rattle.can_stream.specs.declared.field.HitList.TheVariants.{At, In, View}
-use Rattle.can_toml.specs.Demands.{followed}
+use Rattle.document_values.specs.Demands.{followed}
 use Rattle.can_scenario_text.specs.Scenarios.{list_demands}
-use Rattle.can_toml.proofs.DemandLemmas.{met-followed, unmet-first, unmet-later}
+use Rattle.document_values.proofs.DemandLemmas.{met-followed, unmet-first, unmet-later}
 use Rattle.can_scenario_text.proofs.HitLemmas.{err_instead, SaysHits-three, taken_said}
 use Rattle.can_scenario_text.proofs.scenario.hits.read_hits.Goals as goal
 

@@ -3,8 +3,8 @@ use Rattle.std.specs.Result.{OnOk}
 use Rattle.std.proofs.lemmas.Result.{on_ok_weaker}
 use Rattle.toml.specs.Data.{Data, table}
 use Rattle.toml.specs.View.{view, table_view}
-use Rattle.can_toml.specs.Demands.{AllMet, IsFirstUnmet}
-use Rattle.can_toml.specs.Values.{IsArray, IsOptional, elements_in, named}
+use Rattle.document_values.specs.Demands.{AllMet, IsFirstUnmet}
+use Rattle.document_values.specs.Values.{IsArray, IsOptional, elements_in, named}
 use Rattle.can_scenario_text.specs.Scenarios.{AddsHits, hit_demands, list_name}
 use Rattle.can_scenario_text.proofs.HitLemmas.{is_array}
 use Rattle.can_scenario_text.proofs.scenario.hits.read_list.Goals.{After-read_elements}

@@ -1,8 +1,8 @@
 use Rattle.std.proofs.Common.{rules, arith}
 use Rattle.toml.specs.View.{view}
-use Rattle.can_toml.specs.Demands.{IsFirstUnmet}
+use Rattle.document_values.specs.Demands.{IsFirstUnmet}
 use Rattle.can_scenario_text.specs.Scenarios.{frame_demands, SaysQueueElement}
-use Rattle.can_toml.proofs.ReadLists.{IsRead-more, unmet-next, met-all, said-all}
+use Rattle.document_values.proofs.ReadLists.{IsRead-more, unmet-next, met-all, said-all}
 use Rattle.can_scenario_text.proofs.scenario.ports.read_frames.Goals as goal
 
 pub returns-in_default-clause-unmet : goal.returns-in_default-clause-unmet

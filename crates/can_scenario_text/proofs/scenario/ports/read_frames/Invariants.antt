@@ -1,5 +1,5 @@
 use Rattle.can_scenario_text.specs.Scenarios.{frame_demands, SaysQueueElement}
-use Rattle.can_toml.proofs.ReadLists.{IsRead}
+use Rattle.document_values.proofs.ReadLists.{IsRead}
 use Rattle.can_scenario_text.proofs.scenario.ports.read_frames.Given as goal
 
 abbrev pub invariant-loop-place : goal.invariant-loop-place

@@ -1,8 +1,8 @@
 use Rattle.std.proofs.Common.{◌≡◌, true, rules}
 use Rattle.toml.specs.Data.{Members, table}
 use Rattle.toml.specs.View.{view, table_view}
-use Rattle.can_toml.specs.Demands.{IsFirstUnmet}
-use Rattle.can_toml.specs.Values.{are_known}
+use Rattle.document_values.specs.Demands.{IsFirstUnmet}
+use Rattle.document_values.specs.Values.{are_known}
 use Rattle.can_scenario_text.specs.Scenarios.{port_fields, queue_demands}
 use Rattle.can_scenario_text.proofs.ScenarioParts.{queue-unmet, room-unmet, port-met-by, port-said-by}
 use Rattle.can_scenario_text.proofs.scenario.ports.read_port.Goals as goal

@@ -1,5 +1,5 @@
 use Rattle.can_scenario_text.specs.Scenarios.{port_demands, SaysPort}
-use Rattle.can_toml.proofs.ReadLists.{IsRead}
+use Rattle.document_values.proofs.ReadLists.{IsRead}
 use Rattle.can_scenario_text.proofs.scenario.ports.read_ports.Given as goal
 
 abbrev pub invariant-loop-number : goal.invariant-loop-number

@@ -1,0 +1,74 @@
+-- The lines of a runner: what each asks an adapter for. (docs/CONFORMANCE.md)
+use Rattle.std.specs.Prelude.{ℕ, ◌≡◌, ◌+◌, ◌≤◌, ◌==◌, Bool, ◌||◌, if◌then◌else◌, List, [], ◌∷◌, ◌++◌, length, map, codes}
+use Rattle.can_frame.specs.Parts.{Parts, IsFrame}
+use Rattle.can_frame.specs.Text.{frame_text}
+use Rattle.can_conform.specs.declared.script.Start.{Start}
+use Rattle.can_conform.specs.declared.script.Start.TheVariants.{Idle, Joining}
+use Rattle.can_conform.specs.declared.script.TesterLevel.{TesterLevel}
+use Rattle.can_conform.specs.declared.script.TesterLevel.TheVariants.{Dominant, Recessive, Forced}
+use Rattle.kit_words.specs.Names.{longest_name}
+
+-- a case begins; a frame is offered; overload frames are asked for; bit times are played; the case ends
+pub data Command : Type 0 where
+  begins : Start → Command
+  offers : Parts → Command
+  wishes : ℕ → Command
+  plays : List TesterLevel → Command
+  ends : Command
+
+-- the digit of what the tester does in a bit time: 0, 1 or f
+abbrev pub tester_digit : TesterLevel → ℕ
+tester_digit Dominant = 48
+tester_digit Recessive = 49
+tester_digit Forced = 102
+
+-- whether a byte is such a digit
+abbrev pub is_tester_digit : ℕ → Bool
+is_tester_digit byte = (byte == 48) || ((byte == 49) || (byte == 102))
+
+-- what the tester does by a digit
+abbrev pub tester_of : ℕ → TesterLevel
+tester_of digit = if digit == 48 then Dominant else (if digit == 49 then Recessive else Forced)
+
+-- what stands behind the name of a case
+abbrev pub start_word : Start → List ℕ
+start_word Idle = codes " idle"
+start_word Joining = codes " joining"
+
+-- how many bit times a line plays at most
+abbrev pub most_levels : ℕ
+most_levels = 4096
+
+-- `case NAME` and then this ending
+pub record IsCaseLine (line ending : List ℕ) : Type 0 where
+  pub name : List ℕ
+  pub short : length name ≤ longest_name
+  pub text : line ≡ codes "case " ++ (name ++ ending)
+
+-- `offer FRAME`
+pub record IsOfferLine (line : List ℕ) (f : Parts) : Type 0 where
+  pub frame : IsFrame f
+  pub text : line ≡ codes "offer " ++ frame_text f
+
+-- `hold N`, 0 to 2
+pub record IsHoldLine (line : List ℕ) (n : ℕ) : Type 0 where
+  pub few : n ≤ 2
+  pub text : line ≡ codes "hold " ++ (48 + n) ∷ []
+
+-- `play LEVELS`, 1 to 4096 of them
+pub record IsPlayLine (line : List ℕ) (levels : List TesterLevel) : Type 0 where
+  pub some : 1 ≤ length levels
+  pub few : length levels ≤ most_levels
+  pub text : line ≡ codes "play " ++ map tester_digit levels
+
+-- the line asks for this
+abbrev pub IsCommandLine : List ℕ → Command → Type 0
+IsCommandLine line (begins start) = IsCaseLine line (start_word start)
+IsCommandLine line (offers f) = IsOfferLine line f
+IsCommandLine line (wishes n) = IsHoldLine line n
+IsCommandLine line (plays levels) = IsPlayLine line levels
+IsCommandLine line ends = line ≡ codes "end"
+
+-- the line by which the runner ends the adapter
+abbrev pub quit_line : List ℕ
+quit_line = codes "quit"

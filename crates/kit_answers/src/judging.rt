@@ -1,0 +1,140 @@
+//! Verdicts of the transcripts of a document.
+ghost use Rattle.std.specs.Prelude.{◌≡◌, ◌≤◌, ◌<◌, ◌+◌, ◌++◌, All, [], length, IfOk, IsErrOf, OnOk};
+ghost use Rattle.std.specs.String.{string_bytes};
+ghost use Rattle.kit_verdicts.specs.Verdicts.{verdict_line};
+ghost use Rattle.can_conform.specs.Transcripts.{IsTold};
+ghost use Rattle.kit_cases.specs.declared.field.KitField.{KitField as Wrong};
+ghost use Rattle.kit_cases.specs.Cases.{most_bits};
+ghost use Rattle.kit_answers.specs.Documents.{document_demands, IsWrongKitField};
+ghost use Rattle.kit_answers.specs.Judgements.{cases_without as without_in, counted as counted_as, has_one as is_one, lines_of, no_cases, AddVerdicts, AddsVerdict, IsAnswer, IsJudged};
+
+use crate::document::Document;
+use can_conform::{Verdict, judge};
+use kit_cases::{Case, KitFault};
+use kit_transcripts::Told;
+use kit_verdicts::{Tally, push_count, push_verdict};
+use std::alloc::{AllocError, Global};
+
+/// What is said of the transcripts of a document.
+#[derive(Debug, Drop)]
+pub struct Judgement {
+    /// A line for each transcript, in their order, and behind them the count, which also says how many cases have
+    /// no transcript. Each ends with 0x0a.
+    pub lines: Vec<u8>,
+    /// How many transcripts have which verdict; none is void or skipped.
+    pub tally: Tally,
+}
+
+/// Judges each transcript of the kit document that the bytes are.
+///
+/// `Field` names the first field that isn't as it has to be, as [`Document::from_text`] does. `Memory` says that
+/// memory ran out.
+pub fn judged(alloc: Global, text: &[u8]) -> Result<Judgement, KitFault>
+    ensures found { IfOk result (λ judgement. IsJudged text.now judgement.lines.items judgement.tally) }
+    ensures wrong { (wrong : Wrong) → IsErrOf result (KitFault.Field wrong) → IsWrongKitField document_demands wrong text.now }
+{
+    let document = Document::from_text(alloc, text)?;
+    Ok(judge_all(alloc, &document)?)
+}
+
+/// Judges each transcript of a document.
+fn judge_all(alloc: Global, document: &Document) -> Result<Judgement, AllocError>
+    requires short { All (λ one. length one.script.tester.items ≤ most_bits) document.now.cases.items }
+    requires told { All (λ one. IsTold one.transcript) document.now.transcripts.items }
+    requires known { All (λ one. one.case < length document.now.cases.items) document.now.transcripts.items }
+    requires few { length document.now.transcripts.items ≤ 4096 }
+    ensures { IfOk result (λ judgement. IsAnswer document.now judgement.lines.items judgement.tally) }
+{
+    let mut lines = Vec::new(alloc);
+    let tally = push_verdicts(alloc, &mut lines, &document.cases, &document.transcripts)?;
+    push_count(&mut lines, tally, cases_without(document) as u64)?;
+    Ok(Judgement { lines, tally })
+}
+
+/// How many cases of a document have no transcript.
+fn cases_without(document: &Document) -> usize
+    ensures { result ≡ without_in document.now }
+{
+    let transcripts = document.transcripts.as_slice();
+    (0..document.cases.len())
+        .filter(|place| !has_one(*place, transcripts))
+        .count()
+}
+
+/// Whether one of the transcripts is of the case at this place.
+fn has_one(place: usize, transcripts: &[Told]) -> bool
+    ensures { result ≡ is_one transcripts.now place }
+{
+    transcripts.iter().any(|told| told.case == place)
+}
+
+/// Appends a line for each transcript, of one of these cases, and counts the verdicts.
+fn push_verdicts(
+    alloc: Global,
+    out: &mut Vec<u8>,
+    cases: &[Case],
+    transcripts: &[Told],
+) -> Result<Tally, AllocError>
+    requires short { All (λ one. length one.script.tester.items ≤ most_bits) cases.now }
+    requires told { All (λ one. IsTold one.transcript) transcripts.now }
+    requires known { All (λ one. one.case < length cases.now) transcripts.now }
+    requires few { length transcripts.now ≤ 4096 }
+    ensures { IfOk result (λ counts. AddVerdicts cases.now transcripts.now (lines_of out.old.items no_cases) (lines_of out.new.items counts)) }
+{
+    let mut tally = Tally::NONE;
+    for told in transcripts {
+        tally = push_one(alloc, out, &cases[told.case], told, tally)?;
+    }
+    Ok(tally)
+}
+
+/// Appends the line of a transcript of this case, and counts its verdict.
+fn push_one(
+    alloc: Global,
+    out: &mut Vec<u8>,
+    case: &Case,
+    told: &Told,
+    tally: Tally,
+) -> Result<Tally, AllocError>
+    requires short { length case.now.script.tester.items ≤ most_bits }
+    requires told { IsTold told.now.transcript }
+    requires few { (tally.passed ≤ 4095) × (tally.failed ≤ 4095) }
+    ensures { IfOk result (λ counts. AddsVerdict case.now told.now (lines_of out.old.items tally) (lines_of out.new.items counts)) }
+{
+    match judge(alloc, &case.script, &told.transcript) {
+        Ok(verdict) => push_said(out, case, &verdict, tally),
+        Err(error) => Err(error),
+    }
+}
+
+/// Appends the line of a verdict on the transcript of this case.
+fn push_said(
+    out: &mut Vec<u8>,
+    case: &Case,
+    verdict: &Verdict,
+    tally: Tally,
+) -> Result<Tally, AllocError>
+    requires few { (tally.passed ≤ 4095) × (tally.failed ≤ 4095) }
+    ensures line { OnOk result (out.new.items ≡ out.old.items ++ verdict_line (string_bytes case.now.name) case.now.choices.items verdict.now) }
+    ensures count { IfOk result (λ counts. counts ≡ counted_as tally verdict.now) }
+{
+    push_verdict(out, case.name.as_bytes(), &case.choices, verdict)?;
+    Ok(counted(tally, verdict))
+}
+
+/// One more transcript has this verdict.
+fn counted(tally: Tally, verdict: &Verdict) -> Tally
+    requires { (tally.passed ≤ 4095) × (tally.failed ≤ 4095) }
+    ensures { result ≡ counted_as tally verdict.now }
+{
+    match verdict {
+        Verdict::Pass => Tally {
+            passed: tally.passed + 1,
+            ..tally
+        },
+        Verdict::Fail(_) => Tally {
+            failed: tally.failed + 1,
+            ..tally
+        },
+    }
+}

@@ -1,0 +1,151 @@
+//! The name of a case.
+ghost use Rattle.std.specs.List.{list_any};
+ghost use Rattle.std.specs.Prelude.{◌≡◌, ◌≢◌, ◌↔◌, ℕ, List, ◌∷◌, ◌++◌, codes, map, Some, IfNone, IfOk, IfSome, IsErrOf, IsTrue, MatchBool, MatchOption, OnOk, OnSome};
+ghost use Rattle.toml.specs.Data.{same_key, string, table};
+ghost use Rattle.toml.specs.View.{table_view, view};
+ghost use Rattle.kit_cases.specs.declared.field.KitField.{KitField as Wrong};
+ghost use Rattle.document_values.specs.Demands.{AllMet, IsFirstUnmet};
+ghost use Rattle.document_values.specs.Values.{named, IsNumber, IsOptional, IsRequired};
+ghost use Rattle.kit_words.specs.Names.{IsName};
+ghost use Rattle.kit_cases.specs.Words.{IsPurpose, IsText};
+ghost use Rattle.kit_cases.specs.Cases.{name_of, naming_demands, IsNewName};
+
+use crate::fault::KitFault;
+use crate::field::CaseField;
+use crate::words::{is_purpose, text_of};
+use document_values::{field, fields_of, required_number};
+use kit_words::{LONGEST_NAME, is_name};
+use toml::{Table, Value};
+
+/// How many bytes the name of a family may have.
+const LONGEST_FAMILY: usize = 40;
+
+/// Reads the name of the case of this number, with these fields, behind these cases.
+pub(crate) fn read_name<'a>(
+    earlier: &[Value],
+    number: usize,
+    fields: &'a Table,
+) -> Result<&'a str, KitFault>
+    ensures said { IfOk result (λ name. named (codes "name") (table (table_view fields.now)) ≡ Some (string name.now)) }
+    ensures met { OnOk result (AllMet (naming_demands (map view earlier.now) number (table (table_view fields.now)))) }
+    ensures unmet { (wrong : Wrong) → IsErrOf result (KitFault.Field wrong) → IsFirstUnmet wrong (naming_demands (map view earlier.now) number (table (table_view fields.now))) }
+{
+    if !is_of_version_one(fields) {
+        return Err(KitFault::in_case(number, CaseField::Version));
+    }
+    let Some(family) = family_in(fields) else {
+        return Err(KitFault::in_case(number, CaseField::Family));
+    };
+    let Some(name) = name_in(fields, family, earlier) else {
+        return Err(KitFault::in_case(number, CaseField::Name));
+    };
+    if !has_purpose(fields) {
+        return Err(KitFault::in_case(number, CaseField::Purpose));
+    }
+    Ok(name)
+}
+
+/// Whether the fields of a table say version 1.
+pub fn is_of_version_one(fields: &Table) -> bool
+    ensures { MatchBool result (IsRequired (IsNumber 1) (named (codes "version") (table (table_view fields.now)))) (¬ IsRequired (IsNumber 1) (named (codes "version") (table (table_view fields.now)))) }
+{
+    match required_number(fields, "version", 1) {
+        Some(number) => number == 1,
+        None => false,
+    }
+}
+
+/// The family that the fields of a case say.
+fn family_in(fields: &Table) -> Option<&str>
+    ensures said { IfSome result (λ family. named (codes "family") (table (table_view fields.now)) ≡ Some (string family.now)) }
+    ensures met { OnSome result (IsRequired (IsText (IsName 40)) (named (codes "family") (table (table_view fields.now)))) }
+    ensures unmet { IfNone result (¬ IsRequired (IsText (IsName 40)) (named (codes "family") (table (table_view fields.now)))) }
+{
+    let family = text_of(field(fields, "family")?)?;
+    if !is_name(family, LONGEST_FAMILY) {
+        return None;
+    }
+    Some(family)
+}
+
+/// The name that the fields of a case say, of a case of this family behind these cases.
+fn name_in<'a>(fields: &'a Table, family: &str, earlier: &[Value]) -> Option<&'a str>
+    ensures said { IfSome result (λ name. named (codes "name") (table (table_view fields.now)) ≡ Some (string name.now)) }
+    ensures met { OnSome result (IsRequired (IsText (IsNewName (map view earlier.now) family.now)) (named (codes "name") (table (table_view fields.now)))) }
+    ensures unmet { IfNone result (¬ IsRequired (IsText (IsNewName (map view earlier.now) family.now)) (named (codes "name") (table (table_view fields.now)))) }
+{
+    let name = text_of(field(fields, "name")?)?;
+    if !is_new_name(earlier, family, name) {
+        return None;
+    }
+    Some(name)
+}
+
+/// Whether the name of a case is one of the family, and none of these cases has it.
+fn is_new_name(earlier: &[Value], family: &str, name: &str) -> bool
+    ensures { IsTrue result ↔ IsNewName (map view earlier.now) family.now name.now }
+{
+    is_name(name, LONGEST_NAME)
+        && begins_with(name.as_bytes(), family.as_bytes())
+        && !is_taken(earlier, name)
+}
+
+/// Whether a name begins with the family and a hyphen.
+fn begins_with(name: &[u8], family: &[u8]) -> bool
+    ensures { MatchBool result ((rest : List ℕ) × (name.now ≡ family.now ++ (45 ∷ rest))) ((rest : List ℕ) → name.now ≢ family.now ++ (45 ∷ rest)) }
+{
+    match behind(name, family) {
+        Some(rest) => begins_with_hyphen(rest),
+        None => false,
+    }
+}
+
+/// What stands behind this front, if the text begins with it.
+fn behind<'a>(text: &'a [u8], front: &[u8]) -> Option<&'a [u8]>
+    ensures { MatchOption result ((rest : List ℕ) → text.now ≢ front.now ++ rest) (λ rest. text.now ≡ front.now ++ rest.now) }
+{
+    text.strip_prefix(front)
+}
+
+/// Whether a text begins with a hyphen.
+fn begins_with_hyphen(text: &[u8]) -> bool
+    ensures { MatchBool result ((rest : List ℕ) × (text.now ≡ 45 ∷ rest)) ((rest : List ℕ) → text.now ≢ 45 ∷ rest) }
+{
+    match behind(text, b"-") {
+        Some(_) => true,
+        None => false,
+    }
+}
+
+/// Whether one of these cases has the name.
+fn is_taken(earlier: &[Value], name: &str) -> bool
+    ensures { result ≡ list_any (λ other. same_key name.now (name_of other)) (map view earlier.now) }
+{
+    earlier.iter().any(|other| name == name_said(other))
+}
+
+/// The name that a case's table says, no text where it says none.
+fn name_said(value: &Value) -> &str
+    ensures { result.now ≡ name_of (view value.now) }
+{
+    let Some(fields) = fields_of(value) else {
+        return "";
+    };
+    let Some(name) = field(fields, "name") else {
+        return "";
+    };
+    text_of(name).unwrap_or("")
+}
+
+/// Whether a case's purpose is one line of at most 200 bytes, or left out.
+fn has_purpose(fields: &Table) -> bool
+    ensures { MatchBool result (IsOptional (IsText IsPurpose) (named (codes "purpose") (table (table_view fields.now)))) (¬ IsOptional (IsText IsPurpose) (named (codes "purpose") (table (table_view fields.now)))) }
+{
+    let Some(value) = field(fields, "purpose") else {
+        return true;
+    };
+    match text_of(value) {
+        Some(text) => is_purpose(text),
+        None => false,
+    }
+}

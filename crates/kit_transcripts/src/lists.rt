@@ -1,0 +1,97 @@
+//! The lists of a transcript: events and counters, each with its time.
+ghost use Rattle.std.specs.Prelude.{◌≡◌, map, IfNone, IfOk, IfSome, IsErrOf, OnOk, OnSome};
+ghost use Rattle.toml.specs.Data.{table};
+ghost use Rattle.toml.specs.View.{table_view, view};
+ghost use Rattle.kit_cases.specs.declared.field.KitField.{KitField as Wrong};
+ghost use Rattle.document_values.specs.Demands.{AllMet, IsFirstUnmet};
+ghost use Rattle.document_values.specs.Values.{elements, named, ArePaired};
+ghost use Rattle.kit_cases.specs.Lists.{IsArrayOf};
+ghost use Rattle.kit_transcripts.specs.Elements.{element_field, list_demands, list_field, list_name, SaysIfThere};
+
+use crate::fault::in_transcript;
+use document_values::{elements_of, field};
+use kit_cases::{Element, ElementFault, KitFault, TranscriptField, read_elements};
+use std::alloc::Global;
+use toml::{Table, Value};
+
+/// How many elements a list has at most.
+const MOST_ELEMENTS: usize = 100_000;
+
+/// All times are below this one. It is behind the last bit time of the longest case: what is told there is judged.
+const TIME_END: u32 = 100_001;
+
+/// How far apart the times of a list are at least.
+const APART: u8 = 1;
+
+/// The lists of a transcript.
+#[derive(Clone, Copy, Debug, PartialEq, Eq)]
+pub(crate) enum TranscriptList {
+    Events,
+    /// The counters behind each bit time that changed one.
+    Counters,
+}
+
+impl TranscriptList {
+    fn name(self) -> &'static str
+        ensures { result.now ≡ list_name self }
+    {
+        match self {
+            TranscriptList::Events => "events",
+            TranscriptList::Counters => "counters",
+        }
+    }
+
+    /// The list, as a refusal names it.
+    fn field(self) -> TranscriptField
+        ensures { result ≡ list_field self }
+    {
+        match self {
+            TranscriptList::Events => TranscriptField::Events,
+            TranscriptList::Counters => TranscriptField::Counters,
+        }
+    }
+
+    /// Its element at a place, as a refusal names it.
+    fn element(self, place: usize) -> TranscriptField
+        ensures { result ≡ element_field self place }
+    {
+        match self {
+            TranscriptList::Events => TranscriptField::Event(place),
+            TranscriptList::Counters => TranscriptField::Change(place),
+        }
+    }
+}
+
+/// Reads a list of the transcript of this number, with these fields; nothing where it is left out.
+pub(crate) fn read_list<T: Element<TranscriptList>>(
+    alloc: Global,
+    list: TranscriptList,
+    number: usize,
+    fields: &Table,
+) -> Result<Option<Vec<T>>, KitFault>
+    ensures said { IfOk result (λ read. SaysIfThere (λ told elements_said. ArePaired T.says (elements told) elements_said.items) (named (list_name list) (table (table_view fields.now))) read) }
+    ensures met { OnOk result (AllMet (list_demands list T.says number (table (table_view fields.now)))) }
+    ensures unmet { (wrong : Wrong) → IsErrOf result (KitFault.Field wrong) → IsFirstUnmet wrong (list_demands list T.says number (table (table_view fields.now))) }
+{
+    let Some(value) = field(fields, list.name()) else {
+        return Ok(None);
+    };
+    let Some(values) = array_of(value, MOST_ELEMENTS) else {
+        return Err(in_transcript(number, list.field()));
+    };
+    match read_elements(alloc, values, TIME_END, APART) {
+        Ok(read) => Ok(Some(read)),
+        Err(ElementFault::At(place)) => Err(in_transcript(number, list.element(place))),
+        Err(ElementFault::Memory) => Err(KitFault::Memory),
+    }
+}
+
+/// The elements of an array of so many at most.
+pub(crate) fn array_of(value: &Value, most: usize) -> Option<&[Value]>
+    ensures said { IfSome result (λ values. map view values.now ≡ elements (view value.now)) }
+    ensures met { OnSome result (IsArrayOf 0 most (view value.now)) }
+    ensures unmet { IfNone result (¬ IsArrayOf 0 most (view value.now)) }
+{
+    let values = elements_of(value)?;
+    (values.len() <= most).then_some(values)
+}

@@ -1,0 +1,129 @@
+//! Transcripts of a document.
+ghost use Rattle.std.specs.Prelude.{◌≡◌, All, Some, codes, map, IfOk, IsErrOf, OnOk};
+ghost use Rattle.toml.specs.Data.{table};
+ghost use Rattle.toml.specs.View.{table_view, view};
+ghost use Rattle.can_conform.specs.Transcripts.{IsTold};
+ghost use Rattle.kit_cases.specs.declared.field.KitField.{KitField as Wrong};
+ghost use Rattle.document_values.specs.Demands.{AllMet, IsFirstUnmet};
+ghost use Rattle.document_values.specs.Values.{named, ArePaired, IsRequired};
+ghost use Rattle.kit_cases.specs.Cases.{name_of};
+ghost use Rattle.kit_cases.specs.Words.{IsText};
+ghost use Rattle.kit_transcripts.specs.Elements.{SaysEnd, SaysIfThere};
+ghost use Rattle.kit_transcripts.specs.Transcripts.{end_demands, naming_demands, place_where, telling_demands, transcript_demands, transcripts_demands, SaysTelling, SaysTranscript};
+
+use crate::drove::read_drove;
+use crate::elements::end_in;
+use crate::fault::in_transcript;
+use crate::lists::{TranscriptList, read_list};
+use crate::naming::case_in;
+use can_conform::{Ending, Transcript};
+use document_values::{field, fields_of, has_only};
+use kit_cases::{KitFault, TranscriptField, is_of_version_one};
+use std::alloc::Global;
+use toml::{Table, Value};
+
+/// The fields that a transcript may have.
+const TRANSCRIPT_FIELDS: [&str; 6] = ["version", "case", "drove", "events", "counters", "end"];
+
+/// A transcript of a document.
+#[derive(Debug, Drop)]
+pub struct Told {
+    /// The place of its case among the cases of the document, counted from 0.
+    pub case: usize,
+    pub transcript: Transcript,
+}
+
+/// Reads the transcripts of a document: tables, each of one of these cases, and no two of one. It fails with the first
+/// field that isn't as it has to be, or where memory runs out.
+pub fn read_transcripts(
+    alloc: Global,
+    cases: &[Value],
+    values: &[Value],
+) -> Result<Vec<Told>, KitFault>
+    ensures said { IfOk result (λ read. ArePaired (SaysTranscript (map view cases.now)) (map view values.now) read.items) }
+    ensures told { IfOk result (λ read. All (λ one. IsTold one.transcript) read.items) }
+    ensures met { OnOk result (AllMet (transcripts_demands (map view cases.now) (map view values.now))) }
+    ensures unmet { (wrong : Wrong) → IsErrOf result (KitFault.Field wrong) → IsFirstUnmet wrong (transcripts_demands (map view cases.now) (map view values.now)) }
+{
+    let mut read = Vec::new(alloc);
+    for (number, value) in values.iter().enumerate() {
+        read.push(read_transcript(alloc, cases, &values[..number], number, value)?)?;
+    }
+    Ok(read)
+}
+
+/// Reads the transcript of this number, whose table this is: of one of these cases, which none of the earlier
+/// transcripts is of. It fails with the first field that isn't as it has to be, or where memory runs out.
+pub fn read_transcript(
+    alloc: Global,
+    cases: &[Value],
+    earlier: &[Value],
+    number: usize,
+    value: &Value,
+) -> Result<Told, KitFault>
+    ensures said { IfOk result (SaysTranscript (map view cases.now) (view value.now)) }
+    ensures told { IfOk result (λ read. IsTold read.transcript) }
+    ensures met { OnOk result (AllMet (transcript_demands (map view cases.now) (map view earlier.now) number (view value.now))) }
+    ensures unmet { (wrong : Wrong) → IsErrOf result (KitFault.Field wrong) → IsFirstUnmet wrong (transcript_demands (map view cases.now) (map view earlier.now) number (view value.now)) }
+{
+    let Some(fields) = fields_of(value) else {
+        return Err(in_transcript(number, TranscriptField::Table));
+    };
+    let case = read_case(cases, earlier, number, fields)?;
+    let transcript = read_telling(alloc, number, fields)?;
+    Ok(Told { case, transcript })
+}
+
+/// Reads which of these cases the transcript of this number is of, with these fields, behind these transcripts.
+fn read_case(
+    cases: &[Value],
+    earlier: &[Value],
+    number: usize,
+    fields: &Table,
+) -> Result<usize, KitFault>
+    ensures said { IfOk result (λ place. IsRequired (IsText (λ name. place_where name_of name (map view cases.now) ≡ Some place)) (named (codes "case") (table (table_view fields.now)))) }
+    ensures met { OnOk result (AllMet (naming_demands (map view cases.now) (map view earlier.now) number (table (table_view fields.now)))) }
+    ensures unmet { (wrong : Wrong) → IsErrOf result (KitFault.Field wrong) → IsFirstUnmet wrong (naming_demands (map view cases.now) (map view earlier.now) number (table (table_view fields.now))) }
+{
+    if !has_only(fields, &TRANSCRIPT_FIELDS) {
+        return Err(in_transcript(number, TranscriptField::Unknown));
+    }
+    if !is_of_version_one(fields) {
+        return Err(in_transcript(number, TranscriptField::Version));
+    }
+    case_in(cases, earlier, fields).ok_or(in_transcript(number, TranscriptField::Case))
+}
+
+/// Reads what the transcript of this number, with these fields, tells of the run of its case.
+fn read_telling(alloc: Global, number: usize, fields: &Table) -> Result<Transcript, KitFault>
+    ensures said { IfOk result (SaysTelling (table (table_view fields.now))) }
+    ensures told { IfOk result IsTold }
+    ensures met { OnOk result (AllMet (telling_demands number (table (table_view fields.now)))) }
+    ensures unmet { (wrong : Wrong) → IsErrOf result (KitFault.Field wrong) → IsFirstUnmet wrong (telling_demands number (table (table_view fields.now))) }
+{
+    let drove = read_drove(alloc, number, fields)?;
+    let events = read_list(alloc, TranscriptList::Events, number, fields)?;
+    let counters = read_list(alloc, TranscriptList::Counters, number, fields)?;
+    let end = read_end(number, fields)?;
+    Ok(Transcript {
+        drove,
+        events,
+        counters,
+        end,
+    })
+}
+
+/// Reads the end of the transcript of this number, with these fields; nothing where it is left out.
+fn read_end(number: usize, fields: &Table) -> Result<Option<Ending>, KitFault>
+    ensures said { IfOk result (SaysIfThere SaysEnd (named (codes "end") (table (table_view fields.now)))) }
+    ensures met { OnOk result (AllMet (end_demands number (table (table_view fields.now)))) }
+    ensures unmet { (wrong : Wrong) → IsErrOf result (KitFault.Field wrong) → IsFirstUnmet wrong (end_demands number (table (table_view fields.now))) }
+{
+    let Some(value) = field(fields, "end") else {
+        return Ok(None);
+    };
+    match end_in(value) {
+        Some(end) => Ok(Some(end)),
+        None => Err(in_transcript(number, TranscriptField::End)),
+    }
+}
