@@ -11,7 +11,7 @@ use Rattle.can_plan.specs.Messages.{ArePeriodic, IsMessageSet, most_hits}
 use Rattle.can_plan_text.specs.declared.plan.Plan.{Plan}
 use Rattle.can_plan_text.specs.declared.plan.Planned.{Planned}
 use Rattle.can_plan_text.specs.declared.verdict.Verdict.{Verdict}
-use Rattle.can_plan_text.specs.Answers.{AreVerdicts, IsVerdict, Keeps, hit_rate_of, is_above, is_late, limit}
+use Rattle.can_plan_text.specs.Answers.{AreVerdicts, IsPlanVerdict, Keeps, hit_rate_of, is_above, is_late, limit}
 use Rattle.can_plan_text.specs.Plans.{messages_of}
 use Rattle.can_plan_text.proofs.InOrder.{message-at}
 
@@ -50,7 +50,7 @@ module _ (plan : Plan) (place : ℕ) (within : place < length plan.messages.item
       subst (λ (m : List Message). Judged place v m (hit_rate_of plan.errors) v.planned) all
       (subst (λ (r : HitRate). Judged place v messages r v.planned) hits (subst (λ (q : Planned). Judged place v messages rate q) (sym its) said))
 
-  verdict : IsVerdict plan place v
+  verdict : IsPlanVerdict plan place v
   verdict = record { block = moved.0; least = moved.1 }
 
   pub verdicts-more : (vs : List Verdict) → AreVerdicts plan place vs → AreVerdicts plan (place + 1) (vs ++ v ∷ [])
@@ -63,7 +63,7 @@ module _ (plan : Plan) (place : ℕ) (within : place < length plan.messages.item
             ∙ ap (λ (q : Planned). take place plan.messages.items ++ q ∷ []) (its ∙ is) ∙ sym (take_more plan.messages.items place p within);
         each = λ n u there. elim (last-cases vs v u n there) [
           | inl early ↦ before.each n u early
-          | inr last ↦ subst (λ (w : Verdict). IsVerdict plan n w) last.1 (subst (λ (k : ℕ). IsVerdict plan k v) (at_last n last.0) verdict)
+          | inr last ↦ subst (λ (w : Verdict). IsPlanVerdict plan n w) last.1 (subst (λ (k : ℕ). IsPlanVerdict plan k v) (at_last n last.0) verdict)
         ];
         kept = λ set n u there. elim (last-cases vs v u n there) [
           | inl early ↦ before.kept set n u early

@@ -11,7 +11,7 @@ use Rattle.document_values.specs.Values.{named, ArePaired, IsRequired}
 use Rattle.document_values.proofs.DemandLemmas.{met-followed, unmet-first, unmet-later}
 use Rattle.can_plan_text.specs.declared.field.PlanField.{PlanField}
 use Rattle.can_plan_text.specs.declared.plan.Planned.{Planned}
-use Rattle.can_plan_text.specs.Order.{AreApart, IsRepeated}
+use Rattle.can_plan_text.specs.Order.{HaveOwnFields, IsRepeated}
 use Rattle.can_plan_text.specs.Plans.{IsNew, NamesHead, SaysHead, SaysMessage, message_demands, messages_in, new_demands, plan_demands, rate_in, top_demands}
 
 -- ---- pairs
@@ -77,13 +77,13 @@ module _ (rate : ℕ) (d : Data) (p : Planned) (says : SaysMessage rate d p) whe
 -- ---- messages with fields of their own
 
 module _ (rate : ℕ) (ds : List Data) (listed : List Planned) (paired : ArePaired (SaysMessage rate) ds listed) where
-  new-at : (place k : ℕ) (d : Data) → AreApart place listed → k < place → slice_get ds k ≡ Some d → IsNew ds k d
+  new-at : (place k : ℕ) (d : Data) → HaveOwnFields place listed → k < place → slice_get ds k ≡ Some d → IsNew ds k d
   new-at place k d apart less here n e f g earlier there names_f names_g =
       let a = paired-at (SaysMessage rate) ds listed n e paired there in
       let b = paired-at (SaysMessage rate) ds listed k d paired here in
       λ same. apart n k a.0 b.0 earlier less a.1 b.1 (sym (field-named rate e a.0 a.2 f names_f) ∙ same ∙ field-named rate d b.0 b.2 g names_g)
 
-  all-new : AreApart (length listed) listed → AllMet (demands_on_each (new_demands ds) 0 ds)
+  all-new : HaveOwnFields (length listed) listed → AllMet (demands_on_each (new_demands ds) 0 ds)
   all-new apart = each-met (new_demands ds) 0 ds (λ k p d e is.
       let size = length-paired (SaysMessage rate) ds listed paired in
       let within = slice_get_within ds k d is in
@@ -125,7 +125,7 @@ module _ (document : Data) (ds : List Data) (rate : ℕ) (are : ds ≡ messages_
         (unmet-later wrong (demands_on_each (message_demands (rate_in document)) 0 (messages_in document)) _ (to-document AllMet met)
         (subst (λ (xs : List Data). IsFirstUnmet wrong (demands_on_each (new_demands xs) 0 xs)) are (first-repeated rate ds listed paired wrong r)))
 
-    pub plan-met : AreApart (length listed) listed → AllMet (plan_demands document)
+    pub plan-met : HaveOwnFields (length listed) listed → AllMet (plan_demands document)
     plan-met apart =
         met-followed (top_demands document) _ top
         (met-followed (demands_on_each (message_demands (rate_in document)) 0 (messages_in document)) _ (to-document AllMet met)

@@ -36,7 +36,7 @@ abbrev pub late_in : List Verdict → ℕ
 late_in verdicts = count_by is_late verdicts
 
 -- what the analysis answers of the message at a place: how long lower messages block it, and its least bound, if it finds one
-pub record IsVerdict (plan : Plan) (place : ℕ) (v : Verdict) : Type 0 where
+pub record IsPlanVerdict (plan : Plan) (place : ℕ) (v : Verdict) : Type 0 where
   pub block : v.blocking ≡ blocking (ranking_at (messages_of plan.messages.items) place v.planned.message)
   pub least : let ranking : Ranking = ranking_at (messages_of plan.messages.items) place v.planned.message in
       MatchOption v.bound ((other : ℕ) → IsBound (most_of plan) limit ranking other → ⊥) (λ b. IsLeastBound (most_of plan) limit ranking b)
@@ -49,7 +49,7 @@ Keeps plan v = is_late v ≡ false → EndAlways (most_of plan) (messages_of pla
 -- all that is answered of the messages before a place
 pub record AreVerdicts (plan : Plan) (place : ℕ) (verdicts : List Verdict) : Type 0 where
   pub same : map (λ v. v.planned) verdicts ≡ take place plan.messages.items
-  pub each : (n : ℕ) (v : Verdict) → slice_get verdicts n ≡ Some v → IsVerdict plan n v
+  pub each : (n : ℕ) (v : Verdict) → slice_get verdicts n ≡ Some v → IsPlanVerdict plan n v
   pub kept : IsMessageSet (messages_of plan.messages.items) → (n : ℕ) (v : Verdict) → slice_get verdicts n ≡ Some v → Keeps plan v
 
 -- for how long the rate of hits is borne, where the document has one
