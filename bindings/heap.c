@@ -1,5 +1,5 @@
 /*
- * What the proved archive asks of its program for memory, over malloc, realloc and free. It is trusted: a block that is
+ * What the proved archives ask of their program for memory, over malloc, realloc and free. It is trusted: a block that is
  * given is at least so large, and aligned as its size allows up to 16, which malloc's blocks are.
  */
 #include <stdbool.h>

@@ -24,19 +24,20 @@
  *
  * A call that can be refused answers a status, which is named without RIDDLESAGE_ below. Where that is not OK, the port
  * is as it was, and nothing has been written, but for what riddlesage_decode(), riddlesage_run() and
- * riddlesage_decode_trace() say. Numbers of every size are allowed
- * in every argument and field: what is none of a field's values is refused by its status. Where several fit it is the
- * first in the order of the call's arguments, the port first of all. What a caller owes:
+ * riddlesage_decode_trace() say. Numbers of every size are allowed in every argument and field: what is none of a
+ * field's values is refused by its status. Where several fit it is the first in the order of the call's arguments, the
+ * port first of all. What a caller owes:
  *
  * - a pointer that is not NULL points to so much memory as is read or written there, for which no other thread has
  *   a use during the call, and which no other argument of the call points into;
  * - a riddlesage_port begins as RIDDLESAGE_PORT_INIT or all bytes 0, or is one of riddlesage_port_new(), and is written
- *   by these calls alone. A copy of one is refused (RIDDLESAGE_MOVED), as long as the original has not been written
- *   over;
+ *   by these calls alone. One that was copied as a struct is refused (RIDDLESAGE_MOVED), as long as the original has
+ *   not been written over; riddlesage_port_copy() makes a port that is what another one is;
  * - calls for one port don't run at the same time. Ports are independent of each other, and belong to no thread.
  *
- * Only riddlesage_port_new(), riddlesage_port_idle(), riddlesage_port_joining(), riddlesage_port_copy(), riddlesage_run()
- * and riddlesage_decode_trace() take memory, by malloc; what these last two take is free when they return.
+ * Only riddlesage_port_new(), riddlesage_port_idle(), riddlesage_port_joining(), riddlesage_port_copy(),
+ * riddlesage_run() and riddlesage_decode_trace() take memory, by malloc. What these last two take is free when they
+ * return: 32 MiB in one piece, of which they touch what the text has.
  */
 #ifndef RIDDLESAGE_H
 #define RIDDLESAGE_H
@@ -58,7 +59,7 @@ typedef enum riddlesage_status {
   RIDDLESAGE_NULL_POINTER = 1,   /**< a pointer is NULL that must not be */
   RIDDLESAGE_MOVED = 2,          /**< the port is a copy of another one, or did not begin as all bytes 0 */
   RIDDLESAGE_NO_PORT = 3,        /**< no port was made there, or it was freed */
-  RIDDLESAGE_NO_MEMORY = 4,      /**< there is no memory for the port */
+  RIDDLESAGE_NO_MEMORY = 4,      /**< there is no memory for the port, or for a text */
   RIDDLESAGE_QUEUE_FULL = 5,     /**< the queue holds as many frames as it has room for */
   RIDDLESAGE_NO_ENTRY = 6,       /**< the log has no entry of this number */
   RIDDLESAGE_BAD_FLAG = 7,       /**< extended or remote is neither 0 nor 1 */
@@ -122,7 +123,7 @@ typedef enum riddlesage_phase {
   RIDDLESAGE_PHASE_BUS_OFF = 14       /**< `place` rows of eleven recessive levels, 0 to 127 */
 } riddlesage_phase;
 
-/** A rule of docs/ACCESS.md, which decides in a bit time. */
+/** A rule of docs/ACCESS.md, which decides in a bit time. Numbers that are left out are of rules in verdicts alone. */
 typedef enum riddlesage_rule {
   RIDDLESAGE_RULE_JOINING = 0,
   RIDDLESAGE_RULE_START_OF_FRAME = 1,
@@ -143,7 +144,7 @@ typedef enum riddlesage_rule {
 /** Where a port stands before a bit time. */
 typedef struct riddlesage_standing {
   uint8_t phase;  /**< a riddlesage_phase */
-  uint8_t place;  /**< how much of the phase has come; 0 where it has no places */
+  uint8_t place;  /**< how much of the phase has come; 0 in those of one level, and where it is idle */
   uint8_t sender; /**< 1 where the port is the sender of the frame on the bus, else 0 */
   uint8_t rule;   /**< the riddlesage_rule that decides in the phase */
 } riddlesage_standing;
@@ -224,7 +225,7 @@ riddlesage_status riddlesage_port_joining(riddlesage_port *port, size_t queue, s
  * there is freed; without memory it stays. The other port is as before.
  * @param port where the port is to be; where it is the other one nothing is done
  * @param from the other port
- * @return OK, NULL_POINTER, MOVED of either; NO_PORT and NO_MEMORY of the other
+ * @return OK, NULL_POINTER and MOVED of either, NO_PORT of the other, NO_MEMORY
  */
 riddlesage_status riddlesage_port_copy(riddlesage_port *port, riddlesage_port *from);
 
@@ -391,7 +392,7 @@ riddlesage_status riddlesage_run(const char *text, size_t length, char *report, 
  * @param[out] count how many bytes the lines have, also with BAD_BYTE; with NO_ROOM too, but 0 where they have more
  * than RIDDLESAGE_MOST_TEXT
  * @param[out] place with BAD_BYTE how many bytes stand before that one; may be NULL
- * @return OK, NULL_POINTER, NO_MEMORY, BAD_BYTE, NO_ROOM
+ * @return OK, NULL_POINTER, NO_MEMORY, NO_ROOM, BAD_BYTE: where the lines before a bad byte have no room, it isn't told
  */
 riddlesage_status riddlesage_decode_trace(const char *text, size_t length, char *lines, size_t room, size_t *count,
                                           size_t *place);

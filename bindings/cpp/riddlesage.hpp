@@ -2,9 +2,9 @@
 /// @brief riddlesage.h for C++20: a classical CAN controller at whole bit times, as a golden model.
 ///
 /// A Port frees itself, can be moved and kept in containers, and takes and gives enumerations and spans in place of
-/// numbers and pointers. Nothing throws but text(), run() and decode_trace(), where there is no memory for a text. A call that can be refused answers
-/// a Status, and nothing has changed where that is not Status::ok. What each call does stands in riddlesage.h; that is
-/// proved, and this header is not.
+/// numbers and pointers. Nothing throws but text(), run() and decode_trace(), where there is no memory for a text. A
+/// call that can be refused answers a Status, and nothing has changed where that is not Status::ok. What each call does
+/// stands in riddlesage.h; that is proved, and this header is not.
 #ifndef RIDDLESAGE_HPP
 #define RIDDLESAGE_HPP
 

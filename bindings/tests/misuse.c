@@ -347,6 +347,9 @@ static void texts(void)
   text[count] = '\0';
   want_text("0 fault C3 at 5\n", text, __LINE__);
   WANT(BAD_BYTE, riddlesage_decode_trace("2", 1, text, 0, &count, NULL));
+  place = 99;
+  WANT(NO_ROOM, riddlesage_decode_trace(bad, sizeof bad - 1, text, 1, &count, &place));
+  want(place == 99 ? RIDDLESAGE_OK : RIDDLESAGE_BAD_BYTE, RIDDLESAGE_OK, "a byte behind lines without room", __LINE__);
 }
 
 int main(void)

@@ -1,6 +1,7 @@
 /*
- * Plays rows.txt through the C library, bit time by bit time (`rows step FILE`), each on a copy of the port, or each list
- * of levels in one call (`rows run FILE`). Prints each line that does not hold, and at the end how many hold: `214 of 214 lines hold`.
+ * Plays rows.txt through the C library, bit time by bit time (`rows step FILE`), each on a copy of the port, or each
+ * list of levels in one call (`rows run FILE`). Prints each line that does not hold, and at the end how many hold:
+ * `214 of 214 lines hold`.
  */
 #include "../examples/frame_text.h"
 #include "riddlesage.h"

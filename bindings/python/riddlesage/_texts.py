@@ -52,9 +52,16 @@ def _written(call: Callable[..., int], document: bytes, told: object) -> tuple[S
         room = count.value
 
 
+def _bytes(text: str | bytes) -> bytes:
+    """The bytes of a text, or of what else has some."""
+    if isinstance(text, int):
+        raise TypeError("a text or bytes are wanted, not a number")
+    return text.encode("utf-8") if isinstance(text, str) else bytes(text)
+
+
 def run(scenario: str | bytes) -> str:
     """Runs a scenario, a document in TOML, and gives its report: what `canbit run` writes."""
-    document = scenario.encode("utf-8") if isinstance(scenario, str) else bytes(scenario)
+    document = _bytes(scenario)
     field = ctypes.create_string_buffer(FIELD_ROOM)
     status, report = _written(lib.riddlesage_run, document, field)
     if status == Status.BAD_SCENARIO:
@@ -66,9 +73,9 @@ def run(scenario: str | bytes) -> str:
 def decode_trace(trace: str | bytes) -> list[str]:
     """Finds the frames and the faults in a trace, and gives a line for each: those that `canbit decode` writes.
 
-    A trace is a text of `0` and `1`, with blanks and line ends, or it is levels.
+    A `str` is a text of `0` and `1`, with blanks and line ends; `bytes` are levels, 0 and 1.
     """
-    document = trace.encode("utf-8") if isinstance(trace, str) else bytes(trace).translate(_DIGITS)
+    document = _bytes(trace) if isinstance(trace, str) else _bytes(trace).translate(_DIGITS)
     place = ctypes.c_size_t()
     status, lines = _written(lib.riddlesage_decode_trace, document, place)
     if status == Status.BAD_BYTE:
