@@ -1,10 +1,11 @@
 /** The view that runs a scenario, and shows its bus bit time by bit time. */
 import { numberIn, packed, unpacked } from './address.js';
-import { ANSWER, MOST_SCENARIO } from './core.js';
+import { ANSWER } from './core.js';
 import { EndView } from './bus_end.js';
 import { BusPicture } from './bus_picture.js';
 import { BusTimes, DOES, PortTimes } from './bus_times.js';
 import { BROUGHT_WORDS, DOES_WORDS, STAGES } from './bus_words.js';
+import { DocumentField } from './document_field.js';
 import { byId, copyText, download, html } from './draw.js';
 import { Report } from './report.js';
 import { ScenarioForm } from './scenario_form.js';
@@ -15,9 +16,6 @@ import { counted } from './words.js';
 /** A picture of more bit times of ports is not drawn, and a longer report not shown but downloaded. */
 const MOST_PORT_TIMES = 8000000;
 const MOST_SHOWN = 100000;
-
-/** A longer text is kept, and not put into the field, which would be slow with it. */
-const MOST_TYPED = 100000;
 
 /** So long, in milliseconds, until the bit time is told again while ports come. */
 const TOLD_EACH = 200;
@@ -30,12 +28,11 @@ const COLUMNS = ['Phase', 'Part', 'Drives', 'Sees', 'TEC', 'REC', 'What comes'];
 export class BusView {
   /**
    * @param {import('./core.js').Core} core
-   * @param {import('./bus_runs.js').Runs} runs
+   * @param {import('./runs.js').Runs} runs
    */
   constructor(core, runs) {
     Object.assign(this, { core, runs });
-    this.field = byId('bus-text');
-    this.text = '';
+    this.document = new DocumentField({ view: 'bus', what: 'scenario', program: 'canbit', most: 100000 }, (text, how) => this.take(text, how), (why) => this.refuse(why));
     this.picked = 0;
     /** @type {BusTimes | null} */
     this.bus = null;
@@ -53,17 +50,14 @@ export class BusView {
   }
 
   listen() {
-    this.field.addEventListener('input', () => this.take(this.field.value, { types: true }));
-    this.field.addEventListener('paste', (event) => this.paste(event));
     byId('bus-examples').addEventListener('change', (event) => { if (event.target.value) this.showExample(event.target.value); });
-    byId('bus-file').addEventListener('change', (event) => this.showFile(event.target.files[0]));
     const { picture } = this;
     const actions = {
       'bus-back': () => this.pick(this.picked - 1), 'bus-on': () => this.pick(this.picked + 1), 'bus-zoom-in': () => picture.zoom(0.5), 'bus-zoom-out': () => picture.zoom(2),
       'bus-zoom-all': () => picture.view(0, Infinity), 'bus-earlier': () => picture.pan(-0.5), 'bus-later': () => picture.pan(0.5), 'bus-next': () => this.nextEvent(),
       'bus-previous': () => this.previousEvent(), 'bus-fold': () => picture.foldAll(true), 'bus-unfold': () => picture.foldAll(false), 'bus-copy': () => this.copy(),
-      'bus-download': () => download('report.txt', 'text/plain', this.report?.bytes ?? ''), 'bus-save': () => download('scenario.toml', 'text/plain', this.text),
-      'bus-edit': () => { byId('bus-scenario').scrollIntoView(); this.field.focus(); },
+      'bus-download': () => download('report.txt', 'text/plain', this.report?.bytes ?? ''),
+      'bus-edit': () => { byId('bus-scenario').scrollIntoView(); this.document.field.focus(); },
     };
     for (const [id, action] of Object.entries(actions)) byId(id).addEventListener('click', action);
     byId('bus-picture').addEventListener('keydown', (event) => this.key(event));
@@ -85,38 +79,15 @@ export class BusView {
   /** @param {string} name */
   showExample(name) { this.take(this.examples.find(([other]) => other === name)[1]); }
 
-  /** @param {ClipboardEvent} event */
-  paste(event) {
-    const text = event.clipboardData.getData('text');
-    if (text.length <= MOST_TYPED) return;
-    event.preventDefault();
-    this.take(text);
-  }
-
-  /** @param {File | undefined} file */
-  async showFile(file) {
-    if (!file) return;
-    try {
-      if (file.size > MOST_SCENARIO) this.refuse([TOO_LONG]);
-      else this.take(new TextDecoder('utf-8', { fatal: true }).decode(await file.arrayBuffer()));
-    } catch {
-      this.refuse([html('strong', {}, ['P2 toml']), ': the file is no text in UTF-8, or could not be read.']);
-    }
-    byId('bus-file').value = '';
-  }
-
   /**
    * Shows a scenario.
    * @param {string} text
    * @param {{types?: boolean, fills?: boolean}} how whether it is typed, and whether the form is filled in
    */
   take(text, { types = false, fills = true } = {}) {
-    this.text = text;
-    const isLong = text.length > MOST_TYPED;
-    if (!types) this.field.value = isLong ? '' : text;
-    byId('bus-name').textContent = isLong && !types ? `Shown: a scenario of ${counted(text.length, 'character')}, which are too many for the field.` : '';
+    this.document.put(text, types);
     if (fills) {
-      const form = isLong ? null : formOf(text);
+      const form = this.document.isLong ? null : formOf(text);
       this.form.enable(form !== null);
       if (form) this.form.fill(form);
     }
@@ -131,9 +102,9 @@ export class BusView {
 
   /** Runs the scenario of the text. */
   async run() {
-    const bytes = new TextEncoder().encode(this.text);
-    if (bytes.length > MOST_SCENARIO) {
-      this.refuse([TOO_LONG]);
+    const { bytes } = this.document;
+    if (!bytes) {
+      this.refuse([this.document.tooLong]);
       return;
     }
     this.enter('running');
@@ -218,14 +189,14 @@ export class BusView {
    * @returns {[Array<Node | string>, string]}
    */
   fault(wrong) {
-    const { code, place, inside, why } = faultIn(this.core, this.text, wrong);
+    const { code, place, inside, why } = faultIn(this.core, this.document.text, wrong);
     this.form.mark(code);
     return [[html('strong', {}, [`P2 ${code}`]), place, ': ', ...inside, why], `The scenario is wrong: P2 ${code}${place}.`];
   }
 
   clearFault() {
     this.form.mark('');
-    this.field.removeAttribute('aria-invalid');
+    this.document.mark(false);
     byId('bus-fault').textContent = '';
   }
 
@@ -236,7 +207,7 @@ export class BusView {
   refuse(why, told = '') {
     this.runs.number += 1;
     byId('bus-fault').replaceChildren(...why);
-    this.field.setAttribute('aria-invalid', 'true');
+    this.document.mark(true);
     byId('bus-shown').hidden = true;
     byId('bus-told').textContent = told;
     this.bus = null;
@@ -307,9 +278,9 @@ export class BusView {
 
   /** What the view shows, for an address; nothing where that is long. */
   async what() {
-    if (this.text.length > MOST_TYPED) return null;
+    if (this.document.isLong) return null;
     const { from, span } = this.picture;
-    return { scenario: await packed(this.text), time: this.picked, from: Math.round(from), span: Math.round(span) };
+    return { scenario: await packed(this.document.text), time: this.picked, from: Math.round(from), span: Math.round(span) };
   }
 
   /** Shows what an address says. @param {Record<string, string>} what */
@@ -320,8 +291,6 @@ export class BusView {
     this.take(text);
   }
 }
-
-const TOO_LONG = 'The scenario is too long for this page. The program canbit has no such limit.';
 
 /** What a bit time brings to a port, in words. */
 function comesTo(port, time) {
