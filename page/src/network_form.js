@@ -32,6 +32,7 @@ export class NetworkForm {
     const form = byId('network-form');
     form.addEventListener('input', (event) => this.changed(event.target));
     form.addEventListener('submit', (event) => event.preventDefault());
+    this.rows.addEventListener('keydown', (event) => this.key(event));
     this.rows.addEventListener('click', ({ target }) => { if (target.matches('.remove')) this.remove(Number(target.dataset.place)); });
     byId('network-add').addEventListener('click', () => this.add());
   }
@@ -41,6 +42,17 @@ export class NetworkForm {
     if (place === undefined) this.form[name] = value;
     else this.form.messages[place][name] = value;
     this.onChange();
+  }
+
+  /** Goes to the same field of the message below or above. @param {KeyboardEvent} event */
+  key(event) {
+    const by = { ArrowDown: 1, ArrowUp: -1, Enter: 1 }[event.key];
+    const { place, name } = event.target.dataset;
+    const to = Number(place) + by;
+    if (!name || !(to >= 0 && to < this.form.messages.length)) return;
+    event.preventDefault();
+    if (!document.getElementById(`network-${name}-${to}`)) this.pages.goTo(to);
+    byId(`network-${name}-${to}`).focus();
   }
 
   add() {

@@ -13,7 +13,7 @@ port 0 active tec 0 rec 0 missed 0
 port 1 active tec 0 rec 0 missed 1
 `;
 
-/** Three messages with C = 1000 and periods of 2500, 3500 and 3500 would be the example of docs/PLANNING.md; here each has C = 125. */
+/** The worked example of docs/PLANNING.md, in another order and with a deadline that is missed by a bit time; and the answer. */
 const NETWORK = `version = 1
 [[message]]
 frame = "S 300 D"

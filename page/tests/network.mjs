@@ -105,6 +105,17 @@ export const networkTests = [
     await fillNetwork(page, 'network-text', 'version = 1\nmessage = [{ frame = "S 000 D", period = [] }]\n');
     assert.equal(await page.get("document.getElementById('network-formless').hidden"), false);
   }],
+  ['the table is gone through by keys', async ({ open }) => {
+    const page = await networkShown(open, many(40));
+    await page.run(() => document.getElementById('network-jitter-30').focus());
+    const reached = [];
+    for (const key of ['ArrowDown', 'Enter', 'ArrowUp', 'ArrowUp']) {
+      await page.key(key);
+      reached.push(await page.get('document.activeElement.id'));
+    }
+    assert.deepEqual(reached, ['network-jitter-31', 'network-jitter-32', 'network-jitter-31', 'network-jitter-30']);
+    assert.equal(await page.get("document.getElementById('network-messages-paged').textContent"), '1 to 32 of 40');
+  }],
   ['a network is opened and saved as a file', async ({ open, work }) => {
     writeFileSync(join(work, 'network.toml'), EDGES);
     const page = await networkShown(open);
