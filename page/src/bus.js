@@ -5,7 +5,7 @@ import { EndView } from './bus_end.js';
 import { BusPicture } from './bus_picture.js';
 import { BusTimes, DOES, PortTimes } from './bus_times.js';
 import { BROUGHT_WORDS, DOES_WORDS, STAGES } from './bus_words.js';
-import { DocumentField } from './document_field.js';
+import { DocumentView } from './document_view.js';
 import { byId, copyText, download, html } from './draw.js';
 import { Report } from './report.js';
 import { ScenarioForm } from './scenario_form.js';
@@ -25,32 +25,29 @@ const LEVEL_WORDS = ['dominant', 'recessive'];
 /** The names of the columns of the ports in a bit time. */
 const COLUMNS = ['Phase', 'Part', 'Drives', 'Sees', 'TEC', 'REC', 'What comes'];
 
-export class BusView {
+export class BusView extends DocumentView {
   /**
    * @param {import('./core.js').Core} core
    * @param {import('./runs.js').Runs} runs
    */
   constructor(core, runs) {
-    Object.assign(this, { core, runs });
-    this.document = new DocumentField({ view: 'bus', what: 'scenario', program: 'canbit', most: 100000 }, (text, how) => this.take(text, how), (why) => this.refuse(why));
+    super({ view: 'bus', what: 'scenario', program: 'canbit', most: 100000 }, runs);
+    this.core = core;
     this.picked = 0;
     /** @type {BusTimes | null} */
     this.bus = null;
     /** @type {Report | null} */
     this.report = null;
     this.waits = false;
-    this.examples = JSON.parse(byId('scenarios').textContent);
     this.picture = new BusPicture(byId('bus-picture'), (levels) => core.marks(levels), (time) => this.pick(time));
     this.ends = new EndView((time, node) => this.visit(time, node));
     this.form = new ScenarioForm(() => this.take(textOf(this.form.read()), { fills: false }));
-    byId('bus-examples').append(...this.examples.map(([name]) => html('option', { value: name }, [name.replaceAll('_', ' ')])));
     byId('bus-key').append(...DOES.map((does) => html('li', {}, [html('span', { class: `swatch does-${does}` }), DOES_WORDS[does].name])));
     this.listen();
     this.showExample('arbitration');
   }
 
   listen() {
-    byId('bus-examples').addEventListener('change', (event) => { if (event.target.value) this.showExample(event.target.value); });
     const { picture } = this;
     const actions = {
       'bus-back': () => this.pick(this.picked - 1), 'bus-on': () => this.pick(this.picked + 1), 'bus-zoom-in': () => picture.zoom(0.5), 'bus-zoom-out': () => picture.zoom(2),
@@ -76,43 +73,16 @@ export class BusView {
     action();
   }
 
-  /** @param {string} name */
-  showExample(name) { this.take(this.examples.find(([other]) => other === name)[1]); }
+  /** @param {string} text */
+  formOf(text) { return this.document.isLong ? null : formOf(text); }
 
-  /**
-   * Shows a scenario.
-   * @param {string} text
-   * @param {{types?: boolean, fills?: boolean}} how whether it is typed, and whether the form is filled in
-   */
-  take(text, { types = false, fills = true } = {}) {
-    this.document.put(text, types);
-    if (fills) {
-      const form = this.document.isLong ? null : formOf(text);
-      this.form.enable(form !== null);
-      if (form) this.form.fill(form);
-    }
-    this.run();
-  }
+  /** @param {import('./core.js').WrongField} wrong */
+  faultIn(wrong) { return faultIn(this.core, this.document.text, wrong); }
 
-  /** @param {string} state running, reported, shown or refused */
-  enter(state) {
-    byId('panel-bus').dataset.state = state;
-    byId('bus-shown').setAttribute('aria-busy', String(state === 'running' || state === 'reported'));
-  }
-
-  /** Runs the scenario of the text. */
-  async run() {
-    const { bytes } = this.document;
-    if (!bytes) {
-      this.refuse([this.document.tooLong]);
-      return;
-    }
-    this.enter('running');
-    try {
-      await this.answer(bytes);
-    } catch (error) {
-      this.refuse([`This browser could not run the scenario (${error.message}). The program canbit can.`]);
-    }
+  forget() {
+    this.bus = null;
+    this.report = null;
+    this.picture.show(null);
   }
 
   /** @param {Uint8Array} bytes the scenario */
@@ -120,8 +90,8 @@ export class BusView {
     const began = performance.now();
     const told = await this.runs.report(bytes);
     if (!told) return;
-    if (told.answer === ANSWER.badScenario) this.refuse(...this.fault(told.wrong));
-    else if (told.answer !== ANSWER.done) this.refuse(['The run needs more memory than this page has. The program canbit has no such limit.']);
+    if (told.answer === ANSWER.badScenario) this.refuseField(told.wrong);
+    else if (told.answer !== ANSWER.done) this.refuseForMemory();
     else await this.show(bytes, new Report(told.report, told.index), performance.now() - began);
   }
 
@@ -181,39 +151,6 @@ export class BusView {
     const untold = this.bus === null ? ' The picture would be too large for this page; the report is whole.' : '';
     byId('bus-told').textContent = `${counted(this.report.levels.length, 'bit time')} of ${counted(this.report.ports, 'port')}, run in ${Math.ceil(took)} ms.${untold}`;
     byId('bus-told').dataset.took = String(took);
-  }
-
-  /**
-   * What is wrong, where it stands, and what may stand there.
-   * @param {import('./core.js').WrongField} wrong
-   * @returns {[Array<Node | string>, string]}
-   */
-  fault(wrong) {
-    const { code, place, inside, why } = faultIn(this.core, this.document.text, wrong);
-    this.form.mark(code);
-    return [[html('strong', {}, [`P2 ${code}`]), place, ': ', ...inside, why], `The scenario is wrong: P2 ${code}${place}.`];
-  }
-
-  clearFault() {
-    this.form.mark('');
-    this.document.mark(false);
-    byId('bus-fault').textContent = '';
-  }
-
-  /**
-   * @param {Array<Node | string>} why nothing is shown
-   * @param {string} [told] the same in short
-   */
-  refuse(why, told = '') {
-    this.runs.number += 1;
-    byId('bus-fault').replaceChildren(...why);
-    this.document.mark(true);
-    byId('bus-shown').hidden = true;
-    byId('bus-told').textContent = told;
-    this.bus = null;
-    this.report = null;
-    this.picture.show(null);
-    this.enter('refused');
   }
 
   /** Shows one bit time of all ports. @param {number} time */
