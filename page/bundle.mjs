@@ -1,4 +1,4 @@
-// Puts the page together: bundle.mjs SOURCES WASM SCENARIOS OUT. The scripts become one, in the order in which they need one
+// Puts the page together: bundle.mjs SOURCES WASM SCENARIOS NETWORKS OUT. The scripts become one, in the order in which they need one
 // another, those of the worker another one, and the page's own policy allows these scripts and styles and no network.
 import { createHash } from 'node:crypto';
 import { readFileSync, readdirSync, writeFileSync } from 'node:fs';
@@ -54,22 +54,23 @@ function policyHash(text) {
 }
 
 /**
- * The scenarios of a folder, by their names, as JSON that may stand in a page.
+ * The documents of a folder, by their names, as JSON that may stand in a page.
  * @param {string} from
  */
-function scenariosIn(from) {
+function documentsIn(from) {
   const names = readdirSync(from).filter((name) => name.endsWith('.toml')).sort();
   return JSON.stringify(names.map((name) => [name.slice(0, -'.toml'.length), readFileSync(join(from, name), 'utf8')])).replaceAll('<', '\\u003c');
 }
 
-const [folder, wasm, scenarios, out] = process.argv.slice(2);
+const [folder, wasm, scenarios, networks, out] = process.argv.slice(2);
 const script = scriptOf(folder, 'main');
 const style = `\n${readFileSync(join(folder, 'style.css'), 'utf8')}`;
 let page = readFileSync(join(folder, 'index.html'), 'utf8');
 page = fill(page, '@POLICY@', `default-src 'none'; script-src 'wasm-unsafe-eval' ${policyHash(script)}; style-src ${policyHash(style)}; worker-src blob:; img-src blob: data:; base-uri 'none'; form-action 'none'`);
 page = fill(page, '@STYLE@', style);
 page = fill(page, '@MODULE@', readFileSync(wasm).toString('base64'));
-page = fill(page, '@SCENARIOS@', scenariosIn(scenarios));
-page = fill(page, '@WORKER@', scriptOf(folder, 'bus_worker'));
+page = fill(page, '@SCENARIOS@', documentsIn(scenarios));
+page = fill(page, '@NETWORKS@', documentsIn(networks));
+page = fill(page, '@WORKER@', scriptOf(folder, 'worker'));
 page = fill(page, '@SCRIPT@', script);
 writeFileSync(out, page);

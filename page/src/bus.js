@@ -1,10 +1,11 @@
 /** The view that runs a scenario, and shows its bus bit time by bit time. */
 import { numberIn, packed, unpacked } from './address.js';
-import { ANSWER, MOST_SCENARIO } from './core.js';
+import { ANSWER } from './core.js';
 import { EndView } from './bus_end.js';
 import { BusPicture } from './bus_picture.js';
 import { BusTimes, DOES, PortTimes } from './bus_times.js';
 import { BROUGHT_WORDS, DOES_WORDS, STAGES } from './bus_words.js';
+import { DocumentView } from './document_view.js';
 import { byId, copyText, download, html } from './draw.js';
 import { Report } from './report.js';
 import { ScenarioForm } from './scenario_form.js';
@@ -16,9 +17,6 @@ import { counted } from './words.js';
 const MOST_PORT_TIMES = 8000000;
 const MOST_SHOWN = 100000;
 
-/** A longer text is kept, and not put into the field, which would be slow with it. */
-const MOST_TYPED = 100000;
-
 /** So long, in milliseconds, until the bit time is told again while ports come. */
 const TOLD_EACH = 200;
 
@@ -27,43 +25,36 @@ const LEVEL_WORDS = ['dominant', 'recessive'];
 /** The names of the columns of the ports in a bit time. */
 const COLUMNS = ['Phase', 'Part', 'Drives', 'Sees', 'TEC', 'REC', 'What comes'];
 
-export class BusView {
+export class BusView extends DocumentView {
   /**
    * @param {import('./core.js').Core} core
-   * @param {import('./bus_runs.js').Runs} runs
+   * @param {import('./runs.js').Runs} runs
    */
   constructor(core, runs) {
-    Object.assign(this, { core, runs });
-    this.field = byId('bus-text');
-    this.text = '';
+    super({ view: 'bus', what: 'scenario', program: 'canbit', most: 100000 }, runs);
+    this.core = core;
     this.picked = 0;
     /** @type {BusTimes | null} */
     this.bus = null;
     /** @type {Report | null} */
     this.report = null;
     this.waits = false;
-    this.examples = JSON.parse(byId('scenarios').textContent);
     this.picture = new BusPicture(byId('bus-picture'), (levels) => core.marks(levels), (time) => this.pick(time));
     this.ends = new EndView((time, node) => this.visit(time, node));
     this.form = new ScenarioForm(() => this.take(textOf(this.form.read()), { fills: false }));
-    byId('bus-examples').append(...this.examples.map(([name]) => html('option', { value: name }, [name.replaceAll('_', ' ')])));
     byId('bus-key').append(...DOES.map((does) => html('li', {}, [html('span', { class: `swatch does-${does}` }), DOES_WORDS[does].name])));
     this.listen();
     this.showExample('arbitration');
   }
 
   listen() {
-    this.field.addEventListener('input', () => this.take(this.field.value, { types: true }));
-    this.field.addEventListener('paste', (event) => this.paste(event));
-    byId('bus-examples').addEventListener('change', (event) => { if (event.target.value) this.showExample(event.target.value); });
-    byId('bus-file').addEventListener('change', (event) => this.showFile(event.target.files[0]));
     const { picture } = this;
     const actions = {
       'bus-back': () => this.pick(this.picked - 1), 'bus-on': () => this.pick(this.picked + 1), 'bus-zoom-in': () => picture.zoom(0.5), 'bus-zoom-out': () => picture.zoom(2),
       'bus-zoom-all': () => picture.view(0, Infinity), 'bus-earlier': () => picture.pan(-0.5), 'bus-later': () => picture.pan(0.5), 'bus-next': () => this.nextEvent(),
       'bus-previous': () => this.previousEvent(), 'bus-fold': () => picture.foldAll(true), 'bus-unfold': () => picture.foldAll(false), 'bus-copy': () => this.copy(),
-      'bus-download': () => download('report.txt', 'text/plain', this.report?.bytes ?? ''), 'bus-save': () => download('scenario.toml', 'text/plain', this.text),
-      'bus-edit': () => { byId('bus-scenario').scrollIntoView(); this.field.focus(); },
+      'bus-download': () => download('report.txt', 'text/plain', this.report?.bytes ?? ''),
+      'bus-edit': () => { byId('bus-scenario').scrollIntoView(); this.document.field.focus(); },
     };
     for (const [id, action] of Object.entries(actions)) byId(id).addEventListener('click', action);
     byId('bus-picture').addEventListener('keydown', (event) => this.key(event));
@@ -82,66 +73,16 @@ export class BusView {
     action();
   }
 
-  /** @param {string} name */
-  showExample(name) { this.take(this.examples.find(([other]) => other === name)[1]); }
+  /** @param {string} text */
+  formOf(text) { return this.document.isLong ? null : formOf(text); }
 
-  /** @param {ClipboardEvent} event */
-  paste(event) {
-    const text = event.clipboardData.getData('text');
-    if (text.length <= MOST_TYPED) return;
-    event.preventDefault();
-    this.take(text);
-  }
+  /** @param {import('./core.js').WrongField} wrong */
+  faultIn(wrong) { return faultIn(this.core, this.document.text, wrong); }
 
-  /** @param {File | undefined} file */
-  async showFile(file) {
-    if (!file) return;
-    try {
-      if (file.size > MOST_SCENARIO) this.refuse([TOO_LONG]);
-      else this.take(new TextDecoder('utf-8', { fatal: true }).decode(await file.arrayBuffer()));
-    } catch {
-      this.refuse([html('strong', {}, ['P2 toml']), ': the file is no text in UTF-8, or could not be read.']);
-    }
-    byId('bus-file').value = '';
-  }
-
-  /**
-   * Shows a scenario.
-   * @param {string} text
-   * @param {{types?: boolean, fills?: boolean}} how whether it is typed, and whether the form is filled in
-   */
-  take(text, { types = false, fills = true } = {}) {
-    this.text = text;
-    const isLong = text.length > MOST_TYPED;
-    if (!types) this.field.value = isLong ? '' : text;
-    byId('bus-name').textContent = isLong && !types ? `Shown: a scenario of ${counted(text.length, 'character')}, which are too many for the field.` : '';
-    if (fills) {
-      const form = isLong ? null : formOf(text);
-      this.form.enable(form !== null);
-      if (form) this.form.fill(form);
-    }
-    this.run();
-  }
-
-  /** @param {string} state running, reported, shown or refused */
-  enter(state) {
-    byId('panel-bus').dataset.state = state;
-    byId('bus-shown').setAttribute('aria-busy', String(state === 'running' || state === 'reported'));
-  }
-
-  /** Runs the scenario of the text. */
-  async run() {
-    const bytes = new TextEncoder().encode(this.text);
-    if (bytes.length > MOST_SCENARIO) {
-      this.refuse([TOO_LONG]);
-      return;
-    }
-    this.enter('running');
-    try {
-      await this.answer(bytes);
-    } catch (error) {
-      this.refuse([`This browser could not run the scenario (${error.message}). The program canbit can.`]);
-    }
+  forget() {
+    this.bus = null;
+    this.report = null;
+    this.picture.show(null);
   }
 
   /** @param {Uint8Array} bytes the scenario */
@@ -149,8 +90,8 @@ export class BusView {
     const began = performance.now();
     const told = await this.runs.report(bytes);
     if (!told) return;
-    if (told.answer === ANSWER.badScenario) this.refuse(...this.fault(told.wrong));
-    else if (told.answer !== ANSWER.done) this.refuse(['The run needs more memory than this page has. The program canbit has no such limit.']);
+    if (told.answer === ANSWER.badScenario) this.refuseField(told.wrong);
+    else if (told.answer !== ANSWER.done) this.refuseForMemory();
     else await this.show(bytes, new Report(told.report, told.index), performance.now() - began);
   }
 
@@ -210,39 +151,6 @@ export class BusView {
     const untold = this.bus === null ? ' The picture would be too large for this page; the report is whole.' : '';
     byId('bus-told').textContent = `${counted(this.report.levels.length, 'bit time')} of ${counted(this.report.ports, 'port')}, run in ${Math.ceil(took)} ms.${untold}`;
     byId('bus-told').dataset.took = String(took);
-  }
-
-  /**
-   * What is wrong, where it stands, and what may stand there.
-   * @param {import('./core.js').WrongField} wrong
-   * @returns {[Array<Node | string>, string]}
-   */
-  fault(wrong) {
-    const { code, place, inside, why } = faultIn(this.core, this.text, wrong);
-    this.form.mark(code);
-    return [[html('strong', {}, [`P2 ${code}`]), place, ': ', ...inside, why], `The scenario is wrong: P2 ${code}${place}.`];
-  }
-
-  clearFault() {
-    this.form.mark('');
-    this.field.removeAttribute('aria-invalid');
-    byId('bus-fault').textContent = '';
-  }
-
-  /**
-   * @param {Array<Node | string>} why nothing is shown
-   * @param {string} [told] the same in short
-   */
-  refuse(why, told = '') {
-    this.runs.number += 1;
-    byId('bus-fault').replaceChildren(...why);
-    this.field.setAttribute('aria-invalid', 'true');
-    byId('bus-shown').hidden = true;
-    byId('bus-told').textContent = told;
-    this.bus = null;
-    this.report = null;
-    this.picture.show(null);
-    this.enter('refused');
   }
 
   /** Shows one bit time of all ports. @param {number} time */
@@ -307,9 +215,9 @@ export class BusView {
 
   /** What the view shows, for an address; nothing where that is long. */
   async what() {
-    if (this.text.length > MOST_TYPED) return null;
+    if (this.document.isLong) return null;
     const { from, span } = this.picture;
-    return { scenario: await packed(this.text), time: this.picked, from: Math.round(from), span: Math.round(span) };
+    return { scenario: await packed(this.document.text), time: this.picked, from: Math.round(from), span: Math.round(span) };
   }
 
   /** Shows what an address says. @param {Record<string, string>} what */
@@ -320,8 +228,6 @@ export class BusView {
     this.take(text);
   }
 }
-
-const TOO_LONG = 'The scenario is too long for this page. The program canbit has no such limit.';
 
 /** What a bit time brings to a port, in words. */
 function comesTo(port, time) {

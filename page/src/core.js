@@ -17,17 +17,17 @@ const MOST_LOOKED_AT = 4096;
 const LINE_BYTES = 33554432;
 const LINES_FRONT = 9;
 
-/** What is told of a port in a bit time (`PlainTime` of can_page), and of a wrong scenario (`WrongField`). */
+/** What is told of a port in a bit time (`PlainTime` of can_page), and of a wrong document (`WrongField`). */
 export const TIME_BYTES = 10;
 const WRONG_BYTES = 24;
 
-/** No scenario has more bit times, and none is longer that the page takes. */
+/** No scenario has more bit times, and no document is longer that the page takes. */
 const MOST_TIMES = 1000000;
-export const MOST_SCENARIO = 1024 * 1024;
+export const MOST_DOCUMENT = 1024 * 1024;
 
 /** What a call answers (`Answer` of can_page). */
 export const ANSWER = Object.freeze({
-  done: 0, noRoom: 1, badLevel: 2, badIdentifier: 3, badDlc: 4, badCount: 5, badScenario: 6, noPort: 7, noMemory: 8,
+  done: 0, noRoom: 1, badLevel: 2, badIdentifier: 3, badDlc: 4, badCount: 5, badScenario: 6, noPort: 7, noMemory: 8, badPlan: 9,
   letter: 11, identifier: 12, direction: 13, dlc: 14, data: 15, trailing: 16,
 });
 
@@ -41,9 +41,9 @@ export const ANSWER = Object.freeze({
  */
 
 /**
- * @typedef {object} WrongField what is wrong in a scenario
+ * @typedef {object} WrongField what is wrong in a scenario or a network
  * @property {number} field the number of the field
- * @property {number} number the port, or the place in a list of disturbances
+ * @property {number} number the port, the place in a list of disturbances, or the message
  * @property {number} element the element of the port's queue
  */
 
@@ -221,16 +221,39 @@ export class Core {
 
   /**
    * The report of the scenario that a document says; or the first field that is wrong.
-   * @param {Uint8Array} text at most MOST_SCENARIO
+   * @param {Uint8Array} text at most MOST_DOCUMENT
    * @returns {{answer: number, wrong: WrongField, report: Uint8Array}}
    */
   run(text) {
-    const { rooms, view } = this;
+    const { rooms } = this;
     const slice = this.put(rooms.text, text);
     this.calls.page_heap_begin(BigInt(rooms.next));
     const answer = this.calls.page_run(...slice, BigInt(rooms.lines), BigInt(rooms.wrong));
-    const wrong = { number: this.number(rooms.wrong), element: this.number(rooms.wrong + 8), field: view.getUint8(rooms.wrong + 16) };
-    return { answer, wrong, report: answer === ANSWER.done ? this.copy(rooms.lines + LINES_FRONT, this.number(rooms.lines)) : new Uint8Array() };
+    return { answer, wrong: this.wrong(), report: this.answered(answer) };
+  }
+
+  /**
+   * The answer to the network that a document says, and how many of its messages are late; or the first field that is wrong.
+   * @param {Uint8Array} text at most MOST_DOCUMENT
+   * @returns {{answer: number, wrong: WrongField, late: number, lines: Uint8Array}}
+   */
+  plan(text) {
+    const { rooms } = this;
+    const slice = this.put(rooms.text, text);
+    this.calls.page_heap_begin(BigInt(rooms.next));
+    const answer = this.calls.page_plan(...slice, BigInt(rooms.lines), BigInt(rooms.count), BigInt(rooms.wrong));
+    return { answer, wrong: this.wrong(), late: this.number(rooms.count), lines: this.answered(answer) };
+  }
+
+  /** @returns {WrongField} what a call has told */
+  wrong() {
+    const at = this.rooms.wrong;
+    return { number: this.number(at), element: this.number(at + 8), field: this.view.getUint8(at + 16) };
+  }
+
+  /** The lines that a call has written, if it has done what it says. @param {number} answer */
+  answered(answer) {
+    return answer === ANSWER.done ? this.copy(this.rooms.lines + LINES_FRONT, this.number(this.rooms.lines)) : new Uint8Array();
   }
 
   /**

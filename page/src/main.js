@@ -1,11 +1,12 @@
 /** Loads the proved code, and begins the views. */
 import { MOST_ADDRESS, parsed, written } from './address.js';
 import { BusView } from './bus.js';
-import { Runs } from './bus_runs.js';
+import { Runs } from './runs.js';
 import { Core } from './core.js';
 import { byId, copyText, html } from './draw.js';
 import { DecodeView } from './decode.js';
 import { EncodeView } from './encode.js';
+import { NetworkView } from './network.js';
 
 /** @returns {Uint8Array} the module, as it stands in the page */
 function moduleBytes() {
@@ -79,6 +80,7 @@ class Views {
       encode: () => new EncodeView(core),
       decode: () => new DecodeView(core),
       bus: () => new BusView(core, new Runs(byId('worker').textContent, module)),
+      network: () => new NetworkView(core, new Runs(byId('worker').textContent, module)),
     };
     /** @type {Record<string, string>} the address of each view as it begins */
     this.first = {};

@@ -2,7 +2,7 @@
 import { ANSWER } from './core.js';
 import { WRONG, wrongWords } from './bus_words.js';
 import { textFault } from './text_fault.js';
-import { lineAndColumn, scanned } from './toml_places.js';
+import { firstUnknown, placeWords, scanned, stopWords } from './toml_places.js';
 
 /** The names at the top by version, and those of a port. */
 const NAMES = Object.freeze({ 1: ['version', 'bits', 'port', 'at', 'in', 'view'], 2: ['version', 'bits', 'port'], port: ['queue', 'log', 'join', 'hold'] });
@@ -17,14 +17,12 @@ export function faultIn(core, text, wrong) {
   const { code, why } = wrongWords(wrong);
   const found = scanned(text);
   const { offset, inside } = detail(core, text, wrong, code, found);
-  if (offset === undefined) return { code, place: '', inside, why };
-  const { line, column } = lineAndColumn(text, offset);
-  return { code, place: ` (line ${line}, column ${column})`, inside, why };
+  return { code, place: placeWords(text, offset), inside, why };
 }
 
 /** The offset of what is wrong, and what is told of it. */
 function detail(core, text, { field, number }, code, found) {
-  if (field === WRONG.toml) return found.stopped ? { offset: found.stopped.offset, inside: [`${capital(found.stopped.message)}. `] } : { inside: [] };
+  if (field === WRONG.toml) return stopWords(found);
   if (field === WRONG.key || field === WRONG.portKey) return unknownName(text, field === WRONG.key ? '' : `port[${number}]`, found);
   const offset = found.places.get(code);
   if (field !== WRONG.element) return { offset, inside: [] };
@@ -32,11 +30,9 @@ function detail(core, text, { field, number }, code, found) {
 }
 
 /** The first name of a table that is none of its own. */
-function unknownName(text, table, { names }) {
+function unknownName(text, table, found) {
   const version = /^\s*version\s*=\s*2\s*(?:#|$)/m.test(text) ? 2 : 1;
-  const known = NAMES[table === '' ? version : 'port'];
-  const found = names.find((one) => one.table === table && !known.includes(one.name));
-  return found ? { offset: found.offset, inside: [`The name is “${found.name}”. `] } : { inside: [] };
+  return firstUnknown(found, table, NAMES[table === '' ? version : 'port']);
 }
 
 /** What is wrong in a frame text, where it is one. @param {string | undefined} frame */
@@ -46,6 +42,3 @@ function wrongFrame(core, frame) {
   const { answer, place } = core.encode(bytes);
   return answer === ANSWER.done ? [] : [...textFault(bytes, answer, place), '. '];
 }
-
-/** @param {string} words */
-const capital = (words) => words[0].toUpperCase() + words.slice(1);

@@ -1,6 +1,6 @@
 /**
- * Where the values of a TOML document stand, and where a text stops being one. It only finds places: whether a text is a
- * document, and what it means, the proved code tells.
+ * Where the values of a TOML document stand, and where a text stops being one. It only finds places and what is written
+ * there: whether a text is a document, and what it means, the proved code tells.
  */
 
 const BARE = /[A-Za-z0-9_-]+/y;
@@ -30,6 +30,8 @@ class Scanner {
     this.places = new Map();
     /** @type {Map<string, string>} the strings, by their paths */
     this.strings = new Map();
+    /** @type {Map<string, string>} numbers, truth values and times as they are written, by their paths */
+    this.literals = new Map();
     /** @type {Array<{table: string, name: string, offset: number}>} the names, in their order */
     this.names = [];
   }
@@ -125,16 +127,17 @@ class Scanner {
     if (sign === '"' || sign === "'") this.strings.set(path, this.string(sign));
     else if (sign === '[') this.array(path);
     else if (sign === '{') this.inline(path);
-    else this.literal(offset);
+    else this.literals.set(path, this.literal(offset));
   }
 
   literal(offset) {
     const word = this.take(LITERAL);
     if (word === null) this.stop('a value was expected here');
-    if (!WHOLE.test(word)) return;
+    if (!WHOLE.test(word)) return word;
     const digits = word.replaceAll('_', '');
     const number = digits.startsWith('-') ? -BigInt(digits.slice(1)) : BigInt(digits.replace('+', ''));
     if (number < LEAST || number > MOST) this.stop('this number does not fit 64 bits', offset);
+    return word;
   }
 
   string(sign) {
@@ -217,7 +220,7 @@ function unescaped(inside) {
 
 /**
  * @param {string} text
- * @returns {Pick<Scanner, 'places' | 'strings' | 'names'> & {stopped: {offset: number, message: string} | null}} what was found, up to
+ * @returns {Pick<Scanner, 'places' | 'strings' | 'literals' | 'names'> & {stopped: {offset: number, message: string} | null}} what was found, up to
  *   where the text stops being a document
  */
 export function scanned(text) {
@@ -229,7 +232,8 @@ export function scanned(text) {
     if (!(error instanceof Stop)) throw error;
     stopped = { offset: error.offset, message: error.message };
   }
-  return { places: scanner.places, strings: scanner.strings, names: scanner.names, stopped };
+  const { places, strings, literals, names } = scanner;
+  return { places, strings, literals, names, stopped };
 }
 
 /**
@@ -241,4 +245,28 @@ export function lineAndColumn(text, offset) {
   const before = text.slice(0, offset);
   const start = before.lastIndexOf('\n') + 1;
   return { line: before.split('\n').length, column: [...before.slice(start)].length + 1 };
+}
+
+/** A place in a text, in words. @param {string} text @param {number | undefined} offset */
+export function placeWords(text, offset) {
+  if (offset === undefined) return '';
+  const { line, column } = lineAndColumn(text, offset);
+  return ` (line ${line}, column ${column})`;
+}
+
+/** Where a text stops being a document, and why. @param {ReturnType<typeof scanned>} found */
+export function stopWords({ stopped }) {
+  if (!stopped) return { inside: [] };
+  return { offset: stopped.offset, inside: [`${stopped.message[0].toUpperCase()}${stopped.message.slice(1)}. `] };
+}
+
+/**
+ * The first name of a table that is none of its own.
+ * @param {ReturnType<typeof scanned>} found
+ * @param {string} table
+ * @param {string[]} known
+ */
+export function firstUnknown({ names }, table, known) {
+  const wrong = names.find((one) => one.table === table && !known.includes(one.name));
+  return wrong ? { offset: wrong.offset, inside: [`The name is “${wrong.name}”. `] } : { inside: [] };
 }

@@ -1,6 +1,7 @@
 // Names, order, contrast, narrow screens and motion.
 import assert from 'node:assert/strict';
 import { fill, settled } from './bus_page.mjs';
+import { fillNetwork, networkSettled } from './network_page.mjs';
 
 /** What in a view has no name, or a name or place that is not right. */
 const complaints = () => {
@@ -109,6 +110,12 @@ async function eachView(page, test) {
   await test('bus with folded ports');
   await fill(page, 'bus-text', 'version = 3');
   await test('bus with a fault');
+  await page.click('tab-network');
+  await networkSettled(page);
+  await page.run(() => { for (const folded of document.querySelectorAll('#panel-network details')) folded.open = true; });
+  await test('network');
+  await fillNetwork(page, 'network-period-3', '0');
+  await test('network with a fault');
   await page.click('tab-about');
   await test('about');
 }
@@ -163,6 +170,19 @@ export const accessTests = [
     }
     assert.deepEqual(reached, ['bus-examples', 'bus-edit', 'bus-picture', 'bus-on', 'bus-previous', 'bus-next', 'bus-zoom-in', 'bus-zoom-out', 'bus-zoom-all', 'bus-earlier', 'bus-later',
       'bus-fold', 'bus-unfold', 'bus-link', 'Ports in this bit time', 'Keys and marks']);
+  }],
+  ['the keyboard reaches a network in the order of its view', async ({ open }) => {
+    const page = await open();
+    await page.click('tab-network');
+    await networkSettled(page);
+    await page.run(() => document.getElementById('tab-network').focus());
+    const reached = [];
+    for (let step = 0; step < 18; step += 1) {
+      await page.key('Tab');
+      reached.push(await page.run(() => document.activeElement.id || document.activeElement.getAttribute('aria-label') || document.activeElement.textContent));
+    }
+    assert.deepEqual(reached, ['network-examples', 'network-edit', 'network-link', 'Bounds and deadlines', 'The answer of canplan', 'network-file', 'network-save', 'network-rate', 'network-burst', 'network-spacing',
+      'Messages', 'network-frame-0', 'network-dlc-0', 'network-period-0', 'network-jitter-0', 'network-deadline-0', 'network-remove-0', 'network-frame-1']);
   }],
   ['tabs are changed by keys', async ({ open }) => {
     const page = await open();

@@ -13,6 +13,29 @@ port 0 active tec 0 rec 0 missed 0
 port 1 active tec 0 rec 0 missed 1
 `;
 
+/** The worked example of docs/PLANNING.md, in another order and with a deadline that is missed by a bit time; and the answer. */
+const NETWORK = `version = 1
+[[message]]
+frame = "S 300 D"
+dlc = 7
+period = 437
+[[message]]
+frame = "S 100 D"
+dlc = 7
+period = 312
+[[message]]
+frame = "S 200 D"
+dlc = 7
+period = 437
+deadline = 370
+`;
+const ANSWER = `network messages 3 load 0.972 rate 0
+S 100 D 7 longest 125 blocking 124 bound 246 deadline 312 slack 66 ok
+S 200 D 7 longest 125 blocking 124 bound 371 deadline 370 late
+S 300 D 7 longest 125 blocking 0 bound 435 deadline 437 slack 2 ok
+load 0.972 late 1 of 3
+`;
+
 /** What a call is given: a text, levels by their digits, bytes; room for so many bytes; a place for a number, or what is told. */
 const text = (letters) => ({ bytes: [...letters].map((letter) => letter.charCodeAt(0)) });
 const levels = (digits) => ({ bytes: [...digits].map(Number) });
@@ -32,6 +55,7 @@ const frameText = (identifier, extended, remote, dlc, data, most = 32) =>
 const levelsOf = (letters) => ['page_levels', [text(letters), room('levels', 8), number('count'), number('place')]];
 const marks = (digits, most = 157) => ['page_marks', [levels(digits), room('fields', most), room('stuffed', 157), number('count')]];
 const run = (letters) => ['page_run', [text(letters), LINES, WRONG]];
+const plan = (letters) => ['page_plan', [text(letters), LINES, number('late'), WRONG]];
 const portTimes = (letters, port, most) => ['page_port_times', [text(letters), size(port), room('times', most, 10), number('count')]];
 
 /**
@@ -95,6 +119,17 @@ const ROWS = [
   [...portTimes(SCENARIO, 2, 60), 7, { count: 99 }],
   [...portTimes(SCENARIO, 0, 59), 1, { count: 99 }],
   [...portTimes('bits = 1', 0, 60), 6, { count: 99 }],
+
+  [...plan(NETWORK), 0, { lines: ANSWER, late: 1 }],
+  [...plan(NETWORK.replace('370', '371')), 0, { late: 0 }],
+  ...[
+    ['', 'version', 0, 0], ['', 'version = 2', 2, 0], ['rate = 1000001', '', 3, 0], ['', 'errors = 1', 4, 0], ['', '[errors]\nspace = 1', 5, 0], ['', '[errors]\nburst = 65536', 6, 0],
+    ['', '[errors]\nspacing = -1', 7, 0], ['', 'message = []', 8, 0], ['', 'message = [1]', 9, 0], ['', '[[message]]\nframes = 1', 10, 0],
+  ].map(([before, behind, field, place]) => [...plan(`${before}\n${field === 2 ? '' : 'version = 1'}\n${behind}\n`), 9, { late: 99, 'wrong 16': field, 'wrong 0': place, 'wrong 8': 0 }]),
+  ...[
+    ['period = 312', '', 13, 1], ['frame = "S 100 D"', 'frame = "S 100 D 7"', 11, 1], ['frame = "S 100 D"', 'frame = "S 300 D"', 16, 1], ['dlc = 7', 'dlc = 16', 12, 0],
+    ['deadline = 370', 'deadline = -1', 15, 2], ['deadline = 370', 'jitter = 4294967296', 14, 2],
+  ].map(([right, wrong, field, place]) => [...plan(NETWORK.replace(right, wrong)), 9, { late: 99, 'wrong 16': field, 'wrong 0': place, 'wrong 8': 0 }]),
 ];
 
 /** What the calls of rows answer and write, by the module's bytes: the same names as the rows want. It runs in the page. */

@@ -1,6 +1,7 @@
 // A view as a link.
 import assert from 'node:assert/strict';
 import { fill, settled, shown, time } from './bus_page.mjs';
+import { networkShown } from './network_page.mjs';
 
 const IDLE = '11111111111';
 const WIRE = '00000100000100000100000100000100000100001111111111';
@@ -48,6 +49,15 @@ export const linkTests = [
     assert.equal(await time(other), 20);
     const width = (one) => one.get("document.querySelector('#bus-picture .cursor').getBoundingClientRect().width.toFixed(1)");
     assert.equal(await width(other), await width(page));
+    await other.close();
+  }],
+  ['a network is a link', async ({ open, browser }) => {
+    const text = 'version = 1 # late\n[[message]]\nframe = "S 000 R"\nperiod = 40\n';
+    const page = await networkShown(open, text);
+    const { other, address } = await followed(page, browser, 'network-link');
+    assert.match(address, /#network&network=[\w-]+$/);
+    await other.until(`document.getElementById('network-text').value === ${JSON.stringify(text)}`);
+    await other.until("document.getElementById('network-told').textContent.includes('1 of 1 message late')");
     await other.close();
   }],
   ['the address follows the view, and is plain where that is as it begins', async ({ open }) => {

@@ -6,7 +6,7 @@ import { within } from './limits.mjs';
 export const pageTests = [
   ['the page is one file that asks for nothing', async ({ open, file, address }) => {
     const text = readFileSync(file, 'utf8');
-    assert.ok(statSync(file).size < 600000, 'the file is small');
+    assert.ok(statSync(file).size < 700000, 'the file is small');
     assert.doesNotMatch(text, /\b(?:src|href)\s*=\s*["']?(?:https?:|\/\/|\.)/);
     assert.doesNotMatch(text, /\bfetch\(|XMLHttpRequest|WebSocket|[^{]\bimport\(/);
     const page = await open();

@@ -11,6 +11,8 @@ import { callTests } from './calls.mjs';
 import { decodeTests } from './decode.mjs';
 import { encodeTests } from './encode.mjs';
 import { linkTests } from './link.mjs';
+import { networkFaultTests } from './network_faults.mjs';
+import { networkTests } from './network.mjs';
 import { pageTests } from './page.mjs';
 
 const [program, file, examples, work] = process.argv.slice(2);
@@ -22,7 +24,7 @@ const only = new RegExp(process.env.PAGE_TEST ?? '');
 let passed = 0;
 let failed = 0;
 
-for (const [name, test] of [...pageTests, ...callTests, ...encodeTests, ...decodeTests, ...busTests, ...busViewTests, ...busFaultTests, ...busSpeedTests, ...linkTests, ...accessTests].filter(([name]) => only.test(name))) {
+for (const [name, test] of [...pageTests, ...callTests, ...encodeTests, ...decodeTests, ...busTests, ...busViewTests, ...busFaultTests, ...busSpeedTests, ...networkTests, ...networkFaultTests, ...linkTests, ...accessTests].filter(([name]) => only.test(name))) {
   const pages = [];
   const open = async (how) => {
     const page = await browser.open(place.address, how);

@@ -4,7 +4,7 @@ use Rattle.std.specs.Prelude.{ℕ}
 use Rattle.can_frame.specs.declared.text.TextFaultKind.{TextFaultKind}
 use Rattle.can_frame.specs.declared.text.TextFaultKind.TheVariants.{KindLetter, Identifier, DataOrRemote, Dlc, Data, Trailing}
 use Rattle.can_page.specs.declared.answer.Answer.{Answer}
-use Rattle.can_page.specs.declared.answer.Answer.TheVariants.{Done, NoRoom, BadLevel, BadIdentifier, BadDlc, BadCount, BadScenario, NoPort, NoMemory, LetterFault, IdentifierFault, DirectionFault, DlcFault, DataFault, TrailingFault}
+use Rattle.can_page.specs.declared.answer.Answer.TheVariants.{Done, NoRoom, BadLevel, BadIdentifier, BadDlc, BadCount, BadScenario, NoPort, NoMemory, BadPlan, LetterFault, IdentifierFault, DirectionFault, DlcFault, DataFault, TrailingFault}
 
 abbrev pub answer_code : Answer → ℕ
 answer_code Done = 0
@@ -16,6 +16,7 @@ answer_code BadCount = 5
 answer_code BadScenario = 6
 answer_code NoPort = 7
 answer_code NoMemory = 8
+answer_code BadPlan = 9
 answer_code LetterFault = 11
 answer_code IdentifierFault = 12
 answer_code DirectionFault = 13
@@ -38,6 +39,10 @@ bad_level = answer_code BadLevel
 -- the document says no scenario
 abbrev pub bad_scenario : ℕ
 bad_scenario = answer_code BadScenario
+
+-- the document says no network
+abbrev pub bad_plan : ℕ
+bad_plan = answer_code BadPlan
 
 -- the answer for a fault of a frame text
 abbrev pub text_answer : TextFaultKind → Answer

@@ -3,7 +3,7 @@ use Rattle.std.specs.Prelude.{◌≢◌, ℕ, ◌<◌, ◌≤◌, Bool, List, le
 use Rattle.can_frame.specs.Ident.{ident_count}
 use Rattle.can_frame.specs.Parts.{Parts, byte_count}
 use Rattle.can_page.specs.declared.answer.Answer.{Answer}
-use Rattle.can_page.specs.declared.answer.Answer.TheVariants.{Done, NoRoom, BadLevel, BadIdentifier, BadDlc, BadCount, BadScenario, NoPort, NoMemory, LetterFault, IdentifierFault, DirectionFault, DlcFault, DataFault, TrailingFault}
+use Rattle.can_page.specs.declared.answer.Answer.TheVariants.{Done, NoRoom, BadLevel, BadIdentifier, BadDlc, BadCount, BadScenario, NoPort, NoMemory, BadPlan, LetterFault, IdentifierFault, DirectionFault, DlcFault, DataFault, TrailingFault}
 
 -- the parts of a frame
 abbrev pub parts_of : ℕ → Bool → Bool → ℕ → List ℕ → Parts
@@ -20,6 +20,7 @@ IsRefusal BadLevel f = ⊥
 IsRefusal BadScenario f = ⊥
 IsRefusal NoPort f = ⊥
 IsRefusal NoMemory f = ⊥
+IsRefusal BadPlan f = ⊥
 IsRefusal LetterFault f = ⊥
 IsRefusal IdentifierFault f = ⊥
 IsRefusal DirectionFault f = ⊥

@@ -1,7 +1,11 @@
--- The plain fields by which the page knows what a port does in a bit time, and what is wrong in a scenario.
+-- The plain fields by which the page knows what a port does in a bit time, and what is wrong in a scenario or a network.
 use Rattle.std.specs.Prelude.{ℕ, List, map}
 use Rattle.can_mac.specs.declared.event.ErrorKind.{ErrorKind}
 use Rattle.can_mac.specs.declared.event.ErrorKind.TheVariants.{Bit, Stuff, Crc, Form, Ack}
+use Rattle.can_plan_text.specs.declared.field.MessageField.{MessageField}
+use Rattle.can_plan_text.specs.declared.field.MessageField.TheVariants as of_message
+use Rattle.can_plan_text.specs.declared.field.PlanField.{PlanField}
+use Rattle.can_plan_text.specs.declared.field.PlanField.TheVariants as plan
 use Rattle.can_port_times.specs.declared.port_times.Brought.{Brought}
 use Rattle.can_port_times.specs.declared.port_times.Brought.TheVariants as bring
 use Rattle.can_port_times.specs.declared.port_times.PortTime.{PortTime}
@@ -102,3 +106,28 @@ wrong_field field.Ports = wrong_at 4 0 0
 wrong_field (field.Port number p) = wrong_in_port number p
 wrong_field (field.Hits hits) = wrong_list hits
 wrong_field (field.Hit hits place) = wrong_hit hits place
+
+-- ---- what is wrong in a network
+
+-- the field, and the message
+abbrev pub wrong_in_message : ℕ → MessageField → WrongField
+wrong_in_message place of_message.Table = wrong_at 9 place 0
+wrong_in_message place of_message.Unknown = wrong_at 10 place 0
+wrong_in_message place of_message.Frame = wrong_at 11 place 0
+wrong_in_message place of_message.Dlc = wrong_at 12 place 0
+wrong_in_message place of_message.Period = wrong_at 13 place 0
+wrong_in_message place of_message.Jitter = wrong_at 14 place 0
+wrong_in_message place of_message.Deadline = wrong_at 15 place 0
+wrong_in_message place of_message.Repeated = wrong_at 16 place 0
+
+abbrev pub wrong_in_plan : PlanField → WrongField
+wrong_in_plan plan.Document = wrong_at 0 0 0
+wrong_in_plan plan.Unknown = wrong_at 1 0 0
+wrong_in_plan plan.Version = wrong_at 2 0 0
+wrong_in_plan plan.Rate = wrong_at 3 0 0
+wrong_in_plan plan.Errors = wrong_at 4 0 0
+wrong_in_plan plan.UnknownError = wrong_at 5 0 0
+wrong_in_plan plan.Burst = wrong_at 6 0 0
+wrong_in_plan plan.Spacing = wrong_at 7 0 0
+wrong_in_plan plan.Messages = wrong_at 8 0 0
+wrong_in_plan (plan.Message place part) = wrong_in_message place part

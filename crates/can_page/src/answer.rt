@@ -24,6 +24,8 @@ pub enum Answer {
     NoPort,
     /// Memory ran out.
     NoMemory,
+    /// The document says no network.
+    BadPlan,
     /// A frame text is wrong in its kind letter.
     LetterFault,
     /// A frame text is wrong in its identifier.
@@ -53,6 +55,7 @@ impl Answer {
             Answer::BadScenario => 6,
             Answer::NoPort => 7,
             Answer::NoMemory => 8,
+            Answer::BadPlan => 9,
             Answer::LetterFault => 11,
             Answer::IdentifierFault => 12,
             Answer::DirectionFault => 13,

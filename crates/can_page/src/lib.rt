@@ -1,8 +1,8 @@
 //! What the page in page/ asks of the proved code: bytes and numbers in, bytes and numbers out. Only those that run a
-//! scenario take memory of their own.
+//! scenario or answer a network take memory of their own.
 //!
-//! Each export does what one call of can_frame, can_code, can_fields, can_decode, can_scenario or can_port_times does, and
-//! promises it in the same definitions. It answers an [`Answer`] as a number.
+//! Each export does what one call of can_frame, can_code, can_fields, can_decode, can_scenario, can_port_times or
+//! can_plan_text does, and promises it in the same definitions. It answers an [`Answer`] as a number.
 //!
 //! | File | What it has | Defined in |
 //! |---|---|---|
@@ -10,7 +10,8 @@
 //! | `codes.rt` | the numbers of levels, fields and flags | `specs/Codes.antt` |
 //! | `frames.rt` | [`page_frame_text`], the text of a frame by its parts, and [`page_encode`], the levels of a frame by its text | `specs/Calls.antt` |
 //! | `lines.rt` | [`Lines`], the caller's room for lines | `specs/Lines.antt` |
-//! | `plain.rt` | [`PlainTime`], what a port does in a bit time, and [`WrongField`], what is wrong in a scenario, as plain fields | `specs/Plain.antt` |
+//! | `plain.rt` | [`PlainTime`], what a port does in a bit time, and [`WrongField`], what is wrong in a scenario or a network, as plain fields | `specs/Plain.antt` |
+//! | `plans.rt` | [`page_plan`], how late the messages of a network can be | `specs/Calls.antt` |
 //! | `scenarios.rt` | [`page_run`], the report of a scenario, and [`page_port_times`], what one of its ports does in each bit time | `specs/Calls.antt` |
 //! | `text.rt` | `Text`, bytes to be read, which a read never fails | `specs/Texts.antt` |
 //! | `traces.rt` | [`page_decode`], the frames and faults in a trace, and [`page_levels`], its levels | `specs/Calls.antt` |
@@ -22,6 +23,7 @@ mod codes;
 mod frames;
 mod lines;
 mod plain;
+mod plans;
 mod scenarios;
 mod text;
 mod traces;
@@ -31,6 +33,7 @@ pub use answer::Answer;
 pub use frames::{page_encode, page_frame_text};
 pub use lines::{Lines, ROOM};
 pub use plain::{PlainTime, WrongField};
+pub use plans::page_plan;
 pub use scenarios::{page_port_times, page_run};
 pub use traces::{page_decode, page_levels};
 pub use wires::page_marks;

@@ -1,8 +1,9 @@
-//! What a port does in a bit time, and what is wrong in a scenario, as plain fields.
+//! What a port does in a bit time, and what is wrong in a scenario or a network, as plain fields.
 ghost use Rattle.std.specs.Prelude.{◌≡◌};
-ghost use Rattle.can_page.specs.Plain.{brought_code as brought_code_of, kind_code as kind_code_of, plain_time, stage_code as stage_code_of, wrong_at, wrong_field, wrong_hit, wrong_in_port, wrong_list};
+ghost use Rattle.can_page.specs.Plain.{brought_code as brought_code_of, kind_code as kind_code_of, plain_time, stage_code as stage_code_of, wrong_at, wrong_field, wrong_hit, wrong_in_message, wrong_in_plan, wrong_in_port, wrong_list};
 
 use can_mac::ErrorKind;
+use can_plan_text::{MessageField, PlanField};
 use can_port_times::{Brought, PortTime, Stage};
 use can_scenario::{Field, HitList, PortField};
 
@@ -26,11 +27,11 @@ pub struct PlainTime {
     pub brought: u8,
 }
 
-/// What is wrong in a scenario.
+/// What is wrong in a scenario or a network.
 #[repr(C)]
 #[derive(Clone, Copy, Debug)]
 pub struct WrongField {
-    /// The port, or the place in a list of disturbances, where the field is one of those.
+    /// The port, the place in a list of disturbances, or the message, where the field is one of those.
     pub number: usize,
     /// The element of the port's queue, where the field is that.
     pub element: usize,
@@ -111,6 +112,40 @@ impl WrongField {
             HitList::At => WrongField::at(15, place, 0),
             HitList::In => WrongField::at(16, place, 0),
             HitList::View => WrongField::at(17, place, 0),
+        }
+    }
+
+    /// This field of a network.
+    pub(crate) fn in_plan(field: PlanField) -> WrongField
+        ensures { result ≡ wrong_in_plan field }
+    {
+        match field {
+            PlanField::Document => WrongField::at(0, 0, 0),
+            PlanField::Unknown => WrongField::at(1, 0, 0),
+            PlanField::Version => WrongField::at(2, 0, 0),
+            PlanField::Rate => WrongField::at(3, 0, 0),
+            PlanField::Errors => WrongField::at(4, 0, 0),
+            PlanField::UnknownError => WrongField::at(5, 0, 0),
+            PlanField::Burst => WrongField::at(6, 0, 0),
+            PlanField::Spacing => WrongField::at(7, 0, 0),
+            PlanField::Messages => WrongField::at(8, 0, 0),
+            PlanField::Message { place, part } => WrongField::in_message(place, part),
+        }
+    }
+
+    /// A field of a message.
+    fn in_message(place: usize, part: MessageField) -> WrongField
+        ensures { result ≡ wrong_in_message place part }
+    {
+        match part {
+            MessageField::Table => WrongField::at(9, place, 0),
+            MessageField::Unknown => WrongField::at(10, place, 0),
+            MessageField::Frame => WrongField::at(11, place, 0),
+            MessageField::Dlc => WrongField::at(12, place, 0),
+            MessageField::Period => WrongField::at(13, place, 0),
+            MessageField::Jitter => WrongField::at(14, place, 0),
+            MessageField::Deadline => WrongField::at(15, place, 0),
+            MessageField::Repeated => WrongField::at(16, place, 0),
         }
     }
 

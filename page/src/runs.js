@@ -1,4 +1,4 @@
-/** Has workers run scenarios, each with the proved code in a memory of its own. */
+/** Has workers answer documents, each with the proved code in a memory of its own. */
 import { ANSWER } from './core.js';
 
 /** @typedef {import('./core.js').WrongField} WrongField */
@@ -63,11 +63,21 @@ export class Runs {
    * @param {Uint8Array} text
    * @returns {Promise<{answer: number, wrong: WrongField, report: Uint8Array} | null>}
    */
-  async report(text) {
+  report(text) { return this.newest({ ask: 'report', text }); }
+
+  /**
+   * The answer to a network, or what is wrong in it; none where another text came meanwhile.
+   * @param {Uint8Array} text
+   * @returns {Promise<{answer: number, wrong: WrongField, late: number, lines: Uint8Array} | null>}
+   */
+  plan(text) { return this.newest({ ask: 'plan', text }); }
+
+  /** The answer to what is asked, if nothing else was meanwhile. @param {object} asked */
+  async newest(asked) {
     this.number += 1;
     const { number } = this;
     this.drop();
-    const told = await this.runners[0].ask({ ask: 'report', text });
+    const told = await this.runners[0].ask(asked);
     if (told.failed) this.end(this.runners[0], told);
     return number === this.number ? told : null;
   }

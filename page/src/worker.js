@@ -1,4 +1,4 @@
-/** What runs beside the page: the proved code on a scenario, so that the page goes on meanwhile. */
+/** What runs beside the page: the proved code on a document, so that the page goes on meanwhile. */
 import { ANSWER, Core } from './core.js';
 import { indexOf } from './bus_times.js';
 import { indexReport } from './report.js';
@@ -19,6 +19,10 @@ const ANSWERS = Object.freeze({
     if (told.answer !== ANSWER.done) return { told, handed: [] };
     const index = indexReport(told.report);
     return { told: { ...told, index }, handed: [told.report.buffer, ...buffersOf(index)] };
+  },
+  plan: (code, { text }) => {
+    const told = code.plan(text);
+    return { told, handed: [told.lines.buffer] };
   },
   port: (code, { text, node, levels }) => {
     const { answer, times } = code.portTimes(text, node);

@@ -1,0 +1,70 @@
+/** The text of a document: typed, pasted, opened as a file and saved as one. */
+import { MOST_DOCUMENT } from './core.js';
+import { byId, download, html } from './draw.js';
+import { counted } from './words.js';
+
+export class DocumentField {
+  /**
+   * @param {{view: string, what: string, program: string, most: number}} of the view, whose name begins those of its elements; what the text
+   *   is called, and the program that answers it; how many letters the field takes, with more of which it would be slow
+   * @param {(text: string, how: {types?: boolean}) => void} onText told of a text, and whether it is typed
+   * @param {(why: Array<Node | string>) => void} onRefused told why there is none
+   */
+  constructor({ view, what, program, most }, onText, onRefused) {
+    Object.assign(this, { what, most, onText, onRefused, text: '' });
+    this.field = byId(`${view}-text`);
+    this.name = byId(`${view}-name`);
+    this.tooLong = `The ${what} is too long for this page. The program ${program} has no such limit.`;
+    this.field.addEventListener('input', () => this.onText(this.field.value, { types: true }));
+    this.field.addEventListener('paste', (event) => this.paste(event));
+    byId(`${view}-file`).addEventListener('change', (event) => this.open(event.target));
+    byId(`${view}-save`).addEventListener('click', () => download(`${what}.toml`, 'text/plain', this.text));
+  }
+
+  /** Whether the text is kept, and not put into the field. */
+  get isLong() { return this.text.length > this.most; }
+
+  /** The bytes of the text; none where they are too many. @returns {Uint8Array | null} */
+  get bytes() {
+    const bytes = new TextEncoder().encode(this.text);
+    return bytes.length > MOST_DOCUMENT ? null : bytes;
+  }
+
+  /** @param {ClipboardEvent} event */
+  paste(event) {
+    const text = event.clipboardData.getData('text');
+    if (text.length <= this.most) return;
+    event.preventDefault();
+    this.onText(text, {});
+  }
+
+  /** @param {HTMLInputElement} choice of a file */
+  async open(choice) {
+    const [file] = choice.files;
+    if (!file) return;
+    try {
+      if (file.size > MOST_DOCUMENT) this.onRefused([this.tooLong]);
+      else this.onText(new TextDecoder('utf-8', { fatal: true }).decode(await file.arrayBuffer()), {});
+    } catch {
+      this.onRefused([html('strong', {}, ['P2 toml']), ': the file is no text in UTF-8, or could not be read.']);
+    }
+    choice.value = '';
+  }
+
+  /**
+   * Keeps a text, and shows it where it was not typed.
+   * @param {string} text
+   * @param {boolean} types
+   */
+  put(text, types) {
+    this.text = text;
+    if (!types) this.field.value = this.isLong ? '' : text;
+    this.name.textContent = this.isLong && !types ? `Shown: a ${this.what} of ${counted(text.length, 'character')}, which are too many for the field.` : '';
+  }
+
+  /** @param {boolean} is wrong */
+  mark(is) {
+    if (is) this.field.setAttribute('aria-invalid', 'true');
+    else this.field.removeAttribute('aria-invalid');
+  }
+}

@@ -1,0 +1,91 @@
+/** What the views of documents have in common: a document is picked, typed or opened, and is answered, or told wrong. */
+import { DocumentField } from './document_field.js';
+import { byId, html } from './draw.js';
+
+/** @typedef {import('./core.js').WrongField} WrongField */
+
+/**
+ * A view has a form beside the text (`form`), and says how a text fills it (`formOf`), what is done with the bytes of a text
+ * (`answer`), what is wrong in it (`faultIn`), and what goes where nothing is shown (`forget`).
+ */
+export class DocumentView {
+  /**
+   * @param {{view: string, what: string, program: string, most: number}} of the view, as its field has it
+   * @param {import('./runs.js').Runs} runs
+   */
+  constructor(of, runs) {
+    Object.assign(this, { of, runs });
+    this.document = new DocumentField(of, (text, how) => this.take(text, how), (why) => this.refuse(why));
+    this.examples = JSON.parse(byId(`${of.what}s`).textContent);
+    byId(`${of.view}-examples`).append(...this.examples.map(([name]) => html('option', { value: name }, [name.replaceAll('_', ' ')])));
+    byId(`${of.view}-examples`).addEventListener('change', (event) => { if (event.target.value) this.showExample(event.target.value); });
+  }
+
+  /** @param {string} name */
+  showExample(name) { this.take(this.examples.find(([other]) => other === name)[1]); }
+
+  /**
+   * Shows a document.
+   * @param {string} text
+   * @param {{types?: boolean, fills?: boolean}} how whether it is typed, and whether the form is filled in
+   */
+  take(text, { types = false, fills = true } = {}) {
+    this.document.put(text, types);
+    if (fills) {
+      const form = this.formOf(text);
+      this.form.enable(form !== null);
+      if (form) this.form.fill(form);
+    }
+    this.run();
+  }
+
+  /** @param {string} state running, reported, shown or refused */
+  enter(state) {
+    byId(`panel-${this.of.view}`).dataset.state = state;
+    byId(`${this.of.view}-shown`).setAttribute('aria-busy', String(state === 'running' || state === 'reported'));
+  }
+
+  /** Answers the document of the text. */
+  async run() {
+    const { bytes } = this.document;
+    if (!bytes) {
+      this.refuse([this.document.tooLong]);
+      return;
+    }
+    this.enter('running');
+    try {
+      await this.answer(bytes);
+    } catch (error) {
+      this.refuse([`This browser could not answer the ${this.of.what} (${error.message}). The program ${this.of.program} can.`]);
+    }
+  }
+
+  /** Tells what is wrong, where it stands, and what may stand there. @param {WrongField} wrong */
+  refuseField(wrong) {
+    const { code, place, inside, why } = this.faultIn(wrong);
+    this.form.mark(code);
+    this.refuse([html('strong', {}, [`P2 ${code}`]), place, ': ', ...inside, why], `The ${this.of.what} is wrong: P2 ${code}${place}.`);
+  }
+
+  refuseForMemory() { this.refuse([`The ${this.of.what} needs more memory than this page has. The program ${this.of.program} has no such limit.`]); }
+
+  /**
+   * @param {Array<Node | string>} why nothing is shown
+   * @param {string} [told] the same in short
+   */
+  refuse(why, told = '') {
+    this.runs.number += 1;
+    byId(`${this.of.view}-fault`).replaceChildren(...why);
+    this.document.mark(true);
+    byId(`${this.of.view}-shown`).hidden = true;
+    byId(`${this.of.view}-told`).textContent = told;
+    this.forget();
+    this.enter('refused');
+  }
+
+  clearFault() {
+    this.form.mark('');
+    this.document.mark(false);
+    byId(`${this.of.view}-fault`).textContent = '';
+  }
+}

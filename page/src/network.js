@@ -1,0 +1,86 @@
+/** The view that answers how late the frames of a network can be. */
+import { packed, unpacked } from './address.js';
+import { ANSWER } from './core.js';
+import { DocumentView } from './document_view.js';
+import { byId, copyText, download } from './draw.js';
+import { answerOf } from './network_answer.js';
+import { BoundsView } from './network_bounds.js';
+import { networkFault } from './network_fault.js';
+import { NetworkForm } from './network_form.js';
+import { formOf, textOf } from './network_text.js';
+import { borneWords } from './network_words.js';
+import { counted } from './words.js';
+
+export class NetworkView extends DocumentView {
+  /**
+   * @param {import('./core.js').Core} core
+   * @param {import('./runs.js').Runs} runs
+   */
+  constructor(core, runs) {
+    super({ view: 'network', what: 'network', program: 'canplan', most: 12000 }, runs);
+    this.core = core;
+    /** @type {import('./network_answer.js').Answer | null} */
+    this.answered = null;
+    this.form = new NetworkForm(() => this.take(textOf(this.form.form), { fills: false }));
+    this.bounds = new BoundsView();
+    this.listen();
+    this.showExample('vehicle');
+  }
+
+  listen() {
+    byId('network-edit').addEventListener('click', () => { byId('network-document').scrollIntoView(); byId('network-rate').focus({ preventScroll: true }); });
+    byId('network-copy').addEventListener('click', () => this.copy());
+    byId('network-download').addEventListener('click', () => download('answer.txt', 'text/plain', this.answered?.text ?? ''));
+  }
+
+  /** @param {string} text */
+  formOf(text) { return formOf(text); }
+
+  /** @param {import('./core.js').WrongField} wrong */
+  faultIn(wrong) { return networkFault(this.core, this.document.text, wrong); }
+
+  forget() { this.answered = null; }
+
+  /** @param {Uint8Array} bytes the network */
+  async answer(bytes) {
+    const began = performance.now();
+    const told = await this.runs.plan(bytes);
+    if (!told) return;
+    if (told.answer === ANSWER.badPlan) this.refuseField(told.wrong);
+    else if (told.answer !== ANSWER.done) this.refuseForMemory();
+    else this.show(answerOf(told.lines), told.late, performance.now() - began);
+  }
+
+  /**
+   * @param {import('./network_answer.js').Answer} answer
+   * @param {number} late how many messages are
+   * @param {number} took in milliseconds
+   */
+  show(answer, late, took) {
+    this.clearFault();
+    this.answered = answer;
+    const { verdicts, load, borne, text } = answer;
+    const deadlines = late === 0 ? 'all deadlines are met' : `${late.toLocaleString('en')} of ${counted(verdicts.length, 'message')} late: deadlines missed`;
+    byId('network-told').textContent = `Load ${load}, ${deadlines}. Answered in ${Math.ceil(took)} ms.`;
+    byId('network-borne').textContent = borneWords(borne);
+    byId('network-answer').textContent = text;
+    byId('network-shown').hidden = false;
+    this.bounds.show(verdicts);
+    this.enter('shown');
+  }
+
+  async copy() {
+    byId('network-copied').textContent = (await copyText(this.answered.text)) ? 'Copied.' : 'This browser does not let the page copy.';
+  }
+
+  /** What the view shows, for an address; nothing where that is long. */
+  async what() {
+    return this.document.isLong ? null : { network: await packed(this.document.text) };
+  }
+
+  /** Shows what an address says. @param {Record<string, string>} what */
+  async open(what) {
+    const text = what.network === undefined ? null : await unpacked(what.network);
+    if (text !== null) this.take(text);
+  }
+}

@@ -1,0 +1,42 @@
+/** The answer to a network, line by line. */
+
+const MESSAGE = /^(.+) longest (\d+) blocking (\d+) bound (\d+|none) deadline (\d+) (?:slack (\d+) ok|late)$/;
+const LAST = /^load (\S+) late (\d+) of (\d+)$/;
+
+/**
+ * @typedef {object} Verdict what is answered of a message, in bit times
+ * @property {string} frame with its DLC
+ * @property {number} longest
+ * @property {number} blocking
+ * @property {number | null} bound none where there is none
+ * @property {number} deadline
+ * @property {number | null} slack none where it is late
+ */
+
+/**
+ * @typedef {object} Answer
+ * @property {string} text all of it
+ * @property {Verdict[]} verdicts in the order of arbitration
+ * @property {string} load
+ * @property {string} borne the line that tells for how long hits are borne, or none
+ */
+
+/**
+ * @param {Uint8Array} bytes
+ * @returns {Answer}
+ */
+export function answerOf(bytes) {
+  const text = new TextDecoder().decode(bytes);
+  const lines = text.split('\n');
+  const end = lines.findIndex((line) => LAST.test(line));
+  return { text, verdicts: lines.slice(1, end).map(verdictOf), load: LAST.exec(lines[end])[1], borne: lines[end + 1] };
+}
+
+/** @param {string} line @returns {Verdict} */
+function verdictOf(line) {
+  const [, frame, longest, blocking, bound, deadline, slack] = MESSAGE.exec(line);
+  return {
+    frame, longest: Number(longest), blocking: Number(blocking), bound: bound === 'none' ? null : Number(bound), deadline: Number(deadline),
+    slack: slack === undefined ? null : Number(slack),
+  };
+}

@@ -1,0 +1,70 @@
+/** The bound of each message beside its deadline, in numbers and as bars. */
+import { byId, html, svg } from './draw.js';
+import { Pages } from './pages.js';
+
+/** @typedef {import('./network_answer.js').Verdict} Verdict */
+
+/** So many messages are shown at a time. */
+const SHOWN = 64;
+
+/** Where the deadline stands in a bar, and where longer bars are cut, in hundredths of its width. */
+const DEADLINE = 48;
+const CUT = 96;
+
+/** So much is drawn at least of what goes beyond a deadline, to be seen. */
+const LEAST = 2;
+
+/** The names of the columns behind the frame. */
+const COLUMNS = ['Longest', 'Blocking', 'Bound', 'Deadline', 'Outcome'];
+
+export class BoundsView {
+  constructor() {
+    this.rows = byId('network-bounds');
+    /** @type {Verdict[]} */
+    this.verdicts = [];
+    this.pages = new Pages('network-bounds', SHOWN, (first, last) => this.rows.replaceChildren(...this.verdicts.slice(first, last).map(rowOf)));
+  }
+
+  /** @param {Verdict[]} verdicts in the order of arbitration */
+  show(verdicts) {
+    const isLike = verdicts.length === this.verdicts.length;
+    this.verdicts = verdicts;
+    this.pages.goTo(isLike ? this.pages.first : 0, verdicts.length);
+  }
+}
+
+/** @param {Verdict} verdict */
+function rowOf(verdict) {
+  const { frame, longest, blocking, bound, deadline, slack } = verdict;
+  const isLate = slack === null;
+  const outcome = isLate ? html('strong', { class: 'fault-name' }, ['▲ late']) : `ok, slack ${told(slack)}`;
+  const cells = [told(longest), told(blocking), bound === null ? 'none' : told(bound), told(deadline), outcome];
+  return html('tr', isLate ? { class: 'late' } : {}, [
+    html('th', { scope: 'row', class: 'mono' }, [frame]),
+    ...cells.map((cell, column) => html('td', { 'data-name': COLUMNS[column], class: column < 4 ? 'number' : 'outcome' }, [cell])),
+    html('td', { class: 'bar-room' }, [barOf(verdict)]),
+  ]);
+}
+
+/** @param {number} time */
+const told = (time) => time.toLocaleString('en');
+
+/**
+ * A bar as long as the bound, against the deadline, which stands at one place in all bars. What goes beyond it is hatched, and
+ * a bar that is cut or has no end ends in an arrow.
+ * @param {Verdict} verdict
+ */
+function barOf({ bound, deadline, slack }) {
+  const length = bound === null || deadline === 0 ? Infinity : (bound / deadline) * DEADLINE;
+  const end = Math.min(length, CUT);
+  const inTime = svg('rect', { class: 'bound', x: 0, y: 4, width: percent(Math.min(end, DEADLINE)), height: 12 });
+  const beyond = slack === null ? [
+    svg('rect', { class: 'beyond', x: percent(DEADLINE), y: 4, width: percent(Math.max(end - DEADLINE, LEAST)), height: 12 }),
+    ...(length > CUT ? [svg('svg', { x: percent(CUT), y: 0, width: 12, height: 20, overflow: 'visible' }, [svg('path', { class: 'cut', d: 'M0 1L9 10L0 19Z' })])] : []),
+  ] : [];
+  const marked = svg('rect', { class: 'deadline', x: percent(DEADLINE), y: 0, width: 3, height: 20 });
+  return svg('svg', { class: 'bar', 'aria-hidden': 'true' }, [svg('rect', { class: 'track', x: 0, y: 4, width: percent(DEADLINE), height: 12 }), inTime, ...beyond, marked]);
+}
+
+/** @param {number} hundredths */
+const percent = (hundredths) => `${Math.round(hundredths * 10) / 10}%`;

@@ -1,0 +1,54 @@
+// What the tests of the view Network do with the page.
+
+/** Waits until a network is answered, or refused. */
+export const networkSettled = (page) => page.until("['shown', 'refused'].includes(document.getElementById('panel-network').dataset.state)");
+
+/** Puts a text into a field, and waits for the answer. */
+export async function fillNetwork(page, id, text) {
+  await page.fill(id, text);
+  await networkSettled(page);
+}
+
+/** Opens the view with a network in it. */
+export async function networkShown(open, text, how) {
+  const page = await open(how);
+  await page.click('tab-network');
+  await networkSettled(page);
+  if (text !== undefined) await fillNetwork(page, 'network-text', text);
+  return page;
+}
+
+/** Pastes a text, which may be too long for the field, and waits for the answer. */
+export async function pasteNetwork(page, text) {
+  await page.run((given) => {
+    const data = new DataTransfer();
+    data.setData('text/plain', given);
+    document.getElementById('network-text').dispatchEvent(new ClipboardEvent('paste', { bubbles: true, cancelable: true, clipboardData: data }));
+  }, text);
+  await networkSettled(page);
+}
+
+/** What a button would save as a file. */
+export const saved = (page, button) => page.run(async (id) => {
+  let blob;
+  URL.createObjectURL = (given) => { blob = given; return 'data:,'; };
+  HTMLAnchorElement.prototype.click = () => {};
+  document.getElementById(id).click();
+  return blob.text();
+}, button);
+
+/** The rows of bounds, each its cells. */
+export const bounds = (page) => page.run(() => [...document.querySelectorAll('#network-bounds tr')].map((row) => [...row.children].slice(0, -1).map((cell) => cell.textContent)));
+
+export const networkText = (page) => page.get("document.getElementById('network-text').value");
+
+export const networkFault = (page) => page.run(() => ({
+  text: document.getElementById('network-fault').textContent, shown: !document.getElementById('network-shown').hidden,
+  invalid: [...document.querySelectorAll('#panel-network [aria-invalid=true]')].map((field) => field.id),
+}));
+
+/** A network of so many messages, of which each has a period ten times as long as all of them take. */
+export function many(count) {
+  const message = (place) => `[[message]]\nframe = "E ${(count - place).toString(16).padStart(8, '0')} D"\nperiod = ${count * 1600}\njitter = ${place}\n`;
+  return `version = 1\n\n${Array.from({ length: count }, (_, place) => message(place)).join('\n')}`;
+}
