@@ -3,6 +3,7 @@ import { spawn } from 'node:child_process';
 import { mkdtempSync, rmSync } from 'node:fs';
 import { tmpdir } from 'node:os';
 import { join } from 'node:path';
+import { setTimeout as later } from 'node:timers/promises';
 
 /** How long an answer may take: others may use the machine. */
 const WAIT = 60000;
@@ -77,12 +78,20 @@ export class Browser {
   close() {
     this.process.kill();
     return new Promise((resolve) => {
-      this.process.on('exit', () => {
-        // its helpers may write there a little longer than it lives
-        rmSync(this.profile, { recursive: true, force: true, maxRetries: 20, retryDelay: 100 });
-        resolve();
-      });
+      this.process.on('exit', () => resolve(remove(this.profile)));
     });
+  }
+}
+
+/** Removes a folder. The browser's helpers may write there longer than it lives: what they keep for two seconds stays. */
+async function remove(folder) {
+  for (let tries = 0; tries < 20; tries += 1) {
+    try {
+      rmSync(folder, { recursive: true, force: true });
+      return;
+    } catch {
+      await later(100);
+    }
   }
 }
 
