@@ -1,0 +1,192 @@
+//! Buses: scenarios that are run, and reported.
+ghost use Rattle.std.specs.Prelude.{◌<◌, ◌≤◌};
+
+use crate::commands::{Program, answered};
+use crate::digest::Digest;
+use crate::random::Random;
+use crate::traffic::{MOST_PORTS, push_frame};
+use std::alloc::{AllocError, Global};
+use std::fmt::Write;
+
+/// How many bit times a scenario may have.
+const MOST_BITS: u32 = 1_000_000;
+
+/// How many bit times a frame takes, with what stands behind it, on the average.
+const FRAME_TIME: u32 = 125;
+
+/// A bus: its ports, how long it is run, and how many percent of this its frames take.
+#[derive(Clone, Copy)]
+struct Plan {
+    ports: u32,
+    bits: u32,
+    load: u32,
+}
+
+impl Plan {
+    /// So many bit times, or as many as there may be.
+    fn new(ports: u32, bits: u32, load: u32) -> Plan {
+        Plan {
+            ports: ports.clamp(1, MOST_PORTS),
+            bits: bits.clamp(1, MOST_BITS),
+            load: load.min(100),
+        }
+    }
+
+    /// How many frames each port has.
+    fn frames(&self) -> u32 {
+        let busy = u64::from(self.bits) * u64::from(self.load) / 100;
+        let frames = busy / u64::from(FRAME_TIME) / u64::from(self.ports.max(1));
+        frames.min(u64::from(MOST_BITS)) as u32
+    }
+}
+
+/// Runs buses to which frames are offered meanwhile, and such with long queues.
+pub fn run_open(
+    alloc: Global,
+    random: &mut Random,
+    size: u32,
+    digest: &mut Digest,
+) -> Result<(), AllocError>
+    requires { size ≤ 1000 }
+{
+    for plan in [
+        Plan::new(64, 16_000 * size, 100),
+        Plan::new(16, 40_000 * size, 80),
+        Plan::new(3, 40_000 * size, 60),
+        Plan::new(2, 40_000 * size, 95),
+    ] {
+        let text = open_scenario(alloc, random, plan)?;
+        answered(alloc, Program::Canbit, "run", text.as_bytes(), digest)?;
+    }
+    for plan in [
+        Plan::new(2, 40_000 * size, 100),
+        Plan::new(5, 20_000 * size, 100),
+    ] {
+        let mut text = head_of(alloc, plan)?;
+        push_queues(&mut text, random, plan)?;
+        answered(alloc, Program::Canbit, "run", text.as_bytes(), digest)?;
+    }
+    Ok(())
+}
+
+/// A scenario whose frames are offered at times of their own.
+fn open_scenario(alloc: Global, random: &mut Random, plan: Plan) -> Result<String, AllocError> {
+    let mut text = String::new(alloc);
+    let bits = plan.bits;
+    write!(text, "version = 2\nbits = {bits}\n")?;
+    for node in 0..plan.ports.min(MOST_PORTS) {
+        text.push_str("\n[[port]]\nlog = 2000\nqueue = [\n")?;
+        for _ in 0..plan.frames() {
+            let time = random.below(bits.max(1));
+            write!(text, "[{time}, \"")?;
+            push_frame(&mut text, random, node)?;
+            text.push_str("\"],\n")?;
+        }
+        text.push_str("]\n")?;
+    }
+    Ok(text)
+}
+
+/// Runs buses on which levels are inverted, for all ports or for one.
+pub fn run_disturbed(
+    alloc: Global,
+    random: &mut Random,
+    size: u32,
+    digest: &mut Digest,
+) -> Result<(), AllocError>
+    requires { size ≤ 1000 }
+{
+    for (plan, gap) in [
+        (Plan::new(64, 6_000 * size, 100), 1500),
+        (Plan::new(16, 16_000 * size, 100), 400),
+        (Plan::new(8, 16_000 * size, 80), 60),
+        (Plan::new(3, 40_000 * size, 100), 800),
+        (Plan::new(2, 40_000 * size, 60), 2500),
+    ] {
+        let mut text = head_of(alloc, plan)?;
+        push_times(&mut text, random, plan, gap)?;
+        push_attempts(&mut text, random, plan, gap)?;
+        push_views(&mut text, random, plan, gap)?;
+        push_queues(&mut text, random, plan)?;
+        answered(alloc, Program::Canbit, "run", text.as_bytes(), digest)?;
+    }
+    Ok(())
+}
+
+/// The head of a scenario whose frames all wait as it begins.
+fn head_of(alloc: Global, plan: Plan) -> Result<String, AllocError> {
+    let mut text = String::new(alloc);
+    let bits = plan.bits;
+    write!(text, "version = 1\nbits = {bits}\n")?;
+    Ok(text)
+}
+
+/// Times at which the wire is inverted, so far apart on the average.
+fn push_times(
+    text: &mut String,
+    random: &mut Random,
+    plan: Plan,
+    gap: u32,
+) -> Result<(), AllocError> {
+    text.push_str("at = [\n")?;
+    let mut time = random.below(gap.max(1));
+    for _ in 0..plan.bits {
+        if time >= plan.bits.min(MOST_BITS) {
+            break;
+        }
+        write!(text, "{time},\n")?;
+        time += 1 + random.below(gap.clamp(1, MOST_BITS) * 4);
+    }
+    text.push_str("]\n")
+}
+
+/// Attempts in which the wire is inverted, and where.
+fn push_attempts(
+    text: &mut String,
+    random: &mut Random,
+    plan: Plan,
+    gap: u32,
+) -> Result<(), AllocError> {
+    text.push_str("in = [\n")?;
+    for attempt in 0..plan.bits / FRAME_TIME {
+        if random.is_one_in(1 + gap.min(MOST_BITS) / 64) {
+            let offset = 1 + random.below(100);
+            write!(text, "[{attempt}, {offset}],\n")?;
+        }
+    }
+    text.push_str("]\n")
+}
+
+/// Times at which one port sees the opposite.
+fn push_views(
+    text: &mut String,
+    random: &mut Random,
+    plan: Plan,
+    gap: u32,
+) -> Result<(), AllocError> {
+    text.push_str("view = [\n")?;
+    let mut time = random.below(gap.max(1));
+    for _ in 0..plan.bits {
+        if time >= plan.bits.min(MOST_BITS) {
+            break;
+        }
+        let node = random.below(plan.ports.max(1));
+        write!(text, "[{time}, {node}],\n")?;
+        time += 1 + random.below(gap.clamp(1, MOST_BITS) * 4);
+    }
+    text.push_str("]\n")
+}
+
+/// The ports, each with its queue.
+fn push_queues(text: &mut String, random: &mut Random, plan: Plan) -> Result<(), AllocError> {
+    for node in 0..plan.ports.min(MOST_PORTS) {
+        text.push_str("\n[[port]]\nlog = 5000\nqueue = [\n")?;
+        for _ in 0..plan.frames() {
+            text.push_str("\"")?;
+            push_frame(text, random, node)?;
+            text.push_str("\",\n")?;
+        }
+        text.push_str("]\n")?;
+    }
+    Ok(())
+}

@@ -1,0 +1,167 @@
+//! Kits: cases whose transcripts are expected and judged, and a session line by line.
+ghost use Rattle.std.specs.Prelude.{◌<◌, ◌≤◌, IfOk};
+
+use crate::commands::{Program, answered};
+use crate::digest::Digest;
+use crate::random::Random;
+use crate::traffic::{frame_of, push_frame, wire_of};
+use std::alloc::{AllocError, Global};
+use std::fmt::Write;
+
+/// How many cases a document may have.
+const MOST_CASES: u32 = 4096;
+
+/// How many bit times a case may have.
+const MOST_BITS: u32 = 100_000;
+
+/// Expects and judges a kit of many cases and one of a few long ones, and plays a session.
+pub fn hold(
+    alloc: Global,
+    random: &mut Random,
+    size: u32,
+    digest: &mut Digest,
+) -> Result<(), AllocError>
+    requires { size ≤ 1000 }
+{
+    hold_kit(alloc, random, 100 * size, 2, digest)?;
+    hold_kit(alloc, random, size.div_ceil(4), 600, digest)?;
+    let session = session(alloc, random, 600 * size)?;
+    answered(alloc, Program::Canhold, "play", session.as_bytes(), digest)?;
+    Ok(())
+}
+
+/// Expects a kit of so many cases, and judges what was expected, with mistakes.
+fn hold_kit(
+    alloc: Global,
+    random: &mut Random,
+    cases: u32,
+    frames: u32,
+    digest: &mut Digest,
+) -> Result<(), AllocError> {
+    let mut text = String::new(alloc);
+    for case in 0..cases.min(MOST_CASES) {
+        push_case(alloc, &mut text, random, case, frames)?;
+    }
+    let mut told = answered(alloc, Program::Canhold, "expect", text.as_bytes(), digest)?;
+    mistake_some(random, &mut told);
+    answered(alloc, Program::Canhold, "judge", &told, digest)?;
+    Ok(())
+}
+
+/// A case in which the tester sends so many frames, some of them wrong, and the controller may have some too.
+fn push_case(
+    alloc: Global,
+    text: &mut String,
+    random: &mut Random,
+    case: u32,
+    frames: u32,
+) -> Result<(), AllocError> {
+    let mut tester = String::new(alloc);
+    let mut bits: u32 = 0;
+    for _ in 0..frames {
+        if bits > MOST_BITS - 300 {
+            break;
+        }
+        bits += push_frame_levels(alloc, &mut tester, random)?;
+    }
+    let number = case.wrapping_mul(2654435761) % 1_000_000_007;
+    write!(
+        text,
+        "[[case]]\nversion = 1\nname = \"traffic-{number}-{case}\"\nfamily = \"traffic\"\n"
+    )?;
+    write!(text, "start = \"idle\"\nbits = {bits}\ntester = [\n")?;
+    text.push_str(tester.as_str())?;
+    text.push_str("]\noffers = [\n")?;
+    let mut time: u32 = random.below(50);
+    for _ in 0..frames.min(4) / 2 {
+        if time < bits {
+            write!(text, "[{time}, \"")?;
+            push_frame(text, random, 63)?;
+            text.push_str("\"],\n")?;
+        }
+        time = time.saturating_add(random.below(300));
+    }
+    text.push_str("]\n")
+}
+
+/// Levels of a frame with some idle ones before and behind, in a string: how many they are.
+fn push_frame_levels(
+    alloc: Global,
+    tester: &mut String,
+    random: &mut Random,
+) -> Result<u32, AllocError>
+    ensures { IfOk result (λ count. count ≤ 300) }
+{
+    let node = random.below(60);
+    let Some(frame) = frame_of(random, node) else {
+        return Ok(0);
+    };
+    let mut digits = wire_of(alloc, &frame)?;
+    if random.is_one_in(3) {
+        let place = random.below(150) as usize;
+        if place < digits.len() {
+            digits[place] ^= 1;
+        }
+    }
+    let before = 12 + random.below(20);
+    let behind = 14 + random.below(40);
+    write!(tester, "\"1*{before} ")?;
+    let shown = digits.len().min(200);
+    for digit in &digits[..shown] {
+        tester.push(char::from(*digit))?;
+    }
+    write!(tester, " 1*{behind}\",\n")?;
+    Ok(before + behind + shown as u32)
+}
+
+/// Makes some of what is told something else: another kind of error.
+fn mistake_some(random: &mut Random, told: &mut [u8]) {
+    for place in 0..told.len() {
+        let is_mistaken = told.len() - place >= 9
+            && told[place] == b'e'
+            && told[place..].starts_with(b"error bit")
+            && random.is_one_in(12);
+        if is_mistaken {
+            told[place + 6..place + 9].copy_from_slice(b"ack");
+        }
+    }
+}
+
+/// A session line by line, of so many lines that play.
+fn session(alloc: Global, random: &mut Random, lines: u32) -> Result<String, AllocError> {
+    let mut text = String::new(alloc);
+    for line in 0..lines {
+        if line % 16 == 0 {
+            write!(text, "end\ncase session-{line} idle\n")?;
+        }
+        if random.is_one_in(3) {
+            text.push_str("offer ")?;
+            push_frame(&mut text, random, 63)?;
+            text.push_str("\n")?;
+        }
+        text.push_str("play ")?;
+        push_played(alloc, &mut text, random)?;
+        text.push_str("\n")?;
+    }
+    text.push_str("quit\n")?;
+    Ok(text)
+}
+
+/// Levels that the tester plays: a frame, or none.
+fn push_played(alloc: Global, text: &mut String, random: &mut Random) -> Result<(), AllocError> {
+    text.push_str("111111111111")?;
+    let node = random.below(60);
+    if let Some(frame) = frame_of(random, node) {
+        let mut digits = wire_of(alloc, &frame)?;
+        if random.is_one_in(4) {
+            let place = random.below(100) as usize;
+            if place < digits.len() {
+                digits[place] ^= 1;
+            }
+        }
+        for digit in &digits {
+            text.push(char::from(*digit))?;
+        }
+    }
+    text.push_str("1111111111111111111111111111111111111111")
+}

@@ -1,0 +1,107 @@
+//! Networks of messages, and how late these can be.
+ghost use Rattle.std.specs.Prelude.{◌<◌, ◌≤◌};
+
+use crate::commands::{Program, answered};
+use crate::digest::Digest;
+use crate::random::Random;
+use std::alloc::{AllocError, Global};
+use std::fmt::Write;
+
+/// How many messages a network may have.
+const MOST_MESSAGES: u32 = 512;
+
+/// A network: how many messages, how many percent of the bus they load, how far apart two hits come, 0 for none, and how
+/// much oftener one message may come than another.
+#[derive(Clone, Copy)]
+struct Plan {
+    messages: u32,
+    load: u32,
+    spacing: u32,
+    spread: u32,
+}
+
+/// Asks how late the messages of some networks can be.
+pub fn plan_networks(
+    alloc: Global,
+    random: &mut Random,
+    size: u32,
+    digest: &mut Digest,
+) -> Result<(), AllocError>
+    requires { size ≤ 1000 }
+{
+    let most = (21 * size).min(MOST_MESSAGES);
+    for (share, load, spacing, spread) in [
+        (1, 80, 0, 100),
+        (1, 95, 0, 10),
+        (1, 105, 0, 100),
+        (1, 85, 20_000, 30),
+        (2, 99, 0, 200),
+        (2, 94, 50_000, 20),
+        (4, 98, 0, 50),
+        (8, 97, 0, 10),
+    ] {
+        let network = Plan {
+            messages: most / share,
+            load,
+            spacing,
+            spread,
+        };
+        let text = document(alloc, random, network)?;
+        answered(alloc, Program::Canplan, "", text.as_bytes(), digest)?;
+    }
+    Ok(())
+}
+
+/// The document of a network.
+fn document(alloc: Global, random: &mut Random, plan: Plan) -> Result<String, AllocError> {
+    let mut text = String::from_str(alloc, "version = 1\n")?;
+    let spacing = plan.spacing;
+    if spacing > 0 {
+        write!(text, "\n[errors]\nburst = 1\nspacing = {spacing}\n")?;
+    }
+    let mut shares = Vec::new(alloc);
+    let mut whole: u64 = 0;
+    for _ in 0..plan.messages.min(MOST_MESSAGES) {
+        let share = 1 + random.below(plan.spread.clamp(1, 1000));
+        whole = whole.saturating_add(u64::from(share));
+        shares.push(share)?;
+    }
+    for (place, share) in shares.iter().enumerate() {
+        push_message(&mut text, random, place, *share, whole, plan.load)?;
+    }
+    Ok(text)
+}
+
+/// A message that has its share of the load.
+fn push_message(
+    text: &mut String,
+    random: &mut Random,
+    place: usize,
+    share: u32,
+    whole: u64,
+    load: u32,
+) -> Result<(), AllocError> {
+    let dlc = random.below(9);
+    let extended = random.is_one_in(2);
+    let longest = if extended { 80 } else { 55 } + 10 * dlc;
+    let apart = (u64::from(longest) * 100)
+        .saturating_mul(whole)
+        .checked_div(u64::from(share) * u64::from(load));
+    let period = apart.unwrap_or(1).clamp(1, 1_000_000_000) as u32;
+    let jitter = if random.is_one_in(2) {
+        random.below(period.max(1)) / 4
+    } else {
+        0
+    };
+    let number = place.min(2047);
+    if extended {
+        write!(
+            text,
+            "\n[[message]]\nframe = \"E {:08x} D\"\n",
+            number << 18
+        )?;
+    } else {
+        write!(text, "\n[[message]]\nframe = \"S {number:03x} D\"\n")?;
+    }
+    write!(text, "dlc = {dlc}\nperiod = {period}\njitter = {jitter}\n")
+}

@@ -1,0 +1,199 @@
+//! Ports that are driven bit by bit, and what each port of a scenario does when.
+ghost use Rattle.std.specs.Prelude.{◌<◌, ◌≤◌, ◌≡◌, length};
+
+use crate::digest::Digest;
+use crate::random::Random;
+use crate::traffic::{frame_of, push_frame};
+use can_fault::State;
+use can_frame::Level;
+use can_mac::{ErrorKind, Event};
+use can_node::{PackedNode, Port};
+use can_port_times::{Brought, PortTime, told_times};
+use can_scenario_text::Scenario;
+use std::alloc::{AllocError, Global};
+use std::fmt::Write;
+
+/// How many frames may wait at a port, and how many its log holds.
+const ROOM: usize = 64;
+
+/// Drives ports bit by bit, and asks of the ports of a scenario what they do when.
+pub fn drive(
+    alloc: Global,
+    random: &mut Random,
+    size: u32,
+    digest: &mut Digest,
+) -> Result<(), AllocError>
+    requires { size ≤ 1000 }
+{
+    drive_ports(alloc, random, 2, 40_000 * size, digest)?;
+    drive_ports(alloc, random, 3, 40_000 * size, digest)?;
+    ask_times(alloc, random, 16, 600 * size, digest)
+}
+
+/// Drives so many ports on one wire, which is disturbed now and then.
+fn drive_ports(
+    alloc: Global,
+    random: &mut Random,
+    count: u32,
+    bits: u32,
+    digest: &mut Digest,
+) -> Result<(), AllocError> {
+    let mut ports = Vec::new(alloc);
+    for _ in 0..count {
+        ports.push(PackedNode::new(alloc, ROOM, ROOM)?)?;
+    }
+    let mut until_offer = 0;
+    let mut until_hit = 500;
+    for time in 0..bits {
+        if until_offer == 0 {
+            until_offer = 1 + random.below(260);
+            offer(&mut ports, random);
+        }
+        until_offer -= 1;
+        let wired = wire_of(&ports);
+        let is_hit = until_hit == 0;
+        if is_hit {
+            until_hit = 1 + random.below(3000);
+        }
+        until_hit -= 1;
+        let seen = if is_hit { wired.opposite() } else { wired };
+        for port in ports.iter_mut() {
+            if let Some(event) = port.sample(seen) {
+                digest.put(number_of(event));
+                digest.put(u64::from(time));
+            }
+        }
+    }
+    for port in &ports {
+        put_port(digest, port);
+    }
+    Ok(())
+}
+
+/// What the ports drive together.
+fn wire_of(ports: &[PackedNode]) -> Level {
+    let mut wired = Level::Recessive;
+    for port in ports {
+        if !port.drive().is_recessive() {
+            wired = Level::Dominant;
+        }
+    }
+    wired
+}
+
+/// Offers a frame to one of the ports.
+fn offer(ports: &mut [PackedNode], random: &mut Random) {
+    let node = random.below(64);
+    let place = node as usize % ports.len().max(1);
+    if let Some(frame) = frame_of(random, node) {
+        if place < ports.len() {
+            let _ = ports[place].offer(frame);
+        }
+    }
+}
+
+/// The number of an event.
+fn number_of(event: Event) -> u64 {
+    match event {
+        Event::Sent(frame) => u64::from(frame.id().raw()) * 16 + 1,
+        Event::Received(frame) => u64::from(frame.id().raw()) * 16 + 2,
+        Event::Lost => 3,
+        Event::Error(kind) => 4 + number_of_error(kind),
+        Event::Overload => 9,
+        Event::WentOff => 10,
+        Event::Recovered => 11,
+    }
+}
+
+/// The number of a kind of error.
+fn number_of_error(kind: ErrorKind) -> u64
+    ensures { result < 5 }
+{
+    match kind {
+        ErrorKind::Bit => 0,
+        ErrorKind::Stuff => 1,
+        ErrorKind::Crc => 2,
+        ErrorKind::Form => 3,
+        ErrorKind::Ack => 4,
+    }
+}
+
+/// What a port has come to.
+fn put_port(digest: &mut Digest, port: &PackedNode) {
+    let (transmit, receive) = port.counters();
+    digest.put(u64::from(transmit));
+    digest.put(u64::from(receive));
+    digest.put(u64::from(port.missed()));
+    digest.put(match port.state() {
+        State::Active => 0,
+        State::Passive => 1,
+        State::BusOff => 2,
+    });
+    for entry in port.log() {
+        digest.put(u64::from(entry.frame.id().raw()));
+        digest.put(u64::from(entry.sent));
+    }
+}
+
+/// Asks of each port of a scenario what it does when.
+fn ask_times(
+    alloc: Global,
+    random: &mut Random,
+    ports: u32,
+    bits: u32,
+    digest: &mut Digest,
+) -> Result<(), AllocError> {
+    let text = scenario_text(alloc, random, ports.clamp(1, 64), bits)?;
+    let Ok(scenario) = Scenario::from_text(alloc, text.as_bytes()) else {
+        digest.put(1);
+        return Ok(());
+    };
+    for node in 0..scenario.ports.len() {
+        for time in &told_times(alloc, &scenario, node)? {
+            put_time(digest, time);
+        }
+    }
+    Ok(())
+}
+
+/// A scenario of a busy bus.
+fn scenario_text(
+    alloc: Global,
+    random: &mut Random,
+    ports: u32,
+    bits: u32,
+) -> Result<String, AllocError>
+    requires { ports ≤ 64 }
+{
+    let mut text = String::new(alloc);
+    write!(text, "version = 2\nbits = {bits}\n")?;
+    for node in 0..ports {
+        text.push_str("\n[[port]]\nqueue = [\n")?;
+        for _ in 0..bits / 2200 {
+            let time = random.below(bits.max(1));
+            write!(text, "[{time}, \"")?;
+            push_frame(&mut text, random, node)?;
+            text.push_str("\"],\n")?;
+        }
+        text.push_str("]\n")?;
+    }
+    Ok(text)
+}
+
+/// What a port does in a bit time.
+fn put_time(digest: &mut Digest, time: &PortTime) {
+    let levels = u64::from(time.drove.code()) * 2 + u64::from(time.saw.code());
+    let counts = u64::from(time.transmit) * 65536 + u64::from(time.receive);
+    let brought = match time.brought {
+        Brought::Nothing => 0,
+        Brought::Sent => 1,
+        Brought::Received => 2,
+        Brought::Lost => 3,
+        Brought::Error(kind) => 4 + number_of_error(kind),
+        Brought::Overload => 9,
+        Brought::WentOff => 10,
+        Brought::Recovered => 11,
+    };
+    let stage = time.stage as u64;
+    digest.put(counts * 4096 + brought * 256 + stage * 8 + levels * 2 + u64::from(time.sends));
+}

@@ -1,0 +1,195 @@
+//! Traces that are decoded, and lines of frames and vectors.
+ghost use Rattle.std.specs.Prelude.{◌<◌, ◌≤◌};
+
+use crate::commands::{Program, answered};
+use crate::digest::Digest;
+use crate::random::Random;
+use crate::traffic::{frame_of, wire_of};
+use std::alloc::{AllocError, Global};
+
+/// How many frames, lines or vectors a text is put together of.
+const POOL: u32 = 4096;
+
+/// How many levels stand in a line.
+const LINE: usize = 64;
+
+/// Pieces of which a text is put together.
+type Pool = Vec<Vec<u8>>;
+
+/// Decodes traces, encodes lines of frames, and checks vectors.
+pub fn read(
+    alloc: Global,
+    random: &mut Random,
+    size: u32,
+    digest: &mut Digest,
+) -> Result<(), AllocError>
+    requires { size ≤ 1000 }
+{
+    let frames = frames_pool(alloc, random)?;
+    let levels = 400_000 * size as usize;
+    let busy = text_of(alloc, random, &frames, levels)?;
+    answered(alloc, Program::Canbit, "decode", &busy, digest)?;
+    let lines = with_ends(alloc, &text_of(alloc, random, &frames, levels)?)?;
+    answered(alloc, Program::Canbit, "decode", &lines, digest)?;
+    let mut wrong = text_of(alloc, random, &frames, levels)?;
+    invert_some(random, &mut wrong, 200);
+    answered(alloc, Program::Canbit, "decode", &wrong, digest)?;
+    let apart = with_blanks(alloc, &text_of(alloc, random, &frames, levels / 16)?)?;
+    answered(alloc, Program::Canbit, "decode", &apart, digest)?;
+    let idle = idle_text(alloc, random, &frames, levels)?;
+    answered(alloc, Program::Canbit, "decode", &idle, digest)?;
+    let noise = noise(alloc, random, levels / 8)?;
+    answered(alloc, Program::Canbit, "decode", &noise, digest)?;
+    let texts = texts_pool(alloc, random)?;
+    let lines = text_of(alloc, random, &texts, 12 * 8_000 * size as usize)?;
+    answered(alloc, Program::Canbit, "encode", &lines, digest)?;
+    let vectors = vectors_pool(alloc, random)?;
+    let lines = text_of(alloc, random, &vectors, 120 * 6_000 * size as usize)?;
+    answered(alloc, Program::Canbit, "check", &lines, digest)?;
+    Ok(())
+}
+
+/// The digits of frames, each with intermission behind it.
+fn frames_pool(alloc: Global, random: &mut Random) -> Result<Pool, AllocError> {
+    let mut pool = Vec::new(alloc);
+    for _ in 0..POOL {
+        let node = random.below(64);
+        if let Some(frame) = frame_of(random, node) {
+            let mut digits = wire_of(alloc, &frame)?;
+            digits.extend_from_slice(b"111")?;
+            pool.push(digits)?;
+        }
+    }
+    Ok(pool)
+}
+
+/// Lines of frame texts.
+fn texts_pool(alloc: Global, random: &mut Random) -> Result<Pool, AllocError> {
+    let mut pool = Vec::new(alloc);
+    for _ in 0..POOL {
+        let node = random.below(64);
+        if let Some(frame) = frame_of(random, node) {
+            let mut line = frame.to_text().as_bytes().to_vec(alloc)?;
+            line.push(b'\n')?;
+            pool.push(line)?;
+        }
+    }
+    Ok(pool)
+}
+
+/// Lines of vectors, of which some have a wrong level.
+fn vectors_pool(alloc: Global, random: &mut Random) -> Result<Pool, AllocError> {
+    let mut pool = Vec::new(alloc);
+    for _ in 0..POOL {
+        let node = random.below(64);
+        if let Some(frame) = frame_of(random, node) {
+            let mut line = frame.to_text().as_bytes().to_vec(alloc)?;
+            line.extend_from_slice(b" = ")?;
+            for level in can_wire::encode(&frame).as_slice() {
+                line.push(level.digit())?;
+            }
+            if random.is_one_in(32) {
+                invert_last(&mut line);
+            }
+            line.push(b'\n')?;
+            pool.push(line)?;
+        }
+    }
+    Ok(pool)
+}
+
+/// Inverts the last level of a line.
+fn invert_last(line: &mut Vec<u8>) {
+    let last = line.len().saturating_sub(1);
+    if last < line.len() {
+        line[last] = b'0';
+    }
+}
+
+/// At least so many bytes of pieces in some order.
+fn text_of(
+    alloc: Global,
+    random: &mut Random,
+    pool: &[Vec<u8>],
+    least: usize,
+) -> Result<Vec<u8>, AllocError> {
+    let mut text = Vec::with_capacity(alloc, least.min(1 << 30))?;
+    for _ in 0..least {
+        if text.len() >= least {
+            break;
+        }
+        let place = random.below(POOL) as usize;
+        if let Some(piece) = pool.get(place) {
+            text.extend_from_slice(piece)?;
+        }
+    }
+    Ok(text)
+}
+
+/// The text with a line end behind each line's levels.
+fn with_ends(alloc: Global, text: &[u8]) -> Result<Vec<u8>, AllocError> {
+    let mut lines = Vec::new(alloc);
+    for line in text.chunks(LINE) {
+        lines.extend_from_slice(line)?;
+        lines.push(b'\n')?;
+    }
+    Ok(lines)
+}
+
+/// The text with a blank behind each level.
+fn with_blanks(alloc: Global, text: &[u8]) -> Result<Vec<u8>, AllocError> {
+    let mut apart = Vec::new(alloc);
+    for digit in text {
+        apart.push(*digit)?;
+        apart.push(b' ')?;
+    }
+    Ok(apart)
+}
+
+/// Inverts one level in so many, on the average.
+fn invert_some(random: &mut Random, text: &mut [u8], gap: u32) {
+    let mut until = random.below(gap.clamp(1, 1_000_000) * 2);
+    for digit in text.iter_mut() {
+        if until == 0 {
+            until = 1 + random.below(gap.clamp(1, 1_000_000) * 2);
+            *digit ^= 1;
+        }
+        until -= 1;
+    }
+}
+
+/// At least so many levels, most of them recessive ones between frames.
+fn idle_text(
+    alloc: Global,
+    random: &mut Random,
+    pool: &[Vec<u8>],
+    least: usize,
+) -> Result<Vec<u8>, AllocError> {
+    let mut text = Vec::with_capacity(alloc, least.min(1 << 30))?;
+    for _ in 0..least {
+        if text.len() >= least {
+            break;
+        }
+        let place = random.below(POOL) as usize;
+        if let Some(piece) = pool.get(place) {
+            text.extend_from_slice(piece)?;
+        }
+        let rest = random.below(20_000) as usize;
+        let whole = text.len().saturating_add(rest);
+        text.resize(whole, b'1')?;
+    }
+    Ok(text)
+}
+
+/// So many levels that look random.
+fn noise(alloc: Global, random: &mut Random, count: usize) -> Result<Vec<u8>, AllocError> {
+    let mut text = Vec::with_capacity(alloc, count.min(1 << 30))?;
+    for _ in 0..count / 64 {
+        let mut number = random.next();
+        for _ in 0..64 {
+            text.push(b'0' + (number % 2) as u8)?;
+            number /= 2;
+        }
+    }
+    Ok(text)
+}

@@ -1,0 +1,59 @@
+//! Frames, and their wires.
+ghost use Rattle.std.specs.Prelude.{◌<◌, ◌≤◌, ◌^◌, length, IfOk};
+
+use crate::random::Random;
+use can_frame::{Frame, Id};
+use can_wire::encode;
+use std::alloc::{AllocError, Global};
+
+/// How many ports there are at most.
+pub const MOST_PORTS: u32 = 64;
+
+/// How many levels stand behind the ACK slot.
+const BEHIND_SLOT: usize = 8;
+
+/// A frame that only the port of this number sends: with data, or a remote one.
+pub fn frame_of(random: &mut Random, node: u32) -> Option<Frame>
+    requires { node < 64 }
+{
+    let id = if random.is_one_in(2) {
+        Id::extended((random.below(1 << 23) << 6) + node)?
+    } else {
+        Id::standard(((random.below(1 << 5) << 6) + node) as u16)?
+    };
+    frame_with(random, id)
+}
+
+/// A frame with this identifier.
+pub fn frame_with(random: &mut Random, id: Id) -> Option<Frame> {
+    if random.is_one_in(16) {
+        return Frame::remote(id, random.below(9) as u8).ok();
+    }
+    let bytes = random.next().to_be_bytes();
+    let count = random.below(9) as usize;
+    Frame::data(id, count as u8, &bytes[..count]).ok()
+}
+
+/// The text of a frame that only the port of this number sends.
+pub fn push_frame(text: &mut String, random: &mut Random, node: u32) -> Result<(), AllocError>
+    requires { node < 64 }
+{
+    match frame_of(random, node) {
+        Some(frame) => text.push_str(frame.to_text().as_str()),
+        None => Ok(()),
+    }
+}
+
+/// The digits of a frame's wire, where some port acknowledges.
+pub fn wire_of(alloc: Global, frame: &Frame) -> Result<Vec<u8>, AllocError> {
+    let mut digits = Vec::new(alloc);
+    let levels = encode(frame);
+    for level in levels.as_slice() {
+        digits.push(level.digit())?;
+    }
+    let slot = digits.len().saturating_sub(BEHIND_SLOT + 1);
+    if slot < digits.len() {
+        digits[slot] = b'0';
+    }
+    Ok(digits)
+}
