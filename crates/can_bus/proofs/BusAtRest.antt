@@ -39,11 +39,11 @@ view_at (suc node) hits place t below =
     subst (λ k. AreBelow hits place (View t k)) (let e : node + 1 ≡ suc node = omega arith in e) (view_next hits place t node (view_at node hits place t below))
 
 -- an attempt that is so many bit times older
-aged_more : (n : ℕ) (latest : Option Attempt) → aged (aged_by n latest) ≡ aged_by (n + 1) latest
+pub aged_more : (n : ℕ) (latest : Option Attempt) → aged (aged_by n latest) ≡ aged_by (n + 1) latest
 aged_more n None = refl
 aged_more n (Some a) = ap (λ k. Some (let b : Attempt = record { number = a.number; offset = k } in b)) (let e : (a.offset + n) + 1 ≡ a.offset + (n + 1) = omega arith in e)
 
-aged_none : (latest : Option Attempt) → latest ≡ aged_by 0 latest
+pub aged_none : (latest : Option Attempt) → latest ≡ aged_by 0 latest
 aged_none None = refl
 aged_none (Some a) = ap (λ k. Some (let b : Attempt = record { number = a.number; offset = k } in b)) (let e : a.offset ≡ a.offset + 0 = omega arith in e)
 
@@ -137,6 +137,14 @@ view_undisturbed hits call n node rising is h =
     sym (view_found (call.time + n) node hits)
     ∙ missed hits call.view.place (View (call.time + n) node) (slice_get hits call.view.place) rising
     (view_at node hits call.view.place (call.time + n) (view_after n hits call.view.place call.time is.view)) refl (view_far call.time n node (slice_get hits call.view.place) h)
+
+-- no port alone is hit where the next hit is a later one of that kind
+pub view_unhit : (hits : List Hit) (place time node : ℕ) → AreRising hits → AreBelow hits place (View time 0) → 0 < until_view time (slice_get hits place) → list_any (hits_view time node) hits ≡ false
+view_unhit hits place time node rising below ahead =
+    let now : time + 0 ≡ time = omega arith in
+    sym (view_found time node hits)
+    ∙ missed hits place (View time node) (slice_get hits place) rising (view_at node hits place time below) refl
+    (subst (λ t. LiesAbove (slice_get hits place) (View t node)) now (view_far time 0 node (slice_get hits place) ahead))
 
 -- ---- bit times at rest
 

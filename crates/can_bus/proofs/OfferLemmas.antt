@@ -223,6 +223,30 @@ reached-end offers place time count reached some end = record {
   ahead = λ n o behind at. let h : n < length offers = slice_get_within offers n o at in absurd (omega arith);
 }
 
+-- up to the time of the next offer
+pub reached-next : (ports : ℕ) (offers : List Offer) (place time next : ℕ) (offer : Offer) → AreOffered ports offers → IsReached offers place (time + 1) →
+    slice_get offers place ≡ Some offer → offer.time ≡ next → (time < next) × IsReached offers place next
+reached-next ports offers place time next offer sound reached there at =
+    let later : time + 1 ≤ offer.time = reached.ahead place offer (omega arith) there in (
+      omega arith,
+      record {
+        passed = λ n o earlier here. let h : o.time < time + 1 = reached.passed n o earlier here in omega arith;
+        ahead = λ n o behind here. let h : offer.time ≤ o.time = offers-rise ports offers sound place n offer o behind there here in omega arith;
+      },
+    )
+
+-- and up to an end before which there is none
+pub reached-last : (ports : ℕ) (offers : List Offer) (place time end : ℕ) → AreOffered ports offers → IsReached offers place (time + 1) → time < end →
+    ((offer : Offer) → slice_get offers place ≡ Some offer → end ≤ offer.time) → IsReached offers place end
+reached-last ports offers place time end sound reached early none = record {
+  passed = λ n o earlier at. let h : o.time < time + 1 = reached.passed n o earlier at in omega arith;
+  ahead = λ n o behind at.
+      let inside : n < length offers = slice_get_within offers n o at in
+      let here : slice_get offers place ≡ Some (get_or offers place o) = slice_get-get_or offers place o (omega arith) in
+      let least : end ≤ (get_or offers place o).time = none (get_or offers place o) here in
+      let h : (get_or offers place o).time ≤ o.time = offers-rise ports offers sound place n (get_or offers place o) o behind here at in omega arith;
+}
+
 -- and at each time before
 pub reached-between : (offers : List Offer) (place time count less : ℕ) → IsReached offers place (time + 1) → IsReached offers place (time + count) → 0 < less → less ≤ count → IsReached offers place (time + less)
 reached-between offers place time count less first last some within = record {

@@ -1,19 +1,19 @@
 -- One bit time of a call.
 use Rattle.std.specs.Prelude.{if◌then◌else◌}
 use Rattle.std.specs.List.{list_any}
-use Rattle.std.proofs.Common.{◌≡◌, ℕ, ◌+◌, ◌<◌, Bool, true, false, List, [], ◌∷◌, ◌≤◌, Option, Some, None, length, map, refl, ap, sym, ◌∙◌, arith}
+use Rattle.std.proofs.Common.{◌≡◌, ℕ, ◌+◌, ◌<◌, Bool, true, false, List, Option, Some, None, map, ap, ◌∙◌, arith}
 use Rattle.std.proofs.lemmas.Bool.{lt-ltb}
 use Rattle.std.proofs.lemmas.Bool.Decides.{nat_tests}
 use Rattle.can_frame.specs.declared.level.Level.{Level}
-use Rattle.can_node.specs.Ports.{PortState, port_drives, port_step}
+use Rattle.can_node.specs.Ports.{PortState, port_drives}
 use Rattle.can_hit.specs.declared.hit.Hit.{Hit}
 use Rattle.can_hit.specs.declared.hit.Hit.TheVariants.{At, In, View}
 use Rattle.can_bus.specs.declared.moment.Attempt.{Attempt}
 use Rattle.can_hit.specs.Hits.{is_pair_above}
 use Rattle.can_bus.specs.Wired.{wired}
-use Rattle.can_bus.specs.Run.{CallState, begins_attempt, following, aged, hits_view, hits_wire, inverted_if, all_sampled, rest_after, recorded, bus_step}
+use Rattle.can_bus.specs.Run.{CallState, begins_attempt, following, aged, hits_wire, inverted_if, all_sampled, rest_after, recorded, bus_step}
 use Rattle.can_bus.specs.Walks.{AreBelow, IsPassed, IsCall, first_call, in_now, in_next}
-use Rattle.can_bus.proofs.CursorLemmas.{below_none, below_above, reach_none, view_found}
+use Rattle.can_bus.proofs.CursorLemmas.{below_none, below_above}
 
 pair_later : (a b : ℕ) → is_pair_above (a + 1) 0 a b ≡ true
 pair_later a b = grind (arith, nat_tests)
@@ -29,15 +29,6 @@ view_next hits place t n below = below_above hits place (View t n) (View t (n + 
 
 pub view_later : (hits : List Hit) (place t n : ℕ) → AreBelow hits place (View t n) → AreBelow hits place (View (t + 1) 0)
 view_later hits place t n below = below_above hits place (View t n) (View (t + 1) 0) (pair_later t n) below
-
--- behind the last hit each port takes the level
-pub all_passed : (hits : List Hit) (place time : ℕ) (x : Level) (n : ℕ) (ports : List PortState) → AreBelow hits place (View time n) → length hits ≤ place →
-    all_sampled hits time x n ports ≡ map (λ p. port_step p x) ports
-all_passed hits place time x n [] below end = refl
-all_passed hits place time x n (p ∷ ports) below end =
-    let none : list_any (hits_view time n) hits ≡ false = sym (view_found time n hits) ∙ sym (reach_none hits place (View time n) below end) in
-    ap (λ b. port_step p (inverted_if b x) ∷ all_sampled hits time x (n + 1) ports) none
-    ∙ ap (λ ps. port_step p x ∷ ps) (all_passed hits place time x (n + 1) ports (view_next hits place time n below) end)
 
 pub within_now : (hits : List Hit) (place : ℕ) (begun : Bool) (latest : Option Attempt) → AreBelow hits place (in_next latest) →
     AreBelow hits place (in_now (if begun then Some (following latest) else aged latest))

@@ -7,7 +7,8 @@ use Rattle.can_bus.specs.declared.offer.Offer.{Offer}
 use Rattle.can_bus.specs.declared.call.Call.{Call}
 use Rattle.can_bus.specs.declared.cursor.Cursor.{Cursor}
 use Rattle.can_hit.specs.Hits.{is_above}
-use Rattle.can_bus.specs.Run.{BusState, CallState}
+use Rattle.std.specs.List.{list_any}
+use Rattle.can_bus.specs.Run.{BusState, CallState, hits_view, hits_wire}
 
 -- the second hit is the first
 abbrev pub is_hit : Hit → Hit → Bool
@@ -101,3 +102,8 @@ until_view time (Some (View t node)) = t - time
 -- a call in which the bus has rested for so many bit times
 abbrev pub rested : ℕ → CallState → CallState
 rested n c = record { bus = c.bus; time = c.time + n; latest = aged_by n c.latest }
+
+-- no hit falls in so many bit times from this time on, in the first of which this attempt begins
+pub record IsFreeFrom (hits : List Hit) (time : ℕ) (first : Option Attempt) (n : ℕ) : Type 0 where
+  pub wire : (o : ℕ) → o < n → list_any (hits_wire (time + o) (aged_by o first)) hits ≡ false
+  pub view : (o node : ℕ) → o < n → list_any (hits_view (time + o) node) hits ≡ false

@@ -1,10 +1,10 @@
-ghost use Rattle.std.specs.Prelude.{ℕ, ◌≡◌, ◌+◌, ◌-◌, ◌<◌, ◌≤◌, ◌^◌, false};
+ghost use Rattle.std.specs.Prelude.{ℕ, ◌≡◌, ◌+◌, ◌-◌, ◌<◌, ◌≤◌, ◌^◌, false, IfSome, Some};
 ghost use Rattle.std.specs.List.{list_any};
-ghost use Rattle.can_bus.specs.Run.{hits_view, hits_wire};
-ghost use Rattle.can_bus.specs.Walks.{AreBelow, AreRising, IsCall, IsPassed, aged_by, first_call, in_now, until_at as until_at_of, until_in as until_in_of, until_view as until_view_of};
+ghost use Rattle.can_bus.specs.Run.{following as following_of, hits_view, hits_wire};
+ghost use Rattle.can_bus.specs.Walks.{AreBelow, AreRising, IsCall, IsFreeFrom, IsPassed, aged_by, first_call, in_now, until_at as until_at_of, until_in as until_in_of, until_view as until_view_of};
 
 use crate::cursor::Cursor;
-use crate::moment::Attempt;
+use crate::moment::{Attempt, following};
 use can_hit::Hit;
 
 /// How far a call is: the bit time, the latest attempt, and how far the hits of each kind
@@ -73,6 +73,34 @@ impl Call {
         let within = until_in(self.within.next(hits), self.latest);
         let view = until_view(self.view.next(hits), self.time);
         at.min(within).min(view).min(most as u64) as usize
+    }
+
+    /// The call behind so many bit times, in the first of which an attempt begins, and no other later; none where a hit
+    /// falls in them, or may fall.
+    pub(crate) fn behind(&self, hits: &[Hit], count: usize) -> Option<Call>
+        requires rising { AreRising hits.now }
+        requires call { IsCall hits.now self.now }
+        requires some { 1 < count }
+        requires time { self.now.time + count < 2 ^ 64 }
+        ensures call { IfSome result (λ later. IsCall hits.now later) }
+        ensures time { IfSome result (λ later. later.time ≡ self.now.time + count) }
+        ensures latest { IfSome result (λ later. later.latest ≡ aged_by (count - 1) (Some (following_of self.now.latest))) }
+        ensures free { IfSome result (λ later. IsFreeFrom hits.now self.now.time (Some (following_of self.now.latest)) count) }
+    {
+        if until_view(self.view.next(hits), self.time) == 0 {
+            return None;
+        }
+        let mut later = *self;
+        later.latest = Some(following(self.latest));
+        if later.hits_wire(hits) {
+            return None;
+        }
+        later.time += 1;
+        if later.undisturbed(hits, count - 1) < count - 1 {
+            return None;
+        }
+        later.pass(count - 1);
+        Some(later)
     }
 
     /// So many bit times pass in which no attempt begins.

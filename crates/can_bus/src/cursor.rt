@@ -1,6 +1,6 @@
-ghost use Rattle.std.specs.Prelude.{◌≡◌, slice_get};
+ghost use Rattle.std.specs.Prelude.{◌≡◌, ◌<◌, IsTrue, slice_get};
 ghost use Rattle.std.specs.List.{list_any};
-ghost use Rattle.can_bus.specs.Walks.{AreBelow, AreRising, is_hit};
+ghost use Rattle.can_bus.specs.Walks.{AreBelow, AreRising, is_hit, until_view};
 
 use can_hit::Hit;
 use std::cmp::Ordering;
@@ -17,6 +17,18 @@ impl Cursor {
         ensures { result ≡ slice_get hits.now self.now.place }
     {
         hits.get(self.place).copied()
+    }
+
+    /// Whether the next hit is one on what a port sees, and later than this time, or there is none.
+    #[inline(always)]
+    pub(crate) fn is_ahead(&self, hits: &[Hit], time: u64) -> bool
+        ensures { IsTrue result → 0 < until_view time (slice_get hits.now self.now.place) }
+    {
+        match hits.get(self.place) {
+            None => true,
+            Some(Hit::View { time: hit, .. }) => *hit > time,
+            Some(Hit::At(_) | Hit::In { .. }) => false,
+        }
     }
 
     /// Passes the hits below this one, and answers whether it is among them all.

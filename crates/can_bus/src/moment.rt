@@ -12,7 +12,7 @@ pub struct Attempt {
 }
 
 /// The attempt that begins behind this one.
-fn following(latest: Option<Attempt>) -> Attempt
+pub(crate) fn following(latest: Option<Attempt>) -> Attempt
     requires { IsPassed latest (2 ^ 64 - 1) }
     ensures { result ≡ following_of latest }
 {

@@ -1,6 +1,6 @@
 -- A frame on the bus, at one controller: where its levels lead, what it tells, and what it drives. (Bosch CAN
 -- 2.0 part B, sections 2, 3.2, 5 and 8) What stands in brackets is a rule of docs/ACCESS.md.
-use Rattle.std.specs.Prelude.{ℕ, zero, suc, ◌≡◌, ◌+◌, ◌-◌, ◌<◌, ◌≤◌, ◌==◌, nat_lt, true, if◌then◌else◌, List, [], ◌∷◌, ◌++◌, length, replicate, take, drop, Option, Some, None, unwrap_or, slice_index_or, ◌⊎◌}
+use Rattle.std.specs.Prelude.{ℕ, zero, suc, ◌≡◌, ◌+◌, ◌-◌, ◌<◌, ◌≤◌, ◌==◌, nat_lt, Bool, true, if◌then◌else◌, List, [], ◌∷◌, ◌++◌, length, replicate, take, drop, Option, Some, None, unwrap_or, slice_index_or, ◌⊎◌}
 use Rattle.std.specs.Cmp.Lexicographic.{pointwise}
 use Rattle.can_frame.specs.declared.level.Level.{Level}
 use Rattle.can_frame.specs.declared.level.Level.TheVariants.{Dominant, Recessive}
@@ -134,6 +134,21 @@ frame_drives f waiting o = role_drives f (role_at f waiting o) o
 pub record IsActive (c : ConfineParts) : Type 0 where
   pub tec : c.tec < 128
   pub rec : c.rec < 128
+
+-- a controller that a frame finds idle and error active, and that asks for no overload frame
+pub record IsPoised (m : MacState) : Type 0 where
+  pub idle : m.phase ≡ Idle
+  pub active : IsActive m.counters
+  pub unasked : m.overloads.pending ≡ 0
+
+-- the same controller behind a frame that it has sent or received, and the intermission: it is idle again
+abbrev pub behind_frame : Bool → MacState → MacState
+behind_frame sent m = record {
+  phase = Idle;
+  role = Receiver;
+  overloads = record { pending = m.overloads.pending; used = 0 };
+  counters = counted (if sent then FrameSent else FrameReceived) m.counters;
+}
 
 -- what waits is f, or comes behind it in arbitration
 abbrev pub GoesBehind : Parts → Option Parts → Type 0

@@ -4,6 +4,7 @@ ghost use Rattle.can_code.specs.Front.{FrontParts};
 ghost use Rattle.can_frame.specs.Parts.{Parts};
 ghost use Rattle.can_fault.specs.Counters.{counted, is_bus_off, is_passive as is_passive_by};
 ghost use Rattle.can_mac.specs.State.{idle as idle_state, IsMac, IsPhase, IsFrameOrNone, is_off_phase, joining as joining_state, starting};
+ghost use Rattle.can_mac.specs.Frames.{IsActive, IsPoised, behind_frame};
 ghost use Rattle.can_mac.specs.Moves.{move, move_keeping};
 ghost use Rattle.can_mac.specs.Machine.{holding, IsSilent, mac_drives, mac_step, off_step, on_step, stance as stance_of, step_counting};
 
@@ -159,6 +160,34 @@ impl<B: FrameBits> MediumAccess<B> {
         ensures kept { IsMac self.new }
     {
         goes_on_recessive(&self.role, &mut self.phase, seen)
+    }
+
+    /// Whether it is idle and error active and asks for no overload frame, so that a frame that begins may pass it at
+    /// once.
+    #[inline]
+    pub fn is_poised(&self) -> bool
+        ensures { IsTrue result → IsPoised self.now }
+    {
+        matches!(self.phase, Phase::Idle)
+            && self.overloads.pending == 0
+            && self.confine.state() == State::Active
+    }
+
+    /// Passes a frame that it sends, or that it receives, from its start of frame to the end of intermission, at a
+    /// controller that a frame may pass at once: what is left of the frame is that it is counted.
+    #[inline]
+    pub fn pass(&mut self, sent: bool)
+        requires { IsPoised self.old }
+        ensures { self.new ≡ behind_frame sent self.old }
+    {
+        self.confine.apply(if sent {
+            Cause::FrameSent
+        } else {
+            Cause::FrameReceived
+        });
+        self.phase = Phase::Idle;
+        self.role = Role::Receiver;
+        self.overloads.used = 0;
     }
 
     /// Asks for `count` overload frames of its own, in place of what was asked for before. `false`

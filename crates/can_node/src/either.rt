@@ -54,6 +54,22 @@ impl Port for EitherNode {
         }
     }
 
+    #[inline]
+    fn poised(&self) -> Option<Option<Frame>> {
+        match self {
+            EitherNode::Plain(node) => node.poised(),
+            EitherNode::Packed(node) => node.poised(),
+        }
+    }
+
+    #[inline]
+    fn pass(&mut self, frame: &Frame, levels: &[Level]) {
+        match self {
+            EitherNode::Plain(node) => node.pass(frame, levels),
+            EitherNode::Packed(node) => node.pass(frame, levels),
+        }
+    }
+
     fn offer(&mut self, frame: Frame) -> Result<(), Frame> {
         match self {
             EitherNode::Plain(node) => node.offer(frame),

@@ -1,4 +1,8 @@
-ghost use Rattle.std.specs.Prelude.{◌≡◌, IfOk, IsOk};
+ghost use Rattle.std.specs.Prelude.{◌≡◌, Some, IfOk, IsOk, IsTrue, IsFalse};
+ghost use Rattle.std.specs.Option.{option_copied};
+ghost use Rattle.can_frame.specs.Arbitration.{Before, arbitration_field};
+ghost use Rattle.can_frame.specs.Parts.{Parts};
+ghost use Rattle.can_mac.specs.Frames.{GoesBehind};
 ghost use Rattle.can_mac.specs.State.{IsMac};
 ghost use Rattle.can_node.specs.MacProps.{IsMac-prop};
 
@@ -81,6 +85,8 @@ impl<B: FrameBits> Node<B> {
 }
 
 impl<B: FrameBits> Node<B> {
+    ghost use Rattle.std.specs.Prelude.{if◌then◌else◌};
+    ghost use Rattle.can_mac.specs.declared.event.Event.TheVariants.{Sent, Received};
     ghost use Rattle.can_node.specs.Ports.{port_drives, port_noting, port_event, port_step};
 
     /// A level that may tell something.
@@ -111,6 +117,17 @@ impl<B: FrameBits> Node<B> {
         ensures { result.now ≡ (⟦<Node<B> as Port>⟧.port self.now).mac }
     {
         &self.mac
+    }
+
+    /// What a frame that was sent, or received, makes of queue and log.
+    fn note_passed(&mut self, frame: &Frame, sent: bool)
+        ensures { ⟦<Node<B> as Port>⟧.port self.new ≡ port_noting (Some (if sent then Sent frame.now else Received frame.now)) (⟦<Node<B> as Port>⟧.port self.old) }
+    {
+        if sent {
+            self.note(&Some(Event::Sent(*frame)));
+        } else {
+            self.note(&Some(Event::Received(*frame)));
+        }
     }
 
     /// What an event makes of queue and log.
@@ -176,6 +193,22 @@ impl<B: FrameBits> Port for Node<B> {
         matches!(self.mac.phase(), Phase::Idle) && self.queue.waiting().is_none()
     }
 
+    #[inline]
+    fn poised(&self) -> Option<Option<Frame>> {
+        if self.mac.is_poised() {
+            Some(self.queue.waiting().copied())
+        } else {
+            None
+        }
+    }
+
+    #[inline]
+    fn pass(&mut self, frame: &Frame, _levels: &[Level]) {
+        let sent = sends(self.queue.waiting(), frame);
+        self.mac.pass(sent);
+        self.note_passed(frame, sent);
+    }
+
     fn offer(&mut self, frame: Frame) -> Result<(), Frame> {
         self.queue.push(frame)
     }
@@ -198,5 +231,17 @@ impl<B: FrameBits> Port for Node<B> {
 
     fn state(&self) -> State {
         self.mac.confine().state()
+    }
+}
+
+/// Whether a frame that passes is the one that waits; else it goes before that.
+fn sends(waiting: Option<&Frame>, frame: &Frame) -> bool
+    requires { GoesBehind frame.now (option_copied waiting) }
+    ensures own { IsTrue result → option_copied waiting.entry ≡ Some frame.now }
+    ensures other { IsFalse result → (f : Parts) → option_copied waiting.entry ≡ Some f → Before (arbitration_field frame.now) (arbitration_field f) }
+{
+    match waiting {
+        Some(own) => own.key() == frame.key(),
+        None => false,
     }
 }

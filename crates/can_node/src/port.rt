@@ -1,8 +1,10 @@
-ghost use Rattle.std.specs.Prelude.{◌≡◌, ◌<◌, ◌≤◌, ◌↔◌, length, IsTrue, IsFalse, IsOk, OnOk, OnErr, IfErr};
+ghost use Rattle.std.specs.Prelude.{◌≡◌, ◌<◌, ◌≤◌, ◌↔◌, length, IsTrue, IsFalse, IsOk, OnOk, OnErr, IfErr, IfSome};
 ghost use Rattle.can_fault.specs.Counters.{state_of};
 ghost use Rattle.can_frame.specs.declared.level.Level.TheVariants.{Recessive};
+ghost use Rattle.can_frame.specs.Parts.{IsFrame};
+ghost use Rattle.can_mac.specs.Frames.{GoesBehind, IsPoised, with_intermission};
 ghost use Rattle.can_mac.specs.Machine.{IsSilent};
-ghost use Rattle.can_node.specs.Ports.{PortState, IsAtRest, IsPort, port_offered, port_drives, port_event, port_holding, port_step};
+ghost use Rattle.can_node.specs.Ports.{PortState, IsAtRest, IsPort, port_offered, port_drives, port_event, port_holding, port_run, port_step, waiting};
 
 use crate::entry::Entry;
 use can_fault::State;
@@ -39,6 +41,29 @@ pub trait Port {
         ensures idle { IsTrue result ↔ IsAtRest (port self.now) }
         ensures recessive { IsTrue result → port_drives (port self.now) ≡ Recessive }
         ensures unchanged { IsTrue result → port_step (port self.now) Recessive ≡ port self.now };
+
+    /// The frame that waits, or none, where a frame that begins may pass the port at once: its controller is idle and
+    /// error active and asks for no overload frame. A port that is never passed at once answers nothing.
+    fn poised(&self) -> Option<Option<Frame>>
+        ensures poised { IfSome result (λ next. IsPoised (port self.now).mac) }
+        ensures next { IfSome result (λ next. next ≡ waiting (port self.now).queue) }
+    {
+        None
+    }
+
+    /// Samples the levels of a frame, and of the intermission behind it, where the frame may pass the port at once, and
+    /// none waits there that goes before it.
+    fn pass(&mut self, frame: &Frame, levels: &[Level])
+        requires whole { IsFrame frame.now }
+        requires levels { levels.now ≡ with_intermission frame.now }
+        requires poised { IsPoised (port self.old).mac }
+        requires behind { GoesBehind frame.now (waiting (port self.old).queue) }
+        ensures { port self.new ≡ port_run (port self.old) levels.now }
+    {
+        for level in levels {
+            let _ = self.turn(*level);
+        }
+    }
 
     /// Queues a frame behind those that wait. A full queue refuses it: the frame comes back, and
     /// nothing changes.

@@ -1,5 +1,5 @@
 //! A run of a bus to whose ports frames are offered meanwhile, and on which hits fall: a network.
-ghost use Rattle.std.specs.Prelude.{ℕ, ◌≡◌, ◌+◌, ◌<◌, ◌≤◌, ◌↔◌, ◌⊎◌, not, length, slice_get, Ok, Some, IsOk, OnOk, OnErr, IfErr, IfOk};
+ghost use Rattle.std.specs.Prelude.{ℕ, ◌≡◌, ◌+◌, ◌<◌, ◌≤◌, ◌^◌, ◌↔◌, ◌⊎◌, not, length, slice_get, slice_index_or, Ok, Some, IsOk, OnOk, OnErr, IfErr, IfOk};
 ghost use Rattle.can_frame.specs.IdleRow.{idle_row};
 ghost use Rattle.can_frame.specs.Parts.{IsFrame};
 ghost use Rattle.can_bus.specs.declared.offer.Offer.{Offer as Asked};
@@ -7,12 +7,12 @@ ghost use Rattle.can_bus.specs.Course.{AllEnded, course_at, hits_made};
 ghost use Rattle.can_bus.specs.DisturbedPlay.{WasPlayed};
 ghost use Rattle.can_hit.specs.Hits.{AreTaken};
 ghost use Rattle.can_bus.specs.Inputs.{IsFirstHitFault};
-ghost use Rattle.can_bus.specs.Network.{AllCountAtMost, CountsAtMost, NetworkLogBegins, NetworkLogHas, NetworkLogWhole, NetworkTally, OnNetworkCall, StaysActive, call_after, call_level, call_refused};
+ghost use Rattle.can_bus.specs.Network.{AllCountAtMost, CountsAtMost, NetworkLogBegins, NetworkLogHas, NetworkLogWhole, NetworkTally, OnNetworkCall, StaysActive, call_after, call_level, call_refused, offered_now};
 ghost use Rattle.can_bus.specs.Offers.{AreOffered, IsFirstOfferFault, all_made, is_full, made, refused_at};
 ghost use Rattle.can_bus.specs.Quiet.{AtEachPort, MissesNothing, AtEachNode};
-ghost use Rattle.can_bus.specs.Run.{AreLevelsOf};
+ghost use Rattle.can_bus.specs.Run.{AreLevelsOf, BusState};
 ghost use Rattle.can_bus.specs.State.{port_count, port_states, rest_of, state_of};
-ghost use Rattle.can_bus.specs.Walks.{IsReached};
+ghost use Rattle.can_bus.specs.Walks.{AreRising, IsCall, IsReached, call_on};
 
 use crate::bus::Bus;
 use crate::call::Call;
@@ -25,9 +25,9 @@ use can_node::Port;
 
 /// How far the offers of a call are made: those before this place, of which so many found a full queue.
 #[derive(Clone, Copy)]
-struct Progress {
-    place: usize,
-    refused: usize,
+pub(super) struct Progress {
+    pub(super) place: usize,
+    pub(super) refused: usize,
 }
 
 impl<P: Port> Bus<P> {
@@ -42,7 +42,7 @@ impl<P: Port> Bus<P> {
     }
 
     /// Makes the offers of this time, in their order.
-    fn make_all(&mut self, offers: &[Offer], time: u64, progress: &mut Progress)
+    pub(super) fn make_all(&mut self, offers: &[Offer], time: u64, progress: &mut Progress)
         requires offered { AreOffered (port_count self.old) offers.now }
         requires reached { IsReached offers.now progress.old.place time }
         requires refused { progress.old.refused ≤ progress.old.place }
@@ -74,6 +74,47 @@ impl<P: Port> Bus<P> {
         } else {
             most
         }
+    }
+
+    /// Runs some bit times, in the first of which the offers are made, and records a level in each: those of a whole frame
+    /// that passes the bus at once, with the offers meanwhile, or else some of those before the next offer. The answer is
+    /// how many they are.
+    fn go_ahead(
+        &mut self,
+        offers: &[Offer],
+        hits: &[Hit],
+        call: &mut Call,
+        progress: &mut Progress,
+        rec: &mut [Level],
+    ) -> usize
+        requires some { 0 < length rec.old }
+        requires offered { AreOffered (port_count self.old) offers.now }
+        requires rising { AreRising hits.now }
+        requires call { IsCall hits.now call.old }
+        requires time { call.old.time + length rec.old < 2 ^ 64 }
+        requires reached { IsReached offers.now progress.old.place (call.old.time + 1) }
+        requires refused { progress.old.refused ≤ progress.old.place }
+        ensures some { 1 ≤ result }
+        ensures most { result ≤ length rec.old }
+        ensures after { (bus : BusState) → call_on (state_of P.port self.old) call.old ≡ offered_now offers.now (call_after offers.now hits.now call.old.time bus)
+            → call_on (state_of P.port self.new) call.new ≡ call_after offers.now hits.now (call.old.time + result) bus }
+        ensures levels { (bus : BusState) → call_on (state_of P.port self.old) call.old ≡ offered_now offers.now (call_after offers.now hits.now call.old.time bus)
+            → (t : ℕ) (d : Level) → t < result → slice_index_or rec.new t d ≡ call_level offers.now hits.now (call.old.time + t) bus }
+        ensures count { (bus : BusState) → call_on (state_of P.port self.old) call.old ≡ offered_now offers.now (call_after offers.now hits.now call.old.time bus)
+            → progress.old.refused ≡ call_refused offers.now hits.now (call.old.time + 1) bus
+            → progress.new.refused ≡ call_refused offers.now hits.now (call.old.time + result) bus }
+        ensures reached { IsReached offers.now progress.new.place (call.old.time + result) }
+        ensures refused { progress.new.refused ≤ progress.new.place }
+        ensures ports { port_count self.new ≡ port_count self.old }
+        ensures call { IsCall hits.now call.new }
+        ensures time { call.new.time ≡ call.old.time + result }
+    {
+        let passed = self.pass_open(offers, hits, call, progress, rec);
+        if passed > 0 {
+            return passed;
+        }
+        let count = self.until_offer(offers, progress, call.time, rec.len());
+        self.go_through(hits, call, &mut rec[..count])
     }
 
     /// Runs as many bit times as `rec` is long, with offers and with hits, and records a level in each. Offers are made
@@ -133,10 +174,7 @@ impl<P: Port> Bus<P> {
         let mut place = 0;
         while place < rec.len() {
             self.make_all(offers, call.time, &mut progress);
-            let count = self.until_offer(offers, &progress, call.time, rec.len() - place);
-            let end = place + count;
-            self.go_through(hits, &mut call, &mut rec[place..end]);
-            place = end;
+            place += self.go_ahead(offers, hits, &mut call, &mut progress, &mut rec[place..]);
         }
         Ok(progress.refused)
     }

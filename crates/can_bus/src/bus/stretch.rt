@@ -18,44 +18,66 @@ use can_node::Port;
 /// is seldom asked.
 const STRETCH: usize = 32;
 
+/// How many bit times the longest frame takes, with the intermission behind it.
+const LONGEST_LINE: usize = 160;
+
 impl<P: Port> Bus<P> {
-    /// Runs as many bit times as `rec` is long, and records a level in each. It stands apart, so that its loops have the
-    /// registers to themselves, and in the one without hits nothing is asked of them.
+    /// Runs bit times, and records a level in each: as many as `rec` is long, or fewer where a frame begins that may be
+    /// longer. The answer is how many they are. It stands apart, so that its loops have the registers to themselves, and in
+    /// the one without hits nothing is asked of them.
     #[inline(never)]
-    pub(super) fn go_through(&mut self, hits: &[Hit], call: &mut Call, rec: &mut [Level])
+    pub(super) fn go_through(&mut self, hits: &[Hit], call: &mut Call, rec: &mut [Level]) -> usize
+        requires some { 0 < length rec.old }
         requires rising { AreRising hits.now }
         requires call { IsCall hits.now call.old }
         requires time { call.old.time + length rec.old < 2 ^ 64 }
-        ensures levels { (t : ℕ) (d : Level) → t < length rec.old → slice_index_or rec.new t d ≡ recorded hits.now (bus_after hits.now t (call_on (state_of P.port self.old) call.old)) }
-        ensures after { call_on (state_of P.port self.new) call.new ≡ bus_after hits.now (length rec.old) (call_on (state_of P.port self.old) call.old) }
+        ensures some { 1 ≤ result }
+        ensures most { result ≤ length rec.old }
+        ensures levels { (t : ℕ) (d : Level) → t < result → slice_index_or rec.new t d ≡ recorded hits.now (bus_after hits.now t (call_on (state_of P.port self.old) call.old)) }
+        ensures after { call_on (state_of P.port self.new) call.new ≡ bus_after hits.now result (call_on (state_of P.port self.old) call.old) }
         ensures call { IsCall hits.now call.new }
-        ensures time { call.new.time ≡ call.old.time + length rec.old }
+        ensures time { call.new.time ≡ call.old.time + result }
     {
         if hits.is_empty() {
-            self.go_by_stretches(&[], call, rec);
+            self.go_by_stretches(&[], call, rec)
         } else {
-            self.go_by_stretches(hits, call, rec);
+            self.go_by_stretches(hits, call, rec)
         }
     }
 
-    /// Runs as many bit times as `rec` is long, by stretches, and records a level in each.
+    /// Runs bit times by stretches, and records a level in each: as many as `rec` is long, or fewer where a frame begins
+    /// that may be longer. The answer is how many they are.
     #[inline(always)]
-    fn go_by_stretches(&mut self, hits: &[Hit], call: &mut Call, rec: &mut [Level])
+    fn go_by_stretches(&mut self, hits: &[Hit], call: &mut Call, rec: &mut [Level]) -> usize
+        requires some { 0 < length rec.old }
         requires rising { AreRising hits.now }
         requires call { IsCall hits.now call.old }
         requires time { call.old.time + length rec.old < 2 ^ 64 }
-        ensures levels { (t : ℕ) (d : Level) → t < length rec.old → slice_index_or rec.new t d ≡ recorded hits.now (bus_after hits.now t (call_on (state_of P.port self.old) call.old)) }
-        ensures after { call_on (state_of P.port self.new) call.new ≡ bus_after hits.now (length rec.old) (call_on (state_of P.port self.old) call.old) }
+        ensures some { 1 ≤ result }
+        ensures most { result ≤ length rec.old }
+        ensures levels { (t : ℕ) (d : Level) → t < result → slice_index_or rec.new t d ≡ recorded hits.now (bus_after hits.now t (call_on (state_of P.port self.old) call.old)) }
+        ensures after { call_on (state_of P.port self.new) call.new ≡ bus_after hits.now result (call_on (state_of P.port self.old) call.old) }
         ensures call { IsCall hits.now call.new }
-        ensures time { call.new.time ≡ call.old.time + length rec.old }
+        ensures time { call.new.time ≡ call.old.time + result }
     {
         let mut current = *call;
         let mut driven = wired_level(self.ports.as_slice());
         let mut place = 0;
-        while place < rec.len() {
+        let mut goes_on = true;
+        while goes_on {
             place += self.go_on(hits, &mut current, &mut driven, &mut rec[place..]);
+            goes_on = self.goes_on(driven, rec.len() - place);
         }
         *call = current;
+        place
+    }
+
+    /// Whether some bit times are left, and none begins a frame that may be longer than they are.
+    #[inline(always)]
+    fn goes_on(&self, driven: Level, left: usize) -> bool
+        ensures { IsTrue result → 0 < left }
+    {
+        left > 0 && (left >= LONGEST_LINE || driven.is_recessive() || self.rest != IDLE_ROW)
     }
 
     /// Runs some bit times, one or more and at most as many as `rec` is long, and records a level in each. The answer
@@ -87,27 +109,45 @@ impl<P: Port> Bus<P> {
             call.pass(resting);
             return resting;
         }
+        let passed = self.pass_frame(hits, call, driven, rec);
+        if passed > 0 {
+            return passed;
+        }
         let count = STRETCH.min(rec.len());
-        self.take_each(hits, call, driven, &mut rec[..count]);
-        count
+        self.take_each(hits, call, driven, &mut rec[..count])
     }
 
-    /// Runs as many bit times as `rec` is long, one after another, and records a level in each.
+    /// Runs bit times one after another, and records a level in each: as many as `rec` is long, or fewer where the last of
+    /// them is the eleventh recessive one in a row, behind which a frame may begin. The answer is how many they are.
     #[inline(always)]
-    fn take_each(&mut self, hits: &[Hit], call: &mut Call, driven: &mut Level, rec: &mut [Level])
+    fn take_each(
+        &mut self,
+        hits: &[Hit],
+        call: &mut Call,
+        driven: &mut Level,
+        rec: &mut [Level],
+    ) -> usize
+        requires some { 0 < length rec.old }
         requires driven { driven.old ≡ wired_of (map port_drives (port_states P.port self.old)) }
         requires rising { AreRising hits.now }
         requires call { IsCall hits.now call.old }
         requires time { call.old.time + length rec.old < 2 ^ 64 }
-        ensures levels { (t : ℕ) (d : Level) → t < length rec.old → slice_index_or rec.new t d ≡ recorded hits.now (bus_after hits.now t (call_on (state_of P.port self.old) call.old)) }
-        ensures after { call_on (state_of P.port self.new) call.new ≡ bus_after hits.now (length rec.old) (call_on (state_of P.port self.old) call.old) }
+        ensures some { 1 ≤ result }
+        ensures most { result ≤ length rec.old }
+        ensures levels { (t : ℕ) (d : Level) → t < result → slice_index_or rec.new t d ≡ recorded hits.now (bus_after hits.now t (call_on (state_of P.port self.old) call.old)) }
+        ensures after { call_on (state_of P.port self.new) call.new ≡ bus_after hits.now result (call_on (state_of P.port self.old) call.old) }
         ensures driven { driven.new ≡ wired_of (map port_drives (port_states P.port self.new)) }
         ensures call { IsCall hits.now call.new }
-        ensures time { call.new.time ≡ call.old.time + length rec.old }
+        ensures time { call.new.time ≡ call.old.time + result }
     {
-        for slot in rec.iter_mut() {
-            *slot = self.step(hits, call, driven);
+        let mut taken = 0;
+        let mut rest = IDLE_ROW;
+        while taken < rec.len() && (rest == IDLE_ROW || self.rest < IDLE_ROW) {
+            rest = self.rest;
+            rec[taken] = self.step(hits, call, driven);
+            taken += 1;
         }
+        taken
     }
 
     /// In how many bit times from this one on the bus rests, at most so many: it has been recessive for eleven bit

@@ -11,13 +11,13 @@ use can_code::Sending;
 use can_frame::{Frame, IDLE_ROW, Level};
 
 /// How many recessive levels in a row a controller waits for before it is on the bus, less the last.
-const LAST_OF_JOINING: u8 = IDLE_ROW - 1;
+pub(crate) const LAST_OF_JOINING: u8 = IDLE_ROW - 1;
 
 /// The last place of intermission.
 pub(crate) const LAST_OF_INTERMISSION: u8 = 2;
 
 /// The last place of suspend transmission.
-const LAST_OF_SUSPEND: u8 = 7;
+pub(crate) const LAST_OF_SUSPEND: u8 = 7;
 
 /// A controller that isn't on the bus yet.
 pub(crate) fn joining(stance: &Stance, row: u8, seen: Level) -> Entering

@@ -11,7 +11,7 @@ use can_fault::Cause;
 use can_frame::Level;
 
 /// The last place of a flag.
-const LAST_OF_FLAG: u8 = 5;
+pub(crate) const LAST_OF_FLAG: u8 = 5;
 
 /// How many equal levels in a row complete a passive error flag.
 const PASSIVE_FLAG_LENGTH: u8 = 6;
@@ -20,7 +20,7 @@ const PASSIVE_FLAG_LENGTH: u8 = 6;
 const LAST_OF_DOMINANT_RUN: u8 = 7;
 
 /// The last place of a delimiter.
-const LAST_OF_DELIMITER: u8 = 7;
+pub(crate) const LAST_OF_DELIMITER: u8 = 7;
 
 /// An active error flag.
 pub(crate) fn error_flag(stance: &Stance, place: u8, seen: Level) -> Entering

@@ -24,8 +24,11 @@ ghost use Rattle.can_mac.specs.declared.phase.Reading.{Reading as ReadingParts};
 ghost use Rattle.can_mac.specs.declared.phase.Role.{Role as Part};
 
 use crate::event::Event;
-use crate::moves::between_frames::{LAST_OF_INTERMISSION, role_in_next};
+use crate::moves::between_frames::{
+    LAST_OF_INTERMISSION, LAST_OF_JOINING, LAST_OF_SUSPEND, role_in_next,
+};
 use crate::moves::enter;
+use crate::moves::flags::{LAST_OF_DELIMITER, LAST_OF_FLAG};
 use crate::moves::frame_end::{LAST_OF_FRAME, is_refused};
 use crate::moves::stuffed_part::{end_of_part, is_in_arbitration, is_in_order};
 use crate::phase::{Overloads, Phase, Role};
@@ -98,7 +101,8 @@ pub(crate) fn goes_on_recessive<B: FrameBits>(
     goes_on_in_end(phase, seen)
 }
 
-/// The same, in the end of frame and in intermission. It stands apart, since most levels are of the stuffed part.
+/// The same, outside of the stuffed part: in the end of frame, behind flags, in intermission and suspend transmission, and
+/// while joining. It stands apart, since most levels are of the stuffed part.
 #[inline(never)]
 fn goes_on_in_end<B: FrameBits>(phase: &mut Phase<Front<B>>, seen: Level) -> bool
     requires { IsPhase phase.old }
@@ -107,13 +111,29 @@ fn goes_on_in_end<B: FrameBits>(phase: &mut Phase<Front<B>>, seen: Level) -> boo
     ensures on_bus { IsTrue result → is_off_phase phase.old ≡ false }
     ensures unchanged { IsFalse result → phase.new ≡ phase.old }
 {
-    match phase {
-        Phase::EndOfFrame { place, .. } if seen.is_recessive() && *place < LAST_OF_FRAME - 1 => {
+    match (phase, seen) {
+        (Phase::EndOfFrame { place, .. }, Level::Recessive) if *place < LAST_OF_FRAME - 1 => {
             *place += 1;
             true
         }
-        Phase::Intermission { place } if seen.is_recessive() && *place < LAST_OF_INTERMISSION => {
+        (Phase::Intermission { place }, Level::Recessive) if *place < LAST_OF_INTERMISSION => {
             *place += 1;
+            true
+        }
+        (Phase::Delimiter { place }, Level::Recessive) if *place < LAST_OF_DELIMITER => {
+            *place += 1;
+            true
+        }
+        (Phase::Suspend { place }, Level::Recessive) if *place < LAST_OF_SUSPEND => {
+            *place += 1;
+            true
+        }
+        (Phase::Joining { row }, Level::Dominant) => {
+            *row = 0;
+            true
+        }
+        (Phase::Joining { row }, Level::Recessive) if *row < LAST_OF_JOINING => {
+            *row += 1;
             true
         }
         _ => false,
@@ -144,7 +164,33 @@ fn goes_on_outside<B: FrameBits>(
             pass_delimiter(phase);
             true
         }
-        Phase::EndOfFrame { .. } | Phase::Intermission { .. } => goes_on_in_end(phase, seen),
+        Phase::ErrorFlag { .. } | Phase::OverloadFlag { .. } => goes_on_in_flag(phase, seen),
+        Phase::EndOfFrame { .. }
+        | Phase::Intermission { .. }
+        | Phase::Delimiter { .. }
+        | Phase::Suspend { .. }
+        | Phase::Joining { .. } => goes_on_in_end(phase, seen),
+        _ => false,
+    }
+}
+
+/// The same, in an active error flag and in an overload flag.
+#[inline(always)]
+fn goes_on_in_flag<B: FrameBits>(phase: &mut Phase<Front<B>>, seen: Level) -> bool
+    requires { IsPhase phase.old }
+    ensures on { IsTrue result → (s : Standing) (waiting : Option Parts) → move s phase.old waiting seen ≡ goes s phase.new }
+    ensures on_bus { IsTrue result → is_off_phase phase.old ≡ false }
+    ensures unchanged { IsFalse result → phase.new ≡ phase.old }
+{
+    match (phase, seen) {
+        (Phase::ErrorFlag { place }, Level::Dominant) if *place < LAST_OF_FLAG => {
+            *place += 1;
+            true
+        }
+        (Phase::OverloadFlag { place }, Level::Dominant) if *place < LAST_OF_FLAG => {
+            *place += 1;
+            true
+        }
         _ => false,
     }
 }

@@ -1,25 +1,23 @@
 use Rattle.std.specs.Prelude.{Ok}
-use Rattle.std.proofs.Common.{ℕ, List, ◌≡◌, ◌+◌, ◌-◌, ◌<◌, ◌≤◌, true, false, Some, length, map, get_or, take, drop, inl, inr, arith, rules, refl, sym, ap, subst, ◌∙◌}
+use Rattle.std.proofs.Common.{◌≡◌, ◌+◌, ◌-◌, true, false, Some, length, map, get_or, drop, inl, inr, arith, rules, refl, sym, ap, subst, ◌∙◌}
 use Rattle.std.proofs.lemmas.Bool.{cases_lt}
 use Rattle.std.proofs.lemmas.Grind.{elements}
-use Rattle.std.proofs.lemmas.List.{length-drop, length-map, length-take-le}
+use Rattle.std.proofs.lemmas.List.{length-drop, length-map}
 use Rattle.std.proofs.lemmas.Option.{slice_get-get_or}
 use Rattle.can_frame.specs.declared.level.Level.TheVariants.{Recessive}
-use Rattle.can_node.specs.Ports.{PortState}
 use Rattle.can_bus.specs.DisturbedPlay.{WasPlayed}
 use Rattle.can_bus.specs.declared.call.Call.{Call}
 use Rattle.can_hit.specs.Hits.{AreTaken}
 use Rattle.can_bus.specs.Network.{call_after, call_level, call_refused, offered_now}
 use Rattle.can_bus.specs.Offers.{AreOffered, all_made, refused_at}
-use Rattle.can_bus.specs.Run.{CallState, bus_after}
+use Rattle.can_bus.specs.Run.{CallState}
 use Rattle.can_bus.specs.State.{rest_of, state_of}
 use Rattle.can_bus.specs.Walks.{IsCall, IsReached, call_on}
 use Rattle.can_bus.proofs.DisturbedPlays.{call-played}
-use Rattle.can_bus.proofs.CallLemmas.{call-none, call-several, level-several, refused-none, refused-several}
+use Rattle.can_bus.proofs.CallLemmas.{call-none, refused-none, refused-several}
 use Rattle.can_bus.proofs.HitOrder.{taken-rising}
 use Rattle.can_bus.proofs.NetworkCalls.{network-active, network-counts, network-has, network-logs, network-missed, network-refused, network-tally, network-track, network-whole, not-offered, not-taken, valid-ports}
-use Rattle.can_bus.proofs.OfferLemmas.{reached-first, reached-between, none-between, length-all_made}
-use Rattle.can_bus.proofs.RunLemmas.{length-after}
+use Rattle.can_bus.proofs.OfferLemmas.{reached-first, length-all_made}
 use Rattle.can_bus.proofs.StepLemmas.{first_ready}
 use Rattle.can_bus.proofs.bus.Bus.play_disturbed.Goals as goal
 
@@ -142,8 +140,8 @@ make_all-requires-clause-offered g c =
     let size : c.len.result ≡ length c.args.self.now.ports.items = search rules in
     subst (λ n. AreOffered n c.args.offers.now) (size ∙ sym c.loop-place.invariant.size) (c.in_ok-check.ensures.taken.0 (refl {a = true}))
 
-pub until_offer-count-requires-clause-offered : goal.until_offer-count-requires-clause-offered
-until_offer-count-requires-clause-offered g c =
+pub go_ahead-place-requires-clause-offered : goal.go_ahead-place-requires-clause-offered
+go_ahead-place-requires-clause-offered g c =
     let S = g.P.Port.port in
     let size : c.len.result ≡ length c.args.self.now.ports.items = search rules in
     let made : length c.make_all.new.self.ports.items ≡ length c.args.self.now.ports.items =
@@ -151,8 +149,8 @@ until_offer-count-requires-clause-offered g c =
     ∙ length-map c.loop-place.self.ports.items S ∙ c.loop-place.invariant.size in
     subst (λ n. AreOffered n c.args.offers.now) (size ∙ sym made) (c.in_ok-check.ensures.taken.0 (refl {a = true}))
 
-pub go_through-requires-clause-rising : goal.go_through-requires-clause-rising
-go_through-requires-clause-rising g c = taken-rising c.len-2.result c.args.hits.now (c.in_ok-check-2.ensures.taken.0 (refl {a = true}))
+pub go_ahead-place-requires-clause-rising : goal.go_ahead-place-requires-clause-rising
+go_ahead-place-requires-clause-rising g c = taken-rising c.len-2.result c.args.hits.now (c.in_ok-check-2.ensures.taken.0 (refl {a = true}))
 
 pub loop-place-preserved : goal.loop-place-preserved
 loop-place-preserved g c =
@@ -160,50 +158,43 @@ loop-place-preserved g c =
     let offers = c.args.offers.now in
     let hits = c.args.hits.now in
     let bus = state_of g.P.Port.port c.args.self.now in
-    let before : CallState = call_on (state_of g.P.Port.port c.loop-place.self) c.loop-place.call in
     let start = call_on (state_of g.P.Port.port c.make_all.new.self) c.loop-place.call in
     let time : c.loop-place.call.time ≡ c.loop-place.place = c.loop-place.invariant.time in
     let size : length c.loop-place.rec ≡ length c.args.rec.now = c.loop-place.invariant.long in
-    let some : 1 ≤ c.until_offer-count.result = c.until_offer-count.ensures.some in
-    let few : c.until_offer-count.result ≤ c.until_offer-count.result = omega arith in
-    let size-left : length (drop c.loop-place.place c.loop-place.rec) + c.loop-place.place ≡ length c.loop-place.rec = omega (arith, length-drop c.loop-place.place c.loop-place.rec) in
-    let most : c.until_offer-count.result ≤ length (drop c.loop-place.place c.loop-place.rec) = omega (arith, c.until_offer-count.ensures.most, size-left) in
-    let span : length (take (c.loop-place.place + c.until_offer-count.result - c.loop-place.place) (drop c.loop-place.place c.loop-place.rec)) ≡ c.until_offer-count.result =
-    omega (arith, most, length-take-le (c.loop-place.place + c.until_offer-count.result - c.loop-place.place) (drop c.loop-place.place c.loop-place.rec) (omega (arith, most))) in
-    let first : IsReached c.args.offers.now c.make_all.new.progress.place (c.loop-place.place + 1) = subst (λ t. IsReached offers c.make_all.new.progress.place (t + 1)) time c.make_all.ensures.reached in
-    let last : IsReached c.args.offers.now c.make_all.new.progress.place (c.loop-place.place + c.until_offer-count.result) =
-    subst (λ t. IsReached offers c.make_all.new.progress.place (t + c.until_offer-count.result)) time c.until_offer-count.ensures.reached in
-    let state-is : before ≡ call_after offers hits c.loop-place.place bus = c.loop-place.invariant.state in
+    let left : length (drop c.loop-place.place c.loop-place.rec) + c.loop-place.place ≡ length c.loop-place.rec = omega (arith, length-drop c.loop-place.place c.loop-place.rec) in
+    let state-is : call_on (state_of g.P.Port.port c.loop-place.self) c.loop-place.call ≡ call_after offers hits c.loop-place.place bus = c.loop-place.invariant.state in
     let made : start ≡ offered_now offers (call_after offers hits c.loop-place.place bus) =
     ap (λ ps. let k : CallState = record { bus = record { ports = ps; rest = c.make_all.new.self.rest }; time = c.loop-place.call.time; latest = c.loop-place.call.latest } in k) c.make_all.ensures.ports
     ∙ ap (λ r. let k : CallState = record { bus = record { ports = all_made offers c.loop-place.call.time (map S c.loop-place.self.ports.items); rest = r }; time = c.loop-place.call.time; latest = c.loop-place.call.latest } in k) c.make_all.ensures.rest
     ∙ ap (offered_now offers) state-is in
-    let none : (t : ℕ) (ports : List PortState) → c.loop-place.place < t → t < c.loop-place.place + c.until_offer-count.result → (all_made offers t ports ≡ ports) × (refused_at offers t ports ≡ 0) = λ t ports after before. none-between offers c.make_all.new.progress.place c.loop-place.place c.until_offer-count.result t ports first last after before in
+    let begun : start ≡ offered_now offers (call_after offers hits c.loop-place.call.time bus) = made ∙ ap (λ t. offered_now offers (call_after offers hits t bus)) (sym time) in
+    let one = refused-several offers hits bus c.loop-place.place 1 start made (λ t ports after before. absurd (omega (arith, after, before))) 1 (omega arith) (omega arith) in
+    let first : c.make_all.new.progress.refused ≡ call_refused offers hits (c.loop-place.call.time + 1) bus =
+    c.make_all.ensures.count ∙ ap (λ t. c.loop-place.progress.refused + refused_at offers t (map S c.loop-place.self.ports.items)) time
+    ∙ ap (λ k. k + refused_at offers c.loop-place.place (map S c.loop-place.self.ports.items)) c.loop-place.invariant.count
+    ∙ ap (λ (k : CallState). call_refused offers hits c.loop-place.place bus + refused_at offers c.loop-place.place k.bus.ports) state-is
+    ∙ sym one ∙ ap (λ t. call_refused offers hits (t + 1) bus) (sym time) in
     record {
-      state = c.go_through.ensures.after ∙ ap (λ n. bus_after hits n start) span ∙ sym (call-several offers hits bus c.loop-place.place c.until_offer-count.result start made none c.until_offer-count.result (omega arith) few);
+      state = c.go_ahead-place.ensures.after bus begun ∙ ap (λ t. call_after offers hits (t + c.go_ahead-place.result) bus) time;
       levels = λ t d h. elim (cases_lt t c.loop-place.place) [
         | inl early ↦
             let before : get_or c.loop-place.rec t d ≡ call_level c.args.offers.now c.args.hits.now t (state_of g.P.Port.port c.args.self.now) = c.loop-place.invariant.levels t d early in
             first_of (grind (arith, elements), search rules)
         | inr late ↦
-            let behind : t ≡ c.loop-place.place + (t - c.loop-place.place) = omega arith in
-            let now : get_or c.go_through.new.rec (t - c.loop-place.place) d ≡ call_level c.args.offers.now c.args.hits.now t (state_of g.P.Port.port c.args.self.now) =
-            c.go_through.ensures.levels (t - c.loop-place.place) d (omega (arith, span))
-            ∙ level-several offers hits bus c.loop-place.place c.until_offer-count.result start made none (t - c.loop-place.place) t (omega arith) behind in
+            let behind : c.loop-place.call.time + (t - c.loop-place.place) ≡ t = omega (arith, time, late) in
+            let now : get_or c.go_ahead-place.new.rec (t - c.loop-place.place) d ≡ call_level c.args.offers.now c.args.hits.now t (state_of g.P.Port.port c.args.self.now) =
+            c.go_ahead-place.ensures.levels bus begun (t - c.loop-place.place) d (omega (arith, late, h)) ∙ ap (λ k. call_level offers hits k bus) behind in
             first_of (grind (arith, elements), search rules)
       ];
-      count = c.make_all.ensures.count ∙ ap (λ t. c.loop-place.progress.refused + refused_at offers t (map S c.loop-place.self.ports.items)) time
-          ∙ ap (λ k. k + refused_at offers c.loop-place.place (map S c.loop-place.self.ports.items)) c.loop-place.invariant.count
-          ∙ ap (λ (k : CallState). call_refused offers hits c.loop-place.place bus + refused_at offers c.loop-place.place k.bus.ports) state-is
-          ∙ sym (refused-several offers hits bus c.loop-place.place c.until_offer-count.result start made none c.until_offer-count.result (omega arith) few);
-      reached = reached-between offers c.make_all.new.progress.place c.loop-place.place c.until_offer-count.result c.until_offer-count.result first last (omega arith) few;
-      refused = c.make_all.ensures.refused;
-      size = sym (length-map c.go_through.new.self.ports.items S) ∙ ap (λ (k : CallState). length k.bus.ports) c.go_through.ensures.after ∙ length-after hits _ _
-          ∙ ap length c.make_all.ensures.ports ∙ length-all_made offers _ (map S c.loop-place.self.ports.items) ∙ length-map c.loop-place.self.ports.items S ∙ c.loop-place.invariant.size;
-      call = c.go_through.ensures.call;
-      time = omega (arith, c.go_through.ensures.time, time, span);
+      count = c.go_ahead-place.ensures.count bus begun first ∙ ap (λ t. call_refused offers hits (t + c.go_ahead-place.result) bus) time;
+      reached = subst (λ t. IsReached offers c.go_ahead-place.new.progress.place (t + c.go_ahead-place.result)) time c.go_ahead-place.ensures.reached;
+      refused = c.go_ahead-place.ensures.refused;
+      size = c.go_ahead-place.ensures.ports ∙ sym (length-map c.make_all.new.self.ports.items S) ∙ ap length c.make_all.ensures.ports
+          ∙ length-all_made offers _ (map S c.loop-place.self.ports.items) ∙ length-map c.loop-place.self.ports.items S ∙ c.loop-place.invariant.size;
+      call = c.go_ahead-place.ensures.call;
+      time = omega (arith, c.go_ahead-place.ensures.time, time);
       long = first_of (omega arith, grind (arith, elements), search rules);
-      within = first_of (omega arith, search rules);
+      within = first_of (omega (arith, c.go_ahead-place.ensures.most, left, size), search rules);
     }
 
 pub returns-clause-bus : goal.returns-clause-bus

@@ -1,0 +1,353 @@
+-- A frame that passes a bus at once: the levels of its bit times, and the bus behind them.
+use Rattle.std.specs.Prelude.{if◌then◌else◌}
+use Rattle.std.specs.List.{list_any}
+use Rattle.std.proofs.Common.{◌≡◌, ◌≢◌, ℕ, zero, suc, ◌+◌, ◌-◌, ◌<◌, ◌≤◌, true, false, Option, Some, List, [], ◌∷◌, length, map, take, drop, get_or, add-one, refl, sym, ap, subst, ◌∙◌, arith, inl, inr}
+use Rattle.std.proofs.lemmas.Bool.{cond-false}
+use Rattle.std.proofs.lemmas.List.{length-append, length-map, length-take-le, map-id, take_all, take_at}
+use Rattle.can_frame.specs.declared.level.Level.{Level}
+use Rattle.can_frame.specs.declared.level.Level.TheVariants.{Dominant, Recessive}
+use Rattle.can_frame.specs.Parts.{Parts, IsFrame}
+use Rattle.can_wire.specs.Layout.{level_at}
+use Rattle.can_wire.specs.Wire.{driven, stuffed_part, tail}
+use Rattle.can_mac.specs.Frames.{GoesBehind, IsPoised, with_intermission}
+use Rattle.can_mac.proofs.FrameRoles.{line-start}
+use Rattle.can_node.specs.Ports.{PortState, IsPort, port_drives, port_run, port_step, waiting}
+use Rattle.can_node.proofs.Arrivals.{GainingPort, alone, gaining_drives, gaining_step-alone}
+use Rattle.can_node.proofs.FrameLeaves.{goes-behind, goes-own}
+use Rattle.can_node.proofs.FramesWaiting.{AreFrames-from, IsWaiting-waiting}
+use Rattle.can_node.proofs.Passing.{comes-behind, poised-meets}
+use Rattle.can_hit.specs.declared.hit.Hit.{Hit}
+use Rattle.can_hit.specs.declared.hit.Hit.TheVariants.{At, View}
+use Rattle.can_bus.specs.declared.call.Call.{Call}
+use Rattle.can_bus.specs.declared.moment.Attempt.{Attempt}
+use Rattle.can_bus.specs.Passing.{PassesAt, PassesBus, PassesBy, PassesByAll, PassesFrom}
+use Rattle.can_bus.specs.Run.{CallState, all_sampled, aged, attempt_now, begins_attempt, bus_after, bus_step, following, hits_view, hits_wire, inverted_if, recorded, rest_after, wired_level}
+use Rattle.can_bus.specs.Walks.{AreBelow, IsCall, IsFreeFrom, IsPassed, aged_by, in_now}
+use Rattle.can_bus.specs.Wired.{wired}
+use Rattle.can_bus.proofs.BusAtRest.{aged_more, aged_none}
+use Rattle.can_bus.proofs.Contests.{AllPorts}
+use Rattle.can_bus.proofs.FrameOnBus.{AllReceiveOn, OneSendsOn, frame-gives-on, ports_of, gaining_sees}
+use Rattle.can_bus.proofs.HitRuns.{sees}
+use Rattle.can_bus.proofs.PortLoops.{front_at}
+use Rattle.can_bus.proofs.Reduction.{Gives, maps-alike}
+use Rattle.can_bus.proofs.RestInFrames.{none-begins, rest_at-next, rest-line}
+use Rattle.can_bus.proofs.StepLemmas.{at_next, passed_more, view_later, within_next}
+use Rattle.can_bus.proofs.WireRuns.{all_after, rest_run, undisturbed}
+
+-- ---- who takes part
+
+all-receive : (f : Parts) → IsFrame f → (ports : List PortState) → AllPorts IsPort ports → PassesByAll f ports → AllReceiveOn f ports
+all-receive f is [] valid by = tt
+all-receive f is (p ∷ ports) valid by =
+    let behind = comes-behind f (waiting p.queue) by.0.1 in
+    let kept = IsWaiting-waiting p.queue (AreFrames-from p.queue valid.0.queued) in (
+      record { meets = poised-meets f p is by.0.0 kept (goes-behind f (waiting p.queue) behind); other = behind },
+      all-receive f is ports valid.1 by.1,
+    )
+
+one-sends : (f : Parts) → IsFrame f → (ports : List PortState) → AllPorts IsPort ports → PassesBus f ports → OneSendsOn f ports
+one-sends f is [] valid passes = passes
+one-sends f is (p ∷ ports) valid (inl one) =
+    let kept = IsWaiting-waiting p.queue (AreFrames-from p.queue valid.0.queued) in
+    inl (record { meets = poised-meets f p is one.0.0 kept (goes-own f (waiting p.queue) one.0.1); own = one.0.1 }, all-receive f is ports valid.1 one.1)
+one-sends f is (p ∷ ports) valid (inr one) =
+    let behind = comes-behind f (waiting p.queue) one.0.1 in
+    let kept = IsWaiting-waiting p.queue (AreFrames-from p.queue valid.0.queued) in
+    inr (record { meets = poised-meets f p is one.0.0 kept (goes-behind f (waiting p.queue) behind); other = behind }, one-sends f is ports valid.1 one.1)
+
+-- ---- ports at which nothing arrives
+
+seen-alone : (x : Level) (ports : List PortState) → map (gaining_sees x) (map alone ports) ≡ map alone (map (sees x) ports)
+seen-alone x ports =
+    maps-alike alone (gaining_sees x) (λ p. alone (port_step p x)) (λ p. gaining_step-alone p x) ports
+    ∙ sym (maps-alike (sees x) alone (λ p. alone (port_step p x)) (λ p. refl) ports)
+
+gives-alone : (levels : List Level) (ports : List PortState) → Gives gaining_drives gaining_sees (undisturbed levels) (map alone ports) → Gives port_drives sees (undisturbed levels) ports
+gives-alone [] ports h = tt
+gives-alone (x ∷ levels) ports h = (
+  ap wired (sym (maps-alike alone gaining_drives port_drives (λ p. refl) ports)) ∙ h.0,
+  gives-alone levels (map (sees x) ports) (subst (Gives gaining_drives gaining_sees (undisturbed levels)) (seen-alone x ports) h.1),
+)
+
+ports-alone : (ports : List PortState) → ports_of (map alone ports) ≡ ports
+ports-alone ports = maps-alike alone (λ (g : GainingPort). g.port) (λ p. p) (λ p. refl) ports ∙ map-id ports
+
+-- the wire has the levels of a frame that passes
+pub frame-gives-bus : (f : Parts) → IsFrame f → (ports : List PortState) → 1 < length ports → AllPorts IsPort ports → PassesBus f ports → Gives port_drives sees (undisturbed (with_intermission f)) ports
+frame-gives-bus f is ports two valid passes =
+    gives-alone (with_intermission f) ports
+    (frame-gives-on f (map alone ports) (let e = length-map ports alone in omega (arith, e, two)) (subst (OneSendsOn f) (sym (ports-alone ports)) (one-sends f is ports valid passes)))
+
+pub all_after-run : (levels : List Level) (ports : List PortState) → all_after sees levels ports ≡ map (λ p. port_run p levels) ports
+unfolding port_run
+all_after-run [] ports = sym (map-id ports)
+all_after-run (x ∷ levels) ports = all_after-run levels (map (sees x) ports) ∙ maps-alike (sees x) (λ p. port_run p levels) (λ p. port_run p (x ∷ levels)) (λ p. refl) ports
+
+-- ---- level by level
+
+pub gives-at : {M : Type 0} (drive : M → Level) (step : Level → M → M) (levels : List Level) (ms : List M) → Gives drive step (undisturbed levels) ms → (o : ℕ) → o < length levels →
+    wired (map drive (all_after step (take o levels) ms)) ≡ level_at levels o
+gives-at drive step [] ms h o within = absurd (omega (arith, within))
+gives-at drive step (x ∷ levels) ms h zero within = h.0
+gives-at drive step (x ∷ levels) ms h (suc o) within = gives-at drive step levels (map (step x) ms) h.1 o (omega (arith, within))
+
+pub all_after-next : {M : Type 0} (step : Level → M → M) (levels : List Level) (ms : List M) (o : ℕ) → o < length levels →
+    all_after step (take (suc o) levels) ms ≡ map (step (level_at levels o)) (all_after step (take o levels) ms)
+all_after-next step [] ms o within = absurd (omega (arith, within))
+all_after-next step (x ∷ []) ms zero within = refl
+all_after-next step (x ∷ (y ∷ levels)) ms zero within = refl
+all_after-next step (x ∷ levels) ms (suc o) within = all_after-next step levels (map (step x) ms) o (omega (arith, within))
+
+pub none-taken : {A : Type 0} (xs : List A) → take 0 xs ≡ []
+none-taken [] = refl
+none-taken (x ∷ xs) = refl
+
+taken-again : {A : Type 0} (m n : ℕ) (xs : List A) → m ≤ n → take m (take n xs) ≡ take m xs
+taken-again zero n xs h = none-taken (take n xs) ∙ sym (none-taken xs)
+taken-again (suc m) zero xs h = absurd (omega (arith, h))
+taken-again (suc m) (suc n) [] h = refl
+taken-again (suc m) (suc n) (x ∷ xs) h = ap (λ ys. x ∷ ys) (taken-again m n xs (omega (arith, h)))
+
+pub unviewed : (hits : List Hit) (time : ℕ) (x : Level) → ((node : ℕ) → list_any (hits_view time node) hits ≡ false) → (k : ℕ) (ports : List PortState) → all_sampled hits time x k ports ≡ map (sees x) ports
+unviewed hits time x none k [] = refl
+unviewed hits time x none k (p ∷ ports) =
+    ap (λ b. port_step p (inverted_if b x) ∷ all_sampled hits time x (k + 1) ports) (none k) ∙ ap (λ ps. port_step p x ∷ ps) (unviewed hits time x none (k + 1) ports)
+
+-- the latest attempt as bit time o of a frame begins, with which an attempt begins
+abbrev pub latest_at : Option Attempt → ℕ → Option Attempt
+latest_at latest zero = latest
+latest_at latest (suc o) = aged_by o (Some (following latest))
+
+-- A frame begins as the bus has rested, and no hit falls in its bit times, in each of which the ports drive its level.
+module _ (hits : List Hit) (f : Parts) (is : IsFrame f) (time : ℕ) (latest : Option Attempt) (P : ℕ → List PortState)
+    (wires : (o : ℕ) → o < length (with_intermission f) → wired (map port_drives (P o)) ≡ level_at (with_intermission f) o)
+    (free : IsFreeFrom hits time (Some (following latest)) (length (with_intermission f))) where
+  -- the call in bit time o
+  abbrev pub stage : ℕ → CallState
+  stage o = record { bus = record { ports = P o; rest = rest_run 11 (take o (with_intermission f)) }; time = time + o; latest = latest_at latest o }
+
+  attempt-at : (o : ℕ) → o < length (with_intermission f) → attempt_now (stage o) ≡ latest_at latest (suc o)
+  attempt-at zero within =
+      ap (λ x. if begins_attempt (rest_run 11 (take 0 (with_intermission f))) x then Some (following latest) else aged latest) (wires 0 within ∙ line-start f)
+      ∙ ap (λ ls. if begins_attempt (rest_run 11 ls) Dominant then Some (following latest) else aged latest) (none-taken (with_intermission f))
+      ∙ aged_none (Some (following latest))
+  attempt-at (suc o) within =
+      cond-false (begins_attempt (rest_run 11 (take (suc o) (with_intermission f))) (wired_level (stage (suc o)))) _ _ (none-begins f is 11 (suc o) (omega arith) within (wired_level (stage (suc o))))
+      ∙ aged_more o (Some (following latest)) ∙ ap (λ k. aged_by k (Some (following latest))) (let e : o + 1 ≡ suc o = omega arith in e)
+
+  pub stage-level : (o : ℕ) → o < length (with_intermission f) → recorded hits (stage o) ≡ level_at (with_intermission f) o
+  unfolding recorded
+  stage-level o within =
+      ap (λ l. inverted_if (list_any (hits_wire (time + o) l) hits) (wired_level (stage o))) (attempt-at o within)
+      ∙ ap (λ b. inverted_if b (wired_level (stage o))) (free.wire o within)
+      ∙ wires o within
+
+  -- and behind it
+  pub stage-step : (o : ℕ) → o < length (with_intermission f) →
+      bus_step hits (stage o)
+      ≡ record { bus = record { ports = map (sees (level_at (with_intermission f) o)) (P o); rest = rest_run 11 (take (suc o) (with_intermission f)) }; time = time + suc o; latest = latest_at latest (suc o) }
+  unfolding bus_step
+  stage-step o within =
+      let x = level_at (with_intermission f) o in
+      let rest = rest_run 11 (take o (with_intermission f)) in
+      let seen = map (sees x) (P o) in
+      ap (λ y. let c : CallState = record { bus = record { ports = all_sampled hits (time + o) y 0 (P o); rest = rest_after rest y }; time = time + o + 1; latest = attempt_now (stage o) } in c) (stage-level o within)
+      ∙ ap (λ ps. let c : CallState = record { bus = record { ports = ps; rest = rest_after rest x }; time = time + o + 1; latest = attempt_now (stage o) } in c)
+      (unviewed hits (time + o) x (λ node. free.view o node within) 0 (P o))
+      ∙ ap (λ r. let c : CallState = record { bus = record { ports = seen; rest = r }; time = time + o + 1; latest = attempt_now (stage o) } in c) (sym (rest_at-next f is 11 o within))
+      ∙ ap (λ t. let c : CallState = record { bus = record { ports = seen; rest = rest_run 11 (take (suc o) (with_intermission f)) }; time = t; latest = attempt_now (stage o) } in c) (let e : time + o + 1 ≡ time + suc o = omega arith in e)
+      ∙ ap (λ l. let c : CallState = record { bus = record { ports = seen; rest = rest_run 11 (take (suc o) (with_intermission f)) }; time = time + suc o; latest = l } in c) (attempt-at o within)
+
+-- the same where nothing is offered meanwhile
+module _ (hits : List Hit) (f : Parts) (is : IsFrame f) (ports : List PortState) (time : ℕ) (latest : Option Attempt) where
+  abbrev line : List Level
+  line = with_intermission f
+
+  abbrev going : ℕ → List PortState
+  going o = all_after sees (take o line) ports
+
+  abbrev first : CallState
+  first = record { bus = record { ports = ports; rest = 11 }; time = time; latest = latest }
+
+  module _ (gives : Gives port_drives sees (undisturbed (with_intermission f)) ports) (free : IsFreeFrom hits time (Some (following latest)) (length (with_intermission f))) where
+    abbrev at : ℕ → CallState
+    at o = stage hits f is time latest going (λ o within. gives-at port_drives sees line ports gives o within) free o
+
+    first-at : first ≡ at 0
+    first-at =
+        ap (λ t. let c : CallState = record { bus = record { ports = ports; rest = 11 }; time = t; latest = latest } in c) (let e : time ≡ time + 0 = omega arith in e)
+        ∙ ap (λ ls. let c : CallState = record { bus = record { ports = all_after sees ls ports; rest = rest_run 11 ls }; time = time + 0; latest = latest } in c) (sym (none-taken line))
+
+    reaches : (o : ℕ) → o ≤ length line → bus_after hits o first ≡ at o
+    unfolding bus_after
+    reaches zero within = first-at
+    reaches (suc o) within =
+        ap (bus_step hits) (reaches o (omega (arith, within)))
+        ∙ stage-step hits f is time latest going (λ o within. gives-at port_drives sees line ports gives o within) free o (omega (arith, within))
+        ∙ ap (λ ps. let c : CallState = record { bus = record { ports = ps; rest = rest_run 11 (take (suc o) line) }; time = time + suc o; latest = latest_at latest (suc o) } in c) (sym (all_after-next sees line ports o (omega (arith, within))))
+
+    -- the level of each bit time
+    pub passed-level : (o : ℕ) → o < length (with_intermission f) → recorded hits (bus_after hits o (record { bus = record { ports = ports; rest = 11 }; time = time; latest = latest })) ≡ level_at (with_intermission f) o
+    passed-level o within =
+        ap (recorded hits) (reaches o (omega (arith, within)))
+        ∙ stage-level hits f is time latest going (λ o within. gives-at port_drives sees line ports gives o within) free o within
+
+    -- and the bus behind them
+    pub passed-after : (n : ℕ) → n ≡ length (with_intermission f) → 0 < n →
+        bus_after hits n (record { bus = record { ports = ports; rest = 11 }; time = time; latest = latest })
+        ≡ record { bus = record { ports = map (λ p. port_run p (with_intermission f)) ports; rest = 11 }; time = time + n; latest = aged_by (n - 1) (Some (following latest)) }
+    passed-after zero all some = absurd (omega (arith, some))
+    passed-after (suc n) all some =
+        let whole : take (suc n) line ≡ line = take_all (suc n) line (omega (arith, all)) in
+        reaches (suc n) (omega (arith, all))
+        ∙ ap (λ ls. let c : CallState = record { bus = record { ports = all_after sees ls ports; rest = rest_run 11 ls }; time = time + suc n; latest = aged_by n (Some (following latest)) } in c) whole
+        ∙ ap (λ ps. let c : CallState = record { bus = record { ports = ps; rest = rest_run 11 line }; time = time + suc n; latest = aged_by n (Some (following latest)) } in c) (all_after-run line ports)
+        ∙ ap (λ r. let c : CallState = record { bus = record { ports = map (λ p. port_run p line) ports; rest = r }; time = time + suc n; latest = aged_by n (Some (following latest)) } in c) (rest-line f 11)
+        ∙ ap (λ k. let c : CallState = record { bus = record { ports = map (λ p. port_run p line) ports; rest = 11 }; time = time + suc n; latest = aged_by k (Some (following latest)) } in c) (let e : n ≡ suc n - 1 = omega arith in e)
+
+-- ---- the hits of a call
+
+-- no hit falls in the first of so many bit times, nor in the others
+pub free-from : (hits : List Hit) (time : ℕ) (first : Option Attempt) (n : ℕ) → list_any (hits_wire time first) hits ≡ false → ((node : ℕ) → list_any (hits_view time node) hits ≡ false) →
+    ((k : ℕ) → suc k < n → list_any (hits_wire ((time + 1) + k) (aged_by (k + 1) first)) hits ≡ false) → ((k node : ℕ) → suc k < n → list_any (hits_view ((time + 1) + k) node) hits ≡ false) →
+    IsFreeFrom hits time first n
+free-from hits time first n wire view wires views = record { wire = on-wire; view = on-view }
+  where
+    on-wire : (o : ℕ) → o < n → list_any (hits_wire (time + o) (aged_by o first)) hits ≡ false
+    on-wire zero within =
+        ap (λ t. list_any (hits_wire t (aged_by 0 first)) hits) (let e : time + 0 ≡ time = omega arith in e)
+        ∙ ap (λ a. list_any (hits_wire time a) hits) (sym (aged_none first)) ∙ wire
+    on-wire (suc k) within =
+        ap (λ t. list_any (hits_wire t (aged_by (suc k) first)) hits) (let e : time + suc k ≡ (time + 1) + k = omega arith in e)
+        ∙ ap (λ j. list_any (hits_wire ((time + 1) + k) (aged_by j first)) hits) (let e : suc k ≡ k + 1 = omega arith in e) ∙ wires k within
+
+    on-view : (o node : ℕ) → o < n → list_any (hits_view (time + o) node) hits ≡ false
+    on-view zero node within = ap (λ t. list_any (hits_view t node) hits) (let e : time + 0 ≡ time = omega arith in e) ∙ view node
+    on-view (suc k) node within = ap (λ t. list_any (hits_view t node) hits) (let e : time + suc k ≡ (time + 1) + k = omega arith in e) ∙ views k node within
+
+-- ---- the ports, one after another
+
+-- a frame that passes by so many passes by one more
+passes-step : {X : Type 0} (S : X → PortState) (f : Parts) (xs : List X) (i : ℕ) (d : X) → i < length xs → PassesByAll f (map S (take i xs)) → PassesBy f (S (get_or xs i d)) → PassesByAll f (map S (take (suc i) xs))
+passes-step S f [] i d within before here = absurd (omega (arith, within))
+passes-step S f (x ∷ []) zero d within before here = (here, tt)
+passes-step S f (x ∷ (y ∷ xs)) zero d within before here = (here, tt)
+passes-step S f (x ∷ xs) (suc i) d within before here = (before.0, passes-step S f xs i d (omega (arith, within)) before.1 here)
+
+pub passes-more : {X : Type 0} (S : X → PortState) (f : Parts) (xs : List X) (i : ℕ) (d : X) → i < length xs → PassesByAll f (map S (take i xs)) → PassesBy f (S (get_or xs i d)) → PassesByAll f (map S (take (i + 1) xs))
+passes-more S f xs i d within before here = rw add-one (passes-step S f xs i d within before here)
+
+pub passes-none : (f : Parts) (ports : List PortState) → PassesByAll f (take 0 ports)
+passes-none f [] = tt
+passes-none f (p ∷ ports) = tt
+
+-- one port among others
+passes-one : {X : Type 0} (S : X → PortState) (f : Parts) (xs : List X) (i : ℕ) (d : X) → i < length xs → PassesByAll f (map S (take i xs)) → PassesFrom f (S (get_or xs i d)) → PassesByAll f (map S (drop (suc i) xs)) →
+    PassesBus f (map S xs)
+passes-one S f [] i d within before own behind = absurd (omega (arith, within))
+passes-one S f (x ∷ xs) zero d within before own behind = inl (own, behind)
+passes-one S f (x ∷ xs) (suc i) d within before own behind = inr (before.0, passes-one S f xs i d (omega (arith, within)) before.1 own behind)
+
+pub passes-at : {X : Type 0} (S : X → PortState) (f : Parts) (xs : List X) (i : ℕ) (d : X) → i < length xs → PassesByAll f (map S (take i xs)) → PassesFrom f (S (get_or xs i d)) → PassesByAll f (map S (drop (i + 1) xs)) →
+    PassesBus f (map S xs)
+passes-at S f xs i d within before own behind = passes-one S f xs i d within before own (subst (λ n. PassesByAll f (map S (drop n xs))) (add-one i) behind)
+
+by-all : (f : Parts) (s k : ℕ) (ports : List PortState) → PassesByAll f ports → PassesAt f s k ports
+by-all f s k [] by = tt
+by-all f s k (p ∷ ports) by = (inr by.0, by-all f s (k + 1) ports by.1)
+
+sender-from : {X : Type 0} (S : X → PortState) (f : Parts) (xs : List X) (i k : ℕ) (d : X) → i < length xs → PassesByAll f (map S (take i xs)) → PassesFrom f (S (get_or xs i d)) → PassesByAll f (map S (drop (suc i) xs)) →
+    PassesAt f (k + i) k (map S xs)
+sender-from S f [] i k d within before own behind = absurd (omega (arith, within))
+sender-from S f (x ∷ xs) zero k d within before own behind = (inl ((let e : k ≡ k + 0 = omega arith in e), own), by-all f (k + 0) (k + 1) (map S xs) behind)
+sender-from S f (x ∷ xs) (suc i) k d within before own behind =
+    (inr before.0, subst (λ s. PassesAt f s (k + 1) (map S xs)) (let e : (k + 1) + i ≡ k + suc i = omega arith in e) (sender-from S f xs i (k + 1) d (omega (arith, within)) before.1 own behind))
+
+pub sender-at : {X : Type 0} (S : X → PortState) (f : Parts) (xs : List X) (i : ℕ) (d : X) → i < length xs → PassesByAll f (map S (take i xs)) → PassesFrom f (S (get_or xs i d)) → PassesByAll f (map S (drop (i + 1) xs)) →
+    PassesAt f i 0 (map S xs)
+sender-at S f xs i d within before own behind =
+    subst (λ s. PassesAt f s 0 (map S xs)) (let e : 0 + i ≡ i = omega arith in e) (sender-from S f xs i 0 d within before own (subst (λ n. PassesByAll f (map S (drop n xs))) (add-one i) behind))
+
+-- each port lets the frame pass
+abbrev pub LetsPass : Parts → PortState → Type 0
+LetsPass f p = IsPoised p.mac × GoesBehind f (waiting p.queue)
+
+all-let : (f : Parts) (ports : List PortState) → PassesByAll f ports → AllPorts (LetsPass f) ports
+all-let f [] by = tt
+all-let f (p ∷ ports) by = ((by.0.0, goes-behind f (waiting p.queue) (comes-behind f (waiting p.queue) by.0.1)), all-let f ports by.1)
+
+pub bus-lets : (f : Parts) (ports : List PortState) → PassesBus f ports → AllPorts (LetsPass f) ports
+bus-lets f [] passes = tt
+bus-lets f (p ∷ ports) (inl one) = ((one.0.0, goes-own f (waiting p.queue) one.0.1), all-let f ports one.1)
+bus-lets f (p ∷ ports) (inr one) = ((one.0.0, goes-behind f (waiting p.queue) (comes-behind f (waiting p.queue) one.0.1)), bus-lets f ports one.1)
+
+-- what holds of all ports holds of the next one, where those before it have changed
+pub holds-next : {X A : Type 0} (Q : A → Type 0) (S : X → A) (F : ℕ → A → A) (k i : ℕ) (xs : List X) (ps : List A) (d : X) → AllPorts Q ps → map S xs ≡ front_at F k i ps → i < length xs → Q (S (get_or xs i d))
+holds-next Q S F k i [] ps d all e within = absurd (omega (arith, within))
+holds-next Q S F k i (x ∷ xs) [] d all e within = absurd (nothing i e)
+  where
+    nothing : (i : ℕ) → map S (x ∷ xs) ≡ front_at F k i [] → ⊥
+    nothing zero e = let n : length (S x ∷ map S xs) ≡ 0 = ap length e in omega (arith, n)
+    nothing (suc i) e = let n : length (S x ∷ map S xs) ≡ 0 = ap length e in omega (arith, n)
+holds-next Q S F k zero (x ∷ xs) (p ∷ ps) d all e within = let h : S x ≡ p = cc in subst Q (sym h) all.0
+holds-next Q S F k (suc i) (x ∷ xs) (p ∷ ps) d all e within = let t : map S xs ≡ front_at F (k + 1) i ps = cc in holds-next Q S F (k + 1) i xs ps d all.1 t (omega (arith, within))
+
+-- the call in the second of these bit times
+pub second-call : (hits : List Hit) (call now : Call) → IsCall hits call → AreBelow hits now.at.place (At now.time) → AreBelow hits now.within.place (in_now now.latest) →
+    now.time ≡ call.time → now.latest ≡ Some (following call.latest) → now.view ≡ call.view →
+    IsCall hits (record { time = now.time + 1; latest = now.latest; at = now.at; within = now.within; view = now.view })
+second-call hits call now is at within time latest view = record {
+  at = at_next hits now.at.place now.time at;
+  within = within_next hits now.within.place now.latest within;
+  view = subst (λ v. AreBelow hits v.place (View (now.time + 1) 0)) (sym view) (subst (λ t. AreBelow hits call.view.place (View (t + 1) 0)) (sym time) (view_later hits call.view.place call.time 0 is.view));
+  passed = subst (λ l. IsPassed l (now.time + 1)) (sym latest) (subst (λ t. IsPassed (Some (following call.latest)) (t + 1)) (sym time) (passed_more true call.latest call.time is.passed));
+}
+
+-- ---- the levels of the frame
+
+-- the stuffed part stands before the last ten of the levels that its sender drives
+pub part-of : (f : Parts) (levels : List Level) (n part : ℕ) → n ≤ length levels → take n levels ≡ driven f → part ≡ n - 10 → (take part levels ≡ stuffed_part f) × (part ≡ length (stuffed_part f))
+part-of f levels n part long are less =
+    let size : n ≡ length (stuffed_part f) + 10 = sym (length-take-le n levels long) ∙ ap length are ∙ length-append (stuffed_part f) (tail Recessive Recessive) in
+    let whole : part ≡ length (stuffed_part f) = omega (arith, size, less) in (
+      sym (taken-again part n levels (omega (arith, size, whole))) ∙ ap (take part) are ∙ take_at (stuffed_part f) (tail Recessive Recessive) part (sym whole),
+      whole,
+    )
+
+pub at-taken : (rec : List Level) (n t : ℕ) (d : Level) → t < n → t < length rec → get_or rec t d ≡ level_at (take n rec) t
+at-taken [] n t d less within = absurd (omega (arith, within))
+at-taken (x ∷ rec) zero t d less within = absurd (omega (arith, less))
+at-taken (x ∷ rec) (suc n) zero d less within = refl
+at-taken (x ∷ rec) (suc n) (suc t) d less within = at-taken rec n t d (omega (arith, less)) (omega (arith, within))
+
+-- A frame passes: what is recorded, and the bus behind it.
+module _ (hits : List Hit) (f : Parts) (is : IsFrame f) (ports : List PortState) (rest time : ℕ) (latest : Option Attempt) (rested : rest ≡ 11)
+    (two : 1 < length ports) (valid : AllPorts IsPort ports) (passes : PassesBus f ports)
+    (rec : List Level) (count : ℕ) (some : count ≢ 0) (within : count ≤ length rec) (are : take count rec ≡ with_intermission f) (free : IsFreeFrom hits time (Some (following latest)) count) where
+  abbrev start : CallState
+  start = record { bus = record { ports = ports; rest = rest }; time = time; latest = latest }
+
+  size : count ≡ length (with_intermission f)
+  size = sym (length-take-le count rec within) ∙ ap length are
+
+  gives : Gives port_drives sees (undisturbed (with_intermission f)) ports
+  gives = frame-gives-bus f is ports two valid passes
+
+  free-line : IsFreeFrom hits time (Some (following latest)) (length (with_intermission f))
+  free-line = subst (IsFreeFrom hits time (Some (following latest))) size free
+
+  pub line-recorded : (t : ℕ) (d : Level) → t < count → get_or rec t d ≡ recorded hits (bus_after hits t (record { bus = record { ports = ports; rest = rest }; time = time; latest = latest }))
+  line-recorded t d early =
+      at-taken rec count t d early (omega (arith, early, within)) ∙ ap (λ ls. level_at ls t) are
+      ∙ sym (passed-level hits f is ports time latest gives free-line t (omega (arith, early, size)))
+      ∙ ap (λ r. recorded hits (bus_after hits t (let c : CallState = record { bus = record { ports = ports; rest = r }; time = time; latest = latest } in c))) (sym rested)
+
+  pub line-passed : (next : List PortState) (later : ℕ) (attempt : Option Attempt) → next ≡ map (λ p. port_run p (take count rec)) ports → later ≡ time + count → attempt ≡ aged_by (count - 1) (Some (following latest)) →
+      record { bus = record { ports = next; rest = rest }; time = later; latest = attempt } ≡ bus_after hits count (record { bus = record { ports = ports; rest = rest }; time = time; latest = latest })
+  line-passed next later attempt goes late aged =
+      ap (λ ps. let c : CallState = record { bus = record { ports = ps; rest = rest }; time = later; latest = attempt } in c) (goes ∙ ap (λ ls. map (λ p. port_run p ls) ports) are)
+      ∙ ap (λ t. let c : CallState = record { bus = record { ports = map (λ p. port_run p (with_intermission f)) ports; rest = rest }; time = t; latest = attempt } in c) late
+      ∙ ap (λ a. let c : CallState = record { bus = record { ports = map (λ p. port_run p (with_intermission f)) ports; rest = rest }; time = time + count; latest = a } in c) aged
+      ∙ ap (λ r. let c : CallState = record { bus = record { ports = map (λ p. port_run p (with_intermission f)) ports; rest = r }; time = time + count; latest = aged_by (count - 1) (Some (following latest)) } in c) rested
+      ∙ sym (passed-after hits f is ports time latest gives free-line count size (omega (arith, some)))
+      ∙ ap (λ r. bus_after hits count (let c : CallState = record { bus = record { ports = ports; rest = r }; time = time; latest = latest } in c)) (sym rested)

@@ -1,0 +1,335 @@
+//! A frame that passes a bus at once: where all ports are idle and error active and ask for no overload frame, one
+//! frame goes before all others that wait, and no hit falls, its levels and what it leaves are known as it begins. What
+//! is offered meanwhile to other ports than the sender's waits behind it, so it may as well be offered behind it.
+ghost use Rattle.std.specs.Prelude.{ℕ, ◌≡◌, ◌≢◌, ◌+◌, ◌-◌, ◌++◌, ◌<◌, ◌≤◌, ◌^◌, length, map, take, slice_get, slice_index_or, IfSome, IsNone, IsTrue, Some};
+ghost use Rattle.can_frame.specs.Arbitration.{Before, arbitration_field};
+ghost use Rattle.can_frame.specs.Parts.{IsFrame, Parts};
+ghost use Rattle.can_mac.specs.Frames.{IsPoised, with_intermission};
+ghost use Rattle.can_node.specs.Ports.{port_drives, port_run, waiting};
+ghost use Rattle.can_bus.specs.declared.offer.Offer.{Offer as Asked};
+ghost use Rattle.can_bus.specs.Network.{call_after, call_level, call_refused, offered_now};
+ghost use Rattle.can_bus.specs.Offers.{AreOffered};
+ghost use Rattle.can_bus.specs.Passing.{PassesAt, PassesBus, PassesBy, PassesByAll, PassesFrom, made_behind, refused_behind};
+ghost use Rattle.can_bus.specs.Run.{BusState, bus_after, recorded};
+ghost use Rattle.can_bus.specs.State.{port_count, port_states, rest_of, state_of};
+ghost use Rattle.can_bus.specs.Walks.{AreRising, IsCall, IsReached, call_on};
+ghost use Rattle.can_bus.specs.Wired.{wired as wired_of};
+
+use crate::bus::Bus;
+use crate::bus::play_disturbed::Progress;
+use crate::call::Call;
+use crate::offer::Offer;
+use crate::wire::wired_level;
+use can_frame::{Frame, IDLE_ROW, Key, Level};
+use can_hit::Hit;
+use can_node::Port;
+use can_wire::{LONGEST_WIRE, encode_into};
+use std::cmp::Ordering;
+
+/// How many bit times the shortest frame takes, with the intermission behind it.
+const SHORTEST_LINE: usize = 47;
+
+/// How many levels stand behind the stuffed part of a frame.
+const TAIL_LEVELS: usize = 10;
+
+/// The levels behind the stuffed part of a frame that is acknowledged, from the CRC delimiter to the end of frame, and of
+/// intermission.
+const END: [Level; 13] = [
+    Level::Recessive,
+    Level::Dominant,
+    Level::Recessive,
+    Level::Recessive,
+    Level::Recessive,
+    Level::Recessive,
+    Level::Recessive,
+    Level::Recessive,
+    Level::Recessive,
+    Level::Recessive,
+    Level::Recessive,
+    Level::Recessive,
+    Level::Recessive,
+];
+
+impl<P: Port> Bus<P> {
+    /// Runs the bit times of a whole frame, and of the intermission behind it, and records a level in each, where the
+    /// frame passes the bus at once. The answer is how many they are, and 0 where none does.
+    #[inline(never)]
+    pub(super) fn pass_frame(
+        &mut self,
+        hits: &[Hit],
+        call: &mut Call,
+        driven: &mut Level,
+        rec: &mut [Level],
+    ) -> usize
+        requires driven { driven.old ≡ wired_of (map port_drives (port_states P.port self.old)) }
+        requires rising { AreRising hits.now }
+        requires call { IsCall hits.now call.old }
+        requires time { call.old.time + length rec.old < 2 ^ 64 }
+        ensures most { result ≤ length rec.old }
+        ensures levels { (t : ℕ) (d : Level) → t < result → slice_index_or rec.new t d ≡ recorded hits.now (bus_after hits.now t (call_on (state_of P.port self.old) call.old)) }
+        ensures after { call_on (state_of P.port self.new) call.new ≡ bus_after hits.now result (call_on (state_of P.port self.old) call.old) }
+        ensures driven { driven.new ≡ wired_of (map port_drives (port_states P.port self.new)) }
+        ensures call { IsCall hits.now call.new }
+        ensures time { call.new.time ≡ call.old.time + result }
+    {
+        if driven.is_recessive() || self.rest != IDLE_ROW || self.ports.len() < 2 {
+            return 0;
+        }
+        let Some(passing) = first_frame(self.ports.as_slice()) else {
+            return 0;
+        };
+        let count = lay_out(&passing.frame, rec);
+        if count == 0 {
+            return 0;
+        }
+        let Some(later) = call.behind(hits, count) else {
+            return 0;
+        };
+        pass_all(self.ports.as_mut_slice(), &passing.frame, &rec[..count]);
+        *call = later;
+        *driven = wired_level(self.ports.as_slice());
+        count
+    }
+
+    /// The same, where frames are offered meanwhile, none of them to the port that sends: they are offered behind the frame,
+    /// which comes to the same. The offers of its first bit time have been made.
+    #[inline(never)]
+    pub(super) fn pass_open(
+        &mut self,
+        offers: &[Offer],
+        hits: &[Hit],
+        call: &mut Call,
+        progress: &mut Progress,
+        rec: &mut [Level],
+    ) -> usize
+        requires offered { AreOffered (port_count self.old) offers.now }
+        requires rising { AreRising hits.now }
+        requires call { IsCall hits.now call.old }
+        requires time { call.old.time + length rec.old < 2 ^ 64 }
+        requires reached { IsReached offers.now progress.old.place (call.old.time + 1) }
+        requires refused { progress.old.refused ≤ progress.old.place }
+        ensures most { result ≤ length rec.old }
+        ensures after { 0 < result → (bus : BusState) → call_on (state_of P.port self.old) call.old ≡ offered_now offers.now (call_after offers.now hits.now call.old.time bus)
+            → call_on (state_of P.port self.new) call.new ≡ call_after offers.now hits.now (call.old.time + result) bus }
+        ensures levels { (bus : BusState) → call_on (state_of P.port self.old) call.old ≡ offered_now offers.now (call_after offers.now hits.now call.old.time bus)
+            → (t : ℕ) (d : Level) → t < result → slice_index_or rec.new t d ≡ call_level offers.now hits.now (call.old.time + t) bus }
+        ensures count { 0 < result → (bus : BusState) → call_on (state_of P.port self.old) call.old ≡ offered_now offers.now (call_after offers.now hits.now call.old.time bus)
+            → progress.old.refused ≡ call_refused offers.now hits.now (call.old.time + 1) bus
+            → progress.new.refused ≡ call_refused offers.now hits.now (call.old.time + result) bus }
+        ensures reached { 0 < result → IsReached offers.now progress.new.place (call.old.time + result) }
+        ensures refused { progress.new.refused ≤ progress.new.place }
+        ensures ports { port_count self.new ≡ port_count self.old }
+        ensures call { IsCall hits.now call.new }
+        ensures time { call.new.time ≡ call.old.time + result }
+        ensures unpassed { result ≡ 0 → call_on (state_of P.port self.new) call.new ≡ call_on (state_of P.port self.old) call.old }
+        ensures unmade { result ≡ 0 → progress.new ≡ progress.old }
+    {
+        if self.rest != IDLE_ROW || self.ports.len() < 2 || rec.len() < SHORTEST_LINE {
+            return 0;
+        }
+        let Some(passing) = first_frame(self.ports.as_slice()) else {
+            return 0;
+        };
+        let count = lay_out(&passing.frame, rec);
+        if count == 0 {
+            return 0;
+        }
+        let begun = call.time;
+        if !are_others(offers, progress.place, passing.place, begun + count as u64) {
+            return 0;
+        }
+        let Some(later) = call.behind(hits, count) else {
+            return 0;
+        };
+        pass_all(self.ports.as_mut_slice(), &passing.frame, &rec[..count]);
+        *call = later;
+        self.make_behind(offers, begun, later.time, progress);
+        count
+    }
+
+    /// Makes the offers of the times behind one and before another, in their order.
+    fn make_behind(&mut self, offers: &[Offer], begun: u64, end: u64, progress: &mut Progress)
+        requires offered { AreOffered (port_count self.old) offers.now }
+        requires later { begun < end }
+        requires reached { IsReached offers.now progress.old.place (begun + 1) }
+        requires refused { progress.old.refused ≤ progress.old.place }
+        ensures ports { port_states P.port self.new ≡ made_behind offers.now begun (end - begun - 1) (port_states P.port self.old) }
+        ensures rest { rest_of self.new ≡ rest_of self.old }
+        ensures count { progress.new.refused ≡ progress.old.refused + refused_behind offers.now begun (end - begun - 1) (port_states P.port self.old) }
+        ensures reached { IsReached offers.now progress.new.place end }
+        ensures refused { progress.new.refused ≤ progress.new.place }
+    {
+        // the time up to which all are made
+        let mut made = begun;
+        while let Some(time) = time_before(offers, progress.place, end) {
+            self.make_all(offers, time, progress);
+            made = time;
+        }
+    }
+}
+
+/// The time of the offer at this place, if there is one, and it is before an end.
+fn time_before(offers: &[Offer], place: usize, end: u64) -> Option<u64>
+    ensures some { IfSome result (λ time. (offer : Asked) × (slice_get offers.now place ≡ Some offer) × (offer.time ≡ time)) }
+    ensures early { IfSome result (λ time. time < end) }
+    ensures none { IsNone result → (offer : Asked) → slice_get offers.now place ≡ Some offer → end ≤ offer.time }
+{
+    let offer = offers.get(place)?;
+    if offer.time < end {
+        Some(offer.time)
+    } else {
+        None
+    }
+}
+
+/// Whether the offers from this place on that are earlier than a time are all to other ports.
+fn are_others(offers: &[Offer], place: usize, node: usize, end: u64) -> bool
+    requires { (m n : ℕ) (a b : Asked) → m ≤ n → slice_get offers.now m ≡ Some a → slice_get offers.now n ≡ Some b → a.time ≤ b.time }
+    ensures { IsTrue result → (n : ℕ) (offer : Asked) → place ≤ n → slice_get offers.now n ≡ Some offer → offer.time < end → offer.node ≢ node }
+{
+    let mut next = place;
+    while next < offers.len() && offers[next].time < end {
+        if offers[next].node == node {
+            return false;
+        }
+        next += 1;
+    }
+    true
+}
+
+/// A frame that passes a bus at once, and the place of the port that sends it.
+#[derive(Clone, Copy)]
+struct Passing {
+    place: usize,
+    frame: Frame,
+}
+
+/// The frame that passes a bus with these ports at once; none where none does, or may not.
+fn first_frame<P: Port>(ports: &[P]) -> Option<Passing>
+    ensures passes { IfSome result (λ passing. PassesBus passing.frame (map P.port ports.now)) }
+    ensures sender { IfSome result (λ passing. PassesAt passing.frame passing.place 0 (map P.port ports.now)) }
+    ensures whole { IfSome result (λ passing. IsFrame passing.frame) }
+{
+    let place = first_place(ports)?;
+    if place >= ports.len() {
+        return None;
+    }
+    let frame = own_frame(&ports[place])?;
+    // Who reads a frame's bytes knows that it is a frame.
+    let _ = frame.bytes();
+    if passes_by_all(&ports[..place], &frame) && passes_by_all(&ports[place + 1..], &frame) {
+        Some(Passing { place, frame })
+    } else {
+        None
+    }
+}
+
+/// The frame that waits at a port that it may pass at once.
+#[inline(always)]
+fn own_frame<P: Port>(port: &P) -> Option<Frame>
+    ensures { IfSome result (λ frame. PassesFrom frame (P.port port.now)) }
+{
+    match port.poised() {
+        Some(Some(frame)) => Some(frame),
+        Some(None) | None => None,
+    }
+}
+
+/// A port at which a frame waits.
+#[derive(Clone, Copy)]
+struct Contender {
+    place: usize,
+    /// The arbitration field of the frame.
+    key: Key,
+}
+
+/// The place of the port at which a frame waits that goes before all others that wait, if a frame may pass all ports at
+/// once.
+fn first_place<P: Port>(ports: &[P]) -> Option<usize> {
+    let mut first: Option<Contender> = None;
+    for (place, port) in ports.iter().enumerate() {
+        match port.poised() {
+            None => return None,
+            Some(None) => {}
+            Some(Some(frame)) => {
+                let key = frame.key();
+                first = Some(first_of(first, Contender { place, key }));
+            }
+        }
+    }
+    Some(first?.place)
+}
+
+/// Of two, the one whose frame goes first.
+#[inline(always)]
+fn first_of(one: Option<Contender>, other: Contender) -> Contender {
+    match one {
+        Some(one) if one.key <= other.key => one,
+        _ => other,
+    }
+}
+
+/// Whether the frame passes by all these ports at once.
+fn passes_by_all<P: Port>(ports: &[P], frame: &Frame) -> bool
+    ensures { IsTrue result → PassesByAll frame.now (map P.port ports.now) }
+{
+    let key = frame.key();
+    for port in ports {
+        if !passes_by(port, key) {
+            return false;
+        }
+    }
+    true
+}
+
+/// Whether the frame with this arbitration field passes by a port at once.
+#[inline(always)]
+fn passes_by<P: Port>(port: &P, key: Key) -> bool
+    ensures { IsTrue result → (frame : Parts) → arbitration_field frame ≡ key → PassesBy frame (P.port port.now) }
+{
+    match port.poised() {
+        None => false,
+        Some(None) => true,
+        Some(Some(own)) => key.cmp(&own.key()) == Ordering::Less,
+    }
+}
+
+/// Puts the levels of a frame that is acknowledged, and of the intermission behind it, into the front of the slice, and
+/// answers how many they are; 0 where there is no room for them.
+fn lay_out(frame: &Frame, rec: &mut [Level]) -> usize
+    ensures most { result ≤ length rec.old }
+    ensures len { length rec.new ≡ length rec.old }
+    ensures some { result ≢ 0 → 1 < result }
+    ensures levels { result ≢ 0 → take result rec.new ≡ with_intermission frame.now }
+{
+    let mut levels = [Level::Recessive; LONGEST_WIRE];
+    let part = encode_into(frame, &mut levels).saturating_sub(TAIL_LEVELS);
+    let count = part + END.len();
+    if count > rec.len() {
+        return 0;
+    }
+    put(rec, 0, &levels[..part]);
+    put(rec, part, &END);
+    count
+}
+
+/// Puts levels behind the first of the slice.
+fn put(rec: &mut [Level], place: usize, levels: &[Level])
+    requires { place + length levels.now ≤ length rec.old }
+    ensures len { length rec.new ≡ length rec.old }
+    ensures levels { take (place + length levels.now) rec.new ≡ take place rec.old ++ levels.now }
+{
+    rec[place..place + levels.len()].copy_from_slice(levels);
+}
+
+/// Has the frame pass all ports.
+fn pass_all<P: Port>(ports: &mut [P], frame: &Frame, levels: &[Level])
+    requires whole { IsFrame frame.now }
+    requires levels { levels.now ≡ with_intermission frame.now }
+    requires passes { PassesBus frame.now (map P.port ports.old) }
+    ensures { map P.port ports.new ≡ map (λ p. port_run p levels.now) (map P.port ports.old) }
+{
+    for port in ports.iter_mut() {
+        port.pass(frame, levels);
+    }
+}
