@@ -23,6 +23,7 @@ pub mod LayoutLemmas
 -- the text of a frame
 pub mod TextRows
 pub mod Leaving
+pub mod DigitTable
 pub mod ReadDigits
 pub mod ReadParts
 pub mod TextFronts

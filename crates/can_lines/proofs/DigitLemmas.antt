@@ -1,7 +1,7 @@
 -- The digits of levels, and the first byte that is bad among them.
 use Rattle.std.proofs.Common.{◌≡◌, ℕ, ◌+◌, ◌<◌, ◌≤◌, ◌⊎◌, inl, inr, List, [], ◌∷◌, ◌++◌, length, get_or, take, drop, map, sym, ap, ◌∙◌, arith}
 use Rattle.std.proofs.lemmas.Bool.{cases_order}
-use Rattle.std.proofs.lemmas.List.{append-nil, drop_more, length-append, length-map, length-take, take_all, take-append-drop}
+use Rattle.std.proofs.lemmas.List.{append-nil, drop_more, length-append, length-map, length-take, take-append-drop}
 use Rattle.can_frame.specs.declared.level.Level.{Level}
 use Rattle.can_frame.specs.Levels.{digit_of}
 use Rattle.can_lines.specs.Checked.{IsFirstBadDigit, IsLevels}
@@ -48,10 +48,6 @@ IsFirstBadDigit-only digits p q a b = by_order (cases_order p q)
 -- ---- levels read so far
 
 module _ (digits : List ℕ) (levels : List Level) (place : ℕ) where
-  -- all bytes were read
-  pub IsLevels-all : length digits ≤ place → map digit_of levels ≡ take place digits → length levels ≤ 157 → IsLevels digits levels
-  IsLevels-all past so_far within = record { within = within; digits_are = sym (so_far ∙ take_all place digits past) }
-
   -- the next byte is bad
   pub IsFirstBadDigit-at : place < length digits → map digit_of levels ≡ take place digits → length levels ≤ 157
       → ((level : Level) → digit_of level ≡ get_or digits place 0 → length levels ≡ 157) → IsFirstBadDigit digits place

@@ -1,6 +1,8 @@
 pub mod TextLemmas
 pub mod MarkLemmas
 pub mod DigitLemmas
+pub mod DigitRanges
+pub mod DigitFronts
 pub mod VectorLemmas
 pub mod VectorFronts
 pub mod VerdictLines

@@ -1,4 +1,4 @@
-ghost use Rattle.std.specs.Prelude.{◌≡◌, ℕ, ◌+◌, ◌<◌, ◌≤◌, ◌↔◌, true, false, [], ◌++◌, length, take, is_err, IsTrue, IsFalse, IsErrOf, IfErr, OnOk, OnErr};
+ghost use Rattle.std.specs.Prelude.{◌≡◌, ℕ, ◌+◌, ◌<◌, ◌≤◌, ◌↔◌, true, false, [], ◌++◌, length, slice_range, is_err, IsTrue, IsFalse, IsErrOf, IfErr, OnOk, OnErr};
 ghost use Rattle.std.specs.Io.KnownBytes.{IsAtEnd};
 ghost use Rattle.can_frame.specs.declared.text.TextFault.{TextFault};
 ghost use Rattle.can_stream.specs.declared.field.Field.{Field};
@@ -8,16 +8,12 @@ ghost use Rattle.can_lines.specs.Coded.{coded_line, EncodesAll, EncodesEnded, En
 ghost use Rattle.can_lines.specs.Answering.{Answers, FailsToAnswer, Encodes};
 ghost use Rattle.can_stream.specs.Faults.{is_err_by, is_read, is_write};
 
-use crate::driven::write_driven;
 use can_frame::Frame;
 use can_stream::{LineReader, Outbox, Sink, Source, TraceFault};
-use can_wire::LONGEST_WIRE;
+use can_wire::{DIGITS_ROOM, driven_digits};
 
 /// How many bytes of a line are kept: one more than the longest frame text has.
 const KEPT: usize = 33;
-
-/// How many bytes the line of a frame's levels has at most.
-const LINE: usize = LONGEST_WIRE + 1;
 
 /// Reads lines of frame text and writes for each the levels of its frame, as `0` and `1` and 0x0a.
 ///
@@ -126,18 +122,18 @@ fn put_frame<W: Sink>(frame: &Frame, w: &mut W, out: &mut Outbox) -> Result<(), 
     ensures failed { W.has_failed w.new ≡ is_err result }
     ensures fault { IfErr result (λ e. e ≡ TraceFault.Write) }
 {
-    let mut line = [0; LINE];
-    let length = write_line(frame, &mut line);
-    out.put(w, &line[..length])
+    let mut line = [0; DIGITS_ROOM];
+    let (start, end) = write_line(frame, &mut line);
+    out.put(w, &line[start..end])
 }
 
-/// Writes the line of the frame's levels, and answers its length.
-fn write_line(frame: &Frame, line: &mut [u8]) -> usize
-    requires { length line.old ≡ LINE }
-    ensures bound { result ≤ LINE }
-    ensures line { take result line.new ≡ coded_line frame.now }
+/// Writes the line of the frame's levels, and answers where it begins and where it ends.
+fn write_line(frame: &Frame, line: &mut [u8; DIGITS_ROOM]) -> (usize, usize)
+    ensures order { result.0 ≤ result.1 }
+    ensures bound { result.1 ≤ DIGITS_ROOM }
+    ensures line { slice_range line.new result.0 result.1 ≡ coded_line frame.now }
 {
-    let count = write_driven(frame, &mut line[..LONGEST_WIRE]);
-    line[count] = b'\n';
-    count + 1
+    let (start, end) = driven_digits(frame, line);
+    line[end] = b'\n';
+    (start, end + 1)
 }

@@ -11,7 +11,6 @@
 //! | `encode.rt` | [`encode_lines`] | `specs/Coded.antt`, `specs/Answered.antt` |
 //! | `check.rt` | [`check_lines`] | `specs/Checked.antt`, `specs/Answered.antt` |
 //! | `vector.rt` | one line of a frame text and levels, and its verdict | `specs/Checked.antt` |
-//! | `driven.rt` | the digits of what the sender of a frame drives | |
 //! | `verdict.rt` | the lines that tell verdicts and their total | `specs/Checked.antt` |
 //! | `laws.rt` | that lines of frames and of vectors have one answer | `specs/Coded.antt`, `specs/Checked.antt` |
 //!
@@ -23,7 +22,6 @@
 #![tactic(auto)]
 
 mod check;
-mod driven;
 mod encode;
 mod laws;
 mod vector;

@@ -1,16 +1,17 @@
 //! A line of a frame's text and levels, and whether those are the frame's own.
-ghost use Rattle.std.specs.Prelude.{◌≡◌, ℕ, ◌≤◌, ◌<◌, ◌++◌, length, take, IfOk, IfErr, IsErrOf, MatchOption};
+ghost use Rattle.std.specs.Prelude.{◌≡◌, ℕ, ◌≤◌, ◌<◌, ◌++◌, List, length, take, IfOk, IfErr, IsErrOf, OnOk};
 ghost use Rattle.can_frame.specs.Parts.{IsFrame};
 ghost use Rattle.can_frame.specs.Text.{frame_text};
 ghost use Rattle.can_frame.specs.declared.level.Level.{Level as Bit};
 ghost use Rattle.can_frame.specs.Levels.{digit_of};
-ghost use Rattle.can_lines.specs.Checked.{mark, pass, Compares, ComparesDigits, IsBadAs, IsBadLevelByte, IsBadVectorLine, IsCommonFront, IsFirstBadDigit, IsFramePart, IsLevels, IsVectorVerdict};
+ghost use Rattle.can_lines.specs.Checked.{mark, pass, ComparesDigits, IsBadAs, IsBadLevelByte, IsBadVectorLine, IsCommonFront, IsFirstBadDigit, IsFramePart, IsLevels, IsVectorVerdict};
 
-use crate::driven::write_driven;
-use arrayvec::ArrayVec;
 use can_frame::{Frame, Level, TextFault, TextFaultKind};
-use can_wire::{LONGEST_WIRE, encode};
+use can_wire::{DIGITS_ROOM, LONGEST_WIRE, driven_digits};
 use memchr::memchr;
+
+/// How many levels a line has at most.
+const MOST_LEVELS: usize = LONGEST_WIRE;
 
 /// What a line of a frame's text and levels comes to.
 #[derive(Clone, Copy, Debug, PartialEq, Eq)]
@@ -63,13 +64,15 @@ fn judge_digits(digits: &[u8], frame: &Frame) -> Result<Verdict, usize>
     ensures ok { IfOk result (ComparesDigits digits.now frame.now) }
     ensures err { IfErr result (IsFirstBadDigit digits.now) }
 {
-    let mut driven = [0; LONGEST_WIRE];
-    let count = write_driven(frame, &mut driven);
-    if digits == &driven[..count] {
+    let mut buffer = [0; DIGITS_ROOM];
+    let (start, end) = driven_digits(frame, &mut buffer);
+    let driven = &buffer[start..end];
+    if digits == driven {
         return Ok(Verdict::Agrees);
     }
-    let levels = read_levels(digits)?;
-    Ok(compare(&levels, &encode(frame)))
+    check_digits(digits)?;
+    let place = common_length(digits, driven);
+    Ok(Verdict::DiffersAt(place))
 }
 
 /// What a line begins with.
@@ -117,40 +120,27 @@ fn frame_length(line: &[u8]) -> usize
     line.len()
 }
 
-/// The levels whose digits these are, or the place of the first byte that is none, or is one too many.
-fn read_levels(digits: &[u8]) -> Result<ArrayVec<Level, 157>, usize>
-    ensures ok { IfOk result (λ levels. IsLevels digits.now levels.items) }
+/// Whether these are the digits of levels, or else the place of the first byte that is none, or is one too many.
+fn check_digits(digits: &[u8]) -> Result<(), usize>
+    ensures ok { OnOk result ((levels : List Bit) × IsLevels digits.now levels) }
     ensures err { IfErr result (IsFirstBadDigit digits.now) }
 {
-    let mut levels = ArrayVec::new();
     for (place, digit) in digits.iter().enumerate() {
         match Level::from_digit(*digit) {
-            Some(level) if !levels.is_full() => levels.push(level),
+            Some(_) if place < MOST_LEVELS => {}
             _ => return Err(place),
         }
     }
-    Ok(levels)
-}
-
-/// Compares levels with those that are driven.
-fn compare(levels: &[Level], driven: &[Level]) -> Verdict
-    ensures { Compares levels.now driven.now result }
-{
-    let place = common_length(levels, driven);
-    if place == levels.len() && place == driven.len() {
-        Verdict::Agrees
-    } else {
-        Verdict::DiffersAt(place)
-    }
+    Ok(())
 }
 
 /// How long the longest common front is.
-fn common_length(levels: &[Level], others: &[Level]) -> usize
-    ensures { IsCommonFront levels.now others.now result }
+fn common_length(digits: &[u8], others: &[u8]) -> usize
+    ensures { IsCommonFront digits.now others.now result }
 {
-    let shorter = levels.len().min(others.len());
+    let shorter = digits.len().min(others.len());
     for place in 0..shorter {
-        if levels[place] != others[place] {
+        if digits[place] != others[place] {
             return place;
         }
     }

@@ -31,11 +31,13 @@ pub mod CheckRuns
 -- stuffing
 pub mod StuffSteps
 pub mod OneStuffing
+pub mod DrivenDigits
 -- the layout of unstuffed levels
 pub mod LayoutNumbers
 pub mod LayoutBytes
 pub mod LayoutHead
 pub mod LayoutRead
+pub mod FrameNumbers
 -- frames and what is heard of them
 pub mod StuffedFronts
 pub mod PlainLemmas

@@ -7,3 +7,4 @@ pub mod Layout
 -- For proofs only
 pub mod StuffSteps
 pub mod PackedNumbers
+pub mod FrameNumber

@@ -1,8 +1,10 @@
 -- Eight levels that are stuffed at once. (Bosch CAN 2.0 part B, section 6)
-use Rattle.std.specs.Prelude.{ℕ, ◌≡◌, ◌+◌, ◌-◌, ◌*◌, ◌/◌, ◌%◌, ◌^◌, ◌<◌, ◌≤◌, ◌==◌, if◌then◌else◌, List, [], ◌∷◌, ◌++◌, length, take}
+use Rattle.std.specs.Prelude.{ℕ, ◌≡◌, ◌+◌, ◌-◌, ◌*◌, ◌/◌, ◌%◌, ◌^◌, ◌<◌, ◌≤◌, ◌==◌, if◌then◌else◌, List, [], ◌∷◌, ◌++◌, length, map, take}
 use Rattle.can_frame.specs.declared.level.Level.{Level}
-use Rattle.can_frame.specs.Levels.{bits_of, level_of, number_from, opposite}
+use Rattle.can_frame.specs.declared.level.Level.TheVariants.{Recessive}
+use Rattle.can_frame.specs.Levels.{bits_of, digit_of, level_of, number_from, opposite}
 use Rattle.can_wire.specs.Stuffing.{run_after, stuffed_from, stuffed}
+use Rattle.can_wire.specs.declared.digits.DigitRun.{DigitRun}
 use Rattle.can_wire.specs.declared.stuff_steps.StuffStep.{StuffStep}
 use Rattle.can_wire.specs.declared.stuff_steps.Stuffing.{Stuffing}
 
@@ -46,3 +48,10 @@ pub record LaysOut (levels : List Level) (s : Stuffing) (u : List Level) : Type 
   pub completes : (rest : List Level) → take s.len levels ++ stuffed_from (last_of s.row) (run_of s.row) rest ≡ stuffed (u ++ rest)
   pub small : s.row < 8
   pub room : 4 * s.len + run_of s.row ≤ 5 * length u
+
+-- the digits of u with its stuff bits, as they are behind a recessive level, have been put
+pub record HasDigits (digits : List ℕ) (s : DigitRun) (u : List Level) : Type 0 where
+  -- and those of whatever levels follow complete those of all of them
+  pub completes : (rest : List Level) → take s.len digits ++ map digit_of (stuffed_from (last_of s.row) (run_of s.row) rest) ≡ map digit_of (stuffed_from Recessive 1 (u ++ rest))
+  pub small : s.row < 8
+  pub room : 4 * s.len + run_of s.row ≤ 1 + 5 * length u

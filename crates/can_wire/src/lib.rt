@@ -20,6 +20,8 @@
 //! | `layout.rt` | the head and the CRC sequence of what is heard, unstuffed | `specs/Heard.antt` |
 //! | `spelling.rt` | [`respell`], the levels that spell what is heard | `specs/Heard.antt` |
 //! | `encoding.rt` | [`encode`] and [`encode_into`], the levels that the sender of a frame drives | `specs/Wire.antt` |
+//! | `frame_number.rt` | the unstuffed levels of a frame as it is sent, as the bits of a number | `specs/FrameNumber.antt` |
+//! | `digits.rt`, `digits/` | [`driven_digits`], the digits of what the sender of a frame drives | `specs/StuffSteps.antt` |
 //! | `places.rt` | where the unstuffed levels of a frame stand, [`rtr_place`] among them | `specs/Layout.antt` |
 //! | `laws.rt` | that a CRC sequence, a stuffed list, a frame's wire and a spelling are unique, and that no spelling begins another | |
 //!
@@ -35,7 +37,9 @@
 //! [`encode`] lays out a register, and from there the stuff bits, eight levels in a step: a table says for the run
 //! before them what the levels of a byte become, and which row comes next. Each of its entries is computed on the
 //! definition (`stuffed_from`). [`encode_into`] leaves the levels in an array that the caller keeps, so that none
-//! is copied. [`stuff`] takes one level after another; a test holds one against the other.
+//! is copied. [`driven_digits`] goes from the bits of a number to digits, with the same table, and makes no levels: levels
+//! in front of the start of frame, of which no two neighbours are equal, fill them up to whole bytes. [`stuff`] takes one
+//! level after another; a test holds one against the other.
 //!
 //! Crates above find lemmas in `proofs/`, which `proofs/Lib.antt` lists with what each file has.
 #![tactic(auto)]
@@ -44,8 +48,10 @@ mod checked_bits;
 mod crc;
 mod crc_places;
 mod crc_run;
+mod digits;
 mod encoding;
 mod frame_bits;
+mod frame_number;
 mod heard;
 mod laws;
 mod layout;
@@ -60,6 +66,7 @@ mod two_words;
 pub use checked_bits::CheckedBits;
 pub use crc::crc15;
 pub use crc_run::CrcRun;
+pub use digits::{DIGITS_ROOM, driven_digits};
 pub use encoding::{encode, encode_into};
 pub use frame_bits::FrameBits;
 pub use heard::Heard;

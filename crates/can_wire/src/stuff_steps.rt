@@ -16,7 +16,7 @@ use tables::{FIVE, FIVE_LEVELS, STUFFED_OCTETS};
 pub(crate) const STEP_LEVELS: usize = 8;
 
 /// How many levels it lays out at most.
-const MOST_STEPPED: usize = 10;
+pub(crate) const MOST_STEPPED: usize = 10;
 
 /// How many lengths a run behind a stuffed list may have.
 const RUNS: u16 = 4;
@@ -29,18 +29,18 @@ pub const LONGEST_WIRE: usize = 157;
 
 /// Eight levels with their stuff bits.
 #[derive(Clone, Copy)]
-struct StuffStep {
+pub(crate) struct StuffStep {
     /// A number whose ten bits begin with them, the first of them the highest.
-    number: u16,
+    pub(crate) number: u16,
     /// How many they are.
-    len: usize,
+    pub(crate) len: usize,
     /// The row of the table for what comes behind them.
-    row: u16,
+    pub(crate) row: u16,
 }
 
 /// The eight levels of a byte with their stuff bits, by this row of the table.
 #[inline]
-fn stuff_step(row: u16, octet: u8) -> StuffStep
+pub(crate) fn stuff_step(row: u16, octet: u8) -> StuffStep
     requires { row < 8 }
     ensures step { Steps row (bits_of 8 octet) result }
     ensures number { result.number < 2 ^ 10 }
@@ -65,7 +65,7 @@ fn entry(row: u16, octet: u8) -> u16
 }
 
 /// The row of the table for what comes behind a run of this level and length.
-fn row_of(last: Level, run: u8) -> u16
+pub(crate) fn row_of(last: Level, run: u8) -> u16
     requires some { 1 ≤ run }
     requires short { run < 5 }
     ensures last { last_of result ≡ last }

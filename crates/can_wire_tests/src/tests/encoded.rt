@@ -1,7 +1,10 @@
 //! What `encode` lays out eight levels in a step, beside the plain form, which stuffs them one by one.
 use super::Levels;
 use can_frame::{Frame, Id, Level};
-use can_wire::{Heard, LONGEST_WIRE, PlainBits, encode, encode_into, head_and_crc, stuff};
+use can_wire::{
+    DIGITS_ROOM, Heard, LONGEST_WIRE, PlainBits, driven_digits, encode, encode_into, head_and_crc,
+    stuff,
+};
 use std::test::Fail;
 
 /// How many frames are drawn.
@@ -43,7 +46,16 @@ fn any_frame(state: &mut u32) -> Option<Frame> {
     Frame::data(id, dlc, &bytes[..usize::from(dlc).min(8)]).ok()
 }
 
-/// Whether the levels of a frame are those of the plain form, as a list and in an array.
+/// Whether these are the digits of levels.
+fn are_digits(digits: &[u8], levels: &[Level]) -> bool {
+    digits.len() == levels.len()
+        && digits
+            .iter()
+            .zip(levels)
+            .all(|(digit, level)| *digit == level.digit())
+}
+
+/// Whether the levels of a frame are those of the plain form, as a list, in an array and as digits.
 fn is_as_one_by_one(frame: Frame) -> bool {
     let unstuffed: PlainBits = head_and_crc(&Heard::unacknowledged(frame));
     let mut expected = Levels::new();
@@ -55,7 +67,11 @@ fn is_as_one_by_one(frame: Frame) -> bool {
     }
     let mut array = [Level::Dominant; LONGEST_WIRE];
     let count = encode_into(&frame, &mut array);
-    encode(&frame).as_slice() == expected.as_slice() && &array[..count] == expected.as_slice()
+    let mut digits = [0; DIGITS_ROOM];
+    let (start, end) = driven_digits(&frame, &mut digits);
+    encode(&frame).as_slice() == expected.as_slice()
+        && &array[..count] == expected.as_slice()
+        && are_digits(&digits[start..end], expected.as_slice())
 }
 
 #[test]
