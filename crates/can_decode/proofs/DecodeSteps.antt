@@ -17,7 +17,6 @@ use Rattle.can_stream.specs.declared.fault.TraceFault.TheVariants.{BadByte, Read
 use Rattle.can_decode.specs.declared.finding.Finding.{Finding}
 use Rattle.can_decode.specs.declared.trace.Trace.{Trace}
 use Rattle.can_stream.proofs.Elements.{AllByRecursion-append}
-use Rattle.can_stream.proofs.PutParts.{TakesFront-longer}
 use Rattle.can_stream.proofs.Turns.{PassesOn-none}
 
 -- ---- through the buffer
@@ -175,21 +174,6 @@ module _ (old new : Trace) (byte : ℕ) (level : Level) (is : (is_trace_byte byt
 
   pub HearsText-level : (held : Option (List ℕ)) (waiting : List ℕ) → Hears old new (level ∷ []) [] → HearsText old new (byte ∷ []) held held waiting waiting
   HearsText-level held waiting hears = HearsText-untold old new (byte ∷ []) held waiting (is.0, tt) (one_heard [] hears)
-
-  pub StopsHearing-untold : (held holds : Option (List ℕ)) (waiting waiting_now : List ℕ) (finding : Finding) (e : TraceFault) (start : ℕ) → Hears old new (level ∷ []) (finding ∷ [])
-      → TakesFront held holds waiting → waiting_now ≡ [] → e ≡ Write → StopsHearing e old new start (byte ∷ []) held holds waiting waiting_now
-  StopsHearing-untold held holds waiting waiting_now finding e start hears front none is_write =
-      let fails : FailsToTell old new (byte ∷ []) held holds waiting =
-      record {
-        text = byte ∷ [];
-        others = [];
-        bytes_are = refl;
-        found = finding ∷ [];
-        is_text = (is.0, tt);
-        hears = one_heard (finding ∷ []) hears;
-        takes = TakesFront-longer held holds waiting (flat_map finding_line (finding ∷ [])) front;
-      } in
-      subst (λ x. StopsHearing x old new start (byte ∷ []) held holds waiting waiting_now) (sym is_write) (fails, none)
 
 pub MeetsBadByte-here : (trace : Trace) (place byte : ℕ) (rest : List ℕ) (held : Option (List ℕ)) (waiting : List ℕ) → is_trace_byte byte ≡ false
     → MeetsBadByte trace trace place place (byte ∷ rest) held held waiting waiting

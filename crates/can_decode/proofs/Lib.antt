@@ -2,6 +2,8 @@ pub mod IdleRows
 pub mod Blocks
 pub mod TraceSteps
 pub mod DecodeSteps
+pub mod GatheredDigits
+pub mod BlockMasks
 pub mod FindsTotal
 pub mod DecodeEndings
 pub mod FindsOne

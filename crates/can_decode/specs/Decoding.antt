@@ -1,21 +1,21 @@
 -- What the steps of decoding a trace promise one another.
-use Rattle.std.specs.Prelude.{◌≡◌, ℕ, ◌+◌, ◌<◌, true, false, List, [], ◌∷◌, ◌++◌, length, filter, replicate, Option, Some, None, Result, Ok, Err}
+use Rattle.std.specs.Prelude.{◌≡◌, ℕ, ◌+◌, ◌<◌, true, false, ◌≤◌, List, [], ◌∷◌, ◌++◌, length, filter, map, replicate, take, Option, Some, None, Result, Ok, Err}
 use Rattle.std.specs.List.{flat_map, AllByRecursion}
 use Rattle.can_frame.specs.IdleRow.{idle_row}
 use Rattle.can_frame.specs.declared.level.Level.{Level}
 use Rattle.can_frame.specs.declared.level.Level.TheVariants.{Dominant, Recessive}
+use Rattle.can_frame.specs.Levels.{digit_of}
 use Rattle.can_code.specs.Decoder.{DecoderParts, HasHeard}
-use Rattle.can_decode.specs.TraceText.{IsTraceText, is_trace_byte, levels_in, levels_of_byte}
+use Rattle.can_decode.specs.TraceText.{IsTraceText, is_trace_byte, levels_in}
 use Rattle.can_decode.specs.Decoded.{Finds, SkipsToIdle, finding_line, is_closed, BeginsDecoding, DecodesAll, DecodesSoFar, DecodesToBadByte, DecodesTooLong}
 use Rattle.can_stream.specs.Outbox.{PassesOn, TakesFront}
 use Rattle.can_stream.specs.declared.fault.TraceFault.{TraceFault}
 use Rattle.can_stream.specs.declared.fault.TraceFault.TheVariants.{BadByte, Read, Write, Long, FrameLine, ScenarioField, Memory}
 use Rattle.can_decode.specs.declared.finding.Finding.{Finding}
+use Rattle.can_decode.specs.declared.gathered.Gathered.{Gathered}
 use Rattle.can_decode.specs.declared.trace.Trace.{Trace}
 use Rattle.can_decode.specs.declared.trace.State.{State}
 use Rattle.can_decode.specs.declared.trace.State.TheVariants.{Idle, InFrame, Lost}
-use Rattle.can_decode.specs.declared.decode.TraceByte.{TraceByte}
-use Rattle.can_decode.specs.declared.decode.TraceByte.TheVariants.{Digit, Skipped, Bad}
 
 -- ---- levels
 
@@ -83,11 +83,16 @@ pub record EndsWith (levels : List Level) (told found : List Finding) : Type 0 w
 abbrev pub AreSkipped : List ℕ → Type 0
 AreSkipped bytes = IsTraceText bytes × (levels_in bytes ≡ [])
 
--- what a byte is in trace text
-abbrev pub IsByteAs : ℕ → TraceByte → Type 0
-IsByteAs byte (Digit level) = (is_trace_byte byte ≡ true) × (levels_of_byte byte ≡ level ∷ [])
-IsByteAs byte Skipped = (is_trace_byte byte ≡ true) × (levels_of_byte byte ≡ [])
-IsByteAs byte Bad = is_trace_byte byte ≡ false
+-- bytes that are the digits of levels
+abbrev pub AreDigits : List ℕ → Type 0
+AreDigits bytes = bytes ≡ map digit_of (levels_in bytes)
+
+-- the digits of the first bytes, which are trace text, stand at the front of the buffer
+pub record Gathers (bytes : List ℕ) (g : Gathered) (buffer : List ℕ) : Type 0 where
+  pub within : g.taken ≤ length bytes
+  pub room : g.count ≤ length buffer
+  pub text : IsTraceText (take g.taken bytes)
+  pub digits_are : take g.count buffer ≡ map digit_of (levels_in (take g.taken bytes))
 
 -- the bytes are trace text, and the lines of what was found in its levels went into the buffer
 pub record HearsText (old new : Trace) (text : List ℕ) (held holds : Option (List ℕ)) (waiting waiting_now : List ℕ) : Type 0 where
@@ -105,6 +110,10 @@ pub record FailsToTell (old new : Trace) (bytes : List ℕ) (held holds : Option
   pub is_text : IsTraceText text
   pub hears : Hears old new (levels_in text) found
   pub takes : TakesFront held holds (waiting ++ flat_map finding_line found)
+
+-- why bytes that may stand in a trace were not all heard: the writer failed
+abbrev pub FailsToHear : TraceFault → Trace → Trace → List ℕ → Option (List ℕ) → Option (List ℕ) → List ℕ → List ℕ → Type 0
+FailsToHear e old new bytes held holds waiting waiting_now = (e ≡ Write) × FailsToTell old new bytes held holds waiting × (waiting_now ≡ [])
 
 -- the first bad byte stands behind trace text, at this place where the bytes begin at the first place
 pub record MeetsBadByte (old new : Trace) (first place : ℕ) (bytes : List ℕ) (held holds : Option (List ℕ)) (waiting waiting_now : List ℕ) : Type 0 where

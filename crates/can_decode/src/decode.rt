@@ -1,30 +1,20 @@
-ghost use Rattle.std.specs.Prelude.{◌≡◌, ℕ, ◌+◌, ◌^◌, ◌<◌, ◌≤◌, ◌↔◌, true, false, [], ◌∷◌, ◌++◌, length, take, IsTrue, IsFalse, IsErrOf, IfErr, OnOk};
+ghost use Rattle.std.specs.Prelude.{◌≡◌, ℕ, ◌+◌, ◌^◌, ◌<◌, ◌≤◌, ◌↔◌, true, false, [], ◌∷◌, ◌++◌, length, take, IsTrue, IsFalse, IsErrOf, IfErr, IfOk, OnOk};
 ghost use Rattle.std.specs.Io.KnownBytes.{IsAtEnd};
 ghost use Rattle.can_frame.specs.declared.text.TextFault.{TextFault};
+ghost use Rattle.can_frame.specs.Levels.{digit_of};
 ghost use Rattle.can_stream.specs.declared.field.Field.{Field};
 ghost use Rattle.can_stream.specs.Told.{Told};
 ghost use Rattle.can_decode.specs.TraceText.{IsTraceText, levels_in};
 ghost use Rattle.can_stream.specs.Faults.{is_err_by, is_read, is_write};
 ghost use Rattle.can_decode.specs.Decoded.{BeginsDecoding, DecodesAll, DecodesSoFar, DecodesToBadByte, DecodesTooLong};
-ghost use Rattle.can_decode.specs.Decoding.{Decodes, Hears, HearsText, IsByteAs, StopsHearing};
+ghost use Rattle.can_decode.specs.Decoding.{AreDigits, Decodes, FailsToHear, Hears, HearsText, StopsHearing};
 
 use crate::finding::put_finding;
+use crate::gathered::{GATHERED_ROOM, gather_behind};
 use crate::idle::recessive_count;
-use crate::skipped::skipped_count;
 use crate::trace::Trace;
 use can_frame::Level;
 use can_stream::{Inbox, Outbox, Sink, Source, TraceFault};
-
-/// What a byte is in trace text.
-#[derive(Clone, Copy, Debug, PartialEq, Eq)]
-enum TraceByte {
-    /// The digit of a level.
-    Digit(Level),
-    /// A blank or a line end, which is skipped.
-    Skipped,
-    /// A byte that may not stand there.
-    Bad,
-}
 
 /// Reads a trace, `0` and `1` for its levels, and writes a line for each frame and each fault that is found
 /// in it. A blank, 0x0a and 0x0d are skipped. (Bosch CAN 2.0 part B, sections 3.2.1, 3.2.5 and 7.1)
@@ -93,9 +83,10 @@ fn decode_all<R: Source, W: Sink>(r: &mut R, w: &mut W, out: &mut Outbox) -> Res
 {
     let mut inbox = Inbox::new();
     let mut trace = Trace::begin();
+    let mut digits = [0; GATHERED_ROOM];
     while inbox.flush_and_fill(r, w, out)? > 0 {
         let bytes = inbox.unread();
-        hear_bytes(bytes, inbox.place(), &mut trace, w, out)?;
+        hear_bytes(bytes, inbox.place(), &mut trace, &mut digits, w, out)?;
         let count = bytes.len();
         inbox.consume(count);
     }
@@ -105,11 +96,12 @@ fn decode_all<R: Source, W: Sink>(r: &mut R, w: &mut W, out: &mut Outbox) -> Res
     }
 }
 
-/// Hears bytes, the first of which has this place in the input.
+/// Hears bytes, the first of which has this place in the input. The buffer is for digits that have to be gathered.
 fn hear_bytes<W: Sink>(
     bytes: &[u8],
     place: u64,
     trace: &mut Trace,
+    digits: &mut [u8; GATHERED_ROOM],
     w: &mut W,
     out: &mut Outbox,
 ) -> Result<(), TraceFault>
@@ -121,26 +113,58 @@ fn hear_bytes<W: Sink>(
     ensures failed { W.has_failed w.new ≡ is_err_by is_write result }
 {
     let mut index = 0;
+    let mut run_before = usize::MAX;
     while index < bytes.len() {
-        index += hear_untold(&bytes[index..], trace);
+        let run = hear_together(&bytes[index..], trace, w, out)?;
+        index += run;
         if index < bytes.len() {
-            hear_byte(bytes[index], place + index as u64, trace, w, out)?;
-            index += 1;
+            let gathered = gather_behind(run.max(run_before), &bytes[index..], digits);
+            if gathered.taken == 0 {
+                return Err(TraceFault::BadByte {
+                    place: place + index as u64,
+                });
+            }
+            index += gathered.taken;
+            run_before = run;
+            if gathered.count > 0 {
+                hear_together(&digits[..gathered.count], trace, w, out)?;
+                // what is left of a run tells nothing of the others
+                run_before = usize::MAX;
+            }
         }
     }
     Ok(())
 }
 
-/// Hears bytes at the front of which nothing is told, as many as it likes, and answers how many.
-fn hear_untold(bytes: &[u8], trace: &mut Trace) -> usize
-    requires { trace.old.place + length bytes.now < 2 ^ 64 }
-    ensures within { result ≤ length bytes.now }
-    ensures text { IsTraceText (take result bytes.now) }
-    ensures hears { Hears trace.old trace.new (levels_in (take result bytes.now)) [] }
-    ensures place { trace.new.place ≤ trace.old.place + result }
+/// Hears the levels whose digits stand together at the front of the bytes, and answers how many they are.
+#[inline(never)]
+fn hear_together<W: Sink>(
+    bytes: &[u8],
+    trace: &mut Trace,
+    w: &mut W,
+    out: &mut Outbox,
+) -> Result<usize, TraceFault>
+    requires unfailed { W.has_failed w.old ≡ false }
+    requires fits { trace.old.place + length bytes.now < 2 ^ 64 }
+    ensures within { IfOk result (λ n. n ≤ length bytes.now) }
+    ensures all { IfOk result (λ n. AreDigits bytes.now → n ≡ length bytes.now) }
+    ensures ok { IfOk result (λ n. HearsText trace.old trace.new (take n bytes.now) (W.contents w.old) (W.contents w.new) out.old out.new) }
+    ensures err { IfErr result (λ e. FailsToHear e trace.old trace.new bytes.now (W.contents w.old) (W.contents w.new) out.old out.new) }
+    ensures place { IfOk result (λ n. trace.new.place ≤ trace.old.place + n) }
+    ensures failed { W.has_failed w.new ≡ is_err_by is_write result }
 {
-    let skipped = skipped_count(bytes);
-    skipped + hear_levels(&bytes[skipped..], trace)
+    let mut index = 0;
+    while index < bytes.len() {
+        index += hear_levels(&bytes[index..], trace);
+        if index < bytes.len() {
+            let Some(level) = Level::from_digit(bytes[index]) else {
+                return Ok(index);
+            };
+            hear_level(level, trace, w, out)?;
+            index += 1;
+        }
+    }
+    Ok(index)
 }
 
 /// Hears levels at the front of the bytes of which nothing is told, as many as it likes, and answers how many.
@@ -189,42 +213,23 @@ fn hear_start(bytes: &[u8], trace: &mut Trace) -> usize
     1
 }
 
-/// Hears one byte, which has this place in the input.
+/// Hears one level.
 #[inline]
-fn hear_byte<W: Sink>(
-    byte: u8,
-    place: u64,
+fn hear_level<W: Sink>(
+    level: Level,
     trace: &mut Trace,
     w: &mut W,
     out: &mut Outbox,
 ) -> Result<(), TraceFault>
     requires unfailed { W.has_failed w.old ≡ false }
     requires fits { trace.old.place + 1 < 2 ^ 64 }
-    ensures ok { OnOk result (HearsText trace.old trace.new (byte ∷ []) (W.contents w.old) (W.contents w.new) out.old out.new) }
-    ensures err { IfErr result (λ e. StopsHearing e trace.old trace.new place (byte ∷ []) (W.contents w.old) (W.contents w.new) out.old out.new) }
+    ensures ok { OnOk result (HearsText trace.old trace.new (digit_of level ∷ []) (W.contents w.old) (W.contents w.new) out.old out.new) }
+    ensures err { IfErr result (λ e. FailsToHear e trace.old trace.new (digit_of level ∷ []) (W.contents w.old) (W.contents w.new) out.old out.new) }
     ensures place { trace.new.place ≤ trace.old.place + 1 }
     ensures failed { W.has_failed w.new ≡ is_err_by is_write result }
 {
-    match trace_byte(byte) {
-        TraceByte::Digit(level) => match trace.hear(level) {
-            Some(finding) => put_finding(&finding, w, out),
-            None => Ok(()),
-        },
-        TraceByte::Skipped => Ok(()),
-        TraceByte::Bad => Err(TraceFault::BadByte { place }),
-    }
-}
-
-/// What the byte is in trace text.
-fn trace_byte(byte: u8) -> TraceByte
-    ensures { IsByteAs byte result }
-{
-    // no branch on which level it is, since none could be foretold
-    if byte == b'0' || byte == b'1' {
-        return TraceByte::Digit(Level::from_bool(byte == b'1'));
-    }
-    match byte {
-        b' ' | b'\n' | b'\r' => TraceByte::Skipped,
-        _ => TraceByte::Bad,
+    match trace.hear(level) {
+        Some(finding) => put_finding(&finding, w, out),
+        None => Ok(()),
     }
 }

@@ -51,7 +51,8 @@ pub(crate) fn put_finding<W: Sink>(
     out.put(w, &line)
 }
 
-/// Puts the line of a frame that begins at this place together.
+/// Puts the line of a frame that begins at this place together. It stands within its caller for the same reason.
+#[inline(always)]
 fn push_frame_line(line: &mut Line, place: u64, heard: &Heard)
     requires { line.old.items ≡ [] }
     ensures { line.new.items ≡ finding_line (Finding.Frame place heard.now) }
@@ -65,6 +66,7 @@ fn push_frame_line(line: &mut Line, place: u64, heard: &Heard)
 }
 
 /// Appends whether a receiver has acknowledged the frame.
+#[inline(always)]
 fn push_acknowledgement(line: &mut Line, acked: bool)
     requires { length line.old.items + 6 ≤ LINE }
     ensures text { line.new.items ≡ line.old.items ++ acknowledgement acked }
@@ -78,6 +80,7 @@ fn push_acknowledgement(line: &mut Line, acked: bool)
 }
 
 /// Appends which levels were heard otherwise than they are sent.
+#[inline(always)]
 fn push_deviations(line: &mut Line, heard: &Heard)
     requires { length line.old.items + 16 ≤ LINE }
     ensures text { line.new.items ≡ line.old.items ++ deviations heard.now }

@@ -52,7 +52,7 @@ fn begin_with_skipped(bytes: &[u8]) -> bool
 
 /// Whether the byte is a blank or a line end.
 #[inline(always)]
-fn is_skipped(byte: u8) -> bool
+pub(crate) fn is_skipped(byte: u8) -> bool
     ensures { result ≡ may_be_skipped byte }
 {
     byte == b' ' || byte == b'\n' || byte == b'\r'

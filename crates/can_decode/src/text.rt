@@ -1,4 +1,5 @@
-//! The text of a frame, put straight into a line, two hexadecimal digits at a time.
+//! The text of a frame, put straight into a line, two hexadecimal digits at a time. Its parts stand within their caller, so
+//! that the line's length stays in a register.
 ghost use Rattle.std.specs.Prelude.{◌≡◌, ◌+◌, ◌^◌, ◌<◌, ◌≤◌, ◌++◌, length};
 ghost use Rattle.std.specs.Int.{to_le_bytes, w16};
 ghost use Rattle.hex.specs.Hex.{encode_lower};
@@ -8,6 +9,7 @@ use can_frame::Frame;
 use can_stream::line::{LINE, Line, push};
 
 /// Appends the text of a frame.
+#[inline(always)]
 pub(crate) fn push_frame(line: &mut Line, frame: &Frame)
     requires { length line.old.items + 32 ≤ LINE }
     ensures text { line.new.items ≡ line.old.items ++ frame_text frame.now }
@@ -19,6 +21,7 @@ pub(crate) fn push_frame(line: &mut Line, frame: &Frame)
 }
 
 /// Appends the letter of a standard or an extended frame and the identifier, each with a blank.
+#[inline(always)]
 fn push_identifier(line: &mut Line, frame: &Frame)
     requires { length line.old.items + 11 ≤ LINE }
     ensures text { line.new.items ≡ line.old.items ++ (letter_part frame.now ++ identifier_part frame.now) }
@@ -36,6 +39,7 @@ fn push_identifier(line: &mut Line, frame: &Frame)
 
 /// Appends the letter of a data or a remote frame and the DLC, with a blank behind it only where there
 /// are data bytes.
+#[inline(always)]
 fn push_direction_and_dlc(line: &mut Line, frame: &Frame)
     requires { length line.old.items + 5 ≤ LINE }
     ensures text { line.new.items ≡ line.old.items ++ (direction_part frame.now ++ dlc_part frame.now) }
@@ -54,6 +58,7 @@ fn push_direction_and_dlc(line: &mut Line, frame: &Frame)
 }
 
 /// Appends the data bytes of a frame: eight of them at once, and then those that it has are kept.
+#[inline(always)]
 fn push_data(line: &mut Line, frame: &Frame)
     requires { length line.old.items + 16 ≤ LINE }
     ensures text { line.new.items ≡ line.old.items ++ encode_lower frame.now.bytes }

@@ -53,6 +53,18 @@ const TRACES: &[(&[&[u8]], Option<u64>, &[u8])] = &[
         None,
         b"0 S 000 D 0 ack\n53 S 001 D 0 ack\n",
     ),
+    // a blank behind each level, and line ends in the middle of a frame
+    (
+        &[
+            b"0 0 0 0 0 1 0 0 0 0 0 1 0 0 0 0 0 1 0 0 0 0 0 1 0 0 0 0 0 1 0 0 0 0 0 1 0 0 0 0 1 0 1 1 1 1 1 1 1 1 ",
+            b"1\r\n1 1\n",
+            b"000001000001010000010001000100",
+            b"\r\n",
+            b"00100111011111111",
+        ],
+        None,
+        b"0 S 000 D 0 ack\n53 S 001 D 0 ack\n",
+    ),
     // levels that a receiver takes at either value: r0, the last one, and the ACK slot
     (
         &[b"00000100000100001000001101101100101111011111111"],

@@ -1,0 +1,88 @@
+-- Bytes of a block by masks of where they stand.
+use Rattle.std.proofs.Common.{◌≡◌, ℕ, ◌+◌, ◌^◌, ◌<◌, ◌≤◌, ◌||◌, eqb, cond, Bool, true, false, List, [], ◌∷◌, length, map, refl, sym, ap, subst, ◌∙◌, arith}
+use Rattle.std.proofs.Math.Nat.{pow-suc}
+use Rattle.std.proofs.lemmas.Bool.{eqb-true, false≢true}
+use Rattle.std.specs.List.{AllByRecursion}
+use lib.Lanes.{mask_l}
+use Rattle.can_decode.specs.TraceText.{IsTraceText, is_skipped}
+use Rattle.can_decode.specs.Decoding.{AreDigits, AreSkipped}
+use Rattle.can_decode.proofs.GatheredDigits.{AreDigits-append, AreDigits-one, by_digit}
+use Rattle.can_decode.proofs.SkippedBytes.{AreSkipped-append, skipped_byte}
+
+bit-small : (b : Bool) → cond b 1 0 ≤ 1
+bit-small true = omega arith
+bit-small false = omega arith
+
+bit-or : (a b : Bool) → (a ≡ true → b ≡ true → ⊥) → ◌≡◌ {A = ℕ} (cond a 1 0 + cond b 1 0) (cond (a || b) 1 0)
+bit-or true true not_both = absurd (not_both refl refl)
+bit-or true false not_both = refl
+bit-or false b not_both = omega arith
+
+bit-one : (b : Bool) → ◌≡◌ {A = ℕ} (cond b 1 0) 1 → b ≡ true
+bit-one true is = refl
+bit-one false is = absurd (omega (arith, is))
+
+-- a mask is below the power of two of its width
+pub mask-small : (f : ℕ → Bool) (bytes : List ℕ) → mask_l (map f bytes) < 2 ^ length bytes
+mask-small f [] = omega arith
+mask-small f (x ∷ bytes) = omega (arith, bit-small (f x), mask-small f bytes, pow-suc 2 (length bytes))
+
+-- masks of bytes of which none is in both
+pub mask-or : (f g : ℕ → Bool) → ((x : ℕ) → f x ≡ true → g x ≡ true → ⊥) → (bytes : List ℕ) → mask_l (map f bytes) + mask_l (map g bytes) ≡ mask_l (map (λ x. f x || g x) bytes)
+mask-or f g apart [] = refl
+mask-or f g apart (x ∷ bytes) = omega (arith, bit-or (f x) (g x) (apart x), mask-or f g apart bytes)
+
+-- where the mask has all bits, all bytes are meant
+mask-all : (f : ℕ → Bool) (bytes : List ℕ) → mask_l (map f bytes) + 1 ≡ 2 ^ length bytes → AllByRecursion (λ x. f x ≡ true) bytes
+mask-all f [] full = tt
+mask-all f (x ∷ bytes) full =
+    let power = pow-suc 2 (length bytes) in
+    (bit-one (f x) (omega (arith, full, power, bit-small (f x))), mask-all f bytes (omega (arith, full, power, bit-small (f x))))
+
+-- ---- digits, and what is skipped
+
+pub other_digits : (a b x : ℕ) → (a ≡ b → ⊥) → eqb x a ≡ true → eqb x b ≡ true → ⊥
+other_digits a b x other is_a is_b = other (sym (eqb-true x a is_a) ∙ eqb-true x b is_b)
+
+all_digits : (bytes : List ℕ) → AllByRecursion (λ x. (eqb x 48 || eqb x 49) ≡ true) bytes → AreDigits bytes
+all_digits [] are = refl
+all_digits (x ∷ bytes) are = AreDigits-append (x ∷ []) bytes (AreDigits-one x are.0) (all_digits bytes are.1)
+
+all_skipped : (bytes : List ℕ) → AllByRecursion (λ x. is_skipped x ≡ true) bytes → AreSkipped bytes
+all_skipped [] are = (tt, refl)
+all_skipped (x ∷ bytes) are = AreSkipped-append (x ∷ []) bytes (skipped_byte x are.0) (all_skipped bytes are.1)
+
+all_text : (bytes : List ℕ) → AllByRecursion (λ x. ((eqb x 48 || eqb x 49) || is_skipped x) ≡ true) bytes → IsTraceText bytes
+all_text [] are = tt
+all_text (x ∷ bytes) are = (by (eqb x 48) (eqb x 49) (is_skipped x) are.0, all_text bytes are.1)
+  where
+    by : (a b c : Bool) → ((a || b) || c) ≡ true → (a || b || c) ≡ true
+    by true b c is = refl
+    by false b c is = is
+
+-- the masks of each byte that is skipped make that of all
+pub skipped_places : (bytes : List ℕ) → mask_l (map (λ x. eqb x 32) bytes) + mask_l (map (λ x. eqb x 10) bytes) + mask_l (map (λ x. eqb x 13) bytes) ≡ mask_l (map is_skipped bytes)
+skipped_places bytes =
+    ap (λ m. m + mask_l (map (λ x. eqb x 13) bytes)) (mask-or (λ x. eqb x 32) (λ x. eqb x 10) (λ x. other_digits 32 10 x (λ e. omega (arith, e))) bytes)
+    ∙ mask-or (λ x. eqb x 32 || eqb x 10) (λ x. eqb x 13) apart bytes
+  where
+    apart : (x : ℕ) → (eqb x 32 || eqb x 10) ≡ true → eqb x 13 ≡ true → ⊥
+    apart x others is13 = false≢true (subst (λ y. (eqb y 32 || eqb y 10) ≡ true) (eqb-true x 13 is13) others)
+
+module _ (bytes : List ℕ) (size : length bytes ≡ 16) where
+  wide : 2 ^ length bytes ≡ 65536
+  wide = ap (λ n. 2 ^ n) size
+
+  pub digits_by_mask : mask_l (map (λ x. eqb x 48 || eqb x 49) bytes) ≡ 65535 → AreDigits bytes
+  digits_by_mask full = all_digits bytes (mask-all (λ x. eqb x 48 || eqb x 49) bytes (omega (arith, full, wide)))
+
+  pub skipped_by_mask : mask_l (map is_skipped bytes) ≡ 65535 → AreSkipped bytes
+  skipped_by_mask full = all_skipped bytes (mask-all is_skipped bytes (omega (arith, full, wide)))
+
+  pub text_by_masks : mask_l (map (λ x. eqb x 48 || eqb x 49) bytes) + mask_l (map is_skipped bytes) ≡ 65535 → IsTraceText bytes
+  text_by_masks full =
+      all_text bytes (mask-all (λ x. (eqb x 48 || eqb x 49) || is_skipped x) bytes (omega (arith, full, wide, mask-or (λ x. eqb x 48 || eqb x 49) is_skipped apart bytes)))
+    where
+      -- a digit is not skipped
+      apart : (x : ℕ) → (eqb x 48 || eqb x 49) ≡ true → is_skipped x ≡ true → ⊥
+      apart x digit skipped = by_digit x (λ y. is_skipped y ≡ true → ⊥) (λ none. false≢true none) (λ none. false≢true none) digit skipped
