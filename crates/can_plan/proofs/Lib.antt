@@ -13,6 +13,7 @@ pub mod Ends
 pub mod Periods
 pub mod Growth
 pub mod Bounds
+pub mod Carried
 pub mod Places
 -- the bus: its levels, its logs, and hits that its ports bear
 pub mod Lines

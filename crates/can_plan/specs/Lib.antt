@@ -6,3 +6,6 @@ pub mod OnBus
 pub mod Borne
 -- which numbers the analysis gives
 pub mod Analysis
+pub mod Carried
+-- private: what its steps compute
+pub mod Steps

@@ -9,7 +9,7 @@
 //! | `message.rt` | [`Message`] and [`HitRate`] | `specs/Messages.antt` |
 //! | `longest.rt` | [`longest_busy`], how long a frame keeps the bus | `specs/FramesOf.antt` |
 //! | `demand.rt` | what keeps the bus in a stretch of bit times; [`blocking`] by the messages behind one | `specs/Analysis.antt` |
-//! | `response.rt` | [`response_bound`], the least bound that the analysis gives | `specs/Analysis.antt`, `specs/Ends.antt` |
+//! | `response.rt` | [`response_bound`], the least bound that the analysis gives; [`response_after`], one message after another | `specs/Analysis.antt`, `specs/Ends.antt`, `specs/Carried.antt` |
 //! | `borne.rt` | [`borne_for`], for how long a rate of hits is borne wherever they fall | `specs/Borne.antt` |
 //! | `laws.rt` | what a bound says of the levels and logs of a bus; that fifteen hits are borne | `specs/OnBus.antt`, `specs/Borne.antt` |
 //!
@@ -30,4 +30,4 @@ pub use demand::blocking;
 pub use laws::{few_hits_are_borne, frames_end_in_time_on_the_bus};
 pub use longest::longest_busy;
 pub use message::{HitRate, Message};
-pub use response::response_bound;
+pub use response::{Response, response_after, response_bound};

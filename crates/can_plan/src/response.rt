@@ -1,23 +1,37 @@
 //! How long the frames of a message may take from their release to the end of their wire.
-ghost use Rattle.std.specs.Prelude.{◌≡◌, ◌+◌, ◌-◌, ◌*◌, ◌^◌, ◌<◌, ◌≤◌, ◌∷◌, ℕ, IfSome, IsFalse, IsNone, MatchOption, Some, length, nat_lt, slice_get};
+ghost use Rattle.std.specs.Prelude.{◌≡◌, ◌+◌, ◌-◌, ◌*◌, ◌^◌, ◌<◌, ◌≤◌, ◌∷◌, ℕ, IfSome, IsFalse, IsNone, MatchOption, Some, length, max, min, nat_lt, slice_get};
 ghost use Rattle.std.specs.List.{list_all};
 ghost use Rattle.can_plan.specs.declared.message.Message.{Message as Sent};
-ghost use Rattle.can_plan.specs.Analysis.{IsBound, IsLeast, IsLeastBound, Ranking, demand as demand_of, ranking_at};
+ghost use Rattle.can_plan.specs.Analysis.{IsBound, IsLeast, IsLeastBound, Ranking, arrivals as arrivals_of, blocking as blocking_of, busied, demand as demand_of, ranking_at, widest as widest_of};
+ghost use Rattle.can_plan.specs.Carried.{IsBusyBefore};
 ghost use Rattle.can_plan.specs.Ends.{EndAlways};
 ghost use Rattle.can_plan.specs.Messages.{ArePeriodic, IsMessageSet, most_hits as most_hits_of};
+ghost use Rattle.can_plan.specs.Steps.{AllEnd, IsBusy, IsEnough};
 
 use crate::demand::{arrivals, blocking, demand, own_load, widest};
 use crate::longest::INTERMISSION;
 use crate::message::{HitRate, Message};
 
-/// The least delay that is enough for what keeps the bus meanwhile; none where it is above the limit.
-fn delay(time: u64, widest: u16, higher: &[Message], rate: &HitRate, limit: u32) -> Option<u32>
+/// The least delay that is enough for what keeps the bus meanwhile; none where it is above the limit. None that is less
+/// than `from` is enough.
+fn delay(
+    from: u64,
+    time: u64,
+    widest: u16,
+    higher: &[Message],
+    rate: &HitRate,
+    limit: u32,
+) -> Option<u32>
     requires periodic { ArePeriodic higher.now }
     requires small { time < 2 ^ 52 }
+    requires begun { (n : ℕ) → demand_of (most_hits_of rate.now) time widest higher.now (n + 1) ≤ n → from ≤ n }
     ensures { MatchOption result ((n : ℕ) → demand_of (most_hits_of rate.now) time widest higher.now (n + 1) ≤ n → limit < n)
         (λ d. (d ≤ limit) × IsLeast (λ n. demand_of (most_hits_of rate.now) time widest higher.now (n + 1) ≤ n) d) }
 {
-    let mut delay: u32 = 0;
+    if from > u64::from(limit) {
+        return None;
+    }
+    let mut delay = from as u32;
     while let Some(next) = demand(time, widest, higher, rate, u64::from(delay) + 1, limit) {
         if next <= u64::from(delay) {
             return Some(delay);
@@ -28,8 +42,9 @@ fn delay(time: u64, widest: u16, higher: &[Message], rate: &HitRate, limit: u32)
 }
 
 /// The busy period: the least number of bit times, above 0, within which the bus has been free of a message and of
-/// those that go before it; none where it is above the limit.
+/// those that go before it; none where it is above the limit. None is shorter than `from`.
 fn busy(
+    from: u64,
     blocking: u16,
     widest: u16,
     message: &Message,
@@ -39,13 +54,15 @@ fn busy(
 ) -> Option<u32>
     requires first { 0 < message.now.period }
     requires periodic { ArePeriodic higher.now }
-    ensures { MatchOption result ((n : ℕ) → 0 < n → demand_of (most_hits_of rate.now) blocking widest (message.now ∷ higher.now) n ≤ n → limit < n)
-        (λ l. (l ≤ limit) × IsLeast (λ n. (0 < n) × (demand_of (most_hits_of rate.now) blocking widest (message.now ∷ higher.now) n ≤ n)) l) }
+    requires begun { (n : ℕ) → IsBusy (most_hits_of rate.now) blocking widest message.now higher.now n → from ≤ n }
+    ensures { MatchOption result ((n : ℕ) → IsBusy (most_hits_of rate.now) blocking widest message.now higher.now n → limit < n)
+        (λ l. (l ≤ limit) × IsLeast (IsBusy (most_hits_of rate.now) blocking widest message.now higher.now) l) }
 {
-    if limit == 0 {
+    let from = from.max(1);
+    if from > u64::from(limit) {
         return None;
     }
-    let mut long: u32 = 1;
+    let mut long = from as u32;
     while let Some(next) = demand(
         u64::from(blocking) + own_load(message, u64::from(long)),
         widest,
@@ -62,10 +79,26 @@ fn busy(
     None
 }
 
-/// How long behind the release of the frame of number q, counted from 0, its wire ends at most, told by its least
-/// delay; none where that is above the limit.
-fn ends(
-    q: u64,
+/// How long behind its release the wire of the frame of number q, counted from 0, ends, where this is its delay.
+fn end(q: u64, delay: u64, message: &Message) -> u64
+    requires short { delay < 2 ^ 32 }
+    requires small { q * message.now.period ≤ 2 ^ 34 }
+    ensures { result ≡ message.now.jitter + delay + message.now.longest - (3 + q * message.now.period) }
+{
+    let longest = u64::from(message.longest);
+    let until = u64::from(message.jitter) + delay + longest;
+    until.saturating_sub(u64::from(INTERMISSION) + q * u64::from(message.period))
+}
+
+/// The least time behind their releases within which the wires of all frames of a busy period end; none where the delay
+/// of one is above the limit. The first has no less delay than `from`, and each other no less than the one before it has,
+/// and its time on the bus.
+///
+/// It goes from the last frame to the second. Behind the begin of a frame the busy period has its time on the bus and that
+/// of those behind it, so one that would be early enough if it came as late as they allow is passed over.
+fn latest_end(
+    from: u64,
+    long: u32,
     blocking: u16,
     widest: u16,
     message: &Message,
@@ -73,50 +106,104 @@ fn ends(
     rate: &HitRate,
     limit: u32,
 ) -> Option<u64>
+    requires first { 0 < message.now.period }
     requires periodic { ArePeriodic higher.now }
-    requires few { q < 2 ^ 34 }
-    requires small { q * message.now.period ≤ 2 ^ 34 }
-    ensures { MatchOption result ((n : ℕ) → demand_of (most_hits_of rate.now) (blocking + q * message.now.longest) widest higher.now (n + 1) ≤ n → limit < n)
-        (λ e. (d : ℕ) × (d ≤ limit) × IsLeast (λ n. demand_of (most_hits_of rate.now) (blocking + q * message.now.longest) widest higher.now (n + 1) ≤ n) d
-        × (e ≡ message.now.jitter + d + message.now.longest - (3 + q * message.now.period))) }
+    requires within { long ≤ limit }
+    requires busy { IsBusy (most_hits_of rate.now) blocking widest message.now higher.now long }
+    requires begun { (n : ℕ) → IsEnough (most_hits_of rate.now) blocking widest message.now higher.now 0 n → from ≤ n }
+    ensures { let count = arrivals_of message.now long in
+        MatchOption result ((q : ℕ) × (q < count) × ((n : ℕ) → IsEnough (most_hits_of rate.now) blocking widest message.now higher.now q n → limit < n))
+        (λ b. IsLeast (AllEnd (most_hits_of rate.now) blocking widest message.now higher.now limit count) b) }
 {
     let longest = u64::from(message.longest);
-    let delay = delay(
-        u64::from(blocking) + q * longest,
-        widest,
-        higher,
-        rate,
-        limit,
-    )?;
-    let until = u64::from(message.jitter) + u64::from(delay) + longest;
-    Some(until.saturating_sub(u64::from(INTERMISSION) + q * u64::from(message.period)))
+    let blocking = u64::from(blocking);
+    let first = u64::from(delay(from, blocking, widest, higher, rate, limit)?);
+    let mut bound = end(0, first, message);
+    let mut last = u64::from(long);
+    for q in (1..arrivals(message, u64::from(long))).rev() {
+        last -= longest;
+        if longest == 0 || end(q, last, message) > bound {
+            let own = q * longest;
+            last = u64::from(delay(first + own, blocking + own, widest, higher, rate, limit)?);
+            bound = end(q, last, message).max(bound);
+        }
+    }
+    Some(bound)
 }
 
-/// A bound on the time from the release of a frame of this message to the end of its wire, by the messages that go
-/// before it and those that go behind it; none where the analysis finds none with numbers up to the limit.
+/// What the analysis answers of a message: the least bound on the time from the release of one of its frames to the end
+/// of its wire, if it gives one, and a number of bit times that is no more than its busy period has.
+#[derive(Clone, Copy, Debug)]
+pub struct Response {
+    /// The least bound, as [`response_bound`] answers it.
+    pub bound: Option<u64>,
+    /// No busy period of the message is shorter.
+    pub busy: u64,
+}
+
+/// The answer for this message, by the messages that go before it and those that go behind it. Where this one or one behind
+/// it blocks those before it, none of their busy periods is shorter than `before`.
 fn ranked_response(
+    before: u64,
     higher: &[Message],
     message: &Message,
     lower: &[Message],
     rate: &HitRate,
     limit: u32,
-) -> Option<u64>
+) -> Response
     requires first { 0 < message.now.period }
     requires periodic { ArePeriodic higher.now }
-    ensures { let ranking : Ranking = record { higher = higher.now; message = message.now; lower = lower.now } in
-        MatchOption result ((other : ℕ) → IsBound (most_hits_of rate.now) limit ranking other → ⊥) (λ b. IsLeastBound (most_hits_of rate.now) limit ranking b) }
+    requires begun { let ranking : Ranking = record { higher = higher.now; message = message.now; lower = lower.now } in
+        (n : ℕ) → 0 < n → demand_of (most_hits_of rate.now) (max (message.now.longest - 1) (blocking_of ranking)) (widest_of ranking) higher.now n ≤ n → before ≤ n }
+    ensures bound { let ranking : Ranking = record { higher = higher.now; message = message.now; lower = lower.now } in
+        MatchOption result.bound ((other : ℕ) → IsBound (most_hits_of rate.now) limit ranking other → ⊥) (λ b. IsLeastBound (most_hits_of rate.now) limit ranking b) }
+    ensures busy { (n : ℕ) → 0 < n → busied (most_hits_of rate.now) (record { higher = higher.now; message = message.now; lower = lower.now }) n ≤ n → result.busy ≤ n }
 {
     let blocking = blocking(lower);
     let widest = widest(message.longest, higher);
-    let long = busy(blocking, widest, message, higher, rate, limit)?;
-    let mut bound = 0;
-    for q in 0..arrivals(message, u64::from(long)) {
-        match ends(q, blocking, widest, message, higher, rate, limit) {
-            None => return None,
-            Some(end) => bound = end.max(bound),
-        }
+    let from = first_busy(before, blocking, message, limit);
+    let Some(long) = busy(from, blocking, widest, message, higher, rate, limit) else {
+        return Response {
+            bound: None,
+            busy: u64::from(limit) + 1,
+        };
+    };
+    let from = first_delay(before, blocking, message.longest);
+    Response {
+        bound: latest_end(from, long, blocking, widest, message, higher, rate, limit),
+        busy: u64::from(long),
     }
-    Some(bound)
+}
+
+/// Below which number there is no busy period of a message, where those before it have none below `before` with this one
+/// or one behind it that blocks them. In as long a time its own frames keep the bus too, and it no longer blocks. Where
+/// nothing blocked, a busy period of one bit time may be that of no frame.
+fn first_busy(before: u64, blocking: u16, message: &Message, limit: u32) -> u64
+    requires { 0 < message.now.period }
+    ensures { let blocked = max (message.now.longest - 1) blocking in
+        (n : ℕ) → before ≤ n → (0 < blocked → before + arrivals_of message.now (min before limit) * message.now.longest ≤ n + (blocked - blocking)) → result ≤ n }
+{
+    let blocked = blocking.max(message.longest.saturating_sub(1));
+    if blocked == 0 {
+        return before;
+    }
+    let own = own_load(message, before.min(u64::from(limit)));
+    before
+        .saturating_add(own)
+        .saturating_sub(u64::from(blocked - blocking))
+}
+
+/// Below which number no delay of the first frame of a message is enough, where those before it have no busy period below
+/// `before` with this one or one behind it that blocks them. Where this one would block longer than the others, nothing is
+/// known.
+fn first_delay(before: u64, blocking: u16, longest: u16) -> u64
+    ensures { (n : ℕ) → (0 < blocking → longest ≤ blocking + 1 → before ≤ n) → result ≤ n }
+{
+    if blocking > 0 && longest <= blocking.saturating_add(1) {
+        before
+    } else {
+        0
+    }
 }
 
 /// Whether each message has a period.
@@ -133,7 +220,8 @@ fn are_periodic(messages: &[Message]) -> bool
 /// the rate.
 ///
 /// Its work is in proportion to the messages, to the frames of this one in a busy period, and to the steps of the sums
-/// that grow up to the limit.
+/// that grow up to the limit. Where all messages of a network are asked for one after another, [`response_after`] takes
+/// fewer steps.
 pub fn response_bound(messages: &[Message], place: usize, rate: &HitRate, limit: u32) -> Option<u64>
     ensures least { (message : Sent) → slice_get messages.now place ≡ Some message → ArePeriodic messages.now → let ranking = ranking_at messages.now place message in
         MatchOption result ((other : ℕ) → IsBound (most_hits_of rate.now) limit ranking other → ⊥) (λ b. IsLeastBound (most_hits_of rate.now) limit ranking b) }
@@ -142,10 +230,35 @@ pub fn response_bound(messages: &[Message], place: usize, rate: &HitRate, limit:
     ensures holds { (message : Sent) → slice_get messages.now place ≡ Some message → IsMessageSet messages.now →
         IfSome result (λ b. EndAlways (most_hits_of rate.now) messages.now message b) }
 {
+    response_after(0, messages, place, rate, limit).bound
+}
+
+/// The bound that [`response_bound`] answers for the message at this place, found by what the answer for the one before
+/// it says of the busy period: `before` is its `busy`, or 0.
+pub fn response_after(
+    before: u64,
+    messages: &[Message],
+    place: usize,
+    rate: &HitRate,
+    limit: u32,
+) -> Response
+    requires { IsBusyBefore (most_hits_of rate.now) messages.now place before }
+    ensures least { (message : Sent) → slice_get messages.now place ≡ Some message → ArePeriodic messages.now → let ranking = ranking_at messages.now place message in
+        MatchOption result.bound ((other : ℕ) → IsBound (most_hits_of rate.now) limit ranking other → ⊥) (λ b. IsLeastBound (most_hits_of rate.now) limit ranking b) }
+    ensures absent { length messages.now ≤ place → IsNone result.bound }
+    ensures aperiodic { IsFalse (list_all (λ m. nat_lt 0 m.period) messages.now) → IsNone result.bound }
+    ensures holds { (message : Sent) → slice_get messages.now place ≡ Some message → IsMessageSet messages.now →
+        IfSome result.bound (λ b. EndAlways (most_hits_of rate.now) messages.now message b) }
+    ensures busy { IsBusyBefore (most_hits_of rate.now) messages.now (place + 1) result.busy }
+{
     if place >= messages.len() || !are_periodic(messages) {
-        return None;
+        return Response {
+            bound: None,
+            busy: 0,
+        };
     }
     ranked_response(
+        before,
         &messages[..place],
         &messages[place],
         &messages[place + 1..],

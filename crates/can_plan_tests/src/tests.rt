@@ -1,5 +1,5 @@
 use can_frame::Frame;
-use can_plan::{Borne, HitRate, Message, borne_for, longest_busy, response_bound};
+use can_plan::{Borne, HitRate, Message, borne_for, longest_busy, response_after, response_bound};
 use std::process::Abort;
 use std::test::Fail;
 
@@ -70,6 +70,35 @@ fn bounds_are_as_worked_out(rt: HostRuntime) -> Result<(), Fail> {
     let rows = BOUNDS;
     for (row, number) in rows.iter().zip(0..) {
         assert!(rt; has_bounds(row), "row {number}");
+    }
+    Ok(())
+}
+
+/// Whether the messages of a row have its bounds where each answer is told to the next message.
+fn carries_bounds(row: &Row) -> bool {
+    let Ok(frame) = Frame::from_text("S 000 R 0".as_bytes()) else {
+        return false;
+    };
+    let field = frame.key();
+    let (messages, (burst, spacing), bounds) = *row;
+    let messages = messages.map(|(longest, period, jitter)| Message {
+        field,
+        longest,
+        period,
+        jitter,
+    });
+    let rate = HitRate { burst, spacing };
+    let first = response_after(0, &messages, 0, &rate, LIMIT);
+    let second = response_after(first.busy, &messages, 1, &rate, LIMIT);
+    let third = response_after(second.busy, &messages, 2, &rate, LIMIT);
+    [first.bound, second.bound, third.bound] == bounds
+}
+
+#[test]
+fn bounds_are_so_one_after_another(rt: HostRuntime) -> Result<(), Fail> {
+    let rows = BOUNDS;
+    for (row, number) in rows.iter().zip(0..) {
+        assert!(rt; carries_bounds(row), "row {number}");
     }
     Ok(())
 }

@@ -1,8 +1,9 @@
 -- Messages as the analysis takes them, that one within its deadline meets it, and verdicts one after another.
 use Rattle.std.proofs.Common.{◌≡◌, ℕ, zero, suc, ◌+◌, ◌<◌, ◌≤◌, false, List, [], ◌∷◌, ◌++◌, length, get_or, take, Option, Some, None, MatchOption, refl, sym, ap, subst, ◌∙◌, inl, inr, arith}
-use Rattle.std.specs.Prelude.{◌⊎◌, IfSome, slice_get}
+use Rattle.std.specs.Prelude.{◌⊎◌, IfSome, option_map, slice_get}
 use Rattle.std.proofs.lemmas.Bool.{ltb-false}
 use Rattle.std.proofs.lemmas.List.{length-map, length-take-le, map-append, take_more}
+use Rattle.std.proofs.lemmas.Option.{slice_get-get_or, slice_get-map}
 use Rattle.can_plan.specs.declared.message.HitRate.{HitRate}
 use Rattle.can_plan.specs.declared.message.Message.{Message}
 use Rattle.can_plan.specs.Analysis.{IsBound, IsLeastBound, blocking, ranking_at}
@@ -17,6 +18,11 @@ use Rattle.can_plan_text.proofs.InOrder.{message-at}
 
 pub periodic : (ps : List Planned) → ArePeriodic (messages_of ps)
 periodic ps n m is = let x = message-at ps n m is in subst (λ (m : Message). 0 < m.period) x.2 x.0.periodic
+
+-- a message that is planned, among those of the analysis
+pub message-here : (ps : List Planned) (k : ℕ) (p : Planned) (messages : List Message) → messages ≡ messages_of ps → k < length ps → p ≡ get_or ps k p → slice_get messages k ≡ Some p.message
+message-here ps k p messages all within is =
+    ap (λ l. slice_get l k) all ∙ slice_get-map (λ (q : Planned). q.message) ps k ∙ ap (option_map (λ (q : Planned). q.message)) (slice_get-get_or ps k p within ∙ ap Some (sym is))
 
 pub kept-by : (most : ℕ → ℕ) (messages : List Message) (m : Message) (deadline : ℕ) (bound : Option ℕ) →
     IfSome bound (λ b. EndAlways most messages m b) → is_above deadline bound ≡ false → EndAlways most messages m deadline

@@ -1,14 +1,12 @@
 //! What the analysis answers of each message of a network.
-ghost use Rattle.std.specs.Prelude.{◌≡◌, ◌≤◌, ℕ, false, IfOk, MatchOption, Some, length, slice_get};
-ghost use Rattle.can_plan.specs.Analysis.{IsBound, IsLeastBound, blocking as blocking_of, ranking_at};
-ghost use Rattle.can_plan.specs.Ends.{EndAlways};
-ghost use Rattle.can_plan.specs.Messages.{ArePeriodic, IsMessageSet, most_hits};
-ghost use Rattle.can_plan_text.specs.Answers.{is_late, limit, AreVerdicts, IsAnalysis, IsBorneFor};
+ghost use Rattle.std.specs.Prelude.{◌≡◌, ◌≤◌, IfOk, Some, length, slice_get};
+ghost use Rattle.can_plan.specs.Analysis.{blocking as blocking_of, ranking_at};
+ghost use Rattle.can_plan_text.specs.Answers.{AreVerdicts, IsAnalysis, IsBorneFor};
 ghost use Rattle.can_plan_text.specs.Plans.{messages_of as messages_in};
 
 use crate::plan::{Plan, Planned};
 use crate::verdict::{Analysis, Verdict};
-use can_plan::{Borne, HitRate, Message, blocking, borne_for, response_bound};
+use can_plan::{Borne, HitRate, Message, blocking, borne_for, response_after};
 use std::alloc::{AllocError, Global};
 
 /// Up to which number of bit times a bound is looked for.
@@ -47,32 +45,32 @@ fn messages_of(alloc: Global, planned: &[Planned]) -> Result<Vec<Message>, Alloc
     Ok(messages)
 }
 
-/// What is answered of each message of a network.
+/// What is answered of each message of a network. Each message's answer tells the next where to begin.
 fn judge_each(alloc: Global, plan: &Plan, messages: &[Message]) -> Result<Vec<Verdict>, AllocError>
     requires { messages.now ≡ messages_in plan.now.messages.items }
     ensures { IfOk result (λ verdicts. AreVerdicts plan.now (length plan.now.messages.items) verdicts.items) }
 {
     let rate = plan.hit_rate();
     let mut verdicts = Vec::new(alloc);
+    let mut busy = 0;
     for (place, planned) in plan.messages.iter().enumerate() {
-        verdicts.push(judge(planned, place, messages, &rate))?;
+        let response = response_after(busy, messages, place, &rate, LIMIT);
+        verdicts.push(judge(planned, place, messages, response.bound))?;
+        busy = response.busy;
     }
     Ok(verdicts)
 }
 
-/// What is answered of the message at this place.
-fn judge(planned: &Planned, place: usize, messages: &[Message], rate: &HitRate) -> Verdict
+/// What is answered of the message at this place, by what the analysis gives.
+fn judge(planned: &Planned, place: usize, messages: &[Message], bound: Option<u64>) -> Verdict
     requires here { slice_get messages.now place ≡ Some planned.now.message }
-    requires periodic { ArePeriodic messages.now }
     ensures planned { result.planned ≡ planned.now }
     ensures block { result.blocking ≡ blocking_of (ranking_at messages.now place planned.now.message) }
-    ensures least { let ranking = ranking_at messages.now place planned.now.message in
-        MatchOption result.bound ((other : ℕ) → IsBound (most_hits rate.now) limit ranking other → ⊥) (λ b. IsLeastBound (most_hits rate.now) limit ranking b) }
-    ensures kept { IsMessageSet messages.now → is_late result ≡ false → EndAlways (most_hits rate.now) messages.now planned.now.message planned.now.deadline }
+    ensures bound { result.bound ≡ bound }
 {
     Verdict {
         planned: *planned,
         blocking: blocking(&messages[place + 1..]),
-        bound: response_bound(messages, place, rate, LIMIT),
+        bound,
     }
 }

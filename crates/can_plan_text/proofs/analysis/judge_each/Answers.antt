@@ -1,14 +1,36 @@
-use Rattle.std.proofs.Common.{List, subst, sym, arith, rules}
+use Rattle.std.proofs.Common.{◌≡◌, ℕ, ◌<◌, false, List, length, get_or, Option, MatchOption, ap, subst, sym, arith, rules, ◌∙◌}
 use Rattle.can_plan.specs.declared.message.Message.{Message}
-use Rattle.can_plan.specs.Messages.{ArePeriodic}
-use Rattle.can_plan_text.proofs.Kept.{periodic, verdicts-more}
+use Rattle.can_plan.specs.Analysis.{IsBound, IsLeastBound, ranking_at}
+use Rattle.can_plan.specs.Messages.{ArePeriodic, most_hits}
+use Rattle.can_plan_text.specs.declared.plan.Planned.{Planned}
+use Rattle.can_plan_text.specs.Answers.{is_above, limit}
+use Rattle.can_plan_text.proofs.Kept.{kept-by, message-here, periodic, verdicts-more}
 use Rattle.can_plan_text.proofs.analysis.judge_each.Goals as goal
-
-pub judge-requires-clause-periodic : goal.judge-requires-clause-periodic
-judge-requires-clause-periodic c = subst (λ (m : List Message). ArePeriodic m) (sym c.requires) (periodic c.args.plan.now.messages.items)
 
 pub loop-place-preserved : goal.loop-place-preserved
 loop-place-preserved c =
     let said = c.judge.ensures in
-    rw c.in_ok-push.ensures.items (verdicts-more c.args.plan.now c.loop-place.place (omega arith) c.planned-item.result (search rules)
-    c.args.messages.now c.requires c.hit_rate-rate.result c.hit_rate-rate.ensures c.judge.result said.planned (said.block, said.least, said.kept) c.loop-place.verdicts.items c.loop-place.invariant)
+    let planned : Planned = c.planned-item.result in
+    let within : c.loop-place.place < length c.args.plan.now.messages.items = omega arith in
+    let is : planned ≡ get_or c.args.plan.now.messages.items c.loop-place.place planned = search rules in
+    let here = message-here c.args.plan.now.messages.items c.loop-place.place planned c.args.messages.now c.requires within is in
+    let are = subst (λ (m : List Message). ArePeriodic m) (sym c.requires) (periodic c.args.plan.now.messages.items) in
+    let least = c.response_after-response.ensures.least planned.message here are in
+    let same : MatchOption c.judge.result.bound
+    ((other : ℕ) → IsBound (most_hits c.hit_rate-rate.result) limit (ranking_at c.args.messages.now c.loop-place.place planned.message) other → ⊥)
+    (λ b. IsLeastBound (most_hits c.hit_rate-rate.result) limit (ranking_at c.args.messages.now c.loop-place.place planned.message) b) =
+    subst (λ (b : Option ℕ). MatchOption b
+    ((other : ℕ) → IsBound (most_hits c.hit_rate-rate.result) limit (ranking_at c.args.messages.now c.loop-place.place planned.message) other → ⊥)
+    (λ b. IsLeastBound (most_hits c.hit_rate-rate.result) limit (ranking_at c.args.messages.now c.loop-place.place planned.message) b)) (sym said.bound) least in
+    let more = verdicts-more c.args.plan.now c.loop-place.place within planned is
+    c.args.messages.now c.requires c.hit_rate-rate.result c.hit_rate-rate.ensures c.judge.result said.planned (
+      said.block,
+      same,
+      λ set ok.
+          let late : is_above planned.deadline c.response_after-response.result.bound ≡ false =
+          ap (λ (q : Planned). is_above q.deadline c.response_after-response.result.bound) (sym said.planned) ∙ ap (is_above c.judge.result.planned.deadline) (sym said.bound) ∙ ok in
+          kept-by (most_hits c.hit_rate-rate.result) c.args.messages.now planned.message planned.deadline c.response_after-response.result.bound
+          (c.response_after-response.ensures.holds planned.message here set) late,
+    )
+    c.loop-place.verdicts.items c.loop-place.invariant.0 in
+    (rw c.in_ok-push.ensures.items more, c.response_after-response.ensures.busy)

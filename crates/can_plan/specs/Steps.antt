@@ -1,0 +1,18 @@
+-- What the steps of the analysis compute, by the numbers that they hold.
+use Rattle.std.specs.Prelude.{ℕ, ◌+◌, ◌*◌, ◌<◌, ◌≤◌, List, ◌∷◌}
+use Rattle.can_plan.specs.declared.message.Message.{Message}
+use Rattle.can_plan.specs.Analysis.{demand}
+
+-- by the numbers of a ranking: how long lower messages block, and the greatest time on the bus
+module _ (most : ℕ → ℕ) (block wide : ℕ) (m : Message) (higher : List Message) where
+  -- within so many bit times the bus has been free
+  abbrev pub IsBusy : ℕ → Type 0
+  IsBusy long = (0 < long) × (demand most block wide (m ∷ higher) long ≤ long)
+
+  -- so long a delay is enough for instance q
+  abbrev pub IsEnough : ℕ → ℕ → Type 0
+  IsEnough q delay = demand most (block + q * m.longest) wide higher (delay + 1) ≤ delay
+
+  -- each of so many instances has a delay up to the limit with which its wire ends within the bound
+  abbrev pub AllEnd : ℕ → ℕ → ℕ → Type 0
+  AllEnd limit count bound = (q : ℕ) → q < count → (d : ℕ) × (d ≤ limit) × IsEnough q d × (m.jitter + d + m.longest ≤ bound + 3 + q * m.period)
