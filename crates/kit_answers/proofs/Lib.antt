@@ -3,3 +3,4 @@ mod CasesAlone
 mod CountedVerdicts
 mod Rows
 mod TablesByNumber
+mod MarkedCases

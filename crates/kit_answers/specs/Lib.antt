@@ -3,3 +3,5 @@ pub mod Documents
 pub mod Expectations
 pub mod Judgements
 pub mod CaseNames
+-- For private calls alone
+pub mod Marks

@@ -1,12 +1,13 @@
 //! Verdicts of the transcripts of a document.
-ghost use Rattle.std.specs.Prelude.{◌≡◌, ◌≤◌, ◌<◌, ◌+◌, ◌++◌, All, [], length, IfOk, IsErrOf, OnOk};
+ghost use Rattle.std.specs.Prelude.{◌≡◌, ◌≤◌, ◌<◌, ◌+◌, ◌++◌, false, not, count_by, replicate, All, [], length, IfOk, IsErrOf, OnOk};
 ghost use Rattle.std.specs.String.{string_bytes};
 ghost use Rattle.kit_verdicts.specs.Verdicts.{verdict_line};
 ghost use Rattle.can_conform.specs.Transcripts.{IsTold};
 ghost use Rattle.kit_cases.specs.declared.field.KitField.{KitField as Wrong};
 ghost use Rattle.kit_cases.specs.Cases.{most_bits};
 ghost use Rattle.kit_answers.specs.Documents.{document_demands, IsWrongKitField};
-ghost use Rattle.kit_answers.specs.Judgements.{cases_without as without_in, counted as counted_as, has_one as is_one, lines_of, no_cases, AddVerdicts, AddsVerdict, IsAnswer, IsJudged};
+ghost use Rattle.kit_answers.specs.Marks.{marked};
+ghost use Rattle.kit_answers.specs.Judgements.{cases_without as without_in, counted as counted_as, lines_of, no_cases, AddVerdicts, AddsVerdict, IsAnswer, IsJudged};
 
 use crate::document::Document;
 use can_conform::{Verdict, judge};
@@ -47,25 +48,51 @@ fn judge_all(alloc: Global, document: &Document) -> Result<Judgement, AllocError
 {
     let mut lines = Vec::new(alloc);
     let tally = push_verdicts(alloc, &mut lines, &document.cases, &document.transcripts)?;
-    push_count(&mut lines, tally, cases_without(document) as u64)?;
+    push_count(&mut lines, tally, cases_without(alloc, document)? as u64)?;
     Ok(Judgement { lines, tally })
 }
 
 /// How many cases of a document have no transcript.
-fn cases_without(document: &Document) -> usize
-    ensures { result ≡ without_in document.now }
+fn cases_without(alloc: Global, document: &Document) -> Result<usize, AllocError>
+    requires { All (λ one. one.case < length document.now.cases.items) document.now.transcripts.items }
+    ensures { IfOk result (λ count. count ≡ without_in document.now) }
 {
-    let transcripts = document.transcripts.as_slice();
-    (0..document.cases.len())
-        .filter(|place| !has_one(*place, transcripts))
-        .count()
+    let marks = marks_of(alloc, document.cases.len(), &document.transcripts)?;
+    Ok(unmarked(&marks))
 }
 
-/// Whether one of the transcripts is of the case at this place.
-fn has_one(place: usize, transcripts: &[Told]) -> bool
-    ensures { result ≡ is_one transcripts.now place }
+/// A mark for each of so many cases, set where one of these transcripts is of it.
+fn marks_of(alloc: Global, number: usize, transcripts: &[Told]) -> Result<Vec<bool>, AllocError>
+    requires { All (λ one. one.case < number) transcripts.now }
+    ensures { IfOk result (λ marks. marks.items ≡ marked transcripts.now (replicate number false)) }
 {
-    transcripts.iter().any(|told| told.case == place)
+    let mut marks = no_marks(alloc, number)?;
+    mark(&mut marks, transcripts);
+    Ok(marks)
+}
+
+/// How many of these aren't marked.
+fn unmarked(marks: &[bool]) -> usize
+    ensures { result ≡ count_by not marks.now }
+{
+    marks.iter().filter(|mark| !**mark).count()
+}
+
+/// So many marks, none of them set.
+fn no_marks(alloc: Global, number: usize) -> Result<Vec<bool>, AllocError>
+    ensures { IfOk result (λ marks. marks.items ≡ replicate number false) }
+{
+    Ok(vec![in alloc; false; number]?)
+}
+
+/// Marks the places of the cases that these transcripts are of.
+fn mark(marks: &mut [bool], transcripts: &[Told])
+    requires { All (λ one. one.case < length marks.old) transcripts.now }
+    ensures { marks.new ≡ marked transcripts.now marks.old }
+{
+    for told in transcripts {
+        marks[told.case] = true;
+    }
 }
 
 /// Appends a line for each transcript, of one of these cases, and counts the verdicts.

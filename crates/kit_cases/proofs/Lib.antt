@@ -1,6 +1,7 @@
 pub mod InTime
 pub mod Strings
 pub mod WordLists
+pub mod NamesBefore
 pub mod TesterParts
 pub mod ForcedTimes
 pub mod OneNeeds

@@ -2,3 +2,5 @@
 pub mod Words
 pub mod Lists
 pub mod Cases
+-- For a ghost field alone
+pub mod NameSets

@@ -8,6 +8,7 @@ ghost use Rattle.document_values.specs.Values.{elements_in, named, ArePaired};
 ghost use Rattle.kit_cases.specs.Cases.{case_demands, cases_demands, fields_demands, most_bits, NeedsAll, SaysCase};
 ghost use Rattle.kit_cases.specs.Words.{SaysNeeds};
 
+use crate::earlier::Earlier;
 use crate::fault::KitFault;
 use crate::field::CaseField;
 use crate::head::read_head;
@@ -48,8 +49,10 @@ pub fn read_cases(alloc: Global, values: &[Value]) -> Result<Vec<Case>, KitFault
     ensures unmet { (wrong : Wrong) → IsErrOf result (KitFault.Field wrong) → IsFirstUnmet wrong (cases_demands (map view values.now)) }
 {
     let mut cases = Vec::new(alloc);
+    let mut earlier = Earlier::none(alloc);
     for (number, value) in values.iter().enumerate() {
-        cases.push(read_case(alloc, &values[..number], number, value)?)?;
+        cases.push(read_behind(alloc, &earlier, number, value)?)?;
+        earlier.add(&values[..number + 1], value)?;
     }
     Ok(cases)
 }
@@ -76,6 +79,21 @@ pub fn read_case(
     ensures met { OnOk result (AllMet (case_demands (map view earlier.now) number (view value.now))) }
     ensures unmet { (wrong : Wrong) → IsErrOf result (KitFault.Field wrong) → IsFirstUnmet wrong (case_demands (map view earlier.now) number (view value.now)) }
 {
+    read_behind(alloc, &Earlier::of(earlier), number, value)
+}
+
+/// Reads the case of this number, whose table this is, behind these cases.
+fn read_behind(
+    alloc: Global,
+    earlier: &Earlier<'_>,
+    number: usize,
+    value: &Value,
+) -> Result<Case, KitFault>
+    ensures said { IfOk result (SaysCase (view value.now)) }
+    ensures short { IfOk result (λ one. length one.script.tester.items ≤ most_bits) }
+    ensures met { OnOk result (AllMet (case_demands (map view earlier.now.tables.now) number (view value.now))) }
+    ensures unmet { (wrong : Wrong) → IsErrOf result (KitFault.Field wrong) → IsFirstUnmet wrong (case_demands (map view earlier.now.tables.now) number (view value.now)) }
+{
     let Some(fields) = fields_of(value) else {
         return Err(KitFault::in_case(number, CaseField::Table));
     };
@@ -85,14 +103,14 @@ pub fn read_case(
 /// Reads the case of this number, with these fields, behind these cases.
 fn read_fields(
     alloc: Global,
-    earlier: &[Value],
+    earlier: &Earlier<'_>,
     number: usize,
     fields: &Table,
 ) -> Result<Case, KitFault>
     ensures said { IfOk result (SaysCase (table (table_view fields.now))) }
     ensures short { IfOk result (λ one. length one.script.tester.items ≤ most_bits) }
-    ensures met { OnOk result (AllMet (fields_demands (map view earlier.now) number (table (table_view fields.now)))) }
-    ensures unmet { (wrong : Wrong) → IsErrOf result (KitFault.Field wrong) → IsFirstUnmet wrong (fields_demands (map view earlier.now) number (table (table_view fields.now))) }
+    ensures met { OnOk result (AllMet (fields_demands (map view earlier.now.tables.now) number (table (table_view fields.now)))) }
+    ensures unmet { (wrong : Wrong) → IsErrOf result (KitFault.Field wrong) → IsFirstUnmet wrong (fields_demands (map view earlier.now.tables.now) number (table (table_view fields.now))) }
 {
     if !has_only(fields, &CASE_FIELDS) {
         return Err(KitFault::in_case(number, CaseField::Unknown));

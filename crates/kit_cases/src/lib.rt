@@ -4,6 +4,7 @@
 //! | File | What it has | Defined in |
 //! |---|---|---|
 //! | `words.rt` | [`Needs`], [`Choice`], and the words of a case's table | `specs/Words.antt` |
+//! | `earlier.rt` | the cases before one, and their names in order | `specs/NameSets.antt` |
 //! | `naming.rt` | the name of a case | `specs/Cases.antt` |
 //! | `head.rt` | how a case starts, what it needs, and how long it is | `specs/Cases.antt` |
 //! | `tester.rt` | what the tester does: its levels, and forced bit times | `specs/Lists.antt`, `specs/Cases.antt` |
@@ -18,12 +19,13 @@
 //! the crates above.
 //!
 //! Of the lemmas, `InTime` has elements with their times, `Strings` strings of levels, `TesterParts` that these say
-//! one list of levels, `ForcedTimes` forced bit times, `WordLists` choices and names and needs, `OneNeeds` that
-//! words say needs in one way, `CaseParts` the parts of a case one after another, and `OneCase` that a table says
-//! one case.
+//! one list of levels, `ForcedTimes` forced bit times, `WordLists` choices and names and needs, `NamesBefore` the names
+//! of the cases before one, `OneNeeds` that words say needs in one way, `CaseParts` the parts of a case one after
+//! another, and `OneCase` that a table says one case.
 #![tactic(auto)]
 
 mod case;
+mod earlier;
 mod fault;
 mod field;
 mod head;

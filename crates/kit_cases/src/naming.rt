@@ -10,25 +10,26 @@ ghost use Rattle.kit_words.specs.Names.{IsName};
 ghost use Rattle.kit_cases.specs.Words.{IsPurpose, IsText};
 ghost use Rattle.kit_cases.specs.Cases.{name_of, naming_demands, IsNewName};
 
+use crate::earlier::Earlier;
 use crate::fault::KitFault;
 use crate::field::CaseField;
 use crate::words::{is_purpose, text_of};
-use document_values::{field, fields_of, required_number};
+use document_values::{field, required_number};
 use kit_words::{LONGEST_NAME, is_name};
-use toml::{Table, Value};
+use toml::Table;
 
 /// How many bytes the name of a family may have.
 const LONGEST_FAMILY: usize = 40;
 
 /// Reads the name of the case of this number, with these fields, behind these cases.
 pub(crate) fn read_name<'a>(
-    earlier: &[Value],
+    earlier: &Earlier<'_>,
     number: usize,
     fields: &'a Table,
 ) -> Result<&'a str, KitFault>
     ensures said { IfOk result (λ name. named (codes "name") (table (table_view fields.now)) ≡ Some (string name.now)) }
-    ensures met { OnOk result (AllMet (naming_demands (map view earlier.now) number (table (table_view fields.now)))) }
-    ensures unmet { (wrong : Wrong) → IsErrOf result (KitFault.Field wrong) → IsFirstUnmet wrong (naming_demands (map view earlier.now) number (table (table_view fields.now))) }
+    ensures met { OnOk result (AllMet (naming_demands (map view earlier.now.tables.now) number (table (table_view fields.now)))) }
+    ensures unmet { (wrong : Wrong) → IsErrOf result (KitFault.Field wrong) → IsFirstUnmet wrong (naming_demands (map view earlier.now.tables.now) number (table (table_view fields.now))) }
 {
     if !is_of_version_one(fields) {
         return Err(KitFault::in_case(number, CaseField::Version));
@@ -69,10 +70,10 @@ fn family_in(fields: &Table) -> Option<&str>
 }
 
 /// The name that the fields of a case say, of a case of this family behind these cases.
-fn name_in<'a>(fields: &'a Table, family: &str, earlier: &[Value]) -> Option<&'a str>
+fn name_in<'a>(fields: &'a Table, family: &str, earlier: &Earlier<'_>) -> Option<&'a str>
     ensures said { IfSome result (λ name. named (codes "name") (table (table_view fields.now)) ≡ Some (string name.now)) }
-    ensures met { OnSome result (IsRequired (IsText (IsNewName (map view earlier.now) family.now)) (named (codes "name") (table (table_view fields.now)))) }
-    ensures unmet { IfNone result (¬ IsRequired (IsText (IsNewName (map view earlier.now) family.now)) (named (codes "name") (table (table_view fields.now)))) }
+    ensures met { OnSome result (IsRequired (IsText (IsNewName (map view earlier.now.tables.now) family.now)) (named (codes "name") (table (table_view fields.now)))) }
+    ensures unmet { IfNone result (¬ IsRequired (IsText (IsNewName (map view earlier.now.tables.now) family.now)) (named (codes "name") (table (table_view fields.now)))) }
 {
     let name = text_of(field(fields, "name")?)?;
     if !is_new_name(earlier, family, name) {
@@ -82,12 +83,12 @@ fn name_in<'a>(fields: &'a Table, family: &str, earlier: &[Value]) -> Option<&'a
 }
 
 /// Whether the name of a case is one of the family, and none of these cases has it.
-fn is_new_name(earlier: &[Value], family: &str, name: &str) -> bool
-    ensures { IsTrue result ↔ IsNewName (map view earlier.now) family.now name.now }
+fn is_new_name(earlier: &Earlier<'_>, family: &str, name: &str) -> bool
+    ensures { IsTrue result ↔ IsNewName (map view earlier.now.tables.now) family.now name.now }
 {
     is_name(name, LONGEST_NAME)
         && begins_with(name.as_bytes(), family.as_bytes())
-        && !is_taken(earlier, name)
+        && !earlier.have(name)
 }
 
 /// Whether a name begins with the family and a hyphen.
@@ -115,26 +116,6 @@ fn begins_with_hyphen(text: &[u8]) -> bool
         Some(_) => true,
         None => false,
     }
-}
-
-/// Whether one of these cases has the name.
-fn is_taken(earlier: &[Value], name: &str) -> bool
-    ensures { result ≡ list_any (λ other. same_key name.now (name_of other)) (map view earlier.now) }
-{
-    earlier.iter().any(|other| name == name_said(other))
-}
-
-/// The name that a case's table says, no text where it says none.
-fn name_said(value: &Value) -> &str
-    ensures { result.now ≡ name_of (view value.now) }
-{
-    let Some(fields) = fields_of(value) else {
-        return "";
-    };
-    let Some(name) = field(fields, "name") else {
-        return "";
-    };
-    text_of(name).unwrap_or("")
 }
 
 /// Whether a case's purpose is one line of at most 200 bytes, or left out.

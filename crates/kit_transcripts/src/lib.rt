@@ -9,6 +9,7 @@
 //! |---|---|---|
 //! | `told.rt` | [`Told`], [`read_transcript`], [`read_transcripts`] | `specs/Transcripts.antt` |
 //! | `naming.rt` | which case a transcript is of | `specs/Transcripts.antt` |
+//! | `known.rt` | the cases that no transcript is of yet | `specs/Untold.antt` |
 //! | `drove.rt` | the levels that were driven | `specs/Transcripts.antt` |
 //! | `lists.rt` | the lists of a transcript, whose times rise | `specs/Elements.antt` |
 //! | `elements.rt` | events, counters and the end | `specs/Elements.antt` |
@@ -16,13 +17,14 @@
 //! | `fault.rt` | the refusal of something of a transcript | |
 //!
 //! Of the lemmas, `Rising` has that times of elements in time rise, `Places` the first table that says a text,
-//! `DroveParts` and `TellingParts` the parts of a transcript one after another, and `OneTranscript` that a table says
-//! one transcript.
+//! `UntoldPlaces` the places of cases by their names, `DroveParts` and `TellingParts` the parts of a transcript one
+//! after another, and `OneTranscript` that a table says one transcript.
 #![tactic(auto)]
 
 mod drove;
 mod elements;
 mod fault;
+mod known;
 mod laws;
 mod lists;
 mod naming;

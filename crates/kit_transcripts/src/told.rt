@@ -14,6 +14,7 @@ ghost use Rattle.kit_transcripts.specs.Transcripts.{end_demands, naming_demands,
 use crate::drove::read_drove;
 use crate::elements::end_in;
 use crate::fault::in_transcript;
+use crate::known::Known;
 use crate::lists::{TranscriptList, read_list};
 use crate::naming::case_in;
 use can_conform::{Ending, Transcript};
@@ -46,8 +47,11 @@ pub fn read_transcripts(
     ensures unmet { (wrong : Wrong) → IsErrOf result (KitFault.Field wrong) → IsFirstUnmet wrong (transcripts_demands (map view cases.now) (map view values.now)) }
 {
     let mut read = Vec::new(alloc);
+    let mut known = Known::of(cases, &[]);
     for (number, value) in values.iter().enumerate() {
-        read.push(read_transcript(alloc, cases, &values[..number], number, value)?)?;
+        known.keep_behind_many(alloc)?;
+        read.push(read_behind(alloc, &known, number, value)?)?;
+        known.add(&values[..number + 1], value);
     }
     Ok(read)
 }
@@ -66,24 +70,34 @@ pub fn read_transcript(
     ensures met { OnOk result (AllMet (transcript_demands (map view cases.now) (map view earlier.now) number (view value.now))) }
     ensures unmet { (wrong : Wrong) → IsErrOf result (KitFault.Field wrong) → IsFirstUnmet wrong (transcript_demands (map view cases.now) (map view earlier.now) number (view value.now)) }
 {
+    read_behind(alloc, &Known::of(cases, earlier), number, value)
+}
+
+/// Reads the transcript of this number, whose table this is, of one of the cases known.
+fn read_behind(
+    alloc: Global,
+    known: &Known<'_>,
+    number: usize,
+    value: &Value,
+) -> Result<Told, KitFault>
+    ensures said { IfOk result (SaysTranscript (map view known.now.cases.now) (view value.now)) }
+    ensures told { IfOk result (λ read. IsTold read.transcript) }
+    ensures met { OnOk result (AllMet (transcript_demands (map view known.now.cases.now) (map view known.now.earlier.now) number (view value.now))) }
+    ensures unmet { (wrong : Wrong) → IsErrOf result (KitFault.Field wrong) → IsFirstUnmet wrong (transcript_demands (map view known.now.cases.now) (map view known.now.earlier.now) number (view value.now)) }
+{
     let Some(fields) = fields_of(value) else {
         return Err(in_transcript(number, TranscriptField::Table));
     };
-    let case = read_case(cases, earlier, number, fields)?;
+    let case = read_case(known, number, fields)?;
     let transcript = read_telling(alloc, number, fields)?;
     Ok(Told { case, transcript })
 }
 
-/// Reads which of these cases the transcript of this number is of, with these fields, behind these transcripts.
-fn read_case(
-    cases: &[Value],
-    earlier: &[Value],
-    number: usize,
-    fields: &Table,
-) -> Result<usize, KitFault>
-    ensures said { IfOk result (λ place. IsRequired (IsText (λ name. place_where name_of name (map view cases.now) ≡ Some place)) (named (codes "case") (table (table_view fields.now)))) }
-    ensures met { OnOk result (AllMet (naming_demands (map view cases.now) (map view earlier.now) number (table (table_view fields.now)))) }
-    ensures unmet { (wrong : Wrong) → IsErrOf result (KitFault.Field wrong) → IsFirstUnmet wrong (naming_demands (map view cases.now) (map view earlier.now) number (table (table_view fields.now))) }
+/// Reads which of the cases known the transcript of this number is of, with these fields.
+fn read_case(known: &Known<'_>, number: usize, fields: &Table) -> Result<usize, KitFault>
+    ensures said { IfOk result (λ place. IsRequired (IsText (λ name. place_where name_of name (map view known.now.cases.now) ≡ Some place)) (named (codes "case") (table (table_view fields.now)))) }
+    ensures met { OnOk result (AllMet (naming_demands (map view known.now.cases.now) (map view known.now.earlier.now) number (table (table_view fields.now)))) }
+    ensures unmet { (wrong : Wrong) → IsErrOf result (KitFault.Field wrong) → IsFirstUnmet wrong (naming_demands (map view known.now.cases.now) (map view known.now.earlier.now) number (table (table_view fields.now))) }
 {
     if !has_only(fields, &TRANSCRIPT_FIELDS) {
         return Err(in_transcript(number, TranscriptField::Unknown));
@@ -91,7 +105,7 @@ fn read_case(
     if !is_of_version_one(fields) {
         return Err(in_transcript(number, TranscriptField::Version));
     }
-    case_in(cases, earlier, fields).ok_or(in_transcript(number, TranscriptField::Case))
+    case_in(known, fields).ok_or(in_transcript(number, TranscriptField::Case))
 }
 
 /// Reads what the transcript of this number, with these fields, tells of the run of its case.

@@ -8,8 +8,8 @@ use Rattle.document_values.proofs.ReadLists.{IsRead-more, said-all, unmet-next}
 use Rattle.kit_cases.specs.Cases.{case_demands, most_bits, SaysCase}
 use Rattle.kit_cases.proofs.case.read_cases.Goals as goal
 
-pub returns-in_err-read_case-clause-unmet : goal.returns-in_err-read_case-clause-unmet
-returns-in_err-read_case-clause-unmet c = λ wrong is.
+pub returns-in_err-read_behind-clause-unmet : goal.returns-in_err-read_behind-clause-unmet
+returns-in_err-read_behind-clause-unmet c = λ wrong is.
     let values = c.args.values.now in
     let number = c.loop-number.number in
     let here : IsFirstUnmet wrong (case_demands (map view (take number values)) number (view c.index-values-number.result)) = search rules in
@@ -23,8 +23,9 @@ loop-number-preserved c =
     let here : AllMet (case_demands (map view (take number values)) number (view c.index-values-number.result)) = search rules in
     rw c.in_ok-push.ensures.items (
       IsRead-more (λ place d. case_demands (take place (map view values)) place d) SaysCase values number _ c.index-values-number.result _ c.loop-number-test.true c.index-values-number.is
-          (subst (λ (earlier : List Data). AllMet (case_demands earlier number (view c.index-values-number.result))) (sym (take-map view number values)) here) c.in_ok-read_case.ensures.said c.loop-number.invariant.0,
-      All-push (λ one. length one.script.tester.items ≤ most_bits) _ _ c.loop-number.invariant.1 c.in_ok-read_case.ensures.short,
+          (subst (λ (earlier : List Data). AllMet (case_demands earlier number (view c.index-values-number.result))) (sym (take-map view number values)) here) c.in_ok-read_behind.ensures.said c.loop-number.invariant.0,
+      All-push (λ one. length one.script.tester.items ≤ most_bits) _ _ c.loop-number.invariant.1 c.in_ok-read_behind.ensures.short,
+      search rules,
     )
 
 pub returns-clause-said : goal.returns-clause-said

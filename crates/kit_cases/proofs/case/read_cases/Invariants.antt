@@ -1,4 +1,4 @@
-use Rattle.std.proofs.Common.{◌≤◌, All, length, map, take}
+use Rattle.std.proofs.Common.{◌≡◌, ◌≤◌, All, length, map, take}
 use Rattle.toml.specs.View.{view}
 use Rattle.document_values.proofs.ReadLists.{IsRead}
 use Rattle.kit_cases.specs.Cases.{case_demands, most_bits, SaysCase}
@@ -8,3 +8,4 @@ abbrev pub invariant-loop-number : goal.invariant-loop-number
 invariant-loop-number l =
     IsRead (λ number d. case_demands (take number (map view l.values)) number d) SaysCase l.values l.number l.cases.items
     × All (λ one. length one.script.tester.items ≤ most_bits) l.cases.items
+    × (l.earlier.tables.now ≡ take l.number l.values)

@@ -15,7 +15,7 @@ returns-in_err-levels-clause-unmet c = λ wrong is.
     let d = table (table_view c.args.fields.now) in
     let known : are_known case_fields (members_in d) ≡ true = search rules in
     let here : IsFirstUnmet wrong (tester_demands c.args.number d) = search rules in
-    tester-unmet (map view c.args.earlier.now) c.args.number d known c.in_ok-name.ensures.met c.in_ok-head.ensures.met wrong here
+    tester-unmet (map view c.args.earlier.now.tables.now) c.args.number d known c.in_ok-name.ensures.met c.in_ok-head.ensures.met wrong here
 
 pub returns-in_err-lists-clause-unmet : goal.returns-in_err-lists-clause-unmet
 returns-in_err-lists-clause-unmet c = λ wrong is.
@@ -23,7 +23,7 @@ returns-in_err-lists-clause-unmet c = λ wrong is.
     let known : are_known case_fields (members_in d) ≡ true = search rules in
     let bits : c.in_ok-head.head.bits ≡ bits_of d = number-said (named (codes "bits") d) c.in_ok-head.head.bits c.in_ok-head.ensures.bits in
     let here : IsFirstUnmet wrong (lists_demands c.args.number c.in_ok-head.head.bits d) = search rules in
-    lists-unmet (map view c.args.earlier.now) c.args.number d known c.in_ok-name.ensures.met c.in_ok-head.ensures.met wrong c.in_ok-levels.ensures.met
+    lists-unmet (map view c.args.earlier.now.tables.now) c.args.number d known c.in_ok-name.ensures.met c.in_ok-head.ensures.met wrong c.in_ok-levels.ensures.met
     (subst (λ (n : ℕ). IsFirstUnmet wrong (lists_demands c.args.number n d)) bits here)
 
 pub returns-then-not-has_all-clause-unmet : goal.returns-then-not-has_all-clause-unmet
@@ -34,8 +34,8 @@ returns-then-not-has_all-clause-unmet c = λ wrong is.
     let lists = subst (λ (n : ℕ). AllMet (lists_demands c.args.number n d)) bits c.in_ok-lists.ensures.met in
     let none : NeedsAll d c.in_ok-head.head.needs → ⊥ = search rules in
     let same : in_case c.args.number of_case.Needs ≡ wrong = cc in
-    subst (λ (w : KitField). IsFirstUnmet w (fields_demands (map view c.args.earlier.now) c.args.number d)) same
-    (needs-unmet (map view c.args.earlier.now) c.args.number d known c.in_ok-name.ensures.met c.in_ok-head.ensures.met c.in_ok-levels.ensures.met lists
+    subst (λ (w : KitField). IsFirstUnmet w (fields_demands (map view c.args.earlier.now.tables.now) c.args.number d)) same
+    (needs-unmet (map view c.args.earlier.now.tables.now) c.args.number d known c.in_ok-name.ensures.met c.in_ok-head.ensures.met c.in_ok-levels.ensures.met lists
     (λ needs all. none (needs-all d c.in_ok-head.head.needs needs c.in_ok-head.ensures.needs all)))
 
 pub returns-clause-met : goal.returns-clause-met
@@ -45,4 +45,4 @@ returns-clause-met c =
     let bits : c.in_ok-head.head.bits ≡ bits_of d = number-said (named (codes "bits") d) c.in_ok-head.head.bits c.in_ok-head.ensures.bits in
     let lists = subst (λ (n : ℕ). AllMet (lists_demands c.args.number n d)) bits c.in_ok-lists.ensures.met in
     let all : NeedsAll d c.in_ok-head.head.needs = search rules in
-    fields-met (map view c.args.earlier.now) c.args.number d known c.in_ok-name.ensures.met c.in_ok-head.ensures.met c.in_ok-head.head.needs c.in_ok-levels.ensures.met lists all
+    fields-met (map view c.args.earlier.now.tables.now) c.args.number d known c.in_ok-name.ensures.met c.in_ok-head.ensures.met c.in_ok-head.head.needs c.in_ok-levels.ensures.met lists all

@@ -4,12 +4,12 @@ use Rattle.toml.specs.View.{table_view, view}
 use Rattle.document_values.specs.Demands.{AllMet, IsFirstUnmet}
 use Rattle.document_values.proofs.DemandLemmas.{met-followed, unmet-later}
 use Rattle.kit_transcripts.specs.Transcripts.{naming_demands, telling_demands, transcript_demands}
-use Rattle.kit_transcripts.proofs.told.read_transcript.Goals as goal
+use Rattle.kit_transcripts.proofs.told.read_behind.Goals as goal
 
 pub returns-in_err-transcript-clause-unmet : goal.returns-in_err-transcript-clause-unmet
 returns-in_err-transcript-clause-unmet c = λ wrong err.
-    let cases = map view c.args.cases.now in
-    let earlier = map view c.args.earlier.now in
+    let cases = map view c.args.known.now.cases.now in
+    let earlier = map view c.args.known.now.earlier.now in
     let fields = table_view c.in-Some.fields.now in
     let is : view c.args.value.now ≡ table fields = search rules in
     let here : IsFirstUnmet wrong (telling_demands c.args.number (table fields)) = search rules in
@@ -18,8 +18,8 @@ returns-in_err-transcript-clause-unmet c = λ wrong err.
 
 pub returns-clause-met : goal.returns-clause-met
 returns-clause-met c =
-    let cases = map view c.args.cases.now in
-    let earlier = map view c.args.earlier.now in
+    let cases = map view c.args.known.now.cases.now in
+    let earlier = map view c.args.known.now.earlier.now in
     let fields = table_view c.in-Some.fields.now in
     let is : view c.args.value.now ≡ table fields = search rules in
     subst (λ (d : Data). AllMet (transcript_demands cases earlier c.args.number d)) (sym is)

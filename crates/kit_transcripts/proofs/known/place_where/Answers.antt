@@ -6,7 +6,7 @@ use Rattle.toml.specs.View.{view}
 use Rattle.document_values.specs.Values.{named}
 use Rattle.kit_cases.specs.Words.{text_in}
 use Rattle.kit_transcripts.proofs.Places.{place-found}
-use Rattle.kit_transcripts.proofs.naming.place_where.Goals as goal
+use Rattle.kit_transcripts.proofs.known.place_where.Goals as goal
 
 pub returns : goal.returns
 returns c =

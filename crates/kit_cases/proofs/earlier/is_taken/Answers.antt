@@ -5,7 +5,7 @@ use Rattle.std.proofs.lemmas.Iterator.Search.{any_from_yields_List}
 use Rattle.toml.specs.View.{view}
 use Rattle.kit_cases.specs.Cases.{name_of}
 use Rattle.kit_cases.proofs.WordLists.{names-taken}
-use Rattle.kit_cases.proofs.naming.is_taken.Goals as goal
+use Rattle.kit_cases.proofs.earlier.is_taken.Goals as goal
 
 pub returns : goal.returns
 returns c =

@@ -1,0 +1,157 @@
+//! What a transcript may be of: the cases that no transcript before it is of.
+ghost use Rattle.std.specs.Prelude.{ℕ, ◌≡◌, List, [], ◌∷◌, ◌++◌, map, IfOk, OnOk};
+ghost use Rattle.toml.specs.Data.{Data};
+ghost use Rattle.toml.specs.View.{view};
+ghost use Rattle.document_values.specs.Values.{named};
+ghost use Rattle.kit_cases.specs.Words.{text_in};
+ghost use Rattle.kit_transcripts.specs.Transcripts.{case_of, place_where as place_in};
+ghost use Rattle.kit_transcripts.specs.Untold.{place_at, untold_place as untold_place_in, with_place, AreUntold, AreUntold-prop, HasUntold};
+
+use document_values::{field, fields_of};
+use kit_cases::text_of;
+use std::alloc::{AllocError, AllocFailed, Global};
+use std::collections::BTreeMap;
+use toml::Value;
+
+/// Behind how many transcripts the places of the cases are kept by their names: up to there each looks through all.
+const MANY: usize = 16;
+
+/// The cases of a document, and the transcripts before one.
+#[derive(Drop)]
+pub(crate) struct Known<'a> {
+    cases: &'a [Value],
+    earlier: &'a [Value],
+    /// The places of the cases that none of the transcripts is of, by their names, where these are kept.
+    untold: Option<BTreeMap<&'a str, usize>>,
+    ghost kept: { AreUntold untold (map view cases.now) (map view earlier.now) } by { AreUntold-prop untold (map view cases.now) (map view earlier.now) },
+}
+
+impl<'a> Known<'a> {
+    /// These cases and transcripts, which are looked through for a name.
+    pub(crate) fn of(cases: &'a [Value], earlier: &'a [Value]) -> Known<'a>
+        ensures cases { result.cases.now ≡ cases.now }
+        ensures earlier { result.earlier.now ≡ earlier.now }
+    {
+        Known {
+            cases,
+            earlier,
+            untold: None,
+        }
+    }
+
+    /// Keeps the places of the cases from here on, if just so many transcripts were read that this pays.
+    pub(crate) fn keep_behind_many(&mut self, alloc: Global) -> Result<(), AllocError>
+        ensures cases { self.new.cases.now ≡ self.old.cases.now }
+        ensures earlier { self.new.earlier.now ≡ self.old.earlier.now }
+    {
+        if self.earlier.len() != MANY {
+            return Ok(());
+        }
+        let untold = untold_of(alloc, self.cases, self.earlier)?;
+        self.untold = Some(untold);
+        Ok(())
+    }
+
+    /// The place of the first case of this name, if none of the transcripts is of it.
+    pub(crate) fn place_of(&self, name: &str) -> Option<usize>
+        ensures { result ≡ untold_place_in (map view self.now.cases.now) (map view self.now.earlier.now) name.now }
+    {
+        match &self.untold {
+            Some(untold) => untold.get(name).copied(),
+            None => untold_place(self.cases, self.earlier, name),
+        }
+    }
+
+    /// One more transcript: these are the tables with it.
+    pub(crate) fn add(&mut self, earlier: &'a [Value], last: &Value)
+        requires { map view earlier.now ≡ map view self.old.earlier.now ++ view last.now ∷ [] }
+        ensures cases { self.new.cases.now ≡ self.old.cases.now }
+        ensures earlier { self.new.earlier.now ≡ earlier.now }
+    {
+        take_out(&mut self.untold, text_said(last, "case"));
+        self.earlier = earlier;
+    }
+}
+
+/// Takes out the place at a name, if places are kept.
+fn take_out(untold: &mut Option<BTreeMap<&str, usize>>, name: &str)
+    ensures { (cases earlier : List Data) (d : Data) → name.now ≡ case_of d → AreUntold untold.old cases earlier → AreUntold untold.new cases (earlier ++ d ∷ []) }
+{
+    let Some(untold) = untold else {
+        return;
+    };
+    untold.remove(name);
+}
+
+/// The places of the cases that none of these transcripts is of.
+fn untold_of<'a>(
+    alloc: Global,
+    cases: &'a [Value],
+    earlier: &[Value],
+) -> Result<BTreeMap<&'a str, usize>, AllocError>
+    ensures { IfOk result (λ places. HasUntold places (map view cases.now) (map view earlier.now)) }
+{
+    let mut places = places_of(alloc, cases)?;
+    for transcript in earlier {
+        places.remove(text_said(transcript, "case"));
+    }
+    Ok(places)
+}
+
+/// The places of these cases, of the first where several have one name.
+fn places_of(alloc: Global, cases: &[Value]) -> Result<BTreeMap<&str, usize>, AllocError>
+    ensures { IfOk result (λ places. HasUntold places (map view cases.now) []) }
+{
+    let mut places = BTreeMap::new(alloc);
+    for (place, case) in cases.iter().enumerate() {
+        add_place(&mut places, text_said(case, "name"), place)?;
+    }
+    Ok(places)
+}
+
+/// Adds the place of a case of this name, if there is none yet.
+fn add_place<'a>(
+    places: &mut BTreeMap<&'a str, usize>,
+    name: &'a str,
+    place: usize,
+) -> Result<(), AllocFailed<(&'a str, usize)>>
+    ensures { OnOk result ((text : List ℕ) → place_at places.new text ≡ with_place (place_at places.old) name.now place text) }
+{
+    let Some(first) = places.insert(name, place)? else {
+        return Ok(());
+    };
+    places.insert(name, first)?;
+    Ok(())
+}
+
+/// The place of the first of these cases that has the name, if none of these transcripts is of it.
+fn untold_place(cases: &[Value], earlier: &[Value], name: &str) -> Option<usize>
+    ensures { result ≡ untold_place_in (map view cases.now) (map view earlier.now) name.now }
+{
+    if place_where(earlier, "case", name).is_some() {
+        return None;
+    }
+    place_where(cases, "name", name)
+}
+
+/// The place of the first of these tables that says this text in the field of this name.
+fn place_where(tables: &[Value], key: &str, text: &str) -> Option<usize>
+    ensures { result ≡ place_in (λ value. text_in (named key.now value)) text.now (map view tables.now) }
+{
+    tables
+        .iter()
+        .position(|value| text == text_said(value, key))
+}
+
+/// The text that a table says in the field of this name, no text where it says none.
+fn text_said<'a>(value: &'a Value, key: &str) -> &'a str
+    ensures { result.now ≡ text_in (named key.now (view value.now)) }
+{
+    let Some(fields) = fields_of(value) else {
+        return "";
+    };
+    let Some(said) = field(fields, key) else {
+        return "";
+    };
+    text_of(said).unwrap_or("")
+}
