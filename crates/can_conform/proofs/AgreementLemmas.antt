@@ -1,5 +1,5 @@
 -- What is compared of a transcript, bit time by bit time.
-use Rattle.std.specs.Prelude.{IfSome}
+use Rattle.std.specs.Prelude.{IfSome, slice_get, unwrap_or}
 use Rattle.std.proofs.Common.{◌≡◌, ℕ, zero, suc, ◌+◌, ◌<◌, ◌≤◌, Option, Some, None, length, refl, sym, ap, ◌∙◌, subst, inl, inr, arith}
 use Rattle.std.proofs.lemmas.Bool.{cases_order}
 use Rattle.std.proofs.lemmas.Option.{slice_get_past}
@@ -16,11 +16,11 @@ use Rattle.can_conform.specs.declared.transcript.Transcript.{Transcript}
 use Rattle.can_node.specs.Ports.{PortState}
 use Rattle.can_mac.specs.declared.event.Event.{Event}
 use Rattle.can_conform.specs.Runs.{before, counters_of, moment_at, started}
-use Rattle.can_conform.specs.Transcripts.{no_counts, told_before, AgreesAt, EndBefore}
+use Rattle.can_conform.specs.Transcripts.{no_counts, told_at, told_before, AgreesAt, AreRising, EndBefore, IsTold}
 use Rattle.can_conform.specs.Verdicts.{IsDifference}
-use Rattle.can_conform.specs.Walks.{HasReached, IsDifferenceAt, Stands}
+use Rattle.can_conform.specs.Walks.{HasReached, IsDifferenceAt, IsReached, Stands}
 use Rattle.can_conform.proofs.RunLemmas.{before-first, before-past, event-past, level-past, rule-past, since-past}
-use Rattle.can_conform.proofs.TimedLemmas.{reached-first, told_at-past, told_before-first, told_before-past}
+use Rattle.can_conform.proofs.TimedLemmas.{reached-first, told_at-past, told_before-first, told_before_more, told_before-past}
 
 -- ---- what may be left out
 
@@ -44,6 +44,30 @@ reached-start told p event counter held = record {
   counters = some-each _ told.counters (λ counters. rw counter (reached-first counters.items));
   held = some-each _ told.counters (λ counters. held ∙ sym (told_before-first no_counts counters.items));
 }
+
+-- ---- a bit time in which nothing is told
+
+-- the counters told last stay
+counters-stay : (told : Transcript) (p : Progress) (t : ℕ) → IsTold told → HasReached told p t → IfSome told.counters (λ counters. told_at counters.items t ≡ None)
+    → IfSome told.counters (λ counters. p.held ≡ told_before no_counts counters.items (t + 1))
+counters-stay told p t is reached none =
+    some-both _ _ _ told.counters (λ counters both held.
+    held ∙ sym (told_before_more no_counts counters.items t both.0 ∙ ap (λ o. unwrap_or o (told_before no_counts counters.items t)) both.1))
+    (some-both (λ counters. AreRising counters.items) (λ counters. told_at counters.items t ≡ None) (λ counters. AreRising counters.items × (told_at counters.items t ≡ None)) told.counters (λ counters rising at. (rising, at)) is.counters none)
+    reached.held
+
+pub quiet-agrees : (told : Transcript) (p : Progress) (t : ℕ) (m : Moment) → IsTold told → HasReached told p t → m.event ≡ None → p.held ≡ m.counters → slice_get told.drove.items t ≡ m.drove
+    → IfSome told.events (λ events. told_at events.items t ≡ None) → IfSome told.counters (λ counters. told_at counters.items t ≡ None) → AgreesAt told t m
+quiet-agrees told p t m is reached event held level no_event no_change = record {
+  level = level;
+  event = some-map _ _ told.events (λ events at. at ∙ sym event) no_event;
+  counters = some-map _ _ told.counters (λ counters stays. sym stays ∙ held) (counters-stay told p t is reached no_change);
+}
+
+pub quiet-reached : (told : Transcript) (p : Progress) (t : ℕ) → IsTold told → HasReached told p t
+    → IfSome told.events (λ events. IsReached events.items p.event (t + 1)) → IfSome told.counters (λ counters. IsReached counters.items p.counter (t + 1))
+    → IfSome told.counters (λ counters. told_at counters.items t ≡ None) → HasReached told p (t + 1)
+quiet-reached told p t is reached events counters no_change = record { events = events; counters = counters; held = counters-stay told p t is reached no_change }
 
 -- ---- behind all that is told
 

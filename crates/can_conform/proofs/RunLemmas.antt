@@ -1,9 +1,11 @@
 -- The run of a case, one bit time further.
 use Rattle.std.specs.Prelude.{slice_get, ◌==◌, ◌&&◌, if◌then◌else◌}
 use Rattle.std.proofs.Common.{◌≡◌, ℕ, zero, suc, ◌+◌, ◌-◌, ◌<◌, ◌≤◌, true, Option, Some, None, length, refl, sym, ap, ◌∙◌, arith, add-one}
+use Rattle.std.specs.Option.{unwrap_or}
 use Rattle.std.proofs.lemmas.Bool.Decides.{nat_tests}
 use Rattle.std.proofs.lemmas.Option.{slice_get_past, slice_get-get_or}
 use Rattle.can_frame.specs.declared.level.Level.{Level}
+use Rattle.can_frame.specs.declared.level.Level.TheVariants.{Recessive}
 use Rattle.can_mac.specs.declared.event.Event.{Event}
 use Rattle.can_node.specs.Ports.{PortState, port_drives}
 use Rattle.can_conform.specs.declared.moment.Moment.{Moment}
@@ -14,9 +16,8 @@ use Rattle.can_conform.specs.declared.standing.Rule.{Rule}
 use Rattle.can_conform.specs.declared.timed.Timed.{Timed}
 use Rattle.can_conform.specs.declared.transcript.Counters.{Counters}
 use Rattle.can_conform.specs.Transcripts.{changed_in, same_counters}
-use Rattle.can_conform.specs.Runs.{before, behind, counters_of, event_of, handed, last_event, level_of, met, moment_at, next_rule, rule_before, since_before, started, told_of}
-use Rattle.can_conform.specs.Standings.{phase_rule}
-use Rattle.can_conform.specs.Walks.{Stands}
+use Rattle.can_conform.specs.Runs.{before, behind, counters_of, event_of, handed, last_event, level_of, met, moment_at, next_rule, rule_before, seen_by, since_before, started, told_of}
+use Rattle.can_conform.specs.Standings.{phase_name, phase_rule, rule_behind}
 
 -- ---- the first bit time
 
@@ -123,25 +124,6 @@ moment-same s t drove event q level told after =
 
 -- ---- one bit time of a port that stands where the run does
 
--- a port that has met the tester, where the case has this bit time
-pub stands-met : (s : Script) (t : ℕ) (x : TesterLevel) (p q : PortState) (now next : Rule) (since last : Option (Timed Event)) → slice_get s.tester.items t ≡ Some x → Stands s t p now since →
-    q ≡ met x (handed s t p) → next ≡ next_rule (Some x) s t p now → last ≡ last_event (told_of x (handed s t p)) t since → Stands s (t + 1) q next last
-stands-met s t x p q now next since last here stands port decides event = record {
-  port = port ∙ ap (λ r. met x (handed s t r)) stands.port ∙ sym (before-more s t ∙ ap (λ o. behind o s t (before s t)) here);
-  decides = decides ∙ ap (λ r. next_rule (Some x) s t r now) stands.port ∙ ap (next_rule (Some x) s t (before s t)) stands.decides
-      ∙ sym (rule-more s t ∙ ap (λ o. next_rule o s t (before s t) (rule_before s t)) here);
-  last = event ∙ ap (λ r. last_event (told_of x (handed s t r)) t since) stands.port ∙ ap (last_event (told_of x (handed s t (before s t))) t) stands.last
-      ∙ sym (since-more s t ∙ ap (λ o. last_event (event_of o s t (before s t)) t (since_before s t)) here);
-}
-
--- and where it hasn't
-pub stands-still : (s : Script) (t : ℕ) (p : PortState) (now : Rule) (since : Option (Timed Event)) → slice_get s.tester.items t ≡ None → Stands s t p now since → Stands s (t + 1) p now since
-stands-still s t p now since none stands = record {
-  port = stands.port ∙ sym (before-more s t ∙ ap (λ o. behind o s t (before s t)) none);
-  decides = stands.decides ∙ sym (rule-more s t ∙ ap (λ o. next_rule o s t (before s t) (rule_before s t)) none);
-  last = stands.last ∙ sym (since-more s t ∙ ap (λ o. last_event (event_of o s t (before s t)) t (since_before s t)) none);
-}
-
 -- what it did is the moment of the run
 pub moment-met : (s : Script) (t : ℕ) (x : TesterLevel) (p q : PortState) (drove : Option Level) (event : Option Event) → slice_get s.tester.items t ≡ Some x → p ≡ before s t → q ≡ before s (t + 1) →
     drove ≡ Some (port_drives (handed s t p)) → event ≡ told_of x (handed s t p) → (let m : Moment = record { drove = drove; event = event; counters = counters_of q } in m) ≡ moment_at s t
@@ -154,3 +136,30 @@ pub moment-still : (s : Script) (t : ℕ) (q : PortState) → slice_get s.tester
     (let m : Moment = record { drove = None; event = None; counters = counters_of q } in m) ≡ moment_at s t
 moment-still s t q none after =
     moment-same s t None None q (sym (ap (λ o. level_of o s t (before s t)) none)) (sym (ap (λ o. event_of o s t (before s t)) none)) after
+
+-- ---- where it stands, one bit time further
+
+-- the rule behind a bit time of the case, from what it did in it
+pub rule-met : (s : Script) (t : ℕ) (x : TesterLevel) → slice_get s.tester.items t ≡ Some x →
+    rule_behind (moment_at s t).event (phase_name (before s t).mac) (seen_by x (unwrap_or (moment_at s t).drove Recessive)) (before s (t + 1)).mac ≡ rule_before s (t + 1)
+rule-met s t x here =
+    let p = before s t in
+    let behind_it : Option TesterLevel → Rule = λ o. rule_behind (event_of o s t p) (phase_name p.mac) (seen_by x (unwrap_or (level_of o s t p) Recessive)) (behind o s t p).mac in
+    ap (λ q. rule_behind (moment_at s t).event (phase_name p.mac) (seen_by x (unwrap_or (moment_at s t).drove Recessive)) q.mac) (before-more s t)
+    ∙ ap behind_it here
+    ∙ sym (rule-more s t ∙ ap (λ o. next_rule o s t p (rule_before s t)) here)
+
+-- behind the case it stays
+pub rule-stays : (s : Script) (t : ℕ) → slice_get s.tester.items t ≡ None → rule_before s (t + 1) ≡ rule_before s t
+rule-stays s t none = rule-more s t ∙ ap (λ o. next_rule o s t (before s t) (rule_before s t)) none
+
+pub since-stays : (s : Script) (t : ℕ) → slice_get s.tester.items t ≡ None → since_before s (t + 1) ≡ since_before s t
+since-stays s t none = since-more s t ∙ ap (λ o. last_event (event_of o s t (before s t)) t (since_before s t)) none
+
+-- ---- a port that stands where the run does
+
+pub port-met : (s : Script) (t : ℕ) (x : TesterLevel) (p q : PortState) → slice_get s.tester.items t ≡ Some x → p ≡ before s t → q ≡ met x (handed s t p) → q ≡ before s (t + 1)
+port-met s t x p q here port is = is ∙ ap (λ r. met x (handed s t r)) port ∙ sym (before-more s t ∙ ap (λ o. behind o s t (before s t)) here)
+
+pub port-still : (s : Script) (t : ℕ) (p : PortState) → slice_get s.tester.items t ≡ None → p ≡ before s t → p ≡ before s (t + 1)
+port-still s t p none port = port ∙ sym (before-more s t ∙ ap (λ o. behind o s t (before s t)) none)

@@ -1,5 +1,5 @@
 -- How far the judge has come along a run and a transcript: words of private contracts and of proofs.
-use Rattle.std.specs.Prelude.{ℕ, ◌≡◌, ◌<◌, ◌≤◌, List, Option, Some, IfSome, slice_get}
+use Rattle.std.specs.Prelude.{ℕ, ◌≡◌, ◌<◌, ◌≤◌, List, [], ◌∷◌, Option, Some, IfSome, slice_get}
 use Rattle.can_mac.specs.declared.event.Event.{Event}
 use Rattle.can_node.specs.Ports.{PortState}
 use Rattle.can_conform.specs.declared.judging.Difference.{Difference}
@@ -19,6 +19,16 @@ pub record Stands (s : Script) (t : ℕ) (p : PortState) (now : Rule) (since : O
   pub port : p ≡ before s t
   pub decides : now ≡ rule_before s t
   pub last : since ≡ since_before s t
+
+-- from bit time t on none of these comes before this time
+abbrev pub IsNotDue : {A : Type 0} → List (Timed A) → ℕ → ℕ → Type 0
+IsNotDue [] t due = Unit {0}
+IsNotDue (x ∷ xs) t due = (t ≤ x.time → due ≤ x.time) × IsNotDue xs t due
+
+-- nor does a frame or a wish of the case
+pub record AreNotDue (s : Script) (t due : ℕ) : Type 0 where
+  pub offers : IsNotDue s.offers.items t due
+  pub holds : IsNotDue s.holds.items t due
 
 -- the walk along them stands at this time: each before this place is earlier, and no other is
 pub record IsReached {A : Type 0} (xs : List (Timed A)) (place time : ℕ) : Type 0 where

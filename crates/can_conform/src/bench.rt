@@ -1,14 +1,12 @@
-//! The reference at its bench: it is played through a case bit time by bit time, and where it stands is kept.
-ghost use Rattle.std.specs.Prelude.{◌≡◌, ◌<◌, ◌+◌, ◌-◌, ◌^◌, ◌==◌, if◌then◌else◌, IfOk, Some};
+//! The reference at its bench: it is played through a case bit time by bit time.
+ghost use Rattle.std.specs.Prelude.{◌≡◌, ◌<◌, ◌≤◌, ◌+◌, ◌-◌, ◌^◌, ◌==◌, if◌then◌else◌, IfOk};
 ghost use Rattle.can_node.specs.Ports.{port_drives, with_offer};
-ghost use Rattle.can_conform.specs.Runs.{all_handed, handed, last_event as last_event_of, met, moment_at, next_rule, told_of, wished};
-ghost use Rattle.can_conform.specs.Standings.{part_of, phase_name as phase_name_of};
-ghost use Rattle.can_conform.specs.Walks.{Stands};
+ghost use Rattle.can_conform.specs.Runs.{all_handed, before, handed, met, moment_at, told_of, wished};
+ghost use Rattle.can_conform.specs.Walks.{AreNotDue, IsNotDue};
 
 use crate::meeting::{Meeting, counters_of, meet, started_node};
 use crate::moment::Moment;
 use crate::script::{Script, TesterLevel};
-use crate::standing::{Rule, Standing, part_in, phase_name, phase_rule, rule_behind};
 use crate::timed::Timed;
 use can_frame::{Frame, Level};
 use can_mac::Event;
@@ -20,8 +18,8 @@ use std::alloc::{AllocError, Global};
 pub(crate) struct Bench {
     pub(crate) node: PackedNode,
     pub(crate) time: u32,
-    pub(crate) rule: Rule,
-    pub(crate) since: Option<Timed<Event>>,
+    /// No frame and no wish comes before this time.
+    pub(crate) due: u32,
 }
 
 /// Offers the frames of this time, in their order.
@@ -63,40 +61,25 @@ fn wish_at<P: Port>(port: &mut P, hold: &Timed<u8>, time: u32)
 impl Bench {
     /// The reference before bit time 0.
     pub(crate) fn begin(alloc: Global, script: &Script) -> Result<Bench, AllocError>
-        ensures stands { IfOk result (λ b. Stands script.now 0 (⟦<PackedNode as Port>⟧.port b.node) b.rule b.since) }
+        ensures port { IfOk result (λ b. ⟦<PackedNode as Port>⟧.port b.node ≡ before script.now 0) }
         ensures time { IfOk result (λ b. b.time ≡ 0) }
+        ensures due { IfOk result (λ b. AreNotDue script.now 0 b.due) }
     {
         let node = started_node(alloc, script.start)?;
-        let rule = phase_rule(node.access().phase(), node.access().role());
         Ok(Bench {
             node,
             time: 0,
-            rule,
-            since: None,
+            due: 0,
         })
-    }
-
-    /// Where the reference stands.
-    pub(crate) fn standing(&self) -> Standing
-        ensures phase { result.phase ≡ phase_name_of (⟦<PackedNode as Port>⟧.port self.now.node).mac }
-        ensures part { result.part ≡ part_of (⟦<PackedNode as Port>⟧.port self.now.node).mac.role }
-        ensures rule { result.rule ≡ self.now.rule }
-        ensures since { result.since ≡ self.now.since }
-    {
-        let access = self.node.access();
-        Standing {
-            phase: phase_name(access),
-            part: part_in(access.role()),
-            rule: self.rule,
-            since: self.since,
-        }
     }
 
     /// Plays the next bit time. Behind the end of the case nothing happens.
     pub(crate) fn step(&mut self, script: &Script) -> Moment
-        requires stands { Stands script.now self.old.time (⟦<PackedNode as Port>⟧.port self.old.node) self.old.rule self.old.since }
+        requires port { ⟦<PackedNode as Port>⟧.port self.old.node ≡ before script.now self.old.time }
+        requires due { AreNotDue script.now self.old.time self.old.due }
         requires time { self.old.time < 2 ^ 32 - 1 }
-        ensures stands { Stands script.now (self.old.time + 1) (⟦<PackedNode as Port>⟧.port self.new.node) self.new.rule self.new.since }
+        ensures port { ⟦<PackedNode as Port>⟧.port self.new.node ≡ before script.now (self.old.time + 1) }
+        ensures due { AreNotDue script.now (self.old.time + 1) self.new.due }
         ensures time { self.new.time ≡ self.old.time + 1 }
         ensures moment { result ≡ moment_at script.now self.old.time }
     {
@@ -119,30 +102,30 @@ impl Bench {
 
     /// Plays a bit time that the case has, with this tester.
     fn play(&mut self, script: &Script, tester: TesterLevel) -> (Level, Option<Event>)
+        requires { AreNotDue script.now self.old.time self.old.due }
         ensures port { ⟦<PackedNode as Port>⟧.port self.new.node ≡ met tester (handed script.now self.old.time (⟦<PackedNode as Port>⟧.port self.old.node)) }
-        ensures rule { self.new.rule ≡ next_rule (Some tester) script.now self.old.time (⟦<PackedNode as Port>⟧.port self.old.node) self.old.rule }
-        ensures since { self.new.since ≡ last_event_of (told_of tester (handed script.now self.old.time (⟦<PackedNode as Port>⟧.port self.old.node))) self.old.time self.old.since }
+        ensures due { AreNotDue script.now (self.old.time + 1) self.new.due }
         ensures time { self.new.time ≡ self.old.time }
         ensures drove { result.0 ≡ port_drives (handed script.now self.old.time (⟦<PackedNode as Port>⟧.port self.old.node)) }
         ensures event { result.1 ≡ told_of tester (handed script.now self.old.time (⟦<PackedNode as Port>⟧.port self.old.node)) }
     {
-        let phase = phase_name(self.node.access());
-        hand_over(&mut self.node, script, self.time);
-        let Meeting { drove, seen, event } = meet(&mut self.node, tester);
-        self.rule = rule_behind(&event, phase, seen, self.node.access());
-        self.since = last_event(&event, self.time, self.since);
+        self.due = hand_over_due(&mut self.node, script, self.time, self.due);
+        let Meeting { drove, event, .. } = meet(&mut self.node, tester);
         (drove, event)
     }
 }
 
-/// The last event, where this one came at this time.
-fn last_event(event: &Option<Event>, time: u32, since: Option<Timed<Event>>) -> Option<Timed<Event>>
-    ensures { result ≡ last_event_of event.now time since }
+/// Hands over the frames and wishes of this time, where some may be due, and answers before which time none come then.
+fn hand_over_due<P: Port>(port: &mut P, script: &Script, time: u32, due: u32) -> u32
+    requires { AreNotDue script.now time due }
+    ensures port { P.port port.new ≡ handed script.now time (P.port port.old) }
+    ensures due { AreNotDue script.now (time + 1) result }
 {
-    match event {
-        Some(told) => Some(Timed { time, told: *told }),
-        None => since,
+    if time < due {
+        return due;
     }
+    hand_over(port, script, time);
+    next_due(script, time)
 }
 
 /// Hands over the frames and wishes of this time.
@@ -151,4 +134,35 @@ fn hand_over<P: Port>(port: &mut P, script: &Script, time: u32)
 {
     offer_all(port, &script.offers, time);
     wish_all(port, &script.holds, time);
+}
+
+/// The time before which no frames and wishes come behind this one.
+fn next_due(script: &Script, time: u32) -> u32
+    ensures { AreNotDue script.now (time + 1) result }
+{
+    let offer = first_behind(&script.offers, time);
+    let hold = first_behind(&script.holds, time);
+    offer.min(hold)
+}
+
+/// The first of these times behind this one, the highest number where there is none.
+fn first_behind<T>(list: &[Timed<T>], time: u32) -> u32
+    ensures { IsNotDue list.now (time + 1) result }
+{
+    let mut first = u32::MAX;
+    for one in list {
+        first = sooner(first, one.time, time);
+    }
+    first
+}
+
+/// The other time, if it is behind this one and comes before the first so far.
+fn sooner(first: u32, other: u32, time: u32) -> u32
+    ensures less { result ≤ first }
+    ensures behind { time + 1 ≤ other → result ≤ other }
+{
+    if time < other {
+        return first.min(other);
+    }
+    first
 }

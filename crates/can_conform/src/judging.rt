@@ -1,5 +1,5 @@
 //! The judge: whether a transcript tells what the reference does.
-ghost use Rattle.std.specs.Prelude.{ℕ, ◌≡◌, ◌≢◌, ◌≤◌, ◌<◌, ◌^◌, ◌-◌, ◌+◌, length, IfOk, IfSome, IsNone, IsSome, IsSomeAnd, slice_get};
+ghost use Rattle.std.specs.Prelude.{ℕ, ◌≡◌, ◌≢◌, ◌≤◌, ◌<◌, ◌^◌, ◌-◌, ◌+◌, false, length, IfOk, IfSome, IsNone, IsSome, IsSomeAnd, IsTrue, None, slice_get};
 ghost use Rattle.can_conform.specs.Runs.{moment_at};
 ghost use Rattle.can_conform.specs.Transcripts.{no_counts, told_at, told_before, AgreesAt, AreRising, EndBefore, IsTold};
 ghost use Rattle.can_conform.specs.Verdicts.{IsVerdict};
@@ -12,6 +12,7 @@ use crate::script::Script;
 use crate::standing::Standing;
 use crate::timed::Timed;
 use crate::transcript::{Counters, Ending, Transcript};
+use crate::watch::{Watch, place_of};
 use can_frame::Level;
 use can_mac::Event;
 use can_node::{PackedNode, Port};
@@ -77,30 +78,32 @@ pub fn judge(alloc: Global, script: &Script, transcript: &Transcript) -> Result<
     ensures { IfOk result (IsVerdict script.now transcript.now) }
 {
     let mut bench = Bench::begin(alloc, script)?;
+    let mut watch = Watch::begin(bench.node.access());
     let mut progress = Progress {
         event: 0,
         counter: 0,
         held: Counters::NONE,
     };
     for time in 0..horizon(script, transcript) {
-        let standing = bench.standing();
+        let place = place_of(bench.node.access());
         let moment = bench.step(script);
         if let Some(difference) = difference_at(transcript, &mut progress, &moment, time) {
             return Ok(Verdict::Fail(Failure {
                 time,
                 difference,
-                standing,
+                standing: watch.standing(place),
             }));
         }
+        watch.follow(script, time, place, &moment, bench.node.access());
     }
-    Ok(concluded(script, transcript, &bench))
+    Ok(concluded(script, transcript, &bench, &watch))
 }
 
 /// What is said where all bit times agree.
-fn concluded(script: &Script, transcript: &Transcript, bench: &Bench) -> Verdict
+fn concluded(script: &Script, transcript: &Transcript, bench: &Bench, watch: &Watch) -> Verdict
     requires short { length script.now.tester.items < 2 ^ 32 - 1 }
     requires agrees { (t : ℕ) → AgreesAt transcript.now t (moment_at script.now t) }
-    requires stands { Stands script.now (length script.now.tester.items) (⟦<PackedNode as Port>⟧.port bench.now.node) bench.now.rule bench.now.since }
+    requires stands { Stands script.now (length script.now.tester.items) (⟦<PackedNode as Port>⟧.port bench.now.node) watch.now.rule watch.now.since }
     ensures { IsVerdict script.now transcript.now result }
 {
     let ought = ending_of(&bench.node);
@@ -108,7 +111,7 @@ fn concluded(script: &Script, transcript: &Transcript, bench: &Bench) -> Verdict
         Some(told) if told != ought => Verdict::Fail(Failure {
             time: script.tester.len() as u32,
             difference: Difference::End { told, ought },
-            standing: bench.standing(),
+            standing: watch.standing(place_of(bench.node.access())),
         }),
         _ => Verdict::Pass,
     }
@@ -127,6 +130,9 @@ fn difference_at(
     ensures some { IfSome result (IsDifferenceAt transcript.now time moment.now) }
     ensures reached { IsNone result → HasReached transcript.now progress.new (time + 1) }
 {
+    if is_quiet(transcript, progress, moment, time) {
+        return None;
+    }
     if let Some(difference) = level_difference(&transcript.drove, moment.drove, time) {
         return Some(difference);
     }
@@ -134,6 +140,59 @@ fn difference_at(
         return Some(difference);
     }
     counters_difference(&transcript.counters, progress, moment.counters, time)
+}
+
+/// Whether this bit time brings nothing but the level and the counters that it ought to, as most do: no event is told
+/// and none ought to be, and the counters that were told last are those that ought to be.
+fn is_quiet(transcript: &Transcript, progress: &Progress, moment: &Moment, time: u32) -> bool
+    requires told { IsTold transcript.now }
+    requires reached { HasReached transcript.now progress.now time }
+    ensures agrees { IsTrue result → AgreesAt transcript.now time moment.now }
+    ensures reached { IsTrue result → HasReached transcript.now progress.now (time + 1) }
+{
+    if moment.event.is_some() || progress.held != moment.counters {
+        return false;
+    }
+    if comes(&transcript.events, progress.event, time) {
+        return false;
+    }
+    if comes(&transcript.counters, progress.counter, time) {
+        return false;
+    }
+    is_level(&transcript.drove, moment.drove, time)
+}
+
+/// Whether the level that is told is the one that ought to be.
+fn is_level(levels: &[Level], ought: Option<Level>, time: u32) -> bool
+    ensures { IsTrue result → slice_get levels.now time ≡ ought }
+{
+    levels.get(time as usize).copied() == ought
+}
+
+/// Whether something of a list is told at this time, which the walk has reached.
+fn comes<T>(list: &Option<Vec<Timed<T>>>, place: usize, time: u32) -> bool
+    requires rising { IfSome list.now (λ list. AreRising list.items) }
+    requires reached { IfSome list.now (λ list. IsReached list.items place time) }
+    ensures none { result ≡ false → IfSome list.now (λ list. told_at list.items time ≡ None) }
+    ensures reached { result ≡ false → IfSome list.now (λ list. IsReached list.items place (time + 1)) }
+{
+    match list {
+        Some(list) => is_next(list, place, time),
+        None => false,
+    }
+}
+
+/// Whether what stands at a place of a list is told at this time, which the walk has reached.
+fn is_next<T>(list: &[Timed<T>], place: usize, time: u32) -> bool
+    requires rising { AreRising list.now }
+    requires reached { IsReached list.now place time }
+    ensures none { result ≡ false → told_at list.now time ≡ None }
+    ensures reached { result ≡ false → IsReached list.now place (time + 1) }
+{
+    match list.get(place) {
+        Some(next) => next.time == time,
+        None => false,
+    }
 }
 
 /// Where the level that is told is not the one that ought to be.

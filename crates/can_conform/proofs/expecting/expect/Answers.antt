@@ -4,7 +4,7 @@ use Rattle.can_conform.specs.declared.moment.Moment.{Moment}
 use Rattle.can_conform.specs.declared.transcript.Counters.{Counters}
 use Rattle.can_conform.specs.Runs.{before, counters_of, ending_of, moment_at}
 use Rattle.can_conform.specs.Transcripts.{changed_in, same_counters}
-use Rattle.can_conform.specs.Walks.{Stands}
+use Rattle.can_conform.specs.Walks.{AreNotDue}
 use Rattle.can_conform.proofs.AgreementLemmas.{counters-start}
 use Rattle.can_conform.proofs.Drives.{AreDriven, driven-all, driven-next, driven-none}
 use Rattle.can_conform.proofs.Growing.{IsToldUpTo, told-all, told-next, told-none}
@@ -16,7 +16,8 @@ pub loop-time-init : goal.loop-time-init
 loop-time-init c =
     let s = c.args.script.now in
     record {
-      stands = c.in_ok-bench.ensures.stands;
+      port = c.in_ok-bench.ensures.port;
+      due = c.in_ok-bench.ensures.due;
       time = c.in_ok-bench.ensures.time;
       drove = subst (λ xs. AreDriven s xs 0) (sym c.in_ok-drove.ensures.items) (driven-none s);
       events = subst (λ xs. IsToldUpTo (λ t. (moment_at s t).event) xs 0) (sym c.new-events.ensures.items) (told-none (λ t. (moment_at s t).event));
@@ -36,7 +37,8 @@ loop-time-preserved c =
     let changed : c.change.result ≡ changed_in c.args.script.now c.loop-time.time =
     c.change.ensures ∙ ap (λ n. F n c.loop-time.held) now ∙ ap (F (counters_of (before s (t + 1)))) c.loop-time.invariant.held in
     record {
-      stands = subst (λ k. Stands s (k + 1) (node_port c.step-moment.new.self.node) c.step-moment.new.self.rule c.step-moment.new.self.since) c.loop-time.invariant.time c.step-moment.ensures.stands;
+      port = c.step-moment.ensures.port ∙ ap (λ k. before s (k + 1)) c.loop-time.invariant.time;
+      due = subst (λ k. AreNotDue s (k + 1) c.step-moment.new.self.due) c.loop-time.invariant.time c.step-moment.ensures.due;
       time = c.step-moment.ensures.time ∙ ap (λ k. k + 1) c.loop-time.invariant.time;
       drove = subst (λ xs. AreDriven s xs (t + 1)) (sym c.in_ok-push_some.ensures)
           (driven-next s c.loop-time.drove.items t c.step-moment.result.drove (ap (λ (m : Moment). m.drove) moment) within c.loop-time.invariant.drove);
@@ -57,5 +59,5 @@ returns c =
       levels = driven-all s c.loop-time.drove.items n size c.loop-time.invariant.drove;
       events = told-all (λ t. (moment_at s t).event) c.loop-time.events.items n (λ t late. event-past s t (omega (arith, size, late))) c.loop-time.invariant.events;
       counters = told-all (changed_in s) c.loop-time.counters.items n (λ t late. changed-past s t (omega (arith, size, late))) c.loop-time.invariant.counters;
-      end = ap (λ e. Some e) (c.ending_of.ensures ∙ ap ending_of (c.loop-time.invariant.stands.port ∙ ap (before s) (sym size)));
+      end = ap (λ e. Some e) (c.ending_of.ensures ∙ ap ending_of (c.loop-time.invariant.port ∙ ap (before s) (sym size)));
     }

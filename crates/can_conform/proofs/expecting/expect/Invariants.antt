@@ -1,7 +1,7 @@
 use Rattle.std.proofs.Common.{◌≡◌}
 use Rattle.can_conform.specs.Runs.{before, counters_of, moment_at}
 use Rattle.can_conform.specs.Transcripts.{changed_in}
-use Rattle.can_conform.specs.Walks.{Stands}
+use Rattle.can_conform.specs.Walks.{AreNotDue}
 use Rattle.can_conform.proofs.Drives.{AreDriven}
 use Rattle.can_conform.proofs.Growing.{IsToldUpTo}
 use Rattle.can_conform.proofs.NodePort.{node_port}
@@ -10,7 +10,8 @@ use Rattle.can_conform.proofs.expecting.expect.Given as goal
 -- the reference stands before this bit time, and the transcript tells all before it
 abbrev pub invariant-loop-time : goal.invariant-loop-time
 invariant-loop-time l = record {
-  stands : Stands l.script l.time (node_port l.bench.node) l.bench.rule l.bench.since;
+  port : node_port l.bench.node ≡ before l.script l.time;
+  due : AreNotDue l.script l.time l.bench.due;
   time : l.bench.time ≡ l.time;
   drove : AreDriven l.script l.drove.items l.time;
   events : IsToldUpTo (λ t. (moment_at l.script t).event) l.events.items l.time;

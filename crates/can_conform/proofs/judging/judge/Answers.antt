@@ -1,14 +1,25 @@
-use Rattle.std.proofs.Common.{◌≡◌, ◌+◌, refl, subst, ap, ◌∙◌, arith, rules}
-use Rattle.can_conform.specs.Runs.{moment_at}
+use Rattle.std.proofs.Common.{◌≡◌, ◌+◌, refl, sym, subst, ap, ◌∙◌, arith, rules}
+use Rattle.can_mac.specs.State.{MacState}
+use Rattle.can_node.specs.Ports.{PortState}
+use Rattle.can_conform.specs.Standings.{phase_rule}
+use Rattle.can_conform.specs.Runs.{before, moment_at}
 use Rattle.can_conform.specs.Transcripts.{AgreesAt}
-use Rattle.can_conform.specs.Walks.{Stands}
+use Rattle.can_conform.specs.Walks.{AreNotDue}
 use Rattle.can_conform.proofs.AgreementLemmas.{agrees-all, agrees-more, reached-start, stands-past}
 use Rattle.can_conform.proofs.NodePort.{node_port}
+use Rattle.can_conform.proofs.RunLemmas.{before-first, rule-first, since-first}
 use Rattle.can_conform.proofs.judging.judge.Goals as goal
 
 pub loop-time-init : goal.loop-time-init
 loop-time-init c = record {
-  stands = c.in_ok-bench.ensures.stands;
+  stands = record {
+    port = c.in_ok-bench.ensures.port;
+    decides = c.begin-watch.ensures.rule
+        ∙ ap (λ (m : MacState). phase_rule m.phase m.role) (c.access.ensures ∙ ap (λ (p : PortState). p.mac) (c.in_ok-bench.ensures.port ∙ before-first c.args.script.now))
+        ∙ sym (rule-first c.args.script.now);
+    last = c.begin-watch.ensures.since ∙ sym (since-first c.args.script.now);
+  };
+  due = c.in_ok-bench.ensures.due;
   time = c.in_ok-bench.ensures.time;
   agrees = λ t h. absurd (omega arith);
   reached = reached-start c.args.transcript.now _ refl refl refl;
@@ -21,7 +32,12 @@ loop-time-preserved c =
     let t = c.loop-time.time in
     let moment : c.step-moment.result ≡ moment_at c.args.script.now c.loop-time.time = c.step-moment.ensures.moment ∙ ap (moment_at s) c.loop-time.invariant.time in
     record {
-      stands = subst (λ k. Stands s (k + 1) (node_port c.step-moment.new.self.node) c.step-moment.new.self.rule c.step-moment.new.self.since) c.loop-time.invariant.time c.step-moment.ensures.stands;
+      stands = record {
+        port = c.step-moment.ensures.port ∙ ap (λ k. before s (k + 1)) c.loop-time.invariant.time;
+        decides = c.follow.ensures.rule;
+        last = c.follow.ensures.since;
+      };
+      due = subst (λ k. AreNotDue s (k + 1) c.step-moment.new.self.due) c.loop-time.invariant.time c.step-moment.ensures.due;
       time = c.step-moment.ensures.time ∙ ap (λ k. k + 1) c.loop-time.invariant.time;
       agrees = agrees-more s told t c.loop-time.invariant.agrees (subst (λ m. AgreesAt told t m) moment (c.in_default.ensures.none refl));
       reached = c.in_default.ensures.reached refl;
@@ -37,7 +53,7 @@ concluded-requires-clause-agrees c =
 pub concluded-requires-clause-stands : goal.concluded-requires-clause-stands
 concluded-requires-clause-stands c =
     let same : c.horizon-time-end.result ≡ c.loop-time.time = omega arith in
-    stands-past c.args.script.now c.loop-time.time (node_port c.loop-time.bench.node) c.loop-time.bench.rule c.loop-time.bench.since (omega (arith, same, c.horizon-time-end.ensures.bits)) c.loop-time.invariant.stands
+    stands-past c.args.script.now c.loop-time.time (node_port c.loop-time.bench.node) c.loop-time.watch.rule c.loop-time.watch.since (omega (arith, same, c.horizon-time-end.ensures.bits)) c.loop-time.invariant.stands
 
 pub returns-in-Some : goal.returns-in-Some
 returns-in-Some c = search rules

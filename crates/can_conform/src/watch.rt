@@ -1,0 +1,103 @@
+//! Where the reference stands in a case, from bit time to bit time.
+ghost use Rattle.std.specs.Prelude.{◌≡◌, ◌+◌, None};
+ghost use Rattle.can_conform.specs.Runs.{before, last_event as last_event_of, moment_at, rule_before, since_before};
+ghost use Rattle.can_conform.specs.Standings.{part_of, phase_name as phase_name_of, phase_rule as phase_rule_of};
+
+use crate::moment::Moment;
+use crate::script::Script;
+use crate::standing::{
+    Part, PhaseName, Rule, Standing, part_in, phase_name, phase_rule, rule_behind,
+};
+use crate::timed::Timed;
+use can_code::FrameBits;
+use can_frame::Level;
+use can_mac::{Event, MediumAccess};
+
+/// A phase and a part in it: what a bit time changes, and a difference in it tells.
+#[derive(Clone, Copy)]
+pub(crate) struct Place {
+    phase: PhaseName,
+    part: Part,
+}
+
+/// Where a controller is.
+pub(crate) fn place_of<B: FrameBits>(access: &MediumAccess<B>) -> Place
+    ensures phase { result.phase ≡ phase_name_of access.now }
+    ensures part { result.part ≡ part_of access.now.role }
+{
+    Place {
+        phase: phase_name(access),
+        part: part_in(access.role()),
+    }
+}
+
+/// The rule that decides in a bit time, and the last event before it.
+#[derive(Clone, Copy)]
+pub(crate) struct Watch {
+    pub(crate) rule: Rule,
+    pub(crate) since: Option<Timed<Event>>,
+}
+
+impl Watch {
+    /// Before the first bit time of a controller with this medium access.
+    pub(crate) fn begin<B: FrameBits>(access: &MediumAccess<B>) -> Watch
+        ensures rule { result.rule ≡ phase_rule_of access.now.phase access.now.role }
+        ensures since { result.since ≡ None }
+    {
+        Watch {
+            rule: phase_rule(access.phase(), access.role()),
+            since: None,
+        }
+    }
+
+    /// Goes on behind a bit time of the case: the reference was at this place before, did this in it, and is as `next`
+    /// says behind it.
+    pub(crate) fn follow<B: FrameBits>(
+        &mut self,
+        script: &Script,
+        time: u32,
+        place: Place,
+        moment: &Moment,
+        next: &MediumAccess<B>,
+    )
+        requires place { place.phase ≡ phase_name_of (before script.now time).mac }
+        requires moment { moment.now ≡ moment_at script.now time }
+        requires next { next.now ≡ (before script.now (time + 1)).mac }
+        requires rule { self.old.rule ≡ rule_before script.now time }
+        requires since { self.old.since ≡ since_before script.now time }
+        ensures rule { self.new.rule ≡ rule_before script.now (time + 1) }
+        ensures since { self.new.since ≡ since_before script.now (time + 1) }
+    {
+        let Some(tester) = script.tester.get(time as usize) else {
+            return;
+        };
+        let seen = tester.seen_by(moment.drove.unwrap_or(Level::Recessive));
+        self.rule = rule_behind(&moment.event, place.phase, seen, next);
+        note_event(&mut self.since, &moment.event, time);
+    }
+
+    /// Where the reference stands that is at this place.
+    pub(crate) fn standing(&self, place: Place) -> Standing
+        ensures phase { result.phase ≡ place.phase }
+        ensures part { result.part ≡ place.part }
+        ensures rule { result.rule ≡ self.now.rule }
+        ensures since { result.since ≡ self.now.since }
+    {
+        Standing {
+            phase: place.phase,
+            part: place.part,
+            rule: self.rule,
+            since: self.since,
+        }
+    }
+}
+
+/// Keeps an event as the last one, if this is one.
+fn note_event(since: &mut Option<Timed<Event>>, event: &Option<Event>, time: u32)
+    ensures { since.new ≡ last_event_of event.now time since.old }
+{
+    let Some(told) = event else {
+        return;
+    };
+    *since = Some(Timed { time, told: *told });
+}
