@@ -9,13 +9,13 @@ use Rattle.can_frame.specs.declared.level.Level.TheVariants.{Dominant, Recessive
 use Rattle.can_frame.specs.Parts.{Parts, IsFrame}
 use Rattle.can_wire.specs.Layout.{level_at}
 use Rattle.can_wire.specs.Wire.{driven, stuffed_part, tail}
-use Rattle.can_mac.specs.Frames.{GoesBehind, IsPoised, with_intermission}
-use Rattle.can_mac.proofs.FrameRoles.{line-start}
+use Rattle.can_mac.specs.Frames.{driven_with_intermission, role_drives, with_intermission}
+use Rattle.can_mac.proofs.FrameRoles.{line-start, role-own}
+use Rattle.can_node.specs.Passing.{LetsPass}
 use Rattle.can_node.specs.Ports.{PortState, IsPort, port_drives, port_run, port_step, waiting}
-use Rattle.can_node.proofs.Arrivals.{GainingPort, alone, gaining_drives, gaining_step-alone}
-use Rattle.can_node.proofs.FrameLeaves.{goes-behind, goes-own}
+use Rattle.can_node.proofs.FrameLeaves.{goes-behind}
 use Rattle.can_node.proofs.FramesWaiting.{AreFrames-from, IsWaiting-waiting}
-use Rattle.can_node.proofs.Passing.{comes-behind, poised-meets}
+use Rattle.can_node.proofs.Passing.{Enters, begins-kept, comes-behind, port_run-taken, run-drives}
 use Rattle.can_hit.specs.declared.hit.Hit.{Hit}
 use Rattle.can_hit.specs.declared.hit.Hit.TheVariants.{At, View}
 use Rattle.can_bus.specs.declared.call.Call.{Call}
@@ -23,60 +23,68 @@ use Rattle.can_bus.specs.declared.moment.Attempt.{Attempt}
 use Rattle.can_bus.specs.Passing.{PassesAt, PassesBus, PassesBy, PassesByAll, PassesFrom}
 use Rattle.can_bus.specs.Run.{CallState, all_sampled, aged, attempt_now, begins_attempt, bus_after, bus_step, following, hits_view, hits_wire, inverted_if, recorded, rest_after, wired_level}
 use Rattle.can_bus.specs.Walks.{AreBelow, IsCall, IsFreeFrom, IsPassed, aged_by, in_now}
-use Rattle.can_bus.specs.Wired.{wired}
+use Rattle.can_bus.specs.Wired.{over, wired}
 use Rattle.can_bus.proofs.BusAtRest.{aged_more, aged_none}
 use Rattle.can_bus.proofs.Contests.{AllPorts}
-use Rattle.can_bus.proofs.FrameOnBus.{AllReceiveOn, OneSendsOn, frame-gives-on, ports_of, gaining_sees}
+use Rattle.can_bus.proofs.FrameOnBus.{length-driven, receiver-joins}
 use Rattle.can_bus.proofs.HitRuns.{sees}
 use Rattle.can_bus.proofs.PortLoops.{front_at}
-use Rattle.can_bus.proofs.Reduction.{Gives, maps-alike}
+use Rattle.can_bus.proofs.Reduction.{AllJoin, Gives, Joins, Leads, OneLeads, maps-alike, reduction}
 use Rattle.can_bus.proofs.RestInFrames.{none-begins, rest_at-next, rest-line}
 use Rattle.can_bus.proofs.StepLemmas.{at_next, passed_more, view_later, within_next}
-use Rattle.can_bus.proofs.WireRuns.{all_after, rest_run, undisturbed}
+use Rattle.can_bus.proofs.WireRuns.{all_after, joins-through, leads-through, rest_run, undisturbed}
+
+pub none-taken : {A : Type 0} (xs : List A) → take 0 xs ≡ []
+none-taken [] = refl
+none-taken (x ∷ xs) = refl
 
 -- ---- who takes part
 
-all-receive : (f : Parts) → IsFrame f → (ports : List PortState) → AllPorts IsPort ports → PassesByAll f ports → AllReceiveOn f ports
-all-receive f is [] valid by = tt
-all-receive f is (p ∷ ports) valid by =
-    let behind = comes-behind f (waiting p.queue) by.0.1 in
-    let kept = IsWaiting-waiting p.queue (AreFrames-from p.queue valid.0.queued) in (
-      record { meets = poised-meets f p is by.0.0 kept (goes-behind f (waiting p.queue) behind); other = behind },
-      all-receive f is ports valid.1 by.1,
-    )
+-- f begins at these ports
+pub enters-from : (f : Parts) → IsFrame f → (p : PortState) → PassesFrom f p → Enters f p (Some f)
+enters-from f is p own = record { frame = is; poised = own; kept = is; behind = inl refl }
 
-one-sends : (f : Parts) → IsFrame f → (ports : List PortState) → AllPorts IsPort ports → PassesBus f ports → OneSendsOn f ports
-one-sends f is [] valid passes = passes
-one-sends f is (p ∷ ports) valid (inl one) =
-    let kept = IsWaiting-waiting p.queue (AreFrames-from p.queue valid.0.queued) in
-    inl (record { meets = poised-meets f p is one.0.0 kept (goes-own f (waiting p.queue) one.0.1); own = one.0.1 }, all-receive f is ports valid.1 one.1)
-one-sends f is (p ∷ ports) valid (inr one) =
-    let behind = comes-behind f (waiting p.queue) one.0.1 in
-    let kept = IsWaiting-waiting p.queue (AreFrames-from p.queue valid.0.queued) in
-    inr (record { meets = poised-meets f p is one.0.0 kept (goes-behind f (waiting p.queue) behind); other = behind }, one-sends f is ports valid.1 one.1)
+pub enters-by : (f : Parts) → IsFrame f → (p : PortState) → IsPort p → (by : PassesBy f p) → Enters f p by.0
+enters-by f is p valid by = record {
+  frame = is;
+  poised = by.1.0;
+  kept = begins-kept p by.0 by.1.0 (IsWaiting-waiting p.queue (AreFrames-from p.queue valid.queued));
+  behind = goes-behind f by.0 (comes-behind f by.0 by.1.1);
+}
 
--- ---- ports at which nothing arrives
+-- the port before it
+unrun : (levels : List Level) (p : PortState) → port_run p (take 0 levels) ≡ p
+unfolding port_run
+unrun levels p = ap (port_run p) (none-taken levels)
 
-seen-alone : (x : Level) (ports : List PortState) → map (gaining_sees x) (map alone ports) ≡ map alone (map (sees x) ports)
-seen-alone x ports =
-    maps-alike alone (gaining_sees x) (λ p. alone (port_step p x)) (λ p. gaining_step-alone p x) ports
-    ∙ sym (maps-alike (sees x) alone (λ p. alone (port_step p x)) (λ p. refl) ports)
+-- one drives its levels, and all others over them those of the wire
+leads : (f : Parts) → IsFrame f → (p : PortState) → PassesFrom f p → Leads port_drives sees (undisturbed (with_intermission f)) (driven_with_intermission f) p
+leads f is p own =
+    subst (Leads port_drives sees (undisturbed (with_intermission f)) (driven_with_intermission f)) (unrun (with_intermission f) p)
+    (leads-through port_drives sees (with_intermission f) (driven_with_intermission f) (λ o. port_run p (take o (with_intermission f))) (length-driven f)
+    (λ o within. sym (port_run-taken (with_intermission f) p o within))
+    (λ o within. run-drives f p (Some f) (enters-from f is p own) o within ∙ ap (λ r. role_drives f r o) (role-own f o)))
 
-gives-alone : (levels : List Level) (ports : List PortState) → Gives gaining_drives gaining_sees (undisturbed levels) (map alone ports) → Gives port_drives sees (undisturbed levels) ports
-gives-alone [] ports h = tt
-gives-alone (x ∷ levels) ports h = (
-  ap wired (sym (maps-alike alone gaining_drives port_drives (λ p. refl) ports)) ∙ h.0,
-  gives-alone levels (map (sees x) ports) (subst (Gives gaining_drives gaining_sees (undisturbed levels)) (seen-alone x ports) h.1),
-)
+joins : (f : Parts) → IsFrame f → (p : PortState) → IsPort p → PassesBy f p → Joins port_drives sees (undisturbed (with_intermission f)) (driven_with_intermission f) p
+joins f is p valid by =
+    let enters = enters-by f is p valid by in
+    subst (Joins port_drives sees (undisturbed (with_intermission f)) (driven_with_intermission f)) (unrun (with_intermission f) p)
+    (joins-through port_drives sees (with_intermission f) (driven_with_intermission f) (λ o. port_run p (take o (with_intermission f))) (length-driven f)
+    (λ o within. sym (port_run-taken (with_intermission f) p o within))
+    (λ o within. ap (over (level_at (driven_with_intermission f) o)) (run-drives f p by.0 enters o within) ∙ receiver-joins f by.0 is enters.kept (comes-behind f by.0 by.1.1) enters.behind o within))
 
-ports-alone : (ports : List PortState) → ports_of (map alone ports) ≡ ports
-ports-alone ports = maps-alike alone (λ (g : GainingPort). g.port) (λ p. p) (λ p. refl) ports ∙ map-id ports
+all-join : (f : Parts) → IsFrame f → (ports : List PortState) → AllPorts IsPort ports → PassesByAll f ports → AllJoin port_drives sees (undisturbed (with_intermission f)) (driven_with_intermission f) ports
+all-join f is [] valid by = tt
+all-join f is (p ∷ ports) valid by = (joins f is p valid.0 by.0, all-join f is ports valid.1 by.1)
+
+one-leads : (f : Parts) → IsFrame f → (ports : List PortState) → AllPorts IsPort ports → PassesBus f ports → OneLeads port_drives sees (undisturbed (with_intermission f)) (driven_with_intermission f) ports
+one-leads f is [] valid passes = passes
+one-leads f is (p ∷ ports) valid (inl one) = inl (leads f is p one.0, all-join f is ports valid.1 one.1)
+one-leads f is (p ∷ ports) valid (inr one) = inr (joins f is p valid.0 one.0, one-leads f is ports valid.1 one.1)
 
 -- the wire has the levels of a frame that passes
 pub frame-gives-bus : (f : Parts) → IsFrame f → (ports : List PortState) → 1 < length ports → AllPorts IsPort ports → PassesBus f ports → Gives port_drives sees (undisturbed (with_intermission f)) ports
-frame-gives-bus f is ports two valid passes =
-    gives-alone (with_intermission f) ports
-    (frame-gives-on f (map alone ports) (let e = length-map ports alone in omega (arith, e, two)) (subst (OneSendsOn f) (sym (ports-alone ports)) (one-sends f is ports valid passes)))
+frame-gives-bus f is ports two valid passes = reduction port_drives sees (undisturbed (with_intermission f)) (driven_with_intermission f) ports two (one-leads f is ports valid passes)
 
 pub all_after-run : (levels : List Level) (ports : List PortState) → all_after sees levels ports ≡ map (λ p. port_run p levels) ports
 unfolding port_run
@@ -97,10 +105,6 @@ all_after-next step [] ms o within = absurd (omega (arith, within))
 all_after-next step (x ∷ []) ms zero within = refl
 all_after-next step (x ∷ (y ∷ levels)) ms zero within = refl
 all_after-next step (x ∷ levels) ms (suc o) within = all_after-next step levels (map (step x) ms) o (omega (arith, within))
-
-pub none-taken : {A : Type 0} (xs : List A) → take 0 xs ≡ []
-none-taken [] = refl
-none-taken (x ∷ xs) = refl
 
 taken-again : {A : Type 0} (m n : ℕ) (xs : List A) → m ≤ n → take m (take n xs) ≡ take m xs
 taken-again zero n xs h = none-taken (take n xs) ∙ sym (none-taken xs)
@@ -269,17 +273,17 @@ sender-at S f xs i d within before own behind =
     subst (λ s. PassesAt f s 0 (map S xs)) (let e : 0 + i ≡ i = omega arith in e) (sender-from S f xs i 0 d within before own (subst (λ n. PassesByAll f (map S (drop n xs))) (add-one i) behind))
 
 -- each port lets the frame pass
-abbrev pub LetsPass : Parts → PortState → Type 0
-LetsPass f p = IsPoised p.mac × GoesBehind f (waiting p.queue)
+lets-by : (f : Parts) (p : PortState) → PassesBy f p → LetsPass f p
+lets-by f p by = (by.0, (by.1.0, goes-behind f by.0 (comes-behind f by.0 by.1.1)))
 
 all-let : (f : Parts) (ports : List PortState) → PassesByAll f ports → AllPorts (LetsPass f) ports
 all-let f [] by = tt
-all-let f (p ∷ ports) by = ((by.0.0, goes-behind f (waiting p.queue) (comes-behind f (waiting p.queue) by.0.1)), all-let f ports by.1)
+all-let f (p ∷ ports) by = (lets-by f p by.0, all-let f ports by.1)
 
 pub bus-lets : (f : Parts) (ports : List PortState) → PassesBus f ports → AllPorts (LetsPass f) ports
 bus-lets f [] passes = tt
-bus-lets f (p ∷ ports) (inl one) = ((one.0.0, goes-own f (waiting p.queue) one.0.1), all-let f ports one.1)
-bus-lets f (p ∷ ports) (inr one) = ((one.0.0, goes-behind f (waiting p.queue) (comes-behind f (waiting p.queue) one.0.1)), bus-lets f ports one.1)
+bus-lets f (p ∷ ports) (inl one) = ((Some f, (one.0, inl refl)), all-let f ports one.1)
+bus-lets f (p ∷ ports) (inr one) = (lets-by f p one.0, bus-lets f ports one.1)
 
 -- what holds of all ports holds of the next one, where those before it have changed
 pub holds-next : {X A : Type 0} (Q : A → Type 0) (S : X → A) (F : ℕ → A → A) (k i : ℕ) (xs : List X) (ps : List A) (d : X) → AllPorts Q ps → map S xs ≡ front_at F k i ps → i < length xs → Q (S (get_or xs i d))

@@ -1,5 +1,5 @@
 -- Frames that pass a bus at once, and what is offered meanwhile.
-use Rattle.std.specs.Prelude.{ℕ, zero, suc, ◌≡◌, ◌+◌, ◌⊎◌, List, [], ◌∷◌, Some}
+use Rattle.std.specs.Prelude.{ℕ, zero, suc, ◌≡◌, ◌+◌, ◌⊎◌, List, [], ◌∷◌, Option, Some}
 use Rattle.can_frame.specs.Parts.{Parts}
 use Rattle.can_frame.specs.Arbitration.{arbitration_field, Before}
 use Rattle.can_mac.specs.Frames.{IsPoised}
@@ -7,13 +7,13 @@ use Rattle.can_node.specs.Ports.{PortState, waiting}
 use Rattle.can_bus.specs.declared.offer.Offer.{Offer}
 use Rattle.can_bus.specs.Offers.{all_made, refused_at}
 
--- f may pass this port, and is the frame that waits there
+-- f may pass this port, which begins with it
 abbrev pub PassesFrom : Parts → PortState → Type 0
-PassesFrom f p = IsPoised p.mac × (waiting p.queue ≡ Some f)
+PassesFrom f p = IsPoised p.mac (waiting p.queue) (Some f)
 
--- f may pass this port, and goes before the frame that waits there, if one does
+-- f may pass this port, and goes before the frame with which it begins, if there is one
 abbrev pub PassesBy : Parts → PortState → Type 0
-PassesBy f p = IsPoised p.mac × ((g : Parts) → waiting p.queue ≡ Some g → Before (arbitration_field f) (arbitration_field g))
+PassesBy f p = (next : Option Parts) × (IsPoised p.mac (waiting p.queue) next × ((g : Parts) → next ≡ Some g → Before (arbitration_field f) (arbitration_field g)))
 
 abbrev pub PassesByAll : Parts → List PortState → Type 0
 PassesByAll f [] = Unit {0}

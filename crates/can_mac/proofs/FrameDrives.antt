@@ -13,10 +13,10 @@ use Rattle.can_code.proofs.WireFronts.{front_at}
 use Rattle.can_fault.specs.Counters.{ConfineParts}
 use Rattle.can_mac.specs.declared.phase.Role.{Role}
 use Rattle.can_mac.specs.declared.phase.Role.TheVariants.{Receiver, Sender}
-use Rattle.can_mac.specs.declared.phase.Phase.TheVariants.{Idle}
+use Rattle.can_mac.specs.declared.phase.Phase.TheVariants.{Idle, Suspend}
 use Rattle.can_mac.specs.State.{MacState, IsFrameOrNone}
 use Rattle.can_mac.specs.Machine.{mac_drives, part_drives}
-use Rattle.can_mac.specs.Frames.{driven_at, with_intermission, behind_part, driven_with_intermission, slot_place, role_at, role_drives, frame_state, frame_drives, StartsWith, AreHeard, PartsAt, GoesBehind}
+use Rattle.can_mac.specs.Frames.{Begins, driven_at, with_intermission, behind_part, driven_with_intermission, slot_place, role_at, role_drives, frame_state, frame_drives, StartsWith, AreHeard, PartsAt, GoesBehind}
 use Rattle.can_mac.proofs.FrameEnds.{Each, Each-at, end_levels, end_state}
 use Rattle.can_mac.proofs.FrameParts.{part_state, length-with_intermission, line-early, line-late, phase-early}
 use Rattle.can_mac.proofs.FrameRoles.{role-own, role-together, role-parted, level-together, parting, listens, drives, driving, receives, sends, ending}
@@ -83,6 +83,16 @@ idle-drives : (f : Parts) (m : MacState) (waiting : Option Parts) → m.phase �
 unfolding mac_drives stuffed_part unstuffed stuffed head
 idle-drives f m None idle = rw idle (sym (receiver-elsewhere f 0 (λ e. omega (arith, e))))
 idle-drives f m (Some g) idle = rw idle refl
+
+suspended-drives : (f : Parts) (m : MacState) (waiting : Option Parts) (place : ℕ) → m.phase ≡ Suspend place → mac_drives m waiting ≡ frame_drives f None 0
+unfolding mac_drives stuffed_part unstuffed stuffed head
+suspended-drives f m waiting place suspended = rw suspended (sym (receiver-elsewhere f 0 (λ e. omega (arith, e))))
+
+-- what a controller that is between frames drives as f begins
+pub begins-drives : (f : Parts) (m : MacState) (waiting next : Option Parts) → Begins m.phase waiting next → mac_drives m waiting ≡ frame_drives f next 0
+begins-drives f m waiting next (inl idle) = idle-drives f m waiting idle.0 ∙ ap (λ w. frame_drives f w 0) (sym idle.1)
+begins-drives f m waiting next (inr suspended) =
+    suspended-drives f m waiting suspended.0 suspended.1.0 ∙ ap (λ w. frame_drives f w 0) (sym suspended.1.1)
 
 module _ (f : Parts) (is : IsFrame f) (waiting : Option Parts) (kept : IsFrameOrNone waiting) (behind : GoesBehind f waiting) (pending : ℕ) (c : ConfineParts) (now : Option Parts) (o : ℕ) where
   abbrev state : MacState

@@ -1,6 +1,6 @@
 -- Each level of a frame, and of the intermission behind it, makes the next state of a controller, and tells
 -- what is to be told.
-use Rattle.std.proofs.Common.{◌≡◌, ℕ, ◌+◌, ◌<◌, ◌≤◌, Option, Some, None, length, refl, sym, ◌∙◌, ap, arith, inl, inr}
+use Rattle.std.proofs.Common.{◌≡◌, ℕ, ◌+◌, ◌<◌, ◌≤◌, false, Option, Some, None, length, refl, sym, ◌∙◌, ap, arith, inl, inr}
 use Rattle.std.proofs.Math.Dec.{ltb}
 use Rattle.std.proofs.lemmas.Bool.{cond-true, cond-false, lt-ltb, le-ltb, cases_lt}
 use Rattle.can_frame.specs.declared.level.Level.{Level}
@@ -11,7 +11,8 @@ use Rattle.can_code.specs.Front.{FrontParts, heard_level}
 use Rattle.can_code.proofs.StuffedParts.{IsPart-length}
 use Rattle.can_code.proofs.UnstuffedLevels.{stuffed_part-part}
 use Rattle.can_code.proofs.WireFronts.{front_at, front_at-no_error, front_at-next}
-use Rattle.can_fault.specs.Counters.{ConfineParts}
+use Rattle.can_fault.specs.declared.cause.Cause.TheVariants.{FrameSent}
+use Rattle.can_fault.specs.Counters.{ConfineParts, counted, is_bus_off, is_passive}
 use Rattle.can_mac.specs.declared.event.Event.{Event}
 use Rattle.can_mac.specs.declared.event.Event.TheVariants.{Lost}
 use Rattle.can_mac.specs.declared.phase.Overloads.{Overloads}
@@ -21,7 +22,7 @@ use Rattle.can_mac.specs.declared.phase.Phase.TheVariants.{StuffedPart}
 use Rattle.can_mac.specs.State.{MacState, IsFrameOrNone}
 use Rattle.can_mac.specs.Moves.{part_phase}
 use Rattle.can_mac.specs.Machine.{mac_step}
-use Rattle.can_mac.specs.Frames.{with_intermission, behind_part, phase_at, role_at, role_after, counters_after, frame_state, loss, end_event, frame_event, IsActive, GoesBehind}
+use Rattle.can_mac.specs.Frames.{with_intermission, behind_part, phase_at, role_at, role_after, counters_after, frame_state, loss, end_event, frame_event, GoesBehind}
 use Rattle.can_mac.proofs.FrameEnds.{end_state, end_levels, receiver-ends, sender-ends}
 use Rattle.can_mac.proofs.FrameParts.{part_state, step-hears, step-loses, length-wire, length-with_intermission, line-early, line-late, phase-early, phase-late, part_phase-at}
 use Rattle.can_mac.proofs.FrameRoles.{stays, loses, standing, receives, sends, ending}
@@ -41,6 +42,10 @@ outcome m told = (m, told)
 -- a stuffed part goes on behind the start of frame
 pub some_part : (f : Parts) → IsFrame f → 1 < length (stuffed_part f)
 some_part f is = omega (arith, IsPart-length (unstuffed f) (stuffed_part f) (stuffed_part-part f is))
+
+-- with the last level of intermission its sender is idle: it is not error passive
+abbrev pub Awake : Parts → Option Parts → ConfineParts → ℕ → Type 0
+Awake f waiting c o = o + 1 ≡ length (with_intermission f) → role_at f waiting o ≡ Sender f → is_passive (counted FrameSent c) ≡ false
 
 -- what the levels of the stuffed part tell, and those behind it
 module _ (f : Parts) (waiting : Option Parts) (o : ℕ) where
@@ -131,19 +136,19 @@ module _ (f : Parts) (is : IsFrame f) (waiting : Option Parts) (pending : ℕ) (
         ∙ ap (λ m. outcome m (end_event f role k)) (ap (end_state f role pending c) (sym next-place) ∙ ap (λ r. end_state f r pending c (behind_part f (o + 1))) (sym new) ∙ sym (state-late (o + 1) (omega arith)))
         ∙ ap (outcome (state (o + 1))) (ap (λ r. end_event f r k) (sym old) ∙ sym (event-late f waiting o past))
 
-    pub step-late : IsFrameOrNone waiting → GoesBehind f waiting → IsActive c → (length (wire f) ≤ o + 1 → pending ≡ 0)
+    pub step-late : IsFrameOrNone waiting → GoesBehind f waiting → is_bus_off c ≡ false → (length (wire f) ≤ o + 1 → pending ≡ 0) → Awake f waiting c o
         → mac_step (state o) now (level_at (with_intermission f) o) ≡ outcome (state (o + 1)) (frame_event f waiting o)
-    step-late kept behind active no_wish = elim (ending f waiting is kept behind) [
+    step-late kept behind on no_wish awake = elim (ending f waiting is kept behind) [
       | receives role ↦
           ends Receiver (role o past) (role (o + 1) (omega arith))
-          (receiver-ends f c active now pending k few (λ late. no_wish (omega (arith, late, length-wire f))))
-      | sends role ↦ ends (Sender f) (role o) (role (o + 1)) (sender-ends f c active now pending k few)
+          (receiver-ends f c on now pending k few (λ late. no_wish (omega (arith, late, length-wire f))))
+      | sends role ↦ ends (Sender f) (role o) (role (o + 1)) (sender-ends f c on now pending k few (λ last. awake (omega (arith, last, past, length-with_intermission f)) (role o)))
     ]
 
   -- any level of f but its start of frame
-  pub step-next : IsFrameOrNone waiting → GoesBehind f waiting → IsActive c → (now : Option Parts) (o : ℕ) → 0 < o → o < length (with_intermission f) → (length (wire f) ≤ o + 1 → pending ≡ 0)
-      → mac_step (state o) now (level_at (with_intermission f) o) ≡ outcome (state (o + 1)) (frame_event f waiting o)
-  step-next kept behind active now o some within no_wish = elim (cases_lt o n) [
+  pub step-next : IsFrameOrNone waiting → GoesBehind f waiting → is_bus_off c ≡ false → (now : Option Parts) (o : ℕ) → 0 < o → o < length (with_intermission f) → (length (wire f) ≤ o + 1 → pending ≡ 0)
+      → Awake f waiting c o → mac_step (state o) now (level_at (with_intermission f) o) ≡ outcome (state (o + 1)) (frame_event f waiting o)
+  step-next kept behind on now o some within no_wish awake = elim (cases_lt o n) [
     | inl more ↦ step-early o some more now kept behind
-    | inr past ↦ step-late o past within now kept behind active no_wish
+    | inr past ↦ step-late o past within now kept behind on no_wish awake
   ]

@@ -1,6 +1,6 @@
 -- A frame on the bus, at one controller: where its levels lead, what it tells, and what it drives. (Bosch CAN
 -- 2.0 part B, sections 2, 3.2, 5 and 8) What stands in brackets is a rule of docs/ACCESS.md.
-use Rattle.std.specs.Prelude.{ℕ, zero, suc, ◌≡◌, ◌+◌, ◌-◌, ◌<◌, ◌≤◌, ◌==◌, nat_lt, Bool, true, if◌then◌else◌, List, [], ◌∷◌, ◌++◌, length, replicate, take, drop, Option, Some, None, unwrap_or, slice_index_or, ◌⊎◌}
+use Rattle.std.specs.Prelude.{ℕ, zero, suc, ◌≡◌, ◌+◌, ◌-◌, ◌<◌, ◌≤◌, ◌==◌, nat_lt, Bool, true, false, if◌then◌else◌, List, [], ◌∷◌, ◌++◌, length, replicate, take, drop, Option, Some, None, unwrap_or, slice_index_or, ◌⊎◌}
 use Rattle.std.specs.Cmp.Lexicographic.{pointwise}
 use Rattle.can_frame.specs.declared.level.Level.{Level}
 use Rattle.can_frame.specs.declared.level.Level.TheVariants.{Dominant, Recessive}
@@ -11,13 +11,13 @@ use Rattle.can_wire.specs.Wire.{stuffed_part, wire, driven}
 use Rattle.can_wire.specs.Layout.{level_at}
 use Rattle.can_code.specs.Front.{FrontParts, first_front, heard_levels}
 use Rattle.can_fault.specs.declared.cause.Cause.TheVariants.{FrameSent, FrameReceived}
-use Rattle.can_fault.specs.Counters.{ConfineParts, counted}
+use Rattle.can_fault.specs.Counters.{ConfineParts, counted, is_bus_off, is_passive}
 use Rattle.can_mac.specs.declared.event.Event.{Event}
 use Rattle.can_mac.specs.declared.event.Event.TheVariants.{Sent, Received, Lost}
 use Rattle.can_mac.specs.declared.phase.Reading.{Reading}
 use Rattle.can_mac.specs.declared.phase.Role.{Role}
 use Rattle.can_mac.specs.declared.phase.Role.TheVariants.{Receiver, Sender}
-use Rattle.can_mac.specs.declared.phase.Phase.TheVariants.{Idle, StuffedPart, CrcDelimiter, AckSlot, AckDelimiter, EndOfFrame, Intermission}
+use Rattle.can_mac.specs.declared.phase.Phase.TheVariants.{Idle, StuffedPart, CrcDelimiter, AckSlot, AckDelimiter, EndOfFrame, Intermission, Suspend}
 use Rattle.can_mac.specs.State.{MacPhase, MacState, IsFrameOrNone}
 use Rattle.can_mac.specs.Moves.{in_arbitration}
 use Rattle.can_mac.specs.Machine.{mac_drives, mac_step}
@@ -135,20 +135,32 @@ pub record IsActive (c : ConfineParts) : Type 0 where
   pub tec : c.tec < 128
   pub rec : c.rec < 128
 
--- a controller that a frame finds idle and error active, and that asks for no overload frame
-pub record IsPoised (m : MacState) : Type 0 where
-  pub idle : m.phase ≡ Idle
-  pub active : IsActive m.counters
+-- with which frame a controller begins that a start of frame finds between frames: with the one that waits where it is
+-- idle, and with none in suspend transmission
+abbrev pub Begins : MacPhase → Option Parts → Option Parts → Type 0
+Begins phase waiting next = ((phase ≡ Idle) × (next ≡ waiting)) ⊎ ((place : ℕ) × ((phase ≡ Suspend place) × (next ≡ None)))
+
+-- a controller at which this frame waits, and that begins with this one: it is on the bus and between frames, and asks
+-- for no overload frame
+pub record IsPoised (m : MacState) (waiting next : Option Parts) : Type 0 where
+  pub begins : Begins m.phase waiting next
+  pub on_bus : is_bus_off m.counters ≡ false
   pub unasked : m.overloads.pending ≡ 0
 
--- the same controller behind a frame that it has sent or received, and the intermission: it is idle again
-abbrev pub behind_frame : Bool → MacState → MacState
-behind_frame sent m = record {
-  phase = Idle;
-  role = Receiver;
-  overloads = record { pending = m.overloads.pending; used = 0 };
-  counters = counted (if sent then FrameSent else FrameReceived) m.counters;
+-- [Suspend transmission] a controller behind intermission, with these counters: the sender of f waits where it is held
+-- back
+abbrev pub settled : Parts → Bool → ℕ → ConfineParts → MacState
+settled f held_back pending c = record {
+  phase = if held_back then Suspend 0 else Idle;
+  role = if held_back then Sender f else Receiver;
+  overloads = record { pending = pending; used = 0 };
+  counters = c;
 }
+
+-- a controller behind a frame that it has sent or received, and the intermission
+abbrev pub behind_frame : Parts → Bool → MacState → MacState
+behind_frame f true m = settled f (is_passive (counted FrameSent m.counters)) m.overloads.pending (counted FrameSent m.counters)
+behind_frame f false m = settled f false m.overloads.pending (counted FrameReceived m.counters)
 
 -- what waits is f, or comes behind it in arbitration
 abbrev pub GoesBehind : Parts → Option Parts → Type 0

@@ -4,7 +4,7 @@ ghost use Rattle.can_code.specs.Front.{FrontParts};
 ghost use Rattle.can_frame.specs.Parts.{Parts};
 ghost use Rattle.can_fault.specs.Counters.{counted, is_bus_off, is_passive as is_passive_by};
 ghost use Rattle.can_mac.specs.State.{idle as idle_state, IsMac, IsPhase, IsFrameOrNone, is_off_phase, joining as joining_state, starting};
-ghost use Rattle.can_mac.specs.Frames.{IsActive, IsPoised, behind_frame};
+ghost use Rattle.can_mac.specs.Frames.{IsPoised, behind_frame};
 ghost use Rattle.can_mac.specs.Moves.{move, move_keeping};
 ghost use Rattle.can_mac.specs.Machine.{holding, IsSilent, mac_drives, mac_step, off_step, on_step, stance as stance_of, step_counting};
 
@@ -14,7 +14,7 @@ use crate::event::Event;
 use crate::moves::shortcuts::{goes_on, goes_on_recessive, move_in_place};
 use crate::moves::{Hearing, MOST_OVERLOADS, Move, Stance, enter, next_move};
 use crate::phase::{Overloads, Phase, Role};
-use can_code::{CheckedBits, FrameBits, Front, PlainBits};
+use can_code::{CheckedBits, FrameBits, Front, PlainBits, Sending};
 use can_fault::{Cause, Confine, State};
 use can_frame::{Frame, Level};
 use std::marker::Model;
@@ -162,32 +162,43 @@ impl<B: FrameBits> MediumAccess<B> {
         goes_on_recessive(&self.role, &mut self.phase, seen)
     }
 
-    /// Whether it is idle and error active and asks for no overload frame, so that a frame that begins may pass it at
-    /// once.
+    /// With which frame it begins, if any, where a frame that begins may pass it at once: it is idle or in suspend
+    /// transmission, and asks for no overload frame. Where none may, it answers nothing. It begins with the frame that
+    /// waits, but in suspend transmission with none. (Bosch CAN 2.0 part B, sections 3.2.5 and 8)
     #[inline]
-    pub fn is_poised(&self) -> bool
-        ensures { IsTrue result → IsPoised self.now }
+    pub fn poised(&self, waiting: Option<&Frame>) -> Option<Option<Frame>>
+        ensures { IfSome result (λ next. IsPoised self.now (option_copied waiting.entry) next) }
     {
-        matches!(self.phase, Phase::Idle)
-            && self.overloads.pending == 0
-            && self.confine.state() == State::Active
+        if self.overloads.pending != 0 {
+            return None;
+        }
+        match self.phase {
+            Phase::Idle => Some(waiting.copied()),
+            Phase::Suspend { .. } => Some(None),
+            _ => None,
+        }
     }
 
     /// Passes a frame that it sends, or that it receives, from its start of frame to the end of intermission, at a
-    /// controller that a frame may pass at once: what is left of the frame is that it is counted.
+    /// controller that a frame may pass at once: what is left of the frame is that it is counted, and that a sender that
+    /// is error passive waits. (Bosch CAN 2.0 part B, section 8)
     #[inline]
-    pub fn pass(&mut self, sent: bool)
-        requires { IsPoised self.old }
-        ensures { self.new ≡ behind_frame sent self.old }
+    pub fn pass(&mut self, frame: &Frame, sent: bool)
+        requires { is_bus_off self.old.counters ≡ false }
+        ensures { self.new ≡ behind_frame frame.now sent self.old }
     {
-        self.confine.apply(if sent {
-            Cause::FrameSent
-        } else {
-            Cause::FrameReceived
-        });
         self.phase = Phase::Idle;
         self.role = Role::Receiver;
         self.overloads.used = 0;
+        if !sent {
+            self.confine.apply(Cause::FrameReceived);
+            return;
+        }
+        self.confine.apply(Cause::FrameSent);
+        if is_passive(&self.confine) {
+            self.phase = Phase::Suspend { place: 0 };
+            self.role = Role::Sender(Sending::new(frame));
+        }
     }
 
     /// Asks for `count` overload frames of its own, in place of what was asked for before. `false`

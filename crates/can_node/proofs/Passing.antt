@@ -1,38 +1,196 @@
--- A frame that passes a port at once: the port has sent it, or received it, and is idle again.
-use Rattle.std.proofs.Common.{◌≡◌, Bool, true, false, IsTrue, IsFalse, Option, Some, None, length, refl, sym, ◌∙◌, ap}
+-- A frame that passes a port at once: the port has sent it, or received it, and is between frames again.
+use Rattle.std.proofs.Common.{◌≡◌, ◌≢◌, ℕ, zero, suc, ◌+◌, ◌<◌, ◌≤◌, Bool, true, false, IsTrue, IsFalse, Option, Some, None, List, [], ◌∷◌, length, take, refl, sym, ◌∙◌, ap, subst, arith, inl, inr}
 use Rattle.std.specs.Prelude.{if◌then◌else◌}
+use Rattle.std.proofs.Math.Dec.{ltb}
+use Rattle.std.proofs.lemmas.Bool.{cases_lt, cond-false, le-ltb}
+use Rattle.std.proofs.lemmas.List.{take_all}
+use Rattle.can_frame.specs.declared.level.Level.{Level}
+use Rattle.can_frame.specs.declared.level.Level.TheVariants.{Recessive}
 use Rattle.can_frame.specs.Parts.{Parts, IsFrame}
 use Rattle.can_frame.specs.Arbitration.{arbitration_field, Before}
+use Rattle.can_wire.specs.Layout.{level_at}
+use Rattle.can_wire.specs.Wire.{stuffed_part}
+use Rattle.can_fault.specs.declared.cause.Cause.TheVariants.{FrameSent, FrameReceived}
+use Rattle.can_fault.specs.Counters.{ConfineParts, counted, is_passive}
+use Rattle.can_mac.specs.declared.event.Event.{Event}
 use Rattle.can_mac.specs.declared.event.Event.TheVariants.{Sent, Received}
-use Rattle.can_mac.specs.State.{IsFrameOrNone}
-use Rattle.can_mac.specs.Frames.{with_intermission, behind_frame, GoesBehind, IsPoised}
-use Rattle.can_node.specs.Ports.{PortState, waiting, port_noting, port_run}
-use Rattle.can_node.proofs.Arrivals.{GainingPort, alone, none, gaining_run-alone, gains-arrived_none}
-use Rattle.can_node.proofs.OneFrame.{Meets, at_mac, gaining_run-all, port_noting-at_mac}
-use Rattle.can_node.proofs.FrameLeaves.{ComesBehind, IsLeft, leaves, rested, sent-left, received-left}
+use Rattle.can_mac.specs.declared.phase.Role.{Role}
+use Rattle.can_mac.specs.declared.phase.Role.TheVariants.{Receiver, Sender}
+use Rattle.can_mac.specs.State.{MacState, IsFrameOrNone}
+use Rattle.can_mac.specs.Machine.{mac_drives, mac_step}
+use Rattle.can_mac.specs.Frames.{with_intermission, behind_part, role_at, frame_state, frame_event, frame_drives, end_event, behind_frame, settled, GoesBehind, IsPoised}
+use Rattle.can_mac.proofs.FrameDrives.{begins-drives, drives-frame}
+use Rattle.can_mac.proofs.FrameEnds.{end_levels, end_state, sender-settles}
+use Rattle.can_mac.proofs.FrameParts.{length-with_intermission, line-late}
+use Rattle.can_mac.proofs.FrameRoles.{role-own}
+use Rattle.can_mac.proofs.FrameRuns.{enters-frame, event-first}
+use Rattle.can_mac.proofs.FrameSteps.{Awake, event-early, state-late, step-next}
+use Rattle.can_node.specs.Ports.{PortState, waiting, port_drives, port_noting, port_run, port_step}
+use Rattle.can_node.proofs.OneFrame.{at_mac, port_noting-at_mac, step-port_noting}
+use Rattle.can_node.proofs.FrameLeaves.{ComesBehind, IsUnnoted, loss-unnoted, receiver-late, received-once, sent-once}
 
--- f begins there
-pub poised-meets : (f : Parts) (p : PortState) → IsFrame f → IsPoised p.mac → IsFrameOrNone (waiting p.queue) → GoesBehind f (waiting p.queue) → Meets f p
-poised-meets f p is poised kept behind = record {
-  start = record { frame = is; idle = poised.idle; active = poised.active; kept = kept; behind = behind };
-  unasked = poised.unasked;
-}
+-- f begins at a port, which begins with this frame: with f, or with one that comes behind it, or with none
+pub record Enters (f : Parts) (p : PortState) (next : Option Parts) : Type 0 where
+  pub frame : IsFrame f
+  pub poised : IsPoised p.mac (waiting p.queue) next
+  pub kept : IsFrameOrNone next
+  pub behind : GoesBehind f next
 
-left : (f : Parts) (p : PortState) → Meets f p → (by : IsLeft f p) → port_run p (with_intermission f) ≡ port_noting by.told (at_mac (rested by.cause p.mac) p)
-left f p meets by =
-    ap (λ (g : GainingPort). g.port) (sym (gaining_run-alone p (with_intermission f)) ∙ gaining_run-all f (alone p) meets)
-    ∙ leaves f p none meets by
-    ∙ gains-arrived_none (length (with_intermission f)) (at_mac (rested by.cause p.mac) (port_noting by.told p))
-    ∙ sym (port_noting-at_mac by.told (rested by.cause p.mac) p)
+-- queue and log as bit time o of f begins
+abbrev pub noted : Parts → Option Parts → PortState → ℕ → PortState
+noted f next p zero = p
+noted f next p (suc o) = port_noting (frame_event f next o) (noted f next p o)
+
+-- the port then
+abbrev pub going : Parts → Option Parts → PortState → ℕ → PortState
+going f next p zero = p
+going f next p (suc o) = at_mac (frame_state f next p.mac.overloads.pending p.mac.counters (suc o)) (noted f next p (suc o))
+
+-- ---- runs
+
+-- a run through known states
+port_run-through : (levels : List Level) (s : ℕ → PortState) (t : ℕ) → t ≤ length levels → ((o : ℕ) → o < t → port_step (s o) (level_at levels o) ≡ s (suc o)) → port_run (s 0) (take t levels) ≡ s t
+unfolding port_run
+port_run-through [] s zero within each = refl
+port_run-through [] s (suc t) within each = absurd (omega (arith, within))
+port_run-through (x ∷ levels) s zero within each = refl
+port_run-through (x ∷ levels) s (suc t) within each =
+    ap (λ q. port_run q (take t levels)) (each 0 (omega arith))
+    ∙ port_run-through levels (λ o. s (suc o)) t (omega (arith, within)) (λ o less. each (suc o) (omega (arith, less)))
+
+-- one level more
+pub port_run-taken : (levels : List Level) (p : PortState) (o : ℕ) → o < length levels → port_run p (take (suc o) levels) ≡ port_step (port_run p (take o levels)) (level_at levels o)
+unfolding port_run
+port_run-taken [] p o within = absurd (omega (arith, within))
+port_run-taken (x ∷ []) p zero within = refl
+port_run-taken (x ∷ (y ∷ levels)) p zero within = refl
+port_run-taken (x ∷ levels) p (suc o) within = port_run-taken levels (port_step p x) o (omega (arith, within))
+
+module _ (f : Parts) (p : PortState) (next : Option Parts) (enters : Enters f p next) where
+  abbrev pending : ℕ
+  pending = p.mac.overloads.pending
+
+  abbrev c : ConfineParts
+  c = p.mac.counters
+
+  abbrev state : ℕ → MacState
+  state o = frame_state f next pending c o
+
+  goes-on : (o : ℕ) → o < length (with_intermission f) → Awake f next p.mac.counters o → port_step (going f next p o) (level_at (with_intermission f) o) ≡ going f next p (suc o)
+  goes-on zero within awake =
+      let step = enters-frame f enters.frame p.mac (waiting p.queue) next enters.poised.begins in
+      step-port_noting p (level_at (with_intermission f) 0) (state 1) (frame_event f next 0) (ap (λ r. r.0) step) (ap (λ r. r.1) step ∙ sym (event-first f enters.frame next))
+      ∙ port_noting-at_mac (frame_event f next 0) (state 1) p
+  goes-on (suc o) within awake =
+      let before = noted f next p (suc o) in
+      let one_more : suc o + 1 ≡ suc (suc o) = omega arith in
+      let step = step-next f enters.frame next pending c enters.kept enters.behind enters.poised.on_bus (waiting before.queue) (suc o) (omega arith) within (λ past. enters.poised.unasked) awake in
+      step-port_noting (going f next p (suc o)) (level_at (with_intermission f) (suc o)) (state (suc (suc o))) (frame_event f next (suc o)) (ap (λ r. r.0) step ∙ ap state one_more) (ap (λ r. r.1) step)
+      ∙ port_noting-at_mac (frame_event f next (suc o)) (state (suc (suc o))) before
+
+  -- after the first o levels
+  runs : (o : ℕ) → o ≤ length (with_intermission f) → ((k : ℕ) → k < o → Awake f next p.mac.counters k) → port_run p (take o (with_intermission f)) ≡ going f next p o
+  runs o within awake = port_run-through (with_intermission f) (going f next p) o within (λ k less. goes-on k (omega (arith, less, within)) (awake k less))
+
+  early-awake : (o : ℕ) → o < length (with_intermission f) → (k : ℕ) → k < o → Awake f next p.mac.counters k
+  early-awake o within k less last sends = absurd (omega (arith, within, less, last))
+
+  pub runs-early : (o : ℕ) → o < length (with_intermission f) → port_run p (take o (with_intermission f)) ≡ going f next p o
+  runs-early o within = runs o (omega (arith, within)) (early-awake o within)
+
+  -- in each bit time the port drives what is to be driven
+  pub run-drives : (o : ℕ) → o < length (with_intermission f) → port_drives (port_run p (take o (with_intermission f))) ≡ frame_drives f next o
+  unfolding port_drives
+  run-drives zero within = ap port_drives (runs-early 0 within) ∙ begins-drives f p.mac (waiting p.queue) next enters.poised.begins
+  run-drives (suc o) within =
+      ap port_drives (runs-early (suc o) within)
+      ∙ drives-frame f enters.frame next enters.kept enters.behind pending c (waiting (noted f next p (suc o)).queue) (suc o) (omega arith) within
+
+  -- ---- what is noted
+
+  abbrev n : ℕ
+  n = length (stuffed_part f)
+
+  last : length (with_intermission f) ≡ suc (n + 12)
+  last = length-with_intermission f ∙ (let e : n + 13 ≡ suc (n + 12) = omega arith in e)
+
+  -- behind the stuffed part the port has this role, and one level tells this, and no other
+  module _ (role : Role) (keeps : (o : ℕ) → length (stuffed_part f) ≤ o → role_at f next o ≡ role) (place : ℕ) (elsewhere : (k : ℕ) → k ≢ place → end_event f role k ≡ None) where
+    late : (o : ℕ) → n ≤ o → frame_event f next o ≡ end_event f role (behind_part f o)
+    late o past = cond-false (ltb o n) _ _ (le-ltb o n past) ∙ ap (λ r. end_event f r (behind_part f o)) (keeps o past)
+
+    unnoted : (o : ℕ) → o ≢ n + place → IsUnnoted (frame_event f next o)
+    unnoted o other q = elim (cases_lt o n) [
+      | inl more ↦ ap (λ e. port_noting e q) (event-early f next o more) ∙ loss-unnoted (role_at f next o) (role_at f next (o + 1)) q
+      | inr past ↦ ap (λ e. port_noting e q) (late o past ∙ elsewhere (behind_part f o) (λ e. other (omega (arith, e, past))))
+    ]
+
+    noted-before : (o : ℕ) → o ≤ n + place → noted f next p o ≡ p
+    noted-before zero within = refl
+    noted-before (suc o) within = unnoted o (λ e. omega (arith, e, within)) (noted f next p o) ∙ noted-before o (omega (arith, within))
+
+    noted-behind : (o : ℕ) → n + place < o → noted f next p o ≡ port_noting (end_event f role place) p
+    noted-behind zero past = absurd (omega (arith, past))
+    noted-behind (suc o) past = elim (cases_lt (n + place) o) [
+      | inl more ↦ unnoted o (λ e. omega (arith, e, more)) (noted f next p o) ∙ noted-behind o more
+      | inr there ↦
+          let here : behind_part f o ≡ place = omega (arith, past, there) in
+          ap (λ e. port_noting e (noted f next p o)) (late o (omega (arith, past, there)) ∙ ap (end_event f role) here)
+          ∙ ap (port_noting (end_event f role place)) (noted-before o (omega (arith, there)))
+    ]
+
+    state-in-end : (k o : ℕ) → o ≡ n + k → frame_state f next pending c o ≡ end_state f role pending c k
+    state-in-end k o at =
+        let past : n ≤ o = omega (arith, at) in
+        let here : behind_part f o ≡ k = omega (arith, at) in
+        state-late f enters.frame next pending c o past ∙ ap (λ r. end_state f r pending c (behind_part f o)) (keeps o past) ∙ ap (end_state f role pending c) here
+
+  -- ---- all of f
+
+  whole : take (suc (n + 12)) (with_intermission f) ≡ with_intermission f
+  whole = take_all (suc (n + 12)) (with_intermission f) (omega (arith, last))
+
+  receives : ComesBehind f next → port_run p (with_intermission f) ≡ port_noting (Some (Received f)) (at_mac (behind_frame f false p.mac) p)
+  receives other =
+      let keeps = receiver-late f next enters.frame enters.kept other in
+      ap (port_run p) (sym whole)
+      ∙ runs (suc (n + 12)) (omega (arith, last)) (λ k less end sends. absurd (let r = keeps k (omega (arith, end, last)) in let e : Receiver ≡ Sender f = sym r ∙ sends in cc))
+      ∙ ap (λ m. at_mac m (noted f next p (suc (n + 12)))) (state-in-end Receiver keeps 8 (received-once f) 13 (suc (n + 12)) (omega arith))
+      ∙ ap (at_mac (behind_frame f false p.mac)) (noted-behind Receiver keeps 8 (received-once f) (suc (n + 12)) (omega arith))
+      ∙ sym (port_noting-at_mac (Some (Received f)) (behind_frame f false p.mac) p)
+
+  sends : next ≡ Some f → port_run p (with_intermission f) ≡ port_noting (Some (Sent f)) (at_mac (behind_frame f true p.mac) p)
+  sends own =
+      let keeps : (o : ℕ) → n ≤ o → role_at f next o ≡ Sender f = λ o past. ap (λ w. role_at f w o) own ∙ role-own f o in
+      let q = noted f next p (n + 12) in
+      let before : going f next p (n + 12) ≡ at_mac (end_state f (Sender f) pending c 12) q =
+      going-late (n + 12) (omega arith) ∙ ap (λ m. at_mac m q) (state-in-end (Sender f) keeps 9 (sent-once f) 12 (n + 12) (omega arith)) in
+      let step = sender-settles f c enters.poised.on_bus (waiting q.queue) pending in
+      ap (port_run p) (sym whole)
+      ∙ port_run-taken (with_intermission f) p (n + 12) (omega (arith, last))
+      ∙ ap (λ r. port_step r (level_at (with_intermission f) (n + 12))) (runs-early (n + 12) (omega (arith, last)) ∙ before)
+      ∙ ap (port_step (at_mac (end_state f (Sender f) pending c 12) q)) (line-late f (n + 12) (omega arith) ∙ ap (level_at end_levels) (let e : behind_part f (n + 12) ≡ 12 = omega arith in e))
+      ∙ step-port_noting (at_mac (end_state f (Sender f) pending c 12) q) Recessive (behind_frame f true p.mac) None (ap (λ r. r.0) step) (ap (λ r. r.1) step)
+      ∙ ap (at_mac (behind_frame f true p.mac)) (noted-behind (Sender f) keeps 9 (sent-once f) (n + 12) (omega arith))
+      ∙ sym (port_noting-at_mac (Some (Sent f)) (behind_frame f true p.mac) p)
+    where
+      going-late : (o : ℕ) → 0 < o → going f next p o ≡ at_mac (frame_state f next pending c o) (noted f next p o)
+      going-late zero some = absurd (omega (arith, some))
+      going-late (suc o) some = refl
+
+  -- what f leaves, where the port has sent it, and where it hasn't
+  pub passed : (sent : Bool) → (IsTrue sent → next ≡ Some f) → (IsFalse sent → ComesBehind f next)
+      → port_run p (with_intermission f) ≡ port_noting (Some (if sent then Sent f else Received f)) (at_mac (behind_frame f sent p.mac) p)
+  passed true own other = sends (own refl)
+  passed false own other = receives (other refl)
 
 pub comes-behind : (f : Parts) (w : Option Parts) → ((g : Parts) → w ≡ Some g → Before (arbitration_field f) (arbitration_field g)) → ComesBehind f w
 comes-behind f None each = tt
 comes-behind f (Some g) each = each g refl
 
--- what it leaves, where it is the frame that waits, and where it isn't
-pub passed : (f : Parts) (p : PortState) → Meets f p → (sent : Bool) → (IsTrue sent → waiting p.queue ≡ Some f)
-    → (IsFalse sent → (g : Parts) → waiting p.queue ≡ Some g → Before (arbitration_field f) (arbitration_field g))
-    → port_run p (with_intermission f) ≡ port_noting (Some (if sent then Sent f else Received f)) (at_mac (behind_frame sent p.mac) p)
-unfolding sent-left received-left
-passed f p meets true own other = left f p meets (sent-left f p (own refl))
-passed f p meets false own other = left f p meets (received-left f p meets.start.frame meets.start.kept (comes-behind f (waiting p.queue) (other refl)))
+-- what a port begins with is a frame, as what waits is
+pub begins-kept : (p : PortState) (next : Option Parts) → IsPoised p.mac (waiting p.queue) next → IsFrameOrNone (waiting p.queue) → IsFrameOrNone next
+begins-kept p next poised kept = elim poised.begins [
+  | inl idle ↦ subst IsFrameOrNone (sym idle.1) kept
+  | inr suspended ↦ subst IsFrameOrNone (sym suspended.1.1) tt
+]

@@ -2,6 +2,7 @@
 pub mod Ports
 pub mod Waiting
 pub mod Listening
+pub mod Passing
 -- For proofs and for models only
 pub mod MacProps
 pub mod Tournament

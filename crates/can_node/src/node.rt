@@ -1,10 +1,12 @@
-ghost use Rattle.std.specs.Prelude.{◌≡◌, Some, IfOk, IsOk, IsTrue, IsFalse};
+ghost use Rattle.std.specs.Prelude.{◌≡◌, Some, IfOk, IsOk, IsTrue, IsFalse, Option};
 ghost use Rattle.std.specs.Option.{option_copied};
 ghost use Rattle.can_frame.specs.Arbitration.{Before, arbitration_field};
 ghost use Rattle.can_frame.specs.Parts.{Parts};
-ghost use Rattle.can_mac.specs.Frames.{GoesBehind};
+ghost use Rattle.can_mac.specs.Frames.{GoesBehind, IsPoised};
 ghost use Rattle.can_mac.specs.State.{IsMac};
 ghost use Rattle.can_node.specs.MacProps.{IsMac-prop};
+ghost use Rattle.can_node.specs.Ports.{waiting};
+ghost use Rattle.can_node.specs.Tournament.{frames_in};
 
 use crate::entry::Entry;
 use crate::log::Log;
@@ -119,6 +121,16 @@ impl<B: FrameBits> Node<B> {
         &self.mac
     }
 
+    /// The frame with which the port begins, where one that begins may pass it at once.
+    fn next(&self) -> Option<&Frame>
+        ensures { (next : Option Parts) → IsPoised self.now.mac (waiting (frames_in self.now.queue.slots.items)) next → option_copied result ≡ next }
+    {
+        match self.mac.phase() {
+            Phase::Suspend { .. } => None,
+            _ => self.queue.waiting(),
+        }
+    }
+
     /// What a frame that was sent, or received, makes of queue and log.
     fn note_passed(&mut self, frame: &Frame, sent: bool)
         ensures { ⟦<Node<B> as Port>⟧.port self.new ≡ port_noting (Some (if sent then Sent frame.now else Received frame.now)) (⟦<Node<B> as Port>⟧.port self.old) }
@@ -195,17 +207,13 @@ impl<B: FrameBits> Port for Node<B> {
 
     #[inline]
     fn poised(&self) -> Option<Option<Frame>> {
-        if self.mac.is_poised() {
-            Some(self.queue.waiting().copied())
-        } else {
-            None
-        }
+        self.mac.poised(self.queue.waiting())
     }
 
     #[inline]
     fn pass(&mut self, frame: &Frame, _levels: &[Level]) {
-        let sent = sends(self.queue.waiting(), frame);
-        self.mac.pass(sent);
+        let sent = sends(self.next(), frame);
+        self.mac.pass(frame, sent);
         self.note_passed(frame, sent);
     }
 
@@ -234,13 +242,13 @@ impl<B: FrameBits> Port for Node<B> {
     }
 }
 
-/// Whether a frame that passes is the one that waits; else it goes before that.
-fn sends(waiting: Option<&Frame>, frame: &Frame) -> bool
-    requires { GoesBehind frame.now (option_copied waiting) }
-    ensures own { IsTrue result → option_copied waiting.entry ≡ Some frame.now }
-    ensures other { IsFalse result → (f : Parts) → option_copied waiting.entry ≡ Some f → Before (arbitration_field frame.now) (arbitration_field f) }
+/// Whether a frame that passes is the one with which a port begins; else it goes before that.
+fn sends(next: Option<&Frame>, frame: &Frame) -> bool
+    requires { GoesBehind frame.now (option_copied next) }
+    ensures own { IsTrue result → option_copied next.entry ≡ Some frame.now }
+    ensures other { IsFalse result → (f : Parts) → option_copied next.entry ≡ Some f → Before (arbitration_field frame.now) (arbitration_field f) }
 {
-    match waiting {
+    match next {
         Some(own) => own.key() == frame.key(),
         None => false,
     }

@@ -2,8 +2,9 @@ ghost use Rattle.std.specs.Prelude.{◌≡◌, ◌<◌, ◌≤◌, ◌↔◌, le
 ghost use Rattle.can_fault.specs.Counters.{state_of};
 ghost use Rattle.can_frame.specs.declared.level.Level.TheVariants.{Recessive};
 ghost use Rattle.can_frame.specs.Parts.{IsFrame};
-ghost use Rattle.can_mac.specs.Frames.{GoesBehind, IsPoised, with_intermission};
+ghost use Rattle.can_mac.specs.Frames.{IsPoised, with_intermission};
 ghost use Rattle.can_mac.specs.Machine.{IsSilent};
+ghost use Rattle.can_node.specs.Passing.{LetsPass};
 ghost use Rattle.can_node.specs.Ports.{PortState, IsAtRest, IsPort, port_offered, port_drives, port_event, port_holding, port_run, port_step, waiting};
 
 use crate::entry::Entry;
@@ -42,22 +43,21 @@ pub trait Port {
         ensures recessive { IsTrue result → port_drives (port self.now) ≡ Recessive }
         ensures unchanged { IsTrue result → port_step (port self.now) Recessive ≡ port self.now };
 
-    /// The frame that waits, or none, where a frame that begins may pass the port at once: its controller is idle and
-    /// error active and asks for no overload frame. A port that is never passed at once answers nothing.
+    /// The frame with which the port begins, or none, where a frame that begins may pass the port at once: its controller
+    /// is idle or in suspend transmission, and asks for no overload frame. It begins with the frame that waits, but in
+    /// suspend transmission with none. A port that is never passed at once answers nothing.
     fn poised(&self) -> Option<Option<Frame>>
-        ensures poised { IfSome result (λ next. IsPoised (port self.now).mac) }
-        ensures next { IfSome result (λ next. next ≡ waiting (port self.now).queue) }
+        ensures { IfSome result (λ next. IsPoised (port self.now).mac (waiting (port self.now).queue) next) }
     {
         None
     }
 
     /// Samples the levels of a frame, and of the intermission behind it, where the frame may pass the port at once, and
-    /// none waits there that goes before it.
+    /// the port begins with none that goes before it.
     fn pass(&mut self, frame: &Frame, levels: &[Level])
         requires whole { IsFrame frame.now }
         requires levels { levels.now ≡ with_intermission frame.now }
-        requires poised { IsPoised (port self.old).mac }
-        requires behind { GoesBehind frame.now (waiting (port self.old).queue) }
+        requires passes { LetsPass frame.now (port self.old) }
         ensures { port self.new ≡ port_run (port self.old) levels.now }
     {
         for level in levels {

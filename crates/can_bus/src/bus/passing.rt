@@ -1,6 +1,7 @@
-//! A frame that passes a bus at once: where all ports are idle and error active and ask for no overload frame, one
-//! frame goes before all others that wait, and no hit falls, its levels and what it leaves are known as it begins. What
-//! is offered meanwhile to other ports than the sender's waits behind it, so it may as well be offered behind it.
+//! A frame that passes a bus at once: where all ports are idle or in suspend transmission and ask for no overload frame,
+//! one frame goes before all others with which they begin, and no hit falls, its levels and what it leaves are known as
+//! it begins. What is offered meanwhile to other ports than the sender's waits behind it, so it may as well be offered
+//! behind it.
 ghost use Rattle.std.specs.Prelude.{ℕ, ◌≡◌, ◌≢◌, ◌+◌, ◌-◌, ◌++◌, ◌<◌, ◌≤◌, ◌^◌, length, map, take, slice_get, slice_index_or, IfSome, IsNone, IsTrue, Some};
 ghost use Rattle.can_frame.specs.Arbitration.{Before, arbitration_field};
 ghost use Rattle.can_frame.specs.Parts.{IsFrame, Parts};
@@ -224,7 +225,7 @@ fn first_frame<P: Port>(ports: &[P]) -> Option<Passing>
     }
 }
 
-/// The frame that waits at a port that it may pass at once.
+/// The frame with which a port begins that it may pass at once.
 #[inline(always)]
 fn own_frame<P: Port>(port: &P) -> Option<Frame>
     ensures { IfSome result (λ frame. PassesFrom frame (P.port port.now)) }
@@ -235,7 +236,7 @@ fn own_frame<P: Port>(port: &P) -> Option<Frame>
     }
 }
 
-/// A port at which a frame waits.
+/// A port that begins with a frame.
 #[derive(Clone, Copy)]
 struct Contender {
     place: usize,
@@ -243,8 +244,7 @@ struct Contender {
     key: Key,
 }
 
-/// The place of the port at which a frame waits that goes before all others that wait, if a frame may pass all ports at
-/// once.
+/// The place of the port that begins with a frame that goes before all others, if a frame may pass all ports at once.
 fn first_place<P: Port>(ports: &[P]) -> Option<usize> {
     let mut first: Option<Contender> = None;
     for (place, port) in ports.iter().enumerate() {

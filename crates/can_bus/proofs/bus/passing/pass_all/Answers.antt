@@ -1,23 +1,17 @@
 use Rattle.std.proofs.Common.{map, arith, ◌∙◌}
 use Rattle.std.proofs.lemmas.List.{length-map}
+use Rattle.can_node.specs.Passing.{LetsPass}
 use Rattle.can_node.specs.Ports.{port_run}
-use Rattle.can_bus.proofs.PassedFrames.{LetsPass, bus-lets, holds-next}
+use Rattle.can_bus.proofs.PassedFrames.{bus-lets, holds-next}
 use Rattle.can_bus.proofs.PortLoops.{front_at_more, front_at_each}
 use Rattle.can_bus.proofs.bus.passing.pass_all.Goals as goal
 
-pub pass-requires-clause-poised : goal.pass-requires-clause-poised
-pass-requires-clause-poised g c =
+pub pass-requires-clause-passes : goal.pass-requires-clause-passes
+pass-requires-clause-passes g c =
     let f = c.args.frame.now in
     let S = g.P.Port.port in
-    (holds-next (LetsPass f) S (λ n p. port_run p c.args.levels.now) 0 c.loop-port.port-index c.loop-port.ports (map S c.args.ports.now) c.port-item.result
-    (bus-lets f (map S c.args.ports.now) c.requires.passes) c.loop-port.invariant (omega arith)).0
-
-pub pass-requires-clause-behind : goal.pass-requires-clause-behind
-pass-requires-clause-behind g c =
-    let f = c.args.frame.now in
-    let S = g.P.Port.port in
-    (holds-next (LetsPass f) S (λ n p. port_run p c.args.levels.now) 0 c.loop-port.port-index c.loop-port.ports (map S c.args.ports.now) c.port-item.result
-    (bus-lets f (map S c.args.ports.now) c.requires.passes) c.loop-port.invariant (omega arith)).1
+    holds-next (LetsPass f) S (λ n p. port_run p c.args.levels.now) 0 c.loop-port.port-index c.loop-port.ports (map S c.args.ports.now) c.port-item.result
+    (bus-lets f (map S c.args.ports.now) c.requires.passes) c.loop-port.invariant (omega arith)
 
 pub loop-port-preserved : goal.loop-port-preserved
 loop-port-preserved g c =

@@ -1,10 +1,10 @@
 -- A port that goes through a frame, whatever is offered to it meanwhile.
 use Rattle.std.specs.Prelude.{nat_lt}
-use Rattle.std.proofs.Common.{◌≡◌, ℕ, suc, ◌+◌, ◌<◌, ◌≤◌, false, Option, Some, None, List, [], ◌∷◌, length, take, refl, sym, ap, subst, ◌∙◌, inl, inr}
+use Rattle.std.proofs.Common.{◌≡◌, ℕ, suc, ◌+◌, ◌<◌, ◌≤◌, false, Option, Some, None, List, [], ◌∷◌, length, take, refl, sym, ap, subst, ◌∙◌, arith, inl, inr}
 use Rattle.std.proofs.Math.Dec.{ltb, eqb}
 use Rattle.std.proofs.lemmas.Bool.{cases_Bool, cases_lt, cond-false, cond-true, cond_both, le-ltb}
 use Rattle.can_frame.specs.Parts.{Parts, IsFrame}
-use Rattle.can_fault.specs.Counters.{ConfineParts}
+use Rattle.can_fault.specs.Counters.{ConfineParts, is_bus_off}
 use Rattle.can_wire.specs.Layout.{level_at}
 use Rattle.can_wire.specs.Wire.{stuffed_part}
 use Rattle.can_mac.specs.declared.event.Event.{Event}
@@ -13,14 +13,16 @@ use Rattle.can_mac.specs.declared.phase.Role.{Role}
 use Rattle.can_mac.specs.declared.phase.Role.TheVariants.{Receiver, Sender}
 use Rattle.can_mac.specs.State.{IsFrameOrNone}
 use Rattle.can_mac.specs.Machine.{mac_drives, mac_step}
-use Rattle.can_mac.specs.Frames.{with_intermission, behind_part, role_at, frame_state, frame_event, frame_drives, loss, end_event, IsActive, GoesBehind}
+use Rattle.can_mac.specs.Frames.{with_intermission, behind_part, role_at, frame_state, frame_event, frame_drives, loss, end_event, GoesBehind}
 use Rattle.can_mac.proofs.FrameDrives.{drives-frame}
-use Rattle.can_mac.proofs.FrameSteps.{event-early, step-next}
+use Rattle.can_mac.proofs.FrameParts.{length-with_intermission}
+use Rattle.can_mac.proofs.FrameSteps.{Awake, event-early, step-next}
 use Rattle.can_node.specs.declared.entry.Entry.{Entry}
 use Rattle.can_node.specs.Ports.{PortState, waiting, port_drives, port_logging, port_noting, port_offered, port_run, port_step, with_offer}
-use Rattle.can_node.proofs.Arrivals.{GainingPort, alone, gains, gaining_run-alone, none, port_logging-gains}
-use Rattle.can_node.proofs.OneFrame.{Meets, at_mac, gaining_run-at, port_at, port_noting-at_mac, step-port_noting}
+use Rattle.can_node.proofs.Arrivals.{gains, port_logging-gains}
+use Rattle.can_node.proofs.OneFrame.{at_mac, port_noting-at_mac, step-port_noting}
 use Rattle.can_node.proofs.FrameLeaves.{ComesBehind, receiver-late}
+use Rattle.can_node.proofs.Passing.{Enters, runs-early}
 
 -- a port that goes through f, as bit time o of f begins
 pub record Rides (f : Parts) (o : ℕ) (q : PortState) : Type 0 where
@@ -28,7 +30,7 @@ pub record Rides (f : Parts) (o : ℕ) (q : PortState) : Type 0 where
   pub counters : ConfineParts
   pub kept : IsFrameOrNone waits
   pub behind : GoesBehind f waits
-  pub active : IsActive counters
+  pub on_bus : is_bus_off counters ≡ false
   pub mac : q.mac ≡ frame_state f waits 0 counters o
 
 -- what is noted keeps the controller
@@ -95,10 +97,11 @@ receiver-unsent f w is kept other o = elim (cases_lt o (length (stuffed_part f))
 -- ---- bit time by bit time
 
 module _ (f : Parts) (is : IsFrame f) (o : ℕ) (some : 0 < o) (within : o < length (with_intermission f)) where
-  rides-outcome : (q : PortState) (r : Rides f o q) → port_step q (level_at (with_intermission f) o) ≡ port_noting (frame_event f r.waits o) (at_mac (frame_state f r.waits 0 r.counters (o + 1)) q)
-  rides-outcome q r =
+  rides-outcome : (q : PortState) (r : Rides f o q) → ComesBehind f r.waits → port_step q (level_at (with_intermission f) o) ≡ port_noting (frame_event f r.waits o) (at_mac (frame_state f r.waits 0 r.counters (o + 1)) q)
+  rides-outcome q r other =
       let x = level_at (with_intermission f) o in
-      let step = step-next f is r.waits 0 r.counters r.kept r.behind r.active (waiting q.queue) o some within (λ past. refl) in
+      let awake : Awake f r.waits r.counters o = λ end sends. absurd (let role = receiver-late f r.waits is r.kept other o (omega (arith, end, length-with_intermission f)) in let e : Receiver ≡ Sender f = sym role ∙ sends in cc) in
+      let step = step-next f is r.waits 0 r.counters r.kept r.behind r.on_bus (waiting q.queue) o some within (λ past. refl) awake in
       step-port_noting q x (frame_state f r.waits 0 r.counters (o + 1)) (frame_event f r.waits o)
       (ap (λ m. (mac_step m (waiting q.queue) x).0) r.mac ∙ ap (λ p. p.0) step)
       (ap (λ m. (mac_step m (waiting q.queue) x).1) r.mac ∙ ap (λ p. p.1) step)
@@ -122,7 +125,7 @@ module _ (f : Parts) (is : IsFrame f) (o : ℕ) (some : 0 < o) (within : o < len
     pub rides-queue : SameQueue (port_step q (level_at (with_intermission f) o)) q
     rides-queue =
         let same = unsent-queue event unsent (at_mac (frame_state f r.waits 0 r.counters (o + 1)) q) in
-        record { queue = ap (λ (p : PortState). p.queue) (rides-outcome q r) ∙ same.queue; room = ap (λ (p : PortState). p.queue_room) (rides-outcome q r) ∙ same.room }
+        record { queue = ap (λ (p : PortState). p.queue) (rides-outcome q r other) ∙ same.queue; room = ap (λ (p : PortState). p.queue_room) (rides-outcome q r other) ∙ same.room }
 
     -- what is offered before the bit time may as well be offered behind it
     pub rides-offered : (g : Parts) → port_step (with_offer g q) (level_at (with_intermission f) o) ≡ with_offer g (port_step q (level_at (with_intermission f) o))
@@ -130,8 +133,8 @@ module _ (f : Parts) (is : IsFrame f) (o : ℕ) (some : 0 < o) (within : o < len
         let x = level_at (with_intermission f) o in
         let state = frame_state f r.waits 0 r.counters (o + 1) in
         let more : port_step (port_offered g q) x ≡ port_offered g after =
-        rides-outcome (port_offered g q) (record { waits = r.waits; counters = r.counters; kept = r.kept; behind = r.behind; active = r.active; mac = r.mac })
-        ∙ unsent-gains event unsent (g ∷ []) (at_mac state q) ∙ ap (port_offered g) (sym (rides-outcome q r)) in
+        rides-outcome (port_offered g q) (record { waits = r.waits; counters = r.counters; kept = r.kept; behind = r.behind; on_bus = r.on_bus; mac = r.mac }) other
+        ∙ unsent-gains event unsent (g ∷ []) (at_mac state q) ∙ ap (port_offered g) (sym (rides-outcome q r other)) in
         let same : nat_lt (length after.queue) after.queue_room ≡ nat_lt (length q.queue) q.queue_room =
         ap (λ l. nat_lt (length l) after.queue_room) rides-queue.queue ∙ ap (nat_lt (length q.queue)) rides-queue.room in
         elim (cases_Bool (nat_lt (length q.queue) q.queue_room)) [
@@ -149,10 +152,8 @@ offered-mac g q = cond_both {A = PortState} (nat_lt (length q.queue) q.queue_roo
 
 -- ---- from its start of frame on
 
-module _ (f : Parts) (p : PortState) (meets : Meets f p) where
-  run-at : (o : ℕ) → o ≤ length (with_intermission f) → port_run p (take o (with_intermission f)) ≡ port_at f p none o
-  run-at o within = ap (λ (g : GainingPort). g.port) (sym (gaining_run-alone p (take o (with_intermission f))) ∙ gaining_run-at f (alone p) meets o within)
-
-  pub run-rides : (o : ℕ) → suc o ≤ length (with_intermission f) → (port_run p (take (suc o) (with_intermission f))).mac ≡ frame_state f (waiting p.queue) 0 p.mac.counters (suc o)
-  run-rides o within =
-      ap (λ (q : PortState). q.mac) (run-at (suc o) within) ∙ ap (λ n. frame_state f (waiting p.queue) n p.mac.counters (suc o)) meets.unasked
+-- the controller of a port with which f begins, behind some levels of it
+pub run-rides : (f : Parts) (p : PortState) (next : Option Parts) → Enters f p next → (o : ℕ) → suc o < length (with_intermission f) →
+    (port_run p (take (suc o) (with_intermission f))).mac ≡ frame_state f next 0 p.mac.counters (suc o)
+run-rides f p next enters o within =
+    ap (λ (q : PortState). q.mac) (runs-early f p next enters (suc o) within) ∙ ap (λ n. frame_state f next n p.mac.counters (suc o)) enters.poised.unasked
