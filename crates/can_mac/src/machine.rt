@@ -19,6 +19,9 @@ use can_fault::{Cause, Confine, State};
 use can_frame::{Frame, Level};
 use std::marker::Model;
 
+/// With the next occurrence of eleven recessive levels bus off ends.
+const LAST_OCCURRENCE: u8 = 127;
+
 /// A controller's medium access, one bit time after another: what it drives, and what the level makes
 /// of it that it samples. (Bosch CAN 2.0 part B, sections 3.2 and 7) `B` holds the unstuffed levels of
 /// the frame on the bus.
@@ -159,7 +162,26 @@ impl<B: FrameBits> MediumAccess<B> {
         ensures unchanged { IsFalse result → self.new ≡ self.old }
         ensures kept { IsMac self.new }
     {
-        goes_on_recessive(&self.role, &mut self.phase, seen)
+        goes_on_recessive(&self.role, &mut self.phase, seen) || self.stays_off(seen)
+    }
+
+    /// Takes a level off the bus, unless bus off may end soon, which [`MediumAccess::sample`] looks at. It answers whether
+    /// it took it; else nothing changes. It stands apart, since few levels are sampled off the bus.
+    #[tactic(auto, unfolding(crate::specs::Machine::mac_step, crate::specs::Machine::mac_drives))]
+    #[inline(never)]
+    fn stays_off(&mut self, seen: Level) -> bool
+        ensures taken { IsTrue result → (waiting : Option Parts) → mac_step self.old waiting seen ≡ (self.new, None) }
+        ensures recessive { IsTrue result → (waiting : Option Parts) → mac_drives self.new waiting ≡ Level.Recessive }
+        ensures unchanged { IsFalse result → self.new ≡ self.old }
+        ensures kept { IsMac self.new }
+    {
+        match self.phase {
+            Phase::BusOff if self.confine.occurrences() < LAST_OCCURRENCE => {
+                let _ = self.confine.recover(seen);
+                true
+            }
+            _ => false,
+        }
     }
 
     /// With which frame it begins, if any, where a frame that begins may pass it at once: it is idle or in suspend

@@ -14,7 +14,7 @@ use can_frame::Level;
 pub(crate) const LAST_OF_FLAG: u8 = 5;
 
 /// How many equal levels in a row complete a passive error flag.
-const PASSIVE_FLAG_LENGTH: u8 = 6;
+pub(crate) const PASSIVE_FLAG_LENGTH: u8 = 6;
 
 /// Behind a flag each eighth dominant level in a row is counted.
 const LAST_OF_DOMINANT_RUN: u8 = 7;

@@ -28,7 +28,7 @@ use crate::moves::between_frames::{
     LAST_OF_INTERMISSION, LAST_OF_JOINING, LAST_OF_SUSPEND, role_in_next,
 };
 use crate::moves::enter;
-use crate::moves::flags::{LAST_OF_DELIMITER, LAST_OF_FLAG};
+use crate::moves::flags::{LAST_OF_DELIMITER, LAST_OF_FLAG, PASSIVE_FLAG_LENGTH};
 use crate::moves::frame_end::{LAST_OF_FRAME, is_refused};
 use crate::moves::stuffed_part::{end_of_part, is_in_arbitration, is_in_order};
 use crate::phase::{Overloads, Phase, Role};
@@ -101,10 +101,77 @@ pub(crate) fn goes_on_recessive<B: FrameBits>(
     goes_on_in_end(phase, seen)
 }
 
-/// The same, outside of the stuffed part: in the end of frame, behind flags, in intermission and suspend transmission, and
-/// while joining. It stands apart, since most levels are of the stuffed part.
+/// The same, outside of the stuffed part: in the end of frame, in a passive error flag, behind flags, in intermission and
+/// suspend transmission, and while joining. It stands apart, since most levels are of the stuffed part.
 #[inline(never)]
 fn goes_on_in_end<B: FrameBits>(phase: &mut Phase<Front<B>>, seen: Level) -> bool
+    requires { IsPhase phase.old }
+    ensures on { IsTrue result → (s : Standing) (waiting : Option Parts) → move s phase.old waiting seen ≡ goes s phase.new }
+    ensures silent { IsTrue result → (role : Part) (waiting : Option Parts) → phase_drives phase.new role waiting ≡ Level.Recessive }
+    ensures on_bus { IsTrue result → is_off_phase phase.old ≡ false }
+    ensures unchanged { IsFalse result → phase.new ≡ phase.old }
+{
+    match phase {
+        Phase::PassiveFlag { .. } => goes_on_in_passive_flag(phase, seen),
+        Phase::AfterFlag { .. } => goes_on_behind_flag(phase, seen),
+        _ => goes_on_counting(phase, seen),
+    }
+}
+
+/// The same, in a passive error flag, with a level that counts nothing. (Bosch CAN 2.0 part B, section 3.2.3)
+#[inline(always)]
+fn goes_on_in_passive_flag<B: FrameBits>(phase: &mut Phase<Front<B>>, seen: Level) -> bool
+    requires { IsPhase phase.old }
+    ensures on { IsTrue result → (s : Standing) (waiting : Option Parts) → move s phase.old waiting seen ≡ goes s phase.new }
+    ensures silent { IsTrue result → (role : Part) (waiting : Option Parts) → phase_drives phase.new role waiting ≡ Level.Recessive }
+    ensures on_bus { IsTrue result → is_off_phase phase.old ≡ false }
+    ensures unchanged { IsFalse result → phase.new ≡ phase.old }
+{
+    let Phase::PassiveFlag {
+        last,
+        run,
+        unacknowledged,
+    } = phase
+    else {
+        return false;
+    };
+    if *unacknowledged && !seen.is_recessive() {
+        return false;
+    }
+    let row = if seen == *last { *run + 1 } else { 1 };
+    if row < PASSIVE_FLAG_LENGTH {
+        *last = seen;
+        *run = row;
+    } else {
+        *phase = Phase::AfterFlag {
+            first: true,
+            dominant: 0,
+        };
+    }
+    true
+}
+
+/// The same, with the first recessive level behind a flag.
+#[inline(always)]
+fn goes_on_behind_flag<B: FrameBits>(phase: &mut Phase<Front<B>>, seen: Level) -> bool
+    requires { IsPhase phase.old }
+    ensures on { IsTrue result → (s : Standing) (waiting : Option Parts) → move s phase.old waiting seen ≡ goes s phase.new }
+    ensures silent { IsTrue result → (role : Part) (waiting : Option Parts) → phase_drives phase.new role waiting ≡ Level.Recessive }
+    ensures on_bus { IsTrue result → is_off_phase phase.old ≡ false }
+    ensures unchanged { IsFalse result → phase.new ≡ phase.old }
+{
+    match (&*phase, seen) {
+        (Phase::AfterFlag { .. }, Level::Recessive) => {
+            *phase = Phase::Delimiter { place: 1 };
+            true
+        }
+        _ => false,
+    }
+}
+
+/// The same, where a level that is counted in the phase is the next one.
+#[inline(always)]
+fn goes_on_counting<B: FrameBits>(phase: &mut Phase<Front<B>>, seen: Level) -> bool
     requires { IsPhase phase.old }
     ensures on { IsTrue result → (s : Standing) (waiting : Option Parts) → move s phase.old waiting seen ≡ goes s phase.new }
     ensures silent { IsTrue result → (role : Part) (waiting : Option Parts) → phase_drives phase.new role waiting ≡ Level.Recessive }
@@ -166,6 +233,8 @@ fn goes_on_outside<B: FrameBits>(
         }
         Phase::ErrorFlag { .. } | Phase::OverloadFlag { .. } => goes_on_in_flag(phase, seen),
         Phase::EndOfFrame { .. }
+        | Phase::PassiveFlag { .. }
+        | Phase::AfterFlag { .. }
         | Phase::Intermission { .. }
         | Phase::Delimiter { .. }
         | Phase::Suspend { .. }
