@@ -1,7 +1,7 @@
 -- A frame that passes a bus at once: the levels of its bit times, and the bus behind them.
 use Rattle.std.specs.Prelude.{if◌then◌else◌}
 use Rattle.std.specs.List.{list_any}
-use Rattle.std.proofs.Common.{◌≡◌, ◌≢◌, ℕ, zero, suc, ◌+◌, ◌-◌, ◌<◌, ◌≤◌, true, false, Option, Some, List, [], ◌∷◌, length, map, take, drop, get_or, add-one, refl, sym, ap, subst, ◌∙◌, arith, inl, inr}
+use Rattle.std.proofs.Common.{◌≡◌, ◌≢◌, ℕ, zero, suc, ◌+◌, ◌-◌, ◌<◌, ◌≤◌, ◌⊎◌, true, false, Option, Some, List, [], ◌∷◌, length, map, take, drop, get_or, add-one, refl, sym, ap, subst, ◌∙◌, arith, inl, inr}
 use Rattle.std.proofs.lemmas.Bool.{cond-false}
 use Rattle.std.proofs.lemmas.List.{length-append, length-map, length-take-le, map-id, take_all, take_at}
 use Rattle.can_frame.specs.declared.level.Level.{Level}
@@ -11,28 +11,28 @@ use Rattle.can_wire.specs.Layout.{level_at}
 use Rattle.can_wire.specs.Wire.{driven, stuffed_part, tail}
 use Rattle.can_mac.specs.Frames.{driven_with_intermission, role_drives, with_intermission}
 use Rattle.can_mac.proofs.FrameRoles.{line-start, role-own}
-use Rattle.can_node.specs.Passing.{LetsPass}
 use Rattle.can_node.specs.Ports.{PortState, IsPort, port_drives, port_run, port_step, waiting}
 use Rattle.can_node.proofs.FrameLeaves.{goes-behind}
 use Rattle.can_node.proofs.FramesWaiting.{AreFrames-from, IsWaiting-waiting}
-use Rattle.can_node.proofs.Passing.{Enters, begins-kept, comes-behind, port_run-taken, run-drives}
+use Rattle.can_node.proofs.Passing.{Enters, begins-kept, comes-behind, run-drives}
 use Rattle.can_hit.specs.declared.hit.Hit.{Hit}
 use Rattle.can_hit.specs.declared.hit.Hit.TheVariants.{At, View}
 use Rattle.can_bus.specs.declared.call.Call.{Call}
 use Rattle.can_bus.specs.declared.moment.Attempt.{Attempt}
-use Rattle.can_bus.specs.Passing.{PassesAt, PassesBus, PassesBy, PassesByAll, PassesFrom}
+use Rattle.can_bus.specs.Passing.{IsAside, IsReceived, MayPass, PassesAt, PassesBus, PassesBy, PassesByAll, PassesFrom, Receives}
 use Rattle.can_bus.specs.Run.{CallState, all_sampled, aged, attempt_now, begins_attempt, bus_after, bus_step, following, hits_view, hits_wire, inverted_if, recorded, rest_after, wired_level}
 use Rattle.can_bus.specs.Walks.{AreBelow, IsCall, IsFreeFrom, IsPassed, aged_by, in_now}
 use Rattle.can_bus.specs.Wired.{over, wired}
+use Rattle.can_bus.proofs.AsidePorts.{aside-drives, stays-off}
 use Rattle.can_bus.proofs.BusAtRest.{aged_more, aged_none}
 use Rattle.can_bus.proofs.Contests.{AllPorts}
-use Rattle.can_bus.proofs.FrameOnBus.{length-driven, receiver-joins}
+use Rattle.can_bus.proofs.FrameOnBus.{receiver-joins}
 use Rattle.can_bus.proofs.HitRuns.{sees}
 use Rattle.can_bus.proofs.PortLoops.{front_at}
-use Rattle.can_bus.proofs.Reduction.{AllJoin, Gives, Joins, Leads, OneLeads, maps-alike, reduction}
+use Rattle.can_bus.proofs.Reduction.{join_alone, join_more, maps-alike, over_wire}
 use Rattle.can_bus.proofs.RestInFrames.{none-begins, rest_at-next, rest-line}
 use Rattle.can_bus.proofs.StepLemmas.{at_next, passed_more, view_later, within_next}
-use Rattle.can_bus.proofs.WireRuns.{all_after, joins-through, leads-through, rest_run, undisturbed}
+use Rattle.can_bus.proofs.WireRuns.{all_after, rest_run}
 
 pub none-taken : {A : Type 0} (xs : List A) → take 0 xs ≡ []
 none-taken [] = refl
@@ -44,7 +44,7 @@ none-taken (x ∷ xs) = refl
 pub enters-from : (f : Parts) → IsFrame f → (p : PortState) → PassesFrom f p → Enters f p (Some f)
 enters-from f is p own = record { frame = is; poised = own; kept = is; behind = inl refl }
 
-pub enters-by : (f : Parts) → IsFrame f → (p : PortState) → IsPort p → (by : PassesBy f p) → Enters f p by.0
+pub enters-by : (f : Parts) → IsFrame f → (p : PortState) → IsPort p → (by : Receives f p) → Enters f p by.0
 enters-by f is p valid by = record {
   frame = is;
   poised = by.1.0;
@@ -52,52 +52,144 @@ enters-by f is p valid by = record {
   behind = goes-behind f by.0 (comes-behind f by.0 by.1.1);
 }
 
--- the port before it
-unrun : (levels : List Level) (p : PortState) → port_run p (take 0 levels) ≡ p
-unfolding port_run
-unrun levels p = ap (port_run p) (none-taken levels)
+-- what the ports drive in bit time o of f
+module _ (f : Parts) (is : IsFrame f) (o : ℕ) (within : o < length (with_intermission f)) where
+  abbrev x : Level
+  x = level_at (driven_with_intermission f) o
 
--- one drives its levels, and all others over them those of the wire
-leads : (f : Parts) → IsFrame f → (p : PortState) → PassesFrom f p → Leads port_drives sees (undisturbed (with_intermission f)) (driven_with_intermission f) p
-leads f is p own =
-    subst (Leads port_drives sees (undisturbed (with_intermission f)) (driven_with_intermission f)) (unrun (with_intermission f) p)
-    (leads-through port_drives sees (with_intermission f) (driven_with_intermission f) (λ o. port_run p (take o (with_intermission f))) (length-driven f)
-    (λ o within. sym (port_run-taken (with_intermission f) p o within))
-    (λ o within. run-drives f p (Some f) (enters-from f is p own) o within ∙ ap (λ r. role_drives f r o) (role-own f o)))
+  abbrev l : Level
+  l = level_at (with_intermission f) o
 
-joins : (f : Parts) → IsFrame f → (p : PortState) → IsPort p → PassesBy f p → Joins port_drives sees (undisturbed (with_intermission f)) (driven_with_intermission f) p
-joins f is p valid by =
-    let enters = enters-by f is p valid by in
-    subst (Joins port_drives sees (undisturbed (with_intermission f)) (driven_with_intermission f)) (unrun (with_intermission f) p)
-    (joins-through port_drives sees (with_intermission f) (driven_with_intermission f) (λ o. port_run p (take o (with_intermission f))) (length-driven f)
-    (λ o within. sym (port_run-taken (with_intermission f) p o within))
-    (λ o within. ap (over (level_at (driven_with_intermission f) o)) (run-drives f p by.0 enters o within) ∙ receiver-joins f by.0 is enters.kept (comes-behind f by.0 by.1.1) enters.behind o within))
+  abbrev drive : PortState → Level
+  drive p = port_drives (port_run p (take o (with_intermission f)))
 
-all-join : (f : Parts) → IsFrame f → (ports : List PortState) → AllPorts IsPort ports → PassesByAll f ports → AllJoin port_drives sees (undisturbed (with_intermission f)) (driven_with_intermission f) ports
-all-join f is [] valid by = tt
-all-join f is (p ∷ ports) valid by = (joins f is p valid.0 by.0, all-join f is ports valid.1 by.1)
+  -- the sender, a receiver, and a port off the bus
+  sender : (p : PortState) → PassesFrom f p → drive p ≡ x
+  sender p own = run-drives f p (Some f) (enters-from f is p own) o within ∙ ap (λ r. role_drives f r o) (role-own f o)
 
-one-leads : (f : Parts) → IsFrame f → (ports : List PortState) → AllPorts IsPort ports → PassesBus f ports → OneLeads port_drives sees (undisturbed (with_intermission f)) (driven_with_intermission f) ports
-one-leads f is [] valid passes = passes
-one-leads f is (p ∷ ports) valid (inl one) = inl (leads f is p one.0, all-join f is ports valid.1 one.1)
-one-leads f is (p ∷ ports) valid (inr one) = inr (joins f is p valid.0 one.0, one-leads f is ports valid.1 one.1)
+  receiver : (p : PortState) → IsPort p → Receives f p → over x (drive p) ≡ l
+  receiver p valid by =
+      let enters = enters-by f is p valid by in
+      ap (over x) (run-drives f p by.0 enters o within) ∙ receiver-joins f by.0 is enters.kept (comes-behind f by.0 by.1.1) enters.behind o within
 
--- the wire has the levels of a frame that passes
-pub frame-gives-bus : (f : Parts) → IsFrame f → (ports : List PortState) → 1 < length ports → AllPorts IsPort ports → PassesBus f ports → Gives port_drives sees (undisturbed (with_intermission f)) ports
-frame-gives-bus f is ports two valid passes = reduction port_drives sees (undisturbed (with_intermission f)) (driven_with_intermission f) ports two (one-leads f is ports valid passes)
+  nobody : (p : PortState) → IsPort p → IsAside p → drive p ≡ Recessive
+  nobody p valid aside = aside-drives (port_run p (take o (with_intermission f))) (stays-off f is p valid aside o within)
+
+  -- together
+  abbrev wire : List PortState → Level
+  wire ports = wired (map drive ports)
+
+  by-all-drive : (ports : List PortState) → AllPorts IsPort ports → PassesByAll f ports → (over x (wire ports) ≡ l) ⊎ (wire ports ≡ Recessive)
+  unfolding wired
+  by-all-drive [] valid by = inr refl
+  by-all-drive (p ∷ ports) valid by =
+      let rest = by-all-drive ports valid.1 by.1 in
+      elim by.0 [
+        | inl aside ↦
+            let e = ap (λ d. over d (wire ports)) (nobody p valid.0 aside) in
+            elim rest [
+              | inl h ↦ inl (ap (over x) e ∙ h)
+              | inr h ↦ inr (e ∙ h)
+            ]
+        | inr receives ↦
+            let r = receiver p valid.0 receives in
+            elim rest [
+              | inl h ↦ inl (join_more x (drive p) (wire ports) l r h)
+              | inr h ↦ inl (ap (λ w. over x (over (drive p) w)) h ∙ join_alone x (drive p) l r)
+            ]
+      ]
+
+  received-drive : (ports : List PortState) → AllPorts IsPort ports → PassesByAll f ports → IsReceived f ports → over x (wire ports) ≡ l
+  unfolding wired
+  received-drive [] valid by got = absurd got
+  received-drive (p ∷ ports) valid by (inl here) =
+      let r = receiver p valid.0 here in
+      elim (by-all-drive ports valid.1 by.1) [
+        | inl h ↦ join_more x (drive p) (wire ports) l r h
+        | inr h ↦ ap (λ w. over x (over (drive p) w)) h ∙ join_alone x (drive p) l r
+      ]
+  received-drive (p ∷ ports) valid by (inr there) =
+      let h = received-drive ports valid.1 by.1 there in
+      elim by.0 [
+        | inl aside ↦ ap (λ d. over x (over d (wire ports))) (nobody p valid.0 aside) ∙ h
+        | inr receives ↦ join_more x (drive p) (wire ports) l (receiver p valid.0 receives) h
+      ]
+
+  over-self : (y : Level) → over y y ≡ y
+  over-self Dominant = refl
+  over-self Recessive = refl
+
+  over-alone : (y : Level) → over y Recessive ≡ y
+  over-alone Dominant = refl
+  over-alone Recessive = refl
+
+  over-flip : (y z : Level) → over y z ≡ over z y
+  over-flip Dominant Dominant = refl
+  over-flip Dominant Recessive = refl
+  over-flip Recessive Dominant = refl
+  over-flip Recessive Recessive = refl
+
+  -- a receiver on a wire that has the sender's level, or that of the frame
+  over-receiver : (d w : Level) → over x d ≡ l → (w ≡ l) ⊎ (w ≡ x) → over d w ≡ l
+  over-receiver d w r (inl h) = ap (over d) h ∙ over_wire x d l r
+  over-receiver d w r (inr h) = ap (over d) h ∙ over-flip d x ∙ r
+
+  sent-drive : (ports : List PortState) → AllPorts IsPort ports → PassesBus f ports → (wire ports ≡ l) ⊎ (wire ports ≡ x)
+  unfolding wired
+  sent-drive [] valid passes = absurd passes
+  sent-drive (p ∷ ports) valid (inl one) =
+      let e = ap (λ d. over d (wire ports)) (sender p one.0) in
+      elim (by-all-drive ports valid.1 one.1) [
+        | inl h ↦ inl (e ∙ h)
+        | inr h ↦ inr (e ∙ ap (over x) h ∙ over-alone x)
+      ]
+  sent-drive (p ∷ ports) valid (inr one) =
+      let rest = sent-drive ports valid.1 one.1 in
+      elim one.0 [
+        | inl aside ↦
+            let e = ap (λ d. over d (wire ports)) (nobody p valid.0 aside) in
+            elim rest [
+              | inl h ↦ inl (e ∙ h)
+              | inr h ↦ inr (e ∙ h)
+            ]
+        | inr receives ↦ inl (over-receiver (drive p) (wire ports) (receiver p valid.0 receives) rest)
+      ]
+
+  -- the wire has the level of the frame
+  pub bus-drives : (ports : List PortState) → AllPorts IsPort ports → PassesBus f ports → IsReceived f ports → wired (map (λ p. port_drives (port_run p (take o (with_intermission f)))) ports) ≡ level_at (with_intermission f) o
+  unfolding wired
+  bus-drives [] valid passes got = absurd passes
+  bus-drives (p ∷ ports) valid (inl one) (inl here) =
+      let same : x ≡ l = sym (over-self x) ∙ ap (over x) (sym (sender p one.0)) ∙ receiver p valid.0 here in
+      elim (sent-drive (p ∷ ports) valid (inl one)) [
+        | inl h ↦ h
+        | inr h ↦ h ∙ same
+      ]
+  bus-drives (p ∷ ports) valid (inl one) (inr there) =
+      ap (λ d. over d (wire ports)) (sender p one.0) ∙ received-drive ports valid.1 one.1 there
+  bus-drives (p ∷ ports) valid (inr one) (inl here) =
+      over-receiver (drive p) (wire ports) (receiver p valid.0 here) (sent-drive ports valid.1 one.1)
+  bus-drives (p ∷ ports) valid (inr one) (inr there) =
+      let h = bus-drives ports valid.1 one.1 there in
+      elim one.0 [
+        | inl aside ↦ ap (λ d. over d (wire ports)) (nobody p valid.0 aside) ∙ h
+        | inr receives ↦ over-receiver (drive p) (wire ports) (receiver p valid.0 receives) (inl h)
+      ]
 
 pub all_after-run : (levels : List Level) (ports : List PortState) → all_after sees levels ports ≡ map (λ p. port_run p levels) ports
 unfolding port_run
 all_after-run [] ports = sym (map-id ports)
 all_after-run (x ∷ levels) ports = all_after-run levels (map (sees x) ports) ∙ maps-alike (sees x) (λ p. port_run p levels) (λ p. port_run p (x ∷ levels)) (λ p. refl) ports
 
--- ---- level by level
+-- in each bit time the wire has the level of a frame that passes
+pub frame-wires : (f : Parts) → IsFrame f → (ports : List PortState) → AllPorts IsPort ports → PassesBus f ports → IsReceived f ports → (o : ℕ) → o < length (with_intermission f) →
+    wired (map port_drives (all_after sees (take o (with_intermission f)) ports)) ≡ level_at (with_intermission f) o
+frame-wires f is ports valid passes got o within =
+    ap (λ ps. wired (map port_drives ps)) (all_after-run (take o (with_intermission f)) ports)
+    ∙ ap wired (maps-alike (λ p. port_run p (take o (with_intermission f))) port_drives (λ p. port_drives (port_run p (take o (with_intermission f)))) (λ p. refl) ports)
+    ∙ bus-drives f is o within ports valid passes got
 
-pub gives-at : {M : Type 0} (drive : M → Level) (step : Level → M → M) (levels : List Level) (ms : List M) → Gives drive step (undisturbed levels) ms → (o : ℕ) → o < length levels →
-    wired (map drive (all_after step (take o levels) ms)) ≡ level_at levels o
-gives-at drive step [] ms h o within = absurd (omega (arith, within))
-gives-at drive step (x ∷ levels) ms h zero within = h.0
-gives-at drive step (x ∷ levels) ms h (suc o) within = gives-at drive step levels (map (step x) ms) h.1 o (omega (arith, within))
+-- ---- level by level
 
 pub all_after-next : {M : Type 0} (step : Level → M → M) (levels : List Level) (ms : List M) (o : ℕ) → o < length levels →
     all_after step (take (suc o) levels) ms ≡ map (step (level_at levels o)) (all_after step (take o levels) ms)
@@ -173,9 +265,9 @@ module _ (hits : List Hit) (f : Parts) (is : IsFrame f) (ports : List PortState)
   abbrev first : CallState
   first = record { bus = record { ports = ports; rest = 11 }; time = time; latest = latest }
 
-  module _ (gives : Gives port_drives sees (undisturbed (with_intermission f)) ports) (free : IsFreeFrom hits time (Some (following latest)) (length (with_intermission f))) where
+  module _ (wires : (o : ℕ) → o < length (with_intermission f) → wired (map port_drives (all_after sees (take o (with_intermission f)) ports)) ≡ level_at (with_intermission f) o) (free : IsFreeFrom hits time (Some (following latest)) (length (with_intermission f))) where
     abbrev at : ℕ → CallState
-    at o = stage hits f is time latest going (λ o within. gives-at port_drives sees line ports gives o within) free o
+    at o = stage hits f is time latest going wires free o
 
     first-at : first ≡ at 0
     first-at =
@@ -187,14 +279,14 @@ module _ (hits : List Hit) (f : Parts) (is : IsFrame f) (ports : List PortState)
     reaches zero within = first-at
     reaches (suc o) within =
         ap (bus_step hits) (reaches o (omega (arith, within)))
-        ∙ stage-step hits f is time latest going (λ o within. gives-at port_drives sees line ports gives o within) free o (omega (arith, within))
+        ∙ stage-step hits f is time latest going wires free o (omega (arith, within))
         ∙ ap (λ ps. let c : CallState = record { bus = record { ports = ps; rest = rest_run 11 (take (suc o) line) }; time = time + suc o; latest = latest_at latest (suc o) } in c) (sym (all_after-next sees line ports o (omega (arith, within))))
 
     -- the level of each bit time
     pub passed-level : (o : ℕ) → o < length (with_intermission f) → recorded hits (bus_after hits o (record { bus = record { ports = ports; rest = 11 }; time = time; latest = latest })) ≡ level_at (with_intermission f) o
     passed-level o within =
         ap (recorded hits) (reaches o (omega (arith, within)))
-        ∙ stage-level hits f is time latest going (λ o within. gives-at port_drives sees line ports gives o within) free o within
+        ∙ stage-level hits f is time latest going wires free o within
 
     -- and the bus behind them
     pub passed-after : (n : ℕ) → n ≡ length (with_intermission f) → 0 < n →
@@ -272,18 +364,51 @@ pub sender-at : {X : Type 0} (S : X → PortState) (f : Parts) (xs : List X) (i 
 sender-at S f xs i d within before own behind =
     subst (λ s. PassesAt f s 0 (map S xs)) (let e : 0 + i ≡ i = omega arith in e) (sender-from S f xs i 0 d within before own (subst (λ n. PassesByAll f (map S (drop n xs))) (add-one i) behind))
 
--- each port lets the frame pass
-lets-by : (f : Parts) (p : PortState) → PassesBy f p → LetsPass f p
-lets-by f p by = (by.0, (by.1.0, goes-behind f by.0 (comes-behind f by.0 by.1.1)))
+-- each port is off the bus, or lets the frame pass
+lets-by : (f : Parts) (p : PortState) → PassesBy f p → MayPass f p
+lets-by f p (inl aside) = inl aside
+lets-by f p (inr by) = inr (by.0, (by.1.0, goes-behind f by.0 (comes-behind f by.0 by.1.1)))
 
-all-let : (f : Parts) (ports : List PortState) → PassesByAll f ports → AllPorts (LetsPass f) ports
+all-let : (f : Parts) (ports : List PortState) → PassesByAll f ports → AllPorts (MayPass f) ports
 all-let f [] by = tt
 all-let f (p ∷ ports) by = (lets-by f p by.0, all-let f ports by.1)
 
-pub bus-lets : (f : Parts) (ports : List PortState) → PassesBus f ports → AllPorts (LetsPass f) ports
+pub bus-lets : (f : Parts) (ports : List PortState) → PassesBus f ports → AllPorts (MayPass f) ports
 bus-lets f [] passes = tt
-bus-lets f (p ∷ ports) (inl one) = ((Some f, (one.0, inl refl)), all-let f ports one.1)
+bus-lets f (p ∷ ports) (inl one) = (inr (Some f, (one.0, inl refl)), all-let f ports one.1)
 bus-lets f (p ∷ ports) (inr one) = (lets-by f p one.0, bus-lets f ports one.1)
+
+-- a port that receives the frame, among the first of some, or behind them
+pub received-first : {X : Type 0} (S : X → PortState) (f : Parts) (xs : List X) (n : ℕ) → IsReceived f (map S (take n xs)) → IsReceived f (map S xs)
+received-first S f [] zero got = absurd got
+received-first S f [] (suc n) got = absurd got
+received-first S f (x ∷ xs) zero got = absurd got
+received-first S f (x ∷ xs) (suc n) (inl here) = inl here
+received-first S f (x ∷ xs) (suc n) (inr there) = inr (received-first S f xs n there)
+
+pub received-behind : {X : Type 0} (S : X → PortState) (f : Parts) (xs : List X) (n : ℕ) → IsReceived f (map S (drop n xs)) → IsReceived f (map S xs)
+received-behind S f [] zero got = absurd got
+received-behind S f [] (suc n) got = absurd got
+received-behind S f (x ∷ xs) zero got = got
+received-behind S f (x ∷ xs) (suc n) got = inr (received-behind S f xs n got)
+
+received-step : {X : Type 0} (S : X → PortState) (f : Parts) (xs : List X) (n : ℕ) → IsReceived f (map S (take n xs)) → IsReceived f (map S (take (suc n) xs))
+received-step S f [] zero got = absurd got
+received-step S f [] (suc n) got = absurd got
+received-step S f (x ∷ xs) zero got = absurd got
+received-step S f (x ∷ xs) (suc n) (inl here) = inl here
+received-step S f (x ∷ xs) (suc n) (inr there) = inr (received-step S f xs n there)
+
+pub received-more : {X : Type 0} (S : X → PortState) (f : Parts) (xs : List X) (n : ℕ) → IsReceived f (map S (take n xs)) → IsReceived f (map S (take (n + 1) xs))
+received-more S f xs n got = rw add-one (received-step S f xs n got)
+
+received-at : {X : Type 0} (S : X → PortState) (f : Parts) (xs : List X) (n : ℕ) (d : X) → n < length xs → Receives f (S (get_or xs n d)) → IsReceived f (map S (take (suc n) xs))
+received-at S f [] n d within here = absurd (omega (arith, within))
+received-at S f (x ∷ xs) zero d within here = inl here
+received-at S f (x ∷ xs) (suc n) d within here = inr (received-at S f xs n d (omega (arith, within)) here)
+
+pub received-here : {X : Type 0} (S : X → PortState) (f : Parts) (xs : List X) (n : ℕ) (d : X) → n < length xs → Receives f (S (get_or xs n d)) → IsReceived f (map S (take (n + 1) xs))
+received-here S f xs n d within here = rw add-one (received-at S f xs n d within here)
 
 -- what holds of all ports holds of the next one, where those before it have changed
 pub holds-next : {X A : Type 0} (Q : A → Type 0) (S : X → A) (F : ℕ → A → A) (k i : ℕ) (xs : List X) (ps : List A) (d : X) → AllPorts Q ps → map S xs ≡ front_at F k i ps → i < length xs → Q (S (get_or xs i d))
@@ -326,7 +451,7 @@ at-taken (x ∷ rec) (suc n) (suc t) d less within = at-taken rec n t d (omega (
 
 -- A frame passes: what is recorded, and the bus behind it.
 module _ (hits : List Hit) (f : Parts) (is : IsFrame f) (ports : List PortState) (rest time : ℕ) (latest : Option Attempt) (rested : rest ≡ 11)
-    (two : 1 < length ports) (valid : AllPorts IsPort ports) (passes : PassesBus f ports)
+    (got : IsReceived f ports) (valid : AllPorts IsPort ports) (passes : PassesBus f ports)
     (rec : List Level) (count : ℕ) (some : count ≢ 0) (within : count ≤ length rec) (are : take count rec ≡ with_intermission f) (free : IsFreeFrom hits time (Some (following latest)) count) where
   abbrev start : CallState
   start = record { bus = record { ports = ports; rest = rest }; time = time; latest = latest }
@@ -334,8 +459,8 @@ module _ (hits : List Hit) (f : Parts) (is : IsFrame f) (ports : List PortState)
   size : count ≡ length (with_intermission f)
   size = sym (length-take-le count rec within) ∙ ap length are
 
-  gives : Gives port_drives sees (undisturbed (with_intermission f)) ports
-  gives = frame-gives-bus f is ports two valid passes
+  wires : (o : ℕ) → o < length (with_intermission f) → wired (map port_drives (all_after sees (take o (with_intermission f)) ports)) ≡ level_at (with_intermission f) o
+  wires = frame-wires f is ports valid passes got
 
   free-line : IsFreeFrom hits time (Some (following latest)) (length (with_intermission f))
   free-line = subst (IsFreeFrom hits time (Some (following latest))) size free
@@ -343,7 +468,7 @@ module _ (hits : List Hit) (f : Parts) (is : IsFrame f) (ports : List PortState)
   pub line-recorded : (t : ℕ) (d : Level) → t < count → get_or rec t d ≡ recorded hits (bus_after hits t (record { bus = record { ports = ports; rest = rest }; time = time; latest = latest }))
   line-recorded t d early =
       at-taken rec count t d early (omega (arith, early, within)) ∙ ap (λ ls. level_at ls t) are
-      ∙ sym (passed-level hits f is ports time latest gives free-line t (omega (arith, early, size)))
+      ∙ sym (passed-level hits f is ports time latest wires free-line t (omega (arith, early, size)))
       ∙ ap (λ r. recorded hits (bus_after hits t (let c : CallState = record { bus = record { ports = ports; rest = r }; time = time; latest = latest } in c))) (sym rested)
 
   pub line-passed : (next : List PortState) (later : ℕ) (attempt : Option Attempt) → next ≡ map (λ p. port_run p (take count rec)) ports → later ≡ time + count → attempt ≡ aged_by (count - 1) (Some (following latest)) →
@@ -353,5 +478,5 @@ module _ (hits : List Hit) (f : Parts) (is : IsFrame f) (ports : List PortState)
       ∙ ap (λ t. let c : CallState = record { bus = record { ports = map (λ p. port_run p (with_intermission f)) ports; rest = rest }; time = t; latest = attempt } in c) late
       ∙ ap (λ a. let c : CallState = record { bus = record { ports = map (λ p. port_run p (with_intermission f)) ports; rest = rest }; time = time + count; latest = a } in c) aged
       ∙ ap (λ r. let c : CallState = record { bus = record { ports = map (λ p. port_run p (with_intermission f)) ports; rest = r }; time = time + count; latest = aged_by (count - 1) (Some (following latest)) } in c) rested
-      ∙ sym (passed-after hits f is ports time latest gives free-line count size (omega (arith, some)))
+      ∙ sym (passed-after hits f is ports time latest wires free-line count size (omega (arith, some)))
       ∙ ap (λ r. bus_after hits count (let c : CallState = record { bus = record { ports = ports; rest = r }; time = time; latest = latest } in c)) (sym rested)

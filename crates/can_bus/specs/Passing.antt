@@ -1,8 +1,10 @@
 -- Frames that pass a bus at once, and what is offered meanwhile.
-use Rattle.std.specs.Prelude.{ℕ, zero, suc, ◌≡◌, ◌+◌, ◌⊎◌, List, [], ◌∷◌, Option, Some}
+use Rattle.std.specs.Prelude.{ℕ, zero, suc, ◌≡◌, ◌+◌, ◌⊎◌, true, List, [], ◌∷◌, Option, Some}
 use Rattle.can_frame.specs.Parts.{Parts}
 use Rattle.can_frame.specs.Arbitration.{arbitration_field, Before}
+use Rattle.can_fault.specs.Counters.{is_bus_off}
 use Rattle.can_mac.specs.Frames.{IsPoised}
+use Rattle.can_node.specs.Passing.{LetsPass}
 use Rattle.can_node.specs.Ports.{PortState, waiting}
 use Rattle.can_bus.specs.declared.offer.Offer.{Offer}
 use Rattle.can_bus.specs.Offers.{all_made, refused_at}
@@ -11,9 +13,21 @@ use Rattle.can_bus.specs.Offers.{all_made, refused_at}
 abbrev pub PassesFrom : Parts → PortState → Type 0
 PassesFrom f p = IsPoised p.mac (waiting p.queue) (Some f)
 
--- f may pass this port, and goes before the frame with which it begins, if there is one
+-- f may pass this port, which receives it: f goes before the frame with which the port begins, if there is one
+abbrev pub Receives : Parts → PortState → Type 0
+Receives f p = (next : Option Parts) × (IsPoised p.mac (waiting p.queue) next × ((g : Parts) → next ≡ Some g → Before (arbitration_field f) (arbitration_field g)))
+
+-- the port is off the bus
+abbrev pub IsAside : PortState → Type 0
+IsAside p = is_bus_off p.mac.counters ≡ true
+
+-- f passes by this port, which receives it or is off the bus
 abbrev pub PassesBy : Parts → PortState → Type 0
-PassesBy f p = (next : Option Parts) × (IsPoised p.mac (waiting p.queue) next × ((g : Parts) → next ≡ Some g → Before (arbitration_field f) (arbitration_field g)))
+PassesBy f p = IsAside p ⊎ Receives f p
+
+-- the port is off the bus, or f passes it at once
+abbrev pub MayPass : Parts → PortState → Type 0
+MayPass f p = IsAside p ⊎ LetsPass f p
 
 abbrev pub PassesByAll : Parts → List PortState → Type 0
 PassesByAll f [] = Unit {0}
@@ -23,6 +37,11 @@ PassesByAll f (p ∷ ports) = PassesBy f p × PassesByAll f ports
 abbrev pub PassesBus : Parts → List PortState → Type 0
 PassesBus f [] = ⊥
 PassesBus f (p ∷ ports) = (PassesFrom f p × PassesByAll f ports) ⊎ (PassesBy f p × PassesBus f ports)
+
+-- some port receives f
+abbrev pub IsReceived : Parts → List PortState → Type 0
+IsReceived f [] = ⊥
+IsReceived f (p ∷ ports) = Receives f p ⊎ IsReceived f ports
 
 -- the same, by the number of that port; the first of these has this number
 abbrev pub PassesAt : Parts → ℕ → ℕ → List PortState → Type 0

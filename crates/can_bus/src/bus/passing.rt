@@ -5,12 +5,12 @@
 ghost use Rattle.std.specs.Prelude.{ℕ, ◌≡◌, ◌≢◌, ◌+◌, ◌-◌, ◌++◌, ◌<◌, ◌≤◌, ◌^◌, length, map, take, slice_get, slice_index_or, IfSome, IsNone, IsTrue, Some};
 ghost use Rattle.can_frame.specs.Arbitration.{Before, arbitration_field};
 ghost use Rattle.can_frame.specs.Parts.{IsFrame, Parts};
-ghost use Rattle.can_mac.specs.Frames.{IsPoised, with_intermission};
+ghost use Rattle.can_mac.specs.Frames.{with_intermission};
 ghost use Rattle.can_node.specs.Ports.{port_drives, port_run, waiting};
 ghost use Rattle.can_bus.specs.declared.offer.Offer.{Offer as Asked};
 ghost use Rattle.can_bus.specs.Network.{call_after, call_level, call_refused, offered_now};
 ghost use Rattle.can_bus.specs.Offers.{AreOffered};
-ghost use Rattle.can_bus.specs.Passing.{PassesAt, PassesBus, PassesBy, PassesByAll, PassesFrom, made_behind, refused_behind};
+ghost use Rattle.can_bus.specs.Passing.{IsReceived, MayPass, PassesAt, PassesBus, PassesBy, PassesByAll, PassesFrom, Receives, made_behind, refused_behind};
 ghost use Rattle.can_bus.specs.Run.{BusState, bus_after, recorded};
 ghost use Rattle.can_bus.specs.State.{port_count, port_states, rest_of, state_of};
 ghost use Rattle.can_bus.specs.Walks.{AreRising, IsCall, IsReached, call_on};
@@ -21,6 +21,7 @@ use crate::bus::play_disturbed::Progress;
 use crate::call::Call;
 use crate::offer::Offer;
 use crate::wire::wired_level;
+use can_fault::State;
 use can_frame::{Frame, IDLE_ROW, Key, Level};
 use can_hit::Hit;
 use can_node::Port;
@@ -73,7 +74,7 @@ impl<P: Port> Bus<P> {
         ensures call { IsCall hits.now call.new }
         ensures time { call.new.time ≡ call.old.time + result }
     {
-        if driven.is_recessive() || self.rest != IDLE_ROW || self.ports.len() < 2 {
+        if driven.is_recessive() || self.rest != IDLE_ROW {
             return 0;
         }
         let Some(passing) = first_frame(self.ports.as_slice()) else {
@@ -125,7 +126,7 @@ impl<P: Port> Bus<P> {
         ensures unpassed { result ≡ 0 → call_on (state_of P.port self.new) call.new ≡ call_on (state_of P.port self.old) call.old }
         ensures unmade { result ≡ 0 → progress.new ≡ progress.old }
     {
-        if self.rest != IDLE_ROW || self.ports.len() < 2 || rec.len() < SHORTEST_LINE {
+        if self.rest != IDLE_ROW || rec.len() < SHORTEST_LINE {
             return 0;
         }
         let Some(passing) = first_frame(self.ports.as_slice()) else {
@@ -205,9 +206,11 @@ struct Passing {
     frame: Frame,
 }
 
-/// The frame that passes a bus with these ports at once; none where none does, or may not.
+/// The frame that passes a bus with these ports at once, at least one of which receives it; none where none does, or may
+/// not.
 fn first_frame<P: Port>(ports: &[P]) -> Option<Passing>
     ensures passes { IfSome result (λ passing. PassesBus passing.frame (map P.port ports.now)) }
+    ensures received { IfSome result (λ passing. IsReceived passing.frame (map P.port ports.now)) }
     ensures sender { IfSome result (λ passing. PassesAt passing.frame passing.place 0 (map P.port ports.now)) }
     ensures whole { IfSome result (λ passing. IsFrame passing.frame) }
 {
@@ -218,7 +221,9 @@ fn first_frame<P: Port>(ports: &[P]) -> Option<Passing>
     let frame = own_frame(&ports[place])?;
     // Who reads a frame's bytes knows that it is a frame.
     let _ = frame.bytes();
-    if passes_by_all(&ports[..place], &frame) && passes_by_all(&ports[place + 1..], &frame) {
+    let before = is_received(&ports[..place], &frame)?;
+    let behind = is_received(&ports[place + 1..], &frame)?;
+    if before || behind {
         Some(Passing { place, frame })
     } else {
         None
@@ -249,6 +254,7 @@ fn first_place<P: Port>(ports: &[P]) -> Option<usize> {
     let mut first: Option<Contender> = None;
     for (place, port) in ports.iter().enumerate() {
         match port.poised() {
+            None if port.state() == State::BusOff => {}
             None => return None,
             Some(None) => {}
             Some(Some(frame)) => {
@@ -269,28 +275,34 @@ fn first_of(one: Option<Contender>, other: Contender) -> Contender {
     }
 }
 
-/// Whether the frame passes by all these ports at once.
-fn passes_by_all<P: Port>(ports: &[P], frame: &Frame) -> bool
-    ensures { IsTrue result → PassesByAll frame.now (map P.port ports.now) }
+/// Whether one of these ports receives the frame, which passes by all of them at once; none where it doesn't.
+fn is_received<P: Port>(ports: &[P], frame: &Frame) -> Option<bool>
+    ensures passes { IfSome result (λ received. PassesByAll frame.now (map P.port ports.now)) }
+    ensures received { IfSome result (λ received. IsTrue received → IsReceived frame.now (map P.port ports.now)) }
 {
     let key = frame.key();
+    let mut received = false;
     for port in ports {
-        if !passes_by(port, key) {
-            return false;
+        if receives(port, key)? {
+            received = true;
         }
     }
-    true
+    Some(received)
 }
 
-/// Whether the frame with this arbitration field passes by a port at once.
+/// Whether a port receives the frame with this arbitration field, which passes by it at once; none where it doesn't. Off
+/// the bus a port doesn't receive it.
 #[inline(always)]
-fn passes_by<P: Port>(port: &P, key: Key) -> bool
-    ensures { IsTrue result → (frame : Parts) → arbitration_field frame ≡ key → PassesBy frame (P.port port.now) }
+fn receives<P: Port>(port: &P, key: Key) -> Option<bool>
+    ensures passes { IfSome result (λ receives. (frame : Parts) → arbitration_field frame ≡ key → PassesBy frame (P.port port.now)) }
+    ensures receives { IfSome result (λ receives. IsTrue receives → (frame : Parts) → arbitration_field frame ≡ key → Receives frame (P.port port.now)) }
 {
     match port.poised() {
-        None => false,
-        Some(None) => true,
-        Some(Some(own)) => key.cmp(&own.key()) == Ordering::Less,
+        None if port.state() == State::BusOff => Some(false),
+        None => None,
+        Some(None) => Some(true),
+        Some(Some(own)) if key.cmp(&own.key()) == Ordering::Less => Some(true),
+        Some(Some(_)) => None,
     }
 }
 
@@ -330,6 +342,22 @@ fn pass_all<P: Port>(ports: &mut [P], frame: &Frame, levels: &[Level])
     ensures { map P.port ports.new ≡ map (λ p. port_run p levels.now) (map P.port ports.old) }
 {
     for port in ports.iter_mut() {
+        pass_one(port, frame, levels);
+    }
+}
+
+/// Has the frame pass a port, which off the bus only counts its levels.
+fn pass_one<P: Port>(port: &mut P, frame: &Frame, levels: &[Level])
+    requires whole { IsFrame frame.now }
+    requires levels { levels.now ≡ with_intermission frame.now }
+    requires passes { MayPass frame.now (P.port port.old) }
+    ensures { P.port port.new ≡ port_run (P.port port.old) levels.now }
+{
+    if port.state() == State::BusOff {
+        for level in levels {
+            let _ = port.turn(*level);
+        }
+    } else {
         port.pass(frame, levels);
     }
 }

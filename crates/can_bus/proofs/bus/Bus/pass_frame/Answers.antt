@@ -1,7 +1,7 @@
 use Rattle.std.proofs.Common.{◌≡◌, ◌<◌, ◌++◌, List, drop, length, map, take, arith, rules, ap, subst, ◌∙◌}
 use Rattle.std.proofs.lemmas.List.{length-map, take_at}
 use Rattle.can_node.specs.Ports.{PortState, port_run}
-use Rattle.can_bus.specs.Passing.{PassesBus}
+use Rattle.can_bus.specs.Passing.{IsReceived, PassesBus}
 use Rattle.can_bus.specs.State.{state_of}
 use Rattle.can_bus.specs.Walks.{call_on}
 use Rattle.can_bus.proofs.BusAtRest.{after_none}
@@ -28,9 +28,9 @@ returns-clause-levels g c =
     let call = c.args.call.now in
     let f = c.in-Some.passing.frame in
     let rested : c.args.self.now.rest ≡ 11 = first_of (omega arith, search rules) in
-    let two : 1 < length (map S items) = let e = length-map items S in omega (arith, e, c.if-len-lt2.false, c.len.ensures) in
+    let got : IsReceived f (map S items) = subst (λ xs. IsReceived f (map S xs)) c.as_slice.ensures.value c.in-Some.ensures.received in
     let passes : PassesBus f (map S items) = subst (λ xs. PassesBus f (map S xs)) c.as_slice.ensures.value c.in-Some.ensures.passes in
-    line-recorded c.args.hits.now f c.in-Some.ensures.whole (map S items) c.args.self.now.rest call.time call.latest rested two (valid-ports S (λ x. g.met.P.Port.valid x) items) passes
+    line-recorded c.args.hits.now f c.in-Some.ensures.whole (map S items) c.args.self.now.rest call.time call.latest rested got (valid-ports S (λ x. g.met.P.Port.valid x) items) passes
     c.lay_out-count.new.rec c.lay_out-count.result c.if-count-eq0.false (omega (arith, c.lay_out-count.ensures.most, c.lay_out-count.ensures.len)) (c.lay_out-count.ensures.levels c.if-count-eq0.false) c.in-Some-behind.ensures.free
 
 pub returns-clause-after : goal.returns-clause-after
@@ -40,7 +40,7 @@ returns-clause-after g c =
     let call = c.args.call.now in
     let f = c.in-Some.passing.frame in
     let rested : c.args.self.now.rest ≡ 11 = first_of (omega arith, search rules) in
-    let two : 1 < length (map S items) = let e = length-map items S in omega (arith, e, c.if-len-lt2.false, c.len.ensures) in
+    let got : IsReceived f (map S items) = subst (λ xs. IsReceived f (map S xs)) c.as_slice.ensures.value c.in-Some.ensures.received in
     let passes : PassesBus f (map S items) = subst (λ xs. PassesBus f (map S xs)) c.as_slice.ensures.value c.in-Some.ensures.passes in
     let len : length c.pass_all.new.ports ≡ c.args.self.now.ports.len = omega (arith, c.pass_all.auto.ports, c.as_mut_slice.ensures.len) in
     let back : take c.args.self.now.ports.len (c.pass_all.new.ports ++ drop (length c.pass_all.new.ports) c.args.self.now.ports.items) ≡ c.pass_all.new.ports =
@@ -48,6 +48,6 @@ returns-clause-after g c =
     let next : List PortState = map S (take c.args.self.now.ports.len (c.pass_all.new.ports ++ drop (length c.pass_all.new.ports) c.args.self.now.ports.items)) in
     let goes : next ≡ map (λ p. port_run p (take c.lay_out-count.result c.lay_out-count.new.rec)) (map S items) =
     ap (map S) back ∙ c.pass_all.ensures ∙ ap (λ ys. map (λ p. port_run p (take c.lay_out-count.result c.lay_out-count.new.rec)) (map S ys)) c.as_mut_slice.ensures.value in
-    line-passed c.args.hits.now f c.in-Some.ensures.whole (map S items) c.args.self.now.rest call.time call.latest rested two (valid-ports S (λ x. g.met.P.Port.valid x) items) passes
+    line-passed c.args.hits.now f c.in-Some.ensures.whole (map S items) c.args.self.now.rest call.time call.latest rested got (valid-ports S (λ x. g.met.P.Port.valid x) items) passes
     c.lay_out-count.new.rec c.lay_out-count.result c.if-count-eq0.false (omega (arith, c.lay_out-count.ensures.most, c.lay_out-count.ensures.len)) (c.lay_out-count.ensures.levels c.if-count-eq0.false) c.in-Some-behind.ensures.free
     next c.in-Some-behind.later.time c.in-Some-behind.later.latest goes c.in-Some-behind.ensures.time c.in-Some-behind.ensures.latest

@@ -2,7 +2,7 @@ use Rattle.std.proofs.Common.{◌≡◌, ◌<◌, ◌+◌, ◌-◌, ◌++◌, Li
 use Rattle.std.proofs.lemmas.List.{length-map, take_at}
 use Rattle.can_node.specs.Ports.{PortState, port_run}
 use Rattle.can_bus.specs.Offers.{AreOffered}
-use Rattle.can_bus.specs.Passing.{PassesAt, PassesBus, made_behind, refused_behind}
+use Rattle.can_bus.specs.Passing.{IsReceived, PassesAt, PassesBus, made_behind, refused_behind}
 use Rattle.can_bus.specs.Run.{CallState}
 use Rattle.can_bus.proofs.NetworkCalls.{valid-ports}
 use Rattle.can_bus.proofs.OfferLemmas.{offers-rise}
@@ -28,10 +28,10 @@ returns-clause-levels g c = λ bus start.
     let call = c.args.call.now in
     let f = c.in-Some.passing.frame in
     let rested : c.args.self.now.rest ≡ 11 = first_of (omega arith, search rules) in
-    let two : 1 < length (map S items) = let e = length-map items S in omega (arith, e, c.if-len-lt2.false, c.len.ensures) in
+    let got : IsReceived f (map S items) = subst (λ xs. IsReceived f (map S xs)) c.as_slice.ensures.value c.in-Some.ensures.received in
     let passes : PassesBus f (map S items) = subst (λ xs. PassesBus f (map S xs)) c.as_slice.ensures.value c.in-Some.ensures.passes in
     let sender : PassesAt f c.in-Some.passing.place 0 (map S items) = subst (λ xs. PassesAt f c.in-Some.passing.place 0 (map S xs)) c.as_slice.ensures.value c.in-Some.ensures.sender in
-    open-recorded c.args.offers.now c.args.hits.now f c.in-Some.ensures.whole c.in-Some.passing.place (map S items) c.args.self.now.rest call.time call.latest rested two
+    open-recorded c.args.offers.now c.args.hits.now f c.in-Some.ensures.whole c.in-Some.passing.place (map S items) c.args.self.now.rest call.time call.latest rested got
     (valid-ports S (λ x. g.met.P.Port.valid x) items) passes sender c.args.progress.now.place c.requires.reached
     c.lay_out-count.new.rec c.lay_out-count.result c.if-count-eq0.false (omega (arith, c.lay_out-count.ensures.most, c.lay_out-count.ensures.len)) (c.lay_out-count.ensures.levels c.if-count-eq0.false)
     (c.if-not-are_others.ensures refl) c.in-Some-behind.ensures.free bus start
@@ -43,7 +43,7 @@ returns-clause-after g c = λ some bus start.
     let call = c.args.call.now in
     let f = c.in-Some.passing.frame in
     let rested : c.args.self.now.rest ≡ 11 = first_of (omega arith, search rules) in
-    let two : 1 < length (map S items) = let e = length-map items S in omega (arith, e, c.if-len-lt2.false, c.len.ensures) in
+    let got : IsReceived f (map S items) = subst (λ xs. IsReceived f (map S xs)) c.as_slice.ensures.value c.in-Some.ensures.received in
     let passes : PassesBus f (map S items) = subst (λ xs. PassesBus f (map S xs)) c.as_slice.ensures.value c.in-Some.ensures.passes in
     let sender : PassesAt f c.in-Some.passing.place 0 (map S items) = subst (λ xs. PassesAt f c.in-Some.passing.place 0 (map S xs)) c.as_slice.ensures.value c.in-Some.ensures.sender in
     let len : length c.pass_all.new.ports ≡ c.args.self.now.ports.len = omega (arith, c.pass_all.auto.ports, c.as_mut_slice.ensures.len) in
@@ -53,7 +53,7 @@ returns-clause-after g c = λ some bus start.
     let goes : passed ≡ map (λ p. port_run p (take c.lay_out-count.result c.lay_out-count.new.rec)) (map S items) =
     ap (map S) back ∙ c.pass_all.ensures ∙ ap (λ ys. map (λ p. port_run p (take c.lay_out-count.result c.lay_out-count.new.rec)) (map S ys)) c.as_mut_slice.ensures.value in
     ap (λ r. let k : CallState = record { bus = record { ports = map S c.make_behind.new.self.ports.items; rest = r }; time = c.in-Some-behind.later.time; latest = c.in-Some-behind.later.latest } in k) c.make_behind.ensures.rest
-    ∙ open-passed c.args.offers.now c.args.hits.now f c.in-Some.ensures.whole c.in-Some.passing.place (map S items) c.args.self.now.rest call.time call.latest rested two
+    ∙ open-passed c.args.offers.now c.args.hits.now f c.in-Some.ensures.whole c.in-Some.passing.place (map S items) c.args.self.now.rest call.time call.latest rested got
     (valid-ports S (λ x. g.met.P.Port.valid x) items) passes sender c.args.progress.now.place c.requires.reached
     c.lay_out-count.new.rec c.lay_out-count.result c.if-count-eq0.false (omega (arith, c.lay_out-count.ensures.most, c.lay_out-count.ensures.len)) (c.lay_out-count.ensures.levels c.if-count-eq0.false)
     (c.if-not-are_others.ensures refl) c.in-Some-behind.ensures.free bus start
@@ -67,7 +67,7 @@ returns-clause-count g c = λ some bus start first.
     let call = c.args.call.now in
     let f = c.in-Some.passing.frame in
     let rested : c.args.self.now.rest ≡ 11 = first_of (omega arith, search rules) in
-    let two : 1 < length (map S items) = let e = length-map items S in omega (arith, e, c.if-len-lt2.false, c.len.ensures) in
+    let got : IsReceived f (map S items) = subst (λ xs. IsReceived f (map S xs)) c.as_slice.ensures.value c.in-Some.ensures.received in
     let passes : PassesBus f (map S items) = subst (λ xs. PassesBus f (map S xs)) c.as_slice.ensures.value c.in-Some.ensures.passes in
     let sender : PassesAt f c.in-Some.passing.place 0 (map S items) = subst (λ xs. PassesAt f c.in-Some.passing.place 0 (map S xs)) c.as_slice.ensures.value c.in-Some.ensures.sender in
     let len : length c.pass_all.new.ports ≡ c.args.self.now.ports.len = omega (arith, c.pass_all.auto.ports, c.as_mut_slice.ensures.len) in
@@ -76,7 +76,7 @@ returns-clause-count g c = λ some bus start first.
     let passed : List PortState = map S (take c.args.self.now.ports.len (c.pass_all.new.ports ++ drop (length c.pass_all.new.ports) c.args.self.now.ports.items)) in
     let goes : passed ≡ map (λ p. port_run p (take c.lay_out-count.result c.lay_out-count.new.rec)) (map S items) =
     ap (map S) back ∙ c.pass_all.ensures ∙ ap (λ ys. map (λ p. port_run p (take c.lay_out-count.result c.lay_out-count.new.rec)) (map S ys)) c.as_mut_slice.ensures.value in
-    open-given-back c.args.offers.now c.args.hits.now f c.in-Some.ensures.whole c.in-Some.passing.place (map S items) c.args.self.now.rest call.time call.latest rested two
+    open-given-back c.args.offers.now c.args.hits.now f c.in-Some.ensures.whole c.in-Some.passing.place (map S items) c.args.self.now.rest call.time call.latest rested got
     (valid-ports S (λ x. g.met.P.Port.valid x) items) passes sender c.args.progress.now.place c.requires.reached
     c.lay_out-count.new.rec c.lay_out-count.result c.if-count-eq0.false (omega (arith, c.lay_out-count.ensures.most, c.lay_out-count.ensures.len)) (c.lay_out-count.ensures.levels c.if-count-eq0.false)
     (c.if-not-are_others.ensures refl) c.in-Some-behind.ensures.free bus start
