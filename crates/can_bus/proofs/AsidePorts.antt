@@ -1,25 +1,25 @@
 -- A port off the bus: it drives nothing, nothing that is offered matters to it, and a frame whose levels it samples doesn't
 -- bring it back before its last one.
-use Rattle.std.specs.Prelude.{nat_le, nat_lt, min, if◌then◌else◌, ◌&&◌}
-use Rattle.std.proofs.Common.{◌≡◌, ℕ, zero, suc, ◌+◌, ◌<◌, ◌≤◌, Bool, true, false, Option, Some, None, List, [], ◌∷◌, length, take, refl, sym, ap, subst, ◌∙◌, arith, inl, inr}
+use Rattle.std.specs.Prelude.{nat_le, nat_lt, min, ◌&&◌}
+use Rattle.std.proofs.Common.{◌≡◌, ℕ, zero, suc, ◌+◌, ◌<◌, Bool, true, false, Option, Some, None, List, [], ◌∷◌, length, take, refl, sym, ap, subst, ◌∙◌, arith, inl, inr}
 use Rattle.std.proofs.Math.Dec.{leb, ltb}
 use Rattle.std.proofs.lemmas.Bool.{cases_Bool, cond-false, cond-true, false_from_ne_true, leb-true, lt-ltb}
 use Rattle.can_frame.specs.declared.level.Level.{Level}
 use Rattle.can_frame.specs.declared.level.Level.TheVariants.{Dominant, Recessive}
 use Rattle.can_frame.specs.Parts.{Parts, IsFrame}
 use Rattle.can_wire.specs.Layout.{level_at}
-use Rattle.can_fault.specs.Counters.{ConfineParts, fresh, is_bus_off}
+use Rattle.can_fault.specs.Counters.{ConfineParts, is_bus_off}
 use Rattle.can_fault.specs.Recovery.{after_level, ends_bus_off, recovered}
 use Rattle.can_mac.specs.declared.event.Event.{Event}
 use Rattle.can_mac.specs.declared.event.Event.TheVariants.{Recovered}
 use Rattle.can_mac.specs.declared.phase.Role.{Role}
 use Rattle.can_mac.specs.declared.phase.Phase.TheVariants.{Joining, Idle, StuffedPart, CrcDelimiter, AckSlot, AckDelimiter, EndOfFrame, ErrorFlag, PassiveFlag, OverloadFlag, AfterFlag, Delimiter, Intermission, Suspend, BusOff}
 use Rattle.can_mac.specs.State.{MacPhase, MacState, is_off_phase}
-use Rattle.can_mac.specs.Machine.{mac_drives, mac_step, off_step, phase_drives}
+use Rattle.can_mac.specs.Machine.{mac_drives, off_step, phase_drives}
 use Rattle.can_mac.specs.Frames.{with_intermission}
 use Rattle.can_mac.proofs.FrameRoles.{line-start}
 use Rattle.can_mac.proofs.Landing.{step_off}
-use Rattle.can_node.specs.Ports.{PortState, IsPort, port_drives, port_noting, port_offered, port_run, port_step, waiting, with_offer}
+use Rattle.can_node.specs.Ports.{PortState, IsPort, port_drives, port_offered, port_run, port_step, waiting, with_offer}
 use Rattle.can_node.proofs.OneFrame.{at_mac, step-port_noting}
 use Rattle.can_node.proofs.Passing.{port_run-taken}
 use Rattle.can_bus.specs.Passing.{IsAside}

@@ -3,7 +3,7 @@ use Rattle.std.specs.Prelude.{if◌then◌else◌}
 use Rattle.std.specs.List.{list_any}
 use Rattle.std.proofs.Common.{◌≡◌, ◌≢◌, ℕ, zero, suc, ◌+◌, ◌-◌, ◌<◌, ◌≤◌, ◌⊎◌, true, false, Option, Some, List, [], ◌∷◌, length, map, take, drop, get_or, add-one, refl, sym, ap, subst, ◌∙◌, arith, inl, inr}
 use Rattle.std.proofs.lemmas.Bool.{cond-false}
-use Rattle.std.proofs.lemmas.List.{length-append, length-map, length-take-le, map-id, take_all, take_at}
+use Rattle.std.proofs.lemmas.List.{length-append, length-take-le, map-id, take_all, take_at}
 use Rattle.can_frame.specs.declared.level.Level.{Level}
 use Rattle.can_frame.specs.declared.level.Level.TheVariants.{Dominant, Recessive}
 use Rattle.can_frame.specs.Parts.{Parts, IsFrame}
@@ -11,7 +11,7 @@ use Rattle.can_wire.specs.Layout.{level_at}
 use Rattle.can_wire.specs.Wire.{driven, stuffed_part, tail}
 use Rattle.can_mac.specs.Frames.{driven_with_intermission, role_drives, with_intermission}
 use Rattle.can_mac.proofs.FrameRoles.{line-start, role-own}
-use Rattle.can_node.specs.Ports.{PortState, IsPort, port_drives, port_run, port_step, waiting}
+use Rattle.can_node.specs.Ports.{PortState, IsPort, port_drives, port_run, port_step}
 use Rattle.can_node.proofs.FrameLeaves.{goes-behind}
 use Rattle.can_node.proofs.FramesWaiting.{AreFrames-from, IsWaiting-waiting}
 use Rattle.can_node.proofs.Passing.{Enters, begins-kept, comes-behind, run-drives}

@@ -189,7 +189,8 @@ impl<B: FrameBits> MediumAccess<B> {
     /// waits, but in suspend transmission with none. (Bosch CAN 2.0 part B, sections 3.2.5 and 8)
     #[inline]
     pub fn poised(&self, waiting: Option<&Frame>) -> Option<Option<Frame>>
-        ensures { IfSome result (λ next. IsPoised self.now (option_copied waiting.entry) next) }
+        ensures some { IfSome result (λ next. IsPoised self.now (option_copied waiting.entry) next) }
+        ensures none { IsNone result → (next : Option Parts) → IsPoised self.now (option_copied waiting.entry) next → ⊥ }
     {
         if self.overloads.pending != 0 {
             return None;

@@ -10,15 +10,12 @@ use Rattle.can_frame.specs.Parts.{Parts, IsFrame}
 use Rattle.can_frame.specs.Arbitration.{arbitration_field, Before}
 use Rattle.can_wire.specs.Layout.{level_at}
 use Rattle.can_wire.specs.Wire.{stuffed_part}
-use Rattle.can_fault.specs.declared.cause.Cause.TheVariants.{FrameSent, FrameReceived}
-use Rattle.can_fault.specs.Counters.{ConfineParts, counted, is_passive}
-use Rattle.can_mac.specs.declared.event.Event.{Event}
+use Rattle.can_fault.specs.Counters.{ConfineParts}
 use Rattle.can_mac.specs.declared.event.Event.TheVariants.{Sent, Received}
 use Rattle.can_mac.specs.declared.phase.Role.{Role}
 use Rattle.can_mac.specs.declared.phase.Role.TheVariants.{Receiver, Sender}
 use Rattle.can_mac.specs.State.{MacState, IsFrameOrNone}
-use Rattle.can_mac.specs.Machine.{mac_drives, mac_step}
-use Rattle.can_mac.specs.Frames.{with_intermission, behind_part, role_at, frame_state, frame_event, frame_drives, end_event, behind_frame, settled, GoesBehind, IsPoised}
+use Rattle.can_mac.specs.Frames.{with_intermission, behind_part, role_at, frame_state, frame_event, frame_drives, end_event, behind_frame, GoesBehind, IsPoised}
 use Rattle.can_mac.proofs.FrameDrives.{begins-drives, drives-frame}
 use Rattle.can_mac.proofs.FrameEnds.{end_levels, end_state, sender-settles}
 use Rattle.can_mac.proofs.FrameParts.{length-with_intermission, line-late}

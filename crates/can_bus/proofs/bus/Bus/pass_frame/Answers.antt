@@ -1,5 +1,5 @@
-use Rattle.std.proofs.Common.{◌≡◌, ◌<◌, ◌++◌, List, drop, length, map, take, arith, rules, ap, subst, ◌∙◌}
-use Rattle.std.proofs.lemmas.List.{length-map, take_at}
+use Rattle.std.proofs.Common.{◌≡◌, ◌++◌, List, drop, length, map, take, arith, rules, ap, subst, ◌∙◌}
+use Rattle.std.proofs.lemmas.List.{take_at}
 use Rattle.can_node.specs.Ports.{PortState, port_run}
 use Rattle.can_bus.specs.Passing.{IsReceived, PassesBus}
 use Rattle.can_bus.specs.State.{state_of}

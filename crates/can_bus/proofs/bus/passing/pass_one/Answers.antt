@@ -1,5 +1,4 @@
-use Rattle.std.proofs.Common.{arith, sym, ◌∙◌, inl, inr}
-use Rattle.std.proofs.lemmas.Bool.{cond-true}
+use Rattle.std.proofs.Common.{arith, sym, ◌∙◌}
 use Rattle.can_frame.specs.declared.level.Level.TheVariants.{Dominant}
 use Rattle.can_node.proofs.RunLemmas.{port_run-next, port_run-all}
 use Rattle.can_bus.proofs.bus.passing.pass_one.Goals as goal

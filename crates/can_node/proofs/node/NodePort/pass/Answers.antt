@@ -1,4 +1,4 @@
-use Rattle.std.proofs.Common.{◌≡◌, Option, Some, IsTrue, IsFalse, sym, ap, subst, ◌∙◌}
+use Rattle.std.proofs.Common.{◌≡◌, Some, IsTrue, IsFalse, sym, ap, subst, ◌∙◌}
 use Rattle.std.specs.Option.{option_copied}
 use Rattle.std.specs.Prelude.{if◌then◌else◌}
 use Rattle.can_frame.specs.Arbitration.{Before, arbitration_field}
@@ -6,7 +6,7 @@ use Rattle.can_frame.specs.Parts.{Parts}
 use Rattle.can_mac.specs.declared.event.Event.TheVariants.{Sent, Received}
 use Rattle.can_mac.specs.Frames.{GoesBehind}
 use Rattle.can_mac.specs.State.{IsFrameOrNone}
-use Rattle.can_node.specs.Ports.{PortState, port_noting, port_run, waiting}
+use Rattle.can_node.specs.Ports.{PortState, port_noting, port_run}
 use Rattle.can_node.specs.Tournament.{frames_in}
 use Rattle.can_node.proofs.FramesWaiting.{AreFrames-from, IsWaiting-waiting}
 use Rattle.can_node.proofs.OneFrame.{at_mac}
