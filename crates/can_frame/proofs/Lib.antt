@@ -31,3 +31,4 @@ pub mod PartsTold
 pub mod TextStages
 pub mod TextEnds
 pub mod Written
+pub mod AsciiText

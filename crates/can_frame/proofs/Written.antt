@@ -1,36 +1,16 @@
 -- Writing hexadecimal digits.
-use Rattle.std.proofs.Common.{◌≡◌, ℕ, zero, suc, ◌+◌, ◌-◌, ◌*◌, ◌/◌, ◌%◌, ◌^◌, ◌<◌, ◌≤◌, Bool, true, List, [], ◌∷◌, ◌++◌, get_or, take, drop, refl, sym, ◌∙◌, ap, subst, arith, append_assoc, Result, Ok, Err, MatchResult, IsOk}
-use Rattle.std.specs.Prelude.{IsUtf8, nat_lt}
-use Rattle.std.specs.Int.{w32, byte_at, bytes_high_first, to_be_bytes}
-use Rattle.std.specs.Str.{IsAscii}
-use Rattle.std.proofs.lemmas.List.{drop_at}
+use Rattle.std.proofs.Common.{◌≡◌, ℕ, zero, suc, ◌+◌, ◌-◌, ◌*◌, ◌/◌, ◌%◌, ◌^◌, ◌<◌, Bool, List, [], ◌∷◌, ◌++◌, length, get_or, take, refl, sym, ◌∙◌, ap, arith, append_assoc}
+use Rattle.std.specs.Int.{byte_at, bytes_high_first}
+use Rattle.std.proofs.lemmas.List.{append-nil, take_more}
 use Rattle.std.proofs.lemmas.Nat.{pow-add, mul-pow}
-use Rattle.std.proofs.lemmas.Bool.{ltb-true}
-use Rattle.std.proofs.lemmas.List.Elements.{All-weaker}
-use Rattle.std.proofs.lemmas.List.Sums.{AllPass-from_list_all}
-use Rattle.std.proofs.lemmas.Str.Ascii.{IsAscii-from_all}
-use Rattle.std.proofs.lemmas.Str.{IsUtf8-from_ascii, IsAscii-drop, IsAscii-take}
+use Rattle.std.proofs.Math.Nat.{pow-suc}
 use Rattle.hex.specs.Hex.{encode_lower, lower_digits}
-use Rattle.hex.proofs.HexLemmas.{IsAscii-encode_with}
 use Rattle.can_frame.specs.Ident.{Ident}
 use Rattle.can_frame.specs.Parts.{Parts}
 use Rattle.can_frame.specs.Text.{frame_text, letter_part, direction_part, hex_digits, decimal_digits, blank_before}
 use Rattle.can_frame.specs.TextParts.{letter_spelling, identifier_spelling}
 use Rattle.can_frame.proofs.PartsTold.{letter_part_is, direction_part_is}
-use Rattle.can_frame.proofs.HexDigits.{hex_digits-add, length-hex_digits, encode_lower-cons, encode_lower-nil}
-
--- ---- digits are text
-
-lower_digits_are_ascii : IsAscii lower_digits
-lower_digits_are_ascii =
-    IsAscii-from_all lower_digits
-    (All-weaker (λ b. nat_lt b 128 ≡ true) (λ b. b < 128) (λ b. ltb-true b 128) lower_digits
-    (AllPass-from_list_all (λ b. nat_lt b 128) lower_digits refl))
-
-pub hex_is_utf8 : (m n : ℕ) (digits bytes : List ℕ) → digits ≡ encode_lower bytes → IsUtf8 (take m (drop n digits))
-hex_is_utf8 m n digits bytes e =
-    let ascii = subst IsAscii (sym e) (IsAscii-encode_with lower_digits bytes lower_digits_are_ascii) in
-    IsUtf8-from_ascii (take m (drop n digits)) (IsAscii-take (drop n digits) m (IsAscii-drop digits n ascii))
+use Rattle.can_frame.proofs.HexDigits.{hex_digits-add, encode_lower-append, encode_lower-cons, encode_lower-nil}
 
 -- ---- the digits of a number's bytes
 
@@ -61,30 +41,41 @@ bytes_digits (suc k) n =
     ∙ ap (λ t. hex_digits 2 (n / 16 ^ (2 * k)) ++ t) (bytes_digits k n)
     ∙ sym (hex_digits-add 2 (2 * k) n) ∙ ap (λ m. hex_digits m n) (let e : 2 + 2 * k ≡ 2 * suc k = omega arith in e)
 
--- the last digits of a number's four bytes
-pub last_digits : (skipped count n : ℕ) → skipped + count ≡ 8
-    → drop skipped (encode_lower (to_be_bytes w32 n)) ≡ hex_digits count n
-last_digits skipped count n whole =
-    let split : encode_lower (to_be_bytes w32 n) ≡ hex_digits skipped (n / 16 ^ count) ++ hex_digits count n =
-    bytes_digits 4 n ∙ ap (λ m. hex_digits m n) (let e : 2 * 4 ≡ skipped + count = omega arith in e)
-    ∙ hex_digits-add skipped count n in
-    ap (drop skipped) split ∙ drop_at (hex_digits skipped (n / 16 ^ count)) (hex_digits count n) skipped
-    (length-hex_digits skipped (n / 16 ^ count))
+-- ---- digits one by one
+
+four_bits : (k : ℕ) → 2 ^ (4 * k) ≡ 16 ^ k
+four_bits zero = refl
+four_bits (suc k) =
+    ap (λ m. 2 ^ m) (let e : 4 * suc k ≡ 4 * k + 4 = omega arith in e) ∙ pow-add 2 (4 * k) 4
+    ∙ ap (λ p. p * 16) (four_bits k) ∙ sym (pow-suc 16 k)
+
+-- the first of a number's last digits behind a text
+pub digit_written : (old new : List ℕ) (place n : ℕ) → 0 < place
+    → new ≡ old ++ hex_digits 1 (n / 2 ^ (4 * (place - 1)))
+    → new ++ hex_digits (place - 1) n ≡ old ++ hex_digits place n
+digit_written old new place n some written =
+    let rest = place - 1 in
+    ap (λ t. t ++ hex_digits rest n) written
+    ∙ append_assoc old (hex_digits 1 (n / 2 ^ (4 * rest))) (hex_digits rest n)
+    ∙ ap (λ p. old ++ (hex_digits 1 (n / p) ++ hex_digits rest n)) (four_bits rest)
+    ∙ ap (λ t. old ++ t) (sym (hex_digits-add 1 rest n))
+    ∙ ap (λ k. old ++ hex_digits k n) (let e : 1 + rest ≡ place = omega arith in e)
+
+-- one more byte behind a text
+pub byte_written : (old before new bytes : List ℕ) (index : ℕ) → index < length bytes → get_or bytes index 0 < 256
+    → before ≡ old ++ encode_lower (take index bytes) → new ≡ before ++ hex_digits 2 (get_or bytes index 0)
+    → new ≡ old ++ encode_lower (take (index + 1) bytes)
+byte_written old before new bytes index more small first next =
+    let byte = get_or bytes index 0 in
+    let front = encode_lower (take index bytes) in
+    let one : encode_lower (byte ∷ []) ≡ hex_digits 2 byte =
+    encode_lower-cons byte [] small ∙ ap (λ t. hex_digits 2 byte ++ t) encode_lower-nil ∙ append-nil (hex_digits 2 byte) in
+    next ∙ ap (λ t. t ++ hex_digits 2 byte) first ∙ append_assoc old front (hex_digits 2 byte)
+    ∙ ap (λ t. old ++ (front ++ t)) (sym one)
+    ∙ ap (λ t. old ++ t) (sym (encode_lower-append (take index bytes) (byte ∷ [])))
+    ∙ ap (λ t. old ++ encode_lower t) (sym (take_more bytes index 0 more))
 
 -- ---- texts
-
-pub from_utf8_is_ok : {X Y : Type 0} (r : Result X Y) (P : X → Type 0) (Q : Y → Type 0) (bytes : List ℕ) → IsUtf8 bytes
-    → MatchResult r P (λ e. (IsUtf8 bytes → ⊥) × Q e) → IsOk r
-from_utf8_is_ok (Ok x) P Q bytes h m = refl
-from_utf8_is_ok (Err e) P Q bytes h m = absurd (m.0 h)
-
--- a number's digits behind a text
-pub number_written : (old new bytes : List ℕ) (count n : ℕ) → count ≤ 8 → bytes ≡ to_be_bytes w32 n
-    → new ≡ old ++ drop (8 - count) (encode_lower bytes)
-    → new ≡ old ++ hex_digits count n
-number_written old new bytes count n few are written =
-    written ∙ ap (λ t. old ++ drop (8 - count) (encode_lower t)) are
-    ∙ ap (λ t. old ++ t) (last_digits (8 - count) count n (omega arith))
 
 -- one part after another
 five_written : (t0 t1 t2 t3 t4 t5 a b c d e : List ℕ) → t0 ≡ [] → t1 ≡ t0 ++ a → t2 ≡ t1 ++ b → t3 ≡ t2 ++ c

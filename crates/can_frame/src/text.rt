@@ -1,6 +1,7 @@
 //! The text of a frame: one line, and one spelling a frame. `read` reads its parts, and `write`
 //! writes them.
 ghost use Rattle.std.specs.Prelude.{◌≡◌, ◌≤◌, length, IfOk, IfErr};
+ghost use Rattle.std.specs.Str.{IsAscii};
 ghost use Rattle.can_frame.specs.Parts.{Parts, IsFrame};
 ghost use Rattle.can_frame.specs.Text.{frame_text, IsTextFault};
 
@@ -9,7 +10,8 @@ mod write;
 
 use crate::frame::Frame;
 use TextFaultKind::{DataOrRemote, KindLetter, Trailing};
-use arrayvec::ArrayString;
+use arrayvec::{ArrayString, ArrayVec};
+use std::str;
 use thiserror::Error;
 
 /// The part of a frame text in which a fault lies.
@@ -54,10 +56,23 @@ impl Frame {
         ensures text { result.bytes ≡ frame_text self.now }
         ensures bound { length result.bytes ≤ 32 }
     {
-        let mut text = ArrayString::new();
-        write::letter(&mut text, 'S', 'E', self.is_extended());
+        let bytes = self.text_bytes();
+        // SAFETY: each byte is ASCII.
+        let text = unsafe { str::from_utf8_unchecked(bytes.as_slice()) };
+        ArrayString::from(text).unwrap()
+    }
+
+    /// The bytes of the frame's text, as [`to_text`](Frame::to_text) has it: for callers that write
+    /// bytes.
+    pub fn text_bytes(&self) -> ArrayVec<u8, 32>
+        ensures text { result.items ≡ frame_text self.now }
+        ensures ascii { IsAscii result.items }
+        ensures bound { length result.items ≤ 32 }
+    {
+        let mut text = ArrayVec::new();
+        write::letter(&mut text, b'S', b'E', self.is_extended());
         write::identifier(&mut text, self.id());
-        write::letter(&mut text, 'D', 'R', self.is_remote());
+        write::letter(&mut text, b'D', b'R', self.is_remote());
         write::data_length_code(&mut text, self.dlc(), self.bytes());
         write::data(&mut text, self.bytes());
         text

@@ -154,7 +154,7 @@ fn written_entry(entry: &Entry) -> Line
     let mut line = ArrayVec::new();
     push(&mut line, b"  ");
     push(&mut line, mark(entry.sent));
-    push(&mut line, entry.frame.to_text().as_bytes());
+    push(&mut line, entry.frame.text_bytes().as_slice());
     push(&mut line, b"\n");
     line
 }

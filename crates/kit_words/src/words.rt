@@ -45,7 +45,7 @@ fn push_frame(out: &mut Vec<u8>, word: &[u8], frame: &Frame) -> Result<(), Alloc
     ensures { OnOk result (out.new.items ≡ out.old.items ++ (word.now ++ frame_text frame.now)) }
 {
     push_text(out, word)?;
-    push_text(out, frame.to_text().as_bytes())
+    push_text(out, frame.text_bytes().as_slice())
 }
 
 /// Appends what kind of error was detected.

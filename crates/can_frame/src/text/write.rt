@@ -1,89 +1,89 @@
 //! Writes the parts of a frame's text. Each function appends one part, with the blank that follows it.
-ghost use Rattle.std.specs.Prelude.{◌≡◌, ◌<◌, ◌≤◌, ◌+◌, ◌-◌, ◌*◌, ◌++◌, length, drop};
-ghost use Rattle.arrayvec.specs.ArrayString.{array_string_len};
+ghost use Rattle.std.specs.Prelude.{◌≡◌, ◌<◌, ◌≤◌, ◌+◌, ◌*◌, ◌++◌, length};
+ghost use Rattle.arrayvec.specs.ArrayVec.{array_vec_len};
 ghost use Rattle.hex.specs.Hex.{encode_lower};
 ghost use Rattle.can_frame.specs.Text.{blank_before, decimal_digits, hex_digits, identifier_digits};
 ghost use Rattle.can_frame.specs.TextParts.{letter_spelling, identifier_spelling};
 
 use crate::id::Id;
-use arrayvec::ArrayString;
-use std::str;
+use arrayvec::ArrayVec;
 
-/// One of two ASCII letters.
-pub(super) fn letter(text: &mut ArrayString<32>, first: char, second: char, is_second: bool)
-    requires first { first < 128 }
-    requires second { second < 128 }
-    requires room { array_string_len text.old + 2 ≤ 32 }
-    ensures written { text.new.bytes ≡ text.old.bytes ++ letter_spelling first second is_second }
-    ensures len { array_string_len text.new ≡ array_string_len text.old + 2 }
+/// The digits by what they stand for.
+const DIGITS: [u8; 16] = *b"0123456789abcdef";
+
+/// One of two letters.
+pub(super) fn letter(text: &mut ArrayVec<u8, 32>, first: u8, second: u8, is_second: bool)
+    requires { array_vec_len text.old + 2 ≤ 32 }
+    ensures written { text.new.items ≡ text.old.items ++ letter_spelling first second is_second }
+    ensures len { array_vec_len text.new ≡ array_vec_len text.old + 2 }
 {
     text.push(if is_second { second } else { first });
-    text.push(' ');
+    text.push(b' ');
 }
 
 /// The identifier.
-pub(super) fn identifier(text: &mut ArrayString<32>, id: Id)
-    requires { array_string_len text.old + identifier_digits id.extended + 1 ≤ 32 }
-    ensures written { text.new.bytes ≡ text.old.bytes ++ identifier_spelling id.extended id.raw }
-    ensures len { array_string_len text.new
-        ≡ array_string_len text.old + identifier_digits id.extended + 1 }
+pub(super) fn identifier(text: &mut ArrayVec<u8, 32>, id: Id)
+    requires { array_vec_len text.old + identifier_digits id.extended + 1 ≤ 32 }
+    ensures written { text.new.items ≡ text.old.items ++ identifier_spelling id.extended id.raw }
+    ensures len { array_vec_len text.new
+        ≡ array_vec_len text.old + identifier_digits id.extended + 1 }
 {
-    number(text, id.raw(), identifier_digits(id.is_extended()));
-    text.push(' ');
+    // each with a count of its own, so that its digits need no loop
+    if id.is_extended() {
+        number(text, id.raw(), 8);
+    } else {
+        number(text, id.raw(), 3);
+    }
+    text.push(b' ');
 }
 
 /// The DLC, and a blank only where there are data bytes.
-pub(super) fn data_length_code(text: &mut ArrayString<32>, dlc: u8, bytes: &[u8])
+pub(super) fn data_length_code(text: &mut ArrayVec<u8, 32>, dlc: u8, bytes: &[u8])
     requires range { dlc < 16 }
-    requires room { array_string_len text.old + 3 ≤ 32 }
-    ensures written { text.new.bytes
-        ≡ text.old.bytes ++ (decimal_digits dlc ++ blank_before bytes.now) }
-    ensures len { array_string_len text.new ≤ array_string_len text.old + 3 }
+    requires room { array_vec_len text.old + 3 ≤ 32 }
+    ensures written { text.new.items
+        ≡ text.old.items ++ (decimal_digits dlc ++ blank_before bytes.now) }
+    ensures len { array_vec_len text.new ≤ array_vec_len text.old + 3 }
 {
     if dlc >= 10 {
-        text.push('1');
+        text.push(b'1');
+        text.push(b'0' + (dlc - 10));
+    } else {
+        text.push(b'0' + dlc);
     }
-    text.push(char::from(b'0' + dlc % 10));
     if !bytes.is_empty() {
-        text.push(' ');
+        text.push(b' ');
     }
 }
 
 /// Eight data bytes at most.
-pub(super) fn data(text: &mut ArrayString<32>, bytes: &[u8])
+pub(super) fn data(text: &mut ArrayVec<u8, 32>, bytes: &[u8])
     requires few { length bytes.now ≤ 8 }
-    requires room { array_string_len text.old + 2 * length bytes.now ≤ 32 }
-    ensures { text.new.bytes ≡ text.old.bytes ++ encode_lower bytes.now }
+    requires room { array_vec_len text.old + 2 * length bytes.now ≤ 32 }
+    ensures { text.new.items ≡ text.old.items ++ encode_lower bytes.now }
 {
-    hexadecimal(text, bytes, 0);
-}
-
-/// How many digits an identifier has.
-fn identifier_digits(is_extended: bool) -> usize
-    ensures { result ≡ identifier_digits is_extended }
-{
-    if is_extended { 8 } else { 3 }
+    for &byte in bytes {
+        number(text, u32::from(byte), 2);
+    }
 }
 
 /// So many of a number's lowest hexadecimal digits, eight at most.
-fn number(text: &mut ArrayString<32>, number: u32, count: usize)
+fn number(text: &mut ArrayVec<u8, 32>, number: u32, count: usize)
     requires few { count ≤ 8 }
-    requires room { array_string_len text.old + count ≤ 32 }
-    ensures written { text.new.bytes ≡ text.old.bytes ++ hex_digits count number }
-    ensures len { array_string_len text.new ≡ array_string_len text.old + count }
+    requires room { array_vec_len text.old + count ≤ 32 }
+    ensures written { text.new.items ≡ text.old.items ++ hex_digits count number }
+    ensures len { array_vec_len text.new ≡ array_vec_len text.old + count }
 {
-    hexadecimal(text, &number.to_be_bytes(), 8 - count);
+    for place in (0..count).rev() {
+        digit(text, number >> (4 * place));
+    }
 }
 
-/// Eight bytes at most in lower-case hexadecimal, without so many of the first digits.
-fn hexadecimal(text: &mut ArrayString<32>, bytes: &[u8], skipped: usize)
-    requires few { length bytes.now ≤ 8 }
-    requires skipped { skipped ≤ 2 * length bytes.now }
-    requires room { array_string_len text.old + (2 * length bytes.now - skipped) ≤ 32 }
-    ensures { text.new.bytes ≡ text.old.bytes ++ drop skipped (encode_lower bytes.now) }
+/// The lowest hexadecimal digit of a number, in lower case.
+fn digit(text: &mut ArrayVec<u8, 32>, number: u32)
+    requires room { array_vec_len text.old + 1 ≤ 32 }
+    ensures written { text.new.items ≡ text.old.items ++ hex_digits 1 number }
+    ensures len { array_vec_len text.new ≡ array_vec_len text.old + 1 }
 {
-    let mut buffer = [0; 16];
-    let digits = &mut buffer[..2 * bytes.len()];
-    hex::encode_to_slice(bytes, digits).unwrap();
-    text.push_str(str::from_utf8(&digits[skipped..]).unwrap());
+    text.push(DIGITS[(number % 16) as usize]);
 }

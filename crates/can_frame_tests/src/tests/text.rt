@@ -19,7 +19,9 @@ const TEXTS: &[&str] = &[
 
 fn is_kept(text: &str) -> bool {
     match frame_of(text) {
-        Some(frame) => frame.to_text().as_str() == text,
+        Some(frame) => {
+            frame.to_text().as_str() == text && frame.text_bytes().as_slice() == text.as_bytes()
+        }
         None => false,
     }
 }

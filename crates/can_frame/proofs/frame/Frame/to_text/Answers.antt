@@ -1,22 +1,5 @@
-use Rattle.std.proofs.Common.{◌≡◌, ◌≤◌, length, sym, ap, subst}
-use Rattle.can_frame.specs.Text.{frame_text}
-use Rattle.can_frame.proofs.Written.{text_written}
-use Rattle.can_frame.proofs.TextLengths.{length-frame_text}
+use Rattle.std.proofs.lemmas.Str.{IsUtf8-from_ascii}
 use Rattle.can_frame.proofs.frame.Frame.to_text.Goals as goal
-use Rattle.can_frame.proofs.frame.Frame.to_text.Goals.{After-data}
 
-written : (c : After-data) → c.data.new.text.bytes ≡ frame_text c.args.self.now
-written c =
-    text_written c.args.self.now c.new-text.result.bytes c.letter.new.text.bytes c.identifier.new.text.bytes
-    c.letter-2.new.text.bytes
-    c.data_length_code.new.text.bytes c.data.new.text.bytes c.is_extended.result c.is_remote.result c.id.result
-    c.dlc.result c.bytes.result.now c.bytes-2.result.now
-    c.is_extended.ensures c.id.ensures c.is_remote.ensures c.dlc.ensures.value c.bytes.ensures.value c.bytes-2.ensures.value
-    c.new-text.ensures c.letter.ensures.written c.identifier.ensures.written c.letter-2.ensures.written
-    c.data_length_code.ensures.written c.data.ensures
-
-pub returns-clause-text : goal.returns-clause-text
-returns-clause-text c = written c
-
-pub returns-clause-bound : goal.returns-clause-bound
-returns-clause-bound c = subst (λ n. n ≤ 32) (ap length (sym (written c))) (length-frame_text c.args.self.now c.bytes.ensures.whole)
+pub from_utf8_unchecked-text-requires : goal.from_utf8_unchecked-text-requires
+from_utf8_unchecked-text-requires c = IsUtf8-from_ascii _ (rw c.as_slice.ensures.value c.text_bytes-bytes.ensures.ascii)

@@ -1,22 +1,19 @@
-use Rattle.std.proofs.Common.{ap, arith, length, length-append}
+use Rattle.std.proofs.Common.{◌≡◌, ◌++◌, ap, sym, ◌∙◌, arith}
+use Rattle.std.proofs.lemmas.List.{append-nil}
 use Rattle.can_frame.specs.Text.{hex_digits}
-use Rattle.can_frame.proofs.HexDigits.{length-hex_digits}
-use Rattle.can_frame.proofs.Written.{number_written}
+use Rattle.can_frame.proofs.Written.{digit_written}
 use Rattle.can_frame.proofs.text.write.number.Goals as goal
 
-pub returns-clause-written : goal.returns-clause-written
-returns-clause-written c =
-    number_written c.args.text.now.bytes c.hexadecimal.new.text.bytes c.to_be_bytes.result c.args.count c.args.number
-    c.requires.few c.to_be_bytes.ensures c.hexadecimal.ensures
+pub loop-place-preserved : goal.loop-place-preserved
+loop-place-preserved c = record {
+  items = digit_written c.loop-place.text.items c.digit.new.text.items c.loop-place.place c.args.number (omega arith)
+      c.digit.ensures.written ∙ c.loop-place.invariant.items;
+  len = omega (arith, c.digit.ensures.len, c.loop-place.invariant.len);
+}
 
-pub returns-clause-len : goal.returns-clause-len
-returns-clause-len c =
-    let old = c.args.text.now.bytes in
-    let written = number_written old c.hexadecimal.new.text.bytes c.to_be_bytes.result c.args.count c.args.number
-    c.requires.few c.to_be_bytes.ensures c.hexadecimal.ensures in
-    omega (
-      arith,
-      ap length written,
-      length-append old (hex_digits c.args.count c.args.number),
-      length-hex_digits c.args.count c.args.number,
-    )
+pub returns-clause-written : goal.returns-clause-written
+unfolding hex_digits
+returns-clause-written c =
+    let text = c.loop-place.text.items in
+    let none : c.loop-place.place ≡ 0 = omega arith in
+    sym (append-nil text) ∙ ap (λ k. text ++ hex_digits k c.args.number) (sym none) ∙ c.loop-place.invariant.items
