@@ -158,3 +158,7 @@ module _ (f : Parts) (is : IsFrame f) (p : PortState) (valid : IsPort p) (aside 
   pub stays-off : (o : ℕ) → o < length (with_intermission f) → is_off_phase (port_run p (take o (with_intermission f))).mac.phase ≡ true
   stays-off zero within = ap (λ (q : PortState). is_off_phase q.mac.phase) unrun ∙ begins
   stays-off (suc o) within = (stays o within).off
+
+  pub stays-counted : (o : ℕ) → o < length (with_intermission f) → is_bus_off (port_run p (take o (with_intermission f))).mac.counters ≡ true
+  stays-counted zero within = ap (λ (q : PortState). is_bus_off q.mac.counters) unrun ∙ aside
+  stays-counted (suc o) within = (stays o within).counts

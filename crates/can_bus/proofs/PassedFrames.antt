@@ -10,20 +10,22 @@ use Rattle.can_frame.specs.Parts.{Parts, IsFrame}
 use Rattle.can_wire.specs.Layout.{level_at}
 use Rattle.can_wire.specs.Wire.{driven, stuffed_part, tail}
 use Rattle.can_mac.specs.Frames.{driven_with_intermission, role_drives, with_intermission}
+use Rattle.can_mac.specs.State.{MacState}
 use Rattle.can_mac.proofs.FrameRoles.{line-start, role-own}
 use Rattle.can_node.specs.Ports.{PortState, IsPort, port_drives, port_run, port_step}
 use Rattle.can_node.proofs.FrameLeaves.{goes-behind}
 use Rattle.can_node.proofs.FramesWaiting.{AreFrames-from, IsWaiting-waiting}
 use Rattle.can_node.proofs.Passing.{Enters, begins-kept, comes-behind, run-drives}
+use Rattle.can_node.proofs.Riding.{run-rides}
 use Rattle.can_hit.specs.declared.hit.Hit.{Hit}
 use Rattle.can_hit.specs.declared.hit.Hit.TheVariants.{At, View}
 use Rattle.can_bus.specs.declared.call.Call.{Call}
 use Rattle.can_bus.specs.declared.moment.Attempt.{Attempt}
-use Rattle.can_bus.specs.Passing.{IsAside, IsReceived, MayPass, PassesAt, PassesBus, PassesBy, PassesByAll, PassesFrom, Receives}
+use Rattle.can_bus.specs.Passing.{IsAside, IsReceived, LeadsTo, MayPass, MayPassAll, PassesAt, PassesBus, PassesBy, PassesByAll, PassesFrom, Receives}
 use Rattle.can_bus.specs.Run.{CallState, all_sampled, aged, attempt_now, begins_attempt, bus_after, bus_step, following, hits_view, hits_wire, inverted_if, recorded, rest_after, wired_level}
 use Rattle.can_bus.specs.Walks.{AreBelow, IsCall, IsFreeFrom, IsPassed, aged_by, in_now}
 use Rattle.can_bus.specs.Wired.{over, wired}
-use Rattle.can_bus.proofs.AsidePorts.{aside-drives, stays-off}
+use Rattle.can_bus.proofs.AsidePorts.{aside-drives, stays-counted, stays-off}
 use Rattle.can_bus.proofs.BusAtRest.{aged_more, aged_none}
 use Rattle.can_bus.proofs.Contests.{AllPorts}
 use Rattle.can_bus.proofs.FrameOnBus.{receiver-joins}
@@ -214,24 +216,25 @@ abbrev pub latest_at : Option Attempt → ℕ → Option Attempt
 latest_at latest zero = latest
 latest_at latest (suc o) = aged_by o (Some (following latest))
 
--- A frame begins as the bus has rested, and no hit falls in its bit times, in each of which the ports drive its level.
+-- A frame begins as the bus has rested, and no hit falls in its first m bit times, in each of which the ports drive its
+-- level.
 module _ (hits : List Hit) (f : Parts) (is : IsFrame f) (time : ℕ) (latest : Option Attempt) (P : ℕ → List PortState)
-    (wires : (o : ℕ) → o < length (with_intermission f) → wired (map port_drives (P o)) ≡ level_at (with_intermission f) o)
-    (free : IsFreeFrom hits time (Some (following latest)) (length (with_intermission f))) where
+    (m : ℕ) (short : m ≤ length (with_intermission f)) (wires : (o : ℕ) → o < m → wired (map port_drives (P o)) ≡ level_at (with_intermission f) o)
+    (free : IsFreeFrom hits time (Some (following latest)) m) where
   -- the call in bit time o
   abbrev pub stage : ℕ → CallState
   stage o = record { bus = record { ports = P o; rest = rest_run 11 (take o (with_intermission f)) }; time = time + o; latest = latest_at latest o }
 
-  attempt-at : (o : ℕ) → o < length (with_intermission f) → attempt_now (stage o) ≡ latest_at latest (suc o)
+  attempt-at : (o : ℕ) → o < m → attempt_now (stage o) ≡ latest_at latest (suc o)
   attempt-at zero within =
       ap (λ x. if begins_attempt (rest_run 11 (take 0 (with_intermission f))) x then Some (following latest) else aged latest) (wires 0 within ∙ line-start f)
       ∙ ap (λ ls. if begins_attempt (rest_run 11 ls) Dominant then Some (following latest) else aged latest) (none-taken (with_intermission f))
       ∙ aged_none (Some (following latest))
   attempt-at (suc o) within =
-      cond-false (begins_attempt (rest_run 11 (take (suc o) (with_intermission f))) (wired_level (stage (suc o)))) _ _ (none-begins f is 11 (suc o) (omega arith) within (wired_level (stage (suc o))))
+      cond-false (begins_attempt (rest_run 11 (take (suc o) (with_intermission f))) (wired_level (stage (suc o)))) _ _ (none-begins f is 11 (suc o) (omega arith) (omega (arith, within, short)) (wired_level (stage (suc o))))
       ∙ aged_more o (Some (following latest)) ∙ ap (λ k. aged_by k (Some (following latest))) (let e : o + 1 ≡ suc o = omega arith in e)
 
-  pub stage-level : (o : ℕ) → o < length (with_intermission f) → recorded hits (stage o) ≡ level_at (with_intermission f) o
+  pub stage-level : (o : ℕ) → o < m → recorded hits (stage o) ≡ level_at (with_intermission f) o
   unfolding recorded
   stage-level o within =
       ap (λ l. inverted_if (list_any (hits_wire (time + o) l) hits) (wired_level (stage o))) (attempt-at o within)
@@ -239,7 +242,7 @@ module _ (hits : List Hit) (f : Parts) (is : IsFrame f) (time : ℕ) (latest : O
       ∙ wires o within
 
   -- and behind it
-  pub stage-step : (o : ℕ) → o < length (with_intermission f) →
+  pub stage-step : (o : ℕ) → o < m →
       bus_step hits (stage o)
       ≡ record { bus = record { ports = map (sees (level_at (with_intermission f) o)) (P o); rest = rest_run 11 (take (suc o) (with_intermission f)) }; time = time + suc o; latest = latest_at latest (suc o) }
   unfolding bus_step
@@ -250,7 +253,7 @@ module _ (hits : List Hit) (f : Parts) (is : IsFrame f) (time : ℕ) (latest : O
       ap (λ y. let c : CallState = record { bus = record { ports = all_sampled hits (time + o) y 0 (P o); rest = rest_after rest y }; time = time + o + 1; latest = attempt_now (stage o) } in c) (stage-level o within)
       ∙ ap (λ ps. let c : CallState = record { bus = record { ports = ps; rest = rest_after rest x }; time = time + o + 1; latest = attempt_now (stage o) } in c)
       (unviewed hits (time + o) x (λ node. free.view o node within) 0 (P o))
-      ∙ ap (λ r. let c : CallState = record { bus = record { ports = seen; rest = r }; time = time + o + 1; latest = attempt_now (stage o) } in c) (sym (rest_at-next f is 11 o within))
+      ∙ ap (λ r. let c : CallState = record { bus = record { ports = seen; rest = r }; time = time + o + 1; latest = attempt_now (stage o) } in c) (sym (rest_at-next f is 11 o (omega (arith, within, short))))
       ∙ ap (λ t. let c : CallState = record { bus = record { ports = seen; rest = rest_run 11 (take (suc o) (with_intermission f)) }; time = t; latest = attempt_now (stage o) } in c) (let e : time + o + 1 ≡ time + suc o = omega arith in e)
       ∙ ap (λ l. let c : CallState = record { bus = record { ports = seen; rest = rest_run 11 (take (suc o) (with_intermission f)) }; time = time + suc o; latest = l } in c) (attempt-at o within)
 
@@ -265,41 +268,40 @@ module _ (hits : List Hit) (f : Parts) (is : IsFrame f) (ports : List PortState)
   abbrev first : CallState
   first = record { bus = record { ports = ports; rest = 11 }; time = time; latest = latest }
 
-  module _ (wires : (o : ℕ) → o < length (with_intermission f) → wired (map port_drives (all_after sees (take o (with_intermission f)) ports)) ≡ level_at (with_intermission f) o) (free : IsFreeFrom hits time (Some (following latest)) (length (with_intermission f))) where
+  module _ (m : ℕ) (short : m ≤ length (with_intermission f)) (wires : (o : ℕ) → o < m → wired (map port_drives (all_after sees (take o (with_intermission f)) ports)) ≡ level_at (with_intermission f) o)
+      (free : IsFreeFrom hits time (Some (following latest)) m) where
     abbrev at : ℕ → CallState
-    at o = stage hits f is time latest going wires free o
+    at o = stage hits f is time latest going m short wires free o
 
     first-at : first ≡ at 0
     first-at =
         ap (λ t. let c : CallState = record { bus = record { ports = ports; rest = 11 }; time = t; latest = latest } in c) (let e : time ≡ time + 0 = omega arith in e)
         ∙ ap (λ ls. let c : CallState = record { bus = record { ports = all_after sees ls ports; rest = rest_run 11 ls }; time = time + 0; latest = latest } in c) (sym (none-taken line))
 
-    reaches : (o : ℕ) → o ≤ length line → bus_after hits o first ≡ at o
+    reaches : (o : ℕ) → o ≤ m → bus_after hits o first ≡ at o
     unfolding bus_after
     reaches zero within = first-at
     reaches (suc o) within =
         ap (bus_step hits) (reaches o (omega (arith, within)))
-        ∙ stage-step hits f is time latest going wires free o (omega (arith, within))
-        ∙ ap (λ ps. let c : CallState = record { bus = record { ports = ps; rest = rest_run 11 (take (suc o) line) }; time = time + suc o; latest = latest_at latest (suc o) } in c) (sym (all_after-next sees line ports o (omega (arith, within))))
+        ∙ stage-step hits f is time latest going m short wires free o (omega (arith, within))
+        ∙ ap (λ ps. let c : CallState = record { bus = record { ports = ps; rest = rest_run 11 (take (suc o) line) }; time = time + suc o; latest = latest_at latest (suc o) } in c) (sym (all_after-next sees line ports o (omega (arith, within, short))))
 
     -- the level of each bit time
-    pub passed-level : (o : ℕ) → o < length (with_intermission f) → recorded hits (bus_after hits o (record { bus = record { ports = ports; rest = 11 }; time = time; latest = latest })) ≡ level_at (with_intermission f) o
+    pub passed-level : (o : ℕ) → o < m → recorded hits (bus_after hits o (record { bus = record { ports = ports; rest = 11 }; time = time; latest = latest })) ≡ level_at (with_intermission f) o
     passed-level o within =
         ap (recorded hits) (reaches o (omega (arith, within)))
-        ∙ stage-level hits f is time latest going wires free o within
+        ∙ stage-level hits f is time latest going m short wires free o within
 
     -- and the bus behind them
-    pub passed-after : (n : ℕ) → n ≡ length (with_intermission f) → 0 < n →
+    pub passed-after : (n : ℕ) → n ≤ m → 0 < n →
         bus_after hits n (record { bus = record { ports = ports; rest = 11 }; time = time; latest = latest })
-        ≡ record { bus = record { ports = map (λ p. port_run p (with_intermission f)) ports; rest = 11 }; time = time + n; latest = aged_by (n - 1) (Some (following latest)) }
-    passed-after zero all some = absurd (omega (arith, some))
-    passed-after (suc n) all some =
-        let whole : take (suc n) line ≡ line = take_all (suc n) line (omega (arith, all)) in
-        reaches (suc n) (omega (arith, all))
-        ∙ ap (λ ls. let c : CallState = record { bus = record { ports = all_after sees ls ports; rest = rest_run 11 ls }; time = time + suc n; latest = aged_by n (Some (following latest)) } in c) whole
-        ∙ ap (λ ps. let c : CallState = record { bus = record { ports = ps; rest = rest_run 11 line }; time = time + suc n; latest = aged_by n (Some (following latest)) } in c) (all_after-run line ports)
-        ∙ ap (λ r. let c : CallState = record { bus = record { ports = map (λ p. port_run p line) ports; rest = r }; time = time + suc n; latest = aged_by n (Some (following latest)) } in c) (rest-line f 11)
-        ∙ ap (λ k. let c : CallState = record { bus = record { ports = map (λ p. port_run p line) ports; rest = 11 }; time = time + suc n; latest = aged_by k (Some (following latest)) } in c) (let e : n ≡ suc n - 1 = omega arith in e)
+        ≡ record { bus = record { ports = map (λ p. port_run p (take n (with_intermission f))) ports; rest = rest_run 11 (take n (with_intermission f)) }; time = time + n; latest = aged_by (n - 1) (Some (following latest)) }
+    passed-after zero within some = absurd (omega (arith, some))
+    passed-after (suc n) within some =
+        let front = take (suc n) line in
+        reaches (suc n) within
+        ∙ ap (λ ps. let c : CallState = record { bus = record { ports = ps; rest = rest_run 11 front }; time = time + suc n; latest = aged_by n (Some (following latest)) } in c) (all_after-run front ports)
+        ∙ ap (λ k. let c : CallState = record { bus = record { ports = map (λ p. port_run p front) ports; rest = rest_run 11 front }; time = time + suc n; latest = aged_by k (Some (following latest)) } in c) (let e : n ≡ suc n - 1 = omega arith in e)
 
 -- ---- the hits of a call
 
@@ -378,6 +380,27 @@ bus-lets f [] passes = tt
 bus-lets f (p ∷ ports) (inl one) = (inr (Some f, (one.0, inl refl)), all-let f ports one.1)
 bus-lets f (p ∷ ports) (inr one) = (lets-by f p one.0, bus-lets f ports one.1)
 
+pub each-may : (f : Parts) (ports : List PortState) → MayPassAll f ports → AllPorts (MayPass f) ports
+each-may f [] may = tt
+each-may f (p ∷ ports) may = (may.0, each-may f ports may.1)
+
+all-may : (f : Parts) (ports : List PortState) → PassesByAll f ports → MayPassAll f ports
+all-may f [] by = tt
+all-may f (p ∷ ports) by = (lets-by f p by.0, all-may f ports by.1)
+
+pub bus-may : (f : Parts) (ports : List PortState) → PassesBus f ports → MayPassAll f ports
+bus-may f [] passes = tt
+bus-may f (p ∷ ports) (inl one) = (inr (Some f, (one.0, inl refl)), all-may f ports one.1)
+bus-may f (p ∷ ports) (inr one) = (lets-by f p one.0, bus-may f ports one.1)
+
+-- a port that has sampled the first levels of f
+pub rides-to : (f : Parts) → IsFrame f → (p : PortState) → IsPort p → MayPass f p → (o : ℕ) → 0 < o → o < length (with_intermission f) → LeadsTo f o (port_run p (take o (with_intermission f)))
+rides-to f is p valid may zero some within on = absurd (omega (arith, some))
+rides-to f is p valid (inl aside) (suc o) some within on = absurd (let off = stays-counted f is p valid aside (suc o) within in cc)
+rides-to f is p valid (inr lets) (suc o) some within on =
+    let enters : Enters f p lets.0 = record { frame = is; poised = lets.1.0; kept = begins-kept p lets.0 lets.1.0 (IsWaiting-waiting p.queue (AreFrames-from p.queue valid.queued)); behind = lets.1.1 } in
+    ap (λ (m : MacState). m.phase) (run-rides f p lets.0 enters o within)
+
 -- a port that receives the frame, among the first of some, or behind them
 pub received-first : {X : Type 0} (S : X → PortState) (f : Parts) (xs : List X) (n : ℕ) → IsReceived f (map S (take n xs)) → IsReceived f (map S xs)
 received-first S f [] zero got = absurd got
@@ -449,34 +472,48 @@ at-taken (x ∷ rec) zero t d less within = absurd (omega (arith, less))
 at-taken (x ∷ rec) (suc n) zero d less within = refl
 at-taken (x ∷ rec) (suc n) (suc t) d less within = at-taken rec n t d (omega (arith, less)) (omega (arith, within))
 
--- A frame passes: what is recorded, and the bus behind it.
+-- The first bit times of a frame, in which no hit falls: what is recorded, and the bus behind them.
+module _ (hits : List Hit) (f : Parts) (is : IsFrame f) (ports : List PortState) (rest time : ℕ) (latest : Option Attempt) (rested : rest ≡ 11)
+    (got : IsReceived f ports) (valid : AllPorts IsPort ports) (passes : PassesBus f ports)
+    (rec : List Level) (count : ℕ) (some : count ≢ 0) (within : count ≤ length rec) (short : count ≤ length (with_intermission f)) (are : take count rec ≡ take count (with_intermission f))
+    (free : IsFreeFrom hits time (Some (following latest)) count) where
+  wires : (o : ℕ) → o < count → wired (map port_drives (all_after sees (take o (with_intermission f)) ports)) ≡ level_at (with_intermission f) o
+  wires o more = frame-wires f is ports valid passes got o (omega (arith, more, short))
+
+  pub ridden-recorded : (t : ℕ) (d : Level) → t < count → get_or rec t d ≡ recorded hits (bus_after hits t (record { bus = record { ports = ports; rest = rest }; time = time; latest = latest }))
+  ridden-recorded t d early =
+      at-taken rec count t d early (omega (arith, early, within)) ∙ ap (λ ls. level_at ls t) are
+      ∙ sym (at-taken (with_intermission f) count t Dominant early (omega (arith, early, short)))
+      ∙ sym (passed-level hits f is ports time latest count short wires free t early)
+      ∙ ap (λ r. recorded hits (bus_after hits t (let c : CallState = record { bus = record { ports = ports; rest = r }; time = time; latest = latest } in c))) (sym rested)
+
+  pub ridden-passed : (next : List PortState) (last later : ℕ) (attempt : Option Attempt) → next ≡ map (λ p. port_run p (take count rec)) ports → last ≡ rest_run 11 (take count rec) → later ≡ time + count →
+      attempt ≡ aged_by (count - 1) (Some (following latest)) →
+      record { bus = record { ports = next; rest = last }; time = later; latest = attempt } ≡ bus_after hits count (record { bus = record { ports = ports; rest = rest }; time = time; latest = latest })
+  ridden-passed next last later attempt goes left late aged =
+      ap (λ ps. let c : CallState = record { bus = record { ports = ps; rest = last }; time = later; latest = attempt } in c) goes
+      ∙ ap (λ r. let c : CallState = record { bus = record { ports = map (λ p. port_run p (take count rec)) ports; rest = r }; time = later; latest = attempt } in c) left
+      ∙ ap (λ ls. let c : CallState = record { bus = record { ports = map (λ p. port_run p ls) ports; rest = rest_run 11 ls }; time = later; latest = attempt } in c) are
+      ∙ ap (λ t. let c : CallState = record { bus = record { ports = map (λ p. port_run p (take count (with_intermission f))) ports; rest = rest_run 11 (take count (with_intermission f)) }; time = t; latest = attempt } in c) late
+      ∙ ap (λ a. let c : CallState = record { bus = record { ports = map (λ p. port_run p (take count (with_intermission f))) ports; rest = rest_run 11 (take count (with_intermission f)) }; time = time + count; latest = a } in c) aged
+      ∙ sym (passed-after hits f is ports time latest count short wires free count (omega arith) (omega (arith, some)))
+      ∙ ap (λ r. bus_after hits count (let c : CallState = record { bus = record { ports = ports; rest = r }; time = time; latest = latest } in c)) (sym rested)
+
+-- The same of all its bit times.
 module _ (hits : List Hit) (f : Parts) (is : IsFrame f) (ports : List PortState) (rest time : ℕ) (latest : Option Attempt) (rested : rest ≡ 11)
     (got : IsReceived f ports) (valid : AllPorts IsPort ports) (passes : PassesBus f ports)
     (rec : List Level) (count : ℕ) (some : count ≢ 0) (within : count ≤ length rec) (are : take count rec ≡ with_intermission f) (free : IsFreeFrom hits time (Some (following latest)) count) where
-  abbrev start : CallState
-  start = record { bus = record { ports = ports; rest = rest }; time = time; latest = latest }
-
   size : count ≡ length (with_intermission f)
   size = sym (length-take-le count rec within) ∙ ap length are
 
-  wires : (o : ℕ) → o < length (with_intermission f) → wired (map port_drives (all_after sees (take o (with_intermission f)) ports)) ≡ level_at (with_intermission f) o
-  wires = frame-wires f is ports valid passes got
-
-  free-line : IsFreeFrom hits time (Some (following latest)) (length (with_intermission f))
-  free-line = subst (IsFreeFrom hits time (Some (following latest))) size free
+  front : take count rec ≡ take count (with_intermission f)
+  front = are ∙ sym (take_all count (with_intermission f) (omega (arith, size)))
 
   pub line-recorded : (t : ℕ) (d : Level) → t < count → get_or rec t d ≡ recorded hits (bus_after hits t (record { bus = record { ports = ports; rest = rest }; time = time; latest = latest }))
-  line-recorded t d early =
-      at-taken rec count t d early (omega (arith, early, within)) ∙ ap (λ ls. level_at ls t) are
-      ∙ sym (passed-level hits f is ports time latest wires free-line t (omega (arith, early, size)))
-      ∙ ap (λ r. recorded hits (bus_after hits t (let c : CallState = record { bus = record { ports = ports; rest = r }; time = time; latest = latest } in c))) (sym rested)
+  line-recorded = ridden-recorded hits f is ports rest time latest rested got valid passes rec count some within (omega (arith, size)) front free
 
   pub line-passed : (next : List PortState) (later : ℕ) (attempt : Option Attempt) → next ≡ map (λ p. port_run p (take count rec)) ports → later ≡ time + count → attempt ≡ aged_by (count - 1) (Some (following latest)) →
       record { bus = record { ports = next; rest = rest }; time = later; latest = attempt } ≡ bus_after hits count (record { bus = record { ports = ports; rest = rest }; time = time; latest = latest })
   line-passed next later attempt goes late aged =
-      ap (λ ps. let c : CallState = record { bus = record { ports = ps; rest = rest }; time = later; latest = attempt } in c) (goes ∙ ap (λ ls. map (λ p. port_run p ls) ports) are)
-      ∙ ap (λ t. let c : CallState = record { bus = record { ports = map (λ p. port_run p (with_intermission f)) ports; rest = rest }; time = t; latest = attempt } in c) late
-      ∙ ap (λ a. let c : CallState = record { bus = record { ports = map (λ p. port_run p (with_intermission f)) ports; rest = rest }; time = time + count; latest = a } in c) aged
-      ∙ ap (λ r. let c : CallState = record { bus = record { ports = map (λ p. port_run p (with_intermission f)) ports; rest = r }; time = time + count; latest = aged_by (count - 1) (Some (following latest)) } in c) rested
-      ∙ sym (passed-after hits f is ports time latest wires free-line count size (omega (arith, some)))
-      ∙ ap (λ r. bus_after hits count (let c : CallState = record { bus = record { ports = ports; rest = r }; time = time; latest = latest } in c)) (sym rested)
+      ridden-passed hits f is ports rest time latest rested got valid passes rec count some within (omega (arith, size)) front free
+      next rest later attempt goes (rested ∙ sym (ap (rest_run 11) are ∙ rest-line f 11)) late aged

@@ -3,17 +3,12 @@ use Rattle.std.proofs.Common.{◌≡◌, ℕ, zero, suc, ◌<◌, List, [], ◌�
 use Rattle.can_frame.specs.declared.level.Level.{Level}
 use Rattle.can_wire.specs.Layout.{level_at}
 use Rattle.can_bus.specs.Wired.{over}
-use Rattle.can_bus.specs.Run.{rest_after}
+pub use Rattle.can_bus.specs.Passing.{rest_run}
 use Rattle.can_bus.proofs.Reduction.{Gives, Leads, Joins}
 
 -- each level is seen as it is on the wire
 abbrev pub undisturbed : List Level → List (Level × Level)
 undisturbed levels = map (λ x. (x, x)) levels
-
--- how many recessive levels were recorded last, after these
-abbrev pub rest_run : ℕ → List Level → ℕ
-rest_run rest [] = rest
-rest_run rest (x ∷ levels) = rest_run (rest_after rest x) levels
 
 -- the machines after these levels
 abbrev pub all_after : {M : Type 0} → (Level → M → M) → List Level → List M → List M

@@ -1,13 +1,15 @@
 -- Frames that pass a bus at once, and what is offered meanwhile.
-use Rattle.std.specs.Prelude.{ℕ, zero, suc, ◌≡◌, ◌+◌, ◌⊎◌, true, List, [], ◌∷◌, Option, Some}
+use Rattle.std.specs.Prelude.{ℕ, zero, suc, ◌≡◌, ◌+◌, ◌⊎◌, true, false, List, [], ◌∷◌, Option, Some}
+use Rattle.can_frame.specs.declared.level.Level.{Level}
 use Rattle.can_frame.specs.Parts.{Parts}
 use Rattle.can_frame.specs.Arbitration.{arbitration_field, Before}
 use Rattle.can_fault.specs.Counters.{is_bus_off}
-use Rattle.can_mac.specs.Frames.{IsPoised}
+use Rattle.can_mac.specs.Frames.{IsPoised, phase_at}
 use Rattle.can_node.specs.Passing.{LetsPass}
 use Rattle.can_node.specs.Ports.{PortState, waiting}
 use Rattle.can_bus.specs.declared.offer.Offer.{Offer}
 use Rattle.can_bus.specs.Offers.{all_made, refused_at}
+use Rattle.can_bus.specs.Run.{rest_after}
 
 -- f may pass this port, which begins with it
 abbrev pub PassesFrom : Parts → PortState → Type 0
@@ -29,6 +31,14 @@ PassesBy f p = IsAside p ⊎ Receives f p
 abbrev pub MayPass : Parts → PortState → Type 0
 MayPass f p = IsAside p ⊎ LetsPass f p
 
+abbrev pub MayPassAll : Parts → List PortState → Type 0
+MayPassAll f [] = Unit {0}
+MayPassAll f (p ∷ ports) = MayPass f p × MayPassAll f ports
+
+-- a port that has heard the first o levels of f, or is off the bus
+abbrev pub LeadsTo : Parts → ℕ → PortState → Type 0
+LeadsTo f o p = is_bus_off p.mac.counters ≡ false → p.mac.phase ≡ phase_at f o
+
 abbrev pub PassesByAll : Parts → List PortState → Type 0
 PassesByAll f [] = Unit {0}
 PassesByAll f (p ∷ ports) = PassesBy f p × PassesByAll f ports
@@ -47,6 +57,11 @@ IsReceived f (p ∷ ports) = Receives f p ⊎ IsReceived f ports
 abbrev pub PassesAt : Parts → ℕ → ℕ → List PortState → Type 0
 PassesAt f s k [] = Unit {0}
 PassesAt f s k (p ∷ ports) = (((k ≡ s) × PassesFrom f p) ⊎ PassesBy f p) × PassesAt f s (k + 1) ports
+
+-- how many recessive levels were recorded last, after these
+abbrev pub rest_run : ℕ → List Level → ℕ
+rest_run rest [] = rest
+rest_run rest (x ∷ levels) = rest_run (rest_after rest x) levels
 
 -- the offers of n times behind time i are made, one time after another
 abbrev pub made_behind : List Offer → ℕ → ℕ → List PortState → List PortState

@@ -87,6 +87,27 @@ impl Call {
         ensures latest { IfSome result (λ later. later.latest ≡ aged_by (count - 1) (Some (following_of self.now.latest))) }
         ensures free { IfSome result (λ later. IsFreeFrom hits.now self.now.time (Some (following_of self.now.latest)) count) }
     {
+        let later = self.up_to_hit(hits, count)?;
+        if later.time < self.time + count as u64 {
+            return None;
+        }
+        Some(later)
+    }
+
+    /// The call behind the bit times, `most` at most, up to the next in which a hit falls, where an attempt begins in the
+    /// first of them, and no other later; none where a hit falls in the first, or may fall. They may be fewer where a hit
+    /// has just passed.
+    pub(crate) fn up_to_hit(&self, hits: &[Hit], most: usize) -> Option<Call>
+        requires rising { AreRising hits.now }
+        requires call { IsCall hits.now self.now }
+        requires some { 1 < most }
+        requires time { self.now.time + most < 2 ^ 64 }
+        ensures call { IfSome result (λ later. IsCall hits.now later) }
+        ensures some { IfSome result (λ later. self.now.time < later.time) }
+        ensures most { IfSome result (λ later. later.time ≤ self.now.time + most) }
+        ensures latest { IfSome result (λ later. later.latest ≡ aged_by (later.time - self.now.time - 1) (Some (following_of self.now.latest))) }
+        ensures free { IfSome result (λ later. IsFreeFrom hits.now self.now.time (Some (following_of self.now.latest)) (later.time - self.now.time)) }
+    {
         if until_view(self.view.next(hits), self.time) == 0 {
             return None;
         }
@@ -96,10 +117,8 @@ impl Call {
             return None;
         }
         later.time += 1;
-        if later.undisturbed(hits, count - 1) < count - 1 {
-            return None;
-        }
-        later.pass(count - 1);
+        let more = later.undisturbed(hits, most - 1);
+        later.pass(more);
         Some(later)
     }
 

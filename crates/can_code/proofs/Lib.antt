@@ -37,3 +37,5 @@ pub mod TailLemmas
 -- arbitration, level by level
 pub mod UnstuffedOrder
 pub mod StuffedOrder
+-- levels made anew from numbers of them
+mod CopiedLevels

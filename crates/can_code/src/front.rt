@@ -239,15 +239,17 @@ impl<B: FrameBits> Front<B> {
     }
 }
 
-/// The same unstuffed levels once more.
+/// The same unstuffed levels once more, by two numbers of them, which hold all behind the start of frame.
 fn levels_copied<B: FrameBits>(bits: &B) -> B
     requires start { take 1 (B.levels bits.now) ≡ Level.Dominant ∷ [] }
     requires longest { length (B.levels bits.now) ≤ 118 }
     ensures { B.levels result ≡ B.levels bits.now }
 {
+    let behind = bits.len().saturating_sub(1);
+    let first = behind.min(NUMBER_BITS);
+    let rest = behind - first;
     let mut copy = B::start();
-    for place in 1..bits.len() {
-        copy.push(bits.level_at(place));
-    }
+    copy.append(bits.number_at(1, first), first);
+    copy.append(bits.number_at(1 + first, rest), rest);
     copy
 }

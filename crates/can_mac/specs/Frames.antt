@@ -162,6 +162,10 @@ abbrev pub behind_frame : Parts → Bool → MacState → MacState
 behind_frame f true m = settled f (is_passive (counted FrameSent m.counters)) m.overloads.pending (counted FrameSent m.counters)
 behind_frame f false m = settled f false m.overloads.pending (counted FrameReceived m.counters)
 
+-- a controller that receives a frame and is in this phase of it
+abbrev pub receiving_in : MacPhase → MacState → MacState
+receiving_in phase m = record { phase = phase; role = Receiver; overloads = record { pending = m.overloads.pending; used = 0 }; counters = m.counters }
+
 -- what waits is f, or comes behind it in arbitration
 abbrev pub GoesBehind : Parts → Option Parts → Type 0
 GoesBehind f None = Unit {0}

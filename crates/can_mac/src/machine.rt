@@ -4,7 +4,7 @@ ghost use Rattle.can_code.specs.Front.{FrontParts};
 ghost use Rattle.can_frame.specs.Parts.{Parts};
 ghost use Rattle.can_fault.specs.Counters.{counted, is_bus_off, is_passive as is_passive_by};
 ghost use Rattle.can_mac.specs.State.{idle as idle_state, IsMac, IsPhase, IsFrameOrNone, is_off_phase, joining as joining_state, starting};
-ghost use Rattle.can_mac.specs.Frames.{IsPoised, behind_frame};
+ghost use Rattle.can_mac.specs.Frames.{IsPoised, behind_frame, receiving_in};
 ghost use Rattle.can_mac.specs.Moves.{move, move_keeping};
 ghost use Rattle.can_mac.specs.Machine.{holding, IsSilent, mac_drives, mac_step, off_step, on_step, stance as stance_of, step_counting};
 
@@ -222,6 +222,17 @@ impl<B: FrameBits> MediumAccess<B> {
             self.phase = Phase::Suspend { place: 0 };
             self.role = Role::Sender(Sending::new(frame));
         }
+    }
+
+    /// Receives the frame that another controller hears, as far as that one has heard it.
+    pub fn follow(&mut self, leader: &Self)
+        requires on_bus { is_bus_off self.old.counters ≡ false }
+        requires leader { is_off_phase leader.now.phase ≡ false }
+        ensures { self.new ≡ receiving_in leader.now.phase self.old }
+    {
+        self.phase = phase_copied(&leader.phase);
+        self.role = Role::Receiver;
+        self.overloads.used = 0;
     }
 
     /// Asks for `count` overload frames of its own, in place of what was asked for before. `false`

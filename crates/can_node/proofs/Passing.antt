@@ -15,10 +15,11 @@ use Rattle.can_mac.specs.declared.event.Event.TheVariants.{Sent, Received}
 use Rattle.can_mac.specs.declared.phase.Role.{Role}
 use Rattle.can_mac.specs.declared.phase.Role.TheVariants.{Receiver, Sender}
 use Rattle.can_mac.specs.State.{MacState, IsFrameOrNone}
-use Rattle.can_mac.specs.Frames.{with_intermission, behind_part, role_at, frame_state, frame_event, frame_drives, end_event, behind_frame, GoesBehind, IsPoised}
+use Rattle.can_mac.specs.Frames.{with_intermission, behind_part, role_at, frame_state, frame_event, frame_drives, end_event, behind_frame, phase_at, receiving_in, GoesBehind, IsPoised}
 use Rattle.can_mac.proofs.FrameDrives.{begins-drives, drives-frame}
 use Rattle.can_mac.proofs.FrameEnds.{end_levels, end_state, sender-settles}
 use Rattle.can_mac.proofs.FrameParts.{length-with_intermission, line-late}
+use Rattle.can_mac.proofs.Following.{receiver-state}
 use Rattle.can_mac.proofs.FrameRoles.{role-own}
 use Rattle.can_mac.proofs.FrameRuns.{enters-frame, event-first}
 use Rattle.can_mac.proofs.FrameSteps.{Awake, event-early, state-late, step-next}
@@ -102,6 +103,22 @@ module _ (f : Parts) (p : PortState) (next : Option Parts) (enters : Enters f p 
   run-drives (suc o) within =
       ap port_drives (runs-early (suc o) within)
       ∙ drives-frame f enters.frame next enters.kept enters.behind pending c (waiting (noted f next p (suc o)).queue) (suc o) (omega arith) within
+
+  -- in the stuffed part nothing is noted
+  noted-early : (o : ℕ) → o ≤ length (stuffed_part f) → noted f next p o ≡ p
+  noted-early zero within = refl
+  noted-early (suc o) within =
+      ap (λ e. port_noting e (noted f next p o)) (event-early f next o (omega (arith, within)))
+      ∙ loss-unnoted (role_at f next o) (role_at f next (o + 1)) (noted f next p o)
+      ∙ noted-early o (omega (arith, within))
+
+  -- a receiver there
+  pub receives-early : (o : ℕ) → 0 < o → o < length (stuffed_part f) → role_at f next o ≡ Receiver → port_run p (take o (with_intermission f)) ≡ at_mac (receiving_in (phase_at f o) p.mac) p
+  receives-early zero some within role = absurd (omega (arith, some))
+  receives-early (suc o) some within role =
+      runs-early (suc o) (omega (arith, within, length-with_intermission f))
+      ∙ ap (at_mac (state (suc o))) (noted-early (suc o) (omega (arith, within)))
+      ∙ ap (λ m. at_mac m p) (receiver-state f enters.frame next pending c (suc o) (omega (arith, within)) role)
 
   -- ---- what is noted
 

@@ -1,9 +1,10 @@
-ghost use Rattle.std.specs.Prelude.{◌≡◌, Some, IfOk, IsOk, IsTrue, IsFalse, Option};
+ghost use Rattle.std.specs.Prelude.{ℕ, ◌≡◌, ◌<◌, Some, IfOk, IsOk, IsTrue, IsFalse, Option, false, length, take};
 ghost use Rattle.std.specs.Option.{option_copied};
 ghost use Rattle.can_frame.specs.Arbitration.{Before, arbitration_field};
-ghost use Rattle.can_frame.specs.Parts.{Parts};
-ghost use Rattle.can_mac.specs.Frames.{GoesBehind, IsPoised};
-ghost use Rattle.can_mac.specs.State.{IsMac};
+ghost use Rattle.can_frame.specs.Parts.{IsFrame, Parts};
+ghost use Rattle.can_mac.specs.Frames.{GoesBehind, IsPoised, phase_at, receiving_in, with_intermission};
+ghost use Rattle.can_mac.specs.State.{IsMac, is_off_phase};
+ghost use Rattle.can_wire.specs.Wire.{stuffed_part};
 ghost use Rattle.can_node.specs.MacProps.{IsMac-prop};
 ghost use Rattle.can_node.specs.Ports.{waiting};
 ghost use Rattle.can_node.specs.Tournament.{frames_in};
@@ -12,7 +13,7 @@ use crate::entry::Entry;
 use crate::log::Log;
 use crate::port::Port;
 use crate::queue::Queue;
-use can_code::{CheckedBits, FrameBits, PlainBits};
+use can_code::{CheckedBits, FrameBits, PlainBits, rtr_place};
 use can_fault::State;
 use can_frame::{Frame, Level};
 use can_mac::{Event, MediumAccess, Phase};
@@ -89,7 +90,8 @@ impl<B: FrameBits> Node<B> {
 impl<B: FrameBits> Node<B> {
     ghost use Rattle.std.specs.Prelude.{if◌then◌else◌};
     ghost use Rattle.can_mac.specs.declared.event.Event.TheVariants.{Sent, Received};
-    ghost use Rattle.can_node.specs.Ports.{port_drives, port_noting, port_event, port_step};
+    ghost use Rattle.can_node.specs.Passing.{LetsPass};
+    ghost use Rattle.can_node.specs.Ports.{port_drives, port_noting, port_event, port_run, port_step};
 
     /// A level that may tell something.
     #[tactic(auto, unfolding(crate::specs::Ports::port_step))]
@@ -128,6 +130,24 @@ impl<B: FrameBits> Node<B> {
         match self.mac.phase() {
             Phase::Suspend { .. } => None,
             _ => self.queue.waiting(),
+        }
+    }
+
+    /// Whether it receives a frame, which another port hears too, and can send none of its own any more: behind the
+    /// arbitration of the frame with which it begins. (Bosch CAN 2.0 part B, section 3.1)
+    fn has_lost(&self, leader: &Self, frame: &Frame) -> bool
+        requires { LetsPass frame.now (⟦<Node<B> as Port>⟧.port self.now) }
+        ensures on_bus { IsTrue result → is_off_phase leader.now.mac.phase ≡ false }
+        ensures lost { IsTrue result → (o : ℕ) → IsFrame frame.now → 0 < o → o < length (stuffed_part frame.now) → leader.now.mac.phase ≡ phase_at frame.now o →
+            port_run (⟦<Node<B> as Port>⟧.port self.now) (take o (with_intermission frame.now)) ≡ record (⟦<Node<B> as Port>⟧.port self.now) { mac = receiving_in (phase_at frame.now o) self.now.mac } }
+    {
+        let Phase::StuffedPart(front) = leader.mac.phase() else {
+            return false;
+        };
+        match self.next() {
+            None => true,
+            Some(own) if frame.key() == own.key() => false,
+            Some(own) => front.len() > rtr_place(own.is_extended()),
         }
     }
 
@@ -215,6 +235,17 @@ impl<B: FrameBits> Port for Node<B> {
         let sent = sends(self.next(), frame);
         self.mac.pass(frame, sent);
         self.note_passed(frame, sent);
+    }
+
+    #[inline]
+    fn ride(&mut self, leader: &Self, frame: &Frame, levels: &[Level]) {
+        if self.has_lost(leader, frame) {
+            self.mac.follow(&leader.mac);
+        } else {
+            for level in levels {
+                let _ = self.turn(*level);
+            }
+        }
     }
 
     fn offer(&mut self, frame: Frame) -> Result<(), Frame> {

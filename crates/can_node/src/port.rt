@@ -1,8 +1,9 @@
-ghost use Rattle.std.specs.Prelude.{◌≡◌, ◌<◌, ◌≤◌, ◌↔◌, length, IsTrue, IsFalse, IsOk, OnOk, OnErr, IfErr, IfSome};
+ghost use Rattle.std.specs.Prelude.{◌≡◌, ◌<◌, ◌≤◌, ◌↔◌, length, take, IsTrue, IsFalse, IsOk, OnOk, OnErr, IfErr, IfSome};
 ghost use Rattle.can_fault.specs.Counters.{state_of};
 ghost use Rattle.can_frame.specs.declared.level.Level.TheVariants.{Recessive};
 ghost use Rattle.can_frame.specs.Parts.{IsFrame};
-ghost use Rattle.can_mac.specs.Frames.{IsPoised, with_intermission};
+ghost use Rattle.can_mac.specs.Frames.{IsPoised, phase_at, with_intermission};
+ghost use Rattle.can_wire.specs.Wire.{stuffed_part};
 ghost use Rattle.can_mac.specs.Machine.{IsSilent};
 ghost use Rattle.can_node.specs.Passing.{LetsPass};
 ghost use Rattle.can_node.specs.Ports.{PortState, IsAtRest, IsPort, port_offered, port_drives, port_event, port_holding, port_run, port_step, waiting};
@@ -58,6 +59,22 @@ pub trait Port {
         requires whole { IsFrame frame.now }
         requires levels { levels.now ≡ with_intermission frame.now }
         requires passes { LetsPass frame.now (port self.old) }
+        ensures { port self.new ≡ port_run (port self.old) levels.now }
+    {
+        for level in levels {
+            let _ = self.turn(*level);
+        }
+    }
+
+    /// Samples the first levels of a frame that may pass the port at once, up to some level of its stuffed part, where
+    /// another port has heard as many of them.
+    fn ride(&mut self, leader: &Self, frame: &Frame, levels: &[Level])
+        requires whole { IsFrame frame.now }
+        requires levels { levels.now ≡ take (length levels.now) (with_intermission frame.now) }
+        requires some { 0 < length levels.now }
+        requires within { length levels.now < length (stuffed_part frame.now) }
+        requires passes { LetsPass frame.now (port self.old) }
+        requires leader { (port leader.now).mac.phase ≡ phase_at frame.now (length levels.now) }
         ensures { port self.new ≡ port_run (port self.old) levels.now }
     {
         for level in levels {

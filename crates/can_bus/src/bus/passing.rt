@@ -5,12 +5,13 @@
 ghost use Rattle.std.specs.Prelude.{ℕ, ◌≡◌, ◌≢◌, ◌+◌, ◌-◌, ◌++◌, ◌<◌, ◌≤◌, ◌^◌, length, map, take, slice_get, slice_index_or, IfSome, IsNone, IsTrue, Some};
 ghost use Rattle.can_frame.specs.Arbitration.{Before, arbitration_field};
 ghost use Rattle.can_frame.specs.Parts.{IsFrame, Parts};
+ghost use Rattle.can_wire.specs.Wire.{stuffed_part};
 ghost use Rattle.can_mac.specs.Frames.{with_intermission};
 ghost use Rattle.can_node.specs.Ports.{port_drives, port_run, waiting};
 ghost use Rattle.can_bus.specs.declared.offer.Offer.{Offer as Asked};
 ghost use Rattle.can_bus.specs.Network.{call_after, call_level, call_refused, offered_now};
 ghost use Rattle.can_bus.specs.Offers.{AreOffered};
-ghost use Rattle.can_bus.specs.Passing.{IsReceived, MayPass, PassesAt, PassesBus, PassesBy, PassesByAll, PassesFrom, Receives, made_behind, refused_behind};
+ghost use Rattle.can_bus.specs.Passing.{IsReceived, LeadsTo, MayPass, MayPassAll, PassesAt, PassesBus, PassesBy, PassesByAll, PassesFrom, Receives, made_behind, refused_behind, rest_run};
 ghost use Rattle.can_bus.specs.Run.{BusState, bus_after, recorded};
 ghost use Rattle.can_bus.specs.State.{port_count, port_states, rest_of, state_of};
 ghost use Rattle.can_bus.specs.Walks.{AreRising, IsCall, IsReached, call_on};
@@ -19,6 +20,7 @@ ghost use Rattle.can_bus.specs.Wired.{wired as wired_of};
 use crate::bus::Bus;
 use crate::bus::play_disturbed::Progress;
 use crate::call::Call;
+use crate::moment::rest_after;
 use crate::offer::Offer;
 use crate::wire::wired_level;
 use can_fault::State;
@@ -30,6 +32,9 @@ use std::cmp::Ordering;
 
 /// How many bit times the shortest frame takes, with the intermission behind it.
 const SHORTEST_LINE: usize = 47;
+
+/// How many bit times of a frame that is hit are worth to be passed at once.
+const SHORTEST_RIDE: usize = 16;
 
 /// How many levels stand behind the stuffed part of a frame.
 const TAIL_LEVELS: usize = 10;
@@ -85,9 +90,54 @@ impl<P: Port> Bus<P> {
             return 0;
         }
         let Some(later) = call.behind(hits, count) else {
-            return 0;
+            return self.ride_frame(&passing.frame, hits, call, driven, &rec[..count]);
         };
         pass_all(self.ports.as_mut_slice(), &passing.frame, &rec[..count]);
+        *call = later;
+        *driven = wired_level(self.ports.as_slice());
+        count
+    }
+
+    /// Runs the first bit times of a frame that passes the bus, these levels, up to the next in which a hit falls, and at
+    /// most up to the end of its stuffed part. The answer is how many they are, and 0 where they are few.
+    fn ride_frame(
+        &mut self,
+        frame: &Frame,
+        hits: &[Hit],
+        call: &mut Call,
+        driven: &mut Level,
+        levels: &[Level],
+    ) -> usize
+        requires rested { rest_of self.old ≡ 11 }
+        requires whole { IsFrame frame.now }
+        requires levels { levels.now ≡ with_intermission frame.now }
+        requires passes { PassesBus frame.now (port_states P.port self.old) }
+        requires received { IsReceived frame.now (port_states P.port self.old) }
+        requires driven { driven.old ≡ wired_of (map port_drives (port_states P.port self.old)) }
+        requires rising { AreRising hits.now }
+        requires call { IsCall hits.now call.old }
+        requires time { call.old.time + length levels.now < 2 ^ 64 }
+        ensures most { result ≤ length levels.now }
+        ensures levels { (t : ℕ) (d : Level) → t < result → slice_index_or levels.now t d ≡ recorded hits.now (bus_after hits.now t (call_on (state_of P.port self.old) call.old)) }
+        ensures after { call_on (state_of P.port self.new) call.new ≡ bus_after hits.now result (call_on (state_of P.port self.old) call.old) }
+        ensures driven { driven.new ≡ wired_of (map port_drives (port_states P.port self.new)) }
+        ensures call { IsCall hits.now call.new }
+        ensures time { call.new.time ≡ call.old.time + result }
+    {
+        let most = levels.len().saturating_sub(END.len() + 1);
+        if most < SHORTEST_RIDE {
+            return 0;
+        }
+        let Some(later) = call.up_to_hit(hits, most) else {
+            return 0;
+        };
+        let count = (later.time - call.time) as usize;
+        if count < SHORTEST_RIDE {
+            return 0;
+        }
+        let front = &levels[..count];
+        ride_all(self.ports.as_mut_slice(), frame, front);
+        self.rest = rest_behind(self.rest, front);
         *call = later;
         *driven = wired_level(self.ports.as_slice());
         count
@@ -354,10 +404,77 @@ fn pass_one<P: Port>(port: &mut P, frame: &Frame, levels: &[Level])
     ensures { P.port port.new ≡ port_run (P.port port.old) levels.now }
 {
     if port.state() == State::BusOff {
-        for level in levels {
-            let _ = port.turn(*level);
-        }
+        turn_through(port, levels);
     } else {
         port.pass(frame, levels);
     }
+}
+
+/// Has a port sample levels, one a bit time.
+fn turn_through<P: Port>(port: &mut P, levels: &[Level])
+    ensures { P.port port.new ≡ port_run (P.port port.old) levels.now }
+{
+    for level in levels {
+        let _ = port.turn(*level);
+    }
+}
+
+/// Has all ports sample the first levels of a frame: the first of them does so, and the others hear as much as it has heard.
+fn ride_all<P: Port>(ports: &mut [P], frame: &Frame, levels: &[Level])
+    requires whole { IsFrame frame.now }
+    requires levels { levels.now ≡ take (length levels.now) (with_intermission frame.now) }
+    requires some { 0 < length levels.now }
+    requires within { length levels.now < length (stuffed_part frame.now) }
+    requires passes { PassesBus frame.now (map P.port ports.old) }
+    ensures { map P.port ports.new ≡ map (λ p. port_run p levels.now) (map P.port ports.old) }
+{
+    let Some((leader, others)) = ports.split_first_mut() else {
+        return;
+    };
+    turn_through(leader, levels);
+    ride_others(others, leader, frame, levels);
+}
+
+/// Has ports sample the first levels of a frame, which another port has sampled.
+fn ride_others<P: Port>(ports: &mut [P], leader: &P, frame: &Frame, levels: &[Level])
+    requires whole { IsFrame frame.now }
+    requires levels { levels.now ≡ take (length levels.now) (with_intermission frame.now) }
+    requires some { 0 < length levels.now }
+    requires within { length levels.now < length (stuffed_part frame.now) }
+    requires passes { MayPassAll frame.now (map P.port ports.old) }
+    requires leader { LeadsTo frame.now (length levels.now) (P.port leader.now) }
+    ensures { map P.port ports.new ≡ map (λ p. port_run p levels.now) (map P.port ports.old) }
+{
+    for port in ports.iter_mut() {
+        ride_one(port, leader, frame, levels);
+    }
+}
+
+/// Has a port sample the first levels of a frame, which another port has sampled.
+fn ride_one<P: Port>(port: &mut P, leader: &P, frame: &Frame, levels: &[Level])
+    requires whole { IsFrame frame.now }
+    requires levels { levels.now ≡ take (length levels.now) (with_intermission frame.now) }
+    requires some { 0 < length levels.now }
+    requires within { length levels.now < length (stuffed_part frame.now) }
+    requires passes { MayPass frame.now (P.port port.old) }
+    requires leader { LeadsTo frame.now (length levels.now) (P.port leader.now) }
+    ensures { P.port port.new ≡ port_run (P.port port.old) levels.now }
+{
+    if port.state() == State::BusOff || leader.state() == State::BusOff {
+        turn_through(port, levels);
+    } else {
+        port.ride(leader, frame, levels);
+    }
+}
+
+/// How many recessive levels were recorded last, behind these.
+fn rest_behind(rest: u8, levels: &[Level]) -> u8
+    requires { rest ≤ 11 }
+    ensures { result ≡ rest_run rest levels.now }
+{
+    let mut last = rest;
+    for level in levels {
+        last = rest_after(last, *level);
+    }
+    last
 }

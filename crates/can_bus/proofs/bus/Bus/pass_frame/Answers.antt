@@ -18,9 +18,6 @@ returns-in_default-clause-after g c = after_none c.args.hits.now (call_on (state
 pub returns-then-count-eq0-clause-after : goal.returns-then-count-eq0-clause-after
 returns-then-count-eq0-clause-after g c = after_none c.args.hits.now (call_on (state_of g.P.Port.port c.args.self.now) c.args.call.now)
 
-pub returns-in_default-behind-clause-after : goal.returns-in_default-behind-clause-after
-returns-in_default-behind-clause-after g c = after_none c.args.hits.now (call_on (state_of g.P.Port.port c.args.self.now) c.args.call.now)
-
 pub returns-clause-levels : goal.returns-clause-levels
 returns-clause-levels g c =
     let S = g.P.Port.port in

@@ -1,0 +1,10 @@
+use Rattle.std.proofs.Common.{◌≡◌, drop}
+use Rattle.can_node.specs.Ports.{port_run}
+use Rattle.can_node.specs.Tournament.{frames_in}
+use Rattle.can_node.proofs.node.NodePort.ride.Given as goal
+
+-- the levels that are left take the port to where all of them take the one at the start
+abbrev pub invariant-loop-level : goal.invariant-loop-level
+invariant-loop-level g l =
+    port_run (record { mac = l.self.mac; queue = frames_in l.self.queue.slots.items; queue_room = l.self.queue.room; log = l.self.log.entries.items; log_room = l.self.log.room; missed = l.self.log.missed }) (drop l.level-index l.levels)
+    ≡ port_run (record { mac = l.fn.self.mac; queue = frames_in l.fn.self.queue.slots.items; queue_room = l.fn.self.queue.room; log = l.fn.self.log.entries.items; log_room = l.fn.self.log.room; missed = l.fn.self.log.missed }) l.levels
