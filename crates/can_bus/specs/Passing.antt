@@ -1,5 +1,5 @@
 -- Frames that pass a bus at once, and what is offered meanwhile.
-use Rattle.std.specs.Prelude.{ℕ, zero, suc, ◌≡◌, ◌+◌, ◌⊎◌, true, false, List, [], ◌∷◌, Option, Some}
+use Rattle.std.specs.Prelude.{ℕ, zero, suc, ◌≡◌, ◌≤◌, ◌==◌, ◌+◌, ◌⊎◌, nat_lt, true, false, if◌then◌else◌, length, List, [], ◌∷◌, Option, Some}
 use Rattle.can_frame.specs.declared.level.Level.{Level}
 use Rattle.can_frame.specs.Parts.{Parts}
 use Rattle.can_frame.specs.Arbitration.{arbitration_field, Before}
@@ -43,15 +43,15 @@ abbrev pub PassesByAll : Parts → List PortState → Type 0
 PassesByAll f [] = Unit {0}
 PassesByAll f (p ∷ ports) = PassesBy f p × PassesByAll f ports
 
--- f is the frame of one port, and passes by all others
-abbrev pub PassesBus : Parts → List PortState → Type 0
-PassesBus f [] = ⊥
-PassesBus f (p ∷ ports) = (PassesFrom f p × PassesByAll f ports) ⊎ (PassesBy f p × PassesBus f ports)
-
 -- some port receives f
 abbrev pub IsReceived : Parts → List PortState → Type 0
 IsReceived f [] = ⊥
 IsReceived f (p ∷ ports) = Receives f p ⊎ IsReceived f ports
+
+-- f is the frame of one port, and passes by all others
+abbrev pub PassesBus : Parts → List PortState → Type 0
+PassesBus f [] = ⊥
+PassesBus f (p ∷ ports) = (PassesFrom f p × PassesByAll f ports) ⊎ (PassesBy f p × PassesBus f ports)
 
 -- the same, by the number of that port; the first of these has this number
 abbrev pub PassesAt : Parts → ℕ → ℕ → List PortState → Type 0
@@ -72,3 +72,13 @@ made_behind offers i (suc n) ports = all_made offers (i + suc n) (made_behind of
 abbrev pub refused_behind : List Offer → ℕ → ℕ → List PortState → ℕ
 refused_behind offers i zero ports = 0
 refused_behind offers i (suc n) ports = refused_behind offers i n ports + refused_at offers (i + suc n) (made_behind offers i n ports)
+
+-- so many more frames have room in the queue of the port of this number; the first of these has the number k
+abbrev pub HasRoom : ℕ → ℕ → ℕ → List PortState → Type 0
+HasRoom s n k [] = Unit {0}
+HasRoom s n k (p ∷ ports) = (k ≡ s → length p.queue + n ≤ p.queue_room) × HasRoom s n (k + 1) ports
+
+-- how many of these offers are to the port of this number and earlier than an end
+abbrev pub due_before : ℕ → ℕ → List Offer → ℕ
+due_before s end [] = 0
+due_before s end (offer ∷ offers) = (if offer.node == s then (if nat_lt offer.time end then 1 else 0) else 0) + due_before s end offers

@@ -2,7 +2,7 @@ ghost use Rattle.can_node.specs.declared.either.EitherNode.TheVariants.{Plain, P
 
 use crate::entry::Entry;
 use crate::node::{PackedNode, PlainNode};
-use crate::port::Port;
+use crate::port::{Port, turn_through};
 use can_fault::State;
 use can_frame::{Frame, Level};
 use can_mac::Event;
@@ -67,6 +67,27 @@ impl Port for EitherNode {
         match self {
             EitherNode::Plain(node) => node.pass(frame, levels),
             EitherNode::Packed(node) => node.pass(frame, levels),
+        }
+    }
+
+    #[inline]
+    fn ride(&mut self, leader: &Self, frame: &Frame, levels: &[Level]) {
+        match (self, leader) {
+            (EitherNode::Plain(node), EitherNode::Plain(leader)) => node.ride(
+                leader, frame, levels,
+            ),
+            (EitherNode::Packed(node), EitherNode::Packed(leader)) => node.ride(
+                leader, frame, levels,
+            ),
+            (EitherNode::Plain(node), EitherNode::Packed(_)) => turn_through(node, levels),
+            (EitherNode::Packed(node), EitherNode::Plain(_)) => turn_through(node, levels),
+        }
+    }
+
+    fn has_room(&self, count: usize) -> bool {
+        match self {
+            EitherNode::Plain(node) => node.has_room(count),
+            EitherNode::Packed(node) => node.has_room(count),
         }
     }
 

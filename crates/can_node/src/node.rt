@@ -248,6 +248,10 @@ impl<B: FrameBits> Port for Node<B> {
         }
     }
 
+    fn has_room(&self, count: usize) -> bool {
+        self.queue.has_room(count)
+    }
+
     fn offer(&mut self, frame: Frame) -> Result<(), Frame> {
         self.queue.push(frame)
     }

@@ -1,4 +1,4 @@
-ghost use Rattle.std.specs.Prelude.{◌≡◌, ◌<◌, ◌≤◌, ◌↔◌, length, take, IsTrue, IsFalse, IsOk, OnOk, OnErr, IfErr, IfSome};
+ghost use Rattle.std.specs.Prelude.{◌≡◌, ◌+◌, ◌<◌, ◌≤◌, ◌↔◌, length, take, IsTrue, IsFalse, IsOk, OnOk, OnErr, IfErr, IfSome};
 ghost use Rattle.can_fault.specs.Counters.{state_of};
 ghost use Rattle.can_frame.specs.declared.level.Level.TheVariants.{Recessive};
 ghost use Rattle.can_frame.specs.Parts.{IsFrame};
@@ -82,6 +82,13 @@ pub trait Port {
         }
     }
 
+    /// Whether so many more frames have room in its queue. It may say no where it doesn't know.
+    fn has_room(&self, count: usize) -> bool
+        ensures { IsTrue result → length (port self.now).queue + count ≤ (port self.now).queue_room }
+    {
+        false
+    }
+
     /// Queues a frame behind those that wait. A full queue refuses it: the frame comes back, and
     /// nothing changes.
     fn offer(&mut self, frame: Frame) -> Result<(), Frame>
@@ -116,4 +123,13 @@ pub trait Port {
 
     /// A port's controller is one, its frames are frames, and queue and log keep within their rooms.
     ghost valid: { (x : Self) → IsPort (port x) };
+}
+
+/// Has a port sample levels, one a bit time.
+pub fn turn_through<P: Port>(port: &mut P, levels: &[Level])
+    ensures { P.port port.new ≡ port_run (P.port port.old) levels.now }
+{
+    for level in levels {
+        let _ = port.turn(*level);
+    }
 }

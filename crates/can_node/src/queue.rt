@@ -1,4 +1,4 @@
-ghost use Rattle.std.specs.Prelude.{◌≡◌, ◌≢◌, ◌<◌, ◌≤◌, ◌+◌, ◌*◌, ◌^◌, ◌↔◌, ◌++◌, ◌∷◌, ℕ, [], length, vec_capacity, MatchOption, IfErr, IfOk, IsOk, OnErr, OnOk, None, Some, get_or, set, slice_get};
+ghost use Rattle.std.specs.Prelude.{◌≡◌, ◌≢◌, ◌<◌, ◌≤◌, ◌+◌, ◌*◌, ◌^◌, ◌↔◌, ◌++◌, ◌∷◌, ℕ, [], length, vec_capacity, MatchOption, IfErr, IfOk, IsOk, IsTrue, OnErr, OnOk, None, Some, get_or, set, slice_get};
 ghost use Rattle.std.specs.Option.{option_copied};
 ghost use Rattle.can_frame.specs.Parts.{Parts, IsFrame};
 ghost use Rattle.can_node.specs.Ports.{earlier as earlier_by, waiting, without};
@@ -77,6 +77,13 @@ impl Queue {
         ensures { option_copied result ≡ waiting (frames_in self.now.slots.items) }
     {
         self.first.as_ref()
+    }
+
+    /// Whether so many frames more fit.
+    pub fn has_room(&self, count: usize) -> bool
+        ensures { IsTrue result ↔ (length (frames_in self.now.slots.items) + count ≤ self.now.room) }
+    {
+        count <= self.room - self.count
     }
 
     /// Puts a frame behind the others. A full queue gives it back.

@@ -1,8 +1,8 @@
 //! A frame that passes a bus at once: where all ports are idle or in suspend transmission and ask for no overload frame,
 //! one frame goes before all others with which they begin, and no hit falls, its levels and what it leaves are known as
-//! it begins. What is offered meanwhile to other ports than the sender's waits behind it, so it may as well be offered
-//! behind it.
-ghost use Rattle.std.specs.Prelude.{ℕ, ◌≡◌, ◌≢◌, ◌+◌, ◌-◌, ◌++◌, ◌<◌, ◌≤◌, ◌^◌, length, map, take, slice_get, slice_index_or, IfSome, IsNone, IsTrue, Some};
+//! it begins. What is offered meanwhile waits behind it, so it may as well be offered behind it, unless the queue of its
+//! sender may be full.
+ghost use Rattle.std.specs.Prelude.{ℕ, ◌≡◌, ◌≢◌, ◌+◌, ◌-◌, ◌++◌, ◌<◌, ◌≤◌, ◌^◌, drop, length, map, take, slice_get, slice_index_or, IfSome, IsNone, IsTrue, Some};
 ghost use Rattle.can_frame.specs.Arbitration.{Before, arbitration_field};
 ghost use Rattle.can_frame.specs.Parts.{IsFrame, Parts};
 ghost use Rattle.can_wire.specs.Wire.{stuffed_part};
@@ -11,7 +11,7 @@ ghost use Rattle.can_node.specs.Ports.{port_drives, port_run, waiting};
 ghost use Rattle.can_bus.specs.declared.offer.Offer.{Offer as Asked};
 ghost use Rattle.can_bus.specs.Network.{call_after, call_level, call_refused, offered_now};
 ghost use Rattle.can_bus.specs.Offers.{AreOffered};
-ghost use Rattle.can_bus.specs.Passing.{IsReceived, LeadsTo, MayPass, MayPassAll, PassesAt, PassesBus, PassesBy, PassesByAll, PassesFrom, Receives, made_behind, refused_behind, rest_run};
+ghost use Rattle.can_bus.specs.Passing.{HasRoom, IsReceived, LeadsTo, MayPass, MayPassAll, PassesAt, PassesBus, PassesBy, PassesByAll, PassesFrom, Receives, due_before, made_behind, refused_behind, rest_run};
 ghost use Rattle.can_bus.specs.Run.{BusState, bus_after, recorded};
 ghost use Rattle.can_bus.specs.State.{port_count, port_states, rest_of, state_of};
 ghost use Rattle.can_bus.specs.Walks.{AreRising, IsCall, IsReached, call_on};
@@ -26,7 +26,7 @@ use crate::wire::wired_level;
 use can_fault::State;
 use can_frame::{Frame, IDLE_ROW, Key, Level};
 use can_hit::Hit;
-use can_node::Port;
+use can_node::{Port, turn_through};
 use can_wire::{LONGEST_WIRE, encode_into};
 use std::cmp::Ordering;
 
@@ -143,8 +143,8 @@ impl<P: Port> Bus<P> {
         count
     }
 
-    /// The same, where frames are offered meanwhile, none of them to the port that sends: they are offered behind the frame,
-    /// which comes to the same. The offers of its first bit time have been made.
+    /// The same, where frames are offered meanwhile, those to the port that sends as many as it has room for: they are
+    /// offered behind the frame, which comes to the same. The offers of its first bit time have been made.
     #[inline(never)]
     pub(super) fn pass_open(
         &mut self,
@@ -187,7 +187,8 @@ impl<P: Port> Bus<P> {
             return 0;
         }
         let begun = call.time;
-        if !are_others(offers, progress.place, passing.place, begun + count as u64) {
+        let own = offers_to(offers, progress.place, passing.place, begun + count as u64);
+        if !has_room(self.ports.as_slice(), passing.place, own) {
             return 0;
         }
         let Some(later) = call.behind(hits, count) else {
@@ -234,19 +235,33 @@ fn time_before(offers: &[Offer], place: usize, end: u64) -> Option<u64>
     }
 }
 
-/// Whether the offers from this place on that are earlier than a time are all to other ports.
-fn are_others(offers: &[Offer], place: usize, node: usize, end: u64) -> bool
+/// How many of the offers from this place on that are earlier than a time are to this port.
+fn offers_to(offers: &[Offer], place: usize, node: usize, end: u64) -> usize
     requires { (m n : ℕ) (a b : Asked) → m ≤ n → slice_get offers.now m ≡ Some a → slice_get offers.now n ≡ Some b → a.time ≤ b.time }
-    ensures { IsTrue result → (n : ℕ) (offer : Asked) → place ≤ n → slice_get offers.now n ≡ Some offer → offer.time < end → offer.node ≢ node }
+    ensures { result ≡ due_before node end (drop place offers.now) }
 {
+    let mut count = 0;
     let mut next = place;
     while next < offers.len() && offers[next].time < end {
         if offers[next].node == node {
-            return false;
+            count += 1;
         }
         next += 1;
     }
-    true
+    count
+}
+
+/// Whether so many more frames have room in the queue of the port at this place.
+fn has_room<P: Port>(ports: &[P], place: usize, count: usize) -> bool
+    ensures { IsTrue result → HasRoom place count 0 (map P.port ports.now) }
+{
+    if count == 0 {
+        return true;
+    }
+    match ports.get(place) {
+        Some(port) => port.has_room(count),
+        None => false,
+    }
 }
 
 /// A frame that passes a bus at once, and the place of the port that sends it.
@@ -407,15 +422,6 @@ fn pass_one<P: Port>(port: &mut P, frame: &Frame, levels: &[Level])
         turn_through(port, levels);
     } else {
         port.pass(frame, levels);
-    }
-}
-
-/// Has a port sample levels, one a bit time.
-fn turn_through<P: Port>(port: &mut P, levels: &[Level])
-    ensures { P.port port.new ≡ port_run (P.port port.old) levels.now }
-{
-    for level in levels {
-        let _ = port.turn(*level);
     }
 }
 

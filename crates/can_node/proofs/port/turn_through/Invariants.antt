@@ -1,6 +1,6 @@
 use Rattle.std.proofs.Common.{◌≡◌, drop}
 use Rattle.can_node.specs.Ports.{port_run}
-use Rattle.can_bus.proofs.bus.passing.turn_through.Given as goal
+use Rattle.can_node.proofs.port.turn_through.Given as goal
 
 -- the levels that are left take the port to where all of them take the one at the start
 abbrev pub invariant-loop-level : goal.invariant-loop-level
