@@ -247,13 +247,6 @@ reached-last ports offers place time end sound reached early none = record {
       let h : (get_or offers place o).time ≤ o.time = offers-rise ports offers sound place n (get_or offers place o) o behind here at in omega arith;
 }
 
--- and at each time before
-pub reached-between : (offers : List Offer) (place time count less : ℕ) → IsReached offers place (time + 1) → IsReached offers place (time + count) → 0 < less → less ≤ count → IsReached offers place (time + less)
-reached-between offers place time count less first last some within = record {
-  passed = λ n o earlier at. let h : o.time < time + 1 = first.passed n o earlier at in omega arith;
-  ahead = λ n o behind at. let h : time + count ≤ o.time = last.ahead n o behind at in omega arith;
-}
-
 -- between two such times no offer is made
 pub none-between : (offers : List Offer) (place time count t : ℕ) (ports : List PortState) → IsReached offers place (time + 1) → IsReached offers place (time + count) → time < t → t < time + count →
     (all_made offers t ports ≡ ports) × (refused_at offers t ports ≡ 0)

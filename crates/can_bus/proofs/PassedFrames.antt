@@ -12,6 +12,7 @@ use Rattle.can_wire.specs.Wire.{driven, stuffed_part, tail}
 use Rattle.can_mac.specs.Frames.{driven_with_intermission, role_drives, with_intermission}
 use Rattle.can_mac.specs.State.{MacState}
 use Rattle.can_mac.proofs.FrameRoles.{line-start, role-own}
+use Rattle.can_node.specs.Passing.{HasHeard, IsAside}
 use Rattle.can_node.specs.Ports.{PortState, IsPort, port_drives, port_run, port_step}
 use Rattle.can_node.proofs.FrameLeaves.{goes-behind}
 use Rattle.can_node.proofs.FramesWaiting.{AreFrames-from, IsWaiting-waiting}
@@ -21,11 +22,11 @@ use Rattle.can_hit.specs.declared.hit.Hit.{Hit}
 use Rattle.can_hit.specs.declared.hit.Hit.TheVariants.{At, View}
 use Rattle.can_bus.specs.declared.call.Call.{Call}
 use Rattle.can_bus.specs.declared.moment.Attempt.{Attempt}
-use Rattle.can_bus.specs.Passing.{IsAside, IsReceived, LeadsTo, MayPass, MayPassAll, PassesAt, PassesBus, PassesBy, PassesByAll, PassesFrom, Receives}
+use Rattle.can_bus.specs.Passing.{IsReceived, MayPass, MayPassAll, PassesAt, PassesBus, PassesBy, PassesByAll, PassesFrom, Receives}
 use Rattle.can_bus.specs.Run.{CallState, all_sampled, aged, attempt_now, begins_attempt, bus_after, bus_step, following, hits_view, hits_wire, inverted_if, recorded, rest_after, wired_level}
 use Rattle.can_bus.specs.Walks.{AreBelow, IsCall, IsFreeFrom, IsPassed, aged_by, in_now}
 use Rattle.can_bus.specs.Wired.{over, wired}
-use Rattle.can_bus.proofs.AsidePorts.{aside-drives, stays-counted, stays-off}
+use Rattle.can_bus.proofs.AsidePorts.{apart-drives, aside-apart}
 use Rattle.can_bus.proofs.BusAtRest.{aged_more, aged_none}
 use Rattle.can_bus.proofs.Contests.{AllPorts}
 use Rattle.can_bus.proofs.FrameOnBus.{receiver-joins}
@@ -65,7 +66,7 @@ module _ (f : Parts) (is : IsFrame f) (o : ℕ) (within : o < length (with_inter
   abbrev drive : PortState → Level
   drive p = port_drives (port_run p (take o (with_intermission f)))
 
-  -- the sender, a receiver, and a port off the bus
+  -- the sender, a receiver, and a port that takes no part
   sender : (p : PortState) → PassesFrom f p → drive p ≡ x
   sender p own = run-drives f p (Some f) (enters-from f is p own) o within ∙ ap (λ r. role_drives f r o) (role-own f o)
 
@@ -75,7 +76,7 @@ module _ (f : Parts) (is : IsFrame f) (o : ℕ) (within : o < length (with_inter
       ap (over x) (run-drives f p by.0 enters o within) ∙ receiver-joins f by.0 is enters.kept (comes-behind f by.0 by.1.1) enters.behind o within
 
   nobody : (p : PortState) → IsPort p → IsAside p → drive p ≡ Recessive
-  nobody p valid aside = aside-drives (port_run p (take o (with_intermission f))) (stays-off f is p valid aside o within)
+  nobody p valid aside = apart-drives (port_run p (take o (with_intermission f))) l (aside-apart f is p valid aside o within)
 
   -- together
   abbrev wire : List PortState → Level
@@ -335,10 +336,6 @@ passes-step S f (x ∷ xs) (suc i) d within before here = (before.0, passes-step
 pub passes-more : {X : Type 0} (S : X → PortState) (f : Parts) (xs : List X) (i : ℕ) (d : X) → i < length xs → PassesByAll f (map S (take i xs)) → PassesBy f (S (get_or xs i d)) → PassesByAll f (map S (take (i + 1) xs))
 passes-more S f xs i d within before here = rw add-one (passes-step S f xs i d within before here)
 
-pub passes-none : (f : Parts) (ports : List PortState) → PassesByAll f (take 0 ports)
-passes-none f [] = tt
-passes-none f (p ∷ ports) = tt
-
 -- one port among others
 passes-one : {X : Type 0} (S : X → PortState) (f : Parts) (xs : List X) (i : ℕ) (d : X) → i < length xs → PassesByAll f (map S (take i xs)) → PassesFrom f (S (get_or xs i d)) → PassesByAll f (map S (drop (suc i) xs)) →
     PassesBus f (map S xs)
@@ -394,10 +391,10 @@ bus-may f (p ∷ ports) (inl one) = (inr (Some f, (one.0, inl refl)), all-may f 
 bus-may f (p ∷ ports) (inr one) = (lets-by f p one.0, bus-may f ports one.1)
 
 -- a port that has sampled the first levels of f
-pub rides-to : (f : Parts) → IsFrame f → (p : PortState) → IsPort p → MayPass f p → (o : ℕ) → 0 < o → o < length (with_intermission f) → LeadsTo f o (port_run p (take o (with_intermission f)))
-rides-to f is p valid may zero some within on = absurd (omega (arith, some))
-rides-to f is p valid (inl aside) (suc o) some within on = absurd (let off = stays-counted f is p valid aside (suc o) within in cc)
-rides-to f is p valid (inr lets) (suc o) some within on =
+pub rides-to : (f : Parts) → IsFrame f → (p : PortState) → IsPort p → MayPass f p → (o : ℕ) → 0 < o → o < length (with_intermission f) → HasHeard f o (port_run p (take o (with_intermission f))).mac.phase
+rides-to f is p valid may zero some within = absurd (omega (arith, some))
+rides-to f is p valid (inl aside) (suc o) some within = λ front part. absurd ((aside-apart f is p valid aside (suc o) within).elsewhere front part)
+rides-to f is p valid (inr lets) (suc o) some within = λ front part.
     let enters : Enters f p lets.0 = record { frame = is; poised = lets.1.0; kept = begins-kept p lets.0 lets.1.0 (IsWaiting-waiting p.queue (AreFrames-from p.queue valid.queued)); behind = lets.1.1 } in
     ap (λ (m : MacState). m.phase) (run-rides f p lets.0 enters o within)
 

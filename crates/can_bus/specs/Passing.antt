@@ -1,11 +1,10 @@
 -- Frames that pass a bus at once, and what is offered meanwhile.
-use Rattle.std.specs.Prelude.{ℕ, zero, suc, ◌≡◌, ◌≤◌, ◌==◌, ◌+◌, ◌⊎◌, nat_lt, true, false, if◌then◌else◌, length, List, [], ◌∷◌, Option, Some}
+use Rattle.std.specs.Prelude.{ℕ, zero, suc, ◌≡◌, ◌≤◌, ◌==◌, ◌+◌, ◌⊎◌, nat_lt, if◌then◌else◌, length, List, [], ◌∷◌, Option, Some}
 use Rattle.can_frame.specs.declared.level.Level.{Level}
 use Rattle.can_frame.specs.Parts.{Parts}
 use Rattle.can_frame.specs.Arbitration.{arbitration_field, Before}
-use Rattle.can_fault.specs.Counters.{is_bus_off}
-use Rattle.can_mac.specs.Frames.{IsPoised, phase_at}
-use Rattle.can_node.specs.Passing.{LetsPass}
+use Rattle.can_mac.specs.Frames.{IsPoised}
+use Rattle.can_node.specs.Passing.{IsAside, LetsPass}
 use Rattle.can_node.specs.Ports.{PortState, waiting}
 use Rattle.can_bus.specs.declared.offer.Offer.{Offer}
 use Rattle.can_bus.specs.Offers.{all_made, refused_at}
@@ -19,25 +18,17 @@ PassesFrom f p = IsPoised p.mac (waiting p.queue) (Some f)
 abbrev pub Receives : Parts → PortState → Type 0
 Receives f p = (next : Option Parts) × (IsPoised p.mac (waiting p.queue) next × ((g : Parts) → next ≡ Some g → Before (arbitration_field f) (arbitration_field g)))
 
--- the port is off the bus
-abbrev pub IsAside : PortState → Type 0
-IsAside p = is_bus_off p.mac.counters ≡ true
-
--- f passes by this port, which receives it or is off the bus
+-- f passes by this port, which receives it or takes no part in it
 abbrev pub PassesBy : Parts → PortState → Type 0
 PassesBy f p = IsAside p ⊎ Receives f p
 
--- the port is off the bus, or f passes it at once
+-- the port takes no part in f, or f passes it at once
 abbrev pub MayPass : Parts → PortState → Type 0
 MayPass f p = IsAside p ⊎ LetsPass f p
 
 abbrev pub MayPassAll : Parts → List PortState → Type 0
 MayPassAll f [] = Unit {0}
 MayPassAll f (p ∷ ports) = MayPass f p × MayPassAll f ports
-
--- a port that has heard the first o levels of f, or is off the bus
-abbrev pub LeadsTo : Parts → ℕ → PortState → Type 0
-LeadsTo f o p = is_bus_off p.mac.counters ≡ false → p.mac.phase ≡ phase_at f o
 
 abbrev pub PassesByAll : Parts → List PortState → Type 0
 PassesByAll f [] = Unit {0}

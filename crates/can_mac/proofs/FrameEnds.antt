@@ -1,7 +1,7 @@
 -- What the levels behind a frame's stuffed part make of a controller, one by one.
 use Rattle.std.proofs.Common.{◌≡◌, ℕ, zero, suc, ◌+◌, ◌-◌, ◌<◌, ◌≤◌, true, false, Option, None, List, [], ◌∷◌, ◌++◌, refl, sym, ◌∙◌, subst, arith, inl, inr}
 use Rattle.std.proofs.Math.Dec.{leb}
-use Rattle.std.proofs.lemmas.Bool.{cases_Bool, cond-false, cond_both, le-leb, leb-true, or_from, cases_lt, false_from_ne_true}
+use Rattle.std.proofs.lemmas.Bool.{cases_Bool, cond-false, le-leb, leb-true, or_from, cases_lt, false_from_ne_true}
 use Rattle.std.specs.Prelude.{slice_index_or}
 use Rattle.can_frame.specs.declared.level.Level.{Level}
 use Rattle.can_frame.specs.declared.level.Level.TheVariants.{Dominant, Recessive}
@@ -10,7 +10,7 @@ use Rattle.can_wire.specs.Wire.{tail}
 use Rattle.can_wire.specs.Layout.{level_at}
 use Rattle.can_fault.specs.declared.cause.Cause.{Cause}
 use Rattle.can_fault.specs.declared.cause.Cause.TheVariants.{FrameSent, FrameReceived}
-use Rattle.can_fault.specs.Counters.{ConfineParts, changed, counted, is_bus_off, is_passive, rec_after_reception}
+use Rattle.can_fault.specs.Counters.{ConfineParts, changed, counted, is_bus_off, is_passive}
 use Rattle.can_mac.specs.declared.phase.Role.{Role}
 use Rattle.can_mac.specs.declared.phase.Role.TheVariants.{Receiver, Sender}
 use Rattle.can_mac.specs.declared.phase.Phase.TheVariants.{Idle}
@@ -43,12 +43,6 @@ module _ (c : ConfineParts) (active : IsActive c) where
 
   active-counted : (cause : Cause) → IsActive (changed cause c) → IsActive (counted cause c)
   active-counted cause h = subst IsActive (sym (cond-false (is_bus_off c) c (changed cause c) active-on)) h
-
-  fewer : rec_after_reception c.rec < 128
-  fewer = cond_both (leb 128 c.rec) 127 (c.rec - 1) (λ n. n < 128) (λ e. omega arith) (λ e. omega (arith, active.rec))
-
-  pub active-received : IsActive (counted FrameReceived c)
-  active-received = active-counted FrameReceived (record { tec = active.tec; rec = fewer })
 
   pub active-sent : IsActive (counted FrameSent c)
   active-sent = active-counted FrameSent (record { tec = omega (arith, active.tec); rec = active.rec })

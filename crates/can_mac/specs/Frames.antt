@@ -17,7 +17,7 @@ use Rattle.can_mac.specs.declared.event.Event.TheVariants.{Sent, Received, Lost}
 use Rattle.can_mac.specs.declared.phase.Reading.{Reading}
 use Rattle.can_mac.specs.declared.phase.Role.{Role}
 use Rattle.can_mac.specs.declared.phase.Role.TheVariants.{Receiver, Sender}
-use Rattle.can_mac.specs.declared.phase.Phase.TheVariants.{Idle, StuffedPart, CrcDelimiter, AckSlot, AckDelimiter, EndOfFrame, Intermission, Suspend}
+use Rattle.can_mac.specs.declared.phase.Phase.TheVariants.{Idle, StuffedPart, CrcDelimiter, AckSlot, AckDelimiter, EndOfFrame, PassiveFlag, AfterFlag, Delimiter, Intermission, Suspend}
 use Rattle.can_mac.specs.State.{MacPhase, MacState, IsFrameOrNone}
 use Rattle.can_mac.specs.Moves.{in_arbitration}
 use Rattle.can_mac.specs.Machine.{mac_drives, mac_step}
@@ -144,6 +144,21 @@ Begins phase waiting next = ((phase ≡ Idle) × (next ≡ waiting)) ⊎ ((place
 -- for no overload frame
 pub record IsPoised (m : MacState) (waiting next : Option Parts) : Type 0 where
   pub begins : Begins m.phase waiting next
+  pub on_bus : is_bus_off m.counters ≡ false
+  pub unasked : m.overloads.pending ≡ 0
+
+-- [Error flags], [Delimiter] the phases behind an error in which a controller drives nothing while a frame begins
+abbrev pub IsBehindError : MacPhase → Type 0
+IsBehindError phase =
+    ((last : Level) × ((run : ℕ) × (phase ≡ PassiveFlag last run false)))
+    ⊎ (((first : Bool) × ((dominant : ℕ) × (phase ≡ AfterFlag first dominant))) ⊎ ((place : ℕ) × ((phase ≡ Delimiter place) × (place < 7))))
+
+-- an error passive receiver that is behind an error as a frame begins: each level of it that is no part of what it waits
+-- for is an error again, and it drives nothing up to the end of intermission
+pub record IsOutOfStep (m : MacState) : Type 0 where
+  pub phase : IsBehindError m.phase
+  pub role : m.role ≡ Receiver
+  pub passive : is_passive m.counters ≡ true
   pub on_bus : is_bus_off m.counters ≡ false
   pub unasked : m.overloads.pending ≡ 0
 

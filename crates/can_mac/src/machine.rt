@@ -4,7 +4,7 @@ ghost use Rattle.can_code.specs.Front.{FrontParts};
 ghost use Rattle.can_frame.specs.Parts.{Parts};
 ghost use Rattle.can_fault.specs.Counters.{counted, is_bus_off, is_passive as is_passive_by};
 ghost use Rattle.can_mac.specs.State.{idle as idle_state, IsMac, IsPhase, IsFrameOrNone, is_off_phase, joining as joining_state, starting};
-ghost use Rattle.can_mac.specs.Frames.{IsPoised, behind_frame, receiving_in};
+ghost use Rattle.can_mac.specs.Frames.{IsBehindError, IsOutOfStep, IsPoised, behind_frame, receiving_in};
 ghost use Rattle.can_mac.specs.Moves.{move, move_keeping};
 ghost use Rattle.can_mac.specs.Machine.{holding, IsSilent, mac_drives, mac_step, off_step, on_step, stance as stance_of, step_counting};
 
@@ -235,6 +235,20 @@ impl<B: FrameBits> MediumAccess<B> {
         self.overloads.used = 0;
     }
 
+    /// Whether it is error passive and behind an error as a frame begins that it doesn't send: it drives nothing up to the
+    /// end of the intermission behind that frame. (Bosch CAN 2.0 part B, sections 3.1.3 and 8)
+    pub fn is_out_of_step(&self) -> bool
+        ensures { IsTrue result → IsOutOfStep self.now }
+    {
+        if self.overloads.pending != 0 || self.confine.state() != State::Passive {
+            return false;
+        }
+        match self.role {
+            Role::Receiver => is_behind_error(&self.phase),
+            Role::Sender(_) => false,
+        }
+    }
+
     /// Asks for `count` overload frames of its own, in place of what was asked for before. `false`
     /// where they are more than two: then nothing changes.
     pub fn hold(&mut self, count: u8) -> bool
@@ -398,4 +412,16 @@ fn count(confine: &mut Confine, cause: Option<Cause>) -> bool
     };
     confine.apply(cause);
     confine.state() == State::BusOff
+}
+
+/// Whether a controller in this phase is behind an error and drives nothing, though a frame begins.
+fn is_behind_error<B: FrameBits>(phase: &Phase<Front<B>>) -> bool
+    ensures { IsTrue result → IsBehindError phase.now }
+{
+    match phase {
+        Phase::PassiveFlag { unacknowledged, .. } => !*unacknowledged,
+        Phase::AfterFlag { .. } => true,
+        Phase::Delimiter { place } => *place < 7,
+        _ => false,
+    }
 }

@@ -40,12 +40,12 @@ pub record Rides (f : Parts) (o : ℕ) (q : PortState) : Type 0 where
   pub mac : q.mac ≡ frame_state f waits 0 counters o
 
 -- what is noted keeps the controller
-noted-mac : (event : Option Event) (p : PortState) → (port_noting event p).mac ≡ p.mac
+pub noted-mac : (event : Option Event) (p : PortState) → (port_noting event p).mac ≡ p.mac
 noted-mac event p = ap (λ (q : PortState). q.mac) (port_noting-at_mac event p.mac p)
 
 -- ---- events that leave the queue as it is
 
-abbrev IsUnsent : Option Event → Type 0
+abbrev pub IsUnsent : Option Event → Type 0
 IsUnsent (Some (Sent f)) = ⊥
 IsUnsent (Some (Received f)) = Unit {0}
 IsUnsent (Some Lost) = Unit {0}
@@ -55,7 +55,7 @@ IsUnsent (Some WentOff) = Unit {0}
 IsUnsent (Some Recovered) = Unit {0}
 IsUnsent None = Unit {0}
 
-unsent-gains : (event : Option Event) → IsUnsent event → (frames : List Parts) (p : PortState) → port_noting event (gains frames p) ≡ gains frames (port_noting event p)
+pub unsent-gains : (event : Option Event) → IsUnsent event → (frames : List Parts) (p : PortState) → port_noting event (gains frames p) ≡ gains frames (port_noting event p)
 unsent-gains (Some (Sent f)) un frames p = absurd un
 unsent-gains (Some (Received f)) un frames p = port_logging-gains (record { frame = f; sent = false }) frames p
 unsent-gains (Some Lost) un frames p = refl
@@ -73,7 +73,7 @@ pub record SameQueue (p q : PortState) : Type 0 where
 logging-queue : (entry : Entry) (p : PortState) → SameQueue (port_logging entry p) p
 logging-queue entry p = cond_both {A = PortState} (nat_lt (length p.log) p.log_room) _ _ (λ q. SameQueue q p) (λ e. record { queue = refl; room = refl }) (λ e. record { queue = refl; room = refl })
 
-unsent-queue : (event : Option Event) → IsUnsent event → (p : PortState) → SameQueue (port_noting event p) p
+pub unsent-queue : (event : Option Event) → IsUnsent event → (p : PortState) → SameQueue (port_noting event p) p
 unsent-queue (Some (Sent f)) un p = absurd un
 unsent-queue (Some (Received f)) un p = logging-queue (record { frame = f; sent = false }) p
 unsent-queue (Some Lost) un p = record { queue = refl; room = refl }
@@ -99,6 +99,21 @@ receiver-unsent f w is kept other o = elim (cases_lt o (length (stuffed_part f))
       (sym (cond-false (ltb o (length (stuffed_part f))) _ _ (le-ltb o (length (stuffed_part f)) past) ∙ ap (λ r. end_event f r (behind_part f o)) (receiver-late f w is kept other o past)))
       (unsent-end f (behind_part f o))
 ]
+
+-- a frame that waits behind others, before a level or behind it
+pub offered-through : (q : PortState) (x : Level) (g : Parts) → port_step (port_offered g q) x ≡ port_offered g (port_step q x) → SameQueue (port_step q x) q → port_step (with_offer g q) x ≡ with_offer g (port_step q x)
+offered-through q x g more queue =
+    let after = port_step q x in
+    let same : nat_lt (length after.queue) after.queue_room ≡ nat_lt (length q.queue) q.queue_room =
+    ap (λ l. nat_lt (length l) after.queue_room) queue.queue ∙ ap (nat_lt (length q.queue)) queue.room in
+    elim (cases_Bool (nat_lt (length q.queue) q.queue_room)) [
+      | inl fits ↦
+          ap (λ p. port_step p x) (cond-true (nat_lt (length q.queue) q.queue_room) (port_offered g q) q fits) ∙ more
+          ∙ sym (cond-true (nat_lt (length after.queue) after.queue_room) (port_offered g after) after (same ∙ fits))
+      | inr full ↦
+          ap (λ p. port_step p x) (cond-false (nat_lt (length q.queue) q.queue_room) (port_offered g q) q full)
+          ∙ sym (cond-false (nat_lt (length after.queue) after.queue_room) (port_offered g after) after (same ∙ full))
+    ]
 
 -- ---- bit time by bit time
 
@@ -139,21 +154,11 @@ module _ (f : Parts) (is : IsFrame f) (o : ℕ) (some : 0 < o) (within : o < len
     -- what is offered before the bit time may as well be offered behind it
     pub rides-offered : (g : Parts) → port_step (with_offer g q) (level_at (with_intermission f) o) ≡ with_offer g (port_step q (level_at (with_intermission f) o))
     rides-offered g =
-        let x = level_at (with_intermission f) o in
         let state = frame_state f r.waits 0 r.counters (o + 1) in
-        let more : port_step (port_offered g q) x ≡ port_offered g after =
-        rides-outcome (port_offered g q) (record { waits = r.waits; counters = r.counters; kept = r.kept; behind = r.behind; on_bus = r.on_bus; mac = r.mac }) other
-        ∙ unsent-gains event unsent (g ∷ []) (at_mac state q) ∙ ap (port_offered g) (sym (rides-outcome q r other)) in
-        let same : nat_lt (length after.queue) after.queue_room ≡ nat_lt (length q.queue) q.queue_room =
-        ap (λ l. nat_lt (length l) after.queue_room) rides-queue.queue ∙ ap (nat_lt (length q.queue)) rides-queue.room in
-        elim (cases_Bool (nat_lt (length q.queue) q.queue_room)) [
-          | inl fits ↦
-              ap (λ p. port_step p x) (cond-true (nat_lt (length q.queue) q.queue_room) (port_offered g q) q fits) ∙ more
-              ∙ sym (cond-true (nat_lt (length after.queue) after.queue_room) (port_offered g after) after (same ∙ fits))
-          | inr full ↦
-              ap (λ p. port_step p x) (cond-false (nat_lt (length q.queue) q.queue_room) (port_offered g q) q full)
-              ∙ sym (cond-false (nat_lt (length after.queue) after.queue_room) (port_offered g after) after (same ∙ full))
-        ]
+        offered-through q (level_at (with_intermission f) o) g
+        (rides-outcome (port_offered g q) (record { waits = r.waits; counters = r.counters; kept = r.kept; behind = r.behind; on_bus = r.on_bus; mac = r.mac }) other
+        ∙ unsent-gains event unsent (g ∷ []) (at_mac state q) ∙ ap (port_offered g) (sym (rides-outcome q r other)))
+        rides-queue
 
 -- ---- a port that sends f
 

@@ -1,9 +1,21 @@
--- When a frame may pass a port at once.
-use Rattle.std.specs.Prelude.{Option}
+-- When a frame may pass a port at once, and which ports take no part in it.
+use Rattle.std.specs.Prelude.{ℕ, ◌≡◌, ◌⊎◌, true, Option}
 use Rattle.can_frame.specs.Parts.{Parts}
-use Rattle.can_mac.specs.Frames.{GoesBehind, IsPoised}
+use Rattle.can_code.specs.Front.{FrontParts}
+use Rattle.can_fault.specs.Counters.{is_bus_off}
+use Rattle.can_mac.specs.declared.phase.Phase.TheVariants.{StuffedPart}
+use Rattle.can_mac.specs.State.{MacPhase}
+use Rattle.can_mac.specs.Frames.{GoesBehind, IsOutOfStep, IsPoised, phase_at}
 use Rattle.can_node.specs.Ports.{PortState, waiting}
 
 -- f is the frame with which the port begins, or it goes before that, or the port begins with none
 abbrev pub LetsPass : Parts → PortState → Type 0
 LetsPass f p = (next : Option Parts) × (IsPoised p.mac (waiting p.queue) next × GoesBehind f next)
+
+-- the port takes no part in a frame that begins: it is off the bus, or out of step
+abbrev pub IsAside : PortState → Type 0
+IsAside p = (is_bus_off p.mac.counters ≡ true) ⊎ IsOutOfStep p.mac
+
+-- a controller in a frame's stuffed part has heard the first o levels of f
+abbrev pub HasHeard : Parts → ℕ → MacPhase → Type 0
+HasHeard f o phase = (front : FrontParts) → phase ≡ StuffedPart front → phase ≡ phase_at f o

@@ -84,6 +84,13 @@ impl Port for EitherNode {
         }
     }
 
+    fn stands_aside(&self) -> bool {
+        match self {
+            EitherNode::Plain(node) => node.stands_aside(),
+            EitherNode::Packed(node) => node.stands_aside(),
+        }
+    }
+
     fn has_room(&self, count: usize) -> bool {
         match self {
             EitherNode::Plain(node) => node.has_room(count),

@@ -4,6 +4,7 @@ ghost use Rattle.can_frame.specs.Arbitration.{Before, arbitration_field};
 ghost use Rattle.can_frame.specs.Parts.{IsFrame, Parts};
 ghost use Rattle.can_mac.specs.Frames.{GoesBehind, IsPoised, phase_at, receiving_in, with_intermission};
 ghost use Rattle.can_mac.specs.State.{IsMac, is_off_phase};
+ghost use Rattle.can_code.specs.Front.{FrontParts};
 ghost use Rattle.can_wire.specs.Wire.{stuffed_part};
 ghost use Rattle.can_node.specs.MacProps.{IsMac-prop};
 ghost use Rattle.can_node.specs.Ports.{waiting};
@@ -137,7 +138,7 @@ impl<B: FrameBits> Node<B> {
     /// arbitration of the frame with which it begins. (Bosch CAN 2.0 part B, section 3.1)
     fn has_lost(&self, leader: &Self, frame: &Frame) -> bool
         requires { LetsPass frame.now (⟦<Node<B> as Port>⟧.port self.now) }
-        ensures on_bus { IsTrue result → is_off_phase leader.now.mac.phase ≡ false }
+        ensures part { IsTrue result → (front : FrontParts) × (leader.now.mac.phase ≡ Phase.StuffedPart front) }
         ensures lost { IsTrue result → (o : ℕ) → IsFrame frame.now → 0 < o → o < length (stuffed_part frame.now) → leader.now.mac.phase ≡ phase_at frame.now o →
             port_run (⟦<Node<B> as Port>⟧.port self.now) (take o (with_intermission frame.now)) ≡ record (⟦<Node<B> as Port>⟧.port self.now) { mac = receiving_in (phase_at frame.now o) self.now.mac } }
     {
@@ -246,6 +247,10 @@ impl<B: FrameBits> Port for Node<B> {
                 let _ = self.turn(*level);
             }
         }
+    }
+
+    fn stands_aside(&self) -> bool {
+        self.state() == State::BusOff || self.mac.is_out_of_step()
     }
 
     fn has_room(&self, count: usize) -> bool {

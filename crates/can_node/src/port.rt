@@ -2,10 +2,10 @@ ghost use Rattle.std.specs.Prelude.{◌≡◌, ◌+◌, ◌<◌, ◌≤◌, ◌�
 ghost use Rattle.can_fault.specs.Counters.{state_of};
 ghost use Rattle.can_frame.specs.declared.level.Level.TheVariants.{Recessive};
 ghost use Rattle.can_frame.specs.Parts.{IsFrame};
-ghost use Rattle.can_mac.specs.Frames.{IsPoised, phase_at, with_intermission};
+ghost use Rattle.can_mac.specs.Frames.{IsPoised, with_intermission};
 ghost use Rattle.can_wire.specs.Wire.{stuffed_part};
 ghost use Rattle.can_mac.specs.Machine.{IsSilent};
-ghost use Rattle.can_node.specs.Passing.{LetsPass};
+ghost use Rattle.can_node.specs.Passing.{HasHeard, IsAside, LetsPass};
 ghost use Rattle.can_node.specs.Ports.{PortState, IsAtRest, IsPort, port_offered, port_drives, port_event, port_holding, port_run, port_step, waiting};
 
 use crate::entry::Entry;
@@ -67,19 +67,27 @@ pub trait Port {
     }
 
     /// Samples the first levels of a frame that may pass the port at once, up to some level of its stuffed part, where
-    /// another port has heard as many of them.
+    /// another port has heard as many of them, if it takes part in the frame.
     fn ride(&mut self, leader: &Self, frame: &Frame, levels: &[Level])
         requires whole { IsFrame frame.now }
         requires levels { levels.now ≡ take (length levels.now) (with_intermission frame.now) }
         requires some { 0 < length levels.now }
         requires within { length levels.now < length (stuffed_part frame.now) }
         requires passes { LetsPass frame.now (port self.old) }
-        requires leader { (port leader.now).mac.phase ≡ phase_at frame.now (length levels.now) }
+        requires leader { HasHeard frame.now (length levels.now) (port leader.now).mac.phase }
         ensures { port self.new ≡ port_run (port self.old) levels.now }
     {
         for level in levels {
             let _ = self.turn(*level);
         }
+    }
+
+    /// Whether it takes no part in a frame that begins, whatever comes: it is off the bus, or error passive and behind an
+    /// error. It may say no where it doesn't know. (Bosch CAN 2.0 part B, sections 3.1.3 and 8)
+    fn stands_aside(&self) -> bool
+        ensures { IsTrue result → IsAside (port self.now) }
+    {
+        self.state() == State::BusOff
     }
 
     /// Whether so many more frames have room in its queue. It may say no where it doesn't know.

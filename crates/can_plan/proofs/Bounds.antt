@@ -163,13 +163,6 @@ module _ (rate : HitRate) (limit : ℕ) (ranking : Ranking) (block wide : ℕ) (
   busy-from n some h = let P : ℕ → ℕ → Type 0 = λ b w. demand (most_hits rate) b w (ranking.message ∷ ranking.higher) n ≤ n in
       (some, subst (λ b. P b wide) (sym is_block) (subst (λ w. P (blocking ranking) w) (sym is_wide) h))
 
-  -- no busy period up to the limit
-  pub none-busy : ((n : ℕ) → IsBusy (most_hits rate) block wide ranking.message ranking.higher n → limit < n) → (other : ℕ) → IsBound (most_hits rate) limit ranking other → ⊥
-  none-busy none other b =
-      let past = none b.long (busy-from b.long b.some b.busy) in
-      let h = b.limited in
-      absurd (omega arith)
-
   module _ (periodic : 0 < ranking.message.period) (long : ℕ) (within : long ≤ limit)
       (least : IsLeast (IsBusy (most_hits rate) block wide ranking.message ranking.higher) long) where
     -- each bound speaks of this frame

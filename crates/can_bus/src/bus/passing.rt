@@ -1,17 +1,18 @@
-//! A frame that passes a bus at once: where all ports are idle or in suspend transmission and ask for no overload frame,
-//! one frame goes before all others with which they begin, and no hit falls, its levels and what it leaves are known as
-//! it begins. What is offered meanwhile waits behind it, so it may as well be offered behind it, unless the queue of its
+//! A frame that passes a bus at once: where all ports that take part in it are idle or in suspend transmission and ask for
+//! no overload frame, one frame goes before all others with which they begin, and no hit falls, its levels and what it
+//! leaves are known as it begins. What is offered meanwhile waits behind it, so it may as well be offered behind it, unless the queue of its
 //! sender may be full.
 ghost use Rattle.std.specs.Prelude.{ℕ, ◌≡◌, ◌≢◌, ◌+◌, ◌-◌, ◌++◌, ◌<◌, ◌≤◌, ◌^◌, drop, length, map, take, slice_get, slice_index_or, IfSome, IsNone, IsTrue, Some};
 ghost use Rattle.can_frame.specs.Arbitration.{Before, arbitration_field};
 ghost use Rattle.can_frame.specs.Parts.{IsFrame, Parts};
 ghost use Rattle.can_wire.specs.Wire.{stuffed_part};
 ghost use Rattle.can_mac.specs.Frames.{with_intermission};
+ghost use Rattle.can_node.specs.Passing.{HasHeard};
 ghost use Rattle.can_node.specs.Ports.{port_drives, port_run, waiting};
 ghost use Rattle.can_bus.specs.declared.offer.Offer.{Offer as Asked};
 ghost use Rattle.can_bus.specs.Network.{call_after, call_level, call_refused, offered_now};
 ghost use Rattle.can_bus.specs.Offers.{AreOffered};
-ghost use Rattle.can_bus.specs.Passing.{HasRoom, IsReceived, LeadsTo, MayPass, MayPassAll, PassesAt, PassesBus, PassesBy, PassesByAll, PassesFrom, Receives, due_before, made_behind, refused_behind, rest_run};
+ghost use Rattle.can_bus.specs.Passing.{HasRoom, IsReceived, MayPass, MayPassAll, PassesAt, PassesBus, PassesBy, PassesByAll, PassesFrom, Receives, due_before, made_behind, refused_behind, rest_run};
 ghost use Rattle.can_bus.specs.Run.{BusState, bus_after, recorded};
 ghost use Rattle.can_bus.specs.State.{port_count, port_states, rest_of, state_of};
 ghost use Rattle.can_bus.specs.Walks.{AreRising, IsCall, IsReached, call_on};
@@ -23,7 +24,6 @@ use crate::call::Call;
 use crate::moment::rest_after;
 use crate::offer::Offer;
 use crate::wire::wired_level;
-use can_fault::State;
 use can_frame::{Frame, IDLE_ROW, Key, Level};
 use can_hit::Hit;
 use can_node::{Port, turn_through};
@@ -187,13 +187,13 @@ impl<P: Port> Bus<P> {
             return 0;
         }
         let begun = call.time;
-        let own = offers_to(offers, progress.place, passing.place, begun + count as u64);
-        if !has_room(self.ports.as_slice(), passing.place, own) {
-            return 0;
-        }
         let Some(later) = call.behind(hits, count) else {
             return 0;
         };
+        let own = offers_to(offers, progress.place, passing.place, later.time);
+        if !has_room(self.ports.as_slice(), passing.place, own) {
+            return 0;
+        }
         pass_all(self.ports.as_mut_slice(), &passing.frame, &rec[..count]);
         *call = later;
         self.make_behind(offers, begun, later.time, progress);
@@ -319,7 +319,7 @@ fn first_place<P: Port>(ports: &[P]) -> Option<usize> {
     let mut first: Option<Contender> = None;
     for (place, port) in ports.iter().enumerate() {
         match port.poised() {
-            None if port.state() == State::BusOff => {}
+            None if port.stands_aside() => {}
             None => return None,
             Some(None) => {}
             Some(Some(frame)) => {
@@ -363,7 +363,7 @@ fn receives<P: Port>(port: &P, key: Key) -> Option<bool>
     ensures receives { IfSome result (λ receives. IsTrue receives → (frame : Parts) → arbitration_field frame ≡ key → Receives frame (P.port port.now)) }
 {
     match port.poised() {
-        None if port.state() == State::BusOff => Some(false),
+        None if port.stands_aside() => Some(false),
         None => None,
         Some(None) => Some(true),
         Some(Some(own)) if key.cmp(&own.key()) == Ordering::Less => Some(true),
@@ -418,10 +418,10 @@ fn pass_one<P: Port>(port: &mut P, frame: &Frame, levels: &[Level])
     requires passes { MayPass frame.now (P.port port.old) }
     ensures { P.port port.new ≡ port_run (P.port port.old) levels.now }
 {
-    if port.state() == State::BusOff {
-        turn_through(port, levels);
-    } else {
+    if port.poised().is_some() {
         port.pass(frame, levels);
+    } else {
+        turn_through(port, levels);
     }
 }
 
@@ -448,7 +448,7 @@ fn ride_others<P: Port>(ports: &mut [P], leader: &P, frame: &Frame, levels: &[Le
     requires some { 0 < length levels.now }
     requires within { length levels.now < length (stuffed_part frame.now) }
     requires passes { MayPassAll frame.now (map P.port ports.old) }
-    requires leader { LeadsTo frame.now (length levels.now) (P.port leader.now) }
+    requires leader { HasHeard frame.now (length levels.now) (P.port leader.now).mac.phase }
     ensures { map P.port ports.new ≡ map (λ p. port_run p levels.now) (map P.port ports.old) }
 {
     for port in ports.iter_mut() {
@@ -463,13 +463,13 @@ fn ride_one<P: Port>(port: &mut P, leader: &P, frame: &Frame, levels: &[Level])
     requires some { 0 < length levels.now }
     requires within { length levels.now < length (stuffed_part frame.now) }
     requires passes { MayPass frame.now (P.port port.old) }
-    requires leader { LeadsTo frame.now (length levels.now) (P.port leader.now) }
+    requires leader { HasHeard frame.now (length levels.now) (P.port leader.now).mac.phase }
     ensures { P.port port.new ≡ port_run (P.port port.old) levels.now }
 {
-    if port.state() == State::BusOff || leader.state() == State::BusOff {
-        turn_through(port, levels);
-    } else {
+    if port.poised().is_some() {
         port.ride(leader, frame, levels);
+    } else {
+        turn_through(port, levels);
     }
 }
 

@@ -33,7 +33,8 @@ returns-clause-levels g c = λ bus start.
     let sender : PassesAt f c.in-Some.passing.place 0 (map S items) = subst (λ xs. PassesAt f c.in-Some.passing.place 0 (map S xs)) c.as_slice.ensures.value c.in-Some.ensures.sender in
     let s = c.in-Some.passing.place in
     let fits : HasRoom s (due_before s (call.time + c.lay_out-count.result) (drop c.args.progress.now.place c.args.offers.now)) 0 (map S items) =
-    subst (λ n. HasRoom s n 0 (map S items)) c.offers_to-own.ensures (subst (λ xs. HasRoom s c.offers_to-own.result 0 (map S xs)) c.as_slice-2.ensures.value (c.if-not-has_room.ensures refl)) in
+    subst (λ n. HasRoom s n 0 (map S items)) (c.offers_to-own.ensures ∙ ap (λ t. due_before s t (drop c.args.progress.now.place c.args.offers.now)) c.in-Some-behind.ensures.time)
+    (subst (λ xs. HasRoom s c.offers_to-own.result 0 (map S xs)) c.as_slice-2.ensures.value (c.if-not-has_room.ensures refl)) in
     open-recorded c.args.offers.now c.args.hits.now f c.in-Some.ensures.whole c.in-Some.passing.place (map S items) c.args.self.now.rest call.time call.latest rested got
     (valid-ports S (λ x. g.met.P.Port.valid x) items) passes sender c.args.progress.now.place c.requires.reached
     c.lay_out-count.new.rec c.lay_out-count.result c.if-count-eq0.false (omega (arith, c.lay_out-count.ensures.most, c.lay_out-count.ensures.len)) (c.lay_out-count.ensures.levels c.if-count-eq0.false)
@@ -51,7 +52,8 @@ returns-clause-after g c = λ some bus start.
     let sender : PassesAt f c.in-Some.passing.place 0 (map S items) = subst (λ xs. PassesAt f c.in-Some.passing.place 0 (map S xs)) c.as_slice.ensures.value c.in-Some.ensures.sender in
     let s = c.in-Some.passing.place in
     let fits : HasRoom s (due_before s (call.time + c.lay_out-count.result) (drop c.args.progress.now.place c.args.offers.now)) 0 (map S items) =
-    subst (λ n. HasRoom s n 0 (map S items)) c.offers_to-own.ensures (subst (λ xs. HasRoom s c.offers_to-own.result 0 (map S xs)) c.as_slice-2.ensures.value (c.if-not-has_room.ensures refl)) in
+    subst (λ n. HasRoom s n 0 (map S items)) (c.offers_to-own.ensures ∙ ap (λ t. due_before s t (drop c.args.progress.now.place c.args.offers.now)) c.in-Some-behind.ensures.time)
+    (subst (λ xs. HasRoom s c.offers_to-own.result 0 (map S xs)) c.as_slice-2.ensures.value (c.if-not-has_room.ensures refl)) in
     let len : length c.pass_all.new.ports ≡ c.args.self.now.ports.len = omega (arith, c.pass_all.auto.ports, c.as_mut_slice.ensures.len) in
     let back : take c.args.self.now.ports.len (c.pass_all.new.ports ++ drop (length c.pass_all.new.ports) c.args.self.now.ports.items) ≡ c.pass_all.new.ports =
     take_at c.pass_all.new.ports _ c.args.self.now.ports.len len in
@@ -78,7 +80,8 @@ returns-clause-count g c = λ some bus start first.
     let sender : PassesAt f c.in-Some.passing.place 0 (map S items) = subst (λ xs. PassesAt f c.in-Some.passing.place 0 (map S xs)) c.as_slice.ensures.value c.in-Some.ensures.sender in
     let s = c.in-Some.passing.place in
     let fits : HasRoom s (due_before s (call.time + c.lay_out-count.result) (drop c.args.progress.now.place c.args.offers.now)) 0 (map S items) =
-    subst (λ n. HasRoom s n 0 (map S items)) c.offers_to-own.ensures (subst (λ xs. HasRoom s c.offers_to-own.result 0 (map S xs)) c.as_slice-2.ensures.value (c.if-not-has_room.ensures refl)) in
+    subst (λ n. HasRoom s n 0 (map S items)) (c.offers_to-own.ensures ∙ ap (λ t. due_before s t (drop c.args.progress.now.place c.args.offers.now)) c.in-Some-behind.ensures.time)
+    (subst (λ xs. HasRoom s c.offers_to-own.result 0 (map S xs)) c.as_slice-2.ensures.value (c.if-not-has_room.ensures refl)) in
     let len : length c.pass_all.new.ports ≡ c.args.self.now.ports.len = omega (arith, c.pass_all.auto.ports, c.as_mut_slice.ensures.len) in
     let back : take c.args.self.now.ports.len (c.pass_all.new.ports ++ drop (length c.pass_all.new.ports) c.args.self.now.ports.items) ≡ c.pass_all.new.ports =
     take_at c.pass_all.new.ports _ c.args.self.now.ports.len len in
