@@ -238,7 +238,8 @@ impl<B: FrameBits> MediumAccess<B> {
     /// Whether it is error passive and behind an error as a frame begins that it doesn't send: it drives nothing up to the
     /// end of the intermission behind that frame. (Bosch CAN 2.0 part B, sections 3.1.3 and 8)
     pub fn is_out_of_step(&self) -> bool
-        ensures { IsTrue result → IsOutOfStep self.now }
+        ensures yes { IsTrue result → IsOutOfStep self.now }
+        ensures no { IsFalse result → IsOutOfStep self.now → ⊥ }
     {
         if self.overloads.pending != 0 || self.confine.state() != State::Passive {
             return false;
@@ -416,7 +417,8 @@ fn count(confine: &mut Confine, cause: Option<Cause>) -> bool
 
 /// Whether a controller in this phase is behind an error and drives nothing, though a frame begins.
 fn is_behind_error<B: FrameBits>(phase: &Phase<Front<B>>) -> bool
-    ensures { IsTrue result → IsBehindError phase.now }
+    ensures yes { IsTrue result → IsBehindError phase.now }
+    ensures no { IsFalse result → IsBehindError phase.now → ⊥ }
 {
     match phase {
         Phase::PassiveFlag { unacknowledged, .. } => !*unacknowledged,
