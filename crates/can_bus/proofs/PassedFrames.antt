@@ -1,7 +1,7 @@
 -- A frame that passes a bus at once: the levels of its bit times, and the bus behind them.
 use Rattle.std.specs.Prelude.{if◌then◌else◌}
 use Rattle.std.specs.List.{list_any}
-use Rattle.std.proofs.Common.{◌≡◌, ◌≢◌, ℕ, zero, suc, ◌+◌, ◌-◌, ◌<◌, ◌≤◌, ◌⊎◌, true, false, Option, Some, List, [], ◌∷◌, length, map, take, drop, get_or, add-one, refl, sym, ap, subst, ◌∙◌, arith, inl, inr}
+use Rattle.std.proofs.Common.{◌≡◌, ◌≢◌, ℕ, zero, suc, ◌+◌, ◌-◌, ◌++◌, ◌<◌, ◌≤◌, ◌⊎◌, true, false, Option, Some, List, [], ◌∷◌, length, map, take, drop, get_or, add-one, refl, sym, ap, subst, ◌∙◌, arith, inl, inr}
 use Rattle.std.proofs.lemmas.Bool.{cond-false}
 use Rattle.std.proofs.lemmas.List.{length-append, length-take-le, map-id, take_all, take_at}
 use Rattle.can_frame.specs.declared.level.Level.{Level}
@@ -11,6 +11,7 @@ use Rattle.can_wire.specs.Layout.{level_at}
 use Rattle.can_wire.specs.Wire.{driven, stuffed_part, tail}
 use Rattle.can_mac.specs.Frames.{driven_with_intermission, role_drives, with_intermission}
 use Rattle.can_mac.specs.State.{MacState}
+use Rattle.can_mac.proofs.FrameParts.{length-with_intermission}
 use Rattle.can_mac.proofs.FrameRoles.{line-start, role-own}
 use Rattle.can_node.specs.Passing.{HasHeard, IsAside}
 use Rattle.can_node.specs.Ports.{PortState, IsPort, port_drives, port_run, port_step}
@@ -390,13 +391,24 @@ bus-may f [] passes = tt
 bus-may f (p ∷ ports) (inl one) = (inr (Some f, (one.0, inl refl)), all-may f ports one.1)
 bus-may f (p ∷ ports) (inr one) = (lets-by f p one.0, bus-may f ports one.1)
 
+-- f may pass all ports of two lists, one behind the other
+pub may-parts : {X : Type 0} (S : X → PortState) (f : Parts) (xs ys : List X) → MayPassAll f (map S (xs ++ ys)) → MayPassAll f (map S xs) × MayPassAll f (map S ys)
+may-parts S f [] ys may = (tt, may)
+may-parts S f (x ∷ xs) ys may = let more = may-parts S f xs ys may.1 in ((may.0, more.0), more.1)
+
 -- a port that has sampled the first levels of f
-pub rides-to : (f : Parts) → IsFrame f → (p : PortState) → IsPort p → MayPass f p → (o : ℕ) → 0 < o → o < length (with_intermission f) → HasHeard f o (port_run p (take o (with_intermission f))).mac.phase
+rides-to : (f : Parts) → IsFrame f → (p : PortState) → IsPort p → MayPass f p → (o : ℕ) → 0 < o → o < length (with_intermission f) → HasHeard f o (port_run p (take o (with_intermission f))).mac.phase
 rides-to f is p valid may zero some within = absurd (omega (arith, some))
 rides-to f is p valid (inl aside) (suc o) some within = λ front part. absurd ((aside-apart f is p valid aside (suc o) within).elsewhere front part)
 rides-to f is p valid (inr lets) (suc o) some within = λ front part.
     let enters : Enters f p lets.0 = record { frame = is; poised = lets.1.0; kept = begins-kept p lets.0 lets.1.0 (IsWaiting-waiting p.queue (AreFrames-from p.queue valid.queued)); behind = lets.1.1 } in
     ap (λ (m : MacState). m.phase) (run-rides f p lets.0 enters o within)
+
+-- the same, where these are the levels
+pub rides-front : (f : Parts) → IsFrame f → (p q : PortState) → IsPort p → MayPass f p → (front : List Level) → front ≡ take (length front) (with_intermission f) → 0 < length front → length front < length (stuffed_part f) →
+    q ≡ port_run p front → HasHeard f (length front) q.mac.phase
+rides-front f is p q valid may front of some within runs =
+    subst (λ (state : PortState). HasHeard f (length front) state.mac.phase) (sym (runs ∙ ap (port_run p) of)) (rides-to f is p valid may (length front) some (omega (arith, within, length-with_intermission f)))
 
 -- a port that receives the frame, among the first of some, or behind them
 pub received-first : {X : Type 0} (S : X → PortState) (f : Parts) (xs : List X) (n : ℕ) → IsReceived f (map S (take n xs)) → IsReceived f (map S xs)

@@ -90,7 +90,7 @@ impl<P: Port> Bus<P> {
             return 0;
         }
         let Some(later) = call.behind(hits, count) else {
-            return self.ride_frame(&passing.frame, hits, call, driven, &rec[..count]);
+            return self.ride_frame(&passing, hits, call, driven, &rec[..count]);
         };
         pass_all(self.ports.as_mut_slice(), &passing.frame, &rec[..count]);
         *call = later;
@@ -102,17 +102,18 @@ impl<P: Port> Bus<P> {
     /// most up to the end of its stuffed part. The answer is how many they are, and 0 where they are few.
     fn ride_frame(
         &mut self,
-        frame: &Frame,
+        passing: &Passing,
         hits: &[Hit],
         call: &mut Call,
         driven: &mut Level,
         levels: &[Level],
     ) -> usize
         requires rested { rest_of self.old ≡ 11 }
-        requires whole { IsFrame frame.now }
-        requires levels { levels.now ≡ with_intermission frame.now }
-        requires passes { PassesBus frame.now (port_states P.port self.old) }
-        requires received { IsReceived frame.now (port_states P.port self.old) }
+        requires whole { IsFrame passing.now.frame }
+        requires place { passing.now.place < port_count self.old }
+        requires levels { levels.now ≡ with_intermission passing.now.frame }
+        requires passes { PassesBus passing.now.frame (port_states P.port self.old) }
+        requires received { IsReceived passing.now.frame (port_states P.port self.old) }
         requires driven { driven.old ≡ wired_of (map port_drives (port_states P.port self.old)) }
         requires rising { AreRising hits.now }
         requires call { IsCall hits.now call.old }
@@ -136,7 +137,7 @@ impl<P: Port> Bus<P> {
             return 0;
         }
         let front = &levels[..count];
-        ride_all(self.ports.as_mut_slice(), frame, front);
+        ride_all(self.ports.as_mut_slice(), passing, front);
         self.rest = rest_behind(self.rest, front);
         *call = later;
         *driven = wired_level(self.ports.as_slice());
@@ -278,6 +279,7 @@ fn first_frame<P: Port>(ports: &[P]) -> Option<Passing>
     ensures received { IfSome result (λ passing. IsReceived passing.frame (map P.port ports.now)) }
     ensures sender { IfSome result (λ passing. PassesAt passing.frame passing.place 0 (map P.port ports.now)) }
     ensures whole { IfSome result (λ passing. IsFrame passing.frame) }
+    ensures place { IfSome result (λ passing. passing.place < length ports.now) }
 {
     let place = first_place(ports)?;
     if place >= ports.len() {
@@ -425,20 +427,23 @@ fn pass_one<P: Port>(port: &mut P, frame: &Frame, levels: &[Level])
     }
 }
 
-/// Has all ports sample the first levels of a frame: the first of them does so, and the others hear as much as it has heard.
-fn ride_all<P: Port>(ports: &mut [P], frame: &Frame, levels: &[Level])
-    requires whole { IsFrame frame.now }
-    requires levels { levels.now ≡ take (length levels.now) (with_intermission frame.now) }
+/// Has all ports sample the first levels of a frame: its sender does so, and the others hear as much as it has heard.
+fn ride_all<P: Port>(ports: &mut [P], passing: &Passing, levels: &[Level])
+    requires whole { IsFrame passing.now.frame }
+    requires place { passing.now.place < length ports.old }
+    requires levels { levels.now ≡ take (length levels.now) (with_intermission passing.now.frame) }
     requires some { 0 < length levels.now }
-    requires within { length levels.now < length (stuffed_part frame.now) }
-    requires passes { PassesBus frame.now (map P.port ports.old) }
+    requires within { length levels.now < length (stuffed_part passing.now.frame) }
+    requires passes { PassesBus passing.now.frame (map P.port ports.old) }
     ensures { map P.port ports.new ≡ map (λ p. port_run p levels.now) (map P.port ports.old) }
 {
-    let Some((leader, others)) = ports.split_first_mut() else {
+    let (before, others) = ports.split_at_mut(passing.place);
+    let Some((sender, behind)) = others.split_first_mut() else {
         return;
     };
-    turn_through(leader, levels);
-    ride_others(others, leader, frame, levels);
+    turn_through(sender, levels);
+    ride_others(before, sender, &passing.frame, levels);
+    ride_others(behind, sender, &passing.frame, levels);
 }
 
 /// Has ports sample the first levels of a frame, which another port has sampled.
