@@ -11,7 +11,7 @@ ghost use Rattle.can_mac.specs.Machine.{holding, IsSilent, mac_drives, mac_step,
 use crate::copying::phase_copied;
 use crate::driving::{level_of_part, level_of_slot};
 use crate::event::Event;
-use crate::moves::shortcuts::{goes_on, goes_on_recessive, move_in_place};
+use crate::moves::shortcuts::{goes_on, goes_on_in_end, goes_on_recessive, move_in_place};
 use crate::moves::{Hearing, MOST_OVERLOADS, Move, Stance, enter, next_move};
 use crate::phase::{Overloads, Phase, Role};
 use can_code::{CheckedBits, FrameBits, Front, PlainBits, Sending};
@@ -162,14 +162,29 @@ impl<B: FrameBits> MediumAccess<B> {
         ensures unchanged { IsFalse result → self.new ≡ self.old }
         ensures kept { IsMac self.new }
     {
-        goes_on_recessive(&self.role, &mut self.phase, seen) || self.stays_off(seen)
+        if let Phase::StuffedPart(_) = self.phase {
+            return goes_on_recessive(&self.role, &mut self.phase, seen);
+        }
+        self.follows_outside(seen)
+    }
+
+    /// The same, outside of the stuffed part of a frame. It stands apart, since most levels are of that part.
+    #[tactic(auto, unfolding(crate::specs::Machine::mac_step, crate::specs::Machine::mac_drives))]
+    #[inline(never)]
+    fn follows_outside(&mut self, seen: Level) -> bool
+        ensures taken { IsTrue result → (waiting : Option Parts) → mac_step self.old waiting seen ≡ (self.new, None) }
+        ensures recessive { IsTrue result → (waiting : Option Parts) → mac_drives self.new waiting ≡ Level.Recessive }
+        ensures unchanged { IsFalse result → self.new ≡ self.old }
+        ensures kept { IsMac self.new }
+    {
+        self.stays_off(seen) || goes_on_in_end(&mut self.phase, seen)
     }
 
     /// Takes a level off the bus, unless bus off may end soon, which [`MediumAccess::sample`] looks at. It answers whether
-    /// it took it; else nothing changes. It stands apart, since few levels are sampled off the bus.
+    /// it took it; else nothing changes.
     #[tactic(auto, unfolding(crate::specs::Machine::mac_step, crate::specs::Machine::mac_drives))]
-    #[inline(never)]
-    fn stays_off(&mut self, seen: Level) -> bool
+    #[inline(always)]
+    pub fn stays_off(&mut self, seen: Level) -> bool
         ensures taken { IsTrue result → (waiting : Option Parts) → mac_step self.old waiting seen ≡ (self.new, None) }
         ensures recessive { IsTrue result → (waiting : Option Parts) → mac_drives self.new waiting ≡ Level.Recessive }
         ensures unchanged { IsFalse result → self.new ≡ self.old }

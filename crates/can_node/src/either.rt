@@ -2,7 +2,7 @@ ghost use Rattle.can_node.specs.declared.either.EitherNode.TheVariants.{Plain, P
 
 use crate::entry::Entry;
 use crate::node::{PackedNode, PlainNode};
-use crate::port::{Port, turn_through};
+use crate::port::Port;
 use can_fault::State;
 use can_frame::{Frame, Level};
 use can_mac::Event;
@@ -54,6 +54,13 @@ impl Port for EitherNode {
         }
     }
 
+    fn turn_through(&mut self, levels: &[Level]) {
+        match self {
+            EitherNode::Plain(node) => node.turn_through(levels),
+            EitherNode::Packed(node) => node.turn_through(levels),
+        }
+    }
+
     #[inline]
     fn poised(&self) -> Option<Option<Frame>> {
         match self {
@@ -79,8 +86,8 @@ impl Port for EitherNode {
             (EitherNode::Packed(node), EitherNode::Packed(leader)) => node.ride(
                 leader, frame, levels,
             ),
-            (EitherNode::Plain(node), EitherNode::Packed(_)) => turn_through(node, levels),
-            (EitherNode::Packed(node), EitherNode::Plain(_)) => turn_through(node, levels),
+            (EitherNode::Plain(node), EitherNode::Packed(_)) => node.turn_through(levels),
+            (EitherNode::Packed(node), EitherNode::Plain(_)) => node.turn_through(levels),
         }
     }
 

@@ -45,4 +45,4 @@ pub use entry::Entry;
 pub use laws::first_frame_waits;
 pub use listening::listen;
 pub use node::{Node, PackedNode, PlainNode};
-pub use port::{Port, turn_through};
+pub use port::Port;

@@ -124,6 +124,17 @@ impl<B: FrameBits> Node<B> {
         &self.mac
     }
 
+    /// Samples a level of a frame that passes other ports, most often off the bus.
+    #[tactic(auto, unfolding(crate::specs::Ports::port_step))]
+    #[inline(always)]
+    fn turn_in_passing(&mut self, seen: Level)
+        ensures { ⟦<Node<B> as Port>⟧.port self.new ≡ port_step (⟦<Node<B> as Port>⟧.port self.old) seen }
+    {
+        if !self.mac.stays_off(seen) {
+            let _ = self.turn(seen);
+        }
+    }
+
     /// The frame with which the port begins, where one that begins may pass it at once.
     fn next(&self) -> Option<&Frame>
         ensures { (next : Option Parts) → IsPoised self.now.mac (waiting (frames_in self.now.queue.slots.items)) next → option_copied result ≡ next }
@@ -220,6 +231,12 @@ impl<B: FrameBits> Port for Node<B> {
         self.turn_apart(seen)
     }
 
+    fn turn_through(&mut self, levels: &[Level]) {
+        for level in levels {
+            self.turn_in_passing(*level);
+        }
+    }
+
     #[tactic(auto, using(crate::proofs::PortLemmas::rests_recessive, crate::proofs::PortLemmas::rests_unchanged))]
     #[inline(always)]
     fn rests(&self) -> bool {
@@ -243,9 +260,7 @@ impl<B: FrameBits> Port for Node<B> {
         if self.has_lost(leader, frame) {
             self.mac.follow(&leader.mac);
         } else {
-            for level in levels {
-                let _ = self.turn(*level);
-            }
+            self.turn_through(levels);
         }
     }
 

@@ -36,6 +36,15 @@ pub trait Port {
         ensures port { port self.new ≡ port_step (port self.old) seen }
         ensures level { result ≡ port_drives (port self.new) };
 
+    /// Samples levels, one a bit time.
+    fn turn_through(&mut self, levels: &[Level])
+        ensures { port self.new ≡ port_run (port self.old) levels.now }
+    {
+        for level in levels {
+            let _ = self.turn(*level);
+        }
+    }
+
     /// Whether the port is at rest: its controller is idle, and no frame waits. Then it drives recessive, and a
     /// recessive level leaves it as it is (Bosch CAN 2.0 part B, section 3.2.5, bus idle): so a bus need not visit
     /// its ports while all of them rest.
@@ -61,9 +70,7 @@ pub trait Port {
         requires passes { LetsPass frame.now (port self.old) }
         ensures { port self.new ≡ port_run (port self.old) levels.now }
     {
-        for level in levels {
-            let _ = self.turn(*level);
-        }
+        self.turn_through(levels);
     }
 
     /// Samples the first levels of a frame that may pass the port at once, up to some level of its stuffed part, where
@@ -77,9 +84,7 @@ pub trait Port {
         requires leader { HasHeard frame.now (length levels.now) (port leader.now).mac.phase }
         ensures { port self.new ≡ port_run (port self.old) levels.now }
     {
-        for level in levels {
-            let _ = self.turn(*level);
-        }
+        self.turn_through(levels);
     }
 
     /// Whether it takes no part in a frame that begins, whatever comes: it is off the bus, or error passive and behind an
@@ -131,13 +136,4 @@ pub trait Port {
 
     /// A port's controller is one, its frames are frames, and queue and log keep within their rooms.
     ghost valid: { (x : Self) → IsPort (port x) };
-}
-
-/// Has a port sample levels, one a bit time.
-pub fn turn_through<P: Port>(port: &mut P, levels: &[Level])
-    ensures { P.port port.new ≡ port_run (P.port port.old) levels.now }
-{
-    for level in levels {
-        let _ = port.turn(*level);
-    }
 }

@@ -1,7 +1,7 @@
 //! A frame that passes a bus at once: where all ports that take part in it are idle or in suspend transmission and ask for
 //! no overload frame, one frame goes before all others with which they begin, and no hit falls, its levels and what it
-//! leaves are known as it begins. What is offered meanwhile waits behind it, so it may as well be offered behind it, unless the queue of its
-//! sender may be full.
+//! leaves are known as it begins. What is offered meanwhile waits behind it, so it may as well be offered behind it,
+//! unless the queue of its sender may be full.
 ghost use Rattle.std.specs.Prelude.{ℕ, ◌≡◌, ◌≢◌, ◌+◌, ◌-◌, ◌++◌, ◌<◌, ◌≤◌, ◌^◌, drop, length, map, take, slice_get, slice_index_or, IfSome, IsNone, IsTrue, Some};
 ghost use Rattle.can_frame.specs.Arbitration.{Before, arbitration_field};
 ghost use Rattle.can_frame.specs.Parts.{IsFrame, Parts};
@@ -26,7 +26,7 @@ use crate::offer::Offer;
 use crate::wire::wired_level;
 use can_frame::{Frame, IDLE_ROW, Key, Level};
 use can_hit::Hit;
-use can_node::{Port, turn_through};
+use can_node::Port;
 use can_wire::{LONGEST_WIRE, encode_into};
 use std::cmp::Ordering;
 
@@ -423,7 +423,7 @@ fn pass_one<P: Port>(port: &mut P, frame: &Frame, levels: &[Level])
     if port.poised().is_some() {
         port.pass(frame, levels);
     } else {
-        turn_through(port, levels);
+        port.turn_through(levels);
     }
 }
 
@@ -441,7 +441,7 @@ fn ride_all<P: Port>(ports: &mut [P], passing: &Passing, levels: &[Level])
     let Some((sender, behind)) = others.split_first_mut() else {
         return;
     };
-    turn_through(sender, levels);
+    sender.turn_through(levels);
     ride_others(before, sender, &passing.frame, levels);
     ride_others(behind, sender, &passing.frame, levels);
 }
@@ -474,7 +474,7 @@ fn ride_one<P: Port>(port: &mut P, leader: &P, frame: &Frame, levels: &[Level])
     if port.poised().is_some() {
         port.ride(leader, frame, levels);
     } else {
-        turn_through(port, levels);
+        port.turn_through(levels);
     }
 }
 

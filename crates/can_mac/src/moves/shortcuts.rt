@@ -102,9 +102,9 @@ pub(crate) fn goes_on_recessive<B: FrameBits>(
 }
 
 /// The same, outside of the stuffed part: in the end of frame, in a passive error flag, behind flags, in intermission and
-/// suspend transmission, and while joining. It stands apart, since most levels are of the stuffed part.
-#[inline(never)]
-fn goes_on_in_end<B: FrameBits>(phase: &mut Phase<Front<B>>, seen: Level) -> bool
+/// suspend transmission, and while joining.
+#[inline(always)]
+pub(crate) fn goes_on_in_end<B: FrameBits>(phase: &mut Phase<Front<B>>, seen: Level) -> bool
     requires { IsPhase phase.old }
     ensures on { IsTrue result → (s : Standing) (waiting : Option Parts) → move s phase.old waiting seen ≡ goes s phase.new }
     ensures silent { IsTrue result → (role : Part) (waiting : Option Parts) → phase_drives phase.new role waiting ≡ Level.Recessive }

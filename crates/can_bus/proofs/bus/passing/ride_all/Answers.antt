@@ -18,7 +18,7 @@ ride_others-requires-clause-leader g c =
     let cut : c.args.ports.now ≡ c.split_at_mut-before.result.0.now ++ c.in-Some.sender.now ∷ c.in-Some.behind.now =
     c.split_at_mut-before.ensures.value ∙ ap (λ ys. c.split_at_mut-before.result.0.now ++ ys) c.in-Some.ensures.cases.0 in
     let may = may-parts S f front (c.in-Some.sender.now ∷ c.in-Some.behind.now) (subst (λ xs. MayPassAll f (map S xs)) cut (bus-may f (map S c.args.ports.now) c.requires.passes)) in
-    rides-front f c.requires.whole (S c.in-Some.sender.now) (S c.turn_through.new.port) (g.met.P.Port.valid c.in-Some.sender.now) may.1.0 c.args.levels.now c.requires.levels c.requires.some c.requires.within c.turn_through.ensures
+    rides-front f c.requires.whole (S c.in-Some.sender.now) (S c.turn_through.new.self) (g.met.P.Port.valid c.in-Some.sender.now) may.1.0 c.args.levels.now c.requires.levels c.requires.some c.requires.within c.turn_through.ensures
 
 pub ride_others-requires-2-clause-passes : goal.ride_others-requires-2-clause-passes
 ride_others-requires-2-clause-passes g c =
@@ -37,4 +37,4 @@ ride_others-requires-2-clause-leader g c =
     let cut : c.args.ports.now ≡ c.split_at_mut-before.result.0.now ++ c.in-Some.sender.now ∷ c.in-Some.behind.now =
     c.split_at_mut-before.ensures.value ∙ ap (λ ys. c.split_at_mut-before.result.0.now ++ ys) c.in-Some.ensures.cases.0 in
     let may = may-parts S f front (c.in-Some.sender.now ∷ c.in-Some.behind.now) (subst (λ xs. MayPassAll f (map S xs)) cut (bus-may f (map S c.args.ports.now) c.requires.passes)) in
-    rides-front f c.requires.whole (S c.in-Some.sender.now) (S c.turn_through.new.port) (g.met.P.Port.valid c.in-Some.sender.now) may.1.0 c.args.levels.now c.requires.levels c.requires.some c.requires.within c.turn_through.ensures
+    rides-front f c.requires.whole (S c.in-Some.sender.now) (S c.turn_through.new.self) (g.met.P.Port.valid c.in-Some.sender.now) may.1.0 c.args.levels.now c.requires.levels c.requires.some c.requires.within c.turn_through.ensures

@@ -10,12 +10,9 @@ invariant_of-self g c =
     passes-IsMac fields c.self.invariant None tt c.args.seen
     c.goes_on_recessive.result c.goes_on_recessive.new.phase (λ on s. c.goes_on_recessive.ensures.on on s None) c.goes_on_recessive.ensures.on_bus c.goes_on_recessive.ensures.unchanged
 
-pub returns-then-goes_on_recessive-clause-kept : goal.returns-then-goes_on_recessive-clause-kept
-returns-then-goes_on_recessive-clause-kept g c =
+pub returns-in-StuffedPart-clause-kept : goal.returns-in-StuffedPart-clause-kept
+returns-in-StuffedPart-clause-kept g c =
     let i = c.self.inside in
     let fields : MacState = record { phase = i.phase; role = i.role; overloads = i.overloads; counters = i.confine } in
     passes-IsMac fields c.self.invariant None tt c.args.seen
     c.goes_on_recessive.result c.goes_on_recessive.new.phase (λ on s. c.goes_on_recessive.ensures.on on s None) c.goes_on_recessive.ensures.on_bus c.goes_on_recessive.ensures.unchanged
-
-pub returns-else-goes_on_recessive-clause-kept : goal.returns-else-goes_on_recessive-clause-kept
-returns-else-goes_on_recessive-clause-kept g c = c.stays_off.ensures.kept

@@ -1,7 +1,7 @@
 use Rattle.std.proofs.Common.{◌≡◌, drop}
 use Rattle.can_node.specs.Ports.{port_run}
 use Rattle.can_node.specs.Tournament.{frames_in}
-use Rattle.can_node.proofs.node.NodePort.ride.Given as goal
+use Rattle.can_node.proofs.node.NodePort.turn_through.Given as goal
 
 -- the levels that are left take the port to where all of them take the one at the start
 abbrev pub invariant-loop-level : goal.invariant-loop-level

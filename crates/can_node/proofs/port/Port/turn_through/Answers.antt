@@ -1,7 +1,7 @@
 use Rattle.std.proofs.Common.{arith, sym, ◌∙◌}
 use Rattle.can_frame.specs.declared.level.Level.TheVariants.{Dominant}
 use Rattle.can_node.proofs.RunLemmas.{port_run-next, port_run-all}
-use Rattle.can_node.proofs.port.Port.ride.Goals as goal
+use Rattle.can_node.proofs.port.Port.turn_through.Goals as goal
 
 pub loop-level-preserved : goal.loop-level-preserved
 loop-level-preserved g c =
