@@ -11,7 +11,8 @@ ghost use Rattle.can_mac.specs.Machine.{holding, IsSilent, mac_drives, mac_step,
 use crate::copying::phase_copied;
 use crate::driving::{level_of_part, level_of_slot};
 use crate::event::Event;
-use crate::moves::shortcuts::{goes_on, goes_on_in_end, goes_on_recessive, move_in_place};
+use crate::moves::flags::LAST_OF_DELIMITER;
+use crate::moves::shortcuts::{goes_on, goes_on_recessive, move_in_place, receiver_hears_on};
 use crate::moves::{Hearing, MOST_OVERLOADS, Move, Stance, enter, next_move};
 use crate::phase::{Overloads, Phase, Role};
 use can_code::{CheckedBits, FrameBits, Front, PlainBits, Sending};
@@ -163,7 +164,7 @@ impl<B: FrameBits> MediumAccess<B> {
         ensures kept { IsMac self.new }
     {
         if let Phase::StuffedPart(_) = self.phase {
-            return goes_on_recessive(&self.role, &mut self.phase, seen);
+            return receiver_hears_on(&self.role, &mut self.phase, seen);
         }
         self.follows_outside(seen)
     }
@@ -177,7 +178,7 @@ impl<B: FrameBits> MediumAccess<B> {
         ensures unchanged { IsFalse result → self.new ≡ self.old }
         ensures kept { IsMac self.new }
     {
-        self.stays_off(seen) || goes_on_in_end(&mut self.phase, seen)
+        self.stays_off(seen) || goes_on_recessive(&mut self.phase, seen)
     }
 
     /// Takes a level off the bus, unless bus off may end soon, which [`MediumAccess::sample`] looks at. It answers whether
@@ -438,7 +439,7 @@ fn is_behind_error<B: FrameBits>(phase: &Phase<Front<B>>) -> bool
     match phase {
         Phase::PassiveFlag { unacknowledged, .. } => !*unacknowledged,
         Phase::AfterFlag { .. } => true,
-        Phase::Delimiter { place } => *place < 7,
+        Phase::Delimiter { place } => *place < LAST_OF_DELIMITER,
         _ => false,
     }
 }

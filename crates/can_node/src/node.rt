@@ -127,11 +127,11 @@ impl<B: FrameBits> Node<B> {
     /// Samples a level of a frame that passes other ports, most often off the bus.
     #[tactic(auto, unfolding(crate::specs::Ports::port_step))]
     #[inline(always)]
-    fn turn_in_passing(&mut self, seen: Level)
+    fn sample_in_passing(&mut self, seen: Level)
         ensures { ⟦<Node<B> as Port>⟧.port self.new ≡ port_step (⟦<Node<B> as Port>⟧.port self.old) seen }
     {
         if !self.mac.stays_off(seen) {
-            let _ = self.turn(seen);
+            let _ = self.sample(seen);
         }
     }
 
@@ -233,7 +233,7 @@ impl<B: FrameBits> Port for Node<B> {
 
     fn turn_through(&mut self, levels: &[Level]) {
         for level in levels {
-            self.turn_in_passing(*level);
+            self.sample_in_passing(*level);
         }
     }
 

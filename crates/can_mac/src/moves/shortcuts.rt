@@ -4,8 +4,8 @@
 //!
 //! | Way | Takes a level | Asked by |
 //! |---|---|---|
-//! | [`goes_on_recessive`] | with which nothing but the phase changes, and behind which the controller drives recessive whatever waits | a port's `turn`, by `MediumAccess::follows` |
-//! | [`goes_on`] | with which nothing but the phase changes | a port's `sample` and, behind the one above, its `turn`, by `MediumAccess::passes` |
+//! | [`receiver_hears_on`], [`goes_on_recessive`] | with which nothing but the phase changes, and behind which the controller drives recessive whatever waits: in the stuffed part, and outside of it | a port's `turn`, by `MediumAccess::follows` |
+//! | [`goes_on`] | with which nothing but the phase changes | a port's `sample` and, behind those above, its `turn`, by `MediumAccess::passes` |
 //! | [`move_in_place`] | that makes a move of a frame that goes well | `MediumAccess::sample` |
 //! | `next_move` of `moves.rt` | of any kind, by the cases of the definitions | the same |
 //!
@@ -78,10 +78,9 @@ fn hears_on<B: FrameBits>(role: &Role, phase: &mut Phase<Front<B>>, seen: Level)
     true
 }
 
-/// Takes a level with which the controller just goes on, and behind which it drives recessive whatever waits. It
-/// answers whether the level is one; else nothing changes.
+/// The same at a receiver, which drives recessive behind such a level.
 #[inline(always)]
-pub(crate) fn goes_on_recessive<B: FrameBits>(
+pub(crate) fn receiver_hears_on<B: FrameBits>(
     role: &Role,
     phase: &mut Phase<Front<B>>,
     seen: Level,
@@ -92,19 +91,17 @@ pub(crate) fn goes_on_recessive<B: FrameBits>(
     ensures on_bus { IsTrue result → is_off_phase phase.old ≡ false }
     ensures unchanged { IsFalse result → phase.new ≡ phase.old }
 {
-    if let Phase::StuffedPart(_) = phase {
-        return match role {
-            Role::Receiver => hears_on(role, phase, seen),
-            Role::Sender(_) => false,
-        };
+    match role {
+        Role::Receiver => hears_on(role, phase, seen),
+        Role::Sender(_) => false,
     }
-    goes_on_in_end(phase, seen)
 }
 
-/// The same, outside of the stuffed part: in the end of frame, in a passive error flag, behind flags, in intermission and
-/// suspend transmission, and while joining.
+/// Takes a level with which the controller just goes on, and behind which it drives recessive whatever waits, outside of
+/// the stuffed part: in the end of frame, in a passive error flag, behind flags, in intermission and suspend transmission,
+/// and while joining. It answers whether the level is one; else nothing changes.
 #[inline(always)]
-pub(crate) fn goes_on_in_end<B: FrameBits>(phase: &mut Phase<Front<B>>, seen: Level) -> bool
+pub(crate) fn goes_on_recessive<B: FrameBits>(phase: &mut Phase<Front<B>>, seen: Level) -> bool
     requires { IsPhase phase.old }
     ensures on { IsTrue result → (s : Standing) (waiting : Option Parts) → move s phase.old waiting seen ≡ goes s phase.new }
     ensures silent { IsTrue result → (role : Part) (waiting : Option Parts) → phase_drives phase.new role waiting ≡ Level.Recessive }
@@ -238,7 +235,7 @@ fn goes_on_outside<B: FrameBits>(
         | Phase::Intermission { .. }
         | Phase::Delimiter { .. }
         | Phase::Suspend { .. }
-        | Phase::Joining { .. } => goes_on_in_end(phase, seen),
+        | Phase::Joining { .. } => goes_on_recessive(phase, seen),
         _ => false,
     }
 }

@@ -8,11 +8,11 @@ invariant_of-self g c =
     let i = c.self.inside in
     let fields : MacState = record { phase = i.phase; role = i.role; overloads = i.overloads; counters = i.confine } in
     passes-IsMac fields c.self.invariant None tt c.args.seen
-    c.goes_on_recessive.result c.goes_on_recessive.new.phase (λ on s. c.goes_on_recessive.ensures.on on s None) c.goes_on_recessive.ensures.on_bus c.goes_on_recessive.ensures.unchanged
+    c.receiver_hears_on.result c.receiver_hears_on.new.phase (λ on s. c.receiver_hears_on.ensures.on on s None) c.receiver_hears_on.ensures.on_bus c.receiver_hears_on.ensures.unchanged
 
 pub returns-in-StuffedPart-clause-kept : goal.returns-in-StuffedPart-clause-kept
 returns-in-StuffedPart-clause-kept g c =
     let i = c.self.inside in
     let fields : MacState = record { phase = i.phase; role = i.role; overloads = i.overloads; counters = i.confine } in
     passes-IsMac fields c.self.invariant None tt c.args.seen
-    c.goes_on_recessive.result c.goes_on_recessive.new.phase (λ on s. c.goes_on_recessive.ensures.on on s None) c.goes_on_recessive.ensures.on_bus c.goes_on_recessive.ensures.unchanged
+    c.receiver_hears_on.result c.receiver_hears_on.new.phase (λ on s. c.receiver_hears_on.ensures.on on s None) c.receiver_hears_on.ensures.on_bus c.receiver_hears_on.ensures.unchanged
