@@ -8,7 +8,7 @@
 //!
 //! | File | What it has | Defined in |
 //! |---|---|---|
-//! | `port.rt` | [`Port`], what a port does | `specs/Ports.antt` |
+//! | `port.rt` | [`Port`], what a port does | `specs/Ports.antt`, `specs/Passing.antt` |
 //! | `entry.rt` | [`Entry`], a frame in a log | |
 //! | `node.rt` | [`Node`], a controller with a queue and a log: [`PlainNode`], [`PackedNode`] | `specs/Ports.antt` |
 //! | `either.rt` | [`EitherNode`], a port of either kind | |

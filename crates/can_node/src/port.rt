@@ -76,6 +76,8 @@ pub trait Port {
     /// Samples the first levels of a frame that may pass the port at once, up to some level of its stuffed part, where
     /// another port has heard as many of them, if it takes part in the frame.
     fn ride(&mut self, leader: &Self, frame: &Frame, levels: &[Level])
+    where
+        Self: Sized,
         requires whole { IsFrame frame.now }
         requires levels { levels.now ≡ take (length levels.now) (with_intermission frame.now) }
         requires some { 0 < length levels.now }
