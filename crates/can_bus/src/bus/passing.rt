@@ -1,7 +1,8 @@
 //! A frame that passes a bus at once: where all ports that take part in it are idle or in suspend transmission and ask for
 //! no overload frame, one frame goes before all others with which they begin, and no hit falls, its levels and what it
 //! leaves are known as it begins. What is offered meanwhile waits behind it, so it may as well be offered behind it,
-//! unless the queue of its sender may be full.
+//! unless the queue of its sender may be full. Where a hit falls, the sender goes through the levels up to it, and the
+//! others hear as much as it has heard.
 ghost use Rattle.std.specs.Prelude.{ℕ, ◌≡◌, ◌≢◌, ◌+◌, ◌-◌, ◌++◌, ◌<◌, ◌≤◌, ◌^◌, drop, length, map, take, slice_get, slice_index_or, IfSome, IsNone, IsTrue, Some};
 ghost use Rattle.can_frame.specs.Arbitration.{Before, arbitration_field};
 ghost use Rattle.can_frame.specs.Parts.{IsFrame, Parts};
@@ -79,7 +80,7 @@ impl<P: Port> Bus<P> {
         ensures call { IsCall hits.now call.new }
         ensures time { call.new.time ≡ call.old.time + result }
     {
-        if driven.is_recessive() || self.rest != IDLE_ROW {
+        if driven.is_recessive() || self.rest != IDLE_ROW || rec.len() < SHORTEST_LINE {
             return 0;
         }
         let Some(passing) = first_frame(self.ports.as_slice()) else {
@@ -357,8 +358,8 @@ fn is_received<P: Port>(ports: &[P], frame: &Frame) -> Option<bool>
     Some(received)
 }
 
-/// Whether a port receives the frame with this arbitration field, which passes by it at once; none where it doesn't. Off
-/// the bus a port doesn't receive it.
+/// Whether a port receives the frame with this arbitration field, which passes by it at once; none where it doesn't. One
+/// that takes no part in it doesn't receive it.
 #[inline(always)]
 fn receives<P: Port>(port: &P, key: Key) -> Option<bool>
     ensures passes { IfSome result (λ receives. (frame : Parts) → arbitration_field frame ≡ key → PassesBy frame (P.port port.now)) }
@@ -413,7 +414,7 @@ fn pass_all<P: Port>(ports: &mut [P], frame: &Frame, levels: &[Level])
     }
 }
 
-/// Has the frame pass a port, which off the bus only counts its levels.
+/// Has the frame pass a port. One that takes no part in it goes through its levels.
 fn pass_one<P: Port>(port: &mut P, frame: &Frame, levels: &[Level])
     requires whole { IsFrame frame.now }
     requires levels { levels.now ≡ with_intermission frame.now }
