@@ -1,5 +1,5 @@
 //! What a transcript may be of: the cases that no transcript before it is of.
-ghost use Rattle.std.specs.Prelude.{ℕ, ◌≡◌, List, [], ◌∷◌, ◌++◌, map, IfOk, OnOk};
+ghost use Rattle.std.specs.Prelude.{ℕ, ◌≡◌, List, [], ◌∷◌, ◌++◌, map, IfOk, IfSome, OnOk};
 ghost use Rattle.toml.specs.Data.{Data};
 ghost use Rattle.toml.specs.View.{view};
 ghost use Rattle.document_values.specs.Values.{named};
@@ -9,18 +9,20 @@ ghost use Rattle.kit_transcripts.specs.Untold.{place_at, untold_place as untold_
 
 use document_values::{field, fields_of};
 use kit_cases::text_of;
+use kit_words::LONGEST_NAME;
 use std::alloc::{AllocError, AllocFailed, Global};
 use std::collections::BTreeMap;
 use toml::Value;
-
-/// Behind how many transcripts the places of the cases are kept by their names: up to there each looks through all.
-const MANY: usize = 16;
 
 /// The cases of a document, and the transcripts before one.
 #[derive(Drop)]
 pub(crate) struct Known<'a> {
     cases: &'a [Value],
     earlier: &'a [Value],
+    /// How many names a look through all of them takes for the transcripts together.
+    looks: usize,
+    /// From how many on the places of the cases are kept.
+    price: usize,
     /// The places of the cases that none of the transcripts is of, by their names, where these are kept.
     untold: Option<BTreeMap<&'a str, usize>>,
     ghost kept: { AreUntold untold (map view cases.now) (map view earlier.now) } by { AreUntold-prop untold (map view cases.now) (map view earlier.now) },
@@ -35,21 +37,24 @@ impl<'a> Known<'a> {
         Known {
             cases,
             earlier,
+            looks: 0,
+            price: price_of(cases.len()),
             untold: None,
         }
     }
 
-    /// Keeps the places of the cases from here on, if just so many transcripts were read that this pays.
-    pub(crate) fn keep_behind_many(&mut self, alloc: Global) -> Result<(), AllocError>
+    /// Keeps the places of the cases from here on, if the looks so far took as much time as that does. Where there is no
+    /// memory for it, each transcript still looks through all.
+    pub(crate) fn keep_where_it_pays(&mut self, alloc: Global)
         ensures cases { self.new.cases.now ≡ self.old.cases.now }
         ensures earlier { self.new.earlier.now ≡ self.old.earlier.now }
     {
-        if self.earlier.len() != MANY {
-            return Ok(());
+        if self.looks < self.price {
+            return;
         }
-        let untold = untold_of(alloc, self.cases, self.earlier)?;
-        self.untold = Some(untold);
-        Ok(())
+        // it is tried once
+        self.price = usize::MAX;
+        self.untold = untold_of(alloc, self.cases, self.earlier).unwrap_or(None);
     }
 
     /// The place of the first case of this name, if none of the transcripts is of it.
@@ -62,13 +67,17 @@ impl<'a> Known<'a> {
         }
     }
 
-    /// One more transcript: these are the tables with it.
-    pub(crate) fn add(&mut self, earlier: &'a [Value], last: &Value)
+    /// One more transcript, of the case at this place: these are the tables with it.
+    pub(crate) fn add(&mut self, earlier: &'a [Value], last: &Value, place: usize)
         requires { map view earlier.now ≡ map view self.old.earlier.now ++ view last.now ∷ [] }
         ensures cases { self.new.cases.now ≡ self.old.cases.now }
         ensures earlier { self.new.earlier.now ≡ earlier.now }
     {
         take_out(&mut self.untold, text_said(last, "case"));
+        self.looks = self
+            .looks
+            .saturating_add(place)
+            .saturating_add(earlier.len());
         self.earlier = earlier;
     }
 }
@@ -83,30 +92,43 @@ fn take_out(untold: &mut Option<BTreeMap<&str, usize>>, name: &str)
     untold.remove(name);
 }
 
-/// The places of the cases that none of these transcripts is of.
+/// How many looks take as much time as to keep the places of so many cases: each finds its own among the others.
+fn price_of(count: usize) -> usize {
+    let halvings = usize::BITS - count.leading_zeros();
+    count.saturating_mul(halvings as usize)
+}
+
+/// The places of the cases that none of these transcripts is of, unless a name is too long.
 fn untold_of<'a>(
     alloc: Global,
     cases: &'a [Value],
     earlier: &[Value],
-) -> Result<BTreeMap<&'a str, usize>, AllocError>
-    ensures { IfOk result (λ places. HasUntold places (map view cases.now) (map view earlier.now)) }
+) -> Result<Option<BTreeMap<&'a str, usize>>, AllocError>
+    ensures { IfOk result (λ kept. IfSome kept (λ places. HasUntold places (map view cases.now) (map view earlier.now))) }
 {
-    let mut places = places_of(alloc, cases)?;
+    let Some(mut places) = places_of(alloc, cases)? else {
+        return Ok(None);
+    };
     for transcript in earlier {
         places.remove(text_said(transcript, "case"));
     }
-    Ok(places)
+    Ok(Some(places))
 }
 
-/// The places of these cases, of the first where several have one name.
-fn places_of(alloc: Global, cases: &[Value]) -> Result<BTreeMap<&str, usize>, AllocError>
-    ensures { IfOk result (λ places. HasUntold places (map view cases.now) []) }
+/// The places of these cases, of the first where several have one name. None are kept where one is longer than those that
+/// a document may have, since to find its place could take longer than to look through all.
+fn places_of(alloc: Global, cases: &[Value]) -> Result<Option<BTreeMap<&str, usize>>, AllocError>
+    ensures { IfOk result (λ kept. IfSome kept (λ places. HasUntold places (map view cases.now) [])) }
 {
     let mut places = BTreeMap::new(alloc);
     for (place, case) in cases.iter().enumerate() {
-        add_place(&mut places, text_said(case, "name"), place)?;
+        let name = text_said(case, "name");
+        if name.len() > LONGEST_NAME {
+            return Ok(None);
+        }
+        add_place(&mut places, name, place)?;
     }
-    Ok(places)
+    Ok(Some(places))
 }
 
 /// Adds the place of a case of this name, if there is none yet.

@@ -49,9 +49,10 @@ pub fn read_transcripts(
     let mut read = Vec::new(alloc);
     let mut known = Known::of(cases, &[]);
     for (number, value) in values.iter().enumerate() {
-        known.keep_behind_many(alloc)?;
-        read.push(read_behind(alloc, &known, number, value)?)?;
-        known.add(&values[..number + 1], value);
+        known.keep_where_it_pays(alloc);
+        let told = read_behind(alloc, &known, number, value)?;
+        known.add(&values[..number + 1], value, told.case);
+        read.push(told)?;
     }
     Ok(read)
 }

@@ -13,4 +13,4 @@ loop-place-preserved c =
     let last : place ≡ length (map view (take place cases)) =
     sym (length-map (take place cases) view ∙ length-take-le place cases (omega arith)) in
     subst (λ ds. HasUntold c.add_place.new.places ds []) (sym (tables-more cases place value c.loop-place-test.true c.index-cases-place.is))
-    (untold-case c.loop-place.places c.add_place.new.places (map view (take place cases)) (view value) c.text_said.result.now place last c.text_said.ensures c.in_ok-add_place.ensures c.loop-place.invariant)
+    (untold-case c.loop-place.places c.add_place.new.places (map view (take place cases)) (view value) c.text_said-name.result.now place last c.text_said-name.ensures c.in_ok-add_place.ensures c.loop-place.invariant)

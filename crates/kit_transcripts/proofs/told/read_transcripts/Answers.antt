@@ -10,8 +10,8 @@ use Rattle.document_values.proofs.ReadLists.{IsRead-more, said-all, unmet-next}
 use Rattle.kit_transcripts.specs.Transcripts.{transcript_demands, SaysTranscript}
 use Rattle.kit_transcripts.proofs.told.read_transcripts.Goals as goal
 
-pub returns-in_err-read_behind-clause-unmet : goal.returns-in_err-read_behind-clause-unmet
-returns-in_err-read_behind-clause-unmet c = λ wrong is.
+pub returns-in_err-told-clause-unmet : goal.returns-in_err-told-clause-unmet
+returns-in_err-told-clause-unmet c = λ wrong is.
     let cases = map view c.args.cases.now in
     let values = c.args.values.now in
     let number = c.loop-number.number in
@@ -25,12 +25,12 @@ loop-number-preserved c =
     let values = c.args.values.now in
     let number = c.loop-number.number in
     let here : AllMet (transcript_demands cases (map view (take number values)) number (view c.index-values-number.result)) = search rules in
-    let says : SaysTranscript cases (view c.index-values-number.result) c.in_ok-read_behind.field-0 =
-    subst (λ (vs : List Value). SaysTranscript (map view vs) (view c.index-values-number.result) c.in_ok-read_behind.field-0) (c.keep_behind_many.ensures.cases ∙ c.loop-number.invariant.2) c.in_ok-read_behind.ensures.said in
+    let says : SaysTranscript cases (view c.index-values-number.result) c.in_ok-told.told =
+    subst (λ (vs : List Value). SaysTranscript (map view vs) (view c.index-values-number.result) c.in_ok-told.told) (c.keep_where_it_pays.ensures.cases ∙ c.loop-number.invariant.2) c.in_ok-told.ensures.said in
     rw c.in_ok-push.ensures.items (
       IsRead-more (λ place d. transcript_demands cases (take place (map view values)) place d) (SaysTranscript cases) values number _ c.index-values-number.result _ c.loop-number-test.true c.index-values-number.is
           (subst (λ (earlier : List Data). AllMet (transcript_demands cases earlier number (view c.index-values-number.result))) (sym (take-map view number values)) here) says c.loop-number.invariant.0,
-      All-push (λ one. IsTold one.transcript) _ _ c.loop-number.invariant.1 c.in_ok-read_behind.ensures.told,
+      All-push (λ one. IsTold one.transcript) _ _ c.loop-number.invariant.1 c.in_ok-told.ensures.told,
       search rules,
       search rules,
     )
