@@ -7,14 +7,22 @@ ghost use Rattle.can_stream.specs.Told.{Told};
 ghost use Rattle.can_decode.specs.TraceText.{IsTraceText, levels_in};
 ghost use Rattle.can_stream.specs.Faults.{is_err_by, is_read, is_write};
 ghost use Rattle.can_decode.specs.Decoded.{BeginsDecoding, DecodesAll, DecodesSoFar, DecodesToBadByte, DecodesTooLong};
-ghost use Rattle.can_decode.specs.Decoding.{AreDigits, Decodes, FailsToHear, Hears, HearsText, StopsHearing};
+ghost use Rattle.can_decode.specs.Decoding.{AreDigits, AreSkipped, Decodes, FailsToHear, Hears, HearsText, StopsHearing};
 
 use crate::finding::put_finding;
-use crate::gathered::{GATHERED_ROOM, gather_behind};
+use crate::gathered::{GATHERED_ROOM, gather};
 use crate::idle::recessive_count;
+use crate::skipped::skipped_count;
 use crate::trace::Trace;
 use can_frame::Level;
 use can_stream::{Inbox, Outbox, Sink, Source, TraceFault};
+
+/// How many digits that stand together before a blank or a line end tell that they do so behind it too: then they are heard
+/// as they stand, else they are gathered.
+const LONG_RUN: usize = 32;
+
+/// The same between frames, where recessive levels are skipped sooner than they are gathered.
+const LONG_IDLE_RUN: usize = 8;
 
 /// Reads a trace, `0` and `1` for its levels, and writes a line for each frame and each fault that is found
 /// in it. A blank, 0x0a and 0x0d are skipped. (Bosch CAN 2.0 part B, sections 3.2.1, 3.2.5 and 7.1)
@@ -113,32 +121,29 @@ fn hear_bytes<W: Sink>(
     ensures failed { W.has_failed w.new ≡ is_err_by is_write result }
 {
     let mut index = 0;
-    let mut run_before = usize::MAX;
     while index < bytes.len() {
-        let run = hear_together(&bytes[index..], trace, w, out)?;
+        let run = hear_runs(&bytes[index..], trace, w, out)?;
         index += run;
         if index < bytes.len() {
-            let gathered = gather_behind(run.max(run_before), &bytes[index..], digits);
+            let gathered = gather(&bytes[index..], digits);
             if gathered.taken == 0 {
                 return Err(TraceFault::BadByte {
                     place: place + index as u64,
                 });
             }
             index += gathered.taken;
-            run_before = run;
             if gathered.count > 0 {
-                hear_together(&digits[..gathered.count], trace, w, out)?;
-                // what is left of a run tells nothing of the others
-                run_before = usize::MAX;
+                hear_runs(&digits[..gathered.count], trace, w, out)?;
             }
         }
     }
     Ok(())
 }
 
-/// Hears the levels whose digits stand together at the front of the bytes, and answers how many they are.
+/// Hears the levels at the front of the bytes as long as many of their digits stand together, and answers how many bytes
+/// it took. What is left of a run at the front tells nothing of the others.
 #[inline(never)]
-fn hear_together<W: Sink>(
+fn hear_runs<W: Sink>(
     bytes: &[u8],
     trace: &mut Trace,
     w: &mut W,
@@ -154,17 +159,45 @@ fn hear_together<W: Sink>(
     ensures failed { W.has_failed w.new ≡ is_err_by is_write result }
 {
     let mut index = 0;
+    let mut begun = 0;
+    let mut run_before = usize::MAX;
     while index < bytes.len() {
         index += hear_levels(&bytes[index..], trace);
         if index < bytes.len() {
-            let Some(level) = Level::from_digit(bytes[index]) else {
-                return Ok(index);
-            };
-            hear_level(level, trace, w, out)?;
-            index += 1;
+            if let Some(level) = Level::from_digit(bytes[index]) {
+                hear_level(level, trace, w, out)?;
+                index += 1;
+            } else {
+                let run = index - begun;
+                let skipped = skipped_behind(run.max(run_before), trace, &bytes[index..]);
+                if skipped == 0 {
+                    return Ok(index);
+                }
+                index += skipped;
+                begun = index;
+                run_before = run;
+            }
         }
     }
     Ok(index)
+}
+
+/// How many blanks and line ends stand at the front of the bytes; none where so few digits stood together before them that
+/// they are likely to stand apart.
+#[inline(always)]
+fn skipped_behind(run: usize, trace: &Trace, bytes: &[u8]) -> usize
+    ensures within { result ≤ length bytes.now }
+    ensures skipped { AreSkipped (take result bytes.now) }
+{
+    let long = if trace.is_idle() {
+        LONG_IDLE_RUN
+    } else {
+        LONG_RUN
+    };
+    if run < long {
+        return 0;
+    }
+    skipped_count(bytes)
 }
 
 /// Hears levels at the front of the bytes of which nothing is told, as many as it likes, and answers how many.
@@ -177,6 +210,9 @@ fn hear_levels(bytes: &[u8], trace: &mut Trace) -> usize
 {
     let row = skip_row(bytes, trace);
     let begun = row + hear_start(&bytes[row..], trace);
+    if trace.is_idle() {
+        return begun;
+    }
     begun + trace.hear_digits(&bytes[begun..])
 }
 

@@ -9,13 +9,10 @@ use crate::skipped::{is_skipped, skipped_count};
 use std::simd::prelude::*;
 
 /// How many digits are gathered at most.
-pub(crate) const GATHERED_ROOM: usize = 4096;
+pub(crate) const GATHERED_ROOM: usize = 512;
 
 /// How many bytes are looked at together.
 const BLOCK: usize = 16;
-
-/// How many digits that stand together before a blank or a line end tell that they do so behind it too.
-const LONG_RUN: usize = 144;
 
 /// All places of a block, as the bits of a number.
 const ALL_PLACES: u64 = 0xffff;
@@ -29,27 +26,9 @@ pub(crate) struct Gathered {
     pub(crate) count: usize,
 }
 
-/// Gathers the digits at the front of the bytes, as [`gather`] does, where so few digits stood together before them that they
-/// are likely to stand apart. Else it passes over the blanks and line ends alone.
-pub(crate) fn gather_behind(run: usize, bytes: &[u8], digits: &mut [u8; GATHERED_ROOM]) -> Gathered
-    ensures gathers { Gathers bytes.now result digits.new }
-    ensures stops { result.taken ≡ 0 → 0 < length bytes.now → is_trace_byte (slice_index bytes.now 0) ≡ false }
-{
-    if run >= LONG_RUN {
-        let skipped = skipped_count(bytes);
-        if skipped > 0 {
-            return Gathered {
-                taken: skipped,
-                count: 0,
-            };
-        }
-    }
-    gather(bytes, digits)
-}
-
 /// Gathers the digits at the front of the bytes, as far as there is room, up to a byte that may not stand in a trace. It takes
 /// no byte only where such a one is the first.
-fn gather(bytes: &[u8], digits: &mut [u8; GATHERED_ROOM]) -> Gathered
+pub(crate) fn gather(bytes: &[u8], digits: &mut [u8; GATHERED_ROOM]) -> Gathered
     ensures gathers { Gathers bytes.now result digits.new }
     ensures stops { result.taken ≡ 0 → 0 < length bytes.now → is_trace_byte (slice_index bytes.now 0) ≡ false }
 {

@@ -26,3 +26,19 @@ returns-clause-hears c =
     (rw first at start.ensures.text) (rw first at start.ensures.hears) in
     (Untold-then c.args.trace.now start.new.trace c.hear_digits.new.self bytes (row.result + start.result) c.hear_digits.result begun.0 begun.1
     (rw second at c.hear_digits.ensures.text) (rw second at c.hear_digits.ensures.hears)).1
+
+pub returns-then-is_idle-clause-text : goal.returns-then-is_idle-clause-text
+returns-then-is_idle-clause-text c =
+    let row = c.skip_row-row in
+    let start = c.hear_start in
+    let first = take_rest c.args.bytes.now row.result in
+    (Untold-then c.args.trace.now row.new.trace start.new.trace c.args.bytes.now row.result start.result row.ensures.text row.ensures.hears
+    (rw first at start.ensures.text) (rw first at start.ensures.hears)).0
+
+pub returns-then-is_idle-clause-hears : goal.returns-then-is_idle-clause-hears
+returns-then-is_idle-clause-hears c =
+    let row = c.skip_row-row in
+    let start = c.hear_start in
+    let first = take_rest c.args.bytes.now row.result in
+    (Untold-then c.args.trace.now row.new.trace start.new.trace c.args.bytes.now row.result start.result row.ensures.text row.ensures.hears
+    (rw first at start.ensures.text) (rw first at start.ensures.hears)).1

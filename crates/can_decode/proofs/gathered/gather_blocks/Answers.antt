@@ -29,7 +29,7 @@ loop-now-preserved-then-are_digits c =
     let size : length put ≡ 16 = omega (arith, ap length after, ap length same, length-take 16 (drop taken bytes), length-drop taken bytes, within) in
     let room : count ≤ length l.digits = omega (arith, l.invariant.gathers.room) in
     let behind = drop (count + 16 - count) (drop count l.digits) in
-    let long : length (put_mid count (count + 16 - count) l.digits put) ≡ 4096 =
+    let long : length (put_mid count (count + 16 - count) l.digits put) ≡ 512 =
     omega (arith, length-append (take count l.digits) (put ++ behind), length-append put behind, size, length-take-le count l.digits room, length-drop (count + 16 - count) (drop count l.digits), length-drop count l.digits, l.invariant.long, c.loop-now-test.true) in
     record {
       gathers = Gathers-more bytes l.digits (put_mid count (count + 16 - count) l.digits put) l.now 16 (count + 16) l.invariant.gathers within

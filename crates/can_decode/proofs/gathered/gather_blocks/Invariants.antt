@@ -5,7 +5,7 @@ use Rattle.can_decode.proofs.gathered.gather_blocks.Given as goal
 abbrev pub invariant-loop-now : goal.invariant-loop-now
 invariant-loop-now l = record {
   gathers : Gathers l.bytes l.now l.digits;
-  long : length l.digits ≡ 4096;
+  long : length l.digits ≡ 512;
 }
 
 abbrev pub decreases-loop-now : goal.decreases-loop-now
