@@ -14,6 +14,9 @@ pub(crate) const GATHERED_ROOM: usize = 512;
 /// How many bytes are looked at together.
 const BLOCK: usize = 16;
 
+/// Behind so many blocks of digits alone, those behind them are likely to stand together too: none is gathered then.
+const DIGIT_BLOCKS: usize = 2;
+
 /// All places of a block, as the bits of a number.
 const ALL_PLACES: u64 = 0xffff;
 
@@ -26,22 +29,27 @@ pub(crate) struct Gathered {
     pub(crate) count: usize,
 }
 
-/// Gathers the digits at the front of the bytes, as far as there is room, up to a byte that may not stand in a trace. It takes
-/// no byte only where such a one is the first.
+/// Gathers digits at the front of the bytes, as long as there is room and they stand apart, up to a byte that may not stand
+/// in a trace. It takes no byte only where such a one is the first.
 pub(crate) fn gather(bytes: &[u8], digits: &mut [u8; GATHERED_ROOM]) -> Gathered
     ensures gathers { Gathers bytes.now result digits.new }
     ensures stops { result.taken ≡ 0 → 0 < length bytes.now → is_trace_byte (slice_index bytes.now 0) ≡ false }
 {
     let blocks = gather_blocks(bytes, digits);
-    gather_bytes(bytes, digits, blocks)
+    if blocks.taken > 0 {
+        return blocks;
+    }
+    gather_bytes(bytes, digits)
 }
 
-/// The same by whole blocks. It stops at one that has a byte that may not stand in a trace.
+/// The same by whole blocks, up to one that has a byte that may not stand in a trace.
 fn gather_blocks(bytes: &[u8], digits: &mut [u8; GATHERED_ROOM]) -> Gathered
     ensures { Gathers bytes.now result digits.new }
 {
     let mut now = Gathered { taken: 0, count: 0 };
-    while now.count + BLOCK <= GATHERED_ROOM {
+    // how many blocks of digits alone stand last
+    let mut row = 0;
+    while now.count + BLOCK <= GATHERED_ROOM && row < DIGIT_BLOCKS {
         let Some(block) = bytes[now.taken..].first_chunk::<BLOCK>() else {
             return now;
         };
@@ -49,11 +57,14 @@ fn gather_blocks(bytes: &[u8], digits: &mut [u8; GATHERED_ROOM]) -> Gathered
             digits[now.count..now.count + BLOCK].copy_from_slice(block);
             now.count += BLOCK;
             now.taken += BLOCK;
+            row += 1;
         } else if are_skipped(block) {
             now.taken += BLOCK + skipped_count(&bytes[now.taken + BLOCK..]);
+            row = 0;
         } else if is_text(block) {
             now.count = put_digits(block, digits, now.count);
             now.taken += BLOCK;
+            row = 0;
         } else {
             return now;
         }
@@ -61,13 +72,12 @@ fn gather_blocks(bytes: &[u8], digits: &mut [u8; GATHERED_ROOM]) -> Gathered
     now
 }
 
-/// The same byte by byte, behind what has been gathered.
-fn gather_bytes(bytes: &[u8], digits: &mut [u8; GATHERED_ROOM], gathered: Gathered) -> Gathered
-    requires { Gathers bytes.now gathered digits.old }
+/// The same byte by byte.
+fn gather_bytes(bytes: &[u8], digits: &mut [u8; GATHERED_ROOM]) -> Gathered
     ensures gathers { Gathers bytes.now result digits.new }
     ensures stops { result.taken ≡ 0 → 0 < length bytes.now → is_trace_byte (slice_index bytes.now 0) ≡ false }
 {
-    let mut now = gathered;
+    let mut now = Gathered { taken: 0, count: 0 };
     while now.taken < bytes.len() && now.count < GATHERED_ROOM {
         let byte = bytes[now.taken];
         if is_digit(byte) {
