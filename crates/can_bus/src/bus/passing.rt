@@ -3,7 +3,7 @@
 //! leaves are known as it begins. What is offered meanwhile waits behind it, so it may as well be offered behind it,
 //! unless the queue of its sender may be full. Where a hit falls, the sender goes through the levels up to it, and the
 //! others hear as much as it has heard.
-ghost use Rattle.std.specs.Prelude.{ℕ, ◌≡◌, ◌≢◌, ◌+◌, ◌-◌, ◌++◌, ◌<◌, ◌≤◌, ◌^◌, drop, length, map, take, slice_get, slice_index_or, IfSome, IsNone, IsTrue, Some};
+ghost use Rattle.std.specs.Prelude.{ℕ, ◌≡◌, ◌+◌, ◌-◌, ◌<◌, ◌≤◌, ◌^◌, drop, length, map, take, slice_get, slice_index_or, IfSome, IsNone, IsTrue, Some};
 ghost use Rattle.can_frame.specs.Arbitration.{Before, arbitration_field};
 ghost use Rattle.can_frame.specs.Parts.{IsFrame, Parts};
 ghost use Rattle.can_wire.specs.Wire.{stuffed_part};
@@ -20,6 +20,7 @@ ghost use Rattle.can_bus.specs.Walks.{AreRising, IsCall, IsReached, call_on};
 ghost use Rattle.can_bus.specs.Wired.{wired as wired_of};
 
 use crate::bus::Bus;
+use crate::bus::line::{END, SHORTEST_LINE, lay_out, least_line};
 use crate::bus::play_disturbed::Progress;
 use crate::call::Call;
 use crate::moment::rest_after;
@@ -28,35 +29,10 @@ use crate::wire::wired_level;
 use can_frame::{Frame, IDLE_ROW, Key, Level};
 use can_hit::Hit;
 use can_node::Port;
-use can_wire::{LONGEST_WIRE, encode_into};
 use std::cmp::Ordering;
-
-/// How many bit times the shortest frame takes, with the intermission behind it.
-const SHORTEST_LINE: usize = 47;
 
 /// How many bit times of a frame that is hit are worth to be passed at once.
 const SHORTEST_RIDE: usize = 16;
-
-/// How many levels stand behind the stuffed part of a frame.
-const TAIL_LEVELS: usize = 10;
-
-/// The levels behind the stuffed part of a frame that is acknowledged, from the CRC delimiter to the end of frame, and of
-/// intermission.
-const END: [Level; 13] = [
-    Level::Recessive,
-    Level::Dominant,
-    Level::Recessive,
-    Level::Recessive,
-    Level::Recessive,
-    Level::Recessive,
-    Level::Recessive,
-    Level::Recessive,
-    Level::Recessive,
-    Level::Recessive,
-    Level::Recessive,
-    Level::Recessive,
-    Level::Recessive,
-];
 
 impl<P: Port> Bus<P> {
     /// Runs the bit times of a whole frame, and of the intermission behind it, and records a level in each, where the
@@ -81,6 +57,9 @@ impl<P: Port> Bus<P> {
         ensures time { call.new.time ≡ call.old.time + result }
     {
         if driven.is_recessive() || self.rest != IDLE_ROW || rec.len() < SHORTEST_LINE {
+            return 0;
+        }
+        if !begins_free(call, hits, SHORTEST_RIDE, rec.len()) {
             return 0;
         }
         let Some(passing) = first_frame(self.ports.as_slice()) else {
@@ -178,12 +157,15 @@ impl<P: Port> Bus<P> {
         ensures unpassed { result ≡ 0 → call_on (state_of P.port self.new) call.new ≡ call_on (state_of P.port self.old) call.old }
         ensures unmade { result ≡ 0 → progress.new ≡ progress.old }
     {
-        if self.rest != IDLE_ROW || rec.len() < SHORTEST_LINE {
+        if self.rest != IDLE_ROW || !begins_free(call, hits, SHORTEST_LINE, rec.len()) {
             return 0;
         }
         let Some(passing) = first_frame(self.ports.as_slice()) else {
             return 0;
         };
+        if !begins_free(call, hits, least_line(&passing.frame), rec.len()) {
+            return 0;
+        }
         let count = lay_out(&passing.frame, rec);
         if count == 0 {
             return 0;
@@ -221,6 +203,17 @@ impl<P: Port> Bus<P> {
             made = time;
         }
     }
+}
+
+/// Whether so many bit times are left, and no hit falls in them, where an attempt begins in the first of them, and no other
+/// later. It tells early that a frame is laid out in vain.
+fn begins_free(call: &Call, hits: &[Hit], count: usize, left: usize) -> bool
+    requires rising { AreRising hits.now }
+    requires call { IsCall hits.now call.now }
+    requires some { 1 < count }
+    requires time { call.now.time + left < 2 ^ 64 }
+{
+    count <= left && (hits.is_empty() || call.behind(hits, count).is_some())
 }
 
 /// The time of the offer at this place, if there is one, and it is before an end.
@@ -372,34 +365,6 @@ fn receives<P: Port>(port: &P, key: Key) -> Option<bool>
         Some(Some(own)) if key.cmp(&own.key()) == Ordering::Less => Some(true),
         Some(Some(_)) => None,
     }
-}
-
-/// Puts the levels of a frame that is acknowledged, and of the intermission behind it, into the front of the slice, and
-/// answers how many they are; 0 where there is no room for them.
-fn lay_out(frame: &Frame, rec: &mut [Level]) -> usize
-    ensures most { result ≤ length rec.old }
-    ensures len { length rec.new ≡ length rec.old }
-    ensures some { result ≢ 0 → 1 < result }
-    ensures levels { result ≢ 0 → take result rec.new ≡ with_intermission frame.now }
-{
-    let mut levels = [Level::Recessive; LONGEST_WIRE];
-    let part = encode_into(frame, &mut levels).saturating_sub(TAIL_LEVELS);
-    let count = part + END.len();
-    if count > rec.len() {
-        return 0;
-    }
-    put(rec, 0, &levels[..part]);
-    put(rec, part, &END);
-    count
-}
-
-/// Puts levels behind the first of the slice.
-fn put(rec: &mut [Level], place: usize, levels: &[Level])
-    requires { place + length levels.now ≤ length rec.old }
-    ensures len { length rec.new ≡ length rec.old }
-    ensures levels { take (place + length levels.now) rec.new ≡ take place rec.old ++ levels.now }
-{
-    rec[place..place + levels.len()].copy_from_slice(levels);
 }
 
 /// Has the frame pass all ports.

@@ -2,7 +2,7 @@ use Rattle.std.proofs.Common.{◌≡◌, ◌+◌, ◌++◌, length, take, arith,
 use Rattle.can_mac.proofs.FrameEnds.{end_levels}
 use Rattle.can_mac.proofs.FrameParts.{line-parts}
 use Rattle.can_bus.proofs.PassedFrames.{none-taken, part-of}
-use Rattle.can_bus.proofs.bus.passing.lay_out.Goals as goal
+use Rattle.can_bus.proofs.bus.line.lay_out.Goals as goal
 
 pub returns-clause-levels : goal.returns-clause-levels
 returns-clause-levels c = λ some.
