@@ -12,17 +12,11 @@ ghost use Rattle.can_decode.specs.Decoding.{AreDigits, AreSkipped, Decodes, Fail
 use crate::finding::put_finding;
 use crate::gathered::{GATHERED_ROOM, gather};
 use crate::idle::recessive_count;
+use crate::paying::Paid;
 use crate::skipped::skipped_count;
 use crate::trace::Trace;
 use can_frame::Level;
 use can_stream::{Inbox, Outbox, Sink, Source, TraceFault};
-
-/// How many digits that stand together before a blank or a line end tell that they do so behind it too: then they are heard
-/// as they stand, else they are gathered.
-const LONG_RUN: usize = 32;
-
-/// The same between frames, where recessive levels are skipped sooner than they are gathered.
-const LONG_IDLE_RUN: usize = 8;
 
 /// Reads a trace, `0` and `1` for its levels, and writes a line for each frame and each fault that is found
 /// in it. A blank, 0x0a and 0x0d are skipped. (Bosch CAN 2.0 part B, sections 3.2.1, 3.2.5 and 7.1)
@@ -121,8 +115,9 @@ fn hear_bytes<W: Sink>(
     ensures failed { W.has_failed w.new ≡ is_err_by is_write result }
 {
     let mut index = 0;
+    let mut paid = Paid::nothing();
     while index < bytes.len() {
-        let run = hear_runs(&bytes[index..], trace, w, out)?;
+        let run = hear_runs(&bytes[index..], &mut paid, trace, w, out)?;
         index += run;
         if index < bytes.len() {
             let gathered = gather(&bytes[index..], digits);
@@ -132,19 +127,21 @@ fn hear_bytes<W: Sink>(
                 });
             }
             index += gathered.taken;
+            paid.spend(&gathered);
             if gathered.count > 0 {
-                hear_runs(&digits[..gathered.count], trace, w, out)?;
+                hear_runs(&digits[..gathered.count], &mut paid, trace, w, out)?;
             }
         }
     }
     Ok(())
 }
 
-/// Hears the levels at the front of the bytes as long as many of their digits stand together, and answers how many bytes
-/// it took. What is left of a run at the front tells nothing of the others.
+/// Hears the levels at the front of the bytes, up to where gathering pays, and answers how many bytes it took. What is left
+/// of a run at the front tells nothing of others.
 #[inline(never)]
 fn hear_runs<W: Sink>(
     bytes: &[u8],
+    paid: &mut Paid,
     trace: &mut Trace,
     w: &mut W,
     out: &mut Outbox,
@@ -159,8 +156,8 @@ fn hear_runs<W: Sink>(
     ensures failed { W.has_failed w.new ≡ is_err_by is_write result }
 {
     let mut index = 0;
+    // where a run begins, once one does
     let mut begun = 0;
-    let mut run_before = usize::MAX;
     while index < bytes.len() {
         index += hear_levels(&bytes[index..], trace);
         if index < bytes.len() {
@@ -168,33 +165,27 @@ fn hear_runs<W: Sink>(
                 hear_level(level, trace, w, out)?;
                 index += 1;
             } else {
-                let run = index - begun;
-                let skipped = skipped_behind(run.max(run_before), trace, &bytes[index..]);
+                let skipped = skipped_behind(begun, index, paid, trace, &bytes[index..]);
                 if skipped == 0 {
                     return Ok(index);
                 }
                 index += skipped;
                 begun = index;
-                run_before = run;
             }
         }
     }
     Ok(index)
 }
 
-/// How many blanks and line ends stand at the front of the bytes; none where so few digits stood together before them that
-/// they are likely to stand apart.
+/// How many blanks and line ends stand at the front of the bytes, behind a run between these places; none where gathering
+/// pays.
 #[inline(always)]
-fn skipped_behind(run: usize, trace: &Trace, bytes: &[u8]) -> usize
+fn skipped_behind(begun: usize, index: usize, paid: &mut Paid, trace: &Trace, bytes: &[u8]) -> usize
+    requires { begun ≤ index }
     ensures within { result ≤ length bytes.now }
     ensures skipped { AreSkipped (take result bytes.now) }
 {
-    let long = if trace.is_idle() {
-        LONG_IDLE_RUN
-    } else {
-        LONG_RUN
-    };
-    if run < long {
+    if begun > 0 && paid.gathers_behind(index - begun, trace.is_idle()) {
         return 0;
     }
     skipped_count(bytes)

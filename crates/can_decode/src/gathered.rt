@@ -29,6 +29,14 @@ pub(crate) struct Gathered {
     pub(crate) count: usize,
 }
 
+impl Gathered {
+    /// Whether there is no room for a block more.
+    #[inline(always)]
+    pub(crate) fn is_full(&self) -> bool {
+        self.count > GATHERED_ROOM - BLOCK
+    }
+}
+
 /// Gathers digits at the front of the bytes, as long as there is room and they stand apart, up to a byte that may not stand
 /// in a trace. It takes no byte only where such a one is the first.
 pub(crate) fn gather(bytes: &[u8], digits: &mut [u8; GATHERED_ROOM]) -> Gathered

@@ -13,6 +13,7 @@
 //! | `idle.rt` | rows of recessive levels, block by block | `specs/TraceText.antt` |
 //! | `skipped.rt` | blanks and line ends, block by block | `specs/TraceText.antt` |
 //! | `gathered.rt` | digits that stand between these, in one piece | `specs/Decoding.antt` |
+//! | `paying.rt` | whether gathering pays | |
 //! | `finding.rt` | what is told of a trace, and its line | `specs/Decoded.antt` |
 //! | `text.rt` | the text of a frame in its line | can_frame's `specs/Text.antt` |
 //! | `laws.rt` | that in each trace one list is found, and each input has one answer | `specs/Decoded.antt` |
@@ -32,6 +33,7 @@ mod finding;
 mod gathered;
 mod idle;
 mod laws;
+mod paying;
 mod searching;
 mod skipped;
 mod text;

@@ -6,11 +6,26 @@ ghost use Rattle.can_decode.specs.Decoding.{AreSkipped};
 /// How many bytes are looked at together.
 const BLOCK: usize = 64;
 
-/// How many are looked at one by one before that, as most line ends stand alone.
+/// How many are looked at one by one before that.
 const FIRST: usize = 4;
 
 /// How many blanks and line ends stand at the front of the bytes.
+#[inline(always)]
 pub(crate) fn skipped_count(bytes: &[u8]) -> usize
+    ensures within { result ≤ length bytes.now }
+    ensures skipped { AreSkipped (take result bytes.now) }
+{
+    if bytes.is_empty() || !is_skipped(bytes[0]) {
+        return 0;
+    }
+    if bytes.len() == 1 || !is_skipped(bytes[1]) {
+        return 1;
+    }
+    row_count(bytes)
+}
+
+/// The same, where more than one is likely to.
+fn row_count(bytes: &[u8]) -> usize
     ensures within { result ≤ length bytes.now }
     ensures skipped { AreSkipped (take result bytes.now) }
 {

@@ -1,7 +1,7 @@
 use Rattle.std.proofs.Common.{◌+◌, sym, ◌∙◌, arith, length-drop}
 use Rattle.std.proofs.lemmas.List.{take_rest}
 use Rattle.can_decode.proofs.SkippedBytes.{AreSkipped-more, AreSkipped-then}
-use Rattle.can_decode.proofs.skipped.skipped_count.Goals as goal
+use Rattle.can_decode.proofs.skipped.row_count.Goals as goal
 
 pub loop-count-preserved-then-count-ge-FIRST : goal.loop-count-preserved-then-count-ge-FIRST
 loop-count-preserved-then-count-ge-FIRST c =
