@@ -61,6 +61,7 @@ impl Call {
 
     /// How many bit times from this one on no hit falls in while no attempt begins, `most` at most. It may be fewer
     /// where a hit has just passed.
+    #[inline(never)]
     pub(crate) fn undisturbed(&self, hits: &[Hit], most: usize) -> usize
         requires rising { AreRising hits.now }
         requires call { IsCall hits.now self.now }

@@ -49,6 +49,7 @@ pub(super) fn least_line(frame: &Frame) -> usize
 
 /// Puts the levels of a frame that is acknowledged, and of the intermission behind it, into the front of the slice, and
 /// answers how many they are; 0 where there is no room for them.
+#[inline(never)]
 pub(super) fn lay_out(frame: &Frame, rec: &mut [Level]) -> usize
     ensures most { result ≤ length rec.old }
     ensures len { length rec.new ≡ length rec.old }

@@ -37,7 +37,7 @@ const SHORTEST_RIDE: usize = 16;
 impl<P: Port> Bus<P> {
     /// Runs the bit times of a whole frame, and of the intermission behind it, and records a level in each, where the
     /// frame passes the bus at once. The answer is how many they are, and 0 where none does.
-    #[inline(never)]
+    #[inline(always)]
     pub(super) fn pass_frame(
         &mut self,
         hits: &[Hit],
@@ -80,6 +80,7 @@ impl<P: Port> Bus<P> {
 
     /// Runs the first bit times of a frame that passes the bus, these levels, up to the next in which a hit falls, and at
     /// most up to the end of its stuffed part. The answer is how many they are, and 0 where they are few.
+    #[inline(never)]
     fn ride_frame(
         &mut self,
         passing: &Passing,
@@ -126,7 +127,7 @@ impl<P: Port> Bus<P> {
 
     /// The same, where frames are offered meanwhile, those to the port that sends as many as it has room for: they are
     /// offered behind the frame, which comes to the same. The offers of its first bit time have been made.
-    #[inline(never)]
+    #[inline(always)]
     pub(super) fn pass_open(
         &mut self,
         offers: &[Offer],
@@ -185,6 +186,7 @@ impl<P: Port> Bus<P> {
     }
 
     /// Makes the offers of the times behind one and before another, in their order.
+    #[inline(never)]
     fn make_behind(&mut self, offers: &[Offer], begun: u64, end: u64, progress: &mut Progress)
         requires offered { AreOffered (port_count self.old) offers.now }
         requires later { begun < end }
@@ -207,6 +209,7 @@ impl<P: Port> Bus<P> {
 
 /// Whether so many bit times are left, and no hit falls in them, where an attempt begins in the first of them, and no other
 /// later. It tells early that a frame is laid out in vain.
+#[inline(never)]
 fn begins_free(call: &Call, hits: &[Hit], count: usize, left: usize) -> bool
     requires rising { AreRising hits.now }
     requires call { IsCall hits.now call.now }
@@ -231,6 +234,7 @@ fn time_before(offers: &[Offer], place: usize, end: u64) -> Option<u64>
 }
 
 /// How many of the offers from this place on that are earlier than a time are to this port.
+#[inline(never)]
 fn offers_to(offers: &[Offer], place: usize, node: usize, end: u64) -> usize
     requires { (m n : ℕ) (a b : Asked) → m ≤ n → slice_get offers.now m ≡ Some a → slice_get offers.now n ≡ Some b → a.time ≤ b.time }
     ensures { result ≡ due_before node end (drop place offers.now) }
@@ -247,6 +251,7 @@ fn offers_to(offers: &[Offer], place: usize, node: usize, end: u64) -> usize
 }
 
 /// Whether so many more frames have room in the queue of the port at this place.
+#[inline(never)]
 fn has_room<P: Port>(ports: &[P], place: usize, count: usize) -> bool
     ensures { IsTrue result → HasRoom place count 0 (map P.port ports.now) }
 {
@@ -268,6 +273,7 @@ struct Passing {
 
 /// The frame that passes a bus with these ports at once, at least one of which receives it; none where none does, or may
 /// not.
+#[inline(never)]
 fn first_frame<P: Port>(ports: &[P]) -> Option<Passing>
     ensures passes { IfSome result (λ passing. PassesBus passing.frame (map P.port ports.now)) }
     ensures received { IfSome result (λ passing. IsReceived passing.frame (map P.port ports.now)) }
@@ -368,6 +374,7 @@ fn receives<P: Port>(port: &P, key: Key) -> Option<bool>
 }
 
 /// Has the frame pass all ports.
+#[inline(never)]
 fn pass_all<P: Port>(ports: &mut [P], frame: &Frame, levels: &[Level])
     requires whole { IsFrame frame.now }
     requires levels { levels.now ≡ with_intermission frame.now }

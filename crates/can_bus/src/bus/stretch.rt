@@ -14,8 +14,8 @@ use can_frame::{IDLE_ROW, Level};
 use can_hit::Hit;
 use can_node::Port;
 
-/// How many bit times are taken one after another before the bus is asked again whether it rests, so that a busy bus
-/// is seldom asked.
+/// How many bit times are taken one after another from an idle row on, before the bus is asked again whether it rests, so
+/// that a busy bus is seldom asked.
 const STRETCH: usize = 32;
 
 /// How many bit times the longest frame takes, with the intermission behind it.
@@ -113,46 +113,47 @@ impl<P: Port> Bus<P> {
         if passed > 0 {
             return passed;
         }
-        let count = STRETCH.min(rec.len());
-        self.take_each(hits, call, driven, &mut rec[..count])
+        let count = self.stretch(rec.len());
+        self.take_each(hits, call, driven, &mut rec[..count]);
+        count
     }
 
-    /// Runs bit times one after another, and records a level in each: as many as `rec` is long, or fewer where the last of
-    /// them is the eleventh recessive one in a row, behind which a frame may begin. The answer is how many they are.
+    /// How many bit times are taken one after another, of so many that are left: those before the bus may be at rest.
     #[inline(always)]
-    fn take_each(
-        &mut self,
-        hits: &[Hit],
-        call: &mut Call,
-        driven: &mut Level,
-        rec: &mut [Level],
-    ) -> usize
-        requires some { 0 < length rec.old }
+    fn stretch(&self, left: usize) -> usize
+        requires { 0 < left }
+        ensures some { 0 < result }
+        ensures most { result ≤ left }
+    {
+        let count = if self.rest < IDLE_ROW {
+            usize::from(IDLE_ROW - self.rest)
+        } else {
+            STRETCH
+        };
+        count.min(left)
+    }
+
+    /// Runs as many bit times as `rec` is long, one after another, and records a level in each.
+    #[inline(always)]
+    fn take_each(&mut self, hits: &[Hit], call: &mut Call, driven: &mut Level, rec: &mut [Level])
         requires driven { driven.old ≡ wired_of (map port_drives (port_states P.port self.old)) }
         requires rising { AreRising hits.now }
         requires call { IsCall hits.now call.old }
         requires time { call.old.time + length rec.old < 2 ^ 64 }
-        ensures some { 1 ≤ result }
-        ensures most { result ≤ length rec.old }
-        ensures levels { (t : ℕ) (d : Level) → t < result → slice_index_or rec.new t d ≡ recorded hits.now (bus_after hits.now t (call_on (state_of P.port self.old) call.old)) }
-        ensures after { call_on (state_of P.port self.new) call.new ≡ bus_after hits.now result (call_on (state_of P.port self.old) call.old) }
+        ensures levels { (t : ℕ) (d : Level) → t < length rec.old → slice_index_or rec.new t d ≡ recorded hits.now (bus_after hits.now t (call_on (state_of P.port self.old) call.old)) }
+        ensures after { call_on (state_of P.port self.new) call.new ≡ bus_after hits.now (length rec.old) (call_on (state_of P.port self.old) call.old) }
         ensures driven { driven.new ≡ wired_of (map port_drives (port_states P.port self.new)) }
         ensures call { IsCall hits.now call.new }
-        ensures time { call.new.time ≡ call.old.time + result }
+        ensures time { call.new.time ≡ call.old.time + length rec.old }
     {
-        let mut taken = 0;
-        let mut rest = IDLE_ROW;
-        while taken < rec.len() && (rest == IDLE_ROW || self.rest < IDLE_ROW) {
-            rest = self.rest;
-            rec[taken] = self.step(hits, call, driven);
-            taken += 1;
+        for slot in rec.iter_mut() {
+            *slot = self.step(hits, call, driven);
         }
-        taken
     }
 
     /// In how many bit times from this one on the bus rests, at most so many: it has been recessive for eleven bit
     /// times, all ports rest, and no hit falls in them. It may be fewer where a hit has just passed.
-    #[inline(never)]
+    #[inline(always)]
     fn resting(&self, hits: &[Hit], call: &Call, driven: Level, most: usize) -> usize
         requires driven { driven ≡ wired_of (map port_drives (port_states P.port self.now)) }
         requires rising { AreRising hits.now }
@@ -171,6 +172,7 @@ impl<P: Port> Bus<P> {
 }
 
 /// Whether all ports rest. It ends at the first that doesn't.
+#[inline(never)]
 fn all_rest<P: Port>(ports: &[P]) -> bool
     ensures { IsTrue result → map (λ p. port_step p Recessive) (map P.port ports.now) ≡ map P.port ports.now }
 {
