@@ -14,8 +14,7 @@ use can_frame::{IDLE_ROW, Level};
 use can_hit::Hit;
 use can_node::Port;
 
-/// How many bit times are taken one after another from an idle row on, before the bus is asked again whether it rests, so
-/// that a busy bus is seldom asked.
+/// How many bit times are taken one after another on an idle bus, before it is asked again whether it rests.
 const STRETCH: usize = 32;
 
 /// How many bit times the longest frame takes, with the intermission behind it.
@@ -113,22 +112,24 @@ impl<P: Port> Bus<P> {
         if passed > 0 {
             return passed;
         }
-        let count = self.stretch(rec.len());
+        let count = self.stretch(*driven, rec.len());
         self.take_each(hits, call, driven, &mut rec[..count]);
         count
     }
 
     /// How many bit times are taken one after another, of so many that are left: those before the bus may be at rest.
     #[inline(always)]
-    fn stretch(&self, left: usize) -> usize
+    fn stretch(&self, driven: Level, left: usize) -> usize
         requires { 0 < left }
         ensures some { 0 < result }
         ensures most { result ≤ left }
     {
         let count = if self.rest < IDLE_ROW {
             usize::from(IDLE_ROW - self.rest)
-        } else {
+        } else if driven.is_recessive() {
             STRETCH
+        } else {
+            1 + usize::from(IDLE_ROW)
         };
         count.min(left)
     }
