@@ -11,6 +11,8 @@ from making.programs import PROGRAMS
 from making.tree import TOP, Refusal, commit, told
 
 FILE = TOP / "out" / "proved.json"
+# It is as old as the begin of the run.
+BEGUN = TOP / "out" / "begun"
 # What the gate built, and a release is made of.
 LIBRARY = ("bindings/out/libriddlesage.a", "bindings/out/libriddlesage.so")
 PAGE = "page/out/riddlesage.html"
@@ -30,7 +32,7 @@ class Sources:
 class Record:
     """A run of tests/all that passed: on which sources, by which toolchain, with which last line.
 
-    `left_out` is what lacked a tool, and `parts` the sum of each file that it built.
+    `left_out` is what lacked a tool or was not tried, and `parts` the sum of each file that it built.
     """
 
     sources: Sources
@@ -50,25 +52,26 @@ def sources() -> Sources | None:
         return None
 
 
-def sums() -> dict[str, str]:
-    """The sum of each file that the gate built and that is there."""
-    files = {it: TOP / it for it in PARTS}
-    return {it: hashlib.sha256(path.read_bytes()).hexdigest() for it, path in files.items() if path.is_file()}
+def sums(since: float = 0) -> dict[str, str]:
+    """The sum of each file that a release is made of, and that is there and no older than this time."""
+    files = {it: TOP / it for it in PARTS if (TOP / it).is_file() and (TOP / it).stat().st_mtime >= since}
+    return {it: hashlib.sha256(path.read_bytes()).hexdigest() for it, path in files.items()}
 
 
 def leave(begun: Sources | None, result: str, left_out: list[str]) -> bool:
     """Leaves the record of a run that passed, and tells whether it does: not where sources changed meanwhile."""
     if begun is None or begun != sources():
         return False
-    record = Record(begun, told("rt", "version"), result, left_out, sums())
-    FILE.parent.mkdir(exist_ok=True)
+    record = Record(begun, told("rt", "version"), result, left_out, sums(BEGUN.stat().st_mtime))
     FILE.write_text(json.dumps(dataclasses.asdict(record), indent=1) + "\n", "utf-8")
     return True
 
 
 def forget() -> None:
-    """Takes away the record, as a run does that begins."""
+    """Takes away the record, as a run does that begins, and notes when that is."""
     FILE.unlink(missing_ok=True)
+    BEGUN.parent.mkdir(exist_ok=True)
+    BEGUN.touch()
 
 
 def proved() -> Record:
