@@ -1,0 +1,37 @@
+"""Crates of the repository: what they stand on, what their proofs cost, and copies of them in which rt is called."""
+
+from __future__ import annotations
+
+import os
+import re
+import shutil
+import subprocess
+from collections.abc import Collection
+
+TOP = os.path.dirname(os.path.dirname(os.path.realpath(__file__)))
+
+
+def below(crate: str) -> list[str]:
+    """The crates of the repository that a crate stands on."""
+    told = subprocess.run([f"{TOP}/tools/libraries", crate], stdout=subprocess.PIPE, text=True, check=True)
+    return told.stdout.split()
+
+
+def read_costs() -> dict[str, float]:
+    """The seconds of one processor that the proof of each crate takes, by tools/costs.txt."""
+    with open(f"{TOP}/tools/costs.txt", encoding="utf-8") as it:
+        rows = [line.split() for line in it if line.strip() and not line.startswith("#")]
+    return {crate: float(seconds) for crate, seconds in rows}
+
+
+def copy(crates: Collection[str], to: str, *left_out: str) -> None:
+    """Makes a repository of these crates in a folder, without the files and folders of these names.
+
+    The folder is outside of this repository, where rt ci refuses a second crates.txt.
+    """
+    shutil.copy(f"{TOP}/HANDLES", to)
+    with open(f"{TOP}/crates.txt", encoding="utf-8") as it, open(f"{to}/crates.txt", "w", encoding="utf-8") as out:
+        out.writelines(line for line in it if re.split(r"\W", line)[0] in crates)
+    for crate in crates:
+        unread = shutil.ignore_patterns(*left_out)
+        shutil.copytree(f"{TOP}/crates/{crate}", f"{to}/crates/{crate}", symlinks=True, ignore=unread)
