@@ -18,6 +18,8 @@ use Rattle.can_mac.specs.declared.phase.Reading.{Reading}
 use Rattle.can_mac.specs.declared.phase.Role.{Role}
 use Rattle.can_mac.specs.declared.phase.Role.TheVariants.{Receiver, Sender}
 use Rattle.can_mac.specs.declared.phase.Phase.TheVariants.{Idle, StuffedPart, CrcDelimiter, AckSlot, AckDelimiter, EndOfFrame, PassiveFlag, AfterFlag, Delimiter, Intermission, Suspend}
+use Rattle.can_mac.specs.declared.poised.Poised.{Poised}
+use Rattle.can_mac.specs.declared.poised.Poised.TheVariants.{Not, ToReceive, ToSend}
 use Rattle.can_mac.specs.State.{MacPhase, MacState, IsFrameOrNone}
 use Rattle.can_mac.specs.Moves.{in_arbitration}
 use Rattle.can_mac.specs.Machine.{mac_drives, mac_step}
@@ -146,6 +148,12 @@ pub record IsPoised (m : MacState) (waiting next : Option Parts) : Type 0 where
   pub begins : Begins m.phase waiting next
   pub on_bus : is_bus_off m.counters ≡ false
   pub unasked : m.overloads.pending ≡ 0
+
+-- what this answer says of a controller at which this frame waits: `Not` says nothing
+abbrev pub IsPoisedAs : Poised → MacState → Option Parts → Type 0
+IsPoisedAs Not m waiting = Unit {0}
+IsPoisedAs ToReceive m waiting = IsPoised m waiting None
+IsPoisedAs (ToSend f) m waiting = IsPoised m waiting (Some f)
 
 -- [Error flags], [Delimiter] the phases behind an error in which a controller drives nothing while a frame begins
 abbrev pub IsBehindError : MacPhase → Type 0

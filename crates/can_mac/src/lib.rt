@@ -11,6 +11,7 @@
 //! | `event.rt` | [`Event`], what a bit time brings, [`ErrorKind`] | |
 //! | `phase.rt` | [`Phase`], [`Role`], [`Overloads`], the parts of a controller's state | `specs/State.antt` |
 //! | `machine.rt` | [`MediumAccess`], a controller, bit by bit | `specs/Machine.antt` |
+//! | `poised.rt` | [`Poised`], how a frame that begins finds a controller | `specs/Frames.antt` |
 //! | `copying.rt` | a controller once more | |
 //! | `driving.rt` | what it drives of a frame | `specs/Machine.antt` |
 //! | `moves.rt` | what a level makes of a phase | `specs/Moves.antt` |
@@ -40,6 +41,7 @@ mod laws;
 mod machine;
 mod moves;
 mod phase;
+mod poised;
 
 pub use event::{ErrorKind, Event};
 pub use laws::{
@@ -48,3 +50,4 @@ pub use laws::{
 };
 pub use machine::{Mac, MediumAccess, PackedMac};
 pub use phase::{Overloads, Phase, Reading, Role};
+pub use poised::Poised;

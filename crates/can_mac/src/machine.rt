@@ -3,8 +3,8 @@ ghost use Rattle.std.specs.Option.{option_copied};
 ghost use Rattle.can_code.specs.Front.{FrontParts};
 ghost use Rattle.can_frame.specs.Parts.{Parts};
 ghost use Rattle.can_fault.specs.Counters.{counted, is_bus_off, is_passive as is_passive_by};
-ghost use Rattle.can_mac.specs.State.{idle as idle_state, IsMac, IsPhase, IsFrameOrNone, is_off_phase, joining as joining_state, starting};
-ghost use Rattle.can_mac.specs.Frames.{IsBehindError, IsOutOfStep, IsPoised, behind_frame, receiving_in};
+ghost use Rattle.can_mac.specs.State.{idle as idle_state, IsMac, IsPhase, IsFrameOrNone, is_frame_phase as is_frame_phase_of, is_off_phase, joining as joining_state, starting};
+ghost use Rattle.can_mac.specs.Frames.{IsBehindError, IsOutOfStep, IsPoised, IsPoisedAs, behind_frame, receiving_in};
 ghost use Rattle.can_mac.specs.Moves.{move, move_keeping};
 ghost use Rattle.can_mac.specs.Machine.{holding, IsSilent, mac_drives, mac_step, off_step, on_step, stance as stance_of, step_counting};
 
@@ -15,6 +15,7 @@ use crate::moves::flags::LAST_OF_DELIMITER;
 use crate::moves::shortcuts::{goes_on, goes_on_recessive, move_in_place, receiver_hears_on};
 use crate::moves::{Hearing, MOST_OVERLOADS, Move, Stance, enter, next_move};
 use crate::phase::{Overloads, Phase, Role};
+use crate::poised::Poised;
 use can_code::{CheckedBits, FrameBits, Front, PlainBits, Sending};
 use can_fault::{Cause, Confine, State};
 use can_frame::{Frame, Level};
@@ -147,9 +148,9 @@ impl<B: FrameBits> MediumAccess<B> {
         ensures taken { IsTrue result → mac_step self.old (option_copied waiting.entry) seen ≡ (self.new, None) }
         ensures unchanged { IsFalse result → self.new ≡ self.old }
         ensures kept { IsMac self.new }
+        ensures in_frames { IsTrue result → is_frame_phase_of self.old.phase ≡ true }
     {
-        within_limits(waiting);
-        goes_on(&self.role, &mut self.phase, waiting, seen)
+        is_frame_phase(&self.phase) && self.takes_quietly(waiting, seen)
     }
 
     /// Takes a level with which the controller just goes on, as [`MediumAccess::passes`] does, and behind which it
@@ -162,17 +163,47 @@ impl<B: FrameBits> MediumAccess<B> {
         ensures recessive { IsTrue result → (waiting : Option Parts) → mac_drives self.new waiting ≡ Level.Recessive }
         ensures unchanged { IsFalse result → self.new ≡ self.old }
         ensures kept { IsMac self.new }
+        ensures in_frames { IsTrue result → is_frame_phase_of self.old.phase ≡ true }
+    {
+        is_frame_phase(&self.phase) && self.takes_silently(seen)
+    }
+
+    /// Takes a level with which nothing but its phase changes, and nothing is told: those that [`MediumAccess::passes`]
+    /// takes, and such levels of flags and delimiters, of suspend transmission and of joining. It answers whether the
+    /// level is one; else nothing changes.
+    #[tactic(auto, unfolding(crate::specs::Machine::mac_step))]
+    #[inline(always)]
+    pub fn takes_quietly(&mut self, waiting: Option<&Frame>, seen: Level) -> bool
+        ensures taken { IsTrue result → mac_step self.old (option_copied waiting.entry) seen ≡ (self.new, None) }
+        ensures unchanged { IsFalse result → self.new ≡ self.old }
+        ensures kept { IsMac self.new }
+    {
+        within_limits(waiting);
+        goes_on(&self.role, &mut self.phase, waiting, seen)
+    }
+
+    /// Takes a level that tells nothing, and behind which it drives recessive, both whatever waits: those that
+    /// [`MediumAccess::follows`] takes, such levels of passive error flags, behind flags and in delimiters, of suspend
+    /// transmission and of joining, and those that [`MediumAccess::stays_off`] takes off the bus. It answers whether the
+    /// level is one; else nothing changes.
+    #[tactic(auto, unfolding(crate::specs::Machine::mac_step, crate::specs::Machine::mac_drives))]
+    #[inline(always)]
+    pub fn takes_silently(&mut self, seen: Level) -> bool
+        ensures taken { IsTrue result → (waiting : Option Parts) → mac_step self.old waiting seen ≡ (self.new, None) }
+        ensures recessive { IsTrue result → (waiting : Option Parts) → mac_drives self.new waiting ≡ Level.Recessive }
+        ensures unchanged { IsFalse result → self.new ≡ self.old }
+        ensures kept { IsMac self.new }
     {
         if let Phase::StuffedPart(_) = self.phase {
             return receiver_hears_on(&self.role, &mut self.phase, seen);
         }
-        self.follows_outside(seen)
+        self.takes_silently_outside(seen)
     }
 
     /// The same, outside of the stuffed part of a frame. It stands apart, since most levels are of that part.
     #[tactic(auto, unfolding(crate::specs::Machine::mac_step, crate::specs::Machine::mac_drives))]
     #[inline(never)]
-    fn follows_outside(&mut self, seen: Level) -> bool
+    fn takes_silently_outside(&mut self, seen: Level) -> bool
         ensures taken { IsTrue result → (waiting : Option Parts) → mac_step self.old waiting seen ≡ (self.new, None) }
         ensures recessive { IsTrue result → (waiting : Option Parts) → mac_drives self.new waiting ≡ Level.Recessive }
         ensures unchanged { IsFalse result → self.new ≡ self.old }
@@ -200,29 +231,29 @@ impl<B: FrameBits> MediumAccess<B> {
         }
     }
 
-    /// With which frame it begins, if any, where a frame that begins may pass it at once: it is idle or in suspend
-    /// transmission, and asks for no overload frame. Where none may, it answers nothing. It begins with the frame that
-    /// waits, but in suspend transmission with none. (Bosch CAN 2.0 part B, sections 3.2.5 and 8)
+    /// How a frame that begins finds it, where this frame waits. The frame may pass it at once where it is idle or in
+    /// suspend transmission, and asks for no overload frame. It begins with the frame that waits, but in suspend
+    /// transmission with none. (Bosch CAN 2.0 part B, sections 3.2.5 and 8)
     #[inline]
-    pub fn poised(&self, waiting: Option<&Frame>) -> Option<Option<Frame>>
-        ensures some { IfSome result (λ next. IsPoised self.now (option_copied waiting.entry) next) }
-        ensures none { IsNone result → (next : Option Parts) → IsPoised self.now (option_copied waiting.entry) next → ⊥ }
+    pub fn poised(&self, waiting: Option<&Frame>) -> Poised
+        ensures yes { IsPoisedAs result self.now (option_copied waiting.entry) }
+        ensures no { result ≡ Poised.Not → (next : Option Parts) → IsPoised self.now (option_copied waiting.entry) next → ⊥ }
     {
         if self.overloads.pending != 0 {
-            return None;
+            return Poised::Not;
         }
-        match self.phase {
-            Phase::Idle => Some(waiting.copied()),
-            Phase::Suspend { .. } => Some(None),
-            _ => None,
+        match (&self.phase, waiting) {
+            (Phase::Idle, Some(frame)) => Poised::ToSend(*frame),
+            (Phase::Idle, None) | (Phase::Suspend { .. }, _) => Poised::ToReceive,
+            _ => Poised::Not,
         }
     }
 
-    /// Passes a frame that it sends, or that it receives, from its start of frame to the end of intermission, at a
+    /// Takes a frame that it sends, or that it receives, from its start of frame to the end of intermission, at a
     /// controller that a frame may pass at once: what is left of the frame is that it is counted, and that a sender that
     /// is error passive waits. (Bosch CAN 2.0 part B, section 8)
     #[inline]
-    pub fn pass(&mut self, frame: &Frame, sent: bool)
+    pub fn take_frame(&mut self, frame: &Frame, sent: bool)
         requires { is_bus_off self.old.counters ≡ false }
         ensures { self.new ≡ behind_frame frame.now sent self.old }
     {
@@ -241,7 +272,7 @@ impl<B: FrameBits> MediumAccess<B> {
     }
 
     /// Receives the frame that another controller hears, as far as that one has heard it.
-    pub fn follow(&mut self, leader: &Self)
+    pub fn hear_as(&mut self, leader: &Self)
         requires on_bus { is_bus_off self.old.counters ≡ false }
         requires leader { is_off_phase leader.now.phase ≡ false }
         ensures { self.new ≡ receiving_in leader.now.phase self.old }
@@ -429,6 +460,23 @@ fn count(confine: &mut Confine, cause: Option<Cause>) -> bool
     };
     confine.apply(cause);
     confine.state() == State::BusOff
+}
+
+/// Whether it is the phase of a controller that is idle, or in a frame or the intermission behind it.
+#[inline(always)]
+fn is_frame_phase<B: FrameBits>(phase: &Phase<Front<B>>) -> bool
+    ensures { result ≡ is_frame_phase_of phase.now }
+{
+    matches!(
+        phase,
+        Phase::Idle
+            | Phase::StuffedPart(_)
+            | Phase::CrcDelimiter(_)
+            | Phase::AckSlot(_)
+            | Phase::AckDelimiter(_)
+            | Phase::EndOfFrame { .. }
+            | Phase::Intermission { .. }
+    )
 }
 
 /// Whether a controller in this phase is behind an error and drives nothing, though a frame begins.

@@ -5,7 +5,7 @@ use crate::node::{PackedNode, PlainNode};
 use crate::port::Port;
 use can_fault::State;
 use can_frame::{Frame, Level};
-use can_mac::Event;
+use can_mac::{Event, Poised};
 
 /// A port of one kind or the other, which answers as the node in it.
 #[derive(Drop)]
@@ -62,7 +62,7 @@ impl Port for EitherNode {
     }
 
     #[inline]
-    fn poised(&self) -> Option<Option<Frame>> {
+    fn poised(&self) -> Poised {
         match self {
             EitherNode::Plain(node) => node.poised(),
             EitherNode::Packed(node) => node.poised(),
@@ -70,10 +70,10 @@ impl Port for EitherNode {
     }
 
     #[inline]
-    fn pass(&mut self, frame: &Frame, levels: &[Level]) {
+    fn take_frame(&mut self, frame: &Frame, levels: &[Level]) {
         match self {
-            EitherNode::Plain(node) => node.pass(frame, levels),
-            EitherNode::Packed(node) => node.pass(frame, levels),
+            EitherNode::Plain(node) => node.take_frame(frame, levels),
+            EitherNode::Packed(node) => node.take_frame(frame, levels),
         }
     }
 

@@ -17,7 +17,7 @@ use crate::queue::Queue;
 use can_code::{CheckedBits, FrameBits, PlainBits, rtr_place};
 use can_fault::State;
 use can_frame::{Frame, Level};
-use can_mac::{Event, MediumAccess, Phase};
+use can_mac::{Event, MediumAccess, Phase, Poised};
 use std::alloc::{AllocError, Global};
 
 /// A port with memory of its own, all of which is taken when it is made: no later call takes memory,
@@ -124,7 +124,8 @@ impl<B: FrameBits> Node<B> {
         &self.mac
     }
 
-    /// Samples a level of a frame that passes other ports, most often off the bus.
+    /// Samples one of many levels. Off the bus, where a port goes through whole frames of others, it just counts for
+    /// recovery.
     #[tactic(auto, unfolding(crate::specs::Ports::port_step))]
     #[inline(always)]
     fn sample_in_passing(&mut self, seen: Level)
@@ -215,7 +216,7 @@ impl<B: FrameBits> Port for Node<B> {
     #[inline(always)]
     fn sample(&mut self, seen: Level) -> Option<Event> {
         // most levels tell nothing, and then no event is made
-        if self.mac.passes(self.queue.waiting(), seen) {
+        if self.mac.takes_quietly(self.queue.waiting(), seen) {
             return None;
         }
         self.take(seen)
@@ -225,7 +226,7 @@ impl<B: FrameBits> Port for Node<B> {
     #[inline(always)]
     fn turn(&mut self, seen: Level) -> Level {
         // most ports hear a frame, whatever waits in them
-        if self.mac.follows(seen) {
+        if self.mac.takes_silently(seen) {
             return Level::Recessive;
         }
         self.turn_apart(seen)
@@ -244,21 +245,21 @@ impl<B: FrameBits> Port for Node<B> {
     }
 
     #[inline]
-    fn poised(&self) -> Option<Option<Frame>> {
+    fn poised(&self) -> Poised {
         self.mac.poised(self.queue.waiting())
     }
 
     #[inline]
-    fn pass(&mut self, frame: &Frame, _levels: &[Level]) {
+    fn take_frame(&mut self, frame: &Frame, _levels: &[Level]) {
         let sent = sends(self.next(), frame);
-        self.mac.pass(frame, sent);
+        self.mac.take_frame(frame, sent);
         self.note_passed(frame, sent);
     }
 
     #[inline]
     fn ride(&mut self, leader: &Self, frame: &Frame, levels: &[Level]) {
         if self.has_lost(leader, frame) {
-            self.mac.follow(&leader.mac);
+            self.mac.hear_as(&leader.mac);
         } else {
             self.turn_through(levels);
         }

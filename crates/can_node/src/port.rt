@@ -1,8 +1,8 @@
-ghost use Rattle.std.specs.Prelude.{◌≡◌, ◌+◌, ◌<◌, ◌≤◌, ◌↔◌, length, take, IsTrue, IsFalse, IsOk, OnOk, OnErr, IfErr, IfSome};
+ghost use Rattle.std.specs.Prelude.{◌≡◌, ◌+◌, ◌<◌, ◌≤◌, ◌↔◌, length, take, IsTrue, IsFalse, IsOk, OnOk, OnErr, IfErr};
 ghost use Rattle.can_fault.specs.Counters.{state_of};
 ghost use Rattle.can_frame.specs.declared.level.Level.TheVariants.{Recessive};
 ghost use Rattle.can_frame.specs.Parts.{IsFrame};
-ghost use Rattle.can_mac.specs.Frames.{IsPoised, with_intermission};
+ghost use Rattle.can_mac.specs.Frames.{IsPoisedAs, with_intermission};
 ghost use Rattle.can_wire.specs.Wire.{stuffed_part};
 ghost use Rattle.can_mac.specs.Machine.{IsSilent};
 ghost use Rattle.can_node.specs.Passing.{HasHeard, IsAside, LetsPass};
@@ -11,7 +11,7 @@ ghost use Rattle.can_node.specs.Ports.{PortState, IsAtRest, IsPort, port_offered
 use crate::entry::Entry;
 use can_fault::State;
 use can_frame::{Frame, Level};
-use can_mac::Event;
+use can_mac::{Event, Poised};
 
 /// A port of a bus: a controller with a queue of frames to send and a log of the frames that were on
 /// the bus.
@@ -53,18 +53,18 @@ pub trait Port {
         ensures recessive { IsTrue result → port_drives (port self.now) ≡ Recessive }
         ensures unchanged { IsTrue result → port_step (port self.now) Recessive ≡ port self.now };
 
-    /// The frame with which the port begins, or none, where a frame that begins may pass the port at once: its controller
-    /// is idle or in suspend transmission, and asks for no overload frame. It begins with the frame that waits, but in
-    /// suspend transmission with none. A port that is never passed at once answers nothing.
-    fn poised(&self) -> Option<Option<Frame>>
-        ensures { IfSome result (λ next. IsPoised (port self.now).mac (waiting (port self.now).queue) next) }
+    /// How a frame that begins finds the port. The frame may pass it at once where its controller is idle or in suspend
+    /// transmission, and asks for no overload frame. It begins with the frame that waits, but in suspend transmission with
+    /// none. A port that is never passed at once answers [`Poised::Not`].
+    fn poised(&self) -> Poised
+        ensures { IsPoisedAs result (port self.now).mac (waiting (port self.now).queue) }
     {
-        None
+        Poised::Not
     }
 
     /// Samples the levels of a frame, and of the intermission behind it, where the frame may pass the port at once, and
     /// the port begins with none that goes before it.
-    fn pass(&mut self, frame: &Frame, levels: &[Level])
+    fn take_frame(&mut self, frame: &Frame, levels: &[Level])
         requires whole { IsFrame frame.now }
         requires levels { levels.now ≡ with_intermission frame.now }
         requires passes { LetsPass frame.now (port self.old) }

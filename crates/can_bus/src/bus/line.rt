@@ -8,6 +8,9 @@ use can_wire::{LONGEST_WIRE, encode_into};
 /// How many bit times the shortest frame takes, with the intermission behind it.
 pub(super) const SHORTEST_LINE: usize = 47;
 
+/// How many the longest takes.
+pub(super) const LONGEST_LINE: usize = 160;
+
 /// How many more a byte of data takes.
 const BYTE_LEVELS: usize = 8;
 

@@ -20,7 +20,7 @@ ghost use Rattle.can_bus.specs.Walks.{AreRising, IsCall, IsReached, call_on};
 ghost use Rattle.can_bus.specs.Wired.{wired as wired_of};
 
 use crate::bus::Bus;
-use crate::bus::line::{END, SHORTEST_LINE, lay_out, least_line};
+use crate::bus::line::{END, LONGEST_LINE, SHORTEST_LINE, lay_out, least_line};
 use crate::bus::play_disturbed::Progress;
 use crate::call::Call;
 use crate::moment::rest_after;
@@ -28,6 +28,7 @@ use crate::offer::Offer;
 use crate::wire::wired_level;
 use can_frame::{Frame, IDLE_ROW, Key, Level};
 use can_hit::Hit;
+use can_mac::Poised;
 use can_node::Port;
 use std::cmp::Ordering;
 
@@ -59,7 +60,7 @@ impl<P: Port> Bus<P> {
         if driven.is_recessive() || self.rest != IDLE_ROW || rec.len() < SHORTEST_LINE {
             return 0;
         }
-        if !begins_free(call, hits, SHORTEST_RIDE, rec.len()) {
+        if free_ahead(call, hits, rec.len()) < SHORTEST_RIDE {
             return 0;
         }
         let Some(passing) = first_frame(self.ports.as_slice()) else {
@@ -125,14 +126,16 @@ impl<P: Port> Bus<P> {
         count
     }
 
-    /// The same, where frames are offered meanwhile, those to the port that sends as many as it has room for: they are
-    /// offered behind the frame, which comes to the same. The offers of its first bit time have been made.
+    /// The same with the offers that come within the frame, those to the port that sends as many as it has room for: they
+    /// are made behind the frame, which comes to the same. The wire is driven so, and the offers of the first bit time have
+    /// been made. Where none comes within the longest frame, the answer is 0: the frame is left to `pass_frame`.
     #[inline(always)]
     pub(super) fn pass_open(
         &mut self,
         offers: &[Offer],
         hits: &[Hit],
         call: &mut Call,
+        driven: Level,
         progress: &mut Progress,
         rec: &mut [Level],
     ) -> usize
@@ -158,13 +161,21 @@ impl<P: Port> Bus<P> {
         ensures unpassed { result ≡ 0 → call_on (state_of P.port self.new) call.new ≡ call_on (state_of P.port self.old) call.old }
         ensures unmade { result ≡ 0 → progress.new ≡ progress.old }
     {
-        if self.rest != IDLE_ROW || !begins_free(call, hits, SHORTEST_LINE, rec.len()) {
+        if driven.is_recessive() || self.rest != IDLE_ROW || rec.len() < SHORTEST_LINE {
+            return 0;
+        }
+        let longest = call.time.saturating_add(LONGEST_LINE as u64);
+        if time_before(offers, progress.place, longest).is_none() {
+            return 0;
+        }
+        let free = free_ahead(call, hits, rec.len());
+        if free < SHORTEST_LINE {
             return 0;
         }
         let Some(passing) = first_frame(self.ports.as_slice()) else {
             return 0;
         };
-        if !begins_free(call, hits, least_line(&passing.frame), rec.len()) {
+        if free < least_line(&passing.frame) {
             return 0;
         }
         let count = lay_out(&passing.frame, rec);
@@ -207,16 +218,24 @@ impl<P: Port> Bus<P> {
     }
 }
 
-/// Whether so many bit times are left, and no hit falls in them, where an attempt begins in the first of them, and no other
-/// later. It tells early that a frame is laid out in vain.
+/// In how many bit times from this one on no hit falls, at most so many, where an attempt begins in the first of them, and
+/// no other later. It tells early that a frame would be laid out in vain. It is asked only where an attempt begins for
+/// certain: what it walks past on its copy of the call is behind the call once the attempt has begun.
 #[inline(never)]
-fn begins_free(call: &Call, hits: &[Hit], count: usize, left: usize) -> bool
+fn free_ahead(call: &Call, hits: &[Hit], most: usize) -> usize
     requires rising { AreRising hits.now }
     requires call { IsCall hits.now call.now }
-    requires some { 1 < count }
-    requires time { call.now.time + left < 2 ^ 64 }
+    requires some { 1 < most }
+    requires time { call.now.time + most < 2 ^ 64 }
+    ensures most { result ≤ most }
 {
-    count <= left && (hits.is_empty() || call.behind(hits, count).is_some())
+    if hits.is_empty() {
+        return most;
+    }
+    match call.up_to_hit(hits, most) {
+        Some(later) => (later.time - call.time) as usize,
+        None => 0,
+    }
 }
 
 /// The time of the offer at this place, if there is one, and it is before an end.
@@ -303,8 +322,8 @@ fn own_frame<P: Port>(port: &P) -> Option<Frame>
     ensures { IfSome result (λ frame. PassesFrom frame (P.port port.now)) }
 {
     match port.poised() {
-        Some(Some(frame)) => Some(frame),
-        Some(None) | None => None,
+        Poised::ToSend(frame) => Some(frame),
+        Poised::ToReceive | Poised::Not => None,
     }
 }
 
@@ -321,10 +340,10 @@ fn first_place<P: Port>(ports: &[P]) -> Option<usize> {
     let mut first: Option<Contender> = None;
     for (place, port) in ports.iter().enumerate() {
         match port.poised() {
-            None if port.stands_aside() => {}
-            None => return None,
-            Some(None) => {}
-            Some(Some(frame)) => {
+            Poised::Not if port.stands_aside() => {}
+            Poised::Not => return None,
+            Poised::ToReceive => {}
+            Poised::ToSend(frame) => {
                 let key = frame.key();
                 first = Some(first_of(first, Contender { place, key }));
             }
@@ -365,11 +384,16 @@ fn receives<P: Port>(port: &P, key: Key) -> Option<bool>
     ensures receives { IfSome result (λ receives. IsTrue receives → (frame : Parts) → arbitration_field frame ≡ key → Receives frame (P.port port.now)) }
 {
     match port.poised() {
-        None if port.stands_aside() => Some(false),
-        None => None,
-        Some(None) => Some(true),
-        Some(Some(own)) if key.cmp(&own.key()) == Ordering::Less => Some(true),
-        Some(Some(_)) => None,
+        Poised::Not if port.stands_aside() => Some(false),
+        Poised::Not => None,
+        Poised::ToReceive => Some(true),
+        Poised::ToSend(own) => {
+            if key.cmp(&own.key()) == Ordering::Less {
+                Some(true)
+            } else {
+                None
+            }
+        }
     }
 }
 
@@ -393,10 +417,9 @@ fn pass_one<P: Port>(port: &mut P, frame: &Frame, levels: &[Level])
     requires passes { MayPass frame.now (P.port port.old) }
     ensures { P.port port.new ≡ port_run (P.port port.old) levels.now }
 {
-    if port.poised().is_some() {
-        port.pass(frame, levels);
-    } else {
-        port.turn_through(levels);
+    match port.poised() {
+        Poised::Not => port.turn_through(levels),
+        Poised::ToReceive | Poised::ToSend(_) => port.take_frame(frame, levels),
     }
 }
 
@@ -444,10 +467,9 @@ fn ride_one<P: Port>(port: &mut P, leader: &P, frame: &Frame, levels: &[Level])
     requires leader { HasHeard frame.now (length levels.now) (P.port leader.now).mac.phase }
     ensures { P.port port.new ≡ port_run (P.port port.old) levels.now }
 {
-    if port.poised().is_some() {
-        port.ride(leader, frame, levels);
-    } else {
-        port.turn_through(levels);
+    match port.poised() {
+        Poised::Not => port.turn_through(levels),
+        Poised::ToReceive | Poised::ToSend(_) => port.ride(leader, frame, levels),
     }
 }
 

@@ -19,6 +19,7 @@ use crate::call::Call;
 use crate::check::check;
 use crate::fault::BusFault;
 use crate::offer::Offer;
+use crate::wire::wired_level;
 use can_frame::Level;
 use can_hit::Hit;
 use can_node::Port;
@@ -109,12 +110,13 @@ impl<P: Port> Bus<P> {
         ensures call { IsCall hits.now call.new }
         ensures time { call.new.time ≡ call.old.time + result }
     {
-        let passed = self.pass_open(offers, hits, call, progress, rec);
+        let driven = wired_level(self.ports.as_slice());
+        let passed = self.pass_open(offers, hits, call, driven, progress, rec);
         if passed > 0 {
             return passed;
         }
         let count = self.until_offer(offers, progress, call.time, rec.len());
-        self.go_through(hits, call, &mut rec[..count])
+        self.go_through(hits, call, driven, &mut rec[..count])
     }
 
     /// Runs as many bit times as `rec` is long, with offers and with hits, and records a level in each. Offers are made

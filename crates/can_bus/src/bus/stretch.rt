@@ -8,8 +8,8 @@ ghost use Rattle.can_bus.specs.Walks.{AreRising, IsCall, call_on, rested};
 ghost use Rattle.can_bus.specs.Wired.{wired as wired_of};
 
 use crate::bus::Bus;
+use crate::bus::line::LONGEST_LINE;
 use crate::call::Call;
-use crate::wire::wired_level;
 use can_frame::{IDLE_ROW, Level};
 use can_hit::Hit;
 use can_node::Port;
@@ -17,16 +17,20 @@ use can_node::Port;
 /// How many bit times are taken one after another on an idle bus, before it is asked again whether it rests.
 const STRETCH: usize = 32;
 
-/// How many bit times the longest frame takes, with the intermission behind it.
-const LONGEST_LINE: usize = 160;
-
 impl<P: Port> Bus<P> {
-    /// Runs bit times, and records a level in each: as many as `rec` is long, or fewer where a frame begins that may be
-    /// longer. The answer is how many they are. It stands apart, so that its loops have the registers to themselves, and in
-    /// the one without hits nothing is asked of them.
+    /// Runs bit times, in the first of which the wire is driven so, and records a level in each: as many as `rec` is long,
+    /// or fewer where a frame begins that may be longer. The answer is how many they are. It stands apart, so that its
+    /// loops have the registers to themselves, and in the one without hits nothing is asked of them.
     #[inline(never)]
-    pub(super) fn go_through(&mut self, hits: &[Hit], call: &mut Call, rec: &mut [Level]) -> usize
+    pub(super) fn go_through(
+        &mut self,
+        hits: &[Hit],
+        call: &mut Call,
+        driven: Level,
+        rec: &mut [Level],
+    ) -> usize
         requires some { 0 < length rec.old }
+        requires driven { driven ≡ wired_of (map port_drives (port_states P.port self.old)) }
         requires rising { AreRising hits.now }
         requires call { IsCall hits.now call.old }
         requires time { call.old.time + length rec.old < 2 ^ 64 }
@@ -38,17 +42,24 @@ impl<P: Port> Bus<P> {
         ensures time { call.new.time ≡ call.old.time + result }
     {
         if hits.is_empty() {
-            self.go_by_stretches(&[], call, rec)
+            self.go_by_stretches(&[], call, driven, rec)
         } else {
-            self.go_by_stretches(hits, call, rec)
+            self.go_by_stretches(hits, call, driven, rec)
         }
     }
 
-    /// Runs bit times by stretches, and records a level in each: as many as `rec` is long, or fewer where a frame begins
-    /// that may be longer. The answer is how many they are.
+    /// Runs bit times by stretches, in the first of which the wire is driven so, and records a level in each: as many as
+    /// `rec` is long, or fewer where a frame begins that may be longer. The answer is how many they are.
     #[inline(always)]
-    fn go_by_stretches(&mut self, hits: &[Hit], call: &mut Call, rec: &mut [Level]) -> usize
+    fn go_by_stretches(
+        &mut self,
+        hits: &[Hit],
+        call: &mut Call,
+        first: Level,
+        rec: &mut [Level],
+    ) -> usize
         requires some { 0 < length rec.old }
+        requires driven { first ≡ wired_of (map port_drives (port_states P.port self.old)) }
         requires rising { AreRising hits.now }
         requires call { IsCall hits.now call.old }
         requires time { call.old.time + length rec.old < 2 ^ 64 }
@@ -60,7 +71,7 @@ impl<P: Port> Bus<P> {
         ensures time { call.new.time ≡ call.old.time + result }
     {
         let mut current = *call;
-        let mut driven = wired_level(self.ports.as_slice());
+        let mut driven = first;
         let mut place = 0;
         let mut goes_on = true;
         while goes_on {

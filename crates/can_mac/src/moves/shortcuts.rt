@@ -1,13 +1,16 @@
 //! The quick ways of most levels. Each takes the levels that are its own in place, and spares the memory of a
 //! [`Move`](crate::moves::Move); on any other it changes nothing, and the next way is asked. (Bosch CAN 2.0 part B,
-//! sections 3.2.1, 3.2.5 and 5)
+//! sections 3.2 and 5)
 //!
 //! | Way | Takes a level | Asked by |
 //! |---|---|---|
-//! | [`receiver_hears_on`], [`goes_on_recessive`] | with which nothing but the phase changes, and behind which the controller drives recessive whatever waits: in the stuffed part, and outside of it | a port's `turn`, by `MediumAccess::follows` |
-//! | [`goes_on`] | with which nothing but the phase changes | a port's `sample` and, behind those above, its `turn`, by `MediumAccess::passes` |
+//! | [`receiver_hears_on`] | with which nothing but the phase changes, and behind which the controller drives recessive whatever waits, in the stuffed part of a frame | a port's `turn`, by `MediumAccess::takes_silently` |
+//! | [`goes_on_recessive`] | such a one in the end of frame, in passive error flags, behind flags and in delimiters, in intermission and suspend transmission, and while joining | the same, behind `MediumAccess::stays_off`, which takes those off the bus |
+//! | [`goes_on`] | with which nothing but the phase changes: those above but off the bus, and such ones in the stuffed part of a frame that the controller sends, in CRC and ACK delimiters, in active error flags and overload flags, and while it is idle | a port's `sample` and, behind those above, its `turn`, by `MediumAccess::takes_quietly` |
 //! | [`move_in_place`] | that makes a move of a frame that goes well | `MediumAccess::sample` |
 //! | `next_move` of `moves.rt` | of any kind, by the cases of the definitions | the same |
+//!
+//! `MediumAccess::passes` and `MediumAccess::follows` ask the first three of frames, idle and intermission alone.
 //!
 //! What each spares is told in docs/DECISIONS.md.
 
@@ -98,8 +101,8 @@ pub(crate) fn receiver_hears_on<B: FrameBits>(
 }
 
 /// Takes a level with which the controller just goes on, and behind which it drives recessive whatever waits, outside of
-/// the stuffed part: in the end of frame, in a passive error flag, behind flags, in intermission and suspend transmission,
-/// and while joining. It answers whether the level is one; else nothing changes.
+/// the stuffed part: in the end of frame, in a passive error flag, behind flags and in delimiters, in intermission and
+/// suspend transmission, and while joining. It answers whether the level is one; else nothing changes.
 #[inline(always)]
 pub(crate) fn goes_on_recessive<B: FrameBits>(phase: &mut Phase<Front<B>>, seen: Level) -> bool
     requires { IsPhase phase.old }

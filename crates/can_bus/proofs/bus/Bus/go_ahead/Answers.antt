@@ -1,13 +1,14 @@
-use Rattle.std.proofs.Common.{ℕ, List, ◌≡◌, ◌+◌, ◌<◌, ◌≤◌, length, get_or, take, arith, rules, refl, sym, ap, subst, ◌∙◌}
+use Rattle.std.proofs.Common.{ℕ, List, ◌≡◌, ◌+◌, ◌<◌, ◌≤◌, length, get_or, map, take, arith, rules, refl, sym, ap, subst, ◌∙◌}
 use Rattle.std.proofs.lemmas.Grind.{elements}
 use Rattle.std.proofs.lemmas.List.{length-map, length-take-le}
-use Rattle.can_node.specs.Ports.{PortState}
+use Rattle.can_node.specs.Ports.{PortState, port_drives}
 use Rattle.can_bus.specs.declared.bus.play_disturbed.Progress.{Progress}
 use Rattle.can_bus.specs.Network.{call_after, call_level, offered_now}
 use Rattle.can_bus.specs.Offers.{AreOffered, all_made, refused_at}
 use Rattle.can_bus.specs.Run.{CallState}
 use Rattle.can_bus.specs.State.{state_of}
 use Rattle.can_bus.specs.Walks.{IsReached, call_on}
+use Rattle.can_bus.specs.Wired.{wired}
 use Rattle.can_bus.proofs.CallLemmas.{call-several, level-several, refused-several}
 use Rattle.can_bus.proofs.OfferLemmas.{none-between}
 use Rattle.can_bus.proofs.RunLemmas.{length-after}
@@ -15,6 +16,13 @@ use Rattle.can_bus.proofs.bus.Bus.go_ahead.Goals as goal
 
 pub until_offer-count-requires-clause-offered : goal.until_offer-count-requires-clause-offered
 until_offer-count-requires-clause-offered g c = subst (λ n. AreOffered n c.args.offers.now) (sym c.pass_open-passed.ensures.ports) c.requires.offered
+
+pub go_through-requires-clause-driven : goal.go_through-requires-clause-driven
+go_through-requires-clause-driven g c =
+    let S = g.P.Port.port in
+    let zero : c.pass_open-passed.result ≡ 0 = omega (arith, c.if-passed-gt0.false) in
+    c.wired_level-driven.ensures ∙ ap (λ ps. wired (map port_drives (map S ps))) c.as_slice.ensures.value
+    ∙ ap (λ (k : CallState). wired (map port_drives k.bus.ports)) (sym (c.pass_open-passed.ensures.unpassed zero))
 
 pub returns-clause-after : goal.returns-clause-after
 returns-clause-after g c = λ bus begun.

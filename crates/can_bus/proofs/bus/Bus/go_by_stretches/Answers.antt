@@ -1,12 +1,10 @@
-use Rattle.std.proofs.Common.{true, false, ◌≡◌, ◌+◌, ◌-◌, length, drop, get_or, map, arith, rules, refl, sym, ap, inl, inr, ◌∙◌}
+use Rattle.std.proofs.Common.{true, false, ◌≡◌, ◌+◌, ◌-◌, length, drop, get_or, arith, rules, refl, sym, ap, inl, inr, ◌∙◌}
 use Rattle.std.proofs.lemmas.Bool.{cases_lt}
 use Rattle.std.proofs.lemmas.Grind.{elements}
 use Rattle.std.proofs.lemmas.List.{length-drop}
-use Rattle.can_node.specs.Ports.{port_drives}
 use Rattle.can_bus.specs.Run.{bus_after, recorded}
 use Rattle.can_bus.specs.State.{state_of}
 use Rattle.can_bus.specs.Walks.{call_on}
-use Rattle.can_bus.specs.Wired.{wired}
 use Rattle.can_bus.proofs.BusAtRest.{after_none}
 use Rattle.can_bus.proofs.RunLemmas.{after_join}
 use Rattle.can_bus.proofs.bus.Bus.go_by_stretches.Goals as goal
@@ -15,7 +13,7 @@ pub loop-goes_on-init : goal.loop-goes_on-init
 loop-goes_on-init g c = record {
   state = after_none c.args.hits.now (call_on (state_of g.P.Port.port c.args.self.now) c.args.call.now);
   levels = λ t d h. absurd (omega arith);
-  driven = c.wired_level-driven.ensures ∙ ap (λ ps. wired (map port_drives (map g.P.Port.port ps))) c.as_slice.ensures.value;
+  driven = c.requires.driven;
   call = c.requires.call;
   time = omega arith;
   size = refl;

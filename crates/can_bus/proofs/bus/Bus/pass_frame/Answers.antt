@@ -12,8 +12,8 @@ use Rattle.can_bus.proofs.bus.Bus.pass_frame.Goals as goal
 pub returns-then-is_recessive-clause-after : goal.returns-then-is_recessive-clause-after
 returns-then-is_recessive-clause-after g c = after_none c.args.hits.now (call_on (state_of g.P.Port.port c.args.self.now) c.args.call.now)
 
-pub returns-then-not-begins_free-clause-after : goal.returns-then-not-begins_free-clause-after
-returns-then-not-begins_free-clause-after g c = after_none c.args.hits.now (call_on (state_of g.P.Port.port c.args.self.now) c.args.call.now)
+pub returns-then-free_ahead-lt-SHORTEST_RIDE-clause-after : goal.returns-then-free_ahead-lt-SHORTEST_RIDE-clause-after
+returns-then-free_ahead-lt-SHORTEST_RIDE-clause-after g c = after_none c.args.hits.now (call_on (state_of g.P.Port.port c.args.self.now) c.args.call.now)
 
 pub returns-in_default-clause-after : goal.returns-in_default-clause-after
 returns-in_default-clause-after g c = after_none c.args.hits.now (call_on (state_of g.P.Port.port c.args.self.now) c.args.call.now)

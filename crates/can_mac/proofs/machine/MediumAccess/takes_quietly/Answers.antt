@@ -1,7 +1,7 @@
 use Rattle.std.specs.Option.{option_copied}
 use Rattle.can_mac.specs.State.{MacState}
 use Rattle.can_mac.proofs.Landing.{passes-IsMac}
-use Rattle.can_mac.proofs.machine.MediumAccess.passes.Goals as goal
+use Rattle.can_mac.proofs.machine.MediumAccess.takes_quietly.Goals as goal
 
 pub invariant_of-self : goal.invariant_of-self
 invariant_of-self g c =

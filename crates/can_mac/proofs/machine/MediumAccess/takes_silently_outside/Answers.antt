@@ -1,7 +1,7 @@
 use Rattle.std.specs.Prelude.{None}
 use Rattle.can_mac.specs.State.{MacState}
 use Rattle.can_mac.proofs.Landing.{passes-IsMac}
-use Rattle.can_mac.proofs.machine.MediumAccess.follows_outside.Goals as goal
+use Rattle.can_mac.proofs.machine.MediumAccess.takes_silently_outside.Goals as goal
 
 pub invariant_of-self : goal.invariant_of-self
 invariant_of-self g c =

@@ -11,15 +11,15 @@ use Rattle.can_node.specs.Tournament.{frames_in}
 use Rattle.can_node.proofs.FramesWaiting.{AreFrames-from, IsWaiting-waiting}
 use Rattle.can_node.proofs.OneFrame.{at_mac}
 use Rattle.can_node.proofs.Passing.{Enters, begins-kept, comes-behind, passed}
-use Rattle.can_node.proofs.node.NodePort.pass.Goals as goal
+use Rattle.can_node.proofs.node.NodePort.take_frame.Goals as goal
 
 pub sends-sent-requires : goal.sends-sent-requires
 sends-sent-requires g c =
     let passes = c.requires.passes in
     subst (GoesBehind c.args.frame.now) (sym (c.next.ensures passes.0 passes.1.0)) passes.1.1
 
-pub pass-requires : goal.pass-requires
-pass-requires g c = c.requires.passes.1.0.on_bus
+pub take_frame-requires : goal.take_frame-requires
+take_frame-requires g c = c.requires.passes.1.0.on_bus
 
 pub returns : goal.returns
 returns g c =
@@ -36,6 +36,6 @@ returns g c =
     let own : IsTrue sent → next ≡ Some f = λ yes. sym begins ∙ c.sends-sent.ensures.own yes in
     let other : IsFalse sent → (h : Parts) → next ≡ Some h → Before (arbitration_field f) (arbitration_field h) = λ no h e. c.sends-sent.ensures.other no h (begins ∙ e) in
     c.note_passed.ensures
-    ∙ ap (λ m. port_noting (Some (if sent then Sent f else Received f)) (at_mac m p)) c.pass.ensures
+    ∙ ap (λ m. port_noting (Some (if sent then Sent f else Received f)) (at_mac m p)) c.take_frame.ensures
     ∙ sym (passed f p next enters sent own (λ no. comes-behind f next (other no)))
     ∙ ap (port_run p) (sym c.requires.levels)
