@@ -1,5 +1,6 @@
 ghost use Rattle.std.specs.Prelude.{◌≤◌};
 
+mod at_once;
 mod course;
 mod crowd;
 mod disturbed;

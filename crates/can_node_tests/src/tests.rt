@@ -6,13 +6,20 @@
 //! events are told, what it has `alone` on a bus, what it `drive`s, whether it `rests`; or just how it stands: its state,
 //! TEC and REC, how many entries it missed, and those of its log. What is told stands behind `=>`. An empty line stands
 //! between scripts, and a line that begins with `#` says what comes.
+//!
+//! A port may also be asked how it is `poised`, whether it stands `aside`, or has `room` for so many frames more, or be had
+//! to `take` a frame at once, or to go `through` levels. With `ride` port 0 goes through so many levels of a frame, and
+//! port 1 rides along.
 
+mod at_once;
+mod bare;
 mod scripts;
 
 use can_frame::{Frame, Level};
 use can_mac::{Event, Phase};
 use can_node::{EitherNode, PackedNode, PlainNode, Port, listen, sample_both};
 use std::alloc::{AllocError, Global};
+use std::process::Abort;
 use std::test::Fail;
 
 /// The level of a `0` or a `1`.
@@ -99,6 +106,10 @@ fn done(
         "0" => done_by(alloc, one, rest),
         "1" => done_by(alloc, other, rest),
         "both" => Ok(both(alloc, one, other, rest)?),
+        "ride" => {
+            let (leads, rides) = (one.poised(), other.poised());
+            at_once::ride(alloc, one, other, leads, rides, rest)
+        }
         _ => {
             share(one, other, rest.parse::<u32>()?);
             Ok(String::new(alloc))
@@ -140,6 +151,10 @@ fn done_by(alloc: Global, port: &mut EitherNode, what: &str) -> Result<String, F
         "offer" => format!(in alloc; "{:?}", port.offer(Frame::from_text(rest.as_bytes())?))?,
         "hold" => format!(in alloc; "{}", port.hold(rest.parse::<u8>()?))?,
         "alone" => alone(alloc, port, rest.parse::<usize>()?)?,
+        "poised" | "aside" | "room" | "take" | "through" => {
+            let poised = port.poised();
+            at_once::ask(alloc, port, poised, name, rest)?
+        }
         _ => seen_by(alloc, port, name, rest)?,
     })
 }
@@ -205,7 +220,7 @@ fn push_event(text: &mut String, time: usize, event: Option<Event>) -> Result<()
 }
 
 /// How a port stands.
-fn standing(alloc: Global, port: &EitherNode) -> Result<String, AllocError> {
+fn standing(alloc: Global, port: &dyn Port) -> Result<String, AllocError> {
     let (state, counters, missed) = (port.state(), port.counters(), port.missed());
     let mut text = format!(in alloc; "{state:?} {counters:?} missed {missed}")?;
     for entry in port.log() {
@@ -215,17 +230,24 @@ fn standing(alloc: Global, port: &EitherNode) -> Result<String, AllocError> {
     Ok(text)
 }
 
-#[test]
-fn scripts_of_ports(rt: HostRuntime) -> Result<(), Fail> {
-    for script in scripts::SCRIPTS.split("\n\n") {
+/// Each script holds of ports of each kind.
+fn hold(rt: &impl Abort, alloc: Global, scripts: &str) -> Result<(), Fail> {
+    for script in scripts.split("\n\n") {
         for kinds in PAIRS {
             assert!(rt;
-                holds(rt.alloc(), kinds, script.trim())?,
+                holds(alloc, kinds, script.trim())?,
                 "{script} by {kinds:?}"
             );
         }
     }
     Ok(())
+}
+
+#[test]
+fn scripts_of_ports(rt: HostRuntime) -> Result<(), Fail> {
+    hold(&rt, rt.alloc(), scripts::SCRIPTS)?;
+    hold(&rt, rt.alloc(), scripts::AT_ONCE)?;
+    hold(&rt, rt.alloc(), scripts::POISED)
 }
 
 #[test]

@@ -228,8 +228,9 @@ fn run(
     Ok(play(bus, &offers, &hits, is_disturbed, rec))
 }
 
-fn play(
-    bus: &mut Bus<EitherNode>,
+/// Runs a bus, with no more calls than it needs.
+pub fn play<P: Port>(
+    bus: &mut Bus<P>,
     offers: &[Offer],
     hits: &[Hit],
     is_disturbed: bool,

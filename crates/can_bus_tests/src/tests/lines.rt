@@ -97,7 +97,7 @@ pub fn standing(alloc: Global, ports: &[EitherNode]) -> Result<String, AllocErro
     Ok(text)
 }
 
-pub fn push_standing(text: &mut String, port: &EitherNode) -> Result<(), AllocError> {
+pub fn push_standing<P: Port>(text: &mut String, port: &P) -> Result<(), AllocError> {
     let state = match port.state() {
         State::Active => "active",
         State::Passive => "passive",

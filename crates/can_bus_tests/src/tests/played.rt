@@ -67,6 +67,25 @@ records 1*150
 after 150, refused => 0
 after 150 => active 0 0 | active 0 0
 
+# one at the end of a call that ends with the intermission behind a frame
+port
+port
+at 0 offer 0 S 000 D 0
+at 53 offer 1 S 001 D 0
+records WIRE_000 INTERMISSION
+after 53, refused => 0
+after 53, drives => 11
+
+# The frame on the wire is in its sender's queue up to its last level, 49: there is no room for a second one before.
+port with room for one
+port with room for one
+at 0 offer 0 S 000 D 0
+at 10 offer 0 S 001 D 0
+at 49 offer 0 S 001 D 0
+at 50 offer 0 S 001 D 0
+records WIRE_000 INTERMISSION WIRE_001 INTERMISSION
+after 103, refused => 2
+
 # Each queue takes as many frames behind the call as an empty one.
 port with room for one
 port with room for one

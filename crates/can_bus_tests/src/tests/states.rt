@@ -130,6 +130,20 @@ after 127 => passive 240 0
 after 134 => passive 240 0
 after 135 => passive 248 0
 
+# no receiver but one that is off the bus
+# All that the second port sees up to 143 is inverted: it goes off the bus as the lone sender above. The first errs at the
+# sixth of its dominant levels, and hears more behind its own flag. Then it sends, and nobody acknowledges.
+port
+port: S 000 D 0
+hit view 0..143 1
+records 0*17 1*126
+then
+at 0 offer 0 S 000 D 0
+records ACTIVE_ATTEMPT
+after 0 => active 0 9 | off 256 0
+after 41 => active 0 9 | off 256 0
+after 42 => active 8 9 | off 256 0
+
 # an overloaded receiver
 # A sender of two frames, and a receiver that asks for one overload frame. A wish for three is refused, and leaves the
 # first. The overload flag of the receiver begins where the intermission would, at 50, and is answered by the sender's

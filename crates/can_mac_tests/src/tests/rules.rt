@@ -7,14 +7,19 @@
 //! next. The pieces before it lead to where the row begins. A frame that waits, or `-`, stands before its
 //! pieces, and `;` behind them. A row that begins with `then` goes on where the row before it ended, and
 //! with `joining` the controller joins. A line that begins with `#` says what the rows behind it are.
+//!
+//! A piece may ask something too: `hold` so many overload frames, or one of those that `asked.rt` has.
 
 mod arbitration;
+mod asked;
 mod behind_flags;
 mod between_frames;
 mod delimiters;
 mod flags;
 mod frame_ends;
+mod frames_at_once;
 mod own_overloads;
+mod quick_ways;
 
 use can_code::{CheckedBits, FrameBits, PlainBits};
 use can_frame::{Frame, Level};
@@ -142,10 +147,8 @@ fn hear<B: FrameBits>(
     if let Some(count) = piece.strip_prefix("hold ") {
         let is_granted = controller.hold(count.parse::<u8>()?);
         text.push_str(if is_granted { "granted, " } else { "refused, " })?;
-    } else if let Some(levels) = piece.strip_prefix("passes ") {
-        push_passed(controller, frame, levels, text)?;
-    } else if let Some(levels) = piece.strip_prefix("follows ") {
-        push_followed(controller, levels, text)?;
+    } else if let Some((name, rest)) = piece.split_once(' ') {
+        asked::ask(controller, frame, name, levels_of(rest), text)?;
     } else if let Some((levels, times)) = piece.split_once('*') {
         push_events(controller, frame, levels, times.parse::<u32>()?, text)?;
     } else {
@@ -177,39 +180,6 @@ fn push_events<B: FrameBits>(
 /// The level of a `0` or a `1`.
 fn level_of(byte: u8) -> Level {
     Level::from_bool(byte == b'1')
-}
-
-/// Of each level whether it passes; one that does not is taken as any other.
-fn push_passed<B: FrameBits>(
-    controller: &mut MediumAccess<B>,
-    frame: Option<&Frame>,
-    levels: &str,
-    text: &mut String,
-) -> Result<(), AllocError> {
-    for byte in levels.bytes() {
-        let has_passed = controller.passes(frame, level_of(byte));
-        if !has_passed {
-            let _event = controller.sample(frame, level_of(byte));
-        }
-        text.push(if has_passed { '1' } else { '0' })?;
-    }
-    text.push_str(", ")
-}
-
-/// Of each level whether a controller at which nothing waits follows it; one that it does not is taken as any other.
-fn push_followed<B: FrameBits>(
-    controller: &mut MediumAccess<B>,
-    levels: &str,
-    text: &mut String,
-) -> Result<(), AllocError> {
-    for byte in levels.bytes() {
-        let has_followed = controller.follows(level_of(byte));
-        if !has_followed {
-            let _event = controller.sample(None, level_of(byte));
-        }
-        text.push(if has_followed { '1' } else { '0' })?;
-    }
-    text.push_str(", ")
 }
 
 /// The counters, and the level that is driven next.

@@ -161,3 +161,137 @@ joining 1 4, idle 1 4
 0 drive => Recessive
 1 drive => Dominant
 ";
+
+/// Frames that are taken at once, and levels that ports go through or ride along: as they would be sampled.
+pub const AT_ONCE: &str = "
+idle 2 4, idle 0 4
+# a frame is sent, and received
+0 offer S 001 D 0 => Ok(())
+0 take S 001 D 0 => true
+1 take S 001 D 0 => true
+0 => Active (0, 0) missed 0, sent S 001 D 0
+1 => Active (0, 0) missed 0, took S 001 D 0
+# what waits comes behind 000 and is sent from then on; it goes before 002, and has another form than the remote frame
+0 offer S 001 D 0 => Ok(())
+0 take S 000 D 0 => true
+0 take S 002 D 0 => false
+0 take S 001 R 0 => false
+0 => Active (0, 0) missed 0, sent S 001 D 0, took S 000 D 0
+0 drive => Dominant
+
+idle 1 2, idle 0 0
+# In suspension a port takes a frame as one of another port, and be it the one that waits there. It is no sender, and
+# sends the one that waits behind it.
+0 offer S 001 D 0 => Ok(())
+0 through 1*16 0*6 1*19 1*18
+0 => Passive (136, 0) missed 0
+0 drive => Recessive
+0 take S 001 D 0 => true
+0 => Passive (136, 0) missed 0, took S 001 D 0
+0 drive => Dominant
+
+idle 1 0, idle 0 0
+# Seventeen bit errors of eight in starts of frames and of flags, and each eighth dominant level behind the last flag: off
+# the bus. 128 times eleven recessive levels bring the port back; one that is dominant ends a row.
+0 offer S 001 D 0 => Ok(())
+0 through 1*16 0*6 1*26 0*112 1*19
+0 => Passive (248, 0) missed 0
+0 through 1
+0 => BusOff (256, 0) missed 0
+0 through 1*10 0 1*1407
+0 => BusOff (256, 0) missed 0
+0 through 1
+0 => Active (0, 0) missed 0
+
+idle 1 2, idle 1 2
+# The remote frame is lost with RTR, level 12: before it the port that rides along is a sender still.
+0 offer S 123 D 0 => Ok(())
+1 offer S 123 R 0 => Ok(())
+ride 12 S 123 D 0 => true
+0 through 000001001101000010110001011111111
+1 events 000001001101000010110001011111111 => 0 Lost, 31 Received(Frame { id: Id { raw: 291, extended: false }, remote: false, dlc: 0, store: [0, 0, \
+0, 0, 0, 0, 0, 0] })
+0 => Active (0, 0) missed 0, sent S 123 D 0
+1 => Active (0, 0) missed 0, took S 123 D 0
+
+idle 1 2, idle 1 2
+# with RTR it has lost
+0 offer S 123 D 0 => Ok(())
+1 offer S 123 R 0 => Ok(())
+ride 13 S 123 D 0 => true
+0 through 00001001101000010110001011111111
+1 events 00001001101000010110001011111111 => 30 Received(Frame { id: Id { raw: 291, extended: false }, remote: false, dlc: 0, store: [0, 0, 0, \
+0, 0, 0, 0, 0] })
+0 => Active (0, 0) missed 0, sent S 123 D 0
+1 => Active (0, 0) missed 0, took S 123 D 0
+
+idle 1 2, idle 0 2
+# a receiver, up to the last level but one of the stuffed part
+0 offer S 123 D 0 => Ok(())
+ride 34 S 123 D 0 => true
+0 through 01011111111
+1 through 01011111111
+0 => Active (0, 0) missed 0, sent S 123 D 0
+1 => Active (0, 0) missed 0, took S 123 D 0
+
+idle 1 2, idle 1 2
+# two senders of one frame, and two receivers
+0 offer S 123 D 0 => Ok(())
+1 offer S 123 D 0 => Ok(())
+ride 20 S 123 D 0 => true
+0 through 1101000010110001011111111 111
+1 through 1101000010110001011111111 111
+ride 1 S 123 D 0 => true
+0 through 00100100011000001001101000010110001011111111
+1 through 00100100011000001001101000010110001011111111
+0 => Active (0, 0) missed 0, sent S 123 D 0, took S 123 D 0
+1 => Active (0, 0) missed 0, sent S 123 D 0, took S 123 D 0
+";
+
+/// How a frame that begins finds a port, and how many more its queue holds.
+pub const POISED: &str = "
+idle 2 0, idle 0 0
+0 poised => to receive
+0 offer S 001 D 0 => Ok(())
+0 poised => to send S 001 D 0
+0 hold 1 => true
+0 poised => not
+# one of two waits
+0 room 0 => true
+0 room 1 => true
+0 room 2 => false
+1 room 0 => true
+1 room 1 => false
+
+idle 1 0, joining 0 0
+# in suspension it begins with none, and off the bus it takes no part
+0 offer S 001 D 0 => Ok(())
+0 through 1*16 0*6 1*19 1*18
+0 poised => to receive
+0 aside => false
+0 through 1*8
+0 poised => to send S 001 D 0
+0 through 1*7 0*104 1*19
+0 => Passive (248, 0) missed 0
+0 through 1
+0 poised => not
+0 aside => true
+1 poised => not
+1 aside => false
+
+idle 0 0, idle 0 0
+# an error passive receiver behind an error takes no part up to the last level of the delimiter, an error active one does
+0 through 000000111111111111111100000011111111111
+0 => Passive (0, 129) missed 0
+0 aside => false
+0 through 000000
+0 poised => not
+0 aside => true
+0 through 1*12
+0 aside => true
+0 through 1
+0 aside => false
+1 through 000000
+1 poised => not
+1 aside => false
+";

@@ -1,0 +1,2 @@
+-- a port that has led through the first levels of a frame
+mod Leaders
