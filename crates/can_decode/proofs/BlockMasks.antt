@@ -1,8 +1,12 @@
 -- Bytes of a block by masks of where they stand.
-use Rattle.std.proofs.Common.{◌≡◌, ℕ, ◌+◌, ◌^◌, ◌<◌, ◌≤◌, ◌||◌, eqb, cond, Bool, true, false, List, [], ◌∷◌, length, map, refl, sym, ap, subst, ◌∙◌, arith}
+use Rattle.std.proofs.Common.{◌≡◌, ℕ, suc, ◌+◌, ◌^◌, ◌<◌, ◌≤◌, ◌||◌, eqb, cond, Bool, true, false, not, List, [], ◌∷◌, length, map, take, refl, sym, ap, subst, ◌∙◌, arith}
 use Rattle.std.proofs.Math.Nat.{pow-suc}
 use Rattle.std.proofs.lemmas.Bool.{eqb-true, false≢true}
-use Rattle.std.specs.List.{AllByRecursion}
+use Rattle.std.proofs.lemmas.List.{length-take-le, take-take}
+use Rattle.std.proofs.lemmas.List.Sums.{prefix_len-le-length}
+use Rattle.std.proofs.lemmas.Simd.{leading_from_mask_l, trailing_mask_l}
+use Rattle.std.specs.List.{AllByRecursion, prefix_len}
+use lib.Count.{count_trailing_zeros}
 use lib.Lanes.{mask_l}
 use Rattle.can_decode.specs.TraceText.{IsTraceText, is_skipped}
 use Rattle.can_decode.specs.Decoding.{AreDigits, AreSkipped}
@@ -38,6 +42,15 @@ mask-all f [] full = tt
 mask-all f (x ∷ bytes) full =
     let power = pow-suc 2 (length bytes) in
     (bit-one (f x) (omega (arith, full, power, bit-small (f x))), mask-all f bytes (omega (arith, full, power, bit-small (f x))))
+
+bit-not : (b : Bool) → cond b 1 0 + cond (not b) 1 0 ≡ 1
+bit-not true = refl
+bit-not false = refl
+
+-- the mask of all other bytes has the other bits
+pub mask-not : (f : ℕ → Bool) (bytes : List ℕ) → mask_l (map f bytes) + mask_l (map (λ x. not (f x)) bytes) + 1 ≡ 2 ^ length bytes
+mask-not f [] = refl
+mask-not f (x ∷ bytes) = omega (arith, bit-not (f x), mask-not f bytes, pow-suc 2 (length bytes))
 
 -- ---- digits, and what is skipped
 
@@ -86,3 +99,43 @@ module _ (bytes : List ℕ) (size : length bytes ≡ 16) where
       -- a digit is not skipped
       apart : (x : ℕ) → (eqb x 48 || eqb x 49) ≡ true → is_skipped x ≡ true → ⊥
       apart x digit skipped = by_digit x (λ y. is_skipped y ≡ true → ⊥) (λ none. false≢true none) (λ none. false≢true none) digit skipped
+
+-- how many bytes that are skipped stand before the first other one
+abbrev skipped_len : List ℕ → ℕ
+skipped_len bytes = prefix_len (λ x. not (not (is_skipped x))) bytes
+
+skipped_front : (bytes : List ℕ) → AreSkipped (take (skipped_len bytes) bytes)
+skipped_front [] = (tt, refl)
+skipped_front (x ∷ bytes) = by (is_skipped x) refl (skipped_front bytes)
+  where
+    n : ℕ
+    n = skipped_len bytes
+
+    next : 1 + n ≡ suc n
+    next = omega arith
+
+    by : (b : Bool) → is_skipped x ≡ b → AreSkipped (take n bytes) → AreSkipped (take (cond (not (not b)) (1 + n) 0) (x ∷ bytes))
+    by true is front = subst (λ k. AreSkipped (take k (x ∷ bytes))) (sym next) (AreSkipped-append (x ∷ []) (take n bytes) (skipped_byte x is) front)
+    by false is front = (tt, refl)
+
+-- by the mask of the others among so many bytes
+module _ (width : ℕ) (narrow : width ≤ 64) (bytes block : List ℕ) (whole : width ≤ length bytes) (is_block : block ≡ take width bytes) (mask : ℕ) (is : mask ≡ mask_l (map (λ x. not (is_skipped x)) block)) where
+  block_size : length block ≡ width
+  block_size = ap length is_block ∙ length-take-le width bytes whole
+
+  front_of_bytes : (n : ℕ) → n ≡ skipped_len block → n ≤ width → AreSkipped (take n bytes)
+  front_of_bytes n same within =
+      subst AreSkipped (ap (take n) is_block ∙ take-take n width bytes within) (subst (λ k. AreSkipped (take k block)) (sym same) (skipped_front block))
+
+  pub skipped_through : mask ≡ 0 → AreSkipped (take width bytes)
+  skipped_through none =
+      front_of_bytes width (sym (leading_from_mask_l (λ x. not (is_skipped x)) block (sym is ∙ none) ∙ block_size)) (omega arith)
+
+  skipped_ends : 0 < mask → count_trailing_zeros 64 mask ≡ skipped_len block
+  skipped_ends some = ap (count_trailing_zeros 64) is ∙ trailing_mask_l (λ x. not (is_skipped x)) 64 block (omega (arith, block_size, narrow)) (omega (arith, is, some))
+
+  pub skipped_within : 0 < mask → count_trailing_zeros 64 mask ≤ width
+  skipped_within some = omega (arith, skipped_ends some, block_size, prefix_len-le-length (λ x. not (not (is_skipped x))) block)
+
+  pub skipped_before : 0 < mask → AreSkipped (take (count_trailing_zeros 64 mask) bytes)
+  skipped_before some = front_of_bytes (count_trailing_zeros 64 mask) (skipped_ends some) (skipped_within some)

@@ -2,7 +2,7 @@
 use Rattle.std.proofs.Common.{◌≡◌, ℕ, ◌+◌, ◌≤◌, ◌<◌, ◌||◌, eqb, cond, ◌⊎◌, inl, inr, Bool, true, false, List, [], ◌∷◌, ◌++◌, length, map, zero, suc, take, drop, get_or, Option, refl, sym, ap, subst, ◌∙◌, append_assoc, arith}
 use Rattle.std.proofs.Math.Seq.{take-add}
 use Rattle.std.proofs.lemmas.Bool.{eqb-true, false≢true}
-use Rattle.std.proofs.lemmas.List.{append-nil, drop_more, get_or-drop, length-take-le, take-append-drop}
+use Rattle.std.proofs.lemmas.List.{append-nil, drop_more, length-take-le, take-append-drop}
 use Rattle.std.proofs.lemmas.Grind.{flat_map-append}
 use Rattle.std.specs.List.{flat_map}
 use Rattle.can_frame.specs.declared.level.Level.{Level}
@@ -10,7 +10,7 @@ use Rattle.can_frame.specs.declared.level.Level.TheVariants.{Dominant, Recessive
 use Rattle.can_frame.specs.Levels.{digit_of}
 use Rattle.can_stream.proofs.PutParts.{TakesFront-longer}
 use Rattle.can_stream.proofs.Elements.{AllByRecursion-append}
-use Rattle.can_decode.specs.TraceText.{IsTraceText, is_trace_byte, levels_in, levels_of_byte}
+use Rattle.can_decode.specs.TraceText.{IsTraceText, is_skipped, is_trace_byte, levels_in, levels_of_byte}
 use Rattle.can_decode.specs.Decoding.{AreDigits, FailsToHear, FailsToTell, Gathers, Hears, HearsText, StopsHearing}
 use Rattle.can_decode.specs.Decoded.{finding_line}
 use Rattle.can_stream.specs.Outbox.{TakesFront}
@@ -19,7 +19,7 @@ use Rattle.can_stream.specs.declared.fault.TraceFault.TheVariants.{BadByte, Writ
 use Rattle.can_decode.specs.declared.gathered.Gathered.{Gathered}
 use Rattle.can_decode.specs.declared.finding.Finding.{Finding}
 use Rattle.can_decode.specs.declared.trace.Trace.{Trace}
-use Rattle.can_decode.proofs.DecodeSteps.{HearsText-none, MeetsBadByte-here, Hears-then, HearsText-then, IsTraceText-digits, HearsText-next, StopsHearing-next, TakesFront-then, levels_in-append, levels_in-digits, length-digits, length-levels_in}
+use Rattle.can_decode.proofs.DecodeSteps.{MeetsBadByte-here, Hears-then, HearsText-then, IsTraceText-digits, HearsText-next, StopsHearing-next, TakesFront-then, levels_in-append, levels_in-digits, length-digits, length-levels_in}
 
 abbrev digits_in : List ℕ → List ℕ
 digits_in text = map digit_of (levels_in text)
@@ -154,12 +154,6 @@ module _ (bytes buffer : List ℕ) (g : Gathered) (is : Gathers bytes g buffer) 
   pub FailsToHear-gathered : (e : TraceFault) → FailsToHear e old new (take g.count buffer) held holds waiting waiting_now → FailsToHear e old new bytes held holds waiting waiting_now
   FailsToHear-gathered e fails = (fails.0, FailsToTell-gathered fails.1, fails.2)
 
--- where there is none, nothing is heard
-pub HearsText-gathered_none : (bytes buffer : List ℕ) (g : Gathered) → Gathers bytes g buffer → g.count ≡ 0 → (trace : Trace) (held : Option (List ℕ)) (waiting : List ℕ)
-    → HearsText trace trace (take g.taken bytes) held held waiting waiting
-HearsText-gathered_none bytes buffer g is none trace held waiting =
-    HearsText-gathered bytes buffer g is trace trace held held waiting waiting (subst (λ n. HearsText trace trace (take n buffer) held held waiting waiting) (sym none) (HearsText-none trace held waiting))
-
 -- ---- levels by their digits
 
 pub digit_is : (level : Level) → (is_trace_byte (digit_of level) ≡ true) × (levels_of_byte (digit_of level) ≡ level ∷ [])
@@ -177,6 +171,36 @@ digit_at bytes i are within =
     at [] k less = absurd (omega (arith, less))
     at (x ∷ levels) zero less = (x, refl)
     at (x ∷ levels) (suc k) less = at levels k (omega (arith, less))
+
+module _ (byte : ℕ) where
+  -- a byte that is the digit of no level
+  pub no_level : ((level : Level) → digit_of level ≡ byte → ⊥) → levels_of_byte byte ≡ []
+  no_level none = by (eqb byte 48) (eqb byte 49) refl refl
+    where
+      by : (b c : Bool) → eqb byte 48 ≡ b → eqb byte 49 ≡ c → cond b (Dominant ∷ []) (cond c (Recessive ∷ []) []) ≡ []
+      by true c is48 is49 = absurd (none Dominant (sym (eqb-true byte 48 is48)))
+      by false true is48 is49 = absurd (none Recessive (sym (eqb-true byte 49 is49)))
+      by false false is48 is49 = refl
+
+  -- it may not stand in trace text, unless it is skipped
+  pub no_trace_byte : levels_of_byte byte ≡ [] → is_skipped byte ≡ false → is_trace_byte byte ≡ false
+  no_trace_byte none unskipped = by (eqb byte 48) (eqb byte 49) none
+    where
+      by : (b c : Bool) → cond b (Dominant ∷ []) (cond c (Recessive ∷ []) []) ≡ [] → (b || c || is_skipped byte) ≡ false
+      by true c none = cc
+      by false true none = cc
+      by false false none = unskipped
+
+-- digits that are heard up to one that is none are all heard
+pub all_digits_heard : (digits : List ℕ) (n : ℕ) → AreDigits digits → n ≤ length digits → (n < length digits → levels_of_byte (get_or digits n 0) ≡ []) → n ≡ length digits
+all_digits_heard digits n are within stops = omega (arith, within, not_before)
+  where
+    not_before : n < length digits → ⊥
+    not_before before =
+        let digit = digit_at digits n are before in
+        let some : levels_of_byte (get_or digits n 0) ≡ digit.0 ∷ [] = subst (λ x. levels_of_byte x ≡ digit.0 ∷ []) digit.1 (digit_is digit.0).1 in
+        let no : [] ≡ digit.0 ∷ [] = sym (stops before) ∙ some in
+        cc
 
 -- a level at which something is told, where the writer fails
 pub FailsToHear-found : (old new : Trace) (level : Level) (held holds : Option (List ℕ)) (waiting waiting_now : List ℕ) (finding : Finding) (e : TraceFault) → Hears old new (level ∷ []) (finding ∷ [])
@@ -260,8 +284,6 @@ FailsToHear-next a b c bytes index held between old mid first holds new within e
 
 -- the next byte is bad
 pub StopsHearing-bad : (a b : Trace) (bytes : List ℕ) (index : ℕ) (held between : Option (List ℕ)) (old mid : List ℕ) → HearsText a b (take index bytes) held between old mid
-    → index < length bytes → (start : ℕ) → is_trace_byte (get_or (drop index bytes) 0 0) ≡ false → StopsHearing (BadByte (start + index)) a b start bytes held between old mid
+    → index < length bytes → (start : ℕ) → is_trace_byte (get_or bytes index 0) ≡ false → StopsHearing (BadByte (start + index)) a b start bytes held between old mid
 StopsHearing-bad a b bytes index held between old mid first within start is_bad =
-    let none : index + 0 ≡ index = omega arith in
-    let here = subst (λ x. is_trace_byte x ≡ false) (get_or-drop index bytes 0 0 ∙ ap (λ k. get_or bytes k 0) none) is_bad in
-    StopsHearing-next a b b bytes index held between old mid first between mid within (BadByte (start + index)) start (MeetsBadByte-here b (start + index) (get_or bytes index 0) [] between mid here)
+    StopsHearing-next a b b bytes index held between old mid first between mid within (BadByte (start + index)) start (MeetsBadByte-here b (start + index) (get_or bytes index 0) [] between mid is_bad)

@@ -1,19 +1,19 @@
-ghost use Rattle.std.specs.Prelude.{◌≡◌, ℕ, ◌+◌, ◌^◌, ◌<◌, ◌≤◌, ◌↔◌, true, false, [], ◌∷◌, ◌++◌, length, take, IsTrue, IsFalse, IsErrOf, IfErr, IfOk, OnOk};
+ghost use Rattle.std.specs.Prelude.{◌≡◌, ℕ, ◌+◌, ◌^◌, ◌<◌, ◌≤◌, ◌↔◌, true, false, [], ◌∷◌, ◌++◌, length, take, slice_index, IsTrue, IsFalse, IsErrOf, IfErr, IfOk, OnOk};
 ghost use Rattle.std.specs.Io.KnownBytes.{IsAtEnd};
 ghost use Rattle.can_frame.specs.declared.text.TextFault.{TextFault};
 ghost use Rattle.can_frame.specs.Levels.{digit_of};
 ghost use Rattle.can_stream.specs.declared.field.Field.{Field};
 ghost use Rattle.can_stream.specs.Told.{Told};
-ghost use Rattle.can_decode.specs.TraceText.{IsTraceText, levels_in};
+ghost use Rattle.can_decode.specs.TraceText.{IsTraceText, levels_in, levels_of_byte};
 ghost use Rattle.can_stream.specs.Faults.{is_err_by, is_read, is_write};
 ghost use Rattle.can_decode.specs.Decoded.{BeginsDecoding, DecodesAll, DecodesSoFar, DecodesToBadByte, DecodesTooLong};
-ghost use Rattle.can_decode.specs.Decoding.{AreDigits, AreSkipped, Decodes, FailsToHear, Hears, HearsText, StopsHearing};
+ghost use Rattle.can_decode.specs.Decoding.{Decodes, FailsToHear, Hears, HearsText, StopsHearing};
 
 use crate::finding::put_finding;
-use crate::gathered::{GATHERED_ROOM, gather};
+use crate::gathered::{GATHERED_ROOM, Gathered, gather};
 use crate::idle::recessive_count;
-use crate::paying::Paid;
-use crate::skipped::skipped_count;
+use crate::short_runs::ShortRuns;
+use crate::skipped::{is_skipped, skipped_count};
 use crate::trace::Trace;
 use can_frame::Level;
 use can_stream::{Inbox, Outbox, Sink, Source, TraceFault};
@@ -114,34 +114,60 @@ fn hear_bytes<W: Sink>(
     ensures err { IfErr result (λ e. StopsHearing e trace.old trace.new place bytes.now (W.contents w.old) (W.contents w.new) out.old out.new) }
     ensures failed { W.has_failed w.new ≡ is_err_by is_write result }
 {
-    let mut index = 0;
-    let mut paid = Paid::nothing();
+    let mut index = skipped_count(bytes);
+    // where a run of digits begins
+    let mut begun = index;
+    let mut short_runs = ShortRuns::none();
     while index < bytes.len() {
-        let run = hear_runs(&bytes[index..], &mut paid, trace, w, out)?;
-        index += run;
+        index += hear_levels(&bytes[index..], trace);
         if index < bytes.len() {
-            let gathered = gather(&bytes[index..], digits);
-            if gathered.taken == 0 {
+            if let Some(level) = Level::from_digit(bytes[index]) {
+                hear_level(level, trace, w, out)?;
+                index += 1;
+            } else if is_skipped(bytes[index]) {
+                let run = index - begun;
+                index += 1 + skipped_count(&bytes[index + 1..]);
+                if short_runs.are_enough_behind(run, trace.is_in_frame()) {
+                    let gathered = hear_gathered(&bytes[index..], digits, trace, w, out)?;
+                    short_runs.forget_in_vain(&gathered);
+                    index += gathered.taken;
+                }
+                begun = index;
+            } else {
                 return Err(TraceFault::BadByte {
                     place: place + index as u64,
                 });
-            }
-            index += gathered.taken;
-            paid.spend(&gathered);
-            if gathered.count > 0 {
-                hear_runs(&digits[..gathered.count], &mut paid, trace, w, out)?;
             }
         }
     }
     Ok(())
 }
 
-/// Hears the levels at the front of the bytes, up to where gathering pays, and answers how many bytes it took. What is left
-/// of a run at the front tells nothing of others.
+/// Gathers digits at the front of the bytes, as many as it likes, and hears them.
 #[inline(never)]
-fn hear_runs<W: Sink>(
+fn hear_gathered<W: Sink>(
     bytes: &[u8],
-    paid: &mut Paid,
+    digits: &mut [u8; GATHERED_ROOM],
+    trace: &mut Trace,
+    w: &mut W,
+    out: &mut Outbox,
+) -> Result<Gathered, TraceFault>
+    requires unfailed { W.has_failed w.old ≡ false }
+    requires fits { trace.old.place + length bytes.now < 2 ^ 64 }
+    ensures within { IfOk result (λ g. g.taken ≤ length bytes.now) }
+    ensures ok { IfOk result (λ g. HearsText trace.old trace.new (take g.taken bytes.now) (W.contents w.old) (W.contents w.new) out.old out.new) }
+    ensures err { IfErr result (λ e. FailsToHear e trace.old trace.new bytes.now (W.contents w.old) (W.contents w.new) out.old out.new) }
+    ensures place { IfOk result (λ g. trace.new.place ≤ trace.old.place + g.taken) }
+    ensures failed { W.has_failed w.new ≡ is_err_by is_write result }
+{
+    let gathered = gather(bytes, digits);
+    hear_run(&digits[..gathered.count], trace, w, out)?;
+    Ok(gathered)
+}
+
+/// Hears the levels at the front of the bytes, up to a byte that is no digit, and answers how many.
+fn hear_run<W: Sink>(
+    bytes: &[u8],
     trace: &mut Trace,
     w: &mut W,
     out: &mut Outbox,
@@ -149,46 +175,24 @@ fn hear_runs<W: Sink>(
     requires unfailed { W.has_failed w.old ≡ false }
     requires fits { trace.old.place + length bytes.now < 2 ^ 64 }
     ensures within { IfOk result (λ n. n ≤ length bytes.now) }
-    ensures all { IfOk result (λ n. AreDigits bytes.now → n ≡ length bytes.now) }
+    ensures stops { IfOk result (λ n. n < length bytes.now → levels_of_byte (slice_index bytes.now n) ≡ []) }
     ensures ok { IfOk result (λ n. HearsText trace.old trace.new (take n bytes.now) (W.contents w.old) (W.contents w.new) out.old out.new) }
     ensures err { IfErr result (λ e. FailsToHear e trace.old trace.new bytes.now (W.contents w.old) (W.contents w.new) out.old out.new) }
     ensures place { IfOk result (λ n. trace.new.place ≤ trace.old.place + n) }
     ensures failed { W.has_failed w.new ≡ is_err_by is_write result }
 {
     let mut index = 0;
-    // where a run begins, once one does
-    let mut begun = 0;
     while index < bytes.len() {
         index += hear_levels(&bytes[index..], trace);
         if index < bytes.len() {
-            if let Some(level) = Level::from_digit(bytes[index]) {
-                hear_level(level, trace, w, out)?;
-                index += 1;
-            } else {
-                let skipped = skipped_behind(begun, index, paid, trace, &bytes[index..]);
-                if skipped == 0 {
-                    return Ok(index);
-                }
-                index += skipped;
-                begun = index;
-            }
+            let Some(level) = Level::from_digit(bytes[index]) else {
+                return Ok(index);
+            };
+            hear_level(level, trace, w, out)?;
+            index += 1;
         }
     }
     Ok(index)
-}
-
-/// How many blanks and line ends stand at the front of the bytes, behind a run between these places; none where gathering
-/// pays.
-#[inline(always)]
-fn skipped_behind(begun: usize, index: usize, paid: &mut Paid, trace: &Trace, bytes: &[u8]) -> usize
-    requires { begun ≤ index }
-    ensures within { result ≤ length bytes.now }
-    ensures skipped { AreSkipped (take result bytes.now) }
-{
-    if begun > 0 && paid.gathers_behind(index - begun, trace.is_idle()) {
-        return 0;
-    }
-    skipped_count(bytes)
 }
 
 /// Hears levels at the front of the bytes of which nothing is told, as many as it likes, and answers how many.
@@ -240,8 +244,8 @@ fn hear_start(bytes: &[u8], trace: &mut Trace) -> usize
     1
 }
 
-/// Hears one level.
-#[inline]
+/// Hears one level. It stands within its callers, so that what is found isn't moved about.
+#[inline(always)]
 fn hear_level<W: Sink>(
     level: Level,
     trace: &mut Trace,

@@ -13,7 +13,8 @@
 //! | `idle.rt` | rows of recessive levels, block by block | `specs/TraceText.antt` |
 //! | `skipped.rt` | blanks and line ends, block by block | `specs/TraceText.antt` |
 //! | `gathered.rt` | digits that stand between these, in one piece | `specs/Decoding.antt` |
-//! | `paying.rt` | whether gathering pays | |
+//! | `masks.rt` | bytes of a block by where they stand | `specs/Decoding.antt` |
+//! | `short_runs.rt` | when digits are gathered | |
 //! | `finding.rt` | what is told of a trace, and its line | `specs/Decoded.antt` |
 //! | `text.rt` | the text of a frame in its line | can_frame's `specs/Text.antt` |
 //! | `laws.rt` | that in each trace one list is found, and each input has one answer | `specs/Decoded.antt` |
@@ -33,8 +34,9 @@ mod finding;
 mod gathered;
 mod idle;
 mod laws;
-mod paying;
+mod masks;
 mod searching;
+mod short_runs;
 mod skipped;
 mod text;
 mod trace;

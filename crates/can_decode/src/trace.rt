@@ -53,6 +53,11 @@ impl Trace {
         matches!(self.state, State::Idle)
     }
 
+    /// Whether the next level stands in a frame.
+    pub(crate) fn is_in_frame(&self) -> bool {
+        matches!(self.state, State::InFrame { .. })
+    }
+
     /// Hears recessive levels between frames.
     pub(crate) fn skip(&mut self, count: usize)
         requires idle { self.old.state ≡ State.Idle }
@@ -78,6 +83,7 @@ impl Trace {
     }
 
     /// Hears the next level, and tells of the frame or the fault that ends with it.
+    #[inline(always)]
     pub(crate) fn hear(&mut self, level: Level) -> Option<Finding>
         requires { self.old.place + 1 < 2 ^ 64 }
         ensures hears { Hears self.old self.new (level ∷ []) (told_of result) }

@@ -65,6 +65,17 @@ const TRACES: &[(&[&[u8]], Option<u64>, &[u8])] = &[
         None,
         b"0 S 000 D 0 ack\n53 S 001 D 0 ack\n",
     ),
+    // and a row of blanks behind it
+    (
+        &[
+            b"0 0 0 0 0 1 0 0 0 0 0 1 0 0 0 0 0 1 0 0 0 0 0 1 0 0 0 0 0 1 0 0 0 0 0 1 0 0 0 0 1 0 1 1 1 1 1 1 1 1 ",
+            &[b' '; 40],
+            b"111",
+            WIRE_001,
+        ],
+        None,
+        b"0 S 000 D 0 ack\n53 S 001 D 0 ack\n",
+    ),
     // levels that a receiver takes at either value: r0, the last one, and the ACK slot
     (
         &[b"00000100000100001000001101101100101111011111111"],

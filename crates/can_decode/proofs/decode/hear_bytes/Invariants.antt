@@ -6,6 +6,7 @@ abbrev pub invariant-loop-index : goal.invariant-loop-index
 invariant-loop-index g l =
     let sink = g.W.Sink in
     record {
+      begun : l.begun ≤ l.index;
       within : l.index ≤ length l.bytes;
       behind : l.trace.place ≤ l.place + l.index;
       unfailed : sink.has_failed l.w ≡ false;

@@ -1,12 +1,11 @@
 use Rattle.std.proofs.Common.{◌≡◌, ◌+◌, ◌-◌, ◌≤◌, false, length, take}
 use Rattle.can_decode.specs.Decoding.{HearsText}
-use Rattle.can_decode.proofs.decode.hear_runs.Given as goal
+use Rattle.can_decode.proofs.decode.hear_run.Given as goal
 
 abbrev pub invariant-loop-index : goal.invariant-loop-index
 invariant-loop-index g l =
     let sink = g.W.Sink in
     record {
-      begun : l.begun ≤ l.index;
       within : l.index ≤ length l.bytes;
       behind : l.trace.place ≤ l.fn.trace.place + l.index;
       unfailed : sink.has_failed l.w ≡ false;

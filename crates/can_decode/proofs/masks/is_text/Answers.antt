@@ -1,7 +1,7 @@
 use Rattle.std.proofs.Common.{◌+◌, sym, ◌∙◌, arith}
 use Rattle.std.proofs.lemmas.Bool.{eqb-true}
 use Rattle.can_decode.proofs.BlockMasks.{text_by_masks}
-use Rattle.can_decode.proofs.gathered.is_text.Goals as goal
+use Rattle.can_decode.proofs.masks.is_text.Goals as goal
 
 pub returns : goal.returns
 returns c full =

@@ -1,6 +1,6 @@
 use Rattle.std.proofs.Common.{◌≤◌, ◌-◌, length, take}
 use Rattle.can_decode.specs.Decoding.{AreSkipped}
-use Rattle.can_decode.proofs.skipped.blocks_count.Given as goal
+use Rattle.can_decode.proofs.skipped.skipped_count.Given as goal
 
 abbrev pub invariant-loop-count : goal.invariant-loop-count
 invariant-loop-count l = record {

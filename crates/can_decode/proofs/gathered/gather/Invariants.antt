@@ -1,6 +1,6 @@
 use Rattle.std.proofs.Common.{◌≡◌, ◌-◌, length}
 use Rattle.can_decode.specs.Decoding.{Gathers}
-use Rattle.can_decode.proofs.gathered.gather_blocks.Given as goal
+use Rattle.can_decode.proofs.gathered.gather.Given as goal
 
 abbrev pub invariant-loop-now : goal.invariant-loop-now
 invariant-loop-now l = record {

@@ -1,7 +1,7 @@
 use Rattle.std.proofs.Common.{◌≡◌, ◌+◌, ◌^◌, length, ap, ◌∙◌, arith}
 use Rattle.can_decode.specs.TraceText.{is_skipped}
 use Rattle.can_decode.proofs.BlockMasks.{mask-small, skipped_places}
-use Rattle.can_decode.proofs.gathered.skipped_of.Goals as goal
+use Rattle.can_decode.proofs.masks.skipped_of.Goals as goal
 
 pub returns-clause-places : goal.returns-clause-places
 returns-clause-places c =

@@ -1,6 +1,6 @@
 use Rattle.std.proofs.Common.{◌≡◌, ◌+◌, ◌||◌, ◌^◌, eqb, length, ap, ◌∙◌, arith}
 use Rattle.can_decode.proofs.BlockMasks.{mask-or, mask-small, other_digits}
-use Rattle.can_decode.proofs.gathered.digits_of.Goals as goal
+use Rattle.can_decode.proofs.masks.digits_of.Goals as goal
 
 pub returns-clause-places : goal.returns-clause-places
 returns-clause-places c =

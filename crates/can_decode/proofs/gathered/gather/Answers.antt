@@ -7,7 +7,7 @@ use Rattle.can_decode.specs.TraceText.{IsTraceText, levels_in}
 use Rattle.can_decode.specs.Decoding.{AreSkipped}
 use Rattle.can_decode.proofs.GatheredDigits.{AreDigits-text, Gathers-more}
 use Rattle.can_decode.proofs.SkippedBytes.{AreSkipped-then}
-use Rattle.can_decode.proofs.gathered.gather_blocks.Goals as goal
+use Rattle.can_decode.proofs.gathered.gather.Goals as goal
 
 pub overflow_add-now : goal.overflow_add-now
 overflow_add-now c = omega (arith, c.loop-now.invariant.gathers.room, c.loop-now.invariant.long)

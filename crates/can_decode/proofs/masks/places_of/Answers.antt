@@ -1,7 +1,7 @@
 use Rattle.std.proofs.Common.{eqb, ap, ◌^◌, ◌≡◌, length, arith, w8}
 use Rattle.std.proofs.lemmas.Simd.{bitmask_splat}
 use Rattle.can_decode.proofs.BlockMasks.{mask-small}
-use Rattle.can_decode.proofs.gathered.places_of.Goals as goal
+use Rattle.can_decode.proofs.masks.places_of.Goals as goal
 
 pub returns-clause-places : goal.returns-clause-places
 returns-clause-places c = bitmask_splat w8 eqb c.args.block.now 16 c.args.byte (omega arith) (omega arith)

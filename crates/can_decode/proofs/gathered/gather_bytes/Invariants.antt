@@ -1,9 +1,0 @@
-use Rattle.std.proofs.Common.{◌-◌, length}
-use Rattle.can_decode.specs.Decoding.{Gathers}
-use Rattle.can_decode.proofs.gathered.gather_bytes.Given as goal
-
-abbrev pub invariant-loop-now : goal.invariant-loop-now
-invariant-loop-now l = Gathers l.bytes l.now l.digits
-
-abbrev pub decreases-loop-now : goal.decreases-loop-now
-decreases-loop-now l = length l.bytes - l.now.taken
