@@ -2,7 +2,7 @@ pub mod TimedLemmas
 pub mod RisingLemmas
 pub mod Growing
 pub mod RunLemmas
-pub mod DueLemmas
+pub mod OutlookLemmas
 pub mod Drives
 pub mod NodePort
 pub mod AgreementLemmas

@@ -1,11 +1,12 @@
 -- How far the judge has come along a run and a transcript: words of private contracts and of proofs.
-use Rattle.std.specs.Prelude.{ℕ, ◌≡◌, ◌<◌, ◌≤◌, List, [], ◌∷◌, Option, Some, IfSome, slice_get}
+use Rattle.std.specs.Prelude.{ℕ, ◌≡◌, ◌<◌, ◌≤◌, ◌%◌, Bool, true, false, List, [], ◌∷◌, get_or, Option, Some, IfSome, slice_get}
 use Rattle.can_mac.specs.declared.event.Event.{Event}
 use Rattle.can_node.specs.Ports.{PortState}
 use Rattle.can_conform.specs.declared.judging.Difference.{Difference}
 use Rattle.can_conform.specs.declared.judging.Difference.TheVariants as difference
 use Rattle.can_conform.specs.declared.judging.Progress.{Progress}
 use Rattle.can_conform.specs.declared.moment.Moment.{Moment}
+use Rattle.can_conform.specs.declared.outlook.Outlook.{Outlook}
 use Rattle.can_conform.specs.declared.script.Script.{Script}
 use Rattle.can_conform.specs.declared.standing.Rule.{Rule}
 use Rattle.can_conform.specs.declared.timed.Timed.{Timed}
@@ -20,15 +21,23 @@ pub record Stands (s : Script) (t : ℕ) (p : PortState) (now : Rule) (since : O
   pub decides : now ≡ rule_before s t
   pub last : since ≡ since_before s t
 
--- from bit time t on none of these comes before this time
-abbrev pub IsNotDue : {A : Type 0} → List (Timed A) → ℕ → ℕ → Type 0
-IsNotDue [] t due = Unit {0}
-IsNotDue (x ∷ xs) t due = (t ≤ x.time → due ≤ x.time) × IsNotDue xs t due
+-- a bit time is marked, if it is from t to the last
+abbrev pub IsMarked : ℕ → ℕ → ℕ → List Bool → Type 0
+IsMarked other t last marks = t ≤ other → other ≤ last → get_or marks (other % 256) false ≡ true
 
--- nor does a frame or a wish of the case
-pub record AreNotDue (s : Script) (t due : ℕ) : Type 0 where
-  pub offers : IsNotDue s.offers.items t due
-  pub holds : IsNotDue s.holds.items t due
+-- those in which these come are
+abbrev pub AreMarked : {A : Type 0} → List (Timed A) → ℕ → ℕ → List Bool → Type 0
+AreMarked [] t last marks = Unit {0}
+AreMarked (x ∷ xs) t last marks = IsMarked x.time t last marks × AreMarked xs t last marks
+
+-- what was marked is
+abbrev pub KeepsMarks : List Bool → List Bool → Type 0
+KeepsMarks old new = (n : ℕ) → get_or old n false ≡ true → get_or new n false ≡ true
+
+-- the bit times from t on in which frames or wishes of the case come are marked, as far as is told
+pub record Foresees (s : Script) (t : ℕ) (o : Outlook) : Type 0 where
+  pub offers : AreMarked s.offers.items t o.last o.marks
+  pub holds : AreMarked s.holds.items t o.last o.marks
 
 -- the walk along them stands at this time: each before this place is earlier, and no other is
 pub record IsReached {A : Type 0} (xs : List (Timed A)) (place time : ℕ) : Type 0 where

@@ -1,11 +1,12 @@
 //! The reference at its bench: it is played through a case bit time by bit time.
-ghost use Rattle.std.specs.Prelude.{◌≡◌, ◌<◌, ◌≤◌, ◌+◌, ◌-◌, ◌^◌, ◌==◌, if◌then◌else◌, IfOk};
+ghost use Rattle.std.specs.Prelude.{◌≡◌, ◌<◌, ◌+◌, ◌-◌, ◌^◌, ◌==◌, if◌then◌else◌, IfOk};
 ghost use Rattle.can_node.specs.Ports.{port_drives, with_offer};
 ghost use Rattle.can_conform.specs.Runs.{all_handed, before, handed, met, moment_at, told_of, wished};
-ghost use Rattle.can_conform.specs.Walks.{AreNotDue, IsNotDue};
+ghost use Rattle.can_conform.specs.Walks.{Foresees};
 
 use crate::meeting::{Meeting, counters_of, meet, started_node};
 use crate::moment::Moment;
+use crate::outlook::Outlook;
 use crate::script::{Script, TesterLevel};
 use crate::timed::Timed;
 use can_frame::{Frame, Level};
@@ -18,8 +19,7 @@ use std::alloc::{AllocError, Global};
 pub(crate) struct Bench {
     pub(crate) node: PackedNode,
     pub(crate) time: u32,
-    /// No frame and no wish comes before this time.
-    pub(crate) due: u32,
+    pub(crate) outlook: Outlook,
 }
 
 /// Offers the frames of this time, in their order.
@@ -63,23 +63,23 @@ impl Bench {
     pub(crate) fn begin(alloc: Global, script: &Script) -> Result<Bench, AllocError>
         ensures port { IfOk result (λ b. ⟦<PackedNode as Port>⟧.port b.node ≡ before script.now 0) }
         ensures time { IfOk result (λ b. b.time ≡ 0) }
-        ensures due { IfOk result (λ b. AreNotDue script.now 0 b.due) }
+        ensures foresees { IfOk result (λ b. Foresees script.now 0 b.outlook) }
     {
         let node = started_node(alloc, script.start)?;
         Ok(Bench {
             node,
             time: 0,
-            due: 0,
+            outlook: Outlook::begin(),
         })
     }
 
     /// Plays the next bit time. Behind the end of the case nothing happens.
     pub(crate) fn step(&mut self, script: &Script) -> Moment
         requires port { ⟦<PackedNode as Port>⟧.port self.old.node ≡ before script.now self.old.time }
-        requires due { AreNotDue script.now self.old.time self.old.due }
+        requires foresees { Foresees script.now self.old.time self.old.outlook }
         requires time { self.old.time < 2 ^ 32 - 1 }
         ensures port { ⟦<PackedNode as Port>⟧.port self.new.node ≡ before script.now (self.old.time + 1) }
-        ensures due { AreNotDue script.now (self.old.time + 1) self.new.due }
+        ensures foresees { Foresees script.now (self.old.time + 1) self.new.outlook }
         ensures time { self.new.time ≡ self.old.time + 1 }
         ensures moment { result ≡ moment_at script.now self.old.time }
     {
@@ -102,30 +102,28 @@ impl Bench {
 
     /// Plays a bit time that the case has, with this tester.
     fn play(&mut self, script: &Script, tester: TesterLevel) -> (Level, Option<Event>)
-        requires { AreNotDue script.now self.old.time self.old.due }
+        requires { Foresees script.now self.old.time self.old.outlook }
         ensures port { ⟦<PackedNode as Port>⟧.port self.new.node ≡ met tester (handed script.now self.old.time (⟦<PackedNode as Port>⟧.port self.old.node)) }
-        ensures due { AreNotDue script.now (self.old.time + 1) self.new.due }
+        ensures foresees { Foresees script.now (self.old.time + 1) self.new.outlook }
         ensures time { self.new.time ≡ self.old.time }
         ensures drove { result.0 ≡ port_drives (handed script.now self.old.time (⟦<PackedNode as Port>⟧.port self.old.node)) }
         ensures event { result.1 ≡ told_of tester (handed script.now self.old.time (⟦<PackedNode as Port>⟧.port self.old.node)) }
     {
-        self.due = hand_over_due(&mut self.node, script, self.time, self.due);
+        hand_over_due(&mut self.node, script, self.time, &mut self.outlook);
         let Meeting { drove, event, .. } = meet(&mut self.node, tester);
         (drove, event)
     }
 }
 
-/// Hands over the frames and wishes of this time, where some may be due, and answers before which time none come then.
-fn hand_over_due<P: Port>(port: &mut P, script: &Script, time: u32, due: u32) -> u32
-    requires { AreNotDue script.now time due }
+/// Hands over the frames and wishes of this time, which are looked through only where some may come.
+fn hand_over_due<P: Port>(port: &mut P, script: &Script, time: u32, outlook: &mut Outlook)
+    requires { Foresees script.now time outlook.old }
     ensures port { P.port port.new ≡ handed script.now time (P.port port.old) }
-    ensures due { AreNotDue script.now (time + 1) result }
+    ensures foresees { Foresees script.now (time + 1) outlook.new }
 {
-    if time < due {
-        return due;
+    if outlook.may_come(script, time) {
+        hand_over(port, script, time);
     }
-    hand_over(port, script, time);
-    next_due(script, time)
 }
 
 /// Hands over the frames and wishes of this time.
@@ -134,35 +132,4 @@ fn hand_over<P: Port>(port: &mut P, script: &Script, time: u32)
 {
     offer_all(port, &script.offers, time);
     wish_all(port, &script.holds, time);
-}
-
-/// The time before which no frames and wishes come behind this one.
-fn next_due(script: &Script, time: u32) -> u32
-    ensures { AreNotDue script.now (time + 1) result }
-{
-    let offer = first_behind(&script.offers, time);
-    let hold = first_behind(&script.holds, time);
-    offer.min(hold)
-}
-
-/// The first of these times behind this one, the highest number where there is none.
-fn first_behind<T>(list: &[Timed<T>], time: u32) -> u32
-    ensures { IsNotDue list.now (time + 1) result }
-{
-    let mut first = u32::MAX;
-    for one in list {
-        first = sooner(first, one.time, time);
-    }
-    first
-}
-
-/// The other time, if it is behind this one and comes before the first so far.
-fn sooner(first: u32, other: u32, time: u32) -> u32
-    ensures less { result ≤ first }
-    ensures behind { time + 1 ≤ other → result ≤ other }
-{
-    if time < other {
-        return first.min(other);
-    }
-    first
 }

@@ -22,6 +22,7 @@
 //! | `meeting.rt` | [`started_node`], and [`meet`], one bit time of a port with the tester | `specs/Runs.antt` |
 //! | `moment.rt` | [`Moment`], what the reference does in a bit time | `specs/Runs.antt` |
 //! | `bench.rt` | the reference, played through a case | `specs/Runs.antt` |
+//! | `outlook.rt` | in which bit times frames or wishes come | `specs/Walks.antt` |
 //! | `watch.rt` | where the reference stands, from bit time to bit time | `specs/Runs.antt` |
 //! | `standing.rt` | [`Standing`]: phase, part and rule by name | `specs/Standings.antt` |
 //! | `transcript.rt` | [`Transcript`], what a controller did, and whether its times rise | `specs/Transcripts.antt` |
@@ -36,6 +37,7 @@ mod judging;
 mod laws;
 mod meeting;
 mod moment;
+mod outlook;
 mod script;
 mod standing;
 mod timed;

@@ -24,6 +24,13 @@ case idle 1*12, offer 5 S 000 D 0
 drives 1*5 000001 0
 tells events: Some([]), counters: Some([]), end: Some(Ending { state: Active, counters: Counters { transmit: 0, \
 receive: 0 } }) }
+# and in the first and the last bit times of which one look through the offers tells
+case idle 1*33, offer 32 S 000 D 0
+drives 1*32 0
+case idle 1*288, offer 287 S 000 D 0
+drives 1*287 0
+case idle 1*289, offer 288 S 000 D 0
+drives 1*288 0
 # a joining controller starts behind eleven levels
 case joining 1*12, offer 0 S 000 D 0
 drives 1*11 0

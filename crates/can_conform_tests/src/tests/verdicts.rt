@@ -52,4 +52,10 @@ counters 2 0 1, 1 0 2 => no transcript
 counters 1 0 1, 4294967294 0 2 => 1: Counters { told: Counters { transmit: 0, receive: 1 }, ought: Counters { \
 transmit: 0, receive: 0 } }
 counters 1 0 1, 4294967295 0 2 => no transcript
+# Counters change without an event too: a dominant level behind a flag, at 12, where the start of frame and the levels
+# behind it are a stuff error at 5.
+case idle 0*13 1*12
+counters 5 0 1, 12 0 9 => pass
+counters 5 0 1 => 12: Counters { told: Counters { transmit: 0, receive: 1 }, ought: Counters { transmit: 0, receive: \
+9 } }
 ";

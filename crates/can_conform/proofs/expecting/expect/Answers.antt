@@ -4,7 +4,7 @@ use Rattle.can_conform.specs.declared.moment.Moment.{Moment}
 use Rattle.can_conform.specs.declared.transcript.Counters.{Counters}
 use Rattle.can_conform.specs.Runs.{before, counters_of, ending_of, moment_at}
 use Rattle.can_conform.specs.Transcripts.{changed_in, same_counters}
-use Rattle.can_conform.specs.Walks.{AreNotDue}
+use Rattle.can_conform.specs.Walks.{Foresees}
 use Rattle.can_conform.proofs.AgreementLemmas.{counters-start}
 use Rattle.can_conform.proofs.Drives.{AreDriven, driven-all, driven-next, driven-none}
 use Rattle.can_conform.proofs.Growing.{IsToldUpTo, told-all, told-next, told-none}
@@ -17,7 +17,7 @@ loop-time-init c =
     let s = c.args.script.now in
     record {
       port = c.in_ok-bench.ensures.port;
-      due = c.in_ok-bench.ensures.due;
+      foresees = c.in_ok-bench.ensures.foresees;
       time = c.in_ok-bench.ensures.time;
       drove = subst (λ xs. AreDriven s xs 0) (sym c.in_ok-drove.ensures.items) (driven-none s);
       events = subst (λ xs. IsToldUpTo (λ t. (moment_at s t).event) xs 0) (sym c.new-events.ensures.items) (told-none (λ t. (moment_at s t).event));
@@ -38,7 +38,7 @@ loop-time-preserved c =
     c.change.ensures ∙ ap (λ n. F n c.loop-time.held) now ∙ ap (F (counters_of (before s (t + 1)))) c.loop-time.invariant.held in
     record {
       port = c.step-moment.ensures.port ∙ ap (λ k. before s (k + 1)) c.loop-time.invariant.time;
-      due = subst (λ k. AreNotDue s (k + 1) c.step-moment.new.self.due) c.loop-time.invariant.time c.step-moment.ensures.due;
+      foresees = subst (λ k. Foresees s (k + 1) c.step-moment.new.self.outlook) c.loop-time.invariant.time c.step-moment.ensures.foresees;
       time = c.step-moment.ensures.time ∙ ap (λ k. k + 1) c.loop-time.invariant.time;
       drove = subst (λ xs. AreDriven s xs (t + 1)) (sym c.in_ok-push_some.ensures)
           (driven-next s c.loop-time.drove.items t c.step-moment.result.drove (ap (λ (m : Moment). m.drove) moment) within c.loop-time.invariant.drove);

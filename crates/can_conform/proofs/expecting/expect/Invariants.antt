@@ -1,7 +1,7 @@
 use Rattle.std.proofs.Common.{◌≡◌}
 use Rattle.can_conform.specs.Runs.{before, counters_of, moment_at}
 use Rattle.can_conform.specs.Transcripts.{changed_in}
-use Rattle.can_conform.specs.Walks.{AreNotDue}
+use Rattle.can_conform.specs.Walks.{Foresees}
 use Rattle.can_conform.proofs.Drives.{AreDriven}
 use Rattle.can_conform.proofs.Growing.{IsToldUpTo}
 use Rattle.can_conform.proofs.NodePort.{node_port}
@@ -11,7 +11,7 @@ use Rattle.can_conform.proofs.expecting.expect.Given as goal
 abbrev pub invariant-loop-time : goal.invariant-loop-time
 invariant-loop-time l = record {
   port : node_port l.bench.node ≡ before l.script l.time;
-  due : AreNotDue l.script l.time l.bench.due;
+  foresees : Foresees l.script l.time l.bench.outlook;
   time : l.bench.time ≡ l.time;
   drove : AreDriven l.script l.drove.items l.time;
   events : IsToldUpTo (λ t. (moment_at l.script t).event) l.events.items l.time;

@@ -4,7 +4,7 @@ use Rattle.can_node.specs.Ports.{PortState}
 use Rattle.can_conform.specs.Standings.{phase_rule}
 use Rattle.can_conform.specs.Runs.{before, moment_at}
 use Rattle.can_conform.specs.Transcripts.{AgreesAt}
-use Rattle.can_conform.specs.Walks.{AreNotDue}
+use Rattle.can_conform.specs.Walks.{Foresees}
 use Rattle.can_conform.proofs.AgreementLemmas.{agrees-all, agrees-more, reached-start, stands-past}
 use Rattle.can_conform.proofs.NodePort.{node_port}
 use Rattle.can_conform.proofs.RunLemmas.{before-first, rule-first, since-first}
@@ -19,7 +19,7 @@ loop-time-init c = record {
         ∙ sym (rule-first c.args.script.now);
     last = c.begin-watch.ensures.since ∙ sym (since-first c.args.script.now);
   };
-  due = c.in_ok-bench.ensures.due;
+  foresees = c.in_ok-bench.ensures.foresees;
   time = c.in_ok-bench.ensures.time;
   agrees = λ t h. absurd (omega arith);
   reached = reached-start c.args.transcript.now _ refl refl refl;
@@ -37,7 +37,7 @@ loop-time-preserved c =
         decides = c.follow.ensures.rule;
         last = c.follow.ensures.since;
       };
-      due = subst (λ k. AreNotDue s (k + 1) c.step-moment.new.self.due) c.loop-time.invariant.time c.step-moment.ensures.due;
+      foresees = subst (λ k. Foresees s (k + 1) c.step-moment.new.self.outlook) c.loop-time.invariant.time c.step-moment.ensures.foresees;
       time = c.step-moment.ensures.time ∙ ap (λ k. k + 1) c.loop-time.invariant.time;
       agrees = agrees-more s told t c.loop-time.invariant.agrees (subst (λ m. AgreesAt told t m) moment (c.in_default.ensures.none refl));
       reached = c.in_default.ensures.reached refl;

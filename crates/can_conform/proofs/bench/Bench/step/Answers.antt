@@ -3,7 +3,7 @@ use Rattle.std.proofs.Common.{◌≡◌, Some, None, length, refl, ap, sym, ◌�
 use Rattle.std.proofs.lemmas.Option.{slice_get_past, slice_get_read}
 use Rattle.can_conform.specs.declared.moment.Moment.{Moment}
 use Rattle.can_conform.proofs.NodePort.{node_port}
-use Rattle.can_conform.proofs.DueLemmas.{due-later}
+use Rattle.can_conform.proofs.OutlookLemmas.{foresees-later}
 use Rattle.can_conform.proofs.RunLemmas.{moment-met, moment-still, port-met, port-still}
 use Rattle.can_conform.proofs.bench.Bench.step.Goals as goal
 
@@ -13,8 +13,8 @@ returns-in_default-clause-port c =
     let none = sym (ap (λ xs. slice_get xs t) c.deref.ensures.value) ∙ slice_get_past c.deref.result.now t c.in_default.ensures.lookup.3 in
     port-still c.args.script.now t (node_port c.args.self.now.node) none c.requires.port
 
-pub returns-in_default-clause-due : goal.returns-in_default-clause-due
-returns-in_default-clause-due c = due-later c.args.script.now c.args.self.now.time c.args.self.now.due c.requires.due
+pub returns-in_default-clause-foresees : goal.returns-in_default-clause-foresees
+returns-in_default-clause-foresees c = foresees-later c.args.script.now c.args.self.now.time c.args.self.now.outlook c.requires.foresees
 
 pub returns-in_default-clause-moment : goal.returns-in_default-clause-moment
 returns-in_default-clause-moment c =
