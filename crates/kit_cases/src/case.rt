@@ -49,7 +49,7 @@ pub fn read_cases(alloc: Global, values: &[Value]) -> Result<Vec<Case>, KitFault
     ensures unmet { (wrong : Wrong) → IsErrOf result (KitFault.Field wrong) → IsFirstUnmet wrong (cases_demands (map view values.now)) }
 {
     let mut cases = Vec::new(alloc);
-    let mut earlier = Earlier::none(alloc);
+    let mut earlier = Earlier::none(alloc, values.len());
     for (number, value) in values.iter().enumerate() {
         cases.push(read_behind(alloc, &earlier, number, value)?)?;
         earlier.add(&values[..number + 1], value)?;

@@ -12,6 +12,9 @@ use std::alloc::{AllocFailed, Global};
 use std::collections::BTreeSet;
 use toml::Value;
 
+/// So many cases are sooner looked through for a name than kept in the order of their names.
+const FEW_CASES: usize = 32;
+
 /// The cases before one: their tables, and their names in order, where these are kept.
 #[derive(Drop)]
 pub(crate) struct Earlier<'a> {
@@ -21,10 +24,13 @@ pub(crate) struct Earlier<'a> {
 }
 
 impl<'a> Earlier<'a> {
-    /// No cases yet; the names of those that are added are kept.
-    pub(crate) fn none(alloc: Global) -> Earlier<'a>
+    /// No cases yet; the names of those that are added are kept, if there are to be many.
+    pub(crate) fn none(alloc: Global, count: usize) -> Earlier<'a>
         ensures { result.tables.now ≡ [] }
     {
+        if count <= FEW_CASES {
+            return Earlier::of(&[]);
+        }
         Earlier {
             tables: &[],
             names: Some(BTreeSet::new(alloc)),

@@ -225,6 +225,18 @@ fn later_cases(rt: HostRuntime) -> Result<(), AllocError> {
     Ok(())
 }
 
+/// A case of one bit time.
+const SHORT_CASE: &str =
+    "[[case]]\nversion = 1\nfamily = \"a\"\nname = \"a-\"\nstart = \"idle\"\nbits = 1\ntester = [\"1\"]\n";
+
+// so many that their names are kept in order
+#[test]
+fn many_cases_of_one_name(rt: HostRuntime) -> Result<(), AllocError> {
+    let text = with_pieces(String::new(rt.alloc()), SHORT_CASE, 40, "")?;
+    assert!(rt; is_refused(rt.alloc(), &text, 1, CaseField::Name));
+    Ok(())
+}
+
 /// A field that may be as long as this, and no longer: the sound fields before it, its front, piece and back, how many
 /// pieces it has, and what is told, which at the limit is another field.
 const LONG_FIELDS: &[(usize, &str, &str, &str, usize, CaseField)] = &[
