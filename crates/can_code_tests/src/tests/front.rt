@@ -12,11 +12,15 @@ fn front_of<B: FrameBits>(stuffed_part: &str) -> Option<Front<B>> {
     Some(front)
 }
 
-/// Whether the front of the frame 001 tells all of it at its end, and not before.
+/// Whether the front of the frame 001 tells all of it at its end, and so does a copy.
 fn ends<B: FrameBits>() -> bool {
     let Some(front) = front_of::<B>(FRAME_001) else {
         return false;
     };
+    tells_all(&front) && tells_all(&front.copied())
+}
+
+fn tells_all<B: FrameBits>(front: &Front<B>) -> bool {
     front.next_place() == Place::CrcDelimiter
         && front.len() == 34
         && front.last().is_recessive()

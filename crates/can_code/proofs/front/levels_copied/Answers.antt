@@ -1,4 +1,4 @@
-use Rattle.std.proofs.Common.{◌≡◌, ◌+◌, ◌-◌, ◌<◌, ◌^◌, ◌++◌, ◌∷◌, [], length, arith, sym, ap, subst, ◌∙◌}
+use Rattle.std.proofs.Common.{◌≡◌, ◌+◌, ◌-◌, ◌++◌, ◌∷◌, [], length, arith, ap, ◌∙◌}
 use Rattle.can_frame.specs.declared.level.Level.TheVariants.{Dominant}
 use Rattle.can_frame.specs.Levels.{bits_of}
 use Rattle.can_frame.proofs.LevelLemmas.{length-bits_of}
@@ -7,13 +7,10 @@ use Rattle.can_code.proofs.CopiedLevels.{in-parts, some-start, part-back, part-s
 use Rattle.can_code.proofs.front.levels_copied.Goals as goal
 
 pub append-requires-clause-small : goal.append-requires-clause-small
-append-requires-clause-small g c =
-    subst (λ n. n < 2 ^ c.min-first.result) (sym c.number_at.ensures) (part-small (g.B.FrameBits.levels c.args.bits.now) 1 c.min-first.result)
+append-requires-clause-small g c = search (part-small, c.number_at.ensures)
 
 pub append-requires-2-clause-small : goal.append-requires-2-clause-small
-append-requires-2-clause-small g c =
-    let rest = c.saturating_sub-behind.result - c.min-first.result in
-    subst (λ n. n < 2 ^ (c.saturating_sub-behind.result - c.min-first.result)) (sym c.number_at-2.ensures) (part-small (g.B.FrameBits.levels c.args.bits.now) (1 + c.min-first.result) rest)
+append-requires-2-clause-small g c = search (part-small, c.number_at-2.ensures)
 
 pub append-requires-2-clause-room : goal.append-requires-2-clause-room
 append-requires-2-clause-room g c =
