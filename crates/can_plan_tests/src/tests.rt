@@ -1,21 +1,38 @@
 use can_frame::Frame;
-use can_plan::{Borne, HitRate, Message, borne_for, longest_busy, response_after, response_bound};
+use can_plan::{
+    Borne, HitRate, Message, Response, borne_for, longest_busy, response_after, response_bound,
+};
 use std::process::Abort;
 use std::test::Fail;
 
 /// No number of a bound is above this.
 const LIMIT: u32 = 1_000_000;
 
-/// Of each of three messages its longest time on the bus, its period and its jitter; how many hits there are; and the bounds.
-type Row = ([(u16, u32, u32); 3], (u16, u32), [Option<u64>; 3]);
+/// Of each of three messages its longest time on the bus, its period and its jitter.
+type Set = [(u16, u32, u32); 3];
+
+/// Three messages; how many hits there are; and the bounds.
+type Row = (Set, (u16, u32), [Option<u64>; 3]);
 
 /// Worked out by hand, by the formulas of docs/PLANNING.md.
-const BOUNDS: [Row; 6] = [
+const BOUNDS: [Row; 8] = [
     // of the third message the second frame in a busy period is the latest
     (
         [(1000, 2500, 0), (1000, 3500, 0), (1000, 3500, 0)],
         (0, 0),
         [Some(1996), Some(2996), Some(3497)],
+    ),
+    // it is later than the first by one
+    (
+        [(1000, 2500, 0), (1000, 3500, 0), (1000, 3999, 0)],
+        (0, 0),
+        [Some(1996), Some(2996), Some(2998)],
+    ),
+    // the second message blocks the first for longer than the third blocks either
+    (
+        [(10, 1000, 0), (12, 1000, 0), (11, 1000, 0)],
+        (0, 0),
+        [Some(18), Some(29), Some(30)],
     ),
     // each frame of seven data bytes, at 125 kbit/s
     (
@@ -48,19 +65,26 @@ const BOUNDS: [Row; 6] = [
     ),
 ];
 
-/// Whether the messages of a row, all of one field, have its bounds.
-fn has_bounds(row: &Row) -> bool {
+/// These messages, all of one field.
+fn messages_of(set: Set) -> Option<[Message; 3]> {
     let Ok(frame) = Frame::from_text("S 000 R 0".as_bytes()) else {
-        return false;
+        return None;
     };
     let field = frame.key();
-    let (messages, (burst, spacing), bounds) = *row;
-    let messages = messages.map(|(longest, period, jitter)| Message {
+    Some(set.map(|(longest, period, jitter)| Message {
         field,
         longest,
         period,
         jitter,
-    });
+    }))
+}
+
+/// Whether the messages of a row have its bounds.
+fn has_bounds(row: &Row) -> bool {
+    let (set, (burst, spacing), bounds) = *row;
+    let Some(messages) = messages_of(set) else {
+        return false;
+    };
     let rate = HitRate { burst, spacing };
     (0..3).all(|place| response_bound(&messages, place, &rate, LIMIT) == bounds[place])
 }
@@ -76,22 +100,19 @@ fn bounds_are_as_worked_out(rt: HostRuntime) -> Result<(), Fail> {
 
 /// Whether the messages of a row have its bounds where each answer is told to the next message.
 fn carries_bounds(row: &Row) -> bool {
-    let Ok(frame) = Frame::from_text("S 000 R 0".as_bytes()) else {
+    let (set, (burst, spacing), bounds) = *row;
+    let Some(messages) = messages_of(set) else {
         return false;
     };
-    let field = frame.key();
-    let (messages, (burst, spacing), bounds) = *row;
-    let messages = messages.map(|(longest, period, jitter)| Message {
-        field,
-        longest,
-        period,
-        jitter,
-    });
-    let rate = HitRate { burst, spacing };
-    let first = response_after(0, &messages, 0, &rate, LIMIT);
-    let second = response_after(first.busy, &messages, 1, &rate, LIMIT);
-    let third = response_after(second.busy, &messages, 2, &rate, LIMIT);
-    [first.bound, second.bound, third.bound] == bounds
+    answers(&messages, &HitRate { burst, spacing }).map(|answer| answer.bound) == bounds
+}
+
+/// What is answered of each message, told what is answered of the one before it.
+fn answers(messages: &[Message; 3], rate: &HitRate) -> [Response; 3] {
+    let first = response_after(0, messages, 0, rate, LIMIT);
+    let second = response_after(first.busy, messages, 1, rate, LIMIT);
+    let third = response_after(second.busy, messages, 2, rate, LIMIT);
+    [first, second, third]
 }
 
 #[test]
@@ -99,6 +120,38 @@ fn bounds_are_so_one_after_another(rt: HostRuntime) -> Result<(), Fail> {
     let rows = BOUNDS;
     for (row, number) in rows.iter().zip(0..) {
         assert!(rt; carries_bounds(row), "row {number}");
+    }
+    Ok(())
+}
+
+/// Three messages without hits, and for how long each keeps the bus with those that go before it: above the limit where
+/// there is no end.
+const BUSY: [(Set, [u64; 3]); 2] = [
+    ([(10, 1000, 0), (12, 1000, 0), (11, 1000, 0)], [21, 32, 33]),
+    (
+        [(100, 150, 0), (100, 200, 0), (100, 1000, 0)],
+        [299, 1_000_001, 1_000_001],
+    ),
+];
+
+/// Whether the messages of a row keep the bus so long.
+fn keeps_busy(row: &(Set, [u64; 3])) -> bool {
+    let (set, busy) = *row;
+    let Some(messages) = messages_of(set) else {
+        return false;
+    };
+    let rate = HitRate {
+        burst: 0,
+        spacing: 0,
+    };
+    answers(&messages, &rate).map(|answer| answer.busy) == busy
+}
+
+#[test]
+fn messages_keep_the_bus_so_long(rt: HostRuntime) -> Result<(), Fail> {
+    let rows = BUSY;
+    for (row, number) in rows.iter().zip(0..) {
+        assert!(rt; keeps_busy(row), "row {number}");
     }
     Ok(())
 }

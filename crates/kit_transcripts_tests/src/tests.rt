@@ -8,8 +8,10 @@ use kit_cases::{KitFault, KitField, TranscriptField};
 use kit_transcripts::{Told, read_transcripts};
 use std::alloc::{AllocError, Global};
 
-/// The cases of each document.
-const CASES: &str = "case = [{ name = \"one\" }, { name = \"two\" }, { name = \"one\" }]\n";
+/// The cases of each document, of which two have one name.
+const CASES: &str = r#"
+case = [{ name = "one" }, { name = "two" }, { name = "one" }, { name = "four" }, { name = "five" }, { name = "six" }]
+"#;
 
 /// Those cases and the parts of a text, one behind another.
 fn document(alloc: Global, parts: &[&str]) -> Result<String, AllocError> {
@@ -183,8 +185,44 @@ fn tell(transcripts: &[Told], values: &[Values]) -> bool {
     true
 }
 
+/// What transcripts tell of which the last comes behind so many looks through the cases that their places are kept.
+const BEHIND_LOOKS: &[Values] = &[
+    Values {
+        case: 5,
+        drove: "",
+        events: None,
+        counters: None,
+        end: None,
+    },
+    Values {
+        case: 4,
+        drove: "",
+        events: None,
+        counters: None,
+        end: None,
+    },
+    Values {
+        case: 3,
+        drove: "",
+        events: None,
+        counters: None,
+        end: None,
+    },
+    Values {
+        case: 0,
+        drove: "",
+        events: None,
+        counters: None,
+        end: None,
+    },
+];
+
 /// Documents, and what their transcripts tell.
-const SAID: &[(&[&str], &[Values])] = &[(&[TWO_TRANSCRIPTS], VALUES), (&[], &[])];
+const SAID: &[(&[&str], &[Values])] = &[
+    (&[TWO_TRANSCRIPTS], VALUES),
+    (&[], &[]),
+    (&[SIX, FIVE, FOUR, ONE], BEHIND_LOOKS),
+];
 
 #[test]
 fn transcripts_value_by_value(rt: HostRuntime) -> Result<(), AllocError> {
@@ -199,10 +237,16 @@ fn transcripts_value_by_value(rt: HostRuntime) -> Result<(), AllocError> {
     Ok(())
 }
 
-/// A transcript of each case.
+/// Transcripts of the cases.
 const ONE: &str = "[[transcript]]\nversion = 1\ncase = \"one\"\ndrove = []\n";
 
 const TWO: &str = "[[transcript]]\nversion = 1\ncase = \"two\"\ndrove = []\n";
+
+const FOUR: &str = "[[transcript]]\nversion = 1\ncase = \"four\"\ndrove = []\n";
+
+const FIVE: &str = "[[transcript]]\nversion = 1\ncase = \"five\"\ndrove = []\n";
+
+const SIX: &str = "[[transcript]]\nversion = 1\ncase = \"six\"\ndrove = []\n";
 
 /// The first fields of a transcript, and those with levels.
 const NAMED: &str = "[[transcript]]\nversion = 1\ncase = \"one\"\n";
@@ -215,6 +259,7 @@ const REFUSED: &[(&[&str], usize, TranscriptField)] = &[
     // two transcripts of one case
     (&[ONE, TWO, ONE], 2, TranscriptField::Case),
     (&[ONE, TWO, TWO], 2, TranscriptField::Case),
+    (&[SIX, FIVE, FOUR, ONE, ONE], 4, TranscriptField::Case),
     // what names it
     (
         &["[[transcript]]\n", "speed = 1"],
