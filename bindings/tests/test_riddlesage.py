@@ -2,6 +2,7 @@
 
 from __future__ import annotations
 
+import array
 import copy
 import doctest
 import pathlib
@@ -9,6 +10,7 @@ import pickle
 import subprocess
 import sys
 import threading
+import tracemalloc
 import unittest
 from collections.abc import Callable
 
@@ -353,6 +355,88 @@ class Refusals(unittest.TestCase):
         told = lib.riddlesage_rule_name
         rules = {rule.value: rule.name.replace("_", " ").capitalize() for rule in Rule}
         self.assertEqual(rules, {code: told(code).decode("ascii") for code in range(20) if told(code)})
+
+
+class Memory(unittest.TestCase):
+    """Levels and texts are read where they stand, whatever has them."""
+
+    SIZE = 4_000_000
+
+    def buffers(self, given: bytes) -> list[bytes | bytearray | memoryview]:
+        """The same bytes in each kind of buffer: read only, or not, and with more around them."""
+        return [
+            given,
+            bytearray(given),
+            memoryview(given),
+            memoryview(bytearray(given)),
+            memoryview(b"?" + given + b"?")[1:-1],
+            array.array("B", given),  # type: ignore[list-item]
+        ]
+
+    def most(self, call: Callable[[], object]) -> float:
+        """The most memory that a call takes, in bytes for each of SIZE, with what it gives."""
+        tracemalloc.start()
+        try:
+            given = call()
+            return tracemalloc.get_traced_memory()[1] / self.SIZE if given is not None else 0.0
+        finally:
+            tracemalloc.stop()
+
+    def test_run(self) -> None:
+        """A byte for what is driven in each bit time and one for what it brings, and the same in every kind."""
+        frame = encode(Frame(0x123))
+        levels = (frame + bytes([1]) * 3) * (self.SIZE // (len(frame) + 3))
+        wanted = Port().run(levels)
+        for given in self.buffers(levels):
+            with self.subTest(type(given)):
+                self.assertEqual(wanted, Port().run(given))
+                self.assertLess(self.most(lambda given=given: Port().run(given)), 2.1)  # type: ignore[misc]
+
+    def test_traces(self) -> None:
+        """Nothing for a text, and a digit for each level."""
+        frame = encode(Frame(0x123))
+        levels = (frame + bytes([1]) * self.SIZE)[: self.SIZE]
+        text = levels.translate(b"01" + bytes(254)).decode("ascii")
+        self.assertEqual(["0 S 123 D 0 noack"], decode_trace(text))
+        self.assertLess(self.most(lambda: decode_trace(text)), 0.1)
+        for given in self.buffers(levels):
+            with self.subTest(type(given)):
+                self.assertEqual(["0 S 123 D 0 noack"], decode_trace(given))
+                self.assertLess(self.most(lambda given=given: decode_trace(given)), 1.2)  # type: ignore[misc]
+
+    def test_scenarios(self) -> None:
+        """Nothing for a document."""
+        text = "version = 1\nbits = 1\nport = [{}]\n#" + "?" * self.SIZE
+        wanted = riddlesage.run(text)
+        self.assertLess(self.most(lambda: riddlesage.run(text)), 0.1)
+        for given in self.buffers(text.encode("ascii")):
+            with self.subTest(type(given)):
+                self.assertEqual(wanted, riddlesage.run(given))
+                self.assertLess(self.most(lambda given=given: riddlesage.run(given)), 0.1)  # type: ignore[misc]
+        self.assertEqual(wanted, riddlesage.run(text + "\u00e9"))
+
+    def test_others(self) -> None:
+        """What is no buffer of bytes in one piece is copied first."""
+        frame = encode(Frame(0x123))
+        apart = memoryview(bytes(level for level in frame for _ in range(2)))[::2]
+        others = [list(frame), tuple(frame), apart]
+        for given in others:
+            self.assertEqual(Port().run(frame), Port().run(given))  # type: ignore[arg-type]
+            self.assertEqual(["0 S 123 D 0 noack"], decode_trace(given))  # type: ignore[arg-type]
+        kept = bytearray(frame)
+        Port().run(kept)
+        kept += frame
+
+    def test_refused(self) -> None:
+        """A buffer is free again where a call is refused."""
+        kept = bytearray(b"\x02")
+        with self.assertRaises(Refused):
+            Port().run(kept)
+        with self.assertRaises(BadByte):
+            decode_trace(kept)
+        with self.assertRaises(BadScenario):
+            riddlesage.run(kept)
+        kept += b"\x02"
 
 
 class Text(unittest.TestCase):

@@ -6,6 +6,7 @@ import ctypes
 import enum
 from dataclasses import dataclass
 
+from riddlesage._buffers import Buffer
 from riddlesage._library import PlainFrame, PlainHeard, lib
 
 DOMINANT = 0
@@ -181,7 +182,7 @@ def encode(frame: Frame) -> bytes:
     return levels.raw[: count.value]
 
 
-def decode(levels: bytes) -> Heard:
+def decode(levels: Buffer) -> Heard:
     """What is heard of the frame at the front of the levels; or a Fault, with its name and place.
 
     As many levels are read as the longest frame has, 157: what stands behind these changes nothing.

@@ -9,6 +9,7 @@ from collections.abc import Iterator
 from types import TracebackType
 from typing import NamedTuple, NoReturn
 
+from riddlesage._buffers import Buffer, Room, bytes_at
 from riddlesage._frames import Frame, Refused, Status, demand, frame_of, in_range, plain_of
 from riddlesage._library import PlainFrame, PlainPort, PlainStanding, lib
 
@@ -229,14 +230,16 @@ class Port:
             raise Refused(Status(status))
         return Told(Event(code), frame) if code else None
 
-    def run(self, levels: bytes) -> Run:
-        """Samples these levels, one a bit time, whatever the port drives."""
-        count = len(levels)
-        drives = ctypes.create_string_buffer(count)
-        events = ctypes.create_string_buffer(count)
-        with self._lock:
-            demand(lib.riddlesage_port_run(self._port, bytes(levels), count, drives, events))
-        return Run(drives.raw, events.raw)
+    def run(self, levels: Buffer) -> Run:
+        """Samples these levels, one a bit time, whatever the port drives.
+
+        They are read where they stand: no other thread may write to them meanwhile.
+        """
+        with bytes_at(levels) as (at, count):
+            drives, events = Room(count), Room(count)
+            with self._lock:
+                demand(lib.riddlesage_port_run(self._port, at, count, drives.at, events.at))
+        return Run(drives.filled(), events.filled())
 
     @property
     def counters(self) -> Counters:

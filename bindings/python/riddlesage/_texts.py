@@ -3,8 +3,10 @@
 from __future__ import annotations
 
 import ctypes
+import io
 from collections.abc import Callable
 
+from riddlesage._buffers import Address, Buffer, bytes_at, is_whole, text_at
 from riddlesage._frames import RiddlesageError, Status, demand
 from riddlesage._library import FIELD_ROOM, lib
 
@@ -39,45 +41,57 @@ class BadByte(RiddlesageError, ValueError):
         return type(self), (self.place, self.lines)
 
 
-def _written(call: Callable[..., int], document: bytes, told: object) -> tuple[Status, str]:
+def _written(call: Callable[..., int], document: Address, length: int, told: object) -> tuple[Status, str]:
     """What a call answers of a document, and the text that it writes, once there is room for it."""
     room, count = _ROOM, ctypes.c_size_t()
     while True:
         text = ctypes.create_string_buffer(room)
-        status = Status(call(document, len(document), text, room, count, told))
+        status = Status(call(document, length, text, room, count, told))
         if status == Status.NO_MEMORY:
             raise MemoryError
         if status != Status.NO_ROOM or count.value <= room:
-            return status, text.raw[: count.value].decode("ascii")
+            return status, str(memoryview(text)[: count.value], "ascii")
         room = count.value
 
 
-def _bytes(text: str | bytes) -> bytes:
-    """The bytes of a text, or of what else has some."""
-    if isinstance(text, int):
+def _buffer(given: Buffer) -> Buffer:
+    """What has bytes, as a buffer."""
+    if isinstance(given, int):
         raise TypeError("a text or bytes are wanted, not a number")
-    return text.encode("utf-8") if isinstance(text, str) else bytes(text)
+    return given if is_whole(given) else bytes(given)
 
 
-def run(scenario: str | bytes) -> str:
+def _digits(levels: Buffer) -> bytes:
+    """The digits of levels, which the library reads."""
+    if isinstance(levels, bytes):
+        return levels.translate(_DIGITS)
+    digits = io.BytesIO()
+    with memoryview(levels) as view:
+        for start in range(0, len(view), _ROOM):
+            digits.write(bytes(view[start : start + _ROOM]).translate(_DIGITS))
+    return digits.getvalue()
+
+
+def run(scenario: str | Buffer) -> str:
     """Runs a scenario, a document in TOML, and gives its report: what `canbit run` writes."""
-    document = _bytes(scenario)
     field = ctypes.create_string_buffer(FIELD_ROOM)
-    status, report = _written(lib.riddlesage_run, document, field)
+    with text_at(scenario) if isinstance(scenario, str) else bytes_at(_buffer(scenario)) as (document, length):
+        status, report = _written(lib.riddlesage_run, document, length, field)
     if status == Status.BAD_SCENARIO:
         raise BadScenario(field.value.decode("ascii"))
     demand(status)
     return report
 
 
-def decode_trace(trace: str | bytes) -> list[str]:
+def decode_trace(trace: str | Buffer) -> list[str]:
     """Finds the frames and the faults in a trace, and gives a line for each: those that `canbit decode` writes.
 
-    A `str` is a text of `0` and `1`, with blanks and line ends; `bytes` are levels, 0 and 1.
+    A `str` is a text of `0` and `1`, with blanks and line ends; `bytes` are levels, 0 and 1, of which the digits are
+    written for the call.
     """
-    document = _bytes(trace) if isinstance(trace, str) else _bytes(trace).translate(_DIGITS)
     place = ctypes.c_size_t()
-    status, lines = _written(lib.riddlesage_decode_trace, document, place)
+    with text_at(trace) if isinstance(trace, str) else bytes_at(_digits(_buffer(trace))) as (document, length):
+        status, lines = _written(lib.riddlesage_decode_trace, document, length, place)
     if status == Status.BAD_BYTE:
         raise BadByte(place.value, lines.splitlines())
     demand(status)
