@@ -1,9 +1,11 @@
 // Puts the page together: bundle.mjs SOURCES WASM SCENARIOS NETWORKS OUT. The scripts become one, in the order in which they need one
-// another, those of the worker another one, and the page's own policy allows these scripts and styles and no network.
+// another, those of the worker another one, the module is packed, and the page's own policy allows these scripts and styles
+// and no network.
 import { createHash } from 'node:crypto';
 import { readFileSync, readdirSync, writeFileSync } from 'node:fs';
 import { join } from 'node:path';
 import { Script } from 'node:vm';
+import { deflateRawSync } from 'node:zlib';
 
 const IMPORT = /^import (\{[^}]*\}) from '\.\/([a-z_]+)\.js';\n/gm;
 const EXPORT = /^export (?=(?:async )?(?:class|const|function) (\w+))/gm;
@@ -68,7 +70,7 @@ const style = `\n${readFileSync(join(folder, 'style.css'), 'utf8')}`;
 let page = readFileSync(join(folder, 'index.html'), 'utf8');
 page = fill(page, '@POLICY@', `default-src 'none'; script-src 'wasm-unsafe-eval' ${policyHash(script)}; style-src ${policyHash(style)}; worker-src blob:; img-src blob: data:; base-uri 'none'; form-action 'none'`);
 page = fill(page, '@STYLE@', style);
-page = fill(page, '@MODULE@', readFileSync(wasm).toString('base64'));
+page = fill(page, '@MODULE@', deflateRawSync(readFileSync(wasm), { level: 9 }).toString('base64'));
 page = fill(page, '@SCENARIOS@', documentsIn(scenarios));
 page = fill(page, '@NETWORKS@', documentsIn(networks));
 page = fill(page, '@WORKER@', scriptOf(folder, 'worker'));

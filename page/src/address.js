@@ -20,11 +20,18 @@ export async function packed(text) {
  */
 export async function unpacked(letters) {
   try {
-    const bytes = Uint8Array.from(atob(letters.replaceAll('-', '+').replaceAll('_', '/')), (letter) => letter.charCodeAt(0));
-    return new TextDecoder('utf-8', { fatal: true }).decode(await through(bytes, new DecompressionStream('deflate-raw')));
+    return new TextDecoder('utf-8', { fatal: true }).decode(await unpackedBytes(letters.replaceAll('-', '+').replaceAll('_', '/')));
   } catch {
     return null;
   }
+}
+
+/**
+ * @param {string} letters base64
+ * @returns {Promise<Uint8Array>} the bytes that are packed in them
+ */
+export async function unpackedBytes(letters) {
+  return through(Uint8Array.from(atob(letters), (letter) => letter.charCodeAt(0)), new DecompressionStream('deflate-raw'));
 }
 
 /** @param {Uint8Array} bytes @param {TransformStream} stream */

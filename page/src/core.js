@@ -114,7 +114,7 @@ export class Core {
 
   /**
    * @param {BufferSource} bytes the module
-   * @returns {Promise<Core | null>} none where the browser knows no 64-bit memory
+   * @returns {Promise<Core | null>} none where the browser knows no such WebAssembly
    */
   static async load(bytes) {
     if (typeof WebAssembly !== 'object' || !WebAssembly.validate(bytes)) return null;
@@ -126,11 +126,11 @@ export class Core {
    * Writes bytes where a call reads them.
    * @param {number} at
    * @param {Uint8Array} bytes
-   * @returns {[bigint, bigint]} the slice
+   * @returns {[number, number]} the slice
    */
   put(at, bytes) {
     this.memory.set(bytes, at);
-    return [BigInt(at), BigInt(bytes.length)];
+    return [at, bytes.length];
   }
 
   /**
@@ -159,7 +159,7 @@ export class Core {
     const { rooms } = this;
     const bytes = this.put(rooms.front, parts.bytes.subarray(0, MOST_LEVELS));
     const answer = this.calls.page_frame_text(parts.identifier, Number(parts.extended), Number(parts.remote), parts.dlc,
-      ...bytes, BigInt(rooms.short), BigInt(MOST_TEXT), BigInt(rooms.count));
+      ...bytes, rooms.short, MOST_TEXT, rooms.count);
     const text = answer === ANSWER.done ? this.copy(rooms.short, this.number(rooms.count)) : new Uint8Array();
     return { answer, text: new TextDecoder().decode(text) };
   }
@@ -171,8 +171,8 @@ export class Core {
    */
   encode(text) {
     const { rooms } = this;
-    const answer = this.calls.page_encode(...this.put(rooms.text, text.subarray(0, MOST_LOOKED_AT)), BigInt(rooms.front), BigInt(MOST_LEVELS),
-      BigInt(rooms.count), BigInt(rooms.place));
+    const answer = this.calls.page_encode(...this.put(rooms.text, text.subarray(0, MOST_LOOKED_AT)), rooms.front, MOST_LEVELS,
+      rooms.count, rooms.place);
     if (answer !== ANSWER.done) return { answer, place: this.number(rooms.place), levels: new Uint8Array() };
     return { answer, place: 0, levels: this.copy(rooms.front, this.number(rooms.count)) };
   }
@@ -196,9 +196,8 @@ export class Core {
    */
   markCount(levels) {
     const { rooms } = this;
-    const most = BigInt(MOST_LEVELS);
-    const answer = this.calls.page_marks(...this.put(rooms.front, levels.subarray(0, MOST_LEVELS)), BigInt(rooms.fields), most,
-      BigInt(rooms.stuffed), most, BigInt(rooms.count));
+    const answer = this.calls.page_marks(...this.put(rooms.front, levels.subarray(0, MOST_LEVELS)), rooms.fields, MOST_LEVELS, rooms.stuffed, MOST_LEVELS,
+      rooms.count);
     if (answer !== ANSWER.done) throw new Error(`page_marks answers ${answer}`);
     return this.number(rooms.count);
   }
@@ -212,9 +211,9 @@ export class Core {
   decode(text) {
     const { rooms } = this;
     const slice = this.put(rooms.text, text);
-    this.calls.page_levels(...slice, BigInt(rooms.levels), BigInt(MOST_BYTES), BigInt(rooms.count), BigInt(rooms.place));
+    this.calls.page_levels(...slice, rooms.levels, MOST_BYTES, rooms.count, rooms.place);
     const levels = this.copy(rooms.levels, this.number(rooms.count));
-    const answer = this.calls.page_decode(...slice, BigInt(rooms.lines), BigInt(rooms.place));
+    const answer = this.calls.page_decode(...slice, rooms.lines, rooms.place);
     const lines = this.copy(rooms.lines + LINES_FRONT, this.number(rooms.lines));
     return { answer, place: this.number(rooms.place), levels, lines };
   }
@@ -227,8 +226,8 @@ export class Core {
   run(text) {
     const { rooms } = this;
     const slice = this.put(rooms.text, text);
-    this.calls.page_heap_begin(BigInt(rooms.next));
-    const answer = this.calls.page_run(...slice, BigInt(rooms.lines), BigInt(rooms.wrong));
+    this.calls.page_heap_begin(rooms.next);
+    const answer = this.calls.page_run(...slice, rooms.lines, rooms.wrong);
     return { answer, wrong: this.wrong(), report: this.answered(answer) };
   }
 
@@ -240,8 +239,8 @@ export class Core {
   plan(text) {
     const { rooms } = this;
     const slice = this.put(rooms.text, text);
-    this.calls.page_heap_begin(BigInt(rooms.next));
-    const answer = this.calls.page_plan(...slice, BigInt(rooms.lines), BigInt(rooms.count), BigInt(rooms.wrong));
+    this.calls.page_heap_begin(rooms.next);
+    const answer = this.calls.page_plan(...slice, rooms.lines, rooms.count, rooms.wrong);
     return { answer, wrong: this.wrong(), late: this.number(rooms.count), lines: this.answered(answer) };
   }
 
@@ -265,8 +264,8 @@ export class Core {
   portTimes(text, node) {
     const { rooms } = this;
     const slice = this.put(rooms.text, text);
-    this.calls.page_heap_begin(BigInt(rooms.next));
-    const answer = this.calls.page_port_times(...slice, BigInt(node), BigInt(rooms.times), BigInt(MOST_TIMES), BigInt(rooms.count));
+    this.calls.page_heap_begin(rooms.next);
+    const answer = this.calls.page_port_times(...slice, node, rooms.times, MOST_TIMES, rooms.count);
     const count = answer === ANSWER.done ? this.number(rooms.count) : 0;
     return { answer, times: this.copy(rooms.times, count * TIME_BYTES) };
   }

@@ -33,6 +33,7 @@ export class DecodeView {
     this.typed = byId('trace-text');
     this.picked = -1;
     this.page = 0;
+    this.answers = 0;
     /** @type {import('./timeline.js').Traced | null} */
     this.traced = null;
     this.lines = new Uint8Array();
@@ -178,6 +179,8 @@ export class DecodeView {
     const told = byId('decode-told');
     told.textContent = `${counted(findings.count - findings.faults, 'frame')} and ${counted(findings.faults, 'fault')} in ${counted(levels.length, 'level')}, decoded in ${Math.ceil(took)} ms.`;
     told.dataset.took = String(took);
+    this.answers += 1;
+    told.dataset.answers = String(this.answers);
   }
 
   /**

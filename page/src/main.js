@@ -1,5 +1,5 @@
 /** Loads the proved code, and begins the views. */
-import { MOST_ADDRESS, parsed, written } from './address.js';
+import { MOST_ADDRESS, parsed, unpackedBytes, written } from './address.js';
 import { BusView } from './bus.js';
 import { Runs } from './runs.js';
 import { Core } from './core.js';
@@ -8,10 +8,9 @@ import { DecodeView } from './decode.js';
 import { EncodeView } from './encode.js';
 import { NetworkView } from './network.js';
 
-/** @returns {Uint8Array} the module, as it stands in the page */
-function moduleBytes() {
-  const text = atob(byId('module').textContent.trim());
-  return Uint8Array.from(text, (letter) => letter.charCodeAt(0));
+/** @returns {Promise<Uint8Array | null>} the module, as it stands in the page; none where the browser can't unpack it */
+async function moduleBytes() {
+  return typeof DecompressionStream === 'function' ? unpackedBytes(byId('module').textContent.trim()) : null;
 }
 
 /** Lets one panel be shown at a time, by its tab. */
@@ -132,10 +131,10 @@ class Views {
 }
 
 async function begin() {
-  const module = moduleBytes();
-  const core = await Core.load(module);
+  const module = await moduleBytes();
+  const core = module && await Core.load(module);
   if (!core) {
-    refuse('This browser can’t run the proved code: it doesn’t know WebAssembly with 64-bit memory (memory64). Chromium and Chrome from 133 on, and Firefox from 134 on, do.');
+    refuse('This browser can’t run the proved code: it doesn’t know WebAssembly, or can’t unpack it. Chromium and Chrome from 80 on, Firefox from 113 on, and Safari from 16.4 on, do.');
     return;
   }
   const views = new Views(core, module);

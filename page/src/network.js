@@ -24,7 +24,7 @@ export class NetworkView extends DocumentView {
     this.form = new NetworkForm(() => this.take(textOf(this.form.form), { fills: false }));
     this.bounds = new BoundsView();
     this.listen();
-    this.showExample('vehicle');
+    this.showExample('seventeen');
   }
 
   listen() {

@@ -31,5 +31,5 @@ function wrongHead(core, head) {
   if (head === undefined) return [];
   const bytes = new TextEncoder().encode(head);
   const { answer, place } = core.encode(new TextEncoder().encode(`${head} 0`));
-  return answer === ANSWER.done || place >= bytes.length ? [] : [...textFault(bytes, answer, place), ' '];
+  return answer === ANSWER.done || place >= bytes.length ? [] : [...textFault(bytes, answer, place), '. '];
 }

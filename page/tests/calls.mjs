@@ -132,8 +132,10 @@ const ROWS = [
   ].map(([right, wrong, field, place]) => [...plan(NETWORK.replace(right, wrong)), 9, { late: 99, 'wrong 16': field, 'wrong 0': place, 'wrong 8': 0 }]),
 ];
 
-/** What the calls of rows answer and write, by the module's bytes: the same names as the rows want. It runs in the page. */
-export async function play(module, rows) {
+/** What the calls of rows answer and write, by the module as it stands in the page: the same names as the rows want. It runs there. */
+export async function play(letters, rows) {
+  const packed = new Blob([Uint8Array.from(atob(letters.trim()), (letter) => letter.charCodeAt(0))]);
+  const module = await new Response(packed.stream().pipeThrough(new DecompressionStream('deflate-raw'))).arrayBuffer();
   const { instance: { exports } } = await WebAssembly.instantiate(module, {});
   const memory = new Uint8Array(exports.memory.buffer);
   const numberAt = (at) => Number(new DataView(memory.buffer).getBigUint64(at, true));
@@ -148,18 +150,18 @@ export async function play(module, rows) {
     };
     const words = given.flatMap((it) => {
       if (typeof it === 'number') return [it];
-      if (it.value !== undefined) return [BigInt(it.value)];
+      if (it.value !== undefined) return [it.value];
       if (it.bytes) {
         const at = take(it.bytes.length, 0);
         memory.set(it.bytes, at);
-        return [BigInt(at), BigInt(it.bytes.length)];
+        return [at, it.bytes.length];
       }
       rooms[it.name] = take(it.size * (it.item ?? 1), it.item ? 9 : 0);
-      if (it.item) return [BigInt(rooms[it.name]), BigInt(it.size)];
+      if (it.item) return [rooms[it.name], it.size];
       if (it.size === 8) memory[rooms[it.name]] = 99;
-      return [BigInt(rooms[it.name])];
+      return [rooms[it.name]];
     });
-    exports.page_heap_begin(BigInt(next));
+    exports.page_heap_begin(next);
     const answer = exports[call](...words);
     const read = (name, want) => {
       const [room, place] = name.split(' ');
@@ -175,8 +177,7 @@ export async function play(module, rows) {
 export const callTests = [
   ['each call answers its rows', async ({ open }) => {
     const page = await open();
-    const module = "Uint8Array.from(atob(document.getElementById('module').textContent.trim()), (letter) => letter.charCodeAt(0))";
-    const answers = await page.get(`(${play})(${module}, ${JSON.stringify(ROWS)})`);
+    const answers = await page.get(`(${play})(document.getElementById('module').textContent, ${JSON.stringify(ROWS)})`);
     for (const [index, [call, given, answer, wanted]] of ROWS.entries()) assert.deepEqual(answers[index], [answer, wanted], `${call} ${JSON.stringify(given)}`);
   }],
 ];

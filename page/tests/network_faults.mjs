@@ -49,7 +49,7 @@ export const networkFaultTests = [
       [`speed = 1\n${GOOD}`, 'key', /The name is “speed”\./],
       [`${GOOD}[errors]\nburst = 1\nrate = 2\n`, 'errors.key', /The name is “rate”\./],
       [`${GOOD}lag = 1\n`, 'message[0].key', /The name is “lag”\./],
-      [GOOD.replace('S 000 D', 'S 800 D'), 'message[0].frame', /X2 at 2: wrong in the identifier: .*S 800 D/],
+      [GOOD.replace('S 000 D', 'S 800 D'), 'message[0].frame', /X2 at 2: wrong in the identifier: .*S 800 D\. A frame is named by/],
       [GOOD.replace('S 000 D', 'S 000 D 8'), 'message[0].frame', /: A frame is named by its kind, its identifier and D or R/],
     ];
     for (const [text, code, words] of rows) {

@@ -25,15 +25,19 @@ export const pageTests = [
     const paint = await page.run(() => performance.getEntriesByName('first-contentful-paint')[0].startTime);
     within('the first paint', paint, 1000);
   }],
-  ['a browser without 64-bit memory is told so', async ({ open }) => {
+  ['a browser that refuses the module is told so', async ({ open }) => {
     const page = await open({ before: 'WebAssembly.validate = () => false;' });
     const [text, role, views] = await page.run(() => [refused.textContent, refused.getAttribute('role'), document.getElementById('views').hidden]);
-    assert.match(text, /64-bit memory/);
+    assert.match(text, /can’t run the proved code/);
     assert.deepEqual([role, views], ['alert', true]);
   }],
   ['a browser without WebAssembly is told so', async ({ open }) => {
     const page = await open({ before: 'delete globalThis.WebAssembly;' });
-    assert.match(await page.get('refused.textContent'), /64-bit memory/);
+    assert.match(await page.get('refused.textContent'), /can’t run the proved code/);
+  }],
+  ['a browser that cannot unpack the module is told so', async ({ open }) => {
+    const page = await open({ before: 'delete globalThis.DecompressionStream;' });
+    assert.match(await page.get('refused.textContent'), /can’t run the proved code/);
   }],
   ['the address names the view', async ({ open, address, browser }) => {
     const page = await open();

@@ -1,4 +1,4 @@
-// Tries the page: run.mjs CHROMIUM PAGE EXAMPLES WORK. WORK has the answers of canbit. PAGE_TEST, a regular expression, names
+// Tries the page: run.mjs CHROMIUM PAGE EXAMPLES WORK. WORK has the answers of canbit, and native.c as a program. PAGE_TEST, a regular expression, names
 // tests, where not all are to run.
 import { pathToFileURL } from 'node:url';
 import { Browser } from './browser.mjs';
@@ -11,6 +11,7 @@ import { callTests } from './calls.mjs';
 import { decodeTests } from './decode.mjs';
 import { encodeTests } from './encode.mjs';
 import { linkTests } from './link.mjs';
+import { moduleTests } from './module.mjs';
 import { networkFaultTests } from './network_faults.mjs';
 import { networkTests } from './network.mjs';
 import { pageTests } from './page.mjs';
@@ -24,7 +25,7 @@ const only = new RegExp(process.env.PAGE_TEST ?? '');
 let passed = 0;
 let failed = 0;
 
-for (const [name, test] of [...pageTests, ...callTests, ...encodeTests, ...decodeTests, ...busTests, ...busViewTests, ...busFaultTests, ...busSpeedTests, ...networkTests, ...networkFaultTests, ...linkTests, ...accessTests].filter(([name]) => only.test(name))) {
+for (const [name, test] of [...moduleTests, ...pageTests, ...callTests, ...encodeTests, ...decodeTests, ...busTests, ...busViewTests, ...busFaultTests, ...busSpeedTests, ...networkTests, ...networkFaultTests, ...linkTests, ...accessTests].filter(([name]) => only.test(name))) {
   const pages = [];
   const open = async (how) => {
     const page = await browser.open(place.address, how);

@@ -1,0 +1,10 @@
+// Runs instructions.c as a module of WebAssembly, and writes what it tells: instructions.mjs MODULE TOLD
+import { readFileSync, writeFileSync } from 'node:fs';
+
+const [module, told] = process.argv.slice(2);
+const parts = [];
+const { instance } = await WebAssembly.instantiate(readFileSync(module), {
+  host: { put: (at, count) => parts.push(Buffer.from(instance.exports.memory.buffer.slice(at, at + count))) },
+});
+instance.exports.play();
+writeFileSync(told, Buffer.concat(parts));

@@ -1,0 +1,175 @@
+/*
+ * The calls of crates/can_page as rt makes them for this machine, for what holds the page's module against them
+ * (module.mjs). It reads questions: a call by its number, four numbers, and bytes with their count; and writes answers:
+ * the bytes of what a call answers and tells, with their count. Numbers have 32 bits, those within answers 64, the
+ * lowest byte first.
+ */
+#include <stdbool.h>
+#include <stddef.h>
+#include <stdint.h>
+#include <stdio.h>
+#include <stdlib.h>
+#include <string.h>
+
+enum { DONE = 0, BAD_SCENARIO = 6, BAD_PLAN = 9 };
+enum { MOST_TEXT = 32, MOST_LEVELS = 157, MOST_BYTES = 10485760, LINE_BYTES = 33554432, MOST_TIMES = 1000000 };
+
+struct lines {
+  size_t count;
+  bool full;
+  uint8_t bytes[LINE_BYTES];
+};
+
+struct wrong {
+  size_t number;
+  size_t element;
+  uint8_t field;
+};
+
+struct time {
+  uint16_t counters[2];
+  uint8_t told[5];
+};
+
+uint8_t page_frame_text(uint32_t identifier, bool extended, bool remote, uint8_t dlc, const uint8_t *bytes,
+                        size_t length, uint8_t *text, size_t room, size_t *count);
+uint8_t page_encode(const uint8_t *text, size_t length, uint8_t *levels, size_t room, size_t *count, size_t *place);
+uint8_t page_marks(const uint8_t *levels, size_t length, uint8_t *fields, size_t room, uint8_t *stuffed,
+                   size_t stuffed_room, size_t *count);
+uint8_t page_decode(const uint8_t *text, size_t length, struct lines *out, uint64_t *place);
+uint8_t page_levels(const uint8_t *text, size_t length, uint8_t *levels, size_t room, size_t *count, size_t *place);
+uint8_t page_run(const uint8_t *text, size_t length, struct lines *out, struct wrong *wrong);
+uint8_t page_plan(const uint8_t *text, size_t length, struct lines *out, size_t *late, struct wrong *wrong);
+uint8_t page_port_times(const uint8_t *text, size_t length, size_t node, struct time *times, size_t room,
+                        size_t *count);
+
+/* A question, and what is told so far. */
+static uint32_t question[6];
+static uint8_t given[MOST_BYTES];
+static uint8_t told[LINE_BYTES + MOST_BYTES + 64];
+static size_t told_count;
+
+static struct lines lines;
+static uint8_t levels[MOST_BYTES];
+static struct time times[MOST_TIMES];
+
+static void tell(const void *bytes, size_t count)
+{
+  memcpy(told + told_count, bytes, count);
+  told_count += count;
+}
+
+static void tell_byte(uint8_t byte)
+{
+  tell(&byte, 1);
+}
+
+static void tell_number(uint64_t number)
+{
+  tell(&number, sizeof number);
+}
+
+static void tell_wrong(const struct wrong *wrong)
+{
+  tell_number(wrong->number);
+  tell_number(wrong->element);
+  tell_byte(wrong->field);
+}
+
+static void frame_text(size_t length)
+{
+  uint8_t text[MOST_TEXT];
+  size_t count = 0;
+  uint8_t answer = page_frame_text(question[1], question[2] != 0, question[3] != 0, (uint8_t)question[4], given, length,
+                                   text, sizeof text, &count);
+  tell_byte(answer);
+  if (answer == DONE)
+    tell(text, count);
+}
+
+static void encode(size_t length)
+{
+  size_t count = 0, place = 0;
+  uint8_t answer = page_encode(given, length, levels, MOST_LEVELS, &count, &place);
+  tell_byte(answer);
+  if (answer == DONE)
+    tell(levels, count);
+  else
+    tell_number(place);
+}
+
+static void marks(size_t length)
+{
+  uint8_t fields[MOST_LEVELS], stuffed[MOST_LEVELS];
+  size_t count = 0;
+  uint8_t answer = page_marks(given, length, fields, MOST_LEVELS, stuffed, MOST_LEVELS, &count);
+  tell_byte(answer);
+  if (answer == DONE) {
+    tell(fields, count);
+    tell(stuffed, count);
+  }
+}
+
+static void decode(size_t length)
+{
+  size_t count = 0, level_place = 0;
+  uint64_t place = 0;
+  page_levels(given, length, levels, sizeof levels, &count, &level_place);
+  uint8_t answer = page_decode(given, length, &lines, &place);
+  tell_byte(answer);
+  if (answer != DONE)
+    tell_number(place);
+  tell_number(count);
+  tell(levels, count);
+  tell(lines.bytes, lines.count);
+}
+
+static void run(size_t length)
+{
+  struct wrong wrong = { 0, 0, 0 };
+  uint8_t answer = page_run(given, length, &lines, &wrong);
+  tell_byte(answer);
+  if (answer == BAD_SCENARIO)
+    tell_wrong(&wrong);
+  if (answer == DONE)
+    tell(lines.bytes, lines.count);
+}
+
+static void plan(size_t length)
+{
+  struct wrong wrong = { 0, 0, 0 };
+  size_t late = 0;
+  uint8_t answer = page_plan(given, length, &lines, &late, &wrong);
+  tell_byte(answer);
+  if (answer == BAD_PLAN)
+    tell_wrong(&wrong);
+  if (answer == DONE) {
+    tell_number(late);
+    tell(lines.bytes, lines.count);
+  }
+}
+
+static void port_times(size_t length)
+{
+  size_t count = 0;
+  uint8_t answer = page_port_times(given, length, question[1], times, MOST_TIMES, &count);
+  tell_byte(answer);
+  if (answer == DONE)
+    tell(times, count * sizeof *times);
+}
+
+int main(void)
+{
+  static void (*const calls[])(size_t) = { frame_text, encode, marks, decode, run, plan, port_times };
+  while (fread(question, sizeof question, 1, stdin) == 1) {
+    if (question[0] >= sizeof calls / sizeof *calls || question[5] > MOST_BYTES ||
+        fread(given, 1, question[5], stdin) != question[5])
+      return 1;
+    told_count = 0;
+    calls[question[0]](question[5]);
+    uint32_t count = (uint32_t)told_count;
+    fwrite(&count, sizeof count, 1, stdout);
+    fwrite(told, 1, told_count, stdout);
+  }
+  return ferror(stdin) || fflush(stdout) != 0;
+}

@@ -1,0 +1,146 @@
+"""The instructions of an object: what llvm-objdump tells of each, with the relocation at its place."""
+
+from __future__ import annotations
+
+import re
+import subprocess
+from dataclasses import dataclass
+from typing import TypeVar
+
+from translating.elf import ElfObject, Relocation, Section
+from translating.operands import (
+    Condition,
+    Immediate,
+    Lanes,
+    Operand,
+    Part,
+    Shift,
+    Target,
+    Whole,
+    operand_of,
+    split,
+)
+from translating.refusal import Refused
+
+Kind = TypeVar("Kind")
+
+CONDITIONAL_BRANCHES = ("cbz", "cbnz", "tbz", "tbnz")
+
+
+@dataclass(frozen=True)
+class Instruction:
+    """An instruction and where it stands in its section.
+
+    What asks for an operand of a kind is refused where another stands there.
+    """
+
+    at: int
+    name: str
+    operands: tuple[Operand, ...]
+    text: str
+    relocation: Relocation | None
+
+    def has(self, *kinds: type) -> bool:
+        """Whether its operands are of these kinds."""
+        return len(self.operands) == len(kinds) and all(
+            isinstance(operand, kind) for operand, kind in zip(self.operands, kinds)
+        )
+
+    def whole(self, place: int) -> Whole:
+        """The register of whole numbers at a place."""
+        return self._operand(place, Whole)
+
+    def lanes(self, place: int) -> Lanes:
+        """The vector by lanes at a place."""
+        return self._operand(place, Lanes)
+
+    def part(self, place: int) -> Part:
+        """The part of a vector's register at a place."""
+        return self._operand(place, Part)
+
+    def number(self, place: int) -> int:
+        """The whole number at a place."""
+        return self._operand(place, Immediate).value
+
+    def condition(self, place: int) -> str:
+        """The condition at a place, in C."""
+        return self._operand(place, Condition).read()
+
+    def shift(self, place: int) -> Shift | None:
+        """The shift at a place, if one stands there."""
+        return self._operand(place, Shift) if place < len(self.operands) else None
+
+    @property
+    def is_branch(self) -> bool:
+        """Whether it goes to a place that it names itself, always or not."""
+        return self.name == "b" or self.name.startswith("b.") or self.name in CONDITIONAL_BRANCHES
+
+    @property
+    def target(self) -> int:
+        """Where a branch goes."""
+        if self.relocation is not None:
+            raise Refused("a branch to another section")
+        return self._operand(len(self.operands) - 1, Target).at
+
+    def _operand(self, place: int, kind: type[Kind]) -> Kind:
+        if place >= len(self.operands):
+            raise Refused("it has too few operands")
+        found = self.operands[place]
+        if not isinstance(found, kind):
+            raise Refused(f"its operand {place + 1} is not known here")
+        return found
+
+
+@dataclass(frozen=True)
+class Function:
+    """The instructions of a section: the compiler gives each function a section of its own."""
+
+    section: Section
+    instructions: tuple[Instruction, ...]
+
+    @property
+    def name(self) -> str:
+        """Its name in C."""
+        return f"f{self.section.number}"
+
+
+def instruction_of(at: int, name: str, words: str, relocation: Relocation | None) -> Instruction:
+    """An instruction by its words."""
+    text = f"{name} {words}".strip()
+    try:
+        return Instruction(at, name, tuple(map(operand_of, split(words))), text, relocation)
+    except (Refused, ValueError) as why:
+        raise Refused(f"{at:#x}: {text}: {why}") from why
+
+
+def disassembled(path: str) -> str:
+    """What llvm-objdump tells of the object's sections of code, in the order of the object."""
+    words = ["llvm-objdump", "-d", "--no-show-raw-insn", "--no-leading-headers", path]
+    return subprocess.run(words, stdout=subprocess.PIPE, text=True, check=True).stdout
+
+
+def without_names(words: str) -> str:
+    """The operands without what is added for readers: a remark, and the name of a place, which may have commas."""
+    return re.sub(r" <.*>$", "", words.split("//")[0].strip())
+
+
+def functions_of(path: str, elf: ElfObject) -> list[Function]:
+    """The functions of the object, which is in this file: all of the instructions of each."""
+    sections = iter([section for section in elf.sections if section.is_code and section.size > 0])
+    found: list[tuple[Section, list[Instruction]]] = []
+    for line in disassembled(path).splitlines():
+        if begins := re.fullmatch(r"Disassembly of section (.*):", line):
+            section = next(sections)
+            if section.name != begins[1]:
+                raise Refused(f"llvm-objdump tells {begins[1]} where {section.name} stands")
+            found.append((section, []))
+        elif code := re.fullmatch(r" *([0-9a-f]+): +\t(\S+)(?:\t(.*))?", line):
+            section, instructions = found[-1]
+            at, words = int(code[1], 16), without_names(code[3] or "")
+            if at != 4 * len(instructions):
+                raise Refused(f"llvm-objdump leaves out what stands before {at:#x} of {section.name}")
+            instructions.append(instruction_of(at, code[2], words, elf.relocations_of(section).get(at)))
+    for section, instructions in found:
+        if 4 * len(instructions) != section.size:
+            raise Refused(f"llvm-objdump leaves out the end of {section.name}")
+    return [Function(section, tuple(instructions)) for section, instructions in found]

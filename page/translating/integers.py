@@ -1,0 +1,237 @@
+"""Instructions of whole numbers, and of the flags, as statements of C.
+
+Values are held as 64 bits. What a w register is written is cut to 32, so that sums, differences, products, shifts to
+the left and whatever is done bit by bit may be worked out in 64; what looks at the upper end of a value (flags, shifts
+to the right, quotients, leading zeros) is worked out in the register's own type.
+"""
+
+from __future__ import annotations
+
+from collections.abc import Callable
+
+from translating.instructions import Instruction
+from translating.operands import EXTENSIONS, Immediate, Shift, Whole
+from translating.refusal import Refused
+
+Writer = Callable[[Instruction], list[str]]
+
+SUMS = {"add": "+", "sub": "-"}
+BITS = {"and": "&", "orr": "|", "eor": "^", "bic": "& ~", "orn": "| ~", "eon": "^ ~"}
+
+
+def shifted(value: Whole | Immediate, shift: Shift | None) -> str:
+    """An operand with what is done to it, of which as many bits count as the register has."""
+    if shift is None:
+        return value.read()
+    if shift.how in EXTENSIONS:
+        return f"((u64)(i64)({EXTENSIONS[shift.how]}){value.read()} << {shift.by})"
+    if shift.how == "lsl":
+        return f"({value.read()} << {shift.by})"
+    if isinstance(value, Immediate):
+        raise Refused("a number that is shifted to the right")
+    if shift.how == "lsr":
+        return f"({value.read()} >> {shift.by})"
+    if shift.how == "asr":
+        return f"(u64)(({value.signed}){value.read()} >> {shift.by})"
+    if shift.how == "ror" and shift.by > 0:
+        return f"({value.read()} >> {shift.by} | {value.read()} << {value.bits - shift.by})"
+    raise Refused(f"the shift {shift.how}")
+
+
+def last(i: Instruction, place: int) -> str:
+    """The last operand, and the shift behind it, if there is one."""
+    if len(i.operands) > place + 2:
+        raise Refused("it has too many operands")
+    operand = i.operands[place]
+    if not isinstance(operand, (Whole, Immediate)):
+        raise Refused("its last operand is not known here")
+    return shifted(operand, i.shift(place + 1))
+
+
+def sum_flags(kind: str, of: Whole, first: str, second: str) -> str:
+    """The flags of a sum or a difference."""
+    return f"FLAGS_OF_{'SUM' if kind in ('adds', 'cmn', 'ccmn') else 'DIFFERENCE'}({of.bits}, {first}, {second});"
+
+
+def write_sum(i: Instruction) -> list[str]:
+    """`add`, `sub`, and these with flags."""
+    first, second = i.whole(1).read(), last(i, 2)
+    flags = [sum_flags(i.name, i.whole(0), first, second)] if i.name.endswith("s") else []
+    return [*flags, *i.whole(0).write(f"{first} {SUMS[i.name[:3]]} {second}")]
+
+
+def write_comparison(i: Instruction) -> list[str]:
+    """The flags of a difference or a sum that is not kept."""
+    return [sum_flags(i.name, i.whole(0), i.whole(0).read(), last(i, 1))]
+
+
+def write_negation(i: Instruction) -> list[str]:
+    """The difference from 0, with flags or without."""
+    flags = [sum_flags("subs", i.whole(0), "0", last(i, 1))] if i.name == "negs" else []
+    return [*flags, *i.whole(0).write(f"-({last(i, 1)})")]
+
+
+def write_bits(i: Instruction) -> list[str]:
+    """What is done bit by bit, with flags or without."""
+    value = f"{i.whole(1).read()} {BITS[i.name if i.name in BITS else i.name[:3]]}({last(i, 2)})"
+    flags = [f"FLAGS_OF_BITS({i.whole(0).bits}, {value});"] if i.name in ("ands", "bics") else []
+    return [*flags, *i.whole(0).write(value)]
+
+
+def write_test(i: Instruction) -> list[str]:
+    """The flags of the bits that two operands share."""
+    return [f"FLAGS_OF_BITS({i.whole(0).bits}, {i.whole(0).read()} & ({last(i, 1)}));"]
+
+
+def write_move(i: Instruction) -> list[str]:
+    """A register or a number, or the complement of one."""
+    value = last(i, 1)
+    return i.whole(0).write(value if i.name in ("mov", "movz") else f"~({value})")
+
+
+def write_move_16(i: Instruction) -> list[str]:
+    """Sixteen bits of a register, of which the others stay."""
+    shift = i.shift(2)
+    by = shift.by if shift else 0
+    return i.whole(0).write(f"({i.whole(0).read()} & ~(0xffffull << {by})) | {i.number(1)}ull << {by}")
+
+
+def write_product(i: Instruction) -> list[str]:
+    """A product, alone, turned, or added to a third register or taken from it."""
+    product = f"{i.whole(1).read()} * {i.whole(2).read()}"
+    if i.name in ("mul", "mneg"):
+        return i.whole(0).write(product if i.name == "mul" else f"-({product})")
+    return i.whole(0).write(f"{i.whole(3).read()} {'+' if i.name == 'madd' else '-'} {product}")
+
+
+def write_wide_product(i: Instruction) -> list[str]:
+    """The product of two w registers in 64 bits, alone, or added to a third register or taken from it."""
+    cast = "(u64)(u32)" if i.name.startswith("u") else "(u64)(i64)(i32)"
+    product = f"{cast}({i.whole(1).read()}) * {cast}({i.whole(2).read()})"
+    if i.name in ("umull", "smull"):
+        return i.whole(0).write(product)
+    return i.whole(0).write(f"{i.whole(3).read()} {'+' if i.name[1:] == 'maddl' else '-'} {product}")
+
+
+def write_high_product(i: Instruction) -> list[str]:
+    """The upper 64 bits of a product."""
+    return i.whole(0).write(
+        f"{'high' if i.name == 'umulh' else 'high_signed'}({i.whole(1).read()}, {i.whole(2).read()})"
+    )
+
+
+def write_quotient(i: Instruction) -> list[str]:
+    """A quotient, towards 0; by 0 it is 0, and the least number by -1 is itself (C3.4.8)."""
+    to, call = i.whole(0), "quotient" if i.name == "udiv" else "quotient_signed"
+    return to.write(f"{call}_{to.bits}({i.whole(1).read()}, {i.whole(2).read()})")
+
+
+def write_shift(i: Instruction) -> list[str]:
+    """A shift by a number or a register, of which as many bits count as tell a place in the first."""
+    to, how = i.whole(0), i.name[:3]
+    second = i.operands[2]
+    if not isinstance(second, (Whole, Immediate)):
+        raise Refused("its third operand is not known here")
+    value, by = i.whole(1).read(), f"({second.read()} & {to.bits - 1})"
+    if how == "ror":
+        return to.write(f"rotated_{to.bits}(({to.unsigned}){value}, {by})")
+    kind = to.signed if how == "asr" else to.unsigned
+    return to.write(f"({to.unsigned})(({kind}){value} {'<<' if how == 'lsl' else '>>'} {by})")
+
+
+def write_field(i: Instruction) -> list[str]:
+    """Bits of a register that are cut out, moved, or put into another."""
+    to, value, low, size = i.whole(0), i.whole(1).read(), i.number(2), i.number(3)
+    mask = f"{(1 << size) - 1}ull"
+    fields = {
+        "ubfx": f"({value} >> {low}) & {mask}",
+        "sbfx": f"(u64)((i64)({value} << {64 - low - size}) >> {64 - size})",
+        "ubfiz": f"({value} & {mask}) << {low}",
+        "sbfiz": f"(u64)((i64)({value} << {64 - size}) >> {64 - size}) << {low}",
+        "bfi": f"({to.read()} & ~({mask} << {low})) | (({value} & {mask}) << {low})",
+        "bfxil": f"({to.read()} & ~{mask}) | (({value} >> {low}) & {mask})",
+    }
+    return to.write(fields[i.name])
+
+
+def write_extraction(i: Instruction) -> list[str]:
+    """As many bits as a register has, from a place in two that stand beside each other."""
+    low, to = i.number(3), i.whole(0)
+    if low == 0:
+        return to.write(i.whole(2).read())
+    return to.write(f"({i.whole(2).read()} >> {low}) | ({i.whole(1).read()} << {to.bits - low})")
+
+
+def write_widening(i: Instruction) -> list[str]:
+    """The low bits of a register, with their sign or without."""
+    return i.whole(0).write(f"(u64)(i64)({EXTENSIONS[i.name]})({i.whole(1).read()})")
+
+
+def write_count(i: Instruction) -> list[str]:
+    """Leading zeros, or the bits or the bytes the other way round."""
+    to, value = i.whole(0), i.whole(1).read()
+    if i.name == "clz":
+        return to.write(f"leading_zeros_{to.bits}({value})")
+    return to.write(f"__builtin_{'bitreverse' if i.name == 'rbit' else 'bswap'}{to.bits}(({to.unsigned}){value})")
+
+
+def write_carried_sum(i: Instruction) -> list[str]:
+    """A sum or a difference with the carry: a difference adds the complement (C6.2, `sbc`)."""
+    to, is_sum = i.whole(0), i.name.startswith("adc")
+    first = "0" if i.name.startswith("ngc") else i.whole(1).read()
+    second = i.whole(len(i.operands) - 1).read()
+    flags = [f"FLAGS_OF_CARRIED_SUM({to.bits});"] if i.name.endswith("s") else []
+    return [f"{{ CARRIED_SUM({to.bits}, {first}, {'' if is_sum else '~'}{second});", *flags, *to.write("r_"), "}"]
+
+
+def write_choice(i: Instruction) -> list[str]:
+    """One of two registers, by the flags; the second as it is, one more, its complement or turned."""
+    changes = {"csel": "{}", "csinc": "{} + 1", "csinv": "~{}", "csneg": "-{}"}
+    other = changes[i.name].format(i.whole(2).read())
+    return i.whole(0).write(f"{i.condition(3)} ? {i.whole(1).read()} : {other}")
+
+
+def write_flag(i: Instruction) -> list[str]:
+    """1, or all ones, where the flags tell a condition, and else 0."""
+    return i.whole(0).write(f"{'-' if i.name == 'csetm' else ''}(u64)({i.condition(1)})")
+
+
+def write_change(i: Instruction) -> list[str]:
+    """A register, one more, its complement or turned where the flags tell a condition."""
+    value = i.whole(1).read()
+    changed = {"cinc": f"{value} + 1", "cinv": f"~{value}", "cneg": f"-{value}"}[i.name]
+    return i.whole(0).write(f"{i.condition(2)} ? {changed} : {value}")
+
+
+def write_further_comparison(i: Instruction) -> list[str]:
+    """The flags of a comparison where they tell a condition, and else those of a number."""
+    second = i.operands[1]
+    if not isinstance(second, (Whole, Immediate)):
+        raise Refused("its second operand is not known here")
+    flags = sum_flags(i.name, i.whole(0), i.whole(0).read(), second.read())
+    return [f"if ({i.condition(3)}) {flags} else FLAGS_ARE({i.number(2)});"]
+
+
+WRITERS: dict[str, Writer] = {
+    **dict.fromkeys(("add", "sub", "adds", "subs"), write_sum),
+    **dict.fromkeys(("cmp", "cmn"), write_comparison),
+    **dict.fromkeys(("neg", "negs"), write_negation),
+    **dict.fromkeys((*BITS, "ands", "bics"), write_bits),
+    "tst": write_test,
+    **dict.fromkeys(("mov", "movz", "movn", "mvn"), write_move),
+    "movk": write_move_16,
+    **dict.fromkeys(("mul", "mneg", "madd", "msub"), write_product),
+    **dict.fromkeys(("umull", "umaddl", "umsubl", "smull", "smaddl", "smsubl"), write_wide_product),
+    **dict.fromkeys(("umulh", "smulh"), write_high_product),
+    **dict.fromkeys(("udiv", "sdiv"), write_quotient),
+    **dict.fromkeys(("lsl", "lsr", "asr", "ror", "lslv", "lsrv", "asrv", "rorv"), write_shift),
+    **dict.fromkeys(("ubfx", "sbfx", "ubfiz", "sbfiz", "bfi", "bfxil"), write_field),
+    "extr": write_extraction,
+    **dict.fromkeys(("sxtb", "sxth", "sxtw", "uxtb", "uxth", "uxtw"), write_widening),
+    **dict.fromkeys(("clz", "rbit", "rev"), write_count),
+    **dict.fromkeys(("adc", "adcs", "sbc", "sbcs", "ngc", "ngcs"), write_carried_sum),
+    **dict.fromkeys(("csel", "csinc", "csinv", "csneg"), write_choice),
+    **dict.fromkeys(("cset", "csetm"), write_flag),
+    **dict.fromkeys(("cinc", "cinv", "cneg"), write_change),
+    **dict.fromkeys(("ccmp", "ccmn"), write_further_comparison),
+}

@@ -1,0 +1,305 @@
+"""The operands of an instruction, as llvm-objdump writes them."""
+
+from __future__ import annotations
+
+import re
+from dataclasses import dataclass
+from typing import Union
+
+from translating.refusal import Refused
+
+# the lanes of each arrangement of a vector: what each is in C, and how many there are
+ARRANGEMENTS = {
+    "8b": ("u8", 8),
+    "16b": ("u8", 16),
+    "4h": ("u16", 4),
+    "8h": ("u16", 8),
+    "2s": ("u32", 2),
+    "4s": ("u32", 4),
+    "1d": ("u64", 1),
+    "2d": ("u64", 2),
+}
+LANE_TYPES = {"b": "u8", "h": "u16", "s": "u32", "d": "u64"}
+PART_TYPES = {**LANE_TYPES, "q": "vec"}
+TYPE_BYTES = {"u8": 1, "u16": 2, "u32": 4, "u64": 8, "vec": 16}
+
+# Each condition over the flags (the manual's table of conditions, C1.2.4).
+CONDITIONS = {
+    "eq": "flag_z",
+    "ne": "!flag_z",
+    "hs": "flag_c",
+    "lo": "!flag_c",
+    "mi": "flag_n",
+    "pl": "!flag_n",
+    "vs": "flag_v",
+    "vc": "!flag_v",
+    "hi": "flag_c && !flag_z",
+    "ls": "!flag_c || flag_z",
+    "ge": "flag_n == flag_v",
+    "lt": "flag_n != flag_v",
+    "gt": "!flag_z && flag_n == flag_v",
+    "le": "flag_z || flag_n != flag_v",
+}
+SYNONYMS = {"cs": "hs", "cc": "lo"}
+
+# What an extended register is cut to before it is widened.
+EXTENSIONS = {
+    "uxtb": "u8",
+    "uxth": "u16",
+    "uxtw": "u32",
+    "uxtx": "u64",
+    "sxtb": "i8",
+    "sxth": "i16",
+    "sxtw": "i32",
+    "sxtx": "i64",
+}
+
+
+@dataclass(frozen=True)
+class Whole:
+    """A register of whole numbers: a w register is the low half of an x register; the zero register has no name."""
+
+    name: str
+    bits: int
+
+    @property
+    def unsigned(self) -> str:
+        """The type of its numbers in C, without a sign."""
+        return f"u{self.bits}"
+
+    @property
+    def signed(self) -> str:
+        """The type of its numbers in C, with a sign."""
+        return f"i{self.bits}"
+
+    def read(self) -> str:
+        """What it holds, as 64 bits: those above a w register's are 0."""
+        if not self.name:
+            return "(u64)0"
+        return self.name if self.bits == 64 else f"(u64)(u32){self.name}"
+
+    def write(self, value: str) -> list[str]:
+        """Puts a value there, of which a w register takes 32 bits and clears those above them (C6.1.2)."""
+        if not self.name:
+            return []
+        cut = value if self.bits == 64 else f"(u32)({value})"
+        return [f"{self.name} = {cut};", *(["STACK_HOLDS;"] if self.name == "sp" else [])]
+
+
+@dataclass(frozen=True)
+class Part:
+    """The low bits of a vector's register: b, h, s and d have 8 to 64 of them, q has all."""
+
+    number: int
+    letter: str
+
+    @property
+    def kind(self) -> str:
+        """The type in C of what it holds."""
+        return PART_TYPES[self.letter]
+
+    def read(self) -> str:
+        """What it holds."""
+        return f"v{self.number}" if self.kind == "vec" else f"v{self.number}.{self.kind}[0]"
+
+    def write(self, value: str) -> list[str]:
+        """Puts a value there, which clears the bits above it (C1.2.5)."""
+        if self.kind == "vec":
+            return [f"v{self.number} = {value};"]
+        return [f"{{ {self.kind} it_ = ({self.kind})({value}); v{self.number} = NOTHING; {self.read()} = it_; }}"]
+
+
+@dataclass(frozen=True)
+class Lanes:
+    """A vector's register by lanes: all of an arrangement, or one."""
+
+    number: int
+    kind: str
+    count: int
+    lane: int | None
+
+    @property
+    def is_one(self) -> bool:
+        """Whether it is one lane."""
+        return self.lane is not None
+
+    @property
+    def bits(self) -> int:
+        """How wide a lane is."""
+        return 8 * TYPE_BYTES[self.kind]
+
+    def one(self) -> str:
+        """The one lane, to be read or written: the others stay as they are."""
+        return f"v{self.number}.{self.kind}[{self.lane}]"
+
+    def each(self, place: str = "i") -> str:
+        """The lane at a place, to be written."""
+        return f"v{self.number}.{self.kind}[{place}]"
+
+    def read(self, place: str = "i") -> str:
+        """The lane at a place, as 64 bits without a sign, so that no sum or product of lanes overflows an int of C."""
+        return f"(u64){self.each(place)}"
+
+    def read_signed(self, place: str = "i") -> str:
+        """The lane at a place, as 64 bits with its sign."""
+        return f"(i64)({self.kind.replace('u', 'i')}){self.each(place)}"
+
+
+@dataclass(frozen=True)
+class Immediate:
+    """A whole number."""
+
+    value: int
+
+    def read(self) -> str:
+        """It, as 64 bits."""
+        return f"{self.value & 0xFFFFFFFFFFFFFFFF}ull"
+
+
+@dataclass(frozen=True)
+class Fraction:
+    """A number with a fraction."""
+
+    text: str
+
+
+@dataclass(frozen=True)
+class Shift:
+    """What is done to the operand before it: a shift, or a widening and then a shift to the left."""
+
+    how: str
+    by: int
+
+
+@dataclass(frozen=True)
+class Address:
+    """Where a load or a store goes: a register, with a number or another register added."""
+
+    base: Whole
+    offset: int
+    index: Whole | None
+    shift: Shift | None
+    is_kept: bool  # whether the base takes the sum, as behind `!`
+
+
+@dataclass(frozen=True)
+class Listed:
+    """The vectors' registers that a load or a store of vectors names."""
+
+    lanes: tuple[Lanes, ...]
+
+
+@dataclass(frozen=True)
+class Condition:
+    """What the flags are to tell."""
+
+    name: str
+
+    def read(self) -> str:
+        """Whether they do."""
+        return CONDITIONS[self.name]
+
+
+@dataclass(frozen=True)
+class Target:
+    """A place in the function's section."""
+
+    at: int
+
+
+@dataclass(frozen=True)
+class Word:
+    """Any other word."""
+
+    text: str
+
+
+Operand = Union[Whole, Part, Lanes, Immediate, Fraction, Shift, Address, Listed, Condition, Target, Word]
+
+
+def split(text: str) -> list[str]:
+    """The operands of a line: commas within brackets part none."""
+    return [part.strip() for part in re.findall(r"(?:\[[^\]]*\]!?|\{[^}]*\}|[^,\[{])+", text)]
+
+
+def whole_of(text: str) -> Whole | None:
+    """The register of whole numbers of this name."""
+    if text == "sp":
+        return Whole("sp", 64)
+    if text in ("xzr", "wzr"):
+        return Whole("", 64 if text == "xzr" else 32)
+    found = re.fullmatch(r"([xw])(\d|[12]\d|30)", text)
+    return Whole(f"x{found[2]}", 64 if found[1] == "x" else 32) if found else None
+
+
+def lanes_of(text: str) -> Lanes | None:
+    """The lanes of this name."""
+    if found := re.fullmatch(r"v(\d+)\.(\d+[bhsd])", text):
+        kind, count = ARRANGEMENTS[found[2]]
+        return Lanes(int(found[1]), kind, count, None)
+    if found := re.fullmatch(r"v(\d+)\.([bhsd])\[(\d+)\]", text):
+        return Lanes(int(found[1]), LANE_TYPES[found[2]], 1, int(found[3]))
+    return None
+
+
+def listed_of(text: str) -> Listed | None:
+    """The vectors' registers in braces: all their lanes, or the one whose number stands behind them."""
+    found = re.fullmatch(r"\{ (.*) \}(\[\d+\])?", text)
+    if not found:
+        return None
+    lanes = [lanes_of(part + (found[2] or "")) for part in found[1].split(", ")]
+    known = [lane for lane in lanes if lane is not None]
+    if len(known) < len(lanes):
+        raise Refused(f"the registers {text} are not known")
+    return Listed(tuple(known))
+
+
+def shift_of(text: str) -> Shift | None:
+    """The shift or the widening of this name."""
+    found = re.fullmatch(r"([a-z]+)(?: #(\w+))?", text)
+    if not found or found[1] not in ("lsl", "lsr", "asr", "ror", "msl", *EXTENSIONS):
+        return None
+    return Shift(found[1], int(found[2] or "0", 0))
+
+
+def address_of(text: str) -> Address | None:
+    """The address in brackets."""
+    found = re.fullmatch(r"\[([^\]]*)\](!?)", text)
+    if not found:
+        return None
+    first, *rest = found[1].split(", ")
+    base = whole_of(first)
+    if base is None or base.bits != 64:
+        raise Refused(f"the address {text} is not known")
+    if not rest:
+        return Address(base, 0, None, None, False)
+    if rest[0].startswith("#"):
+        return Address(base, int(rest[0][1:], 0), None, None, found[2] == "!")
+    index, shift = whole_of(rest[0]), shift_of(rest[1]) if len(rest) > 1 else None
+    if index is None or len(rest) > 2 or (len(rest) == 2 and shift is None):
+        raise Refused(f"the address {text} is not known")
+    return Address(base, 0, index, shift, False)
+
+
+def condition_of(text: str) -> Condition | None:
+    """The condition of this name."""
+    name = SYNONYMS.get(text, text)
+    return Condition(name) if name in CONDITIONS else None
+
+
+def operand_of(text: str) -> Operand:
+    """What an operand is."""
+    found = whole_of(text) or lanes_of(text) or listed_of(text) or shift_of(text) or address_of(text)
+    if found is not None:
+        return found
+    if part := re.fullmatch(r"([bhsdq])(\d|[12]\d|3[01])", text):
+        return Part(int(part[2]), part[1])
+    if number := re.fullmatch(r"#(-?(?:0x[0-9a-f]+|\d+))", text):
+        return Immediate(int(number[1], 0))
+    if re.fullmatch(r"#-?\d+\.\d+", text):
+        return Fraction(text[1:])
+    if condition := condition_of(text):
+        return condition
+    if target := re.fullmatch(r"(0x[0-9a-f]+)", text):
+        return Target(int(target[1], 16))
+    return Word(text)
