@@ -1,5 +1,5 @@
 -- A port that has led through the first levels of a frame.
-use Rattle.std.proofs.Common.{◌≡◌, ℕ, zero, suc, ◌<◌, List, length, take, arith, sym, ap, subst, ◌∙◌}
+use Rattle.std.proofs.Common.{◌≡◌, ℕ, zero, suc, ◌<◌, ◌+◌, List, length, take, arith, sym, ap, subst, ◌∙◌}
 use Rattle.can_frame.specs.declared.level.Level.{Level}
 use Rattle.can_frame.specs.Parts.{Parts, IsFrame}
 use Rattle.can_wire.specs.Wire.{stuffed_part}
