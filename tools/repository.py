@@ -17,6 +17,13 @@ def below(crate: str) -> list[str]:
     return told.stdout.split()
 
 
+def needs_of(crates: Collection[str]) -> dict[str, list[str]]:
+    """Of each of these crates those of them that it calls."""
+    with open(f"{TOP}/crates.txt", encoding="utf-8") as it:
+        rows = [re.match(r"(\w+)[^:#]*:(.*)", line) for line in it]
+    return {row[1]: [it for it in row[2].split() if it in crates] for row in rows if row and row[1] in crates}
+
+
 def read_costs() -> dict[str, float]:
     """The seconds of one processor that the proof of each crate takes, by tools/costs.txt."""
     with open(f"{TOP}/tools/costs.txt", encoding="utf-8") as it:
