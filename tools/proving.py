@@ -8,6 +8,7 @@ proved goes to crates/NAME/out, where rt takes it over. Crates that have work ke
 
 from __future__ import annotations
 
+import fcntl
 import graphlib
 import math
 import os
@@ -16,6 +17,7 @@ import subprocess
 import sys
 import tempfile
 from collections.abc import Collection, Iterator
+from contextlib import contextmanager
 from dataclasses import dataclass
 
 from repository import TOP, below, copy, needs_of, read_costs
@@ -159,16 +161,26 @@ class Prover:
             proof.call.terminate()
             proof.call.wait()
         for crate, out in self.proved.items():
-            shutil.rmtree(out_of(crate), ignore_errors=True)
-            shutil.move(out, out_of(crate))
+            if is_new(crate):
+                shutil.rmtree(out_of(crate), ignore_errors=True)
+                shutil.move(out, out_of(crate))
+
+
+@contextmanager
+def alone() -> Iterator[None]:
+    """Waits until no other call proves crates of this tree."""
+    os.makedirs(f"{TOP}/out", exist_ok=True)
+    with open(f"{TOP}/out/proving", "w", encoding="ascii") as lock:
+        fcntl.flock(lock, fcntl.LOCK_EX)
+        yield
 
 
 def prove(name: str, crates: Collection[str]) -> bool:
     """Proves those of these crates that are new, with what they stand on, and gives whether it did."""
-    new = [it for it in {*crates}.union(*map(below, crates)) if is_new(it)]
-    if not new:
-        return True
-    with tempfile.TemporaryDirectory(prefix=f"{name}-") as rooms:
+    with alone(), tempfile.TemporaryDirectory(prefix="proving-") as rooms:
+        new = [it for it in {*crates}.union(*map(below, crates)) if is_new(it)]
+        if not new:
+            return True
         prover = Prover(Plan(new), rooms)
         try:
             for told in prover.prove():
