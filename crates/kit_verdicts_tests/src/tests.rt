@@ -1,2 +1,0 @@
-mod transcripts;
-mod verdicts;
