@@ -1,2 +1,3 @@
+mod levels;
 mod read;
 mod written;
