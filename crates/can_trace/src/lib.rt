@@ -20,9 +20,6 @@
 //! Their definitions can be named as those of this crate, as `Rattle.can_trace.specs.Coded` (`specs/Lib.antt`).
 #![tactic(auto)]
 
-#[cfg(test)]
-mod tests;
-
 pub use can_decode::{decode_stream, one_decoding};
 pub use can_lines::{check_lines, encode_lines, one_answer, one_check};
 pub use can_scenario::{

@@ -1,2 +1,0 @@
-//! What the streams have in common.
-mod order;
