@@ -1,6 +1,6 @@
 //! Bytes that are read, put together and written, whole and in pieces, over streams that fail.
 use can_stream::line::{Line, push, push_named};
-use can_stream::pieces::{ROOM, Stop, reader_of, writer_of};
+use can_stream::pieces::{ROOM, Stop, Taker, reader_of, writer_of};
 use can_stream::{Inbox, LineReader, Outbox, Sink, Source, TraceFault, write_all};
 use std::alloc::Global;
 use std::io::ErrorKind;
@@ -36,7 +36,8 @@ fn lines_of_pieces(rt: HostRuntime) {
     }
 }
 
-/// Whether what waits is written before a read, and the bytes that came are used from their front.
+/// Whether what waits is written before a read, the bytes that came are used from their front, and a read that fails is
+/// not tried again.
 fn writes_before_a_read(alloc: Global) -> Result<bool, TraceFault> {
     let mut reader = reader_of(b"abc", 8192, Stop::Fails(ErrorKind::Interrupted));
     let mut writer = writer_of(alloc, ROOM, ROOM, Stop::Nothing);
@@ -55,6 +56,7 @@ fn writes_before_a_read(alloc: Global) -> Result<bool, TraceFault> {
     Ok(
         is_at_its_end
             && outcome == Err(TraceFault::Read)
+            && reader.into_inner().stops == 1
             && written.as_slice() == b"known".as_slice(),
     )
 }
@@ -64,27 +66,37 @@ fn what_waits_is_written_before_a_read(rt: HostRuntime) {
     assert_eq!(rt; writes_before_a_read(rt.alloc()), Ok(true));
 }
 
-/// Whether nothing is read where what waits can't be written.
-fn reads_nothing(alloc: Global, stop: Stop) -> Result<bool, TraceFault> {
+/// What a write answers that takes no byte.
+const STOPS: [Stop; 3] = [
+    Stop::Nothing,
+    Stop::Fails(ErrorKind::Interrupted),
+    Stop::Fails(ErrorKind::BrokenPipe),
+];
+
+/// Whether nothing is read where what waits can't be written by such pieces, and the write is not tried again.
+fn reads_nothing(alloc: Global, size: usize, stop: Stop) -> Result<bool, TraceFault> {
     let mut reader = reader_of(b"", 1, Stop::Nothing);
-    let mut writer = writer_of(alloc, ROOM, 2, stop);
+    let mut writer = writer_of(alloc, size, 2, stop);
     let mut out = Outbox::new();
     out.put(&mut writer, b"known")?;
     let outcome = Inbox::new().flush_and_fill(&mut reader, &mut writer, &mut out);
     let failed = writer.failed();
-    let written = writer.into_inner().taken;
+    let Taker { taken, stops, .. } = writer.into_inner();
     Ok(
         outcome == Err(TraceFault::Write)
             && failed
+            && stops == 1
             && reader.into_inner().stops == 0
-            && written.as_slice() == b"kn".as_slice(),
+            && taken.as_slice() == b"kn".as_slice(),
     )
 }
 
 #[test]
 fn no_read_behind_a_failed_write(rt: HostRuntime) {
-    for stop in [Stop::Nothing, Stop::Fails(ErrorKind::BrokenPipe)] {
-        assert_eq!(rt; reads_nothing(rt.alloc(), stop), Ok(true));
+    for stop in STOPS {
+        for size in [1, 2, ROOM] {
+            assert_eq!(rt; reads_nothing(rt.alloc(), size, stop), Ok(true));
+        }
     }
 }
 
