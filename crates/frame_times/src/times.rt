@@ -14,18 +14,3 @@ pub fn bit_times(frame: &Frame) -> usize
 {
     encode(frame).len() + INTERMISSION
 }
-
-#[cfg(test)]
-mod tests {
-    use super::*;
-    use std::test::Fail;
-
-    #[test]
-    fn a_short_frame(rt: HostRuntime) -> Result<(), Fail> {
-        let Ok(frame) = Frame::from_text("S 000 D 0".as_bytes()) else {
-            return Err(Fail::from("no frame"));
-        };
-        assert_eq!(rt; bit_times(&frame), 53);
-        Ok(())
-    }
-}
