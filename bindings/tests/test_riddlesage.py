@@ -25,6 +25,7 @@ from riddlesage import (
     BadByte,
     BadFrame,
     BadScenario,
+    Bus,
     Event,
     Fault,
     Frame,
@@ -238,21 +239,38 @@ class Refusals(unittest.TestCase):
         self.assertTrue(issubclass(BadFrame, ValueError))
 
     def test_types(self) -> None:
-        """What is no frame, no number, no bytes at all."""
+        """What is no frame, no whole number, no text, no bytes at all."""
+        port, bus = Port(), Bus(Port())
         calls: list[tuple[Callable[..., object], list[object]]] = [
             (encode, [1]),
             (encode, [None]),
-            (Port().offer, ["S 123 D 0"]),
+            (port.offer, ["S 123 D 0"]),
+            (port.hold, [1.5]),
+            (port.entry, [0.5]),
             (decode, ["01"]),
             (Port, ["1"]),
+            (Port, [1.5]),
+            (Port, [1, 1.5]),
             (Frame, [None]),
             (Frame, ["1"]),
+            (Frame, [1.5]),
             (Frame, [1, 5]),
             (Frame, [1, "5"]),
+            (Frame, [1, b"", False, False, 0.5]),
+            (Frame.from_text, [None]),
+            (Frame.from_text, [b"S 123 D 0"]),
+            (bus.offer, [0, None]),
+            (bus.offer, [0, "S 123 D 0"]),
+            (bus.offer, [0.5, Frame(0)]),
+            (bus.offer, [0, Frame(0), 1.5]),
+            (bus.hit_at, [1.5]),
+            (bus.hit_in, [0, 1.5]),
+            (bus.view, [1.5, 0]),
         ]
         for call, words in calls:
-            with self.assertRaises(TypeError):
+            with self.subTest(call.__qualname__, words=words), self.assertRaises(TypeError):
                 call(*words)
+        self.assertEqual(bus.run(20), [])
 
     def test_copies(self) -> None:
         """Errors are pickled as they are, and ports are not."""

@@ -3,10 +3,11 @@
 from __future__ import annotations
 
 import heapq
+import operator
 from collections.abc import Sequence
 from typing import NamedTuple, Protocol
 
-from riddlesage._frames import DOMINANT, RECESSIVE, Frame
+from riddlesage._frames import DOMINANT, RECESSIVE, Frame, frame_in
 from riddlesage._ports import Event, Told
 
 # So many recessive levels in a row lie between two frames: a dominant level behind them begins an attempt.
@@ -84,22 +85,24 @@ class Bus:
 
         Offers for one bit time are made in the order of these calls; those for a time that has passed, before the next.
         """
+        place = operator.index(place)
         if not 0 <= place < len(self._devices):
             raise ValueError(f"there is no device {place}")
-        heapq.heappush(self._offers, (self.time if time is None else time, self._offered, place, frame))
+        due = self.time if time is None else operator.index(time)
+        heapq.heappush(self._offers, (due, self._offered, place, frame_in(frame)))
         self._offered += 1
 
     def hit_at(self, time: int) -> None:
         """Has the level of the wire inverted in a bit time."""
-        self._hit_times.add(time)
+        self._hit_times.add(operator.index(time))
 
     def hit_in(self, attempt: int, offset: int) -> None:
         """Has it inverted so many bit times behind the start of an attempt at a frame, both counted from 0."""
-        self._hit_places.add((attempt, offset))
+        self._hit_places.add((operator.index(attempt), operator.index(offset)))
 
     def view(self, time: int, place: int) -> None:
         """Has one device see the inverse of the wire in a bit time."""
-        self._views.add((time, place))
+        self._views.add((operator.index(time), operator.index(place)))
 
     def step(self, level: int = RECESSIVE) -> list[Happened]:
         """One bit time, in which a tester drives this level too; gives what it brought."""

@@ -4,6 +4,7 @@ from __future__ import annotations
 
 import ctypes
 import enum
+import operator
 from dataclasses import dataclass
 
 from riddlesage._buffers import Buffer
@@ -86,10 +87,14 @@ def demand(status: int) -> None:
 
 
 def in_range(value: int, bits: int, refusal: Refused) -> int:
-    """The number, where the library's field has so many bits; a field holds no other number."""
-    if not 0 <= value < 1 << bits:
+    """The number, where the library's field has so many bits; a field holds no other number.
+
+    What is no whole number is a TypeError.
+    """
+    number = operator.index(value)
+    if not 0 <= number < 1 << bits:
         raise refusal
-    return value
+    return number
 
 
 @dataclass(frozen=True)
@@ -110,8 +115,7 @@ class Frame:
         if isinstance(self.data, int):
             raise TypeError("the data of a frame are bytes, and not a number")
         object.__setattr__(self, "data", bytes(self.data))
-        if self.dlc == -1:
-            object.__setattr__(self, "dlc", len(self.data))
+        object.__setattr__(self, "dlc", len(self.data) if self.dlc == -1 else operator.index(self.dlc))
         if len(self.data) != (0 if self.remote else min(self.dlc, 8)):
             raise ValueError(f"{len(self.data)} data bytes are not those of DLC {self.dlc}")
         encode(self)
@@ -119,6 +123,8 @@ class Frame:
     @classmethod
     def from_text(cls, text: str) -> Frame:
         """The frame of a text, as `S 123 D 2 aa55`. What is no such text is a ValueError."""
+        if not isinstance(text, str):
+            raise TypeError(f"the text of a frame is wanted, and not {type(text).__name__}")
         words = text.split(" ", 4)
         if len(words) < 4:
             raise ValueError(f"this is no frame: {text}")
@@ -146,11 +152,16 @@ class Frame:
         return plain
 
 
+def frame_in(given: Frame) -> Frame:
+    """What was given, where it is a frame."""
+    if not isinstance(given, Frame):
+        raise TypeError(f"a Frame is wanted, and not {type(given).__name__}")
+    return given
+
+
 def plain_of(frame: Frame) -> PlainFrame:
     """The frame as it crosses to the library."""
-    if not isinstance(frame, Frame):
-        raise TypeError(f"a Frame is wanted, and not {type(frame).__name__}")
-    return frame._plain()
+    return frame_in(frame)._plain()
 
 
 def frame_of(plain: PlainFrame) -> Frame:

@@ -4,6 +4,7 @@ from __future__ import annotations
 
 import ctypes
 import enum
+import operator
 import threading
 from collections.abc import Iterator
 from types import TracebackType
@@ -143,9 +144,10 @@ class Port:
 
     def __init__(self, queue: int = 16, log: int = 64, *, joining: bool = False) -> None:
         """Makes a port with so much room, on the bus and idle, or `joining`: it waits for eleven recessive levels."""
-        if queue < 0 or log < 0:
+        rooms = operator.index(queue), operator.index(log)
+        if min(rooms) < 0:
             raise ValueError("a port has no negative room")
-        if max(queue, log) >= 1 << 63:
+        if max(rooms) >= 1 << 63:
             raise MemoryError
         self._lock = threading.Lock()
         self._port = PlainPort()
@@ -158,7 +160,7 @@ class Port:
         self._event_at = ctypes.byref(self._event)
         self._told_at = ctypes.byref(self._told)
         make = lib.riddlesage_port_joining if joining else lib.riddlesage_port_idle
-        status = make(self._port, queue, log)
+        status = make(self._port, *rooms)
         if status == Status.NO_MEMORY:
             raise MemoryError
         demand(status)
