@@ -115,7 +115,7 @@ class Proved(Answers):
     @classmethod
     def setUpClass(cls) -> None:
         if not is_built("canhold"):
-            print("skipped: canhold is not built, as ./canhold help does", file=sys.stderr)
+            print("skipped: canhold is not built (./canhold help builds it)", file=sys.stderr)
             raise unittest.SkipTest("canhold is not built")
         super().setUpClass()
         cls.command = [os.path.join(REPOSITORY, "out", "canhold"), "play"]
