@@ -9,8 +9,8 @@ pub mod Sending
 pub mod CodeFaults
 pub mod Decoder
 pub mod Digits
+-- For proofs, for models and for private calls only
+pub mod Reading
 pub mod RunRows
 pub mod Unstuffing
 pub mod Steps
--- For proofs and for models only
-pub mod Reading

@@ -7,5 +7,5 @@ pub mod Borne
 -- which numbers the analysis gives
 pub mod Analysis
 pub mod Carried
--- private: what its steps compute
+-- For private calls alone
 pub mod Steps
