@@ -45,8 +45,8 @@ class Image:
 
     def offset(self, relocation: Relocation) -> int:
         """Where in the array a relocation leads to."""
-        section = self.elf.section_of(relocation.symbol)
-        if section.number not in self.offsets or not 0 <= relocation.place <= section.size:
+        section = self._data(relocation)
+        if not 0 <= relocation.place <= section.size:
             raise Refused(f"a place in {section.name} that is not in its data")
         return self.offsets[section.number] + relocation.place
 
@@ -80,12 +80,27 @@ class Image:
         yield "};"
         yield f"enum {{ ADDRESS_COUNT = {len(self.addresses)} }};"
 
+    def _data(self, relocation: Relocation) -> Section:
+        """The section of data that a relocation leads to."""
+        section = self.elf.section_of(relocation.symbol)
+        if section.number not in self.offsets:
+            raise Refused(f"{section.name} is no data")
+        return section
+
+    def _way(self, section: Section, place: int, relocation: Relocation) -> int:
+        """The way to a place from where it is told, or from the begin of the table that tells it, which is a section."""
+        to = self._data(relocation)
+        if not any(0 <= it <= to.size for it in (relocation.place, relocation.place - place)):
+            raise Refused(f"a place in {to.name} that is not in its data")
+        return self.offsets[to.number] + relocation.place - self.offsets[section.number] - place
+
     def _relocate(self, section: Section) -> None:
         for place, relocation in self.elf.relocations_of(section).items():
             at = self.offsets[section.number] + place
             if relocation.kind == ABS64:
                 self.addresses.append((at, self.function(relocation) or f"data + {self.offset(relocation)}"))
             elif relocation.kind == PREL32 and self.function(relocation) is None:
-                self.bytes[at : at + 4] = (self.offset(relocation) - at & 0xFFFFFFFF).to_bytes(4, "little")
+                way = self._way(section, place, relocation)
+                self.bytes[at : at + 4] = (way & 0xFFFFFFFF).to_bytes(4, "little")
             else:
                 raise Refused(f"{section.name} at {place:#x}: the relocation {relocation.kind} is not known here")
