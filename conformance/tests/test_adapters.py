@@ -104,7 +104,7 @@ class InVerilog(Answers):
 
 
 def is_built(program: str) -> bool:
-    """Whether a program of the repository is built of the sources as they are; else its launcher proves and builds it."""
+    """Whether a program of the repository is built of the sources as they are: its launcher would prove it else."""
     command = [os.path.join(REPOSITORY, "tools", "is-current"), os.path.join(REPOSITORY, "out", program), program]
     return subprocess.run(command, check=False).returncode == 0
 
