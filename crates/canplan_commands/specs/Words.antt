@@ -4,15 +4,17 @@ use Rattle.std.specs.Str.{bytes_eq}
 use Rattle.std.specs.declared.alloc.Global.{Global}
 use Rattle.std.specs.declared.string.String.{String}
 use Rattle.canplan_commands.specs.declared.words.Asked.{Asked}
-use Rattle.canplan_commands.specs.declared.words.Asked.TheVariants.{Answer, Help}
+use Rattle.canplan_commands.specs.declared.words.Asked.TheVariants.{Answer, Help, Version}
 
 -- the words as texts
 abbrev pub texts_of : List (String Global) → List (List ℕ)
 texts_of words = map string_bytes words
 
--- what one word asks for
+-- what one word asks for: help, or the version
 abbrev pub asked_word : List ℕ → Option Asked
-asked_word word = if bytes_eq word (codes "help") || (bytes_eq word (codes "--help") || bytes_eq word (codes "-h")) then Some Help else None
+asked_word word =
+    if bytes_eq word (codes "help") || (bytes_eq word (codes "--help") || bytes_eq word (codes "-h")) then Some Help
+    else (if bytes_eq word (codes "--version") || bytes_eq word (codes "-V") then Some Version else None)
 
 -- what the words ask for: the program's name, whatever it is, and no word or one
 abbrev pub asked_by : List (List ℕ) → Option Asked

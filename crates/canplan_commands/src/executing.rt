@@ -9,7 +9,7 @@ ghost use Rattle.canplan_commands.specs.Words.{asked_by, texts_of};
 
 use crate::document::answer_document;
 use crate::fault::CanplanFault;
-use crate::help::HELP;
+use crate::help::{HELP, VERSION};
 use crate::words::{Asked, read_words};
 use can_program::{WordsFault, conclude, refuse, write_help};
 use can_stream::{Sink, Source};
@@ -19,8 +19,8 @@ use std::alloc::Global;
 pub const NAME: &str = "canplan";
 
 /// Does what the words ask, and answers the exit status. The first of the words is the program's name. Where there is
-/// no other, it reads a network's document from `r` and writes the answer to `w`; the text of help goes to `w`, and the
-/// line of a fault to `e`.
+/// no other, it reads a network's document from `r` and writes the answer to `w`; the text of help and the version go to
+/// `w`, and the line of a fault to `e`.
 ///
 /// | Status | Line | Why |
 /// |---|---|---|
@@ -59,14 +59,21 @@ pub fn execute<R: Source, W: Sink, E: Sink>(
     ensures refused { asked_by (texts_of words.now) ≡ Option.None → result ≡ 2 }
     ensures misuse { result ≡ 2 → asked_by (texts_of words.now) ≡ Option.None }
 
+    // So is the version.
+    ensures version_status { asked_by (texts_of words.now) ≡ Option.Some Asked.Version → (result ≡ 0) ⊎ (result ≡ 3) }
+    ensures version_written { asked_by (texts_of words.now) ≡ Option.Some Asked.Version → result ≡ 0
+        → Appends (W.contents w.old) (W.contents w.new) VERSION.now }
+
     // Nothing else is read or written.
     ensures untouched { result ≡ 2 → (r.new ≡ r.old) × (w.new ≡ w.old) }
     ensures help_reads_nothing { asked_by (texts_of words.now) ≡ Option.Some Asked.Help → r.new ≡ r.old }
+    ensures version_reads_nothing { asked_by (texts_of words.now) ≡ Option.Some Asked.Version → r.new ≡ r.old }
     ensures no_fault_line { result ≡ 0 → e.new ≡ e.old }
 {
     match read_words(words) {
         Some(Asked::Answer) => conclude(NAME, answer(alloc, r, w), e),
         Some(Asked::Help) => conclude(NAME, write_help(HELP, w), e),
+        Some(Asked::Version) => conclude(NAME, write_help(VERSION, w), e),
         None => refuse(NAME, WordsFault::Usage, e),
     }
 }

@@ -1,10 +1,11 @@
-//! The help text.
+//! The help text, and the version.
 
 /// What the program does, its faults and its statuses.
 pub const HELP: &str = "\
 How late the frames of a CAN network can be: proved response time analysis
 
 Usage: canplan [--help]
+       canplan --version
 
 It reads a network from standard input, a document of TOML, and answers for
 each message how long behind its release a frame ends at most:
@@ -43,3 +44,6 @@ Faults, on standard error as canplan: P3 read:
 Exit status: 0 all done, and each message is ok; 1 P2, or some message is late;
 2 wrong use; 3 P3, P4; 4 P5
 ";
+
+/// The program's name and its version, which is that of the file VERSION.
+pub const VERSION: &str = "canplan 0.9.0\n";

@@ -2,8 +2,8 @@
 //!
 //! | File | What it has | Defined in |
 //! |---|---|---|
-//! | `words.rt` | [`Asked`], what the words of a command line ask for: an answer, or the help text | `specs/Words.antt` |
-//! | `help.rt` | [`HELP`], the help text | |
+//! | `words.rt` | [`Asked`], what the words of a command line ask for: an answer, the help text, or the version | `specs/Words.antt` |
+//! | `help.rt` | [`HELP`], the help text; [`VERSION`] | |
 //! | `fault.rt` | [`CanplanFault`], why a run did not do all that it was asked | `specs/Status.antt` |
 //! | `document.rt` | a network's document in, the answer to it out | `specs/Runs.antt` |
 //! | `executing.rt` | [`execute`], what a run does, its fault line and its exit status | `specs/Runs.antt` |
@@ -19,5 +19,5 @@ mod words;
 
 pub use executing::{NAME, execute};
 pub use fault::CanplanFault;
-pub use help::HELP;
+pub use help::{HELP, VERSION};
 pub use words::Asked;

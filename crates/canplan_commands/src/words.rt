@@ -9,10 +9,12 @@ pub enum Asked {
     Answer,
     /// The help text.
     Help,
+    /// The program's name and its version.
+    Version,
 }
 
-/// What the words ask for, the first of which is the program's name: the answer where there is no other, or the help
-/// text. Other words are no use of the program.
+/// What the words ask for, the first of which is the program's name: the answer where there is no other, the help text
+/// or the version. Other words are no use of the program.
 pub fn read_words(words: &[String]) -> Option<Asked>
     ensures { result ≡ asked_by (texts_of words.now) }
 {
@@ -29,6 +31,7 @@ fn read_word(word: &str) -> Option<Asked>
 {
     match word {
         "help" | "--help" | "-h" => Some(Asked::Help),
+        "--version" | "-V" => Some(Asked::Version),
         _ => None,
     }
 }
