@@ -1,7 +1,7 @@
 // Long scenarios and many ports: shown in time, and the page never blocked meanwhile.
 import assert from 'node:assert/strict';
 import { busy, settled, shown } from './bus_page.mjs';
-import { within } from './limits.mjs';
+import { unblocked, within } from './limits.mjs';
 import { longestTask } from './tasks.mjs';
 
 /** How long a scenario takes until its report is there, until the ports in view are seen, and until it is whole. */
@@ -52,21 +52,21 @@ export const busSpeedTests = [
     within('the run', (await timed(page, busy(8, 100000, 100, 997))).whole, 2000);
     await draws(page);
   }],
-  ['64 busy ports of 20,000 bit times are seen within a second, and never block the page for more than 50 ms', async ({ open, browser }) => {
+  ['64 busy ports of 20,000 bit times are seen within a second, and never block the page for more than 50 ms', async ({ open }) => {
     const page = await shown(open, undefined, { dark: true });
-    const { done: { seen, rows, whole }, longest } = await longestTask(browser, () => timed(page, busy(64, 20000, 6, 3000)));
+    const { done: { seen, rows, whole }, longest } = await longestTask(page, () => timed(page, busy(64, 20000, 6, 3000)));
     console.log(`    seen in ${Math.round(seen)} ms, whole in ${Math.round(whole)} ms, blocked for ${Math.round(longest)} ms`);
     assert.ok(rows > 10, `${rows} rows are drawn`);
     within('the ports in view', seen, 1000);
-    within('the longest block', longest, 50);
+    unblocked(longest);
     await draws(page);
     await page.click('bus-unfold');
     await draws(page);
   }],
-  ['a scenario of 70,000 frames answers within two seconds', async ({ open, browser }) => {
+  ['a scenario of 70,000 frames answers within two seconds', async ({ open }) => {
     const page = await shown(open);
     const queue = Array.from({ length: 70000 }, (_, k) => `"S ${(k % 2032).toString(16).padStart(3, '0')} D 0"`).join(',');
-    const { done: { reported }, longest } = await longestTask(browser, () => timed(page, `version = 1\nbits = 20000\n[[port]]\nqueue = [${queue}]\nlog = 100\n[[port]]\n`));
+    const { done: { reported }, longest } = await longestTask(page, () => timed(page, `version = 1\nbits = 20000\n[[port]]\nqueue = [${queue}]\nlog = 100\n[[port]]\n`));
     console.log(`    answered in ${Math.round(reported)} ms, blocked for ${Math.round(longest)} ms`);
     within('the answer', reported, 2000);
     await settled(page);

@@ -15,6 +15,7 @@ import { moduleTests } from './module.mjs';
 import { networkFaultTests } from './network_faults.mjs';
 import { networkTests } from './network.mjs';
 import { pageTests } from './page.mjs';
+import { taskTests } from './tasks.mjs';
 
 const [program, file, examples, work] = process.argv.slice(2);
 const browser = new Browser(program);
@@ -25,7 +26,7 @@ const only = new RegExp(process.env.PAGE_TEST ?? '');
 let passed = 0;
 let failed = 0;
 
-for (const [name, test] of [...moduleTests, ...pageTests, ...callTests, ...encodeTests, ...decodeTests, ...busTests, ...busViewTests, ...busFaultTests, ...busSpeedTests, ...networkTests, ...networkFaultTests, ...linkTests, ...accessTests].filter(([name]) => only.test(name))) {
+for (const [name, test] of [...moduleTests, ...pageTests, ...taskTests, ...callTests, ...encodeTests, ...decodeTests, ...busTests, ...busViewTests, ...busFaultTests, ...busSpeedTests, ...networkTests, ...networkFaultTests, ...linkTests, ...accessTests].filter(([name]) => only.test(name))) {
   const pages = [];
   const open = async (how) => {
     const page = await browser.open(place.address, how);
