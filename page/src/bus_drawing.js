@@ -2,7 +2,7 @@
 import { svg } from './draw.js';
 import { DOES, firstFrom } from './bus_times.js';
 import { DOES_WORDS } from './bus_words.js';
-import { bytesIn, spansOf, valueOf } from './picture.js';
+import { bytesIn, hatching, spansOf, valueOf } from './picture.js';
 import { FIELDS } from './words.js';
 
 /** @typedef {import('./core.js').Marks} Marks */
@@ -10,8 +10,10 @@ import { FIELDS } from './words.js';
 /** Levels and fields are drawn where each level has so many pixels. */
 const LEVEL_ROOM = 3;
 
-/** The height of a band of fields, and the width of a letter. */
+/** The heights of a band of fields and of their levels below it, how far lines of a hatch are apart, and the width of a letter. */
 const FIELD_BAND = 16;
+const LEVEL_BAND = 22;
+const HATCH = 5;
 const LETTER = 7.3;
 
 /** What is in view: bit times from one on, over so many pixels. */
@@ -124,11 +126,12 @@ function frameBands(scale, start, wire, y) {
     const right = scale.right(start + span.to);
     if (right <= left) continue;
     const word = labelOf(wire, span, right - left);
-    const inside = [svg('rect', { class: `field field-${span.field}`, x: left, y, width: right - left, height: FIELD_BAND }), ...stuffHatches(scale, start, wire, span, y)];
+    const box = (name, top, height) => svg('rect', { class: `${name} field-${span.field}`, x: left, y: top, width: right - left, height });
+    const inside = [box('field', y, FIELD_BAND), box('field pale', y + FIELD_BAND, LEVEL_BAND), ...stuffHatches(scale, start, wire, span, y + FIELD_BAND)];
     if (word) inside.push(svg('text', { class: 'label', x: Math.max(left, 0) + 3, y: y + 12 }, [word]));
     drawn.push(svg('g', { class: 'field-band', 'data-field': span.field }, inside));
   }
-  return [...drawn, ...byteEnds(scale, start, wire, y)];
+  return [...drawn, ...byteEnds(scale, start, wire, y + FIELD_BAND)];
 }
 
 /** The name of a field with its number, in the longest form that fits. */
@@ -147,14 +150,13 @@ function stuffHatches(scale, start, { stuffed }, { from, to }, y) {
     const right = scale.x(start + index + 1);
     if (right < 0 || left > scale.width) continue;
     times.push(start + index);
-    const step = (right - left) / 2;
-    path += `M${left} ${y + FIELD_BAND}L${left + step} ${y}M${left + step} ${y + FIELD_BAND}L${right} ${y}M${left} ${y}h${right - left}v${FIELD_BAND}h-${right - left}z`;
+    path += hatching({ x: left, y: y + 1, width: right - left, height: LEVEL_BAND - 2 }, HATCH);
   }
   return path ? [svg('path', { class: 'hatch', d: path, 'data-times': times.join(' ') })] : [];
 }
 
 function byteEnds(scale, start, wire, y) {
-  const path = bytesIn(wire).map((index) => `M${scale.x(start + index)} ${y}v${FIELD_BAND}`).join('');
+  const path = bytesIn(wire).map((index) => `M${scale.x(start + index)} ${y}v${LEVEL_BAND}`).join('');
   return path ? [svg('path', { class: 'byte-end', d: path })] : [];
 }
 

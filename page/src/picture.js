@@ -172,7 +172,7 @@ function levelCell(wire, index, start) {
     svg('text', { class: 'digit', x: x + CELL / 2, y: DIGIT, 'text-anchor': 'middle' }, [String(wire.levels[index] ?? '…')]),
   ];
   if (told && wire.stuffed[index]) {
-    parts.splice(1, 0, svg('path', { class: 'hatch', d: hatching(x) }));
+    parts.splice(1, 0, svg('path', { class: 'hatch', d: hatching({ x, y: LABEL + 1, width: CELL, height: LOW + 4 - LABEL }, 8) }));
   }
   if (index === wire.fault) parts.push(svg('rect', { class: 'fault-box', x: x + 1.5, y: LABEL + 1.5, width: CELL - 3, height: DIGIT - LABEL + 2 }));
   if (index === start || place % NUMBERED === 0) parts.push(svg('text', { class: 'place', x: x + CELL / 2, y: PLACE, 'text-anchor': 'middle' }, [String(place)]));
@@ -183,17 +183,17 @@ function levelCell(wire, index, start) {
 }
 
 /**
- * @param {number} x
- * @returns {string} slanted lines over a cell
+ * Slanted lines over a box, so many pixels apart.
+ * @param {{x: number, y: number, width: number, height: number}} box
+ * @param {number} step
+ * @returns {string}
  */
-function hatching(x) {
-  const top = LABEL + 1;
-  const bottom = LOW + 5;
+export function hatching({ x, y, width, height }, step) {
   let path = '';
-  for (let offset = 6; offset < CELL + bottom - top; offset += 8) {
-    const high = Math.min(offset, bottom - top);
-    const low = Math.max(0, offset - CELL);
-    if (high > low) path += `M${x + offset - high} ${top + high}L${x + offset - low} ${top + low}`;
+  for (let offset = step - 2; offset < width + height; offset += step) {
+    const high = Math.min(offset, height);
+    const low = Math.max(0, offset - width);
+    if (high > low) path += `M${x + offset - high} ${y + high}L${x + offset - low} ${y + low}`;
   }
   return path;
 }

@@ -1,6 +1,6 @@
 // Names, order, contrast, narrow screens and motion.
 import assert from 'node:assert/strict';
-import { fill, settled } from './bus_page.mjs';
+import { drawn, fill, settled } from './bus_page.mjs';
 import { fillNetwork, networkSettled } from './network_page.mjs';
 
 /** What in a view has no name, or a name or place that is not right. */
@@ -86,6 +86,15 @@ const pale = () => {
   return [...new Set(found)];
 };
 
+/** How many hatches are seen, and the texts of pictures that one of them runs through. */
+const hatched = () => {
+  const box = (element) => element.getBoundingClientRect();
+  const meet = (one, other) => one.left < other.right && other.left < one.right && one.top < other.bottom && other.top < one.bottom;
+  const hatches = [...document.querySelectorAll('.hatch, .beyond')].filter((hatch) => hatch.checkVisibility());
+  const texts = [...document.querySelectorAll('svg text')].filter((text) => text.checkVisibility() && hatches.some((hatch) => meet(box(text), box(hatch))));
+  return [hatches.length, texts.map((text) => text.textContent)];
+};
+
 /** Shows each view in turn, with a fault in it too. */
 async function eachView(page, test) {
   await page.fill('frame-text', 'E 18db33f1 D 8 02010c0000000000');
@@ -100,13 +109,13 @@ async function eachView(page, test) {
   await page.click('tab-bus');
   await settled(page);
   await page.click('bus-next');
-  await page.run(() => new Promise((resolve) => { requestAnimationFrame(() => requestAnimationFrame(resolve)); }));
+  await drawn(page);
   await page.run(() => { for (const folded of document.querySelectorAll('#panel-bus details')) folded.open = true; });
   await page.until("document.querySelectorAll('#bus-ends li').length > 0");
   await test('bus');
   await page.click('bus-zoom-all');
   await page.click('bus-fold');
-  await page.run(() => new Promise((resolve) => { requestAnimationFrame(() => requestAnimationFrame(resolve)); }));
+  await drawn(page);
   await test('bus with folded ports');
   await fill(page, 'bus-text', 'version = 3');
   await test('bus with a fault');
@@ -129,6 +138,29 @@ export const accessTests = [
     const page = await open({ dark });
     assert.equal(await page.get("matchMedia('(prefers-color-scheme: dark)').matches"), dark);
     await eachView(page, async (view) => assert.deepEqual(await page.run(pale), [], view));
+  }]),
+  ...[false, true].map((dark) => [`labels can be read where stuff bits are hatched, in ${dark ? 'dark' : 'light'}`, async ({ open }) => {
+    for (const width of [1280, 390]) {
+      const page = await open({ width, dark });
+      const isRead = async (view) => {
+        const [hatches, texts] = await page.run(hatched);
+        assert.ok(hatches > 0, `${view} hatches nothing`);
+        assert.deepEqual([...texts, ...await page.run(pale)], [], `${view} at ${width} pixels`);
+      };
+      await page.fill('frame-text', 'S 000 D 0');
+      await isRead('encode');
+      await page.click('tab-decode');
+      await isRead('decode');
+      await page.click('tab-bus');
+      await settled(page);
+      await fill(page, 'bus-text', 'version = 1\nbits = 60\n[[port]]\nqueue = ["S 000 D 0"]\n[[port]]\n');
+      await page.click('bus-zoom-all');
+      await drawn(page);
+      await isRead('bus');
+      await page.click('tab-network');
+      await networkSettled(page);
+      await isRead('network');
+    }
   }]),
   ...[360, 768, 1920].map((width) => [`nothing is cut at ${width} pixels`, async ({ open }) => {
     const page = await open({ width });
