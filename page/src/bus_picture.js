@@ -4,10 +4,11 @@ import { Scale, arrows, axis, bands, counters, fieldBands, wave } from './bus_dr
 
 /** @typedef {import('./core.js').Marks} Marks */
 
-/** Sizes in pixels, and how few bit times fill the width at most. */
+/** Sizes in pixels, of rows with levels, without room for them, and folded; and how few bit times fill the width at most. */
 const AXIS = 18;
 const HEAD = 52;
-const ROW = 80;
+const NEAR = 80;
+const FAR = 40;
 const FOLDED = 24;
 const BAND = 20;
 const FEWEST = 20;
@@ -32,6 +33,8 @@ export class BusPicture {
     /** @type {Set<number>} the ports whose rows are folded */
     this.folded = new Set();
     this.waits = false;
+    /** Whether levels have room, as it was drawn. */
+    this.isNear = true;
     // what is asked of the browser each time would have it lay the page out each time
     Object.assign(this, { width: 0, seen: 0, scrolled: 0 });
     this.head = svg('svg', { class: 'bus head', 'aria-hidden': 'true' });
@@ -111,7 +114,10 @@ export class BusPicture {
   /** Draws a port that has come, where it is in view. */
   come(node) { if (this.inView.includes(node)) this.drawSoon(); }
 
-  height(node) { return this.folded.has(node) ? FOLDED : ROW; }
+  height(node) { return this.folded.has(node) ? FOLDED : this.unfolded; }
+
+  /** The height of a row that is not folded. */
+  get unfolded() { return this.isNear ? NEAR : FAR; }
 
   /** Where a port's row begins. */
   top(node) {
@@ -195,13 +201,28 @@ export class BusPicture {
     const began = performance.now();
     if (!this.body.isConnected) this.room.replaceChildren(this.head, this.body);
     const scale = new Scale(this.from, this.span, this.plot);
+    const isHeld = this.fit(scale.isNear);
     const height = this.top(this.bus.ports.length);
     this.fill(this.head, width, HEAD, [svg('path', { class: 'head-end', d: `M0 ${HEAD - 0.5}H${width}` }), this.name('Wire', HEAD - 14), this.plotOf(scale, 0, HEAD, [...axis(scale, AXIS, HEAD, true), ...this.levelRow(scale), this.cursor(scale, AXIS, HEAD)])]);
     this.fill(this.body, width, height, [
       this.plotOf(scale, 0, height, axis(scale, 0, height, false)), ...this.inView.map((node) => this.row(scale, node, width)),
       this.plotOf(scale, 0, height, [this.cursor(scale, 0, height)]),
     ]);
+    if (isHeld) this.room.scrollTop = this.scrolled;
     this.room.dataset.drawn = String(performance.now() - began);
+  }
+
+  /**
+   * Lets rows be as high as there is room for levels, and holds the one that stands at the top there.
+   * @param {boolean} isNear
+   * @returns {boolean} whether they have changed
+   */
+  fit(isNear) {
+    if (isNear === this.isNear) return false;
+    const [first = 0] = this.inView;
+    this.isNear = isNear;
+    this.scrolled = this.top(first);
+    return true;
   }
 
   fill(picture, width, height, inside) {
@@ -241,6 +262,6 @@ export class BusPicture {
     const marks = [...arrows(scale, port.losses, 8, 'lost-here'), ...arrows(scale, port.errors, 8, 'error-here'), ...arrows(scale, port.blind, 8, 'hit')];
     if (folded) return [...bands(scale, port, 2, BAND), ...marks];
     const drives = scale.isNear ? [wave(scale, port.count, (time) => port.drove(time), BAND + 25, BAND + 39)] : [];
-    return [...bands(scale, port, 2, BAND), ...fieldBands(scale, port, BAND + 4, this.marks), ...drives, ...marks, ...counters(scale, port, ROW - 6)];
+    return [...bands(scale, port, 2, BAND), ...fieldBands(scale, port, BAND + 4, this.marks), ...drives, ...marks, ...counters(scale, port, this.unfolded - 6)];
   }
 }

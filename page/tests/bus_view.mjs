@@ -14,6 +14,19 @@ const fields = (page) => page.run(() => [...document.querySelectorAll('#bus-pict
   hatched: [...row.querySelectorAll('.hatch')].map((hatch) => hatch.dataset.times).join(' '),
 })));
 
+/** Rows in which more than a line of text would fit between what is drawn, or below it. */
+const empty = (page) => page.run(() => [...document.querySelectorAll('#bus-picture [data-node]')].flatMap((row) => {
+  const ground = row.querySelector('.row-ground');
+  const boxes = [...row.querySelectorAll('svg > *')].filter((part) => part !== ground).map((part) => part.getBoundingClientRect()).filter(({ height }) => height > 0);
+  const { top, bottom } = ground.getBoundingClientRect();
+  let [reached, widest] = [top, 0];
+  for (const box of [...boxes.sort((a, b) => a.top - b.top), { top: bottom, bottom }]) {
+    widest = Math.max(widest, box.top - reached);
+    reached = Math.max(reached, box.bottom);
+  }
+  return widest > 12 ? [`${row.textContent}: ${widest} pixels`] : [];
+}));
+
 const names = (page) => page.run(() => [...document.querySelectorAll('#bus-picture .port-name')].map((name) => name.textContent));
 
 export const busViewTests = [
@@ -52,6 +65,29 @@ export const busViewTests = [
     for (const type of ['mousePressed', 'mouseReleased']) await page.call('Input.dispatchMouseEvent', { type, ...at, button: 'left', clickCount: 1 });
     await drawn(page);
     assert.deepEqual(await names(page), ['Wire', '▾ Port 0', '▸ Port 1']);
+  }],
+  ['rows are no higher than what they show, and the one at the top stays there', async ({ open }) => {
+    const page = await shown(open, undefined, { width: 390 });
+    await drawn(page);
+    assert.deepEqual(await empty(page), []);
+    await page.call('Emulation.setDeviceMetricsOverride', { width: 1280, height: 900, deviceScaleFactor: 1, mobile: false });
+    await fill(page, 'bus-text', `version = 1\nbits = 3000\n${'[[port]]\nqueue = ["S 000 D 0"]\n'.repeat(20)}`);
+    await page.click('bus-unfold');
+    await drawn(page);
+    await page.run(() => { document.getElementById('bus-picture').scrollTop = 640; });
+    await drawn(page);
+    const top = () => page.run(() => {
+      const end = document.querySelector('#bus-picture .head').getBoundingClientRect().bottom;
+      return [...document.querySelectorAll('#bus-picture [data-node]')].find((row) => row.querySelector('.row-ground').getBoundingClientRect().bottom > end + 1).dataset.node;
+    });
+    assert.equal(await top(), '8');
+    await page.click('bus-zoom-all');
+    await drawn(page);
+    assert.equal(await top(), '8');
+    assert.deepEqual(await empty(page), []);
+    for (let step = 0; step < 5; step += 1) await page.click('bus-zoom-in');
+    await drawn(page);
+    assert.equal(await top(), '8');
   }],
   ['zoomed in, the fields of a frame are named as they were worked out by hand', async ({ open }) => {
     const page = await shown(open, DATA, { width: 1280 });
