@@ -17,12 +17,16 @@ export class DocumentView {
     Object.assign(this, { of, runs });
     this.document = new DocumentField(of, (text, how) => this.take(text, how), (why) => this.refuse(why));
     this.examples = JSON.parse(byId(`${of.what}s`).textContent);
-    byId(`${of.view}-examples`).append(...this.examples.map(([name]) => html('option', { value: name }, [name.replaceAll('_', ' ')])));
-    byId(`${of.view}-examples`).addEventListener('change', (event) => { if (event.target.value) this.showExample(event.target.value); });
+    this.box = byId(`${of.view}-examples`);
+    this.box.append(...this.examples.map(([name]) => html('option', { value: name }, [name.replaceAll('_', ' ')])));
+    this.box.addEventListener('change', () => { if (this.box.value) this.showExample(this.box.value); });
   }
 
   /** @param {string} name */
   showExample(name) { this.take(this.examples.find(([other]) => other === name)[1]); }
+
+  /** The name of the example that a text is, if it is one. @param {string} text */
+  exampleOf(text) { return this.examples.find(([, other]) => other === text)?.[0] ?? ''; }
 
   /**
    * Shows a document.
@@ -31,6 +35,7 @@ export class DocumentView {
    */
   take(text, { types = false, fills = true } = {}) {
     this.document.put(text, types);
+    this.box.value = this.exampleOf(text);
     if (fills) {
       const form = this.formOf(text);
       this.form.enable(form !== null);
@@ -77,6 +82,7 @@ export class DocumentView {
     this.runs.number += 1;
     byId(`${this.of.view}-fault`).replaceChildren(...why);
     this.document.mark(true);
+    this.box.value = '';
     byId(`${this.of.view}-shown`).hidden = true;
     byId(`${this.of.view}-told`).textContent = told;
     this.forget();

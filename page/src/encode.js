@@ -23,6 +23,7 @@ export class EncodeView {
     this.core = core;
     this.text = byId('frame-text');
     this.parts = byId('parts');
+    this.box = byId('examples');
     this.levels = '';
     this.wires = new WireView(byId('encode-wire'), byId('encode-level'), byId('encode-fields'));
     this.fillChoices();
@@ -32,7 +33,7 @@ export class EncodeView {
 
   fillChoices() {
     byId('part-dlc').append(...Array.from({ length: 16 }, (_, dlc) => html('option', { value: dlc }, [String(dlc)])));
-    byId('examples').append(...EXAMPLES.map((text) => html('option', { value: text }, [text])));
+    this.box.append(...EXAMPLES.map((text) => html('option', { value: text }, [text])));
     this.text.value = EXAMPLES[0];
   }
 
@@ -40,9 +41,9 @@ export class EncodeView {
     this.text.addEventListener('input', () => this.showText());
     this.parts.addEventListener('input', () => this.showParts());
     this.parts.addEventListener('submit', (event) => event.preventDefault());
-    byId('examples').addEventListener('change', (event) => {
-      if (event.target.value === '') return;
-      this.text.value = event.target.value;
+    this.box.addEventListener('change', () => {
+      if (this.box.value === '') return;
+      this.text.value = this.box.value;
       this.showText();
     });
     byId('copy-levels').addEventListener('click', () => this.copyLevels());
@@ -102,6 +103,7 @@ export class EncodeView {
   showLevels(levels) {
     const { fields, stuffed } = this.core.marks(levels);
     this.levels = levels.join('');
+    this.box.value = EXAMPLES.includes(this.text.value) ? this.text.value : '';
     this.setFault([]);
     byId('encode-told').textContent = `${counted(levels.length, 'level')}, ${counted(stuffed.reduce((sum, flag) => sum + flag, 0), 'stuff bit')} among them.`;
     this.wires.show({ id: 'sent', name: `Levels of ${this.text.value}`, levels, fields, stuffed, first: 0, fault: null });
@@ -116,6 +118,7 @@ export class EncodeView {
    */
   refuse(field, ...why) {
     this.levels = '';
+    this.box.value = '';
     this.setFault(why, field);
     byId('encode-told').textContent = '';
     byId('encode-shown').hidden = true;

@@ -1,7 +1,10 @@
 // The page as a file: one, without network, quickly there, and what it says where it can't work.
 import assert from 'node:assert/strict';
-import { readFileSync, statSync } from 'node:fs';
+import { readFileSync, statSync, writeFileSync } from 'node:fs';
+import { join } from 'node:path';
+import { fill, settled } from './bus_page.mjs';
 import { within } from './limits.mjs';
+import { fillNetwork, networkSettled } from './network_page.mjs';
 
 export const pageTests = [
   ['the page is one file that asks for nothing', async ({ open, file, address }) => {
@@ -47,5 +50,38 @@ export const pageTests = [
     const other = await browser.open(`${address}#decode`);
     assert.equal(await other.get("document.getElementById('panel-decode').hidden"), false);
     await other.close();
+  }],
+  ['the box of examples names what is shown, and none where that is changed', async ({ open, work }) => {
+    const page = await open();
+    const named = (box) => page.run((id) => document.getElementById(id).selectedOptions[0]?.textContent, box);
+    assert.equal(await named('examples'), 'S 123 D 2 aa55');
+    await page.fill('examples', 'S 000 D 0');
+    assert.deepEqual([await named('examples'), await page.get("document.getElementById('frame-text').value")], ['S 000 D 0', 'S 000 D 0']);
+    await page.fill('frame-text', 'S 001 D 0');
+    assert.equal(await named('examples'), 'Pick one');
+    await page.fill('part-identifier', '000');
+    assert.equal(await named('examples'), 'S 000 D 0');
+    await page.fill('part-identifier', 'x');
+    assert.equal(await named('examples'), 'Pick one');
+    const views = [['bus', settled, fill, 'arbitration', 'bus_off', 'bus-bits'], ['network', networkSettled, fillNetwork, 'seventeen', 'sixty', 'network-rate']];
+    for (const [view, answered, put, first, other, field] of views) {
+      const box = `${view}-examples`;
+      await page.click(`tab-${view}`);
+      await answered(page);
+      assert.equal(await named(box), first);
+      await put(page, field, '1');
+      assert.equal(await named(box), 'Pick one');
+      await put(page, box, other);
+      assert.equal(await named(box), other.replace('_', ' '));
+      const text = await page.get(`document.getElementById('${view}-text').value`);
+      await put(page, `${view}-text`, `${text}x`);
+      assert.equal(await named(box), 'Pick one');
+      await put(page, `${view}-text`, text);
+      assert.equal(await named(box), other.replace('_', ' '));
+      writeFileSync(join(work, 'latin.toml'), Buffer.from('version = 1 # \xe9\n', 'latin1'));
+      await page.files(`${view}-file`, [join(work, 'latin.toml')]);
+      await page.until(`document.getElementById('panel-${view}').dataset.state === 'refused'`);
+      assert.equal(await named(box), 'Pick one');
+    }
   }],
 ];
