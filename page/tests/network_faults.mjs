@@ -36,6 +36,7 @@ export const networkFaultTests = [
       const told = await networkFault(page);
       const where = place ? ` (line ${place[0]}, column ${place[1]})` : '';
       assert.ok(told.text.startsWith(`P2 ${code}${where}: `), `${text}: ${told.text}`);
+      assert.match(told.text, /[^.\s]\.$/, 'its last sentence ends with a stop');
       assert.equal(told.shown, false);
       assert.deepEqual(told.invalid.filter((id) => id !== 'network-text'), fields, text);
       assert.equal(await page.get("document.getElementById('network-told').textContent"), `The network is wrong: P2 ${code}${where}.`);
