@@ -89,10 +89,11 @@ export class BusView extends DocumentView {
   async answer(bytes) {
     const began = performance.now();
     const told = await this.runs.report(bytes);
-    if (!told) return;
+    const took = performance.now() - began;
+    if (!told || !(await this.isFilled())) return;
     if (told.answer === ANSWER.badScenario) this.refuseField(told.wrong);
     else if (told.answer !== ANSWER.done) this.refuseForMemory();
-    else await this.show(bytes, new Report(told.report, told.index), performance.now() - began);
+    else await this.show(bytes, new Report(told.report, told.index), took);
   }
 
   /**

@@ -1,6 +1,6 @@
 /** What the views of documents have in common: a document is picked, typed or opened, and is answered, or told wrong. */
 import { DocumentField } from './document_field.js';
-import { byId, html } from './draw.js';
+import { byId, html, painted } from './draw.js';
 
 /** @typedef {import('./core.js').WrongField} WrongField */
 
@@ -17,6 +17,8 @@ export class DocumentView {
     Object.assign(this, { of, runs });
     this.document = new DocumentField(of, (text, how) => this.take(text, how), (why) => this.refuse(why));
     this.examples = JSON.parse(byId(`${of.what}s`).textContent);
+    /** @type {Promise<void>} until the form of the text is seen */
+    this.filled = Promise.resolve();
     this.box = byId(`${of.view}-examples`);
     this.box.append(...this.examples.map(([name]) => html('option', { value: name }, [name.replaceAll('_', ' ')])));
     this.box.addEventListener('change', () => { if (this.box.value) this.showExample(this.box.value); });
@@ -36,12 +38,29 @@ export class DocumentView {
   take(text, { types = false, fills = true } = {}) {
     this.document.put(text, types);
     this.box.value = this.exampleOf(text);
-    if (fills) {
-      const form = this.formOf(text);
-      this.form.enable(form !== null);
-      if (form) this.form.fill(form);
-    }
+    this.filled = fills ? this.fillForm(text) : Promise.resolve();
     this.run();
+  }
+
+  /**
+   * Fills the form in once the text is seen, and waits until the form is too: a browser lays out each of them, and the
+   * answer behind them, in a task of its own.
+   * @param {string} text
+   */
+  async fillForm(text) {
+    await painted();
+    if (text !== this.document.text) return;
+    const form = this.formOf(text);
+    this.form.enable(form !== null);
+    if (form) this.form.fill(form);
+    await painted();
+  }
+
+  /** Waits until the form is seen; whether nothing else was asked meanwhile. */
+  async isFilled() {
+    const { number } = this.runs;
+    await this.filled;
+    return number === this.runs.number;
   }
 
   /** @param {string} state running, reported, shown or refused */

@@ -49,6 +49,14 @@ export function byId(id) {
   return found;
 }
 
+/** Waits until what has changed is seen, and no longer than a tenth of a second: a page in the background is not. */
+export function painted() {
+  return new Promise((resolve) => {
+    requestAnimationFrame(() => setTimeout(resolve));
+    setTimeout(resolve, 100);
+  });
+}
+
 /**
  * A picture as a file of its own, in the colours in which it is shown.
  * @param {SVGSVGElement} picture

@@ -45,10 +45,11 @@ export class NetworkView extends DocumentView {
   async answer(bytes) {
     const began = performance.now();
     const told = await this.runs.plan(bytes);
-    if (!told) return;
+    const took = performance.now() - began;
+    if (!told || !(await this.isFilled())) return;
     if (told.answer === ANSWER.badPlan) this.refuseField(told.wrong);
     else if (told.answer !== ANSWER.done) this.refuseForMemory();
-    else this.show(answerOf(told.lines), told.late, performance.now() - began);
+    else this.show(answerOf(told.lines), told.late, took);
   }
 
   /**
