@@ -1,14 +1,20 @@
 /** What the ports of a scenario do, bit time by bit time, as the proved code tells it. */
 import { TIME_BYTES } from './core.js';
 
-/** What a port does, by the numbers of its phases (`specs/Plain.antt` of can_page). */
-const IN_FRAME = [2, 3, 4, 5, 6];
-const KINDS = ['joining', 'idle', , , , , , 'flag', 'passive', 'overload', 'delimiter', 'delimiter', 'intermission', 'suspend', 'off'];
-
 /** What a port does in a bit time, in the order in which the picture's key names it. */
 export const DOES = Object.freeze(['idle', 'sending', 'receiving', 'flag', 'passive', 'overload', 'delimiter', 'intermission', 'suspend', 'joining', 'off']);
 
-const IN_FRAME_DOES = Object.freeze(['sending', 'receiving'].map((name) => DOES.indexOf(name)));
+const SENDING = DOES.indexOf('sending');
+const RECEIVING = DOES.indexOf('receiving');
+
+/** The phases in a frame, behind its start, by their numbers (`specs/Plain.antt` of can_page). */
+const FIRST_IN_FRAME = 2;
+const LAST_IN_FRAME = 6;
+
+/** What a port does, as the place in DOES, by the number of its phase; in a frame it is told by its part. */
+const KINDS = Uint8Array.from(
+  ['joining', 'idle', '', '', '', '', '', 'flag', 'passive', 'overload', 'delimiter', 'delimiter', 'intermission', 'suspend', 'off'], (name) => DOES.indexOf(name),
+);
 
 /** The numbers of what a bit time brings. */
 export const BROUGHT = Object.freeze({ sent: 1, received: 2, lost: 3, firstError: 4, lastError: 8, overload: 9, off: 10, recovered: 11 });
@@ -80,7 +86,7 @@ export class PortTimes {
   runAt(time) { return firstFrom(this.starts, time + 1) - 1; }
 
   /** Whether it is in a frame, behind its start. */
-  isInFrame(time) { return time < this.count && IN_FRAME.includes(this.stage(time)); }
+  isInFrame(time) { return time < this.count && this.stage(time) >= FIRST_IN_FRAME && this.stage(time) <= LAST_IN_FRAME; }
 
   /** Whether a frame begins here: its phase is the one before, and the next one is in the frame. */
   isStart(time) { return !this.isInFrame(time) && this.isInFrame(time + 1); }
@@ -90,8 +96,8 @@ export class PortTimes {
 
   /** @param {number} time @returns {number} the place in DOES of what it does */
   kind(time) {
-    if (this.isInFrame(time) || this.isStart(time)) return DOES.indexOf(this.isSender(time) ? 'sending' : 'receiving');
-    return DOES.indexOf(KINDS[this.stage(time)]);
+    if (this.isInFrame(time) || this.isStart(time)) return this.isSender(time) ? SENDING : RECEIVING;
+    return KINDS[this.stage(time)];
   }
 
   /**
@@ -101,8 +107,9 @@ export class PortTimes {
    */
   frameAt(time) {
     let run = this.runAt(time);
-    if (run < 0 || !IN_FRAME_DOES.includes(this.kinds[run])) return null;
-    const goesOn = (at) => at > 0 && !this.isStart(this.starts[at]) && IN_FRAME_DOES.includes(this.kinds[at]);
+    const isFrame = (at) => this.kinds[at] === SENDING || this.kinds[at] === RECEIVING;
+    if (run < 0 || !isFrame(run)) return null;
+    const goesOn = (at) => at > 0 && !this.isStart(this.starts[at]) && isFrame(at);
     while (goesOn(run)) run -= 1;
     const start = this.starts[run];
     run += 1;
