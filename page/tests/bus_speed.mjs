@@ -21,6 +21,7 @@ const timed = (page, text) => page.run(async (given) => {
   while (state() === 'running') await paint();
   const reported = performance.now() - began;
   const rows = () => document.querySelectorAll('#bus-picture [data-node]');
+  await paint(); // until then the rows are those of the scenario before
   while (rows().length === 0 || [...rows()].some((row) => row.textContent.includes('worked out'))) await paint();
   const seen = performance.now() - began;
   while (state() === 'reported') await paint();
