@@ -234,6 +234,9 @@ export const accessTests = [
           const cells = [...row.children].filter((cell) => cell.checkVisibility()).map((cell) => cell.getBoundingClientRect());
           for (let index = 1; index < cells.length; index += 1) if (cells[index].top < cells[index - 1].bottom - 1) found.push(`beside one another: ${row.textContent.slice(0, 40)}`);
         }
+        for (const caption of document.querySelectorAll('.listed caption:not(.unseen)')) {
+          if (caption.checkVisibility() && caption.offsetWidth < caption.parentElement.offsetWidth) found.push(`narrower than its list: ${caption.textContent}`);
+        }
         const range = document.createRange();
         const walker = document.createTreeWalker(document.querySelector('main'), NodeFilter.SHOW_TEXT);
         for (let text = walker.nextNode(); text; text = walker.nextNode()) {
