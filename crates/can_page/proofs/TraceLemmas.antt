@@ -1,7 +1,7 @@
 -- Trace text whose levels are written one by one.
 use Rattle.std.proofs.Common.{◌≡◌, ℕ, ◌+◌, ◌<◌, ◌≤◌, true, false, Option, Some, None, IfSome, append_assoc, List, [], ◌∷◌, ◌++◌, length, take, drop, get_or, sym, ◌∙◌, ap, subst, arith}
 use Rattle.std.proofs.lemmas.List.{drop_more, length-take-le, take_all, take_more, take-append-drop}
-use Rattle.std.specs.Io.KnownBytes.{Appends}
+use Rattle.std.specs.Io.KnownBytes.{Appends, Consumes}
 use Rattle.can_stream.proofs.Elements.{AllByRecursion-append}
 use Rattle.can_decode.specs.Decoded.{DecodesToBadByte}
 use Rattle.can_decode.specs.TraceText.{IsFirstBadTraceByte, IsTraceText, is_trace_byte, levels_in}
@@ -56,9 +56,11 @@ bad_in_front place front rest output d = record {
 }
 
 -- what was written of a text that is read up to its first bad byte, by a writer that held nothing
-pub bad_told : (text rest : List ℕ) (held holds : Option (List ℕ)) (place : ℕ) (input output : List ℕ) → text ≡ input ++ rest → held ≡ Some [] → Appends held holds output
-    → DecodesToBadByte place input output → IfSome holds (λ lines. DecodesToBadByte place text lines)
-bad_told text rest held None place input output splits empty appends decodes = absurd (subst (λ h. Appends h None output) empty appends)
-bad_told text rest held (Some lines) place input output splits empty appends decodes =
+pub bad_told : (has left held holds : Option (List ℕ)) (place : ℕ) (input output : List ℕ) → Consumes has left input → held ≡ Some [] → Appends held holds output
+    → DecodesToBadByte place input output → IfSome has (λ text. IfSome holds (λ lines. DecodesToBadByte place text lines))
+bad_told None left held holds place input output consumes empty appends decodes = tt
+bad_told (Some text) None held holds place input output consumes empty appends decodes = absurd consumes
+bad_told (Some text) (Some rest) held None place input output consumes empty appends decodes = absurd (subst (λ h. Appends h None output) empty appends)
+bad_told (Some text) (Some rest) held (Some lines) place input output splits empty appends decodes =
     let lines_are : lines ≡ output = subst (λ h. Appends h (Some lines) output) empty appends in
     subst (DecodesToBadByte place text) (sym lines_are) (subst (λ t. DecodesToBadByte place t output) (sym splits) (bad_in_front place input rest output decodes))

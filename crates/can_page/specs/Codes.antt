@@ -1,5 +1,5 @@
 -- The numbers by which the page knows levels, fields and flags.
-use Rattle.std.specs.Prelude.{ℕ, List, map}
+use Rattle.std.specs.Prelude.{ℕ, ◌==◌, if◌then◌else◌, List, map}
 use Rattle.std.specs.Int.{from_bool}
 use Rattle.can_frame.specs.declared.level.Level.{Level}
 use Rattle.can_frame.specs.Levels.{level_code}
@@ -9,6 +9,14 @@ use Rattle.can_fields.specs.declared.mark.Mark.{Mark}
 
 abbrev pub level_codes : List Level → List ℕ
 level_codes levels = map level_code levels
+
+-- the byte of trace text for a level's number: `0` or `1`; for any other number one that may not stand there, `?`
+abbrev pub trace_byte : ℕ → ℕ
+trace_byte code = if code == 0 then 48 else if code == 1 then 49 else 63
+
+-- the trace text of levels by their numbers
+abbrev pub trace_text : List ℕ → List ℕ
+trace_text codes = map trace_byte codes
 
 abbrev pub field_code : Field → ℕ
 field_code StartOfFrame = 0

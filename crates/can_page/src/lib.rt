@@ -9,18 +9,20 @@
 //! | `answer.rt` | [`Answer`], what a call answers | `specs/Answers.antt` |
 //! | `codes.rt` | the numbers of levels, fields and flags | `specs/Codes.antt` |
 //! | `frames.rt` | [`page_frame_text`], the text of a frame by its parts, and [`page_encode`], the levels of a frame by its text | `specs/Calls.antt` |
+//! | `levels.rt` | `Levels`, levels by their numbers, to be read as trace text | `specs/Texts.antt` |
 //! | `lines.rt` | [`Lines`], the caller's room for lines | `specs/Lines.antt` |
 //! | `plain.rt` | [`PlainTime`], what a port does in a bit time, and [`WrongField`], what is wrong in a scenario or a network, as plain fields | `specs/Plain.antt` |
 //! | `plans.rt` | [`page_plan`], how late the messages of a network can be | `specs/Calls.antt` |
 //! | `scenarios.rt` | [`page_run`], the report of a scenario, and [`page_port_times`], what one of its ports does in each bit time | `specs/Calls.antt` |
 //! | `text.rt` | `Text`, bytes to be read, which a read never fails | `specs/Texts.antt` |
-//! | `traces.rt` | [`page_decode`], the frames and faults in a trace, and [`page_levels`], its levels | `specs/Calls.antt` |
+//! | `traces.rt` | [`page_decode`] and [`page_decode_levels`], the frames and faults in a trace by its text or its levels, and [`page_levels`], the levels of such a text | `specs/Calls.antt` |
 //! | `wires.rt` | [`page_marks`], the field of each level of a frame | `specs/Calls.antt` |
 #![tactic(auto)]
 
 mod answer;
 mod codes;
 mod frames;
+mod levels;
 mod lines;
 mod plain;
 mod plans;
@@ -35,5 +37,5 @@ pub use lines::{Lines, ROOM};
 pub use plain::{PlainTime, WrongField};
 pub use plans::page_plan;
 pub use scenarios::{page_port_times, page_run};
-pub use traces::{page_decode, page_levels};
+pub use traces::{page_decode, page_decode_levels, page_levels};
 pub use wires::page_marks;

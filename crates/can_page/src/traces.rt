@@ -2,15 +2,16 @@ ghost use Rattle.std.specs.Prelude.{◌≡◌, ◌^◌, ◌≤◌, ◌⊎◌, []
 ghost use Rattle.can_decode.specs.Decoded.{DecodesAll, DecodesToBadByte};
 ghost use Rattle.can_decode.specs.TraceText.{IsFirstBadTraceByte, IsTraceText, is_trace_byte, levels_in, levels_of_byte};
 ghost use Rattle.can_page.specs.Answers.{bad_level, done, no_room};
-ghost use Rattle.can_page.specs.Codes.{level_codes};
+ghost use Rattle.can_page.specs.Codes.{level_codes, trace_text};
 ghost use Rattle.can_page.specs.Lines.{is_full, lines_of};
 
 use crate::answer::Answer;
+use crate::levels::Levels;
 use crate::lines::Lines;
 use crate::text::Text;
 use can_decode::decode_stream;
 use can_frame::Level;
-use can_stream::{Sink, TraceFault};
+use can_stream::{Sink, Source, TraceFault};
 
 /// Finds the frames and the faults of a trace, and writes their lines to `out`. The answer is 0 where these are all.
 /// Where it is that of a bad byte, that byte's place in the text is told, and the lines are those of the levels before
@@ -23,19 +24,37 @@ pub extern "C" fn page_decode(text: &[u8], out: &mut Lines, place: &mut u64) -> 
     ensures room { length text.now ≤ 2 ^ 63 → result ≡ no_room → is_full out.new ≡ true }
 {
     out.clear();
-    decode_onto(text, out, place).code()
+    decode_onto(&mut Text::new(text), out, place).code()
 }
 
-/// The same onto any sink that holds nothing.
-pub(crate) fn decode_onto<W: Sink>(text: &[u8], out: &mut W, place: &mut u64) -> Answer
+/// As [`page_decode`], of levels by their numbers, one byte each: 0 is dominant and 1 recessive, and each other byte is a
+/// bad one.
+#[unsafe(no_mangle)]
+pub extern "C" fn page_decode_levels(levels: &[u8], out: &mut Lines, place: &mut u64) -> u8
+    ensures whole { result ≡ done → DecodesAll (trace_text levels.now) (lines_of out.new) }
+    ensures bad { result ≡ bad_level → DecodesToBadByte place.new (trace_text levels.now) (lines_of out.new) }
+    ensures answers { (result ≡ done) ⊎ (result ≡ bad_level) ⊎ (result ≡ no_room) }
+    ensures room { length levels.now ≤ 2 ^ 63 → result ≡ no_room → is_full out.new ≡ true }
+{
+    out.clear();
+    decode_onto(&mut Levels::new(levels), out, place).code()
+}
+
+/// The same from any source onto any sink that holds nothing.
+pub(crate) fn decode_onto<R: Source, W: Sink>(trace: &mut R, out: &mut W, place: &mut u64) -> Answer
+    requires source_unfailed { R.has_failed trace.old ≡ false }
+    requires unended { R.has_ended trace.old ≡ false }
     requires unfailed { W.has_failed out.old ≡ false }
     requires empty { W.contents out.old ≡ Some [] }
-    ensures whole { result ≡ Answer.Done → IfSome (W.contents out.new) (λ lines. DecodesAll text.now lines) }
-    ensures bad { result ≡ Answer.BadLevel → IfSome (W.contents out.new) (λ lines. DecodesToBadByte place.new text.now lines) }
+    ensures whole { result ≡ Answer.Done →
+        IfSome (R.remaining trace.old) (λ text. IfSome (W.contents out.new) (λ lines. DecodesAll text lines)) }
+    ensures bad { result ≡ Answer.BadLevel →
+        IfSome (R.remaining trace.old) (λ text. IfSome (W.contents out.new) (λ lines. DecodesToBadByte place.new text lines)) }
     ensures answers { (result ≡ Answer.Done) ⊎ (result ≡ Answer.BadLevel) ⊎ (result ≡ Answer.NoRoom) }
-    ensures room { length text.now ≤ 2 ^ 63 → result ≡ Answer.NoRoom → W.has_failed out.new ≡ true }
+    ensures room { result ≡ Answer.NoRoom → R.has_failed trace.new ≡ false →
+        IfSome (R.remaining trace.old) (λ text. length text ≤ 2 ^ 63 → W.has_failed out.new ≡ true) }
 {
-    match decode_stream(&mut Text::new(text), out) {
+    match decode_stream(trace, out) {
         Ok(()) => Answer::Done,
         Err(TraceFault::BadByte { place: bad }) => {
             *place = bad;

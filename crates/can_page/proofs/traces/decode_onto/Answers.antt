@@ -1,11 +1,11 @@
-use Rattle.std.proofs.Common.{ap, Err, ◌∙◌, sym, rules}
+use Rattle.std.proofs.Common.{ap, Err, rules}
 use Rattle.can_page.proofs.TraceLemmas.{bad_told}
 use Rattle.can_page.proofs.traces.decode_onto.Goals as goal
 
 pub returns-in-Err-BadByte-clause-bad : goal.returns-in-Err-BadByte-clause-bad
 returns-in-Err-BadByte-clause-bad g c = λ _.
     let told = c.in-Err-BadByte.ensures.byte c.in-Err-BadByte.bad (ap Err c.in-Err-BadByte.field-0-is) in
-    bad_told c.args.text.now c.decode_stream.new.r.rest.now _ _ c.in-Err-BadByte.bad told.input told.output (sym c.new.ensures.unread ∙ told.consumes) c.requires.empty told.appends told.related
+    bad_told _ _ _ _ c.in-Err-BadByte.bad told.input told.output told.consumes c.requires.empty told.appends told.related
 
 pub returns-in-Err-clause-whole : goal.returns-in-Err-clause-whole
 returns-in-Err-clause-whole g c = search rules
