@@ -19,14 +19,15 @@
  * @endcode
  *
  * What each call does is proved in the repository that this file belongs to: the functions of crates/can_c, and for
- * riddlesage_run() and riddlesage_decode_trace() those of crates/can_page, of which those below are the public face.
- * Not proved are this header, and riddlesage.c and texts.c, which test what a pointer can be tested for and hand on.
+ * riddlesage_run(), riddlesage_decode_trace() and riddlesage_decode_levels() those of crates/can_page, of which those
+ * below are the public face. Not proved are this header, and riddlesage.c and texts.c, which test what a pointer can be
+ * tested for and hand on.
  *
  * A call that can be refused answers a status, which is named without RIDDLESAGE_ below. Where that is not OK, the port
- * is as it was, and nothing has been written, but for what riddlesage_decode(), riddlesage_run() and
- * riddlesage_decode_trace() say. Numbers of every size are allowed in every argument and field: what is none of a
- * field's values is refused by its status. Where several fit it is the first in the order of the call's arguments, the
- * port first of all. What a caller owes:
+ * is as it was, and nothing has been written, but for what riddlesage_decode(), riddlesage_run(),
+ * riddlesage_decode_trace() and riddlesage_decode_levels() say. Numbers of every size are allowed in every argument and
+ * field: what is none of a field's values is refused by its status. Where several fit it is the first in the order of
+ * the call's arguments, the port first of all. What a caller owes:
  *
  * - a pointer that is not NULL points to so much memory as is read or written there, for which no other thread has
  *   a use during the call, and which no other argument of the call points into;
@@ -36,8 +37,8 @@
  * - calls for one port don't run at the same time. Ports are independent of each other, and belong to no thread.
  *
  * Only riddlesage_port_new(), riddlesage_port_idle(), riddlesage_port_joining(), riddlesage_port_copy(),
- * riddlesage_run() and riddlesage_decode_trace() take memory, by malloc. What these last two take is free when they
- * return: 32 MiB in one piece, of which they touch what the text has.
+ * riddlesage_run(), riddlesage_decode_trace() and riddlesage_decode_levels() take memory, by malloc. What these last
+ * three take is free when they return: 32 MiB in one piece, of which they touch what the text has.
  */
 #ifndef RIDDLESAGE_H
 #define RIDDLESAGE_H
@@ -396,6 +397,21 @@ riddlesage_status riddlesage_run(const char *text, size_t length, char *report, 
  */
 riddlesage_status riddlesage_decode_trace(const char *text, size_t length, char *lines, size_t room, size_t *count,
                                           size_t *place);
+
+/**
+ * Finds the frames and the faults in levels, which are read where they stand, and writes their lines: those of
+ * riddlesage_decode_trace() for the text of the levels, a digit each.
+ * @param[in] levels the levels
+ * @param length how many there are
+ * @param[out] lines the lines, without a 0 behind them; with BAD_BYTE those of the levels before that byte
+ * @param room how many bytes `lines` has
+ * @param[out] count how many bytes the lines have, also with BAD_BYTE; with NO_ROOM too, but 0 where they have more
+ * than RIDDLESAGE_MOST_TEXT
+ * @param[out] place with BAD_BYTE how many levels stand before the first byte that is none; may be NULL
+ * @return OK, NULL_POINTER, NO_MEMORY, NO_ROOM, BAD_BYTE: where the lines before a bad byte have no room, it isn't told
+ */
+riddlesage_status riddlesage_decode_levels(const uint8_t *levels, size_t length, char *lines, size_t room,
+                                           size_t *count, size_t *place);
 
 /**
  * Names a status.

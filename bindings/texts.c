@@ -29,7 +29,8 @@ struct wrong {
 
 /* The proved functions. A slice is a pointer, which is not NULL, and its length. */
 uint8_t page_run(const char *text, size_t length, struct lines *out, struct wrong *wrong);
-uint8_t page_decode(const char *text, size_t length, struct lines *out, uint64_t *place);
+uint8_t page_decode(const uint8_t *text, size_t length, struct lines *out, uint64_t *place);
+uint8_t page_decode_levels(const uint8_t *levels, size_t length, struct lines *out, uint64_t *place);
 
 /* Gives a text, or tells how long it is where there is too little room. */
 static riddlesage_status give(const struct lines *lines, char *out, size_t room, size_t *count)
@@ -88,11 +89,14 @@ EXPORT riddlesage_status riddlesage_run(const char *text, size_t length, char *r
   return status;
 }
 
-static riddlesage_status decode(const char *text, size_t length, struct lines *lines, char *out, size_t room,
-                                size_t *count, size_t *place)
+/* What a proved function makes of a trace, which is a text or levels. */
+typedef uint8_t decoding(const uint8_t *trace, size_t length, struct lines *out, uint64_t *place);
+
+static riddlesage_status decode(decoding *by, const uint8_t *trace, size_t length, struct lines *lines, char *out,
+                                size_t room, size_t *count, size_t *place)
 {
   uint64_t bad = 0;
-  uint8_t answer = page_decode(text, length, lines, &bad);
+  uint8_t answer = by(trace, length, lines, &bad);
   riddlesage_status status;
 
   if (answer != DONE && answer != BAD_LEVEL) {
@@ -107,18 +111,31 @@ static riddlesage_status decode(const char *text, size_t length, struct lines *l
   return RIDDLESAGE_BAD_BYTE;
 }
 
+/* The same over room for the lines, which it takes. */
+static riddlesage_status decode_with_room(decoding *by, const uint8_t *trace, size_t length, char *out, size_t room,
+                                          size_t *count, size_t *place)
+{
+  struct lines *lines;
+  riddlesage_status status;
+
+  if (trace == NULL || out == NULL || count == NULL)
+    return RIDDLESAGE_NULL_POINTER;
+  lines = malloc(sizeof *lines);
+  if (lines == NULL)
+    return RIDDLESAGE_NO_MEMORY;
+  status = decode(by, trace, length, lines, out, room, count, place);
+  free(lines);
+  return status;
+}
+
 EXPORT riddlesage_status riddlesage_decode_trace(const char *text, size_t length, char *lines, size_t room,
                                                  size_t *count, size_t *place)
 {
-  struct lines *all;
-  riddlesage_status status;
+  return decode_with_room(page_decode, (const uint8_t *)text, length, lines, room, count, place);
+}
 
-  if (text == NULL || lines == NULL || count == NULL)
-    return RIDDLESAGE_NULL_POINTER;
-  all = malloc(sizeof *all);
-  if (all == NULL)
-    return RIDDLESAGE_NO_MEMORY;
-  status = decode(text, length, all, lines, room, count, place);
-  free(all);
-  return status;
+EXPORT riddlesage_status riddlesage_decode_levels(const uint8_t *levels, size_t length, char *lines, size_t room,
+                                                  size_t *count, size_t *place)
+{
+  return decode_with_room(page_decode_levels, levels, length, lines, room, count, place);
 }

@@ -2,9 +2,9 @@
 /// @brief riddlesage.h for C++20: a classical CAN controller at whole bit times, as a golden model.
 ///
 /// A Port frees itself, can be moved and kept in containers, and takes and gives enumerations and spans in place of
-/// numbers and pointers. Nothing throws but text(), run() and decode_trace(), where there is no memory for a text. A
-/// call that can be refused answers a Status, and nothing has changed where that is not Status::ok. What each call does
-/// stands in riddlesage.h; that is proved, and this header is not.
+/// numbers and pointers. Nothing throws but text(), run(), decode_trace() and decode_levels(), where there is no memory
+/// for a text. A call that can be refused answers a Status, and nothing has changed where that is not Status::ok. What
+/// each call does stands in riddlesage.h; that is proved, and this header is not.
 #ifndef RIDDLESAGE_HPP
 #define RIDDLESAGE_HPP
 
@@ -510,6 +510,17 @@ template <typename Call> [[nodiscard]] Written written(const Call &call)
   const char *const at = trace.empty() ? "" : trace.data();
   return detail::written([&](Written &to, std::size_t *count) {
     return riddlesage_decode_trace(at, trace.size(), to.text.data(), to.text.size(), count, &to.place);
+  });
+}
+
+/// Finds the frames and the faults in levels, and gives their lines: those of decode_trace() for their text. no_memory,
+/// and no_room where they have more than RIDDLESAGE_MOST_TEXT bytes.
+[[nodiscard]] inline Written decode_levels(std::span<const Level> levels)
+{
+  constexpr std::uint8_t nothing = 0;
+  const std::uint8_t *const at = levels.empty() ? &nothing : detail::bytes_of(levels);
+  return detail::written([&](Written &to, std::size_t *count) {
+    return riddlesage_decode_levels(at, levels.size(), to.text.data(), to.text.size(), count, &to.place);
   });
 }
 

@@ -63,6 +63,8 @@ void texts()
   want(decode_trace("111 000000").text == "3 fault C3 at 8\n" && decode_trace({}).text.empty(), "traces");
   const Written bad = decode_trace("0000001x0");
   want(bad.status == Status::bad_byte && bad.place == 7 && bad.text == "0 fault C3 at 5\n", "what is no level");
+  want(decode_levels(encode(some).levels()).text == "0 S 123 D 2 aa55 noack\n" && decode_levels({}).text.empty(),
+       "a trace by its levels");
 }
 
 void standings()

@@ -97,6 +97,9 @@ static void null_pointers(riddlesage_port *port)
   WANT(NULL_POINTER, riddlesage_decode_trace(NULL, 0, text, sizeof text, &count, &place));
   WANT(NULL_POINTER, riddlesage_decode_trace("", 0, NULL, sizeof text, &count, &place));
   WANT(NULL_POINTER, riddlesage_decode_trace("", 0, text, sizeof text, NULL, &place));
+  WANT(NULL_POINTER, riddlesage_decode_levels(NULL, 0, text, sizeof text, &count, &place));
+  WANT(NULL_POINTER, riddlesage_decode_levels(levels, 0, NULL, sizeof text, &count, &place));
+  WANT(NULL_POINTER, riddlesage_decode_levels(levels, 0, text, sizeof text, NULL, &place));
 }
 
 /* Frames with one field that is none of its values. */
@@ -352,6 +355,29 @@ static void texts(void)
   want(place == 99 ? RIDDLESAGE_OK : RIDDLESAGE_BAD_BYTE, RIDDLESAGE_OK, "a byte behind lines without room", __LINE__);
 }
 
+/* The same trace as levels; and each byte that is no level, also where it may stand in a text. */
+static void traces_of_levels(void)
+{
+  static const uint8_t trace[] = { 1, 1, 1, 0, 0, 0, 0, 0, 0 };
+  static const char lines[] = "3 fault C3 at 8\n";
+  uint8_t bad[] = { 0, 0, 0, 0, 0, 0, 1, 1, 0 };
+  unsigned byte;
+
+  WANT(OK, riddlesage_decode_levels(trace, sizeof trace, text, sizeof lines - 1, &count, NULL));
+  text[count] = '\0';
+  want_text(lines, text, __LINE__);
+  WANT(NO_ROOM, riddlesage_decode_levels(trace, sizeof trace, text, sizeof lines - 2, &count, &place));
+  WANT(OK, riddlesage_decode_levels(trace, 0, text, 0, &count, &place));
+  for (byte = 2; byte <= UINT8_MAX; byte++) {
+    bad[7] = (uint8_t)byte;
+    place = 99;
+    WANT(BAD_BYTE, riddlesage_decode_levels(bad, sizeof bad, text, sizeof text, &count, &place));
+    want(place == 7 ? RIDDLESAGE_OK : RIDDLESAGE_BAD_BYTE, RIDDLESAGE_OK, "the place of a byte", __LINE__);
+    text[count] = '\0';
+    want_text("0 fault C3 at 5\n", text, __LINE__);
+  }
+}
+
 int main(void)
 {
   riddlesage_port port = RIDDLESAGE_PORT_INIT;
@@ -371,6 +397,7 @@ int main(void)
   behind_the_longest();
   bad_scenarios();
   texts();
+  traces_of_levels();
   WANT(OK, riddlesage_port_free(&port));
   if (riddlesage_status_name((riddlesage_status)21) != NULL || riddlesage_event_name((riddlesage_event)12) != NULL ||
       riddlesage_phase_name((riddlesage_phase)15) != NULL || riddlesage_rule_name((riddlesage_rule)17) != NULL)

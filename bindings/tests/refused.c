@@ -72,10 +72,11 @@ static bool play_copy(void)
   return riddlesage_port_free(&one) == RIDDLESAGE_OK && riddlesage_port_free(&other) == RIDDLESAGE_OK && well;
 }
 
-/* A scenario is run and a trace decoded: the same. */
+/* A scenario is run, and a trace decoded by its text and its levels: the same. */
 static bool play_texts(void)
 {
   static const char scenario[] = "version = 1\nbits = 60\nport = [{ queue = [\"S 001 D 0\"], log = 1 }, { log = 1 }]\n";
+  static const uint8_t levels[] = { 1, 1, 1, 0, 0, 0, 0, 0, 0 };
   static char text[4096];
   size_t count;
   bool before = refused, well;
@@ -84,6 +85,9 @@ static bool play_texts(void)
   well = status == (refused != before ? RIDDLESAGE_NO_MEMORY : RIDDLESAGE_OK);
   before = refused;
   status = riddlesage_decode_trace("111 000000", 10, text, sizeof text, &count, NULL);
+  well = well && status == (refused != before ? RIDDLESAGE_NO_MEMORY : RIDDLESAGE_OK);
+  before = refused;
+  status = riddlesage_decode_levels(levels, sizeof levels, text, sizeof text, &count, NULL);
   return well && status == (refused != before ? RIDDLESAGE_NO_MEMORY : RIDDLESAGE_OK);
 }
 

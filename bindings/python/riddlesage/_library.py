@@ -77,6 +77,8 @@ _PORT = ctypes.POINTER(PlainPort)
 _FRAME = ctypes.POINTER(PlainFrame)
 _U8 = ctypes.POINTER(ctypes.c_uint8)
 _SIZE = ctypes.POINTER(ctypes.c_size_t)
+# What is read, with its length, and the room for a text, with what is taken of it.
+_DOCUMENT = (ctypes.c_char_p, ctypes.c_size_t, ctypes.c_char_p, ctypes.c_size_t, _SIZE)
 
 _PARAMETERS = {
     "riddlesage_port_idle": (_PORT, ctypes.c_size_t, ctypes.c_size_t),
@@ -94,22 +96,9 @@ _PARAMETERS = {
     "riddlesage_port_run": (_PORT, ctypes.c_char_p, ctypes.c_size_t, ctypes.c_char_p, ctypes.c_char_p),
     "riddlesage_encode": (_FRAME, ctypes.c_char_p, ctypes.c_size_t, _SIZE),
     "riddlesage_decode": (ctypes.c_char_p, ctypes.c_size_t, ctypes.POINTER(PlainHeard), _SIZE),
-    "riddlesage_run": (
-        ctypes.c_char_p,
-        ctypes.c_size_t,
-        ctypes.c_char_p,
-        ctypes.c_size_t,
-        _SIZE,
-        ctypes.c_char_p,
-    ),
-    "riddlesage_decode_trace": (
-        ctypes.c_char_p,
-        ctypes.c_size_t,
-        ctypes.c_char_p,
-        ctypes.c_size_t,
-        _SIZE,
-        _SIZE,
-    ),
+    "riddlesage_run": (*_DOCUMENT, ctypes.c_char_p),
+    "riddlesage_decode_trace": (*_DOCUMENT, _SIZE),
+    "riddlesage_decode_levels": (*_DOCUMENT, _SIZE),
 }
 
 for _name, _parameters in _PARAMETERS.items():

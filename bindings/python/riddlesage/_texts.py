@@ -3,7 +3,6 @@
 from __future__ import annotations
 
 import ctypes
-import io
 from collections.abc import Callable
 
 from riddlesage._buffers import Address, Buffer, bytes_at, is_whole, text_at
@@ -12,8 +11,6 @@ from riddlesage._library import FIELD_ROOM, lib
 
 # Room that most texts have enough of.
 _ROOM = 1 << 16
-# The digits of levels; what is none is no byte of a trace.
-_DIGITS = b"01" + b"?" * 254
 
 
 class BadScenario(RiddlesageError, ValueError):
@@ -61,17 +58,6 @@ def _buffer(given: Buffer) -> Buffer:
     return given if is_whole(given) else bytes(given)
 
 
-def _digits(levels: Buffer) -> bytes:
-    """The digits of levels, which the library reads."""
-    if isinstance(levels, bytes):
-        return levels.translate(_DIGITS)
-    digits = io.BytesIO()
-    with memoryview(levels) as view:
-        for start in range(0, len(view), _ROOM):
-            digits.write(bytes(view[start : start + _ROOM]).translate(_DIGITS))
-    return digits.getvalue()
-
-
 def run(scenario: str | Buffer) -> str:
     """Runs a scenario, a document in TOML, and gives its report: what `canbit run` writes."""
     field = ctypes.create_string_buffer(FIELD_ROOM)
@@ -86,12 +72,15 @@ def run(scenario: str | Buffer) -> str:
 def decode_trace(trace: str | Buffer) -> list[str]:
     """Finds the frames and the faults in a trace, and gives a line for each: those that `canbit decode` writes.
 
-    A `str` is a text of `0` and `1`, with blanks and line ends; `bytes` are levels, 0 and 1, of which the digits are
-    written for the call.
+    A `str` is a text of `0` and `1`, with blanks and line ends; `bytes` are levels, 0 and 1.
     """
     place = ctypes.c_size_t()
-    with text_at(trace) if isinstance(trace, str) else bytes_at(_digits(_buffer(trace))) as (document, length):
-        status, lines = _written(lib.riddlesage_decode_trace, document, length, place)
+    if isinstance(trace, str):
+        with text_at(trace) as (document, length):
+            status, lines = _written(lib.riddlesage_decode_trace, document, length, place)
+    else:
+        with bytes_at(_buffer(trace)) as (levels, length):
+            status, lines = _written(lib.riddlesage_decode_levels, levels, length, place)
     if status == Status.BAD_BYTE:
         raise BadByte(place.value, lines.splitlines())
     demand(status)

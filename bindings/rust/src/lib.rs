@@ -34,7 +34,7 @@ use std::fmt;
 
 pub use frame::{decode, encode, Fault, FaultKind, Frame, Heard, Level};
 pub use port::{Counters, Entry, Event, EventKind, Phase, Port, Rule, Standing, State};
-pub use text::{decode_trace, run, ScenarioFault, TraceFault};
+pub use text::{decode_levels, decode_trace, run, ScenarioFault, TraceFault};
 
 /// Why a call was refused; nothing has changed then.
 #[derive(Clone, Copy, Debug, PartialEq, Eq, Hash)]

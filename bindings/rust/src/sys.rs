@@ -103,5 +103,13 @@ extern "C" {
         count: *mut usize,
         place: *mut usize,
     ) -> Status;
+    pub fn riddlesage_decode_levels(
+        levels: *const u8,
+        length: usize,
+        lines: *mut u8,
+        room: usize,
+        count: *mut usize,
+        place: *mut usize,
+    ) -> Status;
     pub fn riddlesage_version() -> *const c_char;
 }

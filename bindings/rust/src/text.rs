@@ -3,7 +3,7 @@
 use std::error::Error;
 use std::fmt;
 
-use crate::sys;
+use crate::{sys, Level};
 
 /// Room that most texts have enough of.
 const ROOM: usize = 1 << 16;
@@ -120,11 +120,30 @@ pub fn decode_trace(trace: &str) -> Result<String, TraceFault> {
             sys::riddlesage_decode_trace(trace.as_ptr(), trace.len(), text.as_mut_ptr(), text.len(), count, &mut place)
         }
     });
+    decoded(status, place, lines)
+}
+
+/// A line for each frame and each fault in levels: what [`decode_trace`] gives for their text.
+///
+/// # Errors
+///
+/// [`TraceFault`], but no bad byte.
+pub fn decode_levels(levels: &[Level]) -> Result<String, TraceFault> {
+    let (at, mut place) = (levels.as_ptr().cast(), 0);
+    let (status, lines) = written(|text, count| {
+        // SAFETY: as for a run, and a Level is a byte
+        unsafe { sys::riddlesage_decode_levels(at, levels.len(), text.as_mut_ptr(), text.len(), count, &mut place) }
+    });
+    decoded(status, place, lines)
+}
+
+/// The lines of a trace, or why these are not all.
+fn decoded(status: sys::Status, place: usize, lines: String) -> Result<String, TraceFault> {
     match status {
         sys::OK => Ok(lines),
         sys::NO_MEMORY => Err(TraceFault::NoMemory),
         sys::NO_ROOM => Err(TraceFault::TooLong),
         sys::BAD_BYTE => Err(TraceFault::BadByte { place, lines }),
-        _ => unreachable!("riddlesage_decode_trace answers {status}"),
+        _ => unreachable!("a trace is answered {status}"),
     }
 }

@@ -1,8 +1,8 @@
 //! What the crate adds to `riddlesage.h`: types, refusals, ports that move and go to threads.
 
 use riddlesage::{
-    decode, decode_trace, encode, run, version, Counters, Entry, Event, EventKind, FaultKind, Frame, Level, Phase,
-    Port, Refused, Rule, ScenarioFault, Standing, State, TraceFault,
+    decode, decode_levels, decode_trace, encode, run, version, Counters, Entry, Event, EventKind, FaultKind, Frame,
+    Level, Phase, Port, Refused, Rule, ScenarioFault, Standing, State, TraceFault,
 };
 
 fn frame() -> Frame {
@@ -109,6 +109,8 @@ fn texts() {
     assert_eq!(decode_trace("111 000000\n").as_deref(), Ok("3 fault C3 at 8\n"));
     let fault = TraceFault::BadByte { place: 7, lines: "0 fault C3 at 5\n".to_string() };
     assert_eq!(decode_trace("0000001x0"), Err(fault));
+    assert_eq!(decode_levels(&[Level::Dominant; 7]).as_deref(), Ok("0 fault C3 at 5\n"));
+    assert_eq!(decode_levels(&[]).as_deref(), Ok(""));
 }
 
 #[test]
