@@ -4,6 +4,7 @@ from __future__ import annotations
 
 import functools
 import pathlib
+import re
 import subprocess
 
 TOP = pathlib.Path(__file__).resolve().parents[2]
@@ -36,6 +37,11 @@ def commit() -> str:
 def commit_time() -> int:
     """When it was made, in seconds: the time of all files of a release."""
     return int(told("git", "log", "-1", "--format=%ct"))
+
+
+def kits() -> list[str]:
+    """The kits of the toolchain by which all was proved, as README names them."""
+    return sorted(set(re.findall(r"`(rattle-kit-\w+)`", (TOP / "README.md").read_text("utf-8"))))
 
 
 @functools.cache
