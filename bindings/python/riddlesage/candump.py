@@ -1,0 +1,184 @@
+"""The lines of candump, which is of Linux' can-utils, and the frames in them.
+
+    python3 -m riddlesage.candump texts [FILE]     candump's lines as frame texts, as `canbit encode` takes them
+    python3 -m riddlesage.candump lines [FILE]     frame texts as candump's lines, as `cansend` takes them
+
+    >>> from riddlesage import Frame
+    >>> from riddlesage.candump import read_line, text_of
+    >>> read_line("(1436509052.249713) vcan0 123#AB01").what.text
+    'S 123 D 2 ab01'
+    >>> text_of(Frame.from_text("S 123 D 2 ab01"))
+    '123#AB01'
+
+A line is one of a log, as above; one of the screen, `vcan0  123   [2]  AB 01`, with what candump's options -a, -t and
+-x add; or a frame alone, `123#AB01`. A DLC above 8 is written as can-utils do since 2021, `123#0102030405060708_9`.
+"""
+
+from __future__ import annotations
+
+import argparse
+import datetime
+import enum
+import functools
+import re
+from collections.abc import Callable, Sequence
+from typing import NamedTuple
+
+from riddlesage._commands import Refusals, end_with, lines_of
+from riddlesage._frames import Frame, RiddlesageError
+
+_IDENTIFIER = r"(?P<identifier>[0-9A-Fa-f]{3}|[0-9A-Fa-f]{8})"
+_LOGGED = re.compile(rf"(?:\((?P<time>[^)]+)\) +(?P<channel>\S+) +)?{_IDENTIFIER}#(?P<content>\S*)(?: +[RT])?")
+_SHOWN = re.compile(
+    rf"(?:\((?P<time>[^)]+)\) +)?(?P<channel>\S+) +(?:[RT]X [B-] [E-] +)?{_IDENTIFIER} +"
+    r"(?:\[(?P<length>[0-9]{1,2})\]|\{(?P<dlc>[0-9A-F])\}) *(?P<content>.*)"
+)
+_SHOWN_DATA = re.compile(r"((?:[0-9A-F]{2} )*(?:[0-9A-F]{2})?)(?: *'.*')?")
+_SECONDS = re.compile(r"([0-9]{1,18})\.([0-9]+)")
+_REMOTE = re.compile(r"[Rr]([0-8]?)(?:(?<=8)_([9A-Fa-f]))?")
+_DATA = re.compile(r"((?:\.?[0-9A-Fa-f]{2})*)(?:_([9A-Fa-f]))?")
+# Linux marks its error frames by this bit of the identifier.
+_ERROR = 1 << 29
+_EPOCH = datetime.datetime(1970, 1, 1)
+
+
+class BadLine(RiddlesageError, ValueError):
+    """A line that is none of candump's."""
+
+
+class Other(enum.Enum):
+    """What a line may tell of besides a classical frame."""
+
+    ERROR = "an error frame"
+    FD = "a CAN FD frame"
+
+
+class Line(NamedTuple):
+    """A line: its time in nanoseconds, its channel, and the frame, or what else it tells of."""
+
+    time: int | None
+    channel: str
+    what: Frame | Other
+
+
+def read_line(line: str) -> Line:
+    """What a line tells. One that can't be read is a BadLine, a ValueError."""
+    line = line.strip()
+    found = _LOGGED.fullmatch(line)
+    if found:
+        what = _read_frame(found["identifier"], found["content"])
+    else:
+        found = _SHOWN.fullmatch(line)
+        if not found:
+            raise BadLine("this is no line of candump")
+        what = _shown_frame(found)
+    return Line(_nanoseconds(found["time"]) if found["time"] else None, found["channel"] or "", what)
+
+
+def is_empty(line: str) -> bool:
+    """Whether a line tells nothing by itself: it is blank, or words of candump's option -e on the error frame above."""
+    return not line.strip() or line.startswith("\t")
+
+
+def text_of(frame: Frame) -> str:
+    """The frame as in candump's log, `123#AB01`."""
+    identifier = f"{frame.identifier:08X}" if frame.extended else f"{frame.identifier:03X}"
+    length = min(frame.dlc, 8)
+    content = f"R{length or ''}" if frame.remote else frame.data.hex().upper()
+    return f"{identifier}#{content}" + (f"_{frame.dlc:X}" if frame.dlc > length else "")
+
+
+# frames come again and again, and their identifiers and data with them
+@functools.lru_cache(maxsize=1 << 16)
+def _read_frame(identifier: str, content: str) -> Frame | Other:
+    """The frame of what stands before and behind the first `#`."""
+    if _is_error(identifier):
+        return Other.ERROR
+    if content.startswith("#"):
+        return Other.FD
+    remote, data = _REMOTE.fullmatch(content), _DATA.fullmatch(content)
+    if remote:
+        return _made(identifier, b"", int(remote[2] or remote[1] or "0", 16), True)
+    if not data:
+        raise BadLine(f"this is no frame: {identifier}#{content}")
+    given = bytes.fromhex(data[1].replace(".", ""))
+    return _made(identifier, given, int(data[2], 16) if data[2] else len(given), False)
+
+
+def _shown_frame(found: re.Match[str]) -> Frame | Other:
+    """The frame of a line of the screen."""
+    identifier, length, content = found["identifier"], found["length"] or "", found["content"]
+    if _is_error(identifier):
+        return Other.ERROR
+    if len(length) == 2:
+        return Other.FD
+    dlc = int(length or found["dlc"], 16)
+    if content == "remote request":
+        return _made(identifier, b"", dlc, True)
+    data = _SHOWN_DATA.fullmatch(content)
+    if not data:
+        raise BadLine(f"these are no bytes of data: {content}")
+    return _made(identifier, bytes.fromhex(data[1]), dlc, False)
+
+
+def _is_error(identifier: str) -> bool:
+    return len(identifier) > 3 and bool(int(identifier, 16) & _ERROR)
+
+
+def _made(identifier: str, data: bytes, dlc: int, remote: bool) -> Frame:
+    try:
+        return Frame(int(identifier, 16), data, len(identifier) > 3, remote, dlc)
+    except ValueError as refused:
+        raise BadLine(f"this is no frame: {refused}") from refused
+
+
+def _nanoseconds(time: str) -> int:
+    """A time in seconds, or with its date."""
+    found = _SECONDS.fullmatch(time)
+    if found:
+        return int(found[1]) * 10**9 + int(f"{found[2]:0<9.9}")
+    try:
+        return (datetime.datetime.fromisoformat(time) - _EPOCH) // datetime.timedelta(microseconds=1) * 1000
+    except (ValueError, TypeError) as refused:
+        raise BadLine(f"this is no time: {time}") from refused
+
+
+def _as_text(line: str) -> str:
+    """The frame text of a line."""
+    what = read_line(line).what
+    if isinstance(what, Other):
+        raise BadLine(f"{what.value} has no frame text")
+    return what.text
+
+
+def _as_line(text: str) -> str:
+    """The line of a frame text."""
+    return text_of(Frame.from_text(text))
+
+
+_DIRECTIONS: dict[str, Callable[[str], str]] = {"texts": _as_text, "lines": _as_line}
+
+
+def main(words: Sequence[str] | None = None) -> int:
+    """Turns each line of a file into its counterpart. One that has none is refused, and the others are written."""
+    parser = argparse.ArgumentParser(
+        prog="python3 -m riddlesage.candump",
+        description="Turns the lines of candump into frame texts, or frame texts into lines of candump.",
+        epilog="A line that can't be turned is told on standard error, and the status is 1 then.",
+    )
+    parser.add_argument("into", choices=tuple(_DIRECTIONS), help="S 123 D 2 ab01, or 123#AB01")
+    parser.add_argument("file", metavar="FILE", nargs="?", default="-", help="standard input where there is none")
+    options = parser.parse_args(words)
+    refusals = Refusals(options.file)
+    for number, line in lines_of(options.file):
+        if is_empty(line):
+            continue
+        try:
+            print(_DIRECTIONS[options.into](line))
+        except ValueError as refused:
+            refusals.add(number, str(refused))
+    return refusals.end()
+
+
+if __name__ == "__main__":
+    end_with(main)

@@ -1,0 +1,29 @@
+/*
+ * Tells how many frames a log of candump has, and how many bit times they take of a bus, by can-utils' own reading of
+ * its lines and its can_frame_length(.., CFL_EXACT, ..), by which canbusload -e reckons.
+ *
+ *     cc -I CAN-UTILS log_lengths.c CAN-UTILS/canframelen.c CAN-UTILS/lib.c
+ */
+#include <linux/can.h>
+#include <stdio.h>
+#include <stdlib.h>
+#include <string.h>
+
+#include "canframelen.h"
+#include "lib.h"
+
+int main(void)
+{
+  unsigned long frames = 0, bits = 0;
+  char line[256], text[256];
+  struct canfd_frame frame;
+
+  while (fgets(line, sizeof line, stdin) != NULL) {
+    if (sscanf(line, "(%*u.%*u) %*s %255s", text) != 1 || parse_canframe(text, &frame) != CAN_MTU)
+      return EXIT_FAILURE;
+    frames++;
+    bits += can_frame_length(&frame, CFL_EXACT, CAN_MTU);
+  }
+  printf("frames %lu bits %lu\n", frames, bits);
+  return EXIT_SUCCESS;
+}
