@@ -1,0 +1,71 @@
+-- What is still to come of a frame's stuffed part, by what was heard last, and by the check sequence that the frame has if
+-- only dominant data come. (Bosch CAN 2.0 part B, sections 3.2.1 and 6)
+use Rattle.std.proofs.Props.{props}
+use Rattle.std.specs.Prelude.{ℕ, zero, suc, ◌≡◌, ◌+◌, ◌*◌, ◌^◌, ◌<◌, ◌==◌, max, if◌then◌else◌, List, ◌∷◌, ◌++◌, length, replicate, slice_get, Some}
+use Rattle.can_frame.specs.declared.level.Level.{Level}
+use Rattle.can_frame.specs.declared.level.Level.TheVariants.{Dominant, Recessive}
+use Rattle.can_frame.specs.Levels.{bits_of, opposite}
+use Rattle.can_wire.specs.Crc.{xor, crc_of}
+use Rattle.can_wire.specs.Stuffing.{run_after, stuffed_from}
+use Rattle.can_longest.specs.declared.rows.Ahead.{Ahead}
+use Rattle.can_longest.specs.declared.rows.Row.{Row}
+
+-- One level more, behind a run of this level and length.
+
+-- how many levels it is with its stuff bit
+abbrev pub wire_of : Level → ℕ → Level → ℕ
+wire_of last run x = if run_after last run x == 5 then 2 else 1
+
+-- the last of these
+abbrev pub next_last : Level → ℕ → Level → Level
+next_last last run x = if run_after last run x == 5 then opposite x else x
+
+-- and the length of the run that it ends
+abbrev pub next_run : Level → ℕ → Level → ℕ
+next_run last run x = if run_after last run x == 5 then 1 else run_after last run x
+
+-- the check sequence that was this one with a dominant level where x comes, and then k levels more
+abbrev pub next_check : ℕ → List Level → Level → List Level
+next_check k check x = xor check (crc_of (x ∷ replicate k Dominant))
+
+-- how many levels come where the frame's rest is d, with the check sequence and all stuff bits
+unfoldable pub to_come : Level → ℕ → List Level → List Level → ℕ
+to_come last run check d = length (stuffed_from last run (d ++ xor check (crc_of d)))
+
+-- how many come at most where k levels and the check sequence come
+unfoldable pub most : ℕ → Level → ℕ → List Level → ℕ
+most zero last run check = length (stuffed_from last run check)
+most (suc k) last run check =
+    max (wire_of last run Dominant + most k (next_last last run Dominant) (next_run last run Dominant) (next_check k check Dominant))
+    (wire_of last run Recessive + most k (next_last last run Recessive) (next_run last run Recessive) (next_check k check Recessive))
+
+-- what comes at most where the first of the levels is x
+abbrev pub most_with : ℕ → Level → ℕ → List Level → Level → ℕ
+most_with k last run check x = wire_of last run x + most k (next_last last run x) (next_run last run x) (next_check k check x)
+
+-- the sum of two check sequences that are opposite at each place, behind k levels that are
+unfoldable pub turned : ℕ → List Level
+turned zero = replicate 15 Recessive
+turned (suc k) = next_check k (turned k) Recessive
+
+-- The table: by the check sequence, how many levels come at most behind one to four dominant levels.
+pub record IsAhead (k : ℕ) (check : List Level) (a : Ahead) : Type 0 where
+  pub one : a.one ≡ most k Dominant 1 check
+  pub two : a.two ≡ most k Dominant 2 check
+  pub three : a.three ≡ most k Dominant 3 check
+  pub four : a.four ≡ most k Dominant 4 check
+
+-- its row for k levels
+pub record IsRow (k : ℕ) (row : Row) : Type 0 where
+  pub turned : bits_of 15 row.turned ≡ turned k
+  pub range : row.turned < 2 ^ 15
+  pub full : length row.ahead.items ≡ 2 ^ 15
+  pub each : (check : ℕ) (a : Ahead) → slice_get row.ahead.items check ≡ Some a → IsAhead k (bits_of 15 check) a
+
+-- the rows of none to n - 1 bytes
+pub record AreRows (n : ℕ) (rows : List Row) : Type 0 where
+  pub full : length rows ≡ n
+  pub each : (k : ℕ) (row : Row) → slice_get rows k ≡ Some row → IsRow (8 * k) row
+
+pub AreRows-prop : (n : ℕ) (rows : List Row) → IsProp (AreRows n rows)
+AreRows-prop n rows = hlevel props
