@@ -1,5 +1,3 @@
--- how long a frame keeps the bus
-pub mod Lengths
 -- lists of releases: tests of fields, and how many there are in a stretch of bit times
 pub mod FieldTests
 pub mod Counts

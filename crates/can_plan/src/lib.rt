@@ -1,7 +1,7 @@
 //! How late a frame can be on a network: the response time analysis of messages, proved of the course of the bus.
 //!
 //! A [`Message`] is released again and again, and keeps the bus no longer than it says ([`longest_busy`] tells it for
-//! an identifier, a kind and a DLC). Hits that all ports see fall no more often than a [`HitRate`] allows.
+//! an identifier, a kind and a DLC, exactly). Hits that all ports see fall no more often than a [`HitRate`] allows.
 //! [`response_bound`] answers how long behind a frame's release its wire ends at most, on every course of the bus.
 //!
 //! | File | What it has | Defined in |

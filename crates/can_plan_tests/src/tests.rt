@@ -1,4 +1,5 @@
 use can_frame::Frame;
+use can_longest::LongestWires;
 use can_plan::{
     Borne, HitRate, Message, Response, borne_for, longest_busy, response_after, response_bound,
 };
@@ -34,7 +35,7 @@ const BOUNDS: [Row; 8] = [
         (0, 0),
         [Some(18), Some(29), Some(30)],
     ),
-    // each frame of seven data bytes, at 125 kbit/s
+    // an eighth of the first, rounded down
     (
         [(125, 312, 0), (125, 437, 0), (125, 437, 0)],
         (0, 0),
@@ -156,31 +157,22 @@ fn messages_keep_the_bus_so_long(rt: HostRuntime) -> Result<(), Fail> {
     Ok(())
 }
 
-/// A frame, and how long each of its identifier, kind and DLC keeps the bus at most: 34 or 54 levels and eight for each byte, all
-/// stuff bits that there can be, or those that there are where it has no data, and thirteen levels behind them.
-const LONGEST: &[(&str, u16)] = &[
-    ("S 000 D 0", 53),
-    ("S 000 R 8", 52),
-    ("S 123 R 3", 47),
-    ("S 7ff R 15", 50),
-    ("E 1fffffff D 0", 74),
-    ("S 555 D 1 61", 65),
-    ("S 555 D 8 0000000000000000", 135),
-    ("E 00000005 D 15 3132333435363738", 160),
-];
+/// A frame of each message, and how long its longest frame keeps the bus: the wire, and three bit times of intermission.
+const LONGEST: &[(&str, u16)] = &[("S 123 R 3", 47), ("S 123 D 2 0000", 69)];
 
-/// Whether frames like this one keep the bus no longer.
-fn is_longest(text: &str, longest: u16) -> bool {
+/// Whether frames like this one keep the bus so long at most.
+fn is_longest(wires: &LongestWires, text: &str, longest: u16) -> bool {
     match Frame::from_text(text.as_bytes()) {
-        Ok(frame) => longest_busy(frame.id(), frame.is_remote(), frame.dlc()) == longest,
+        Ok(frame) => longest_busy(wires, frame.id(), frame.is_remote(), frame.dlc()) == longest,
         Err(_) => false,
     }
 }
 
 #[test]
 fn frames_are_as_long_as_can_be(rt: HostRuntime) -> Result<(), Fail> {
+    let wires = LongestWires::new(rt.alloc())?;
     for (text, longest) in LONGEST {
-        assert!(rt; is_longest(text, *longest), "{text}");
+        assert!(rt; is_longest(&wires, text, *longest), "{text}");
     }
     Ok(())
 }

@@ -6,10 +6,9 @@ use Rattle.toml.specs.Data.{Data, string, integer}
 use Rattle.can_frame.specs.Arbitration.{arbitration_field}
 use Rattle.can_frame.specs.Parts.{Parts, IsFrame, byte_count}
 use Rattle.can_frame.specs.Text.{frame_text}
-use Rattle.can_bus.specs.Quiet.{busy_time}
 use Rattle.can_plan.specs.declared.message.HitRate.{HitRate}
 use Rattle.can_plan.specs.declared.message.Message.{Message}
-use Rattle.can_plan.specs.FramesOf.{IsFrameOf, longest_with}
+use Rattle.can_plan.specs.FramesOf.{IsLongestBusy}
 use Rattle.can_plan.specs.Messages.{IsMessageSet}
 use Rattle.document_values.specs.Demands.{Demands, no_demands, demand, followed, demands_on_each, AllMet}
 use Rattle.document_values.specs.Refusals.{IsWrongField}
@@ -158,18 +157,11 @@ pub record SaysFields (d : Data) (said : Fields) : Type 0 where
   pub jitter : SaysNumber 0 (named (codes "jitter") d) said.jitter
   pub deadline : SaysNumber said.period (named (codes "deadline") d) said.deadline
 
--- No frame with this head and this DLC keeps the bus longer. Without data it is exactly so long, and with data as long as
--- with the most stuff bits.
-pub record IsLongest (head : Parts) (dlc longest : ℕ) : Type 0 where
-  pub bound : (f : Parts) → IsFrameOf head.id head.remote dlc f → busy_time f ≤ longest
-  pub exact : (f : Parts) → IsFrameOf head.id head.remote dlc f → f.bytes ≡ [] → busy_time f ≡ longest
-  pub full : byte_count head.remote dlc ≢ 0 → longest ≡ longest_with head.id.extended (byte_count head.remote dlc)
-
 -- the message of these fields, in bit times
 pub record IsPlanned (rate : ℕ) (said : Fields) (planned : Planned) : Type 0 where
   pub head : planned.head ≡ said.head
   pub dlc : planned.dlc ≡ said.dlc
-  pub longest : IsLongest said.head said.dlc planned.message.longest
+  pub longest : IsLongestBusy said.head.id said.head.remote said.dlc planned.message.longest
   pub period : planned.message.period ≡ bits_down rate said.period
   pub jitter : planned.message.jitter ≡ bits_up rate said.jitter
   pub deadline : planned.deadline ≡ bits_down rate said.deadline

@@ -16,6 +16,7 @@ use crate::plan::Planned;
 use crate::times::{bits_down, bits_up};
 use arrayvec::ArrayVec;
 use can_frame::Frame;
+use can_longest::LongestWires;
 use can_plan::{Message, longest_busy};
 use document_values::{field, fields_of, has_only, number, number_or};
 use std::alloc::Global;
@@ -36,6 +37,7 @@ const LONGEST_TEXT: usize = 32;
 /// The messages that these tables say, one after another.
 pub(crate) fn read_messages(
     alloc: Global,
+    wires: &LongestWires,
     rate: u32,
     tables: &[Value],
 ) -> Result<Vec<Planned>, PlanFault>
@@ -46,13 +48,18 @@ pub(crate) fn read_messages(
 {
     let mut listed = Vec::new(alloc);
     for (place, value) in tables.iter().enumerate() {
-        listed.push(read_message(place, rate, value)?)?;
+        listed.push(read_message(wires, place, rate, value)?)?;
     }
     Ok(listed)
 }
 
 /// The message at this place, whose table this is.
-fn read_message(place: usize, rate: u32, value: &Value) -> Result<Planned, PlanFault>
+fn read_message(
+    wires: &LongestWires,
+    place: usize,
+    rate: u32,
+    value: &Value,
+) -> Result<Planned, PlanFault>
     requires { rate ≤ 1000000 }
     ensures said { IfOk result (SaysMessage rate (view value.now)) }
     ensures met { OnOk result (AllMet (message_demands rate place (view value.now))) }
@@ -60,7 +67,7 @@ fn read_message(place: usize, rate: u32, value: &Value) -> Result<Planned, PlanF
 {
     let fields = fields_of(value).ok_or(PlanFault::of_message(place, MessageField::Table))?;
     let said = read_fields(place, rate, fields)?;
-    Ok(planned(rate, &said))
+    Ok(planned(wires, rate, &said))
 }
 
 /// What the fields of a message say. Times are as the document has them.
@@ -78,6 +85,7 @@ fn read_fields(place: usize, rate: u32, fields: &Table) -> Result<Fields, PlanFa
     requires { rate ≤ 1000000 }
     ensures said { IfOk result (SaysFields (table (table_view fields.now))) }
     ensures periodic { IfOk result (λ said. 0 < bits_within rate said.period) }
+    ensures dlc { IfOk result (λ said. said.dlc < 16) }
     ensures met { OnOk result (AllMet (fields_demands rate place (table (table_view fields.now)))) }
     ensures unmet { (wrong : Wrong) → IsErrOf result (PlanFault.Field wrong) → IsFirstUnmet wrong (fields_demands rate place (table (table_view fields.now))) }
 {
@@ -139,8 +147,9 @@ fn period(rate: u32, fields: &Table) -> Option<u32>
 }
 
 /// The message whose fields say this, in whole bit times.
-fn planned(rate: u32, said: &Fields) -> Planned
+fn planned(wires: &LongestWires, rate: u32, said: &Fields) -> Planned
     requires slow { rate ≤ 1000000 }
+    requires dlc { said.now.dlc < 16 }
     requires periodic { 0 < bits_within rate said.now.period }
     ensures { IsPlanned rate said.now result }
 {
@@ -149,7 +158,7 @@ fn planned(rate: u32, said: &Fields) -> Planned
         dlc: said.dlc,
         message: Message {
             field: said.head.key(),
-            longest: longest_busy(said.head.id(), said.head.is_remote(), said.dlc),
+            longest: longest_busy(wires, said.head.id(), said.head.is_remote(), said.dlc),
             period: bits_down(rate, said.period),
             jitter: bits_up(rate, said.jitter),
         },

@@ -7,6 +7,7 @@ use crate::fault::PlanFault;
 use crate::messages::read_messages;
 use crate::order::in_order;
 use can_frame::Frame;
+use can_longest::LongestWires;
 use can_plan::{HitRate, Message};
 use std::alloc::Global;
 
@@ -59,7 +60,8 @@ impl Plan {
     {
         let document = document::parse(alloc, text)?;
         let top = document::read_top(&document)?;
-        let listed = read_messages(alloc, top.rate, top.messages)?;
+        let wires = LongestWires::new(alloc)?;
+        let listed = read_messages(alloc, &wires, top.rate, top.messages)?;
         let messages = in_order(alloc, &listed)?;
         Ok(Plan {
             rate: top.rate,
