@@ -8,6 +8,7 @@ from __future__ import annotations
 from collections.abc import Callable
 from typing import NamedTuple
 
+from longest_frames import longest_wire
 from repair_claims import INTERMISSION, Frame, spelled
 
 
@@ -37,10 +38,7 @@ def busy_time(frame: Frame) -> int:
 
 def longest_busy(frame: Frame) -> int:
     """How long a frame with this identifier, of this kind and with this DLC keeps the bus at most."""
-    count = 0 if frame.remote else min(frame.dlc, 8)
-    if count == 0:
-        return busy_time(frame._replace(data=b""))
-    return (80 if frame.extended else 55) + 10 * count
+    return longest_wire(frame) + len(INTERMISSION)
 
 
 def arrivals(message: Message, long: int) -> int:
