@@ -18,22 +18,22 @@ const NETWORK = `version = 1
 [[message]]
 frame = "S 300 D"
 dlc = 7
-period = 437
+period = 427
 [[message]]
 frame = "S 100 D"
 dlc = 7
-period = 312
+period = 303
 [[message]]
 frame = "S 200 D"
 dlc = 7
-period = 437
-deadline = 370
+period = 427
+deadline = 360
 `;
-const ANSWER = `network messages 3 load 0.972 rate 0
-S 100 D 7 longest 125 blocking 124 bound 246 deadline 312 slack 66 ok
-S 200 D 7 longest 125 blocking 124 bound 371 deadline 370 late
-S 300 D 7 longest 125 blocking 0 bound 435 deadline 437 slack 2 ok
-load 0.972 late 1 of 3
+const ANSWER = `network messages 3 load 0.971 rate 0
+S 100 D 7 longest 122 blocking 121 bound 240 deadline 303 slack 63 ok
+S 200 D 7 longest 121 blocking 121 bound 361 deadline 360 late
+S 300 D 7 longest 122 blocking 0 bound 422 deadline 427 slack 5 ok
+load 0.971 late 1 of 3
 `;
 
 /** What a call is given: a text, levels by their digits, bytes; room for so many bytes; a place for a number, or what is told. */
@@ -121,14 +121,14 @@ const ROWS = [
   [...portTimes('bits = 1', 0, 60), 6, { count: 99 }],
 
   [...plan(NETWORK), 0, { lines: ANSWER, late: 1 }],
-  [...plan(NETWORK.replace('370', '371')), 0, { late: 0 }],
+  [...plan(NETWORK.replace('360', '361')), 0, { late: 0 }],
   ...[
     ['', 'version', 0, 0], ['', 'version = 2', 2, 0], ['rate = 1000001', '', 3, 0], ['', 'errors = 1', 4, 0], ['', '[errors]\nspace = 1', 5, 0], ['', '[errors]\nburst = 65536', 6, 0],
     ['', '[errors]\nspacing = -1', 7, 0], ['', 'message = []', 8, 0], ['', 'message = [1]', 9, 0], ['', '[[message]]\nframes = 1', 10, 0],
   ].map(([before, behind, field, place]) => [...plan(`${before}\n${field === 2 ? '' : 'version = 1'}\n${behind}\n`), 9, { late: 99, 'wrong 16': field, 'wrong 0': place, 'wrong 8': 0 }]),
   ...[
-    ['period = 312', '', 13, 1], ['frame = "S 100 D"', 'frame = "S 100 D 7"', 11, 1], ['frame = "S 100 D"', 'frame = "S 300 D"', 16, 1], ['dlc = 7', 'dlc = 16', 12, 0],
-    ['deadline = 370', 'deadline = -1', 15, 2], ['deadline = 370', 'jitter = 4294967296', 14, 2],
+    ['period = 303', '', 13, 1], ['frame = "S 100 D"', 'frame = "S 100 D 7"', 11, 1], ['frame = "S 100 D"', 'frame = "S 300 D"', 16, 1], ['dlc = 7', 'dlc = 16', 12, 0],
+    ['deadline = 360', 'deadline = -1', 15, 2], ['deadline = 360', 'jitter = 4294967296', 14, 2],
   ].map(([right, wrong, field, place]) => [...plan(NETWORK.replace(right, wrong)), 9, { late: 99, 'wrong 16': field, 'wrong 0': place, 'wrong 8': 0 }]),
 ];
 

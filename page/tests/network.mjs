@@ -8,23 +8,23 @@ import { longestTask } from './tasks.mjs';
 
 const names = (folder) => readdirSync(folder).filter((name) => name.endsWith('.toml')).sort().map((name) => name.slice(0, -'.toml'.length));
 
-/** Three messages of C = 125, of which the first meets its deadline exactly, the second misses it by a bit time, and the third too. */
+/** Three messages of C = 122, 121 and 122, of which the first meets its deadline exactly, the second misses it by a bit time, and the third too. */
 const EDGES = `version = 1
 [[message]]
 frame = "S 300 D"
 dlc = 7
-period = 437
+period = 427
 deadline = 200
 [[message]]
 frame = "S 200 D"
 dlc = 7
-period = 437
-deadline = 370
+period = 427
+deadline = 360
 [[message]]
 frame = "S 100 D"
 dlc = 7
-period = 312
-deadline = 246
+period = 303
+deadline = 240
 `;
 
 export const networkTests = [
@@ -58,12 +58,12 @@ export const networkTests = [
   ['bounds and deadlines are shown as they were worked out by hand', async ({ open }) => {
     const page = await networkShown(open, EDGES);
     assert.deepEqual(await bounds(page), [
-      ['S 100 D 7', '125', '124', '246', '246', 'ok, slack 0'], ['S 200 D 7', '125', '124', '371', '370', '▲ late'], ['S 300 D 7', '125', '0', '435', '200', '▲ late'],
+      ['S 100 D 7', '122', '121', '240', '240', 'ok, slack 0'], ['S 200 D 7', '121', '121', '361', '360', '▲ late'], ['S 300 D 7', '122', '0', '422', '200', '▲ late'],
     ]);
-    assert.match(await page.get("document.getElementById('network-told').textContent"), /^Load 0\.972, 2 of 3 messages late: deadlines missed\. Answered in \d+ ms\.$/);
+    assert.match(await page.get("document.getElementById('network-told').textContent"), /^Load 0\.971, 2 of 3 messages late: deadlines missed\. Answered in \d+ ms\.$/);
     assert.equal(await page.get("document.getElementById('network-borne').textContent"), 'No hits: the document has no errors.');
     const bars = await page.run(() => [...document.querySelectorAll('#network-bounds .bar')].map((bar) => ['bound', 'beyond', 'cut'].map((part) => bar.querySelector(`.${part}`)?.getAttribute('width') ?? bar.querySelectorAll(`.${part}`).length)));
-    // the deadline is at 48 %, and 371 of 370 go 0.1 % beyond it, of which 2 % are drawn; 435 of 200 are cut at 96 %
+    // the deadline is at 48 %, and 361 of 360 go 0.3 % beyond it, of which 2 % are drawn; 422 of 200 are cut at 96 %
     assert.deepEqual(bars, [['48%', 0, 0], ['48%', '2%', 0], ['48%', '48%', 1]]);
   }],
   ['a message with no bound is late, and told so', async ({ open }) => {
