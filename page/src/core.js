@@ -21,8 +21,10 @@ const LINES_FRONT = 9;
 export const TIME_BYTES = 10;
 const WRONG_BYTES = 24;
 
-/** No scenario has more bit times, and no document is longer that the page takes. */
-const MOST_TIMES = 1000000;
+/** So many bit times of ports are told at once: a scenario has half as many bit times, so those of a port always are. */
+export const MOST_TIMES = 2000000;
+
+/** No document is longer that the page takes. */
 export const MOST_DOCUMENT = 1024 * 1024;
 
 /** What a call answers (`Answer` of can_page). */
@@ -266,6 +268,20 @@ export class Core {
     const slice = this.put(rooms.text, text);
     this.calls.page_heap_begin(rooms.next);
     const answer = this.calls.page_port_times(...slice, node, rooms.times, MOST_TIMES, rooms.count);
+    const count = answer === ANSWER.done ? this.number(rooms.count) : 0;
+    return { answer, times: this.copy(rooms.times, count * TIME_BYTES) };
+  }
+
+  /**
+   * What each port of a scenario does in each bit time, port behind port; there is room for MOST_TIMES in all.
+   * @param {Uint8Array} text
+   * @returns {{answer: number, times: Uint8Array}}
+   */
+  allPortTimes(text) {
+    const { rooms } = this;
+    const slice = this.put(rooms.text, text);
+    this.calls.page_heap_begin(rooms.next);
+    const answer = this.calls.page_all_port_times(...slice, rooms.times, MOST_TIMES, rooms.count);
     const count = answer === ANSWER.done ? this.number(rooms.count) : 0;
     return { answer, times: this.copy(rooms.times, count * TIME_BYTES) };
   }

@@ -1,5 +1,5 @@
 /** Has workers answer documents, each with the proved code in a memory of its own. */
-import { ANSWER } from './core.js';
+import { ANSWER, MOST_TIMES } from './core.js';
 
 /** @typedef {import('./core.js').WrongField} WrongField */
 
@@ -83,7 +83,7 @@ export class Runs {
   }
 
   /**
-   * What each port of the scenario does, one after another.
+   * What each port of the scenario does, one after another: told by one run of the bus, where that has room for them.
    * @param {Uint8Array} text
    * @param {Uint8Array} levels those that are recorded
    * @param {number} count of ports
@@ -92,6 +92,28 @@ export class Runs {
    * @returns {Promise<boolean>} whether no other text came meanwhile
    */
   async ports(text, levels, count, next, onPort) {
+    const { number } = this;
+    if (count * levels.length <= MOST_TIMES) {
+      const told = await this.runners[0].ask({ ask: 'ports', text, levels });
+      if (number !== this.number) return false;
+      if (told.answer === ANSWER.done) return this.hand(told.ports, next, onPort);
+    }
+    return this.portByPort(text, levels, count, next, onPort);
+  }
+
+  /** Hands on ports that are told, in a task each, so that the page goes on meanwhile. */
+  async hand(ports, next, onPort) {
+    const { number } = this;
+    for (let node = next(); node !== undefined; node = next()) {
+      onPort(node, ports[node]);
+      await new Promise((resolve) => { setTimeout(resolve); });
+      if (number !== this.number) return false;
+    }
+    return true;
+  }
+
+  /** The same by a run for each port, in as many workers as there are. */
+  async portByPort(text, levels, count, next, onPort) {
     const { number } = this;
     this.ready(Math.min(count, MOST_WORKERS, navigator.hardwareConcurrency || 1));
     const left = [];

@@ -1,5 +1,5 @@
 /** What runs beside the page: the proved code on a document, so that the page goes on meanwhile. */
-import { ANSWER, Core } from './core.js';
+import { ANSWER, Core, TIME_BYTES } from './core.js';
 import { indexOf } from './bus_times.js';
 import { indexReport } from './report.js';
 
@@ -23,6 +23,16 @@ const ANSWERS = Object.freeze({
   plan: (code, { text }) => {
     const told = code.plan(text);
     return { told, handed: [told.lines.buffer] };
+  },
+  ports: (code, { text, levels }) => {
+    const { answer, times } = code.allPortTimes(text);
+    const ports = [];
+    const bytes = levels.length * TIME_BYTES;
+    for (let at = 0; at < times.length; at += bytes) {
+      const own = times.slice(at, at + bytes);
+      ports.push({ times: own, index: indexOf(own, levels) });
+    }
+    return { told: { answer, ports }, handed: ports.flatMap((port) => [port.times.buffer, ...buffersOf(port.index)]) };
   },
   port: (code, { text, node, levels }) => {
     const { answer, times } = code.portTimes(text, node);

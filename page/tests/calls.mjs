@@ -58,6 +58,8 @@ const run = (letters) => ['page_run', [text(letters), LINES, WRONG]];
 const plan = (letters) => ['page_plan', [text(letters), LINES, number('late'), WRONG]];
 const portTimes = (letters, port, most) => ['page_port_times', [text(letters), size(port), room('times', most, 10), number('count')]];
 
+const allPortTimes = (letters, most) => ['page_all_port_times', [text(letters), room('times', most, 10), number('count')]];
+
 /**
  * A call, its answer, and what is then written: under a name a number, the front of a room, or all lines; under a name and
  * a place the byte that stands there. A number that is not written stays 99, and a byte 9.
@@ -119,6 +121,14 @@ const ROWS = [
   [...portTimes(SCENARIO, 2, 60), 7, { count: 99 }],
   [...portTimes(SCENARIO, 0, 59), 1, { count: 99 }],
   [...portTimes('bits = 1', 0, 60), 6, { count: 99 }],
+
+  [...allPortTimes(SCENARIO, 120), 0, {
+    count: 120, [time(1, 'sends')]: 1, [time(41, 'drove')]: 1, [time(49, 'brought')]: 1,
+    // the other port: it acknowledges, and has the frame a level sooner
+    [time(60, 'stage')]: 1, [time(60 + 1, 'sends')]: 0, [time(60 + 41, 'drove')]: 0, [time(60 + 48, 'brought')]: 2, [time(60 + 49, 'brought')]: 0,
+  }],
+  [...allPortTimes(SCENARIO, 119), 1, { count: 99 }],
+  [...allPortTimes('bits = 1', 120), 6, { count: 99 }],
 
   [...plan(NETWORK), 0, { lines: ANSWER, late: 1 }],
   [...plan(NETWORK.replace('360', '361')), 0, { late: 0 }],

@@ -46,6 +46,10 @@ const ANSWERS = {
     const { answer, times } = core.portTimes(bytes, node);
     return [byte(answer), times];
   },
+  allPortTimes: (core, { bytes }) => {
+    const { answer, times } = core.allPortTimes(bytes);
+    return [byte(answer), times];
+  },
 };
 const CALLS = Object.keys(ANSWERS);
 
@@ -126,6 +130,7 @@ const QUESTIONS = {
   run: ({ chance, examples }) => documents(chance, join(examples, 'scenarios'), 4000).map((bytes) => ({ bytes })),
   plan: ({ chance, examples }) => documents(chance, join(examples, 'networks'), 2000).map((bytes) => ({ bytes })),
   portTimes: ({ chance, examples }) => documents(chance, join(examples, 'scenarios'), 400).flatMap((bytes) => [0, 1, chance.below(5)].map((node) => ({ numbers: [node], bytes }))),
+  allPortTimes: ({ chance, examples }) => documents(chance, join(examples, 'scenarios'), 400).map((bytes) => ({ bytes })),
 };
 
 export const moduleTests = CALLS.map((call, index) => [`the module's ${call} answers as the native library, over made inputs`, async ({ file, work, examples }) => {

@@ -12,7 +12,7 @@
 #include <string.h>
 
 enum { DONE = 0, BAD_SCENARIO = 6, BAD_PLAN = 9 };
-enum { MOST_TEXT = 32, MOST_LEVELS = 157, MOST_BYTES = 10485760, LINE_BYTES = 33554432, MOST_TIMES = 1000000 };
+enum { MOST_TEXT = 32, MOST_LEVELS = 157, MOST_BYTES = 10485760, LINE_BYTES = 33554432, MOST_TIMES = 2000000 };
 
 struct lines {
   size_t count;
@@ -42,6 +42,7 @@ uint8_t page_run(const uint8_t *text, size_t length, struct lines *out, struct w
 uint8_t page_plan(const uint8_t *text, size_t length, struct lines *out, size_t *late, struct wrong *wrong);
 uint8_t page_port_times(const uint8_t *text, size_t length, size_t node, struct time *times, size_t room,
                         size_t *count);
+uint8_t page_all_port_times(const uint8_t *text, size_t length, struct time *times, size_t room, size_t *count);
 
 /* A question, and what is told so far. */
 static uint32_t question[6];
@@ -158,9 +159,20 @@ static void port_times(size_t length)
     tell(times, count * sizeof *times);
 }
 
+static void all_port_times(size_t length)
+{
+  size_t count = 0;
+  uint8_t answer = page_all_port_times(given, length, times, MOST_TIMES, &count);
+  tell_byte(answer);
+  if (answer == DONE)
+    tell(times, count * sizeof *times);
+}
+
 int main(void)
 {
-  static void (*const calls[])(size_t) = { frame_text, encode, marks, decode, run, plan, port_times };
+  static void (*const calls[])(size_t) = {
+    frame_text, encode, marks, decode, run, plan, port_times, all_port_times,
+  };
   while (fread(question, sizeof question, 1, stdin) == 1) {
     if (question[0] >= sizeof calls / sizeof *calls || question[5] > MOST_BYTES ||
         fread(given, 1, question[5], stdin) != question[5])

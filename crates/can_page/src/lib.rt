@@ -13,7 +13,7 @@
 //! | `lines.rt` | [`Lines`], the caller's room for lines | `specs/Lines.antt` |
 //! | `plain.rt` | [`PlainTime`], what a port does in a bit time, and [`WrongField`], what is wrong in a scenario or a network, as plain fields | `specs/Plain.antt` |
 //! | `plans.rt` | [`page_plan`], how late the messages of a network can be | `specs/Calls.antt` |
-//! | `scenarios.rt` | [`page_run`], the report of a scenario, and [`page_port_times`], what one of its ports does in each bit time | `specs/Calls.antt` |
+//! | `scenarios.rt` | [`page_run`], the report of a scenario, [`page_port_times`], what one of its ports does in each bit time, and [`page_all_port_times`], what each does | `specs/Calls.antt` |
 //! | `text.rt` | `Text`, bytes to be read, which a read never fails | `specs/Texts.antt` |
 //! | `traces.rt` | [`page_decode`] and [`page_decode_levels`], the frames and faults in a trace by its text or its levels, and [`page_levels`], the levels of such a text | `specs/Calls.antt` |
 //! | `wires.rt` | [`page_marks`], the field of each level of a frame | `specs/Calls.antt` |
@@ -36,6 +36,6 @@ pub use frames::{page_encode, page_frame_text};
 pub use lines::{Lines, ROOM};
 pub use plain::{PlainTime, WrongField};
 pub use plans::page_plan;
-pub use scenarios::{page_port_times, page_run};
+pub use scenarios::{page_all_port_times, page_port_times, page_run};
 pub use traces::{page_decode, page_decode_levels, page_levels};
 pub use wires::page_marks;

@@ -1,5 +1,5 @@
 ghost use Rattle.std.specs.Prelude.{◌≡◌, ◌<◌, ◌≤◌, ◌⊎◌, [], false, true, length, take, IfErr, IfOk, IfSome, IsErrOf, List, Some};
-ghost use Rattle.can_port_times.specs.PortTimes.{AreTold};
+ghost use Rattle.can_port_times.specs.PortTimes.{AreAllTold, AreTold};
 ghost use Rattle.can_scenario.specs.Report.{report};
 ghost use Rattle.can_scenario_text.specs.Scenarios.{IsWrongScenarioField, IsScenarioText};
 ghost use Rattle.can_port_times.specs.declared.port_times.PortTime.{PortTime as Told};
@@ -12,7 +12,7 @@ ghost use Rattle.can_page.specs.Plain.{plain_times, wrong_field};
 use crate::answer::Answer;
 use crate::lines::Lines;
 use crate::plain::{PlainTime, WrongField};
-use can_port_times::{PortTime, told_times};
+use can_port_times::{PortTime, all_told_times, told_times};
 use can_scenario::{Scenario, run_scenario};
 use can_stream::{Sink, TraceFault};
 use std::alloc::Global;
@@ -80,14 +80,45 @@ pub extern "C" fn page_port_times(
             let Ok(told) = told_times(alloc, &scenario, node) else {
                 return Answer::NoMemory.code();
             };
-            if times.len() < told.len() {
-                return Answer::NoRoom.code();
-            }
-            write_times(&told, times);
-            *count = told.len();
-            Answer::Done.code()
+            hand_over(&told, times, count).code()
         }
     }
+}
+
+/// Writes what each port does in each bit time of the scenario that a document says, port behind port, and how many
+/// times of ports these are. The bus runs once for all of them.
+#[unsafe(no_mangle)]
+pub extern "C" fn page_all_port_times(
+    alloc: Global,
+    text: &[u8],
+    times: &mut [PlainTime],
+    count: &mut usize,
+) -> u8
+    ensures times { result ≡ done → (s : Planned) × (told : List Told) × (IsScenarioText text.now s × AreAllTold s told
+        × (take count.new times.new ≡ plain_times told) × (count.new ≡ length told)) }
+{
+    let mut wrong = WrongField::none();
+    match read(alloc, text, &mut wrong) {
+        Err(answer) => answer.code(),
+        Ok(scenario) => {
+            let Ok(told) = all_told_times(alloc, &scenario) else {
+                return Answer::NoMemory.code();
+            };
+            hand_over(&told, times, count).code()
+        }
+    }
+}
+
+/// Writes what was told, and how many times of ports that are, if there is room for it.
+fn hand_over(told: &[PortTime], times: &mut [PlainTime], count: &mut usize) -> Answer
+    ensures times { result ≡ Answer.Done → (take count.new times.new ≡ plain_times told.now) × (count.new ≡ length told.now) }
+{
+    if times.len() < told.len() {
+        return Answer::NoRoom;
+    }
+    write_times(told, times);
+    *count = told.len();
+    Answer::Done
 }
 
 /// The scenario that a document says, or the first field that is wrong.

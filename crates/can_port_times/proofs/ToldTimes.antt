@@ -2,11 +2,13 @@
 use Rattle.std.specs.Prelude.{◌==◌, ◌&&◌, if◌then◌else◌, Result, Ok, Err, IfOk}
 use Rattle.std.specs.List.{list_any}
 use Rattle.std.specs.Option.{option_map}
-use Rattle.std.proofs.Common.{◌≡◌, ◌≢◌, ℕ, zero, suc, ◌+◌, ◌<◌, ◌≤◌, Bool, true, false, Some, None, List, [], ◌∷◌, ◌++◌, length, map, drop, get_or, slice_get, refl, ap, sym, ◌∙◌, arith, add-one, zero-add, inl, inr}
+use Rattle.std.proofs.Common.{◌≡◌, ◌≢◌, ℕ, zero, suc, ◌+◌, ◌-◌, ◌*◌, ◌<◌, ◌≤◌, Bool, true, false, Some, None, List, [], ◌∷◌, ◌++◌, length, map, drop, take, get_or, slice_get, refl, ap, sym, subst, ◌∙◌, arith, add-one, zero-add, inl, inr}
 use Rattle.std.proofs.lemmas.Bool.{cases_order}
 use Rattle.std.proofs.Math.Seq.{drop-cons, get_or-append_seam}
 use Rattle.std.proofs.lemmas.Bool.Decides.{nat_tests}
-use Rattle.std.proofs.lemmas.List.{get_or_append_left, length-append}
+use Rattle.std.proofs.lemmas.List.{drop-append-le, drop_at, get_or_append_left, length-append, length-drop, take-append-le, take_all}
+use Rattle.std.proofs.lemmas.Nat.{mul-le}
+use Rattle.std.proofs.Math.Nat.{suc-mul, zero-mul}
 use Rattle.std.proofs.lemmas.Option.{get_or_from_slice_get, slice_get-get_or, slice_get-map, slice_get_within}
 use Rattle.can_frame.specs.declared.level.Level.{Level}
 use Rattle.can_frame.specs.declared.level.Level.TheVariants.{Recessive}
@@ -15,11 +17,12 @@ use Rattle.can_hit.specs.declared.hit.Hit.{Hit}
 use Rattle.can_bus.specs.declared.offer.Offer.{Offer}
 use Rattle.can_bus.specs.Offers.{AreOffered, all_made, made, played, played_level}
 use Rattle.can_bus.specs.Run.{BusState, all_sampled, bus_after, bus_level, bus_run, bus_step, call_begun, hits_view, inverted_if, recorded}
-use Rattle.can_port_times.specs.PortTimes.{AreSeen, bus_by, first_port, level_seen, offers_meanwhile, own_made, seen_by, port_time, told_from}
+use Rattle.can_port_times.specs.PortTimes.{AreFirstTold, AreSeen, AreTold, bus_by, first_port, level_seen, offers_meanwhile, own_made, seen_by, port_time, told_from}
 use Rattle.can_scenario.specs.Report.{level_by, levels_until, made_bus, made_port, recorded_levels, waiting_bus, waiting_port}
 use Rattle.can_scenario.specs.ScenarioOffers.{scenario_offers}
 use Rattle.can_scenario_text.specs.declared.scenario.PortPlan.{PortPlan}
 use Rattle.can_scenario_text.specs.declared.scenario.Scenario.{Scenario}
+use Rattle.can_port_times.specs.declared.port_times.PortTime.{PortTime}
 use Rattle.can_scenario.proofs.OpenReports.{offered}
 
 -- ---- one port of all
@@ -226,6 +229,37 @@ seen-known s node levels seen are size sees t h =
     ap (λ xs. get_or xs t Recessive) are ∙ until-at (level_by s.hits.items s) s.bits t (let n : length seen ≡ s.bits = size ∙ ap length are ∙ length-until (level_by s.hits.items s) s.bits in omega (arith, n))
     )
     )
+
+-- ---- port behind port
+
+pub first-none : (s : Scenario) → AreFirstTold s 0 []
+first-none s = record { each = let none : 0 * s.bits ≡ 0 = zero-mul s.bits in omega (arith, none); told = λ node h. absurd (omega arith) }
+
+-- what the next port does stands behind what the first ones do
+pub first-next : (s : Scenario) (ports : ℕ) (times told : List PortTime) → AreFirstTold s ports times → AreTold s ports told → AreFirstTold s (suc ports) (times ++ told)
+first-next s ports times told are is =
+    let all : length times ≡ ports * s.bits = are.each in
+    let own : length told ≡ s.bits = is.each in
+    record {
+      each = length-append times told ∙ (let more : suc ports * s.bits ≡ ports * s.bits + s.bits = suc-mul ports s.bits in omega (arith, all, own, more));
+      told = λ node h. elim (cases_order node ports) [
+        | inl same ↦
+            let behind : drop (node * s.bits) (times ++ told) ≡ told = drop_at times told (node * s.bits) (all ∙ ap (λ n. n * s.bits) (sym same)) in
+            let whole : take s.bits (drop (node * s.bits) (times ++ told)) ≡ told = ap (take s.bits) behind ∙ take_all s.bits told (omega (arith, own)) in
+            subst (AreTold s node) (sym whole) (subst (λ n. AreTold s n told) (sym same) is)
+        | inr apart ↦ elim apart [
+          | inl less ↦
+              let row : suc node * s.bits ≡ node * s.bits + s.bits = suc-mul node s.bits in
+              let within : suc node * s.bits ≤ ports * s.bits = mul-le (suc node) s.bits ports s.bits (omega (arith, less)) (omega arith) in
+              let before : drop (node * s.bits) (times ++ told) ≡ drop (node * s.bits) times ++ told = drop-append-le (node * s.bits) times told (omega (arith, all, row, within)) in
+              let size : length (drop (node * s.bits) times) ≡ length times - node * s.bits = length-drop (node * s.bits) times in
+              let same : take s.bits (drop (node * s.bits) (times ++ told)) ≡ take s.bits (drop (node * s.bits) times) =
+              ap (take s.bits) before ∙ take-append-le s.bits (drop (node * s.bits) times) told (omega (arith, all, row, within, size)) in
+              subst (AreTold s node) (sym same) (are.told node less)
+          | inr more ↦ absurd (omega (arith, h, more))
+        ]
+      ];
+    }
 
 pub length-recorded : (s : Scenario) → length (recorded_levels s) ≡ s.bits
 length-recorded s = length-until (level_by s.hits.items s) s.bits

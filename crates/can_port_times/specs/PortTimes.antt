@@ -1,5 +1,5 @@
 -- What a port does in each bit time of a scenario's run. (docs/FORMATS.md, "`canbit run`"; docs/BUS.md, "A bit time")
-use Rattle.std.specs.Prelude.{ℕ, ◌≡◌, ◌<◌, ◌==◌, ◌+◌, Bool, true, false, ◌&&◌, if◌then◌else◌, List, [], ◌∷◌, get_or, length, Option, Some, None, slice_get}
+use Rattle.std.specs.Prelude.{ℕ, ◌≡◌, ◌<◌, ◌==◌, ◌+◌, ◌*◌, Bool, true, false, ◌&&◌, if◌then◌else◌, List, [], ◌∷◌, drop, get_or, length, take, Option, Some, None, slice_get}
 use Rattle.std.specs.List.{list_any}
 use Rattle.can_frame.specs.declared.level.Level.{Level}
 use Rattle.can_mac.specs.declared.event.Event.{Event}
@@ -90,6 +90,15 @@ level_seen s node t = seen_by s.hits.items s node t
 pub record AreTold (s : Scenario) (node : ℕ) (times : List PortTime) : Type 0 where
   pub each : length times ≡ s.bits
   pub told : (t : ℕ) (p : PortState) → t < s.bits → slice_get (bus_at s t).ports node ≡ Some p → slice_get times t ≡ Some (port_time p (level_seen s node t))
+
+-- what the first ports do, as many as are said, port behind port
+pub record AreFirstTold (s : Scenario) (ports : ℕ) (times : List PortTime) : Type 0 where
+  pub each : length times ≡ ports * s.bits
+  pub told : (node : ℕ) → node < ports → AreTold s node (take s.bits (drop (node * s.bits) times))
+
+-- what all ports do, port behind port
+abbrev pub AreAllTold : Scenario → List PortTime → Type 0
+AreAllTold s times = AreFirstTold s (length s.ports.items) times
 
 -- ---- the same, of one port alone
 

@@ -1,11 +1,13 @@
 //! What a port does in each bit time of a run.
-ghost use Rattle.std.specs.Prelude.{ℕ, ◌≡◌, ◌+◌, ◌<◌, if◌then◌else◌, [], ◌∷◌, length, get_or, IfOk};
+ghost use Rattle.std.specs.Prelude.{ℕ, ◌≡◌, ◌+◌, ◌<◌, if◌then◌else◌, List, [], ◌∷◌, ◌++◌, length, get_or, IfOk};
 ghost use Rattle.can_bus.specs.Offers.{AreOffered};
 ghost use Rattle.can_bus.specs.Run.{hits_view};
 ghost use Rattle.can_bus.specs.Walks.{IsReached};
 ghost use Rattle.can_frame.specs.Levels.{opposite};
 ghost use Rattle.can_node.specs.Ports.{port_step};
-ghost use Rattle.can_port_times.specs.PortTimes.{AreSeen, AreTold, brought, first_port, is_sender as is_sender_of, offers_meanwhile, own_made, stage_of, port_time, told_from};
+ghost use Rattle.can_scenario.specs.Report.{recorded_levels};
+ghost use Rattle.can_port_times.specs.declared.port_times.PortTime.{PortTime as Told};
+ghost use Rattle.can_port_times.specs.PortTimes.{AreAllTold, AreSeen, AreTold, brought, first_port, is_sender as is_sender_of, offers_meanwhile, own_made, stage_of, port_time, told_from};
 
 use can_bus::{Hit, Offer};
 use can_code::{FrameBits, Front};
@@ -87,10 +89,44 @@ pub fn told_times(
     ensures { IfOk result (λ times. AreTold scenario.now node times.items) }
 {
     let ended = run_to_end(alloc, scenario)?;
-    let seen = seen_levels(alloc, &scenario.hits, node, &ended.levels)?;
     let offers = meanwhile(alloc, scenario)?;
+    let mut times = Vec::with_capacity(alloc, ended.levels.len())?;
+    tell_port(alloc, scenario, node, &ended.levels, &offers, &mut times)?;
+    Ok(times)
+}
+
+/// What each port does in each bit time of the scenario's run, told by one run of the bus: port behind port, so that
+/// bit time t of port n stands at n times the number of bit times, and t. It fails only where an allocation does.
+pub fn all_told_times(alloc: Global, scenario: &Scenario) -> Result<Vec<PortTime>, AllocError>
+    ensures { IfOk result (λ times. AreAllTold scenario.now times.items) }
+{
+    let ended = run_to_end(alloc, scenario)?;
+    let offers = meanwhile(alloc, scenario)?;
+    let mut times = Vec::new(alloc);
+    for node in 0..scenario.ports.len() {
+        tell_port(alloc, scenario, node, &ended.levels, &offers, &mut times)?;
+    }
+    Ok(times)
+}
+
+/// Puts what the port of this number does behind what is told already. The levels were recorded, and the offers made,
+/// as the scenario ran.
+fn tell_port(
+    alloc: Global,
+    scenario: &Scenario,
+    node: usize,
+    levels: &[Level],
+    offers: &[Offer],
+    times: &mut Vec<PortTime>,
+) -> Result<(), AllocError>
+    requires port { node < length scenario.now.ports.items }
+    requires levels { levels.now ≡ recorded_levels scenario.now }
+    requires offers { offers.now ≡ offers_meanwhile scenario.now.hits.items scenario.now }
+    ensures { IfOk result (λ done. (told : List Told) × AreTold scenario.now node told × (times.new.items ≡ times.old.items ++ told)) }
+{
+    let seen = seen_levels(alloc, &scenario.hits, node, levels)?;
     let port = beginning(alloc, &scenario.hits, &scenario.ports[node])?;
-    replay(alloc, port, node, &offers, &seen)
+    replay(port, node, offers, &seen, times)
 }
 
 /// The port of this plan as a run with these disturbances begins.
@@ -157,24 +193,24 @@ fn see_hit(hit: Hit, node: usize, levels: &[Level], seen: &mut [Level])
     }
 }
 
-/// What a port does that sees these levels, one a bit time, to which those of these offers that name it are made.
+/// Puts what a port does that sees these levels, one a bit time, and is made those of these offers that name it, behind
+/// what is told already.
 fn replay(
-    alloc: Global,
     mut port: PackedNode,
     node: usize,
     offers: &[Offer],
     seen: &[Level],
-) -> Result<Vec<PortTime>, AllocError>
+    times: &mut Vec<PortTime>,
+) -> Result<(), AllocError>
     requires { (ports : ℕ) × AreOffered ports offers.now }
-    ensures { IfOk result (λ times. times.items ≡ told_from node offers.now 0 (⟦<PackedNode as Port>⟧.port port) seen.now) }
+    ensures { IfOk result (λ done. times.new.items ≡ times.old.items ++ told_from node offers.now 0 (⟦<PackedNode as Port>⟧.port port) seen.now) }
 {
-    let mut times = Vec::with_capacity(alloc, seen.len())?;
     let mut place = 0;
     for time in 0..seen.len() {
         offer_due(&mut port, node, offers, time as u64, &mut place);
         times.push(tell(&mut port, seen[time]))?;
     }
-    Ok(times)
+    Ok(())
 }
 
 /// Makes the offers of this time that name the port, in their order. Those before `place` are earlier.
