@@ -94,9 +94,13 @@ export class Runs {
   async ports(text, levels, count, next, onPort) {
     const { number } = this;
     if (count * levels.length <= MOST_TIMES) {
-      const told = await this.runners[0].ask({ ask: 'ports', text, levels });
+      const [runner] = this.runners;
+      const told = await runner.ask({ ask: 'ports', text, levels });
       if (number !== this.number) return false;
       if (told.answer === ANSWER.done) return this.hand(told.ports, next, onPort);
+      // there may be memory for one at a time
+      this.runners = this.runners.filter((other) => other !== runner);
+      runner.end();
     }
     return this.portByPort(text, levels, count, next, onPort);
   }

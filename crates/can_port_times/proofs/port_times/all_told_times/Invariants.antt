@@ -1,4 +1,3 @@
-use Rattle.std.proofs.Common.{◌≡◌}
 use Rattle.can_port_times.specs.PortTimes.{AreFirstTold}
 use Rattle.can_port_times.proofs.port_times.all_told_times.Given as goal
 
