@@ -10,6 +10,7 @@
  *   told = $riddlesage_sample(port, level);      what the bit time brought, a riddlesage_event
  *   frame = $riddlesage_frame(port);             the last frame that was sent or received
  *   tec = $riddlesage_tec(port); rec = $riddlesage_rec(port);
+ *   phase = $riddlesage_phase(port);             in which it is, a riddlesage_phase
  *   $riddlesage_stands(port);                    writes where it stands: its phase, its part, and the rule there
  *
  * The data of a frame are its lowest 64 bits, the first byte the highest. What the library refuses, a port that is
@@ -315,6 +316,18 @@ static PLI_INT32 call_counter(PLI_BYTE8 *data)
   return 0;
 }
 
+static PLI_INT32 call_phase(PLI_BYTE8 *data)
+{
+  struct arguments of = arguments();
+  riddlesage_standing at = { RIDDLESAGE_PHASE_IDLE, 0, 0, RIDDLESAGE_RULE_START_OF_FRAME };
+
+  (void)data;
+  demand(riddlesage_port_phase(&ports[port_of(&of)], &at));
+  give_number(at.phase);
+  done(&of);
+  return 0;
+}
+
 /* As a verdict of canhold has it: `suspend 7, sender; Suspend transmission`. */
 static PLI_INT32 call_stands(PLI_BYTE8 *data)
 {
@@ -364,6 +377,7 @@ static void announce_all(void)
   announce("$riddlesage_drive", call_drive, vpiIntFunc, NULL);
   announce("$riddlesage_sample", call_sample, vpiIntFunc, NULL);
   announce("$riddlesage_frame", call_frame, vpiSizedFunc, NULL);
+  announce("$riddlesage_phase", call_phase, vpiIntFunc, NULL);
   announce("$riddlesage_stands", call_stands, 0, NULL);
   announce("$riddlesage_tec", call_counter, vpiIntFunc, transmit_counter);
   announce("$riddlesage_rec", call_counter, vpiIntFunc, receive_counter);
