@@ -1,0 +1,29 @@
+// What the page shows: a port is offered a frame, and another one receives it.
+//
+//     c++ -std=c++20 -I bindings -I bindings/cpp -o one_frame bindings/cpp/one_frame.cc bindings/out/libriddlesage.a
+#include <riddlesage.hpp>
+
+#include <cstdio>
+#include <utility>
+#include <vector>
+
+using riddlesage::Event, riddlesage::Level, riddlesage::Port, riddlesage::Status, riddlesage::Told;
+
+int main()
+{
+  std::vector<Port> ports;
+  while (ports.size() < 2) {
+    auto port = Port::idle(16, 64); // 16 frames may wait, the log has 64 entries; none without memory
+    if (!port)
+      return 1;
+    ports.push_back(std::move(*port));
+  }
+  if (ports[0].offer({.identifier = 0x123, .dlc = 2, .data = {0xaa, 0x55}}) != Status::ok)
+    return 1;
+  for (int time = 0; time < 80; time++) {
+    const Level bus = ports[0].drive() & ports[1].drive(); // dominant at first: a start of frame
+    ports[0].sample(bus);
+    if (const Told told = ports[1].sample(bus); told.event == Event::received)
+      std::puts(riddlesage::text(*told.frame).c_str()); // S 123 D 2 aa55
+  }
+}

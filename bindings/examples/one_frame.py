@@ -1,0 +1,22 @@
+"""What the page shows: a port is offered a frame, and frames on a bus."""
+
+from __future__ import annotations
+
+from riddlesage import Bus, Fault, Frame, Port, decode, decode_trace, encode
+
+port = Port()
+port.offer(Frame(0x123, b"\xaa\x55"))
+told = port.sample(port.drive())  # None, or what the bit time brought
+print(port.phase)  # stuffed 1, sender; Arbitration
+run = port.run(bytes(100))  # many bit times in one call: what it drove and told in each
+print(decode_trace("111 000000"))  # ['3 fault C3 at 8']
+try:
+    decode(encode(Frame(0x123))[:20])
+except Fault as fault:
+    print(fault.name, fault.place)  # SHORT 20
+
+bus = Bus(Port(), Port())  # or devices of one's own
+bus.offer(0, Frame.from_text("S 123 D 2 aa55"), time=20)
+bus.hit_in(attempt=0, offset=16)  # the wire is inverted; hit_at(time), and view(time, place) for one device
+for happened in bus.run(200):
+    print(happened.time, happened.place, happened.event.name)
