@@ -304,9 +304,10 @@ riddlesage_status riddlesage_port_counters(riddlesage_port *port, uint16_t *tran
 riddlesage_status riddlesage_port_state(riddlesage_port *port, uint8_t *state);
 
 /**
- * Tells where the port stands before the next bit time: its phase, and the rule that decides there. It is what a
- * verdict of `canhold judge` tells, but for the first level of an error or overload flag: a verdict names the rule that
- * started the flag there, and this call that of the flag. What started it is the event of the bit time before.
+ * Tells where the port stands before the next bit time: its phase, and the rule that decides there. In each bit time
+ * they are those of a verdict of `canhold judge`, but for the rule at the first level of a flag, behind an error or
+ * OVERLOAD: a verdict has the one that started the flag, and this call, which knows what the port is and not how it
+ * came to it, that of the flag, ERROR_FLAGS or OVERLOAD_FLAGS. The event of the bit time before tells what started it.
  * @param port the port
  * @param[out] standing where it stands
  * @return OK, NULL_POINTER, MOVED, NO_PORT
