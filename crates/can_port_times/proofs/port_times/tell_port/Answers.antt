@@ -26,10 +26,14 @@ returns c =
     let known = seen-known s node c.args.levels.now c.deref-3.result.now c.requires.levels size sees in
     let bits : length c.deref-3.result.now ≡ c.args.scenario.now.bits = size ∙ ap length c.requires.levels ∙ length-recorded s in
     let own = told_from node c.args.offers.now 0 (node_port c.in_ok-port.port) c.deref-3.result.now in
-    if-told c.replay.result c.replay.ensures (λ done is. (own, record {
-      each = length-told node c.args.offers.now 0 (node_port c.in_ok-port.port) c.deref-3.result.now ∙ bits;
-      told = λ t p within at.
-          ap (λ (xs : List PortTime). slice_get xs t) (ap (λ os. told_from node os 0 (node_port c.in_ok-port.port) c.deref-3.result.now) c.requires.offers
-          ∙ ap (λ q. told_from node (offers_meanwhile s.hits.items s) 0 q c.deref-3.result.now) port)
-          ∙ told-known s.hits.items s node plan c.deref-3.result.now there known t p (omega (arith, within, bits)) at;
-    }, is))
+    if-told c.replay.result c.replay.ensures (λ done is. (
+      own,
+      record {
+        each = length-told node c.args.offers.now 0 (node_port c.in_ok-port.port) c.deref-3.result.now ∙ bits;
+        told = λ t p within at.
+            ap (λ (xs : List PortTime). slice_get xs t) (ap (λ os. told_from node os 0 (node_port c.in_ok-port.port) c.deref-3.result.now) c.requires.offers
+            ∙ ap (λ q. told_from node (offers_meanwhile s.hits.items s) 0 q c.deref-3.result.now) port)
+            ∙ told-known s.hits.items s node plan c.deref-3.result.now there known t p (omega (arith, within, bits)) at;
+      },
+      is,
+    ))
