@@ -7,8 +7,12 @@ pub returns-in-Ok-told_times : goal.returns-in-Ok-told_times
 returns-in-Ok-told_times c =
     let named : c.args.node < length c.in-Ok.scenario.ports.items = omega (arith, c.if-node-port_count.false, c.port_count.ensures) in
     let are : c.deref.result.now ≡ c.in-Ok-told_times.told.items = c.deref.ensures.value in
-    record { times = λ is.
-        let all : c.hand_over.result ≡ Done = search rules in
-        let handed = c.hand_over.ensures.times all in
-        (c.in-Ok.scenario, c.in-Ok-told_times.told.items,
-        (c.in-Ok.ensures.found, named, c.in-Ok-told_times.ensures, handed.0 ∙ ap plain_times are, handed.1 ∙ ap length are)) }
+    record {
+      times = λ is.
+          let all : c.hand_over.result ≡ Done = search rules in
+          let handed = c.hand_over.ensures.times all in (
+            c.in-Ok.scenario,
+            c.in-Ok-told_times.told.items,
+            (c.in-Ok.ensures.found, named, c.in-Ok-told_times.ensures, handed.0 ∙ ap plain_times are, handed.1 ∙ ap length are),
+          );
+    }
