@@ -198,6 +198,13 @@ class Scene:
             raise ValueError(f"{self.case.name}: {frame} does not begin")
         return wire
 
+    def wins(self, frame: str, against: str) -> None:
+        """The controller sends this frame from now on, and wins against one of the tester, which acknowledges it."""
+        own, other = Frame.parse(frame).wire(), Frame.parse(against).wire()
+        differ = next(place for place, (a, b) in enumerate(zip(own.levels, other.levels)) if a != b)
+        self.play(other.levels[: differ + 1], f"sends {against}, and loses")
+        self.play("1" * (own.place("ack") - differ - 1) + "0" + "1" * 8, "listens")
+
     def sent(self, frame: str) -> None:
         """The controller sends this frame whole, with its intermission."""
         self.sending(frame)

@@ -31,23 +31,7 @@ def dominant_in_intermission(scene: Scene, level: int) -> None:
 @family("overload-intermission", "level 1 or 2 dominant behind received, sent, error, overload; probes")
 def overload_intermission(book: Book) -> None:
     for level in (1, 2):
-        with book.case(f"received-{level}", f"level {level} of intermission dominant behind a received frame") as scene:
-            after_received(scene)
-            dominant_in_intermission(scene, level)
-            scene.recover()
-            probe_rec(scene)
-        with book.case(f"sent-{level}", f"level {level} of intermission dominant behind a sent frame") as scene:
-            after_sent(scene)
-            dominant_in_intermission(scene, level)
-            scene.recover()
-            probe_tec(scene)
-        with book.case(f"error-{level}", f"level {level} of intermission dominant behind an error frame") as scene:
-            scene.rest(1, "idle")
-            scene.stuff_error()
-            scene.rest(6 + 8, "flag, delimiter")
-            dominant_in_intermission(scene, level)
-            scene.recover()
-            probe_rec(scene)
+        _dominant_behind_frames(book, level)
     with book.case("overload-1", "level 1 of intermission dominant behind an overload frame") as scene:
         after_received(scene)
         dominant_in_intermission(scene, 2)
@@ -55,18 +39,14 @@ def overload_intermission(book: Book) -> None:
         dominant_in_intermission(scene, 1)
         scene.recover()
         probe_rec(scene)
-    with book.case("waiting-1", "level 1 of intermission dominant while a frame waits: it begins behind") as scene:
-        after_received(scene, (FRAME,))
-        dominant_in_intermission(scene, 1)
-        scene.recover()
-        scene.sent(FRAME)
-        probe_rec(scene)
-    with book.case("waiting-2", "level 2 of intermission dominant while a frame waits: it begins behind") as scene:
-        after_received(scene, (FRAME,))
-        dominant_in_intermission(scene, 2)
-        scene.recover()
-        scene.sent(FRAME)
-        probe_rec(scene)
+    for level in (1, 2):
+        purpose = f"level {level} of intermission dominant while a frame waits: it begins behind"
+        with book.case(f"waiting-{level}", purpose) as scene:
+            after_received(scene, (FRAME,))
+            dominant_in_intermission(scene, level)
+            scene.recover()
+            scene.sent(FRAME)
+            probe_rec(scene)
     with book.case("five-in-a-row", "five overload conditions one behind another") as scene:
         after_received(scene)
         for level in (1, 2, 1, 2, 1):
@@ -76,6 +56,26 @@ def overload_intermission(book: Book) -> None:
         probe_rec(scene)
     if book.is_long:
         _more_in_intermission(book)
+
+
+def _dominant_behind_frames(book: Book, level: int) -> None:
+    with book.case(f"received-{level}", f"level {level} of intermission dominant behind a received frame") as scene:
+        after_received(scene)
+        dominant_in_intermission(scene, level)
+        scene.recover()
+        probe_rec(scene)
+    with book.case(f"sent-{level}", f"level {level} of intermission dominant behind a sent frame") as scene:
+        after_sent(scene)
+        dominant_in_intermission(scene, level)
+        scene.recover()
+        probe_tec(scene)
+    with book.case(f"error-{level}", f"level {level} of intermission dominant behind an error frame") as scene:
+        scene.rest(1, "idle")
+        scene.stuff_error()
+        scene.rest(6 + 8, "flag, delimiter")
+        dominant_in_intermission(scene, level)
+        scene.recover()
+        probe_rec(scene)
 
 
 def _more_in_intermission(book: Book) -> None:
@@ -157,46 +157,67 @@ def overload_delimiter_form_error(book: Book) -> None:
 
 
 OVERLOAD = 6 + 8
+OWN_OVERLOAD = ["own-overload"]
+
+
+def _hold_in_a_frame(scene: Scene, wish: int, offers: Sequence[str] = ()) -> None:
+    scene.receive(RECEIVED, offers, hold=wish)
 
 
 @family("overload-own", "wishes for overload frames: one or two, renewed, replaced, taken back; as sender")
 def overload_own(book: Book) -> None:
-    def begin(wish: int, offers: Sequence[str] = ()) -> Scene:
-        scene.receive(RECEIVED, offers, hold=wish)
-        return scene
-
-    choices: list[str] = ["own-overload"]
-    with book.case("one", "one wish: one overload frame in place of intermission", choices) as scene:
-        begin(1).rest(OVERLOAD, "an own overload frame")
+    with book.case("one", "one wish: one overload frame in place of intermission", OWN_OVERLOAD) as scene:
+        _hold_in_a_frame(scene, 1)
+        scene.rest(OVERLOAD, "an own overload frame")
         scene.rest(5, "intermission")
         scene.receive(RECEIVED)
         scene.rest(20, "none follows")
-    with book.case("two", "two wishes: two overload frames", choices) as scene:
-        begin(2).rest(2 * OVERLOAD, "two own overload frames")
+    with book.case("two", "two wishes: two overload frames", OWN_OVERLOAD) as scene:
+        _hold_in_a_frame(scene, 2)
+        scene.rest(2 * OVERLOAD, "two own overload frames")
         scene.rest(20, "intermission, and none follows")
-    with book.case("two-each", "two wishes with each of two frames", choices) as scene:
-        begin(2).rest(2 * OVERLOAD + 5, "two own overload frames, intermission")
-        begin(2).rest(2 * OVERLOAD + 20, "two own overload frames, and none follows")
-    with book.case("renewed", "wishes renewed between two frames: not more than two", choices) as scene:
-        begin(2).rest(OVERLOAD - 5, "the first own overload frame")
+    with book.case("two-each", "two wishes with each of two frames", OWN_OVERLOAD) as scene:
+        _hold_in_a_frame(scene, 2)
+        scene.rest(2 * OVERLOAD + 5, "two own overload frames, intermission")
+        _hold_in_a_frame(scene, 2)
+        scene.rest(2 * OVERLOAD + 20, "two own overload frames, and none follows")
+    _later_wishes(book)
+    _wishes_elsewhere(book)
+    with book.case("waiting", "its own frame waits behind its own overload frames", OWN_OVERLOAD) as scene:
+        _hold_in_a_frame(scene, 2, (FRAME,))
+        scene.rest(2 * OVERLOAD + 3, "two own overload frames, intermission")
+        scene.sent(FRAME)
+        scene.rest(10)
+
+
+def _later_wishes(book: Book) -> None:
+    with book.case("renewed", "wishes renewed between two frames: not more than two", OWN_OVERLOAD) as scene:
+        _hold_in_a_frame(scene, 2)
+        scene.rest(OVERLOAD - 5, "the first own overload frame")
         scene.hold(2)
         scene.rest(2 * OVERLOAD + 10, "the rest of it, a second one, and none follows")
         scene.receive(RECEIVED)
         scene.rest(OVERLOAD + 10, "the wish that is left")
-    with book.case("replaced", "a wish for one replaces one for two", choices) as scene:
+    with book.case("replaced", "a wish for one replaces one for two", OWN_OVERLOAD) as scene:
         scene.hold(2)
-        begin(1).rest(OVERLOAD + 20, "one own overload frame, and none follows")
-    with book.case("replaced-by-two", "a wish for two replaces one for one", choices) as scene:
+        _hold_in_a_frame(scene, 1)
+        scene.rest(OVERLOAD + 20, "one own overload frame, and none follows")
+    with book.case("replaced-by-two", "a wish for two replaces one for one", OWN_OVERLOAD) as scene:
         scene.rest(2, "idle")
         scene.hold(1)
-        begin(2).rest(2 * OVERLOAD + 20, "two own overload frames, and none follows")
-    with book.case("taken-back", "a wish that is taken back", choices) as scene:
+        _hold_in_a_frame(scene, 2)
+        scene.rest(2 * OVERLOAD + 20, "two own overload frames, and none follows")
+    with book.case("taken-back", "a wish that is taken back", OWN_OVERLOAD) as scene:
         scene.hold(1)
         scene.rest(2)
         scene.hold(0)
         scene.receive(RECEIVED)
         scene.rest(20, "none follows")
-    with book.case("as-sender", "a sender makes none behind its own frame, and as a receiver later", choices) as scene:
+
+
+def _wishes_elsewhere(book: Book) -> None:
+    purpose = "a sender makes none behind its own frame, and as a receiver later"
+    with book.case("as-sender", purpose, OWN_OVERLOAD) as scene:
         scene.receive(RECEIVED, (FRAME,))
         scene.rest(3, "intermission")
         scene.sending(FRAME, 8)
@@ -205,20 +226,16 @@ def overload_own(book: Book) -> None:
         scene.play("1" * (slot - 8) + "0" + "1" * 8 + "1" * 8, "the rest of its frame, and intermission")
         scene.receive(RECEIVED)
         scene.rest(OVERLOAD + 20, "an own overload frame")
-    with book.case("behind-an-error", "a receiver's wish is met behind an error frame too", choices) as scene:
+    with book.case("behind-an-error", "a receiver's wish is met behind an error frame too", OWN_OVERLOAD) as scene:
         scene.rest(1, "idle")
         scene.hold(1)
         scene.stuff_error()
         scene.rest(6 + 8, "flag, delimiter")
         scene.rest(OVERLOAD + 20, "an own overload frame, and none follows")
-    with book.case("in-intermission", "a wish within intermission waits for the next frame", choices) as scene:
+    with book.case("in-intermission", "a wish within intermission waits for the next frame", OWN_OVERLOAD) as scene:
         scene.receive(RECEIVED)
         scene.rest(1, "intermission")
         scene.hold(1)
         scene.rest(20, "none begins")
         scene.receive(RECEIVED)
         scene.rest(OVERLOAD + 20, "an own overload frame")
-    with book.case("waiting", "its own frame waits behind its own overload frames", choices) as scene:
-        begin(2, (FRAME,)).rest(2 * OVERLOAD + 3, "two own overload frames, intermission")
-        scene.sent(FRAME)
-        scene.rest(10)

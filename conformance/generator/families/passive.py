@@ -12,6 +12,7 @@ RECEIVED = "S 123 D 1 c3"
 OWN = "S 155 D 2 5aa5"
 LATER = "S 355 D 1 a5"
 WINNER = "S 001 D 1 77"
+LOSER = "S 700 D 1 77"
 
 
 def passive_sender(scene: Scene, *offers: str, goal: int = 128) -> None:
@@ -193,26 +194,11 @@ def _unseen_overload_flag(book: Book) -> None:
 
 @family("passive-receiver", "an error passive receiver: a frame, each kind of error, no suspend, intermission 3")
 def passive_receiver_family(book: Book) -> None:
-    wire = Frame.parse(RECEIVED).wire()
-    wrong = Frame.parse(RECEIVED).wire("crc-5")
-    errors = [
-        ("stuff", "000000"),
-        ("crc", wrong.acknowledged()[: wrong.place("eof 1")]),
-        ("crc-delimiter", wire.levels[: wire.stuffed] + "0"),
-        ("end-of-frame", wire.levels[: wire.place("eof 4")] + "0"),
-        ("acknowledgement-unseen", wire.levels[: wire.place("ack")] + "f"),
-    ]
     with book.case("frame", "a frame is acknowledged") as scene:
         passive_receiver(scene)
         scene.receive(RECEIVED)
         scene.rest(5)
-    for suffix, levels in errors:
-        with book.case(suffix, f"an error at {suffix}: the flag is passive") as scene:
-            passive_receiver(scene)
-            scene.play(levels, f"an error: {suffix}")
-            scene.behind_flag(1 if suffix == "crc-delimiter" else 0)
-            scene.receive(RECEIVED)
-            scene.rest(5)
+    _receivers_errors(book)
     with book.case("delimiter", "a dominant level in a delimiter: another passive flag") as scene:
         passive_receiver(scene)
         scene.stuff_error()
@@ -234,6 +220,25 @@ def passive_receiver_family(book: Book) -> None:
         scene.play("0", "the third one dominant")
         scene.play("1" * (Frame.parse(OWN).wire().place("ack") - 1) + "0" + "1" * 8, f"listens to {OWN}")
         scene.rest(12)
+
+
+def _receivers_errors(book: Book) -> None:
+    wire = Frame.parse(RECEIVED).wire()
+    wrong = Frame.parse(RECEIVED).wire("crc-5")
+    errors = [
+        ("stuff", "000000"),
+        ("crc", wrong.acknowledged()[: wrong.place("eof 1")]),
+        ("crc-delimiter", wire.levels[: wire.stuffed] + "0"),
+        ("end-of-frame", wire.levels[: wire.place("eof 4")] + "0"),
+        ("acknowledgement-unseen", wire.levels[: wire.place("ack")] + "f"),
+    ]
+    for suffix, levels in errors:
+        with book.case(suffix, f"an error at {suffix}: the flag is passive") as scene:
+            passive_receiver(scene)
+            scene.play(levels, f"an error: {suffix}")
+            scene.behind_flag(1 if suffix == "crc-delimiter" else 0)
+            scene.receive(RECEIVED)
+            scene.rest(5)
 
 
 @family("suspend", "suspend behind error, success, overload; TEC back to 127; nothing waits")
@@ -280,32 +285,30 @@ def _meets(scene: Scene, level: int) -> None:
     scene.rest(3 + level - 1, f"intermission, {level - 1} levels of suspend")
 
 
+def _received(scene: Scene, frame: str, waiting: str) -> None:
+    """A frame of the tester; the controller's own begins directly behind intermission."""
+    scene.receive(frame)
+    scene.rest(3, "intermission, no suspend")
+    scene.sent(waiting)
+    scene.rest(12)
+
+
 @family("suspend-reception", "the tester begins at suspend 1 to 9, at intermission 3; an error in it; lost")
 def suspend_reception(book: Book) -> None:
     for level in book.rows((1, 4, 8), (2, 3, 5, 6, 7)):
         with book.case(f"at-{level}", f"a frame begins at level {level} of suspend: it is received") as scene:
             _suspended(scene)
             _meets(scene, level)
-            scene.receive("S 700 D 1 77")
-            scene.rest(3, "intermission, no suspend")
-            scene.sent(LATER)
-            scene.rest(12)
+            _received(scene, LOSER, LATER)
     with book.case("at-9", "a frame begins behind suspend, together with its own: it loses") as scene:
         _suspended(scene)
         _meets(scene, 9)
-        levels = Frame.parse("S 700 D 1 77").wire().levels
-        own = Frame.parse(LATER).wire()
-        differ = next(place for place, (a, b) in enumerate(zip(levels, own.levels)) if a != b)
-        scene.play(levels[: differ + 1], "sends S 700 D 1 77, and loses")
-        scene.play("1" * (own.place("ack") - differ - 1) + "0" + "1" * 8, "listens")
+        scene.wins(LATER, LOSER)
         scene.rest(12)
     with book.case("intermission-3", "a frame begins at the third level of intermission: it is received") as scene:
         _suspended(scene)
         scene.rest(2, "two levels of intermission")
-        scene.receive("S 700 D 1 77")
-        scene.rest(3, "intermission, no suspend")
-        scene.sent(LATER)
-        scene.rest(12)
+        _received(scene, LOSER, LATER)
     with book.case("error", "an error in a frame that began in suspend is a receiver's") as scene:
         _suspended(scene)
         _meets(scene, 3)
@@ -315,17 +318,11 @@ def suspend_reception(book: Book) -> None:
         scene.rest(12)
     with book.case("lost", "behind a lost arbitration there is no suspend") as scene:
         passive_sender(scene, OWN, goal=136)
-        scene.receive(WINNER)
-        scene.rest(3, "intermission, no suspend")
-        scene.sent(OWN)
-        scene.rest(12)
+        _received(scene, WINNER, OWN)
     with book.case("lost-behind-suspend", "behind suspend arbitration is lost: no suspend again") as scene:
         _suspended(scene)
         _meets(scene, 9)
-        scene.receive(WINNER)
-        scene.rest(3, "intermission, no suspend")
-        scene.sent(LATER)
-        scene.rest(12)
+        _received(scene, WINNER, LATER)
 
 
 def _unacknowledged(scene: Scene, pattern: str, frame: str = OWN) -> None:

@@ -113,71 +113,68 @@ def tx_order(book: Book) -> None:
             scene.rest(3)
 
 
+KEPT, KEPT_EXTENDED = "S 400 D 2 1234", "E 1aaaaaaa D 1 0f"
+GOES_FIRST = "S 001 D 1 56"
+
+
+def _offered_within(scene: Scene, frame: str, levels: int = 7) -> None:
+    """The controller sends the frame, and is offered the one that goes first behind so many levels."""
+    scene.anchor(frame)
+    scene.rest(levels, f"listens to {frame}")
+    scene.offer(GOES_FIRST)
+
+
+def _kept(scene: Scene, frame: str) -> None:
+    _offered_within(scene, frame)
+    slot = Frame.parse(frame).wire().place("ack")
+    scene.play("1" * (slot - 7) + "0" + "1" * 8 + "111")
+    scene.sent(GOES_FIRST)
+    scene.rest(3)
+
+
+def _kept_for_later(scene: Scene, frame: str, levels: int) -> None:
+    _offered_within(scene, frame, levels)
+    scene.rest(Frame.parse(frame).wire().stuffed - levels)
+    scene.play("0", "the CRC delimiter dominant")
+    scene.recover()
+    scene.sent(GOES_FIRST)
+    scene.sent(frame)
+    scene.rest(3)
+
+
 @family("tx-kept-frame", "a frame that goes first is offered while the controller sends")
 def tx_kept_frame(book: Book) -> None:
-    kept, first = "S 400 D 2 1234", "S 001 D 1 56"
-
-    def begin(scene: Scene, frame: str = kept) -> None:
-        scene.anchor(frame)
-        scene.rest(7, f"listens to {frame}")
-        scene.offer(first)
-
     with book.case("sent", "the frame under way is sent, then the other") as scene:
-        begin(scene)
-        slot = Frame.parse(kept).wire().place("ack")
-        scene.play("1" * (slot - 7) + "0" + "1" * 8 + "111")
-        scene.sent(first)
-        scene.rest(3)
+        _kept(scene, KEPT)
     with book.case("before-an-error", "behind an error the frame that goes first is sent first") as scene:
-        begin(scene)
-        scene.rest(Frame.parse(kept).wire().stuffed - 7)
-        scene.play("0", "the CRC delimiter dominant")
-        scene.recover()
-        scene.sent(first)
-        scene.sent(kept)
-        scene.rest(3)
+        _kept_for_later(scene, KEPT, 7)
     with book.case("before-a-loss", "behind a lost arbitration the frame that goes first is sent first") as scene:
         long = "E 10000fff D 0"
         winner = Frame.parse("E 100000ff D 0").wire()
         scene.anchor(long)
         scene.play(winner.levels[:7], "sends E 100000ff D 0")
-        scene.offer(first)
+        scene.offer(GOES_FIRST)
         scene.play(winner.levels[7:])
         scene.rest(3)
-        scene.sent(first)
+        scene.sent(GOES_FIRST)
         scene.sent(long)
         scene.rest(3)
     with book.case("extended", "an extended frame under way is not exchanged") as scene:
-        long = "E 1aaaaaaa D 1 0f"
-        begin(scene, long)
-        slot = Frame.parse(long).wire().place("ack")
-        scene.play("1" * (slot - 7) + "0" + "1" * 8 + "111")
-        scene.sent(first)
-        scene.rest(3)
+        _kept(scene, KEPT_EXTENDED)
     if book.is_long:
         _more_kept_frames(book)
 
 
 def _more_kept_frames(book: Book) -> None:
-    first = "S 001 D 1 56"
-    kept = "E 1aaaaaaa D 1 0f"
     with book.case("extended-before-an-error", "behind an error the frame that goes first is sent first") as scene:
-        scene.anchor(kept)
-        scene.rest(20, f"listens to {kept}")
-        scene.offer(first)
-        scene.rest(Frame.parse(kept).wire().stuffed - 20)
-        scene.play("0", "the CRC delimiter dominant")
-        scene.recover()
-        scene.sent(first)
-        scene.sent(kept)
-        scene.rest(3)
+        _kept_for_later(scene, KEPT_EXTENDED, 20)
     with book.case("in-end-of-frame", "offered in the end of its own frame, it begins behind intermission") as scene:
-        scene.anchor(kept)
-        slot = Frame.parse(kept).wire().place("ack")
-        scene.play("1" * slot + "0" + "1" * 4, f"listens to {kept}")
-        scene.offer(first)
+        scene.anchor(KEPT_EXTENDED)
+        slot = Frame.parse(KEPT_EXTENDED).wire().place("ack")
+        scene.play("1" * slot + "0" + "1" * 4, f"listens to {KEPT_EXTENDED}")
+        scene.offer(GOES_FIRST)
         scene.rest(4 + 3, "the rest of the end of frame, intermission")
-        scene.sent(first)
+        scene.sent(GOES_FIRST)
         scene.rest(3)
 
 
