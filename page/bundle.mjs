@@ -1,6 +1,7 @@
-// Puts the page together: bundle.mjs SOURCES WASM SCENARIOS NETWORKS OUT. The scripts become one, in the order in which they need one
-// another, those of the worker another one, the module is packed, and the page's own policy allows these scripts and styles
-// and no network.
+// Puts the page together: bundle.mjs SOURCES WASM SCENARIOS NETWORKS OUT. What stands in index.html more than once comes from
+// parts.html: @NAME WORD | WORD..@ is the part of this name with these words as its parameters. The scripts become one, in the
+// order in which they need one another, those of the worker another one, the module is packed, and the page's own policy allows
+// these scripts and styles and no network.
 import { createHash } from 'node:crypto';
 import { readFileSync, readdirSync, writeFileSync } from 'node:fs';
 import { join } from 'node:path';
@@ -9,6 +10,8 @@ import { deflateRawSync } from 'node:zlib';
 
 const IMPORT = /^import (\{[^}]*\}) from '\.\/([a-z_]+)\.js';\n/gm;
 const EXPORT = /^export (?=(?:async )?(?:class|const|function) (\w+))/gm;
+const PART = /^<!-- ([a-z]+) ([A-Z ]+): .* -->\n/m;
+const USE = /^( *)@([a-z]+)(?: ([^@\n]+))?@$/gm;
 
 /**
  * The scripts that one needs, and itself behind them, each in a scope of its own.
@@ -40,6 +43,24 @@ function scriptOf(folder, name) {
 }
 
 /**
+ * A page with its parts, each in lines of its own, as far in as the line that names it.
+ * @param {string} page
+ * @param {string} parts each behind a comment that tells its name, its parameters and what it is
+ */
+function withParts(page, parts) {
+  const [, ...told] = parts.split(PART);
+  const known = new Map();
+  for (let at = 0; at < told.length; at += 3) known.set(told[at], { parameters: told[at + 1].split(' '), text: told[at + 2].trimEnd() });
+  return page.replace(USE, (_, indentation, name, words = '') => {
+    const part = known.get(name);
+    const values = words.split('|').map((word) => word.trim());
+    if (part?.parameters.length !== values.length) throw new Error(`@${name} ${words}@ is no part with its parameters`);
+    const text = part.parameters.reduce((filled, parameter, at) => filled.replaceAll(parameter, () => values[at]), part.text);
+    return text.replace(/^/gm, indentation);
+  });
+}
+
+/**
  * Fills in the one place where a mark stands.
  * @param {string} page
  * @param {string} mark
@@ -67,7 +88,7 @@ function documentsIn(from) {
 const [folder, wasm, scenarios, networks, out] = process.argv.slice(2);
 const script = scriptOf(folder, 'main');
 const style = `\n${readFileSync(join(folder, 'style.css'), 'utf8')}`;
-let page = readFileSync(join(folder, 'index.html'), 'utf8');
+let page = withParts(readFileSync(join(folder, 'index.html'), 'utf8'), readFileSync(join(folder, 'parts.html'), 'utf8'));
 page = fill(page, '@POLICY@', `default-src 'none'; script-src 'wasm-unsafe-eval' ${policyHash(script)}; style-src ${policyHash(style)}; worker-src blob:; img-src blob: data:; base-uri 'none'; form-action 'none'`);
 page = fill(page, '@STYLE@', style);
 page = fill(page, '@MODULE@', deflateRawSync(readFileSync(wasm), { level: 9 }).toString('base64'));
