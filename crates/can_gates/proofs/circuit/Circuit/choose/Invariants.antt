@@ -1,0 +1,7 @@
+use Rattle.std.specs.Prelude.{◌≡◌, if◌then◌else◌, length, take}
+use Rattle.can_gates.specs.Circuit.{value, Makes}
+use Rattle.can_gates.specs.Words.{number}
+use Rattle.can_gates.proofs.circuit.Circuit.choose.Given as goal
+
+abbrev pub invariant-loop-place : goal.invariant-loop-place
+invariant-loop-place l = (length l.all.items ≡ l.place) × Makes l.fn.self l.self (λ v. number v l.all.items ≡ (if value v l.fn.test then number v (take l.place l.a) else number v (take l.place l.b)))

@@ -1,0 +1,7 @@
+use Rattle.std.specs.Prelude.{◌≡◌, ◌-◌, ◌^◌, if◌then◌else◌, length, take}
+use Rattle.can_gates.specs.Circuit.{value, Makes}
+use Rattle.can_gates.specs.Words.{number}
+use Rattle.can_gates.proofs.circuit.Circuit.or_all.Given as goal
+
+abbrev pub invariant-loop-place : goal.invariant-loop-place
+invariant-loop-place l = (length l.all.items ≡ l.place-index) × Makes l.fn.self l.self (λ v. number v l.all.items ≡ (if value v l.fn.over then 2 ^ l.place-index - 1 else number v (take l.place-index l.word)))

@@ -1,0 +1,92 @@
+//! Signals and their negations.
+ghost use Rattle.std.specs.Prelude.{◌≡◌, ◌&&◌, ℕ, Bool, false, not, IfSome, IsTrue};
+ghost use Rattle.can_gates.specs.Aiger.{code_of};
+ghost use Rattle.can_gates.specs.Circuit.{value};
+ghost use Rattle.can_gates.specs.Words.{bit};
+
+/// A signal, or its negation.
+#[derive(Clone, Copy, Debug)]
+pub struct Literal {
+    /// The signal's number. Signal 0 is false.
+    pub signal: u32,
+    /// Whether the literal is true where the signal is false.
+    pub negated: bool,
+}
+
+/// The literal that is never true.
+pub const FALSE: Literal = Literal {
+    signal: 0,
+    negated: false,
+};
+
+/// The literal that is always true.
+pub const TRUE: Literal = Literal {
+    signal: 0,
+    negated: true,
+};
+
+impl Literal {
+    /// The literal that is true where this one is false.
+    #[tactic(auto, unfolding(crate::specs::Circuit::value))]
+    pub fn opposite(self) -> Literal
+        ensures { (v : ℕ → Bool) → value v result ≡ not (value v self) }
+    {
+        Literal {
+            signal: self.signal,
+            negated: !self.negated,
+        }
+    }
+
+    /// Whether this is the other one too.
+    pub(crate) fn is_same(self, other: Literal) -> bool
+        ensures { IsTrue result → (v : ℕ → Bool) → value v self ≡ value v other }
+    {
+        self.signal == other.signal && self.negated == other.negated
+    }
+
+    /// The number that AIGER has for it: twice the signal's, and one more where it is negated.
+    pub fn code(self) -> u64
+        ensures { result ≡ code_of self }
+    {
+        2 * u64::from(self.signal) + bit_of(self.negated)
+    }
+}
+
+/// The number of a truth value.
+pub(crate) fn bit_of(value: bool) -> u64
+    ensures { result ≡ bit value }
+{
+    if value { 1 } else { 0 }
+}
+
+/// What two literals are together where that needs no gate: one of them is constant, or both are of one signal.
+pub(crate) fn folded(a: Literal, b: Literal) -> Option<Literal>
+    ensures { IfSome result (λ r. (v : ℕ → Bool) → v 0 ≡ false → value v r ≡ (value v a && value v b)) }
+{
+    if a.signal == 0 {
+        return Some(with_constant(a, b));
+    }
+    if b.signal == 0 {
+        return Some(with_constant(b, a));
+    }
+    if a.signal == b.signal {
+        return Some(of_one_signal(a, b));
+    }
+    None
+}
+
+/// A constant and a literal together.
+fn with_constant(known: Literal, other: Literal) -> Literal
+    requires { known.signal ≡ 0 }
+    ensures { (v : ℕ → Bool) → v 0 ≡ false → value v result ≡ (value v known && value v other) }
+{
+    if known.negated { other } else { FALSE }
+}
+
+/// Two literals of one signal together.
+fn of_one_signal(a: Literal, b: Literal) -> Literal
+    requires { a.signal ≡ b.signal }
+    ensures { (v : ℕ → Bool) → v 0 ≡ false → value v result ≡ (value v a && value v b) }
+{
+    if a.negated == b.negated { a } else { FALSE }
+}
