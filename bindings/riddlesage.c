@@ -25,6 +25,9 @@ uint8_t can_c_phase(struct riddlesage_handle *handle, riddlesage_standing *stand
 uint8_t can_c_log_length(struct riddlesage_handle *handle, size_t *count);
 uint8_t can_c_missed(struct riddlesage_handle *handle, uint32_t *count);
 uint8_t can_c_entry(struct riddlesage_handle *handle, size_t number, riddlesage_frame *frame, uint8_t *sent);
+uint8_t can_c_play(struct riddlesage_handle *handles, size_t handles_length, const riddlesage_offer *offers,
+                   size_t offers_length, const riddlesage_hit *hits, size_t hits_length, uint8_t *levels,
+                   size_t levels_length, size_t *refused);
 uint8_t can_c_encode(const riddlesage_frame *frame, uint8_t *levels, size_t levels_length, size_t *count);
 uint8_t can_c_decode(const uint8_t *levels, size_t levels_length, riddlesage_heard *heard, size_t *place);
 
@@ -226,6 +229,53 @@ EXPORT riddlesage_status riddlesage_port_entry(riddlesage_port *port, size_t num
   return (riddlesage_status)can_c_entry(&port->handle, number, frame, sent);
 }
 
+/* Whether these ports can be those of a bus: each was made, and is there once. */
+static riddlesage_status ports_at(riddlesage_port *const *ports, size_t count)
+{
+  size_t place, other;
+
+  if (ports == NULL)
+    return RIDDLESAGE_NULL_POINTER;
+  if (count == 0 || count > RIDDLESAGE_MOST_PORTS)
+    return RIDDLESAGE_BAD_BUS;
+  for (place = 0; place < count; place++) {
+    riddlesage_status status = port_at(ports[place]);
+    if (status != RIDDLESAGE_OK)
+      return status;
+    for (other = 0; other < place; other++)
+      if (ports[other] == ports[place])
+        return RIDDLESAGE_BAD_BUS;
+  }
+  return RIDDLESAGE_OK;
+}
+
+/* The handles of the ports are together for the call, and then in their places again. */
+EXPORT riddlesage_status riddlesage_play(riddlesage_port *const *ports, size_t count, const riddlesage_offer *offers,
+                                         size_t offer_count, const riddlesage_hit *hits, size_t hit_count,
+                                         uint8_t *levels, size_t bits, size_t *refused)
+{
+  static const riddlesage_offer no_offer;
+  static const riddlesage_hit no_hit;
+  struct riddlesage_handle handles[RIDDLESAGE_MOST_PORTS];
+  uint8_t no_level = 0;
+  size_t unwanted = 0, place;
+  riddlesage_status status = ports_at(ports, count);
+
+  if (status != RIDDLESAGE_OK)
+    return status;
+  if ((offers == NULL && offer_count != 0) || (hits == NULL && hit_count != 0) || (levels == NULL && bits != 0))
+    return RIDDLESAGE_NULL_POINTER;
+  for (place = 0; place < count; place++)
+    handles[place] = ports[place]->handle;
+  status = (riddlesage_status)can_c_play(handles, count, offers == NULL ? &no_offer : offers, offer_count,
+                                         hits == NULL ? &no_hit : hits, hit_count,
+                                         levels == NULL ? &no_level : levels, bits,
+                                         refused == NULL ? &unwanted : refused);
+  for (place = 0; place < count; place++)
+    ports[place]->handle = handles[place];
+  return status;
+}
+
 EXPORT riddlesage_status riddlesage_encode(const riddlesage_frame *frame, uint8_t *levels, size_t room, size_t *count)
 {
   if (frame == NULL || levels == NULL || count == NULL)
@@ -246,6 +296,7 @@ EXPORT const char *riddlesage_status_name(riddlesage_status status)
     "ok",       "null pointer",   "moved",   "no port",   "no memory", "queue full", "no entry",
     "bad flag", "bad identifier", "bad dlc", "bad level", "bad count", "no levels",  "no room",
     "short",    "no start",       "stuff",   "crc",       "form",      "bad scenario", "bad byte",
+    "bad bus",  "no such port",   "bad order", "bad kind",
   };
   return (size_t)status < sizeof names / sizeof names[0] ? names[status] : NULL;
 }

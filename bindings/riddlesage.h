@@ -37,8 +37,9 @@
  * - calls for one port don't run at the same time. Ports are independent of each other, and belong to no thread.
  *
  * Only riddlesage_port_new(), riddlesage_port_idle(), riddlesage_port_joining(), riddlesage_port_copy(),
- * riddlesage_run(), riddlesage_decode_trace() and riddlesage_decode_levels() take memory, by malloc. What these last
- * three take is free when they return: 32 MiB in one piece, of which they touch what the text has.
+ * riddlesage_play(), riddlesage_run(), riddlesage_decode_trace() and riddlesage_decode_levels() take memory, by malloc.
+ * What these last four take is free when they return: a byte for each bit time, and some for each port, offer and hit;
+ * and the three of texts 32 MiB in one piece, of which they touch what the text has.
  */
 #ifndef RIDDLESAGE_H
 #define RIDDLESAGE_H
@@ -60,7 +61,7 @@ typedef enum riddlesage_status {
   RIDDLESAGE_NULL_POINTER = 1,   /**< a pointer is NULL that must not be */
   RIDDLESAGE_MOVED = 2,          /**< the port is a copy of another one, or did not begin as all bytes 0 */
   RIDDLESAGE_NO_PORT = 3,        /**< no port was made there, or it was freed */
-  RIDDLESAGE_NO_MEMORY = 4,      /**< there is no memory for the port, or for a text */
+  RIDDLESAGE_NO_MEMORY = 4,      /**< there is no memory for the port, the run of a bus, or a text */
   RIDDLESAGE_QUEUE_FULL = 5,     /**< the queue holds as many frames as it has room for */
   RIDDLESAGE_NO_ENTRY = 6,       /**< the log has no entry of this number */
   RIDDLESAGE_BAD_FLAG = 7,       /**< extended or remote is neither 0 nor 1 */
@@ -76,7 +77,11 @@ typedef enum riddlesage_status {
   RIDDLESAGE_CRC = 17,           /**< the check sequence is wrong */
   RIDDLESAGE_FORM = 18,          /**< a delimiter or one of the first six levels of the end of frame is dominant */
   RIDDLESAGE_BAD_SCENARIO = 19,  /**< the text says no scenario */
-  RIDDLESAGE_BAD_BYTE = 20       /**< a byte of a trace is neither a level, nor a blank, nor of a line end */
+  RIDDLESAGE_BAD_BYTE = 20,      /**< a byte of a trace is neither a level, nor a blank, nor of a line end */
+  RIDDLESAGE_BAD_BUS = 21,       /**< there are no ports for a bus, more than 64, or one of them twice */
+  RIDDLESAGE_NO_SUCH_PORT = 22,  /**< an offer or a hit names no port of the bus */
+  RIDDLESAGE_BAD_ORDER = 23,     /**< an offer is earlier than the one before it, or a hit is not behind it in order */
+  RIDDLESAGE_BAD_KIND = 24       /**< a hit is of no kind */
 } riddlesage_status;
 
 /** Levels, in every list of levels one byte each. Dominant overrides recessive. */
@@ -339,6 +344,56 @@ riddlesage_status riddlesage_port_missed(riddlesage_port *port, uint32_t *count)
  * @return OK, NULL_POINTER, MOVED, NO_PORT, NO_ENTRY
  */
 riddlesage_status riddlesage_port_entry(riddlesage_port *port, size_t number, riddlesage_frame *frame, uint8_t *sent);
+
+/** A frame that is offered to a port of a bus while it runs. */
+typedef struct riddlesage_offer {
+  uint64_t time;          /**< the bit time before which it is offered, the first of the call being 0 */
+  size_t port;            /**< the number of the port, the first being 0 */
+  riddlesage_frame frame; /**< the frame */
+} riddlesage_offer;
+
+/** How a bit time of a bus is disturbed. */
+typedef enum riddlesage_hit_kind {
+  RIDDLESAGE_HIT_AT = 0,  /**< the level of the wire is inverted in bit time `time` */
+  RIDDLESAGE_HIT_IN = 1,  /**< it is inverted `offset` bit times behind the start of attempt `attempt`, unless a later
+                               one has begun by then */
+  RIDDLESAGE_HIT_VIEW = 2 /**< port `port` alone sees the inverse of the level of the wire in bit time `time` */
+} riddlesage_hit_kind;
+
+/** A disturbance of one bit time of a bus. What its kind does not name is not read. */
+typedef struct riddlesage_hit {
+  uint64_t time;    /**< the bit time, the first of the call being 0 */
+  uint64_t attempt; /**< the attempt to send a frame, the first that begins in the call being 0 */
+  uint64_t offset;  /**< how many bit times behind its start of frame */
+  size_t port;      /**< the number of the port, the first being 0 */
+  uint8_t kind;     /**< a riddlesage_hit_kind */
+} riddlesage_hit;
+
+/** No bus has more ports. */
+enum { RIDDLESAGE_MOST_PORTS = 64 };
+
+/**
+ * Runs a bus of ports for some bit times, offers frames to them meanwhile, and disturbs it, as docs/BUS.md says. The
+ * ports go on from where they stand, and stand where they are behind the call: other calls tell what they have sent and
+ * received, and may take them on, also to another bus. The wire counts as recessive for eleven bit times before the
+ * call, so that its first dominant level begins attempt 0.
+ * @param[in] ports the ports, none of them twice
+ * @param count how many, 1 to RIDDLESAGE_MOST_PORTS
+ * @param[in] offers the frames, in the order of their times; those of one time are offered in this order, and one
+ * behind the last bit time is not. May be NULL where there are none
+ * @param offer_count how many
+ * @param[in] hits the disturbances: first those at a time, then those in an attempt, then those of what a port sees,
+ * and within each kind by rising numbers in the order of the fields. May be NULL where there are none
+ * @param hit_count how many
+ * @param[out] levels the level of the wire in each bit time: `bits` bytes; may be NULL where that is 0
+ * @param bits for how many bit times the bus runs
+ * @param[out] refused how many of the frames that were offered a full queue refused; may be NULL
+ * @return OK, NULL_POINTER, BAD_BUS, and MOVED, NO_PORT of a port; BAD_FLAG, BAD_IDENTIFIER, BAD_DLC of an offer;
+ * BAD_KIND of a hit; NO_MEMORY; and of the first offer that is wrong, or else the first hit, BAD_ORDER, NO_SUCH_PORT
+ */
+riddlesage_status riddlesage_play(riddlesage_port *const *ports, size_t count, const riddlesage_offer *offers,
+                                  size_t offer_count, const riddlesage_hit *hits, size_t hit_count, uint8_t *levels,
+                                  size_t bits, size_t *refused);
 
 /**
  * Tells the levels of a frame as its sender drives them, from the start of frame to the end of frame, the ACK slot

@@ -3,11 +3,13 @@
 //     c++ -std=c++20 -I bindings -I bindings/cpp -o one_frame bindings/cpp/one_frame.cc bindings/out/libriddlesage.a
 #include <riddlesage.hpp>
 
+#include <array>
 #include <cstdio>
 #include <utility>
 #include <vector>
 
-using riddlesage::Event, riddlesage::Level, riddlesage::Port, riddlesage::Status, riddlesage::Told;
+using riddlesage::Event, riddlesage::Hit, riddlesage::Level, riddlesage::Offer, riddlesage::Port, riddlesage::Status,
+    riddlesage::Told;
 
 int main()
 {
@@ -26,4 +28,10 @@ int main()
     if (const Told told = ports[1].sample(bus); told.event == Event::received)
       std::puts(riddlesage::text(*told.frame).c_str()); // S 123 D 2 aa55
   }
+
+  const std::array offers{Offer{.time = 5, .port = 1, .frame = {.identifier = 0x124}}};
+  const std::array hits{Hit::in(0, 16)}; // 16 bit times behind the start of attempt 0
+  std::array<Level, 200> levels{};
+  if (riddlesage::play(ports, offers, hits, levels).status == Status::ok) // a bus by one call
+    std::printf("%d\n", ports[1].counters().transmit); // 7
 }

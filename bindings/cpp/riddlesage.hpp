@@ -2,9 +2,9 @@
 /// @brief riddlesage.h for C++20: a classical CAN controller at whole bit times, as a golden model.
 ///
 /// A Port frees itself, can be moved and kept in containers, and takes and gives enumerations and spans in place of
-/// numbers and pointers. Nothing throws but text(), run(), decode_trace() and decode_levels(), where there is no memory
-/// for a text. A call that can be refused answers a Status, and nothing has changed where that is not Status::ok. What
-/// each call does stands in riddlesage.h; that is proved, and this header is not.
+/// numbers and pointers. Nothing throws but text(), play(), run(), decode_trace() and decode_levels(), where there is no
+/// memory for a text or a list. A call that can be refused answers a Status, and nothing has changed where that is not
+/// Status::ok. What each call does stands in riddlesage.h; that is proved, and this header is not.
 #ifndef RIDDLESAGE_HPP
 #define RIDDLESAGE_HPP
 
@@ -23,6 +23,7 @@
 #include <string_view>
 #include <utility>
 #include <variant>
+#include <vector>
 
 namespace riddlesage {
 
@@ -59,7 +60,10 @@ enum class Status : std::uint8_t {
   crc = RIDDLESAGE_CRC,
   form = RIDDLESAGE_FORM,
   bad_scenario = RIDDLESAGE_BAD_SCENARIO,
-  bad_byte = RIDDLESAGE_BAD_BYTE
+  bad_byte = RIDDLESAGE_BAD_BYTE,
+  bad_bus = RIDDLESAGE_BAD_BUS,
+  no_such_port = RIDDLESAGE_NO_SUCH_PORT,
+  bad_order = RIDDLESAGE_BAD_ORDER
 };
 
 /// What a bit time brings to a port.
@@ -289,6 +293,10 @@ struct Delete {
 
 } // namespace detail
 
+struct Offer;
+struct Played;
+class Hit;
+
 /// A controller with a queue of frames to send and a log of the frames that were on the bus. A port that was moved from
 /// may be destroyed and assigned to; any other call of it ends the program.
 class Port {
@@ -414,6 +422,9 @@ public:
 private:
   using Place = std::unique_ptr<riddlesage_port, detail::Delete>;
 
+  friend Played play(std::span<Port> ports, std::span<const Offer> offers, std::span<const Hit> hits,
+                     std::span<Level> levels);
+
   explicit Port(Place at) noexcept : at_(std::move(at)) {}
 
   static std::optional<Port> made(riddlesage_status (*make)(riddlesage_port *, std::size_t, std::size_t),
@@ -425,6 +436,14 @@ private:
     return Port(std::move(at));
   }
 
+  /// Where the port is kept: one that was moved from ends the program.
+  [[nodiscard]] riddlesage_port *place() const noexcept
+  {
+    if (at_ == nullptr)
+      std::abort();
+    return at_.get();
+  }
+
   [[nodiscard]] Status answered(riddlesage_status status) const noexcept
   {
     if (at_ == nullptr)
@@ -434,6 +453,75 @@ private:
 
   Place at_;
 };
+
+/// A frame that is offered to a port of a bus while it runs.
+struct Offer {
+  std::uint64_t time = 0; ///< the bit time before which it is offered, the first of the call being 0
+  std::size_t port = 0;   ///< the number of the port, the first being 0
+  Frame frame;
+};
+
+/// How a bus has run.
+struct Played {
+  Status status = Status::ok; ///< where it isn't ok, no port has changed, and no level is written
+  std::size_t refused = 0;    ///< how many of the frames that were offered a full queue refused
+};
+
+/// A disturbance of one bit time of a bus.
+class Hit {
+public:
+  /// The level of the wire is inverted in this bit time, the first of the call being 0.
+  [[nodiscard]] static constexpr Hit at(std::uint64_t time) noexcept
+  {
+    return Hit({time, 0, 0, 0, RIDDLESAGE_HIT_AT});
+  }
+
+  /// It is inverted so many bit times behind the start of an attempt, the first of the call being 0, unless a later one
+  /// has begun by then.
+  [[nodiscard]] static constexpr Hit in(std::uint64_t attempt, std::uint64_t offset) noexcept
+  {
+    return Hit({0, attempt, offset, 0, RIDDLESAGE_HIT_IN});
+  }
+
+  /// This port alone sees the inverse of the level of the wire in this bit time.
+  [[nodiscard]] static constexpr Hit view(std::uint64_t time, std::size_t port) noexcept
+  {
+    return Hit({time, 0, 0, port, RIDDLESAGE_HIT_VIEW});
+  }
+
+private:
+  friend Played play(std::span<Port> ports, std::span<const Offer> offers, std::span<const Hit> hits,
+                     std::span<Level> levels);
+
+  explicit constexpr Hit(const riddlesage_hit &plain) noexcept : plain_(plain) {}
+
+  riddlesage_hit plain_;
+};
+
+/// Runs a bus of 1 to 64 ports, a bit time for each level, offers frames to them meanwhile, and disturbs it; writes the
+/// level of the wire in each bit time. Offers come in the order of their times; hits first at times, then in attempts,
+/// then views, and each kind by rising numbers. The ports go on from where they stand, and stand where they are behind
+/// it. bad_bus, bad_identifier, bad_dlc, no_memory, bad_order, no_such_port.
+[[nodiscard]] inline Played play(std::span<Port> ports, std::span<const Offer> offers, std::span<const Hit> hits,
+                                 std::span<Level> levels)
+{
+  std::array<riddlesage_port *, RIDDLESAGE_MOST_PORTS> at{};
+  if (ports.size() > at.size())
+    return {Status::bad_bus, 0};
+  std::ranges::transform(ports, at.begin(), [](const Port &port) { return port.place(); });
+  std::vector<riddlesage_offer> offered;
+  offered.reserve(offers.size());
+  for (const Offer &offer : offers)
+    offered.push_back({offer.time, offer.port, detail::plain(offer.frame)});
+  std::vector<riddlesage_hit> plain;
+  plain.reserve(hits.size());
+  for (const Hit &hit : hits)
+    plain.push_back(hit.plain_);
+  Played out;
+  out.status = detail::status_of(riddlesage_play(at.data(), ports.size(), offered.data(), offered.size(), plain.data(),
+                                                 plain.size(), detail::room_of(levels), levels.size(), &out.refused));
+  return out;
+}
 
 /// The levels of the frame as its sender drives them, from the start of frame to the end of frame, the ACK slot
 /// recessive. bad_identifier, bad_dlc.

@@ -95,6 +95,28 @@ void refusals()
   want(events[0] == Event::bit_error, "which is not on the bus");
 }
 
+// Ports on a bus by one call: what is offered and disturbed, and what is refused.
+void buses()
+{
+  std::vector<Port> ports;
+  ports.push_back(made(1, 4));
+  ports.push_back(made(1, 4));
+  std::array<Level, 200> levels{};
+  const std::array offers{Offer{5, 0, some}, Offer{5, 0, some}};
+  const std::array hits{Hit::in(0, 16), Hit::view(199, 1)};
+  want(play({}, {}, {}, levels).status == Status::bad_bus, "a bus of no ports");
+  want(play(ports, std::array{Offer{0, 2, some}}, {}, levels).status == Status::no_such_port, "an offer to no port");
+  want(play(ports, std::array{Offer{0, 0, {.dlc = 16}}}, {}, levels).status == Status::bad_dlc, "an offer of no frame");
+  want(play(ports, {}, std::array{hits[1], hits[0]}, levels).status == Status::bad_order, "hits out of order");
+  want(ports[0].phase() == Standing{} && ports[1].phase() == Standing{}, "ports that stay as they are");
+  want(play(ports, {}, {}, {}).status == Status::ok, "no bit times");
+  const Played played = play(ports, offers, hits, levels);
+  want(played.status == Status::ok && played.refused == 1, "a queue that is full");
+  want(levels[4] == Level::recessive && levels[5] == Level::dominant, "a frame behind its time");
+  want(ports[0].counters() == Counters{7, 0} && ports[0].log_length() == 1, "a frame that is sent again");
+  want(ports[1].log_length() == 1 && ports[1].entry(0)->frame == some, "and received once");
+}
+
 // Ports in a container that grows, moved about, replaced and swapped.
 void moves()
 {
@@ -127,6 +149,7 @@ int main()
   texts();
   standings();
   refusals();
+  buses();
   moves();
   return wrong == 0 ? EXIT_SUCCESS : EXIT_FAILURE;
 }

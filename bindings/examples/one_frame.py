@@ -2,7 +2,7 @@
 
 from __future__ import annotations
 
-from riddlesage import Bus, Fault, Frame, Port, decode, decode_trace, encode
+from riddlesage import Bus, Fault, Frame, Port, decode, decode_trace, encode, play
 
 port = Port()
 port.offer(Frame(0x123, b"\xaa\x55"))
@@ -14,6 +14,9 @@ try:
     decode(encode(Frame(0x123))[:20])
 except Fault as fault:
     print(fault.name, fault.place)  # SHORT 20
+
+played = play([Port(), Port()], 200, [(5, 0, Frame(0x123))], hit_in=[(0, 16)])  # a whole bus by one call
+print(played.levels.index(0))  # 5
 
 bus = Bus(Port(), Port())  # or devices of one's own
 bus.offer(0, Frame.from_text("S 123 D 2 aa55"), time=20)

@@ -378,6 +378,82 @@ static void traces_of_levels(void)
   }
 }
 
+/* Ports of a bus that are none, too many, or there twice; offers and hits that are none, out of order, or of no port. */
+static void bad_buses(void)
+{
+  static const riddlesage_frame none[] = {
+    { 0, 2, 0, 0, { 0 } }, { 0x800, 0, 0, 0, { 0 } }, { 0, 0, 0, 16, { 0 } },
+  };
+  static const riddlesage_status why[] = { RIDDLESAGE_BAD_FLAG, RIDDLESAGE_BAD_IDENTIFIER, RIDDLESAGE_BAD_DLC };
+  static const riddlesage_hit sound[] = { { 1, 0, 0, 0, RIDDLESAGE_HIT_AT }, { 0, 0, 3, 0, RIDDLESAGE_HIT_IN },
+                                          { 2, 0, 0, 1, RIDDLESAGE_HIT_VIEW } };
+  riddlesage_port one = RIDDLESAGE_PORT_INIT, other = RIDDLESAGE_PORT_INIT, unmade = RIDDLESAGE_PORT_INIT, copy;
+  riddlesage_port *ports[RIDDLESAGE_MOST_PORTS + 1] = { &one, &other };
+  riddlesage_offer offers[2] = { { 0, 0, { 0x123, 0, 0, 0, { 0 } } }, { 0, 1, { 0x124, 0, 0, 0, { 0 } } } };
+  riddlesage_hit hits[3];
+  uint8_t bus[4] = { 7, 7, 7, 7 }, before[4] = { 7, 7, 7, 7 };
+  size_t many = 99, row;
+
+#define PLAY(count, offer_count, hit_count) \
+  riddlesage_play(ports, count, offers, offer_count, hits, hit_count, bus, sizeof bus, &many)
+
+  memcpy(hits, sound, sizeof hits);
+  WANT(OK, riddlesage_port_idle(&one, 1, 4));
+  WANT(OK, riddlesage_port_idle(&other, 1, 4));
+  WANT(NULL_POINTER, riddlesage_play(NULL, 2, offers, 2, hits, 3, bus, sizeof bus, &many));
+  WANT(NULL_POINTER, riddlesage_play(ports, 2, NULL, 2, hits, 3, bus, sizeof bus, &many));
+  WANT(NULL_POINTER, riddlesage_play(ports, 2, offers, 2, NULL, 3, bus, sizeof bus, &many));
+  WANT(NULL_POINTER, riddlesage_play(ports, 2, offers, 2, hits, 3, NULL, sizeof bus, &many));
+  WANT(BAD_BUS, PLAY(0, 2, 3));
+  WANT(BAD_BUS, PLAY(RIDDLESAGE_MOST_PORTS + 1, 2, 3));
+  WANT(BAD_BUS, PLAY(SIZE_MAX, 2, 3));
+  WANT(NULL_POINTER, PLAY(3, 2, 3));
+  copy = one;
+  ports[2] = &unmade;
+  WANT(NO_PORT, PLAY(3, 2, 3));
+  ports[2] = &copy;
+  WANT(MOVED, PLAY(3, 2, 3));
+  ports[2] = &one;
+  WANT(BAD_BUS, PLAY(3, 2, 3));
+  for (row = 0; row < sizeof none / sizeof none[0]; row++) {
+    offers[1].frame = none[row];
+    want(why[row], PLAY(2, 2, 3), "an offer of no frame", (int)row);
+  }
+  offers[1].frame = offers[0].frame;
+  for (row = 3; row <= UINT8_MAX; row++) {
+    hits[2].kind = (uint8_t)row;
+    want(RIDDLESAGE_BAD_KIND, PLAY(2, 2, 3), "a hit of no kind", (int)row);
+  }
+  hits[2] = sound[2];
+  offers[0].time = 1;
+  WANT(BAD_ORDER, PLAY(2, 2, 3));
+  offers[1].time = UINT64_MAX;
+  offers[1].port = 2;
+  WANT(NO_SUCH_PORT, PLAY(2, 2, 3));
+  offers[1].port = SIZE_MAX;
+  WANT(NO_SUCH_PORT, PLAY(2, 2, 3));
+  hits[2].port = 2;
+  WANT(NO_SUCH_PORT, PLAY(2, 0, 3));
+  hits[2] = hits[1];
+  WANT(BAD_ORDER, PLAY(2, 0, 3));
+  hits[1] = sound[2];
+  WANT(BAD_ORDER, PLAY(2, 0, 3));
+  WANT_SAME(before, bus);
+  want(many == 99 ? RIDDLESAGE_OK : RIDDLESAGE_QUEUE_FULL, RIDDLESAGE_OK, "refused is written", __LINE__);
+#undef PLAY
+
+  /* nothing has run, and both queues have room; a third frame has none */
+  WANT(OK, riddlesage_play(ports, 2, NULL, 0, NULL, 0, NULL, 0, NULL));
+  offers[0].time = offers[1].time = offers[1].port = 0;
+  WANT(OK, riddlesage_play(ports, 2, offers, 2, NULL, 0, bus, 1, &many));
+  want(many == 1 && bus[0] == 0 && bus[1] == 7 ? RIDDLESAGE_OK : RIDDLESAGE_QUEUE_FULL, RIDDLESAGE_OK, "a start",
+       __LINE__);
+  WANT(QUEUE_FULL, riddlesage_port_offer(&one, &frame));
+  WANT(OK, riddlesage_port_offer(&other, &frame));
+  WANT(OK, riddlesage_port_free(&one));
+  WANT(OK, riddlesage_port_free(&other));
+}
+
 int main(void)
 {
   riddlesage_port port = RIDDLESAGE_PORT_INIT;
@@ -398,8 +474,9 @@ int main(void)
   bad_scenarios();
   texts();
   traces_of_levels();
+  bad_buses();
   WANT(OK, riddlesage_port_free(&port));
-  if (riddlesage_status_name((riddlesage_status)21) != NULL || riddlesage_event_name((riddlesage_event)12) != NULL ||
+  if (riddlesage_status_name((riddlesage_status)25) != NULL || riddlesage_event_name((riddlesage_event)12) != NULL ||
       riddlesage_phase_name((riddlesage_phase)15) != NULL || riddlesage_rule_name((riddlesage_rule)17) != NULL)
     wrong++;
   printf("%u of %u refused or taken as they should be\n", tried - wrong, tried);

@@ -72,6 +72,28 @@ static bool play_copy(void)
   return riddlesage_port_free(&one) == RIDDLESAGE_OK && riddlesage_port_free(&other) == RIDDLESAGE_OK && well;
 }
 
+/* A bus is run: the same; and where there is no memory, its ports are as they were. */
+static bool play_bus(void)
+{
+  static const riddlesage_offer offers[] = { { 0, 0, { 0x123, 0, 0, 0, { 0 } } }, { 1, 1, { 0x124, 0, 0, 0, { 0 } } } };
+  static const riddlesage_hit hit = { 0, 0, 0, 1, RIDDLESAGE_HIT_VIEW };
+  riddlesage_port one = RIDDLESAGE_PORT_INIT, other = RIDDLESAGE_PORT_INIT;
+  riddlesage_port *const ports[] = { &one, &other };
+  bool before, well = true;
+  riddlesage_status status;
+  riddlesage_standing standing;
+  uint8_t levels[8];
+
+  if (riddlesage_port_idle(&one, 1, 1) == RIDDLESAGE_OK && riddlesage_port_idle(&other, 1, 1) == RIDDLESAGE_OK) {
+    before = refused;
+    status = riddlesage_play(ports, 2, offers, 2, &hit, 1, levels, sizeof levels, NULL);
+    well = status == (refused != before ? RIDDLESAGE_NO_MEMORY : RIDDLESAGE_OK) &&
+           riddlesage_port_phase(&one, &standing) == RIDDLESAGE_OK &&
+           (standing.phase == RIDDLESAGE_PHASE_IDLE) == (status != RIDDLESAGE_OK);
+  }
+  return riddlesage_port_free(&one) == RIDDLESAGE_OK && riddlesage_port_free(&other) == RIDDLESAGE_OK && well;
+}
+
 /* A scenario is run, and a trace decoded by its text and its levels: the same. */
 static bool play_texts(void)
 {
@@ -98,7 +120,7 @@ int main(void)
   do {
     refused = false;
     given = number++;
-    if (!play() || !play_copy() || !play_texts()) {
+    if (!play() || !play_copy() || !play_bus() || !play_texts()) {
       printf("allocation %d is refused, and not told so\n", number);
       return EXIT_FAILURE;
     }

@@ -6,6 +6,9 @@
  *   port START QUEUE LOG HOLD      the next port: idle or joining, its rooms, the overload frames that it asks for
  *   offer TIME PORT FRAME          a frame, and before which bit time it is offered; times rise
  *   at TIME, in ATTEMPT OFFSET, view TIME PORT    a disturbance, in the order of docs/BUS.md
+ *
+ * With the word `play` the library runs the bus by one call; else each port is driven and sampled here, bit time by bit
+ * time.
  */
 #include "../examples/frame_text.h"
 #include "riddlesage.h"
@@ -14,7 +17,7 @@
 #include <stdlib.h>
 #include <string.h>
 
-enum { MOST_PORTS = 64, LINE_ROOM = 128, REST = 11 };
+enum { LINE_ROOM = 128, REST = 11 };
 
 /* A disturbance: a time, or an attempt with an offset, or a time with a port. */
 struct hit {
@@ -27,18 +30,11 @@ struct hits {
   size_t count, over;
 };
 
-/* A frame that is offered to a port before a bit time. */
-struct offer {
-  unsigned long time;
-  size_t port;
-  riddlesage_frame frame;
-};
-
 struct scenario {
   unsigned long bits;
-  riddlesage_port ports[MOST_PORTS];
+  riddlesage_port ports[RIDDLESAGE_MOST_PORTS];
   size_t port_count;
-  struct offer *offers;
+  riddlesage_offer *offers;
   size_t offer_count, made;
   struct hits at, in, view;
 };
@@ -95,13 +91,14 @@ static void read_port(struct scenario *scenario, const char *line)
 
 static void read_offer(struct scenario *scenario, const char *line)
 {
-  struct offer offer;
-  unsigned long port;
+  riddlesage_offer offer;
+  unsigned long time, port;
   int read;
 
-  if (sscanf(line, "offer %lu %lu %n", &offer.time, &port, &read) != 2 || port >= scenario->port_count ||
+  if (sscanf(line, "offer %lu %lu %n", &time, &port, &read) != 2 || port >= scenario->port_count ||
       !frame_from_text(line + read, &offer.frame))
     exit(EXIT_FAILURE);
+  offer.time = time;
   offer.port = port;
   scenario->offers = grown(scenario->offers, scenario->offer_count, sizeof offer);
   scenario->offers[scenario->offer_count++] = offer;
@@ -131,7 +128,7 @@ static void read_line(struct scenario *scenario, const char *line)
 static void offer_all(struct scenario *scenario, unsigned long time)
 {
   for (; scenario->made < scenario->offer_count && scenario->offers[scenario->made].time == time; scenario->made++) {
-    const struct offer *offer = &scenario->offers[scenario->made];
+    const riddlesage_offer *offer = &scenario->offers[scenario->made];
     demand(riddlesage_port_offer(&scenario->ports[offer->port], &offer->frame));
   }
 }
@@ -188,6 +185,49 @@ static void run(struct scenario *scenario)
   }
 }
 
+/* Puts the disturbances of one kind behind so many others, and tells how many these are then. */
+static size_t put(riddlesage_hit *all, size_t count, const struct hits *hits, uint8_t kind)
+{
+  size_t place;
+
+  for (place = 0; place < hits->count; place++, count++) {
+    all[count].kind = kind;
+    all[count].time = all[count].attempt = hits->items[place].first;
+    all[count].offset = all[count].port = hits->items[place].second;
+  }
+  return count;
+}
+
+/* Room for so many items, one at least. */
+static void *room(size_t count, size_t size)
+{
+  void *at = malloc((count + 1) * size);
+
+  if (at == NULL)
+    exit(EXIT_FAILURE);
+  return at;
+}
+
+static void play(struct scenario *scenario)
+{
+  riddlesage_port *ports[RIDDLESAGE_MOST_PORTS];
+  riddlesage_hit *hits = room(scenario->at.count + scenario->in.count + scenario->view.count, sizeof *hits);
+  uint8_t *levels = room(scenario->bits, 1);
+  size_t place, count;
+
+  for (place = 0; place < scenario->port_count; place++)
+    ports[place] = &scenario->ports[place];
+  count = put(hits, 0, &scenario->at, RIDDLESAGE_HIT_AT);
+  count = put(hits, count, &scenario->in, RIDDLESAGE_HIT_IN);
+  count = put(hits, count, &scenario->view, RIDDLESAGE_HIT_VIEW);
+  demand(riddlesage_play(ports, scenario->port_count, scenario->offers, scenario->offer_count, hits, count, levels,
+                         scenario->bits, NULL));
+  for (place = 0; place < scenario->bits; place++)
+    putchar('0' + levels[place]);
+  free(levels);
+  free(hits);
+}
+
 static void print_port(riddlesage_port *port, size_t place)
 {
   static const char *const states[] = { "active", "passive", "off" };
@@ -212,7 +252,7 @@ static void print_port(riddlesage_port *port, size_t place)
   }
 }
 
-int main(void)
+int main(int count, char **words)
 {
   static struct scenario scenario;
   char line[LINE_ROOM];
@@ -223,7 +263,7 @@ int main(void)
     read_line(&scenario, line);
   }
   printf("bits %lu\n", scenario.bits);
-  run(&scenario);
+  (count > 1 && strcmp(words[1], "play") == 0 ? play : run)(&scenario);
   putchar('\n');
   for (place = 0; place < scenario.port_count; place++) {
     print_port(&scenario.ports[place], place);

@@ -4,6 +4,7 @@
 It writes one of these:
 
     scenarios.py report < SCENARIO     the report, as `canbit run` prints it
+    scenarios.py played < SCENARIO     the same, of ports that are run by one call
     scenarios.py plain < SCENARIO      the lines that tests/scenario.c reads
     scenarios.py random SEED BITS      a scenario of four ports with frames and disturbances of all kinds
 """
@@ -14,7 +15,7 @@ import argparse
 import pathlib
 import random
 import sys
-from collections.abc import Iterator
+from collections.abc import Callable, Iterator
 from typing import Any
 
 import tomllib
@@ -22,7 +23,7 @@ import tomllib
 HERE = pathlib.Path(__file__).resolve().parent
 sys.path.insert(0, str(HERE.parent / "python"))
 
-from riddlesage import Bus, Frame, Port, State
+from riddlesage import Bus, Frame, Port, State, play
 
 STATES = {State.ERROR_ACTIVE: "active", State.ERROR_PASSIVE: "passive", State.BUS_OFF: "off"}
 
@@ -59,9 +60,8 @@ def made(table: Document) -> Port:
     return port
 
 
-def report(document: Document) -> Iterator[str]:
-    """The lines of the report."""
-    ports = [made(table) for table in document["port"]]
+def bit_by_bit(document: Document, ports: list[Port]) -> bytes:
+    """The levels of a bus of these ports."""
     bus = Bus(*ports)
     for time, place, text in offers(document):
         bus.offer(place, Frame.from_text(text), time)
@@ -72,12 +72,31 @@ def report(document: Document) -> Iterator[str]:
     for time, place in document.get("view", []):
         bus.view(time, place)
     bus.run(document["bits"])
+    return bus.levels
+
+
+def in_one_call(document: Document, ports: list[Port]) -> bytes:
+    """The same."""
+    given = [(time, place, Frame.from_text(text)) for time, place, text in offers(document)]
+    hits = {call: document.get(key, []) for call, key in (("hit_at", "at"), ("hit_in", "in"), ("view", "view"))}
+    return play(ports, document["bits"], given, **hits).levels
+
+
+def report(document: Document, levels_of: Callable[[Document, list[Port]], bytes] = bit_by_bit) -> Iterator[str]:
+    """The lines of the report, of ports that are run so."""
+    ports = [made(table) for table in document["port"]]
+    levels = levels_of(document, ports)
     yield f"bits {document['bits']}"
-    yield "".join(map(str, bus.levels))
+    yield "".join(map(str, levels))
     for place, port in enumerate(ports):
         transmit, receive = port.counters
         yield f"port {place} {STATES[port.state]} tec {transmit} rec {receive} missed {port.missed}"
         yield from (f"  {'sent' if entry.sent else 'took'} {entry.frame.text}" for entry in port.log)
+
+
+def played(document: Document) -> Iterator[str]:
+    """The lines of the report, of ports that are run by one call."""
+    return report(document, in_one_call)
 
 
 def random_frame(chance: random.Random) -> str:
@@ -105,16 +124,17 @@ def random_scenario(seed: int, bits: int) -> Iterator[str]:
 
 
 def main() -> None:
-    """Runs one of the three."""
+    """Runs one of these."""
     parser = argparse.ArgumentParser(description=__doc__, formatter_class=argparse.RawDescriptionHelpFormatter)
-    parser.add_argument("what", choices=("report", "plain", "random"))
+    parser.add_argument("what", choices=("report", "played", "plain", "random"))
     parser.add_argument("numbers", nargs="*", type=int)
     words = parser.parse_args()
     if words.what == "random":
         lines = random_scenario(*words.numbers)
     else:
         document = tomllib.loads(sys.stdin.read())
-        lines = report(document) if words.what == "report" else plain(document)
+        by: dict[str, Callable[[Document], Iterator[str]]] = {"report": report, "plain": plain, "played": played}
+        lines = by[words.what](document)
     for line in lines:
         print(line)
 

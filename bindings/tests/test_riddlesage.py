@@ -13,6 +13,7 @@ import threading
 import tracemalloc
 import unittest
 from collections.abc import Callable
+from typing import Any
 
 import tomllib
 
@@ -39,9 +40,10 @@ from riddlesage import (
     decode,
     decode_trace,
     encode,
+    play,
 )
 from riddlesage._library import lib
-from scenarios import STATES, report
+from scenarios import STATES, played, report
 
 
 def levels_of(text: str) -> bytes:
@@ -183,8 +185,10 @@ class Scenarios(unittest.TestCase):
         """Each scenario of examples/scenarios."""
         for path in sorted((TOP / "examples" / "scenarios").glob("*.toml")):
             with self.subTest(path.name):
-                lines = report(tomllib.loads(path.read_text(encoding="utf-8")))
-                self.assertEqual(path.with_suffix(".report").read_text(encoding="ascii").splitlines(), list(lines))
+                document = tomllib.loads(path.read_text(encoding="utf-8"))
+                wanted = path.with_suffix(".report").read_text(encoding="ascii").splitlines()
+                self.assertEqual(wanted, list(report(document)))
+                self.assertEqual(wanted, list(played(document)))
 
     def test_run(self) -> None:
         """The library's own run of each, as text and as bytes, and of one whose report is long."""
@@ -285,6 +289,50 @@ class Refusals(unittest.TestCase):
             with self.assertRaises(TypeError):
                 copied(port)
         self.assertEqual(port.drive(), 1)
+
+    def test_played(self) -> None:
+        """Ports on a bus by one call: what is refused changes none of them."""
+        ports, frame = [Port(1, 1), Port(1, 1)], Frame(0x123)
+        self.refused(Status.BAD_BUS, play, [], 1)
+        self.refused(Status.BAD_BUS, play, [Port(0, 0) for _ in range(65)], 1)
+        self.refused(Status.BAD_BUS, play, [ports[0], ports[1], ports[0]], 1)
+        for place in (2, -1, 1 << 70):
+            self.refused(Status.NO_SUCH_PORT, play, ports, 1, [(0, 0, frame), (0, place, frame)])
+        with self.assertRaises(Refused):
+            play(ports, 1, [(0, 0, frame)], view=[(0, 2)])
+        refused: list[tuple[type[Exception], Any, list[Any]]] = [
+            (ValueError, -1, []),
+            (ValueError, 1 << 64, []),
+            (ValueError, 1, [(-1, 0, frame)]),
+            (TypeError, 1.5, []),
+            (TypeError, 1, [(0, 0, "S 123 D 0")]),
+            (TypeError, 1, [(0, 0.5, frame)]),
+        ]
+        for error, bits, offers in refused:
+            with self.subTest(bits=bits, offers=offers), self.assertRaises(error):
+                play(ports, bits, offers)
+        with self.assertRaises(TypeError):
+            play([ports[0], object()], 1)  # type: ignore[list-item]
+        self.assertEqual(play(ports, 0), (b"", 0))
+        self.assertEqual(play(ports, 1, [(0, 0, frame), (0, 0, frame)]), (b"\0", 1))
+        ports[1].close()
+        self.refused(Status.NO_PORT, play, ports, 1)
+        self.assertEqual(str(ports[0].phase), "stuffed 1, sender; Arbitration")
+
+    def test_calls_follow(self) -> None:
+        """Calls for the same ports, and bit times one by one, go on where the ones before ended."""
+        frames = [(time, place, Frame(0x100 + time + place, bytes(place))) for time in (0, 3, 90) for place in range(3)]
+        ports, others = [Port() for _ in range(3)], [Port() for _ in range(3)]
+        whole = play(ports, 1000, frames)
+        parts = play(others, 20, frames[:6]).levels
+        for _ in range(60):
+            level = min(port.drive() for port in others)
+            for port in others:
+                port.sample(level)
+            parts += bytes([level])
+        parts += play(others, 920, [(time - 80, place, frame) for time, place, frame in frames[6:]]).levels
+        self.assertEqual((whole.levels, whole.refused), (parts, 0))
+        self.assertEqual([port.log for port in ports], [port.log for port in others])
 
     def test_threads(self) -> None:
         """A call waits for that of another thread."""
@@ -463,7 +511,7 @@ class Text(unittest.TestCase):
 
     def test_example(self) -> None:
         """Its example does what it says."""
-        for module in (riddlesage, sys.modules["riddlesage._bus"]):
+        for module in (riddlesage, *map(sys.modules.get, ("riddlesage._bus", "riddlesage._play"))):
             failed, tried = doctest.testmod(module)
             self.assertEqual((failed, tried > 0), (0, True))
 

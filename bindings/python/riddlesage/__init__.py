@@ -10,10 +10,11 @@ r"""A classical CAN controller at whole bit times, as a golden model (Bosch CAN 
     >>> receiver.log
     [Entry(frame=Frame(identifier=291, data=b'\xaaU', extended=False, remote=False, dlc=2), sent=False)]
 
-Levels are numbers: 0 is dominant, 1 recessive, and many of them are `bytes`. A `Bus` has several ports, or devices of
-one's own, on a wire with disturbances. The calls are those of riddlesage.h, over `libriddlesage.so`, which is looked
-for at the environment variable RIDDLESAGE_LIBRARY, then in this package and beside it, then where bindings/build puts
-it, and then where the system has its libraries. What each call does is proved; this package is not.
+Levels are numbers: 0 is dominant, 1 recessive, and many of them are `bytes`. `play` runs ports on a bus
+with disturbances by one call; a `Bus` has ports, or devices of one's own, on such a wire. The calls are those of
+riddlesage.h, over `libriddlesage.so`, which is looked for at the environment variable RIDDLESAGE_LIBRARY, then in this
+package and beside it, then where bindings/build puts it, and then where the system has its libraries. What each call
+does is proved; this package is not.
 """
 
 from __future__ import annotations
@@ -33,6 +34,7 @@ from riddlesage._frames import (
     encode,
 )
 from riddlesage._library import VERSION
+from riddlesage._play import Played, play
 from riddlesage._ports import Counters, Entry, Event, Phase, Port, Rule, Run, Standing, State, Told
 from riddlesage._texts import BadByte, BadScenario, decode_trace, run
 
@@ -52,6 +54,7 @@ __all__ = [
     "Happened",
     "Heard",
     "Phase",
+    "Played",
     "Port",
     "Refused",
     "RiddlesageError",
@@ -65,6 +68,7 @@ __all__ = [
     "decode",
     "decode_trace",
     "encode",
+    "play",
     "run",
 ]
 

@@ -51,8 +51,8 @@ class Bus:
         84 0 SENT
 
     Bit times count from 0, devices in the order in which they are given. What a bit time is made of, and in which order
-    it is disturbed, is docs/BUS.md's. The ports are proved; the wire between them is written here a second time, and
-    compared with that of `canbit run` by tests.
+    it is disturbed, is docs/BUS.md's. The ports are proved; the wire between them is written here a second time, for
+    devices of one's own, and compared with that of `canbit run` by tests. `play` has no such part.
     """
 
     def __init__(self, *devices: Device) -> None:

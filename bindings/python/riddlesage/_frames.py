@@ -40,6 +40,10 @@ class Status(enum.IntEnum):
     FORM = 18
     BAD_SCENARIO = 19
     BAD_BYTE = 20
+    BAD_BUS = 21
+    NO_SUCH_PORT = 22
+    BAD_ORDER = 23
+    BAD_KIND = 24
 
 
 class RiddlesageError(Exception):

@@ -3,6 +3,7 @@
 from __future__ import annotations
 
 import ctypes
+import enum
 import os
 import pathlib
 
@@ -35,6 +36,32 @@ class PlainHeard(ctypes.Structure):
         ("r1", ctypes.c_uint8),
         ("r0", ctypes.c_uint8),
         ("last", ctypes.c_uint8),
+    )
+
+
+class PlainOffer(ctypes.Structure):
+    """A riddlesage_offer."""
+
+    _fields_ = (("time", ctypes.c_uint64), ("port", ctypes.c_size_t), ("frame", PlainFrame))
+
+
+class HitKind(enum.IntEnum):
+    """A riddlesage_hit_kind."""
+
+    AT = 0
+    IN = 1
+    VIEW = 2
+
+
+class PlainHit(ctypes.Structure):
+    """A riddlesage_hit."""
+
+    _fields_ = (
+        ("time", ctypes.c_uint64),
+        ("attempt", ctypes.c_uint64),
+        ("offset", ctypes.c_uint64),
+        ("port", ctypes.c_size_t),
+        ("kind", ctypes.c_uint8),
     )
 
 
@@ -94,6 +121,17 @@ _PARAMETERS = {
     "riddlesage_port_missed": (_PORT, ctypes.POINTER(ctypes.c_uint32)),
     "riddlesage_port_entry": (_PORT, ctypes.c_size_t, _FRAME, _U8),
     "riddlesage_port_run": (_PORT, ctypes.c_char_p, ctypes.c_size_t, ctypes.c_char_p, ctypes.c_char_p),
+    "riddlesage_play": (
+        ctypes.POINTER(_PORT),
+        ctypes.c_size_t,
+        ctypes.POINTER(PlainOffer),
+        ctypes.c_size_t,
+        ctypes.POINTER(PlainHit),
+        ctypes.c_size_t,
+        ctypes.c_char_p,
+        ctypes.c_size_t,
+        _SIZE,
+    ),
     "riddlesage_encode": (_FRAME, ctypes.c_char_p, ctypes.c_size_t, _SIZE),
     "riddlesage_decode": (ctypes.c_char_p, ctypes.c_size_t, ctypes.POINTER(PlainHeard), _SIZE),
     "riddlesage_run": (*_DOCUMENT, ctypes.c_char_p),

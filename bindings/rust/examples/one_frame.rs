@@ -1,6 +1,6 @@
 //! What the page shows: a port is offered a frame, and another one receives it.
 
-use riddlesage::{Event, Frame, Port, Refused};
+use riddlesage::{play, Event, Frame, Hit, Offer, Port, Refused};
 
 fn main() -> Result<(), Refused> {
     let mut sender = Port::idle(16, 64)?; // 16 frames may wait, the log has 64 entries
@@ -13,5 +13,11 @@ fn main() -> Result<(), Refused> {
             println!("{frame}"); // S 123 D 2 aa55
         }
     }
+
+    let mut ports = [sender, receiver];
+    let offer = Offer { time: 5, port: 1, frame: Frame::standard(0x124, &[])? };
+    let hit = Hit::In { attempt: 0, offset: 16 }; // 16 bit times behind the start of attempt 0
+    let played = play(&mut ports, 200, &[offer], &[hit])?; // a bus by one call
+    println!("{} {}", played.levels.len(), ports[1].counters().transmit); // 200 7
     Ok(())
 }

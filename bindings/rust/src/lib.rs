@@ -23,6 +23,7 @@
 //! The calls are those of `riddlesage.h`. What each does is proved; this crate is not. What can't be a level, a flag or
 //! an identifier can't be written here, so that few calls can be refused.
 
+mod bus;
 mod frame;
 mod port;
 mod sys;
@@ -32,6 +33,7 @@ use std::error::Error;
 use std::ffi::CStr;
 use std::fmt;
 
+pub use bus::{play, Hit, Offer, Played};
 pub use frame::{decode, encode, Fault, FaultKind, Frame, Heard, Level};
 pub use port::{Counters, Entry, Event, EventKind, Phase, Port, Rule, Standing, State};
 pub use text::{decode_levels, decode_trace, run, ScenarioFault, TraceFault};
@@ -40,7 +42,7 @@ pub use text::{decode_levels, decode_trace, run, ScenarioFault, TraceFault};
 #[derive(Clone, Copy, Debug, PartialEq, Eq, Hash)]
 #[non_exhaustive]
 pub enum Refused {
-    /// There is no memory for the port.
+    /// There is no memory for the port, or for the run of a bus.
     NoMemory,
     /// The queue holds as many frames as it has room for.
     QueueFull,
@@ -52,6 +54,12 @@ pub enum Refused {
     BadCount,
     /// There are no levels to sample.
     NoLevels,
+    /// There are no ports for a bus, or more than 64.
+    BadBus,
+    /// An offer or a hit names no port of the bus.
+    NoSuchPort,
+    /// An offer is earlier than the one before it, or a hit is not above it.
+    BadOrder,
 }
 
 impl Refused {
@@ -64,6 +72,9 @@ impl Refused {
             sys::BAD_DLC => Self::BadDlc,
             sys::BAD_COUNT => Self::BadCount,
             sys::NO_LEVELS => Self::NoLevels,
+            sys::BAD_BUS => Self::BadBus,
+            sys::NO_SUCH_PORT => Self::NoSuchPort,
+            sys::BAD_ORDER => Self::BadOrder,
             // by the header these come of arguments that this crate never makes
             _ => unreachable!("riddlesage answers {status}"),
         })
@@ -79,6 +90,9 @@ impl fmt::Display for Refused {
             Self::BadDlc => "bad dlc",
             Self::BadCount => "bad count",
             Self::NoLevels => "no levels",
+            Self::BadBus => "bad bus",
+            Self::NoSuchPort => "no such port",
+            Self::BadOrder => "bad order",
         })
     }
 }

@@ -308,6 +308,11 @@ impl Port {
         Ok(port)
     }
 
+    /// Where the library keeps it.
+    pub(crate) fn place(&self) -> *mut sys::Port {
+        self.at.as_ptr()
+    }
+
     /// For calls that are refused nothing, as the port is live.
     fn sure(status: sys::Status) {
         assert_eq!(status, sys::OK, "a port that is live is refused");

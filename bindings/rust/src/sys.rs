@@ -33,6 +33,28 @@ pub struct Standing {
     pub rule: u8,
 }
 
+#[repr(C)]
+#[derive(Clone, Copy, Default)]
+pub struct Offer {
+    pub time: u64,
+    pub port: usize,
+    pub frame: Frame,
+}
+
+#[repr(C)]
+#[derive(Clone, Copy, Default)]
+pub struct Hit {
+    pub time: u64,
+    pub attempt: u64,
+    pub offset: u64,
+    pub port: usize,
+    pub kind: u8,
+}
+
+pub const HIT_AT: u8 = 0;
+pub const HIT_IN: u8 = 1;
+pub const HIT_VIEW: u8 = 2;
+
 /// A port that the library keeps: only its place is known here.
 #[repr(C)]
 pub struct Port {
@@ -58,6 +80,9 @@ pub const CRC: Status = 17;
 pub const FORM: Status = 18;
 pub const BAD_SCENARIO: Status = 19;
 pub const BAD_BYTE: Status = 20;
+pub const BAD_BUS: Status = 21;
+pub const NO_SUCH_PORT: Status = 22;
+pub const BAD_ORDER: Status = 23;
 
 pub const MOST_LEVELS: usize = 157;
 pub const FIELD_ROOM: usize = 64;
@@ -85,6 +110,17 @@ extern "C" {
     pub fn riddlesage_port_log_length(port: *mut Port, count: *mut usize) -> Status;
     pub fn riddlesage_port_missed(port: *mut Port, count: *mut u32) -> Status;
     pub fn riddlesage_port_entry(port: *mut Port, number: usize, frame: *mut Frame, sent: *mut u8) -> Status;
+    pub fn riddlesage_play(
+        ports: *const *mut Port,
+        count: usize,
+        offers: *const Offer,
+        offer_count: usize,
+        hits: *const Hit,
+        hit_count: usize,
+        levels: *mut u8,
+        bits: usize,
+        refused: *mut usize,
+    ) -> Status;
     pub fn riddlesage_encode(frame: *const Frame, levels: *mut u8, room: usize, count: *mut usize) -> Status;
     pub fn riddlesage_decode(levels: *const u8, count: usize, heard: *mut Heard, place: *mut usize) -> Status;
     pub fn riddlesage_run(

@@ -1,8 +1,8 @@
 //! What the crate adds to `riddlesage.h`: types, refusals, ports that move and go to threads.
 
 use riddlesage::{
-    decode, decode_levels, decode_trace, encode, run, version, Counters, Entry, Event, EventKind, FaultKind, Frame,
-    Level, Phase, Port, Refused, Rule, ScenarioFault, Standing, State, TraceFault,
+    decode, decode_levels, decode_trace, encode, play, run, version, Counters, Entry, Event, EventKind, FaultKind,
+    Frame, Hit, Level, Offer, Phase, Port, Refused, Rule, ScenarioFault, Standing, State, TraceFault,
 };
 
 fn frame() -> Frame {
@@ -96,6 +96,24 @@ fn where_a_port_stands() {
     let mut copy = sender.copy().expect("memory");
     assert_eq!(copy.phase(), sender.phase());
     assert_eq!(copy.offer(&frame()), Err(Refused::QueueFull));
+}
+
+#[test]
+fn a_bus_by_one_call() {
+    let mut ports = [port(1, 4), port(1, 4)];
+    let offer = |time, port| Offer { time, port, frame: frame() };
+    let (inside, view) = (Hit::In { attempt: 0, offset: 16 }, Hit::View { time: 0, port: 2 });
+    assert_eq!(play(&mut [], 1, &[], &[]), Err(Refused::BadBus));
+    assert_eq!(play(&mut ports, 1, &[offer(0, 2)], &[]), Err(Refused::NoSuchPort));
+    assert_eq!(play(&mut ports, 1, &[], &[view]), Err(Refused::NoSuchPort));
+    assert_eq!(play(&mut ports, 1, &[offer(1, 0), offer(0, 0)], &[]), Err(Refused::BadOrder));
+    assert_eq!(play(&mut ports, 1, &[], &[inside, Hit::At(0)]), Err(Refused::BadOrder));
+    assert_eq!(ports[0].phase().phase, Phase::Idle);
+    let played = play(&mut ports, 200, &[offer(5, 0), offer(5, 0)], &[inside]).expect("a bus");
+    assert_eq!((played.levels.iter().position(|level| *level == Level::Dominant), played.refused), (Some(5), 1));
+    assert_eq!(ports[0].counters(), Counters { transmit: 7, receive: 0 });
+    assert_eq!(ports[1].log().collect::<Vec<_>>(), [Entry { frame: frame(), sent: false }]);
+    assert_eq!(play(&mut ports, 0, &[], &[]).map(|played| played.levels), Ok(Vec::new()));
 }
 
 #[test]

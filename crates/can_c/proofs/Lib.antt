@@ -3,3 +3,6 @@ mod FrameLemmas
 mod RunLemmas
 mod LongestFrame
 mod DecodeLemmas
+mod InputLemmas
+mod HandleLists
+mod PlayLemmas

@@ -4,4 +4,6 @@ pub mod Codes
 pub mod PlainFrames
 pub mod PlainStandings
 pub mod BitTimes
+pub mod PlainInputs
+pub mod Play
 pub mod Calls

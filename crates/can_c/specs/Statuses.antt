@@ -1,10 +1,12 @@
 -- The numbers by which C knows what a call answers. They are those of bindings/riddlesage.h, where 1 and 2 are
--- what it answers of pointers itself.
+-- what it answers of pointers itself, and 19 and 20 what calls of can_page answer of texts.
 use Rattle.std.specs.Prelude.{ℕ}
+use Rattle.can_bus.specs.declared.fault.BusFault.{BusFault}
+use Rattle.can_bus.specs.declared.fault.BusFault.TheVariants as bus
 use Rattle.can_code.specs.declared.fault.CodeFaultKind.{CodeFaultKind}
 use Rattle.can_code.specs.declared.fault.CodeFaultKind.TheVariants.{Short, NoStartOfFrame, Stuff, Crc, Form}
 use Rattle.can_c.specs.declared.status.Status.{Status}
-use Rattle.can_c.specs.declared.status.Status.TheVariants.{Done, NoPort, NoMemory, QueueFull, NoEntry, BadFlag, BadIdentifier, BadDlc, BadLevel, BadCount, NoLevels, NoRoom, ShortFrame, NoStart, StuffFault, CrcFault, FormFault}
+use Rattle.can_c.specs.declared.status.Status.TheVariants.{Done, NoPort, NoMemory, QueueFull, NoEntry, BadFlag, BadIdentifier, BadDlc, BadLevel, BadCount, NoLevels, NoRoom, ShortFrame, NoStart, StuffFault, CrcFault, FormFault, BadBus, NoSuchPort, BadOrder, BadKind}
 
 abbrev pub status_code : Status → ℕ
 status_code Done = 0
@@ -24,6 +26,10 @@ status_code NoStart = 15
 status_code StuffFault = 16
 status_code CrcFault = 17
 status_code FormFault = 18
+status_code BadBus = 21
+status_code NoSuchPort = 22
+status_code BadOrder = 23
+status_code BadKind = 24
 
 -- the call has done what it says
 abbrev pub done : ℕ
@@ -36,3 +42,10 @@ fault_status NoStartOfFrame = NoStart
 fault_status Stuff = StuffFault
 fault_status Crc = CrcFault
 fault_status Form = FormFault
+
+-- the status of a fault that a bus tells
+abbrev pub bus_status : BusFault → Status
+bus_status bus.NoPort = BadBus
+bus_status bus.TooManyPorts = BadBus
+bus_status bus.NotRising = BadOrder
+bus_status bus.NoSuchPort = NoSuchPort

@@ -44,7 +44,7 @@ pub extern "C" fn can_c_encode(frame: &PlainFrame, levels: &mut [u8], count: &mu
 }
 
 /// Writes the levels' numbers in front of what stands there.
-fn write(wire: &[Level], levels: &mut [u8])
+pub(crate) fn write(wire: &[Level], levels: &mut [u8])
     requires { length wire.now ≤ length levels.old }
     ensures front { take (length wire.now) levels.new ≡ map level_code wire.now }
     ensures behind { drop (length wire.now) levels.new ≡ drop (length wire.now) levels.old }

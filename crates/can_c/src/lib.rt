@@ -1,6 +1,6 @@
 //! The controller and the coding of frames as a static library, for C and for what calls C.
 //!
-//! Each export does what one call of can_node or can_code does, and promises it in the same definitions. What
+//! Each export does what one call of can_node, can_code or can_bus does, and promises it in the same definitions. What
 //! crosses are numbers, structs of numbers and slices of them: a port is a [`Handle`], a frame a
 //! [`PlainFrame`], a level the number 0 or 1. Every number that is none of a field's is refused by a
 //! [`Status`], and then nothing has changed.
@@ -15,6 +15,8 @@
 //! | `standing.rt` | [`can_c_phase`], the phase of a port and the rule there | `specs/PlainStandings.antt` |
 //! | `told.rt` | the exports that tell of a port: counters, state, log | `specs/Calls.antt` |
 //! | `coding.rt` | the exports that encode and decode | `specs/Calls.antt` |
+//! | `inputs.rt` | [`PlainOffer`], [`PlainHit`], what a bus is offered and how it is disturbed, as plain fields | `specs/PlainInputs.antt` |
+//! | `play.rt` | [`can_c_play`], the ports of handles on a bus, with offers and disturbances | `specs/Play.antt` |
 //!
 //! bindings/ has the header, what else a program in C needs, and a module for Python.
 #![tactic(auto)]
@@ -22,7 +24,9 @@
 mod bit_times;
 mod codes;
 mod coding;
+mod inputs;
 mod plain;
+mod play;
 mod ports;
 mod standing;
 mod status;
@@ -30,7 +34,9 @@ mod told;
 
 pub use bit_times::{can_c_drive, can_c_run, can_c_sample};
 pub use coding::{can_c_decode, can_c_encode};
+pub use inputs::{PlainHit, PlainOffer};
 pub use plain::{PlainFrame, PlainHeard};
+pub use play::can_c_play;
 pub use ports::{can_c_copy, can_c_free, can_c_hold, can_c_idle, can_c_joining, can_c_offer};
 pub use standing::{PlainStanding, can_c_phase};
 pub use status::Status;

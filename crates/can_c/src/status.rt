@@ -1,7 +1,9 @@
 ghost use Rattle.std.specs.Prelude.{◌≡◌};
-ghost use Rattle.can_c.specs.Statuses.{fault_status, status_code};
+ghost use Rattle.can_c.specs.Statuses.{bus_status, fault_status, status_code};
 
+use can_bus::BusFault;
 use can_code::CodeFaultKind;
+use std::alloc::{AllocError, AllocFailed};
 
 /// What a call answers.
 #[derive(Clone, Copy, Debug, PartialEq, Eq)]
@@ -40,6 +42,14 @@ pub enum Status {
     CrcFault,
     /// A level of fixed form is dominant.
     FormFault,
+    /// There are no ports for a bus, or more than 64.
+    BadBus,
+    /// An offer or a disturbance names no port of the bus.
+    NoSuchPort,
+    /// An offer is earlier than the one before it, or a disturbance is not above it.
+    BadOrder,
+    /// A disturbance is of no kind.
+    BadKind,
 }
 
 impl Status {
@@ -65,6 +75,10 @@ impl Status {
             Status::StuffFault => 16,
             Status::CrcFault => 17,
             Status::FormFault => 18,
+            Status::BadBus => 21,
+            Status::NoSuchPort => 22,
+            Status::BadOrder => 23,
+            Status::BadKind => 24,
         }
     }
 
@@ -79,5 +93,36 @@ impl Status {
             CodeFaultKind::Crc => Status::CrcFault,
             CodeFaultKind::Form => Status::FormFault,
         }
+    }
+
+    /// The status of a fault that a bus tells.
+    pub(crate) fn of_bus(fault: BusFault) -> Status
+        ensures { result ≡ bus_status fault }
+    {
+        match fault {
+            BusFault::NoPort | BusFault::TooManyPorts => Status::BadBus,
+            BusFault::NotRising => Status::BadOrder,
+            BusFault::NoSuchPort => Status::NoSuchPort,
+        }
+    }
+}
+
+impl<T: Drop> From<AllocFailed<T>> for Status {
+    ghost use Rattle.can_c.specs.declared.status.Status.TheVariants.{NoMemory};
+
+    ghost from_gives = { λ _ status. status ≡ NoMemory };
+
+    fn from(_refused: AllocFailed<T>) -> Status {
+        Status::NoMemory
+    }
+}
+
+impl From<AllocError> for Status {
+    ghost use Rattle.can_c.specs.declared.status.Status.TheVariants.{NoMemory};
+
+    ghost from_gives = { λ _ status. status ≡ NoMemory };
+
+    fn from(_refused: AllocError) -> Status {
+        Status::NoMemory
     }
 }

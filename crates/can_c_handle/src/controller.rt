@@ -9,6 +9,7 @@ use can_mac::{Event, PackedMac};
 use can_node::{Entry, PackedNode, Port};
 use std::alloc::{AllocError, Global};
 use std::marker::Model;
+use std::mem;
 
 /// A port that holds the unstuffed levels of a frame in a register, as one value: contracts see it as a
 /// `PortState`. Its calls are those of [`Port`], and promise the same.
@@ -55,6 +56,14 @@ impl Controller {
         Ok(Controller {
             node: self.node.copied(alloc)?,
         })
+    }
+
+    /// Changes places with a port of a bus: each is then what the other was.
+    pub fn swap(&mut self, node: &mut PackedNode)
+        ensures own { self.new ≡ ⟦<PackedNode as Port>⟧.port node.old }
+        ensures other { ⟦<PackedNode as Port>⟧.port node.new ≡ self.old }
+    {
+        mem::swap(&mut self.node, node);
     }
 
     /// The medium access of its controller.

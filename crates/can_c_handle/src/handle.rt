@@ -1,4 +1,4 @@
-ghost use Rattle.std.specs.Prelude.{◌≡◌, Option, Some, None, MatchOption};
+ghost use Rattle.std.specs.Prelude.{◌≡◌, Option, Some, None, MatchOption, is_some};
 ghost use Rattle.can_node.specs.Ports.{PortState};
 ghost use Rattle.can_c_handle.specs.Owned.{handle_owns, port_coded};
 
@@ -50,6 +50,20 @@ impl Handle {
             Some(unsafe { Box::from_raw(alloc, at as *mut Controller) })
         } else {
             None
+        }
+    }
+
+    /// Whether it has one.
+    pub fn holds(&mut self, alloc: Global) -> bool
+        ensures answer { result ≡ is_some self.old.held }
+        ensures unchanged { self.new.held ≡ self.old.held }
+    {
+        match self.take(alloc) {
+            None => false,
+            Some(controller) => {
+                self.put(alloc, controller);
+                true
+            }
         }
     }
 

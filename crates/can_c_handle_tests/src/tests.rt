@@ -2,6 +2,7 @@ use can_c_handle::{Controller, Handle};
 use can_fault::State;
 use can_frame::{Frame, Level};
 use can_mac::Event;
+use can_node::{PackedNode, Port};
 use std::test::Fail;
 
 /// The levels of the standard data frame 001 without data, acknowledged.
@@ -75,16 +76,29 @@ fn a_joining_controller_waits(rt: HostRuntime) -> Result<(), Fail> {
 }
 
 #[test]
+fn a_controller_changes_places_with_a_port(rt: HostRuntime) -> Result<(), Fail> {
+    let mut controller = Controller::idle(rt.alloc(), 1, 0)?;
+    let mut node = PackedNode::new(rt.alloc(), 0, 1)?;
+    assert!(rt; controller.offer(frame()?).is_ok());
+    controller.swap(&mut node);
+    assert_eq!(rt; node.drive(), Level::Dominant);
+    assert_eq!(rt; controller.drive(), Level::Recessive);
+    Ok(())
+}
+
+#[test]
 fn a_handle_holds_a_controller(rt: HostRuntime) -> Result<(), Fail> {
     let alloc = rt.alloc();
     let first = Box::new(alloc, Controller::idle(alloc, 1, 0)?)?;
     let second = Box::new(alloc, Controller::idle(alloc, 1, 0)?)?;
     let mut handle = Handle::empty();
+    let empty = !handle.holds(alloc);
     let none = handle.take(alloc).is_none();
     handle.put(alloc, first);
     handle.put(alloc, second);
+    let full = handle.holds(alloc);
     let held = handle.take(alloc).is_some();
     let left = handle.into_box(alloc).is_none();
-    assert!(rt; none && held && left);
+    assert!(rt; empty && none && full && held && left);
     Ok(())
 }

@@ -40,6 +40,10 @@ bad_level = answer_code BadLevel
 abbrev pub bad_scenario : ℕ
 bad_scenario = answer_code BadScenario
 
+-- the scenario has no port of this number
+abbrev pub no_port : ℕ
+no_port = answer_code NoPort
+
 -- the document says no network
 abbrev pub bad_plan : ℕ
 bad_plan = answer_code BadPlan

@@ -1,11 +1,11 @@
-ghost use Rattle.std.specs.Prelude.{◌≡◌, ◌<◌, ◌≤◌, ◌⊎◌, [], false, true, length, take, IfErr, IfOk, IfSome, IsErrOf, List, Some};
+ghost use Rattle.std.specs.Prelude.{◌≡◌, ◌≢◌, ◌<◌, ◌≤◌, ◌⊎◌, [], false, true, length, take, IfErr, IfOk, IfSome, IsErrOf, List, Some};
 ghost use Rattle.can_port_times.specs.PortTimes.{AreAllTold, AreTold};
 ghost use Rattle.can_scenario.specs.Report.{report};
 ghost use Rattle.can_scenario_text.specs.Scenarios.{IsWrongScenarioField, IsScenarioText};
 ghost use Rattle.can_port_times.specs.declared.port_times.PortTime.{PortTime as Told};
 ghost use Rattle.can_scenario_text.specs.declared.scenario.Scenario.{Scenario as Planned};
 ghost use Rattle.can_stream.specs.declared.field.Field.{Field as Wrong};
-ghost use Rattle.can_page.specs.Answers.{answer_code, bad_scenario, done};
+ghost use Rattle.can_page.specs.Answers.{answer_code, bad_scenario, done, no_port, no_room};
 ghost use Rattle.can_page.specs.Lines.{is_full, lines_of};
 ghost use Rattle.can_page.specs.Plain.{plain_times, wrong_field};
 
@@ -69,18 +69,40 @@ pub extern "C" fn page_port_times(
 ) -> u8
     ensures times { result ≡ done → (s : Planned) × (told : List Told) × (IsScenarioText text.now s × (node < length s.ports.items) × AreTold s node told
         × (take count.new times.new ≡ plain_times told) × (count.new ≡ length told)) }
+    ensures wrong { result ≡ bad_scenario → (field : Wrong) × IsWrongScenarioField field text.now }
+    ensures port { result ≡ no_port → (s : Planned) × (IsScenarioText text.now s × (length s.ports.items ≤ node)) }
+    ensures room { result ≡ no_room → (s : Planned) × (told : List Told) × (IsScenarioText text.now s × (node < length s.ports.items) × AreTold s node told
+        × (length times.old < length told)) }
+{
+    tell_port_times(alloc, text, node, times, count).code()
+}
+
+/// The same, with its answer.
+fn tell_port_times(
+    alloc: Global,
+    text: &[u8],
+    node: usize,
+    times: &mut [PlainTime],
+    count: &mut usize,
+) -> Answer
+    ensures times { result ≡ Answer.Done → (s : Planned) × (told : List Told) × (IsScenarioText text.now s × (node < length s.ports.items) × AreTold s node told
+        × (take count.new times.new ≡ plain_times told) × (count.new ≡ length told)) }
+    ensures wrong { result ≡ Answer.BadScenario → (field : Wrong) × IsWrongScenarioField field text.now }
+    ensures port { result ≡ Answer.NoPort → (s : Planned) × (IsScenarioText text.now s × (length s.ports.items ≤ node)) }
+    ensures room { result ≡ Answer.NoRoom → (s : Planned) × (told : List Told) × (IsScenarioText text.now s × (node < length s.ports.items) × AreTold s node told
+        × (length times.old < length told)) }
 {
     let mut wrong = WrongField::none();
     match read(alloc, text, &mut wrong) {
-        Err(answer) => answer.code(),
+        Err(answer) => answer,
         Ok(scenario) => {
             if node >= scenario.port_count() {
-                return Answer::NoPort.code();
+                return Answer::NoPort;
             }
             let Ok(told) = told_times(alloc, &scenario, node) else {
-                return Answer::NoMemory.code();
+                return Answer::NoMemory;
             };
-            hand_over(&told, times, count).code()
+            hand_over(&told, times, count)
         }
     }
 }
@@ -96,15 +118,32 @@ pub extern "C" fn page_all_port_times(
 ) -> u8
     ensures times { result ≡ done → (s : Planned) × (told : List Told) × (IsScenarioText text.now s × AreAllTold s told
         × (take count.new times.new ≡ plain_times told) × (count.new ≡ length told)) }
+    ensures wrong { result ≡ bad_scenario → (field : Wrong) × IsWrongScenarioField field text.now }
+    ensures room { result ≡ no_room → (s : Planned) × (told : List Told) × (IsScenarioText text.now s × AreAllTold s told × (length times.old < length told)) }
+{
+    tell_all_port_times(alloc, text, times, count).code()
+}
+
+/// The same, with its answer.
+fn tell_all_port_times(
+    alloc: Global,
+    text: &[u8],
+    times: &mut [PlainTime],
+    count: &mut usize,
+) -> Answer
+    ensures times { result ≡ Answer.Done → (s : Planned) × (told : List Told) × (IsScenarioText text.now s × AreAllTold s told
+        × (take count.new times.new ≡ plain_times told) × (count.new ≡ length told)) }
+    ensures wrong { result ≡ Answer.BadScenario → (field : Wrong) × IsWrongScenarioField field text.now }
+    ensures room { result ≡ Answer.NoRoom → (s : Planned) × (told : List Told) × (IsScenarioText text.now s × AreAllTold s told × (length times.old < length told)) }
 {
     let mut wrong = WrongField::none();
     match read(alloc, text, &mut wrong) {
-        Err(answer) => answer.code(),
+        Err(answer) => answer,
         Ok(scenario) => {
             let Ok(told) = all_told_times(alloc, &scenario) else {
-                return Answer::NoMemory.code();
+                return Answer::NoMemory;
             };
-            hand_over(&told, times, count).code()
+            hand_over(&told, times, count)
         }
     }
 }
@@ -112,6 +151,8 @@ pub extern "C" fn page_all_port_times(
 /// Writes what was told, and how many times of ports that are, if there is room for it.
 fn hand_over(told: &[PortTime], times: &mut [PlainTime], count: &mut usize) -> Answer
     ensures times { result ≡ Answer.Done → (take count.new times.new ≡ plain_times told.now) × (count.new ≡ length told.now) }
+    ensures room { result ≡ Answer.NoRoom → length times.old < length told.now }
+    ensures no_other { result ≢ Answer.Done → result ≡ Answer.NoRoom }
 {
     if times.len() < told.len() {
         return Answer::NoRoom;

@@ -1,0 +1,41 @@
+-- Offers and disturbances as plain fields, as they cross to C.
+-- (docs/BUS.md, "Disturbances" and "Frames offered while the bus runs")
+use Rattle.std.specs.Prelude.{◌==◌, nat_lt, if◌then◌else◌, List, [], ◌∷◌, map, Option, Some, None}
+use Rattle.std.specs.Option.{option_or}
+use Rattle.can_hit.specs.declared.hit.Hit.{Hit}
+use Rattle.can_hit.specs.declared.hit.Hit.TheVariants.{At, In, View}
+use Rattle.can_bus.specs.declared.offer.Offer.{Offer}
+use Rattle.can_c.specs.declared.inputs.PlainHit.{PlainHit}
+use Rattle.can_c.specs.declared.inputs.PlainOffer.{PlainOffer}
+use Rattle.can_c.specs.declared.status.Status.{Status}
+use Rattle.can_c.specs.declared.status.Status.TheVariants.{BadKind}
+use Rattle.can_c.specs.PlainFrames.{frame_in, refusal}
+
+-- the offer of plain fields
+abbrev pub offer_in : PlainOffer → Offer
+offer_in o = record { time = o.time; node = o.port; frame = frame_in o.frame }
+
+abbrev pub offers_in : List PlainOffer → List Offer
+offers_in offers = map offer_in offers
+
+-- the disturbance of plain fields: its kind says what it is, and which of them are read
+abbrev pub hit_in : PlainHit → Hit
+hit_in h = if h.kind == 0 then At h.time else if h.kind == 1 then In h.attempt h.offset else View h.time h.port
+
+abbrev pub hits_in : List PlainHit → List Hit
+hits_in hits = map hit_in hits
+
+-- why plain fields are no disturbance: there are three kinds
+abbrev pub kind_refusal : PlainHit → Option Status
+kind_refusal h = if nat_lt 2 h.kind then Some BadKind else None
+
+-- the first reason in a list
+abbrev pub first_reason : {A : Type 0} → (A → Option Status) → List A → Option Status
+first_reason why [] = None
+first_reason why (x ∷ xs) = option_or (why x) (first_reason why xs)
+
+abbrev pub offers_refusal : List PlainOffer → Option Status
+offers_refusal offers = first_reason (λ (o : PlainOffer). refusal o.frame) offers
+
+abbrev pub hits_refusal : List PlainHit → Option Status
+hits_refusal hits = first_reason kind_refusal hits

@@ -1,0 +1,105 @@
+//! Offers and disturbances of a bus, as they cross to C.
+ghost use Rattle.std.specs.Prelude.{◌≡◌, ◌⊎◌, None, Some, IfErr, IfOk, OnOk};
+ghost use Rattle.can_c.specs.PlainFrames.{refusal};
+ghost use Rattle.can_c.specs.PlainInputs.{hit_in, hits_in, hits_refusal, kind_refusal, offer_in, offers_in, offers_refusal};
+
+use crate::plain::PlainFrame;
+use crate::status::Status;
+use can_bus::{Hit, Offer};
+use std::alloc::Global;
+
+/// A frame that is offered to a port of a bus that runs, as plain fields. Each content is allowed; what is none is
+/// refused where it is handed in.
+#[repr(C)]
+#[derive(Clone, Copy, Debug)]
+pub struct PlainOffer {
+    /// The bit time before which it is offered, counted from the first of the call.
+    pub time: u64,
+    /// The number of the port, counted from 0.
+    pub port: usize,
+    /// The frame.
+    pub frame: PlainFrame,
+}
+
+/// A disturbance of one bit time, as plain fields. Those that its kind doesn't name are not read.
+#[repr(C)]
+#[derive(Clone, Copy, Debug)]
+pub struct PlainHit {
+    /// The bit time, counted from the first of the call, of kinds 0 and 2.
+    pub time: u64,
+    /// The attempt, counted from the first of the call, of kind 1.
+    pub attempt: u64,
+    /// How many bit times behind the start of the attempt, of kind 1.
+    pub offset: u64,
+    /// The number of the port, of kind 2.
+    pub port: usize,
+    /// 0 where the level of the wire is inverted at a time, 1 where it is in an attempt, 2 where one port alone sees
+    /// its inverse.
+    pub kind: u8,
+}
+
+impl PlainOffer {
+    /// The offer, or the first reason why its frame is none.
+    fn offer(&self) -> Result<Offer, Status>
+        ensures refused { IfErr result (λ why. refusal self.now.frame ≡ Some why) }
+        ensures none { OnOk result (refusal self.now.frame ≡ None) }
+        ensures offer { IfOk result (λ offer. offer ≡ offer_in self.now) }
+    {
+        match self.frame.frame() {
+            Err(why) => Err(why),
+            Ok(frame) => Ok(Offer {
+                time: self.time,
+                node: self.port,
+                frame,
+            }),
+        }
+    }
+}
+
+impl PlainHit {
+    /// The disturbance, or why it is none.
+    fn hit(&self) -> Result<Hit, Status>
+        ensures refused { IfErr result (λ why. kind_refusal self.now ≡ Some why) }
+        ensures none { OnOk result (kind_refusal self.now ≡ None) }
+        ensures hit { IfOk result (λ hit. hit ≡ hit_in self.now) }
+    {
+        match self.kind {
+            0 => Ok(Hit::At(self.time)),
+            1 => Ok(Hit::In {
+                attempt: self.attempt,
+                offset: self.offset,
+            }),
+            2 => Ok(Hit::View {
+                time: self.time,
+                node: self.port,
+            }),
+            _ => Err(Status::BadKind),
+        }
+    }
+}
+
+/// The offers of plain fields, or the first reason why a frame is none; or there is no memory for them.
+pub(crate) fn read_offers(alloc: Global, plain: &[PlainOffer]) -> Result<Vec<Offer>, Status>
+    ensures offers { IfOk result (λ offers. offers.items ≡ offers_in plain.now) }
+    ensures none { OnOk result (offers_refusal plain.now ≡ None) }
+    ensures refused { IfErr result (λ why. (why ≡ Status.NoMemory) ⊎ (offers_refusal plain.now ≡ Some why)) }
+{
+    let mut offers = Vec::with_capacity(alloc, plain.len())?;
+    for place in 0..plain.len() {
+        offers.push(plain[place].offer()?)?;
+    }
+    Ok(offers)
+}
+
+/// The disturbances of plain fields, or the first reason why one is none; or there is no memory for them.
+pub(crate) fn read_hits(alloc: Global, plain: &[PlainHit]) -> Result<Vec<Hit>, Status>
+    ensures hits { IfOk result (λ hits. hits.items ≡ hits_in plain.now) }
+    ensures none { OnOk result (hits_refusal plain.now ≡ None) }
+    ensures refused { IfErr result (λ why. (why ≡ Status.NoMemory) ⊎ (hits_refusal plain.now ≡ Some why)) }
+{
+    let mut hits = Vec::with_capacity(alloc, plain.len())?;
+    for place in 0..plain.len() {
+        hits.push(plain[place].hit()?)?;
+    }
+    Ok(hits)
+}
