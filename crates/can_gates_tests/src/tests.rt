@@ -3,16 +3,28 @@ use can_gates::{Circuit, FALSE, Literal, Register, Sum, TRUE, complement, consta
 use std::alloc::{AllocError, Global};
 use std::test::Fail;
 
+/// The first signal, the first place of the first number.
+const A: Literal = Literal {
+    signal: 1,
+    negated: false,
+};
+
+/// The opposite of the first signal.
+const NOT_A: Literal = Literal {
+    signal: 1,
+    negated: true,
+};
+
+/// The second signal.
+const B: Literal = Literal {
+    signal: 2,
+    negated: false,
+};
+
 /// The first number: signals 1 to 3.
 const FIRST: [Literal; 3] = [
-    Literal {
-        signal: 1,
-        negated: false,
-    },
-    Literal {
-        signal: 2,
-        negated: false,
-    },
+    A,
+    B,
     Literal {
         signal: 3,
         negated: false,
@@ -34,46 +46,6 @@ const SECOND: [Literal; 3] = [
         negated: false,
     },
 ];
-
-/// What a circuit makes of the two numbers.
-#[derive(Drop)]
-struct Made {
-    sum: Sum,
-    raised: Vec<Literal>,
-    lowered: Vec<Literal>,
-    less: Literal,
-    equal: Literal,
-    lesser: Vec<Literal>,
-    selected: Literal,
-}
-
-impl Made {
-    fn by(circuit: &mut Circuit, alloc: Global) -> Result<Made, AllocError> {
-        let less = circuit.less(&FIRST, &SECOND)?;
-        Ok(Made {
-            sum: circuit.add(alloc, &FIRST, &SECOND, TRUE)?,
-            raised: circuit.raised(alloc, &FIRST, &SECOND)?,
-            lowered: circuit.lowered(alloc, &FIRST, &SECOND)?,
-            less,
-            equal: circuit.equals(&FIRST, &SECOND)?,
-            lesser: circuit.choose(alloc, less, &FIRST, &SECOND)?,
-            selected: circuit.select(alloc, &FIRST, &SECOND)?,
-        })
-    }
-
-    /// Whether all is what arithmetic says of these two numbers.
-    fn is_right(&self, values: &[bool], first: u32, second: u32) -> bool {
-        let sum = number(values, &self.sum.word) | u32::from(value(values, self.sum.carry)) << 3;
-        let selected = second < 3 && (first >> (second % 3)) % 2 == 1;
-        sum == first.wrapping_add(second).wrapping_add(1)
-            && number(values, &self.raised) == first.wrapping_add(second).min(7)
-            && number(values, &self.lowered) == first.saturating_sub(second)
-            && value(values, self.less) == (first < second)
-            && value(values, self.equal) == (first == second)
-            && number(values, &self.lesser) == first.min(second)
-            && value(values, self.selected) == selected
-    }
-}
 
 /// The values of all signals, where the inputs are the places of this number.
 fn values_of(alloc: Global, circuit: &Circuit, inputs: u32) -> Result<Vec<bool>, AllocError> {
@@ -108,13 +80,84 @@ fn number(values: &[bool], word: &[Literal]) -> u32 {
     number
 }
 
+/// What is made of two numbers.
+#[derive(Clone, Copy)]
+enum Made {
+    Sum,
+    Raised,
+    Lowered,
+    Lesser,
+    Less,
+    Equal,
+    Selected,
+}
+
+const ALL: [Made; 7] = [
+    Made::Sum,
+    Made::Raised,
+    Made::Lowered,
+    Made::Lesser,
+    Made::Less,
+    Made::Equal,
+    Made::Selected,
+];
+
+/// The word that this circuit makes.
+fn word_of(circuit: &mut Circuit, alloc: Global, made: Made) -> Result<Vec<Literal>, AllocError> {
+    match made {
+        Made::Sum => sum_of(circuit, alloc),
+        Made::Raised => circuit.raised(alloc, &FIRST, &SECOND),
+        Made::Lowered => circuit.lowered(alloc, &FIRST, &SECOND),
+        Made::Lesser => lesser_of(circuit, alloc),
+        Made::Less => Vec::from_slice(alloc, &[circuit.less(&FIRST, &SECOND)?]),
+        Made::Equal => Vec::from_slice(alloc, &[circuit.equals(&FIRST, &SECOND)?]),
+        Made::Selected => Vec::from_slice(alloc, &[circuit.select(alloc, &FIRST, &SECOND)?]),
+    }
+}
+
+/// The sum of the two and of one, with its carry.
+fn sum_of(circuit: &mut Circuit, alloc: Global) -> Result<Vec<Literal>, AllocError> {
+    let Sum { word, carry } = circuit.add(alloc, &FIRST, &SECOND, TRUE)?;
+    let mut places = word;
+    places.push(carry)?;
+    Ok(places)
+}
+
+fn lesser_of(circuit: &mut Circuit, alloc: Global) -> Result<Vec<Literal>, AllocError> {
+    let less = circuit.less(&FIRST, &SECOND)?;
+    circuit.choose(alloc, less, &FIRST, &SECOND)
+}
+
+/// What arithmetic says of the same two numbers.
+fn ought(made: Made, first: u32, second: u32) -> u32 {
+    match made {
+        Made::Sum => first.wrapping_add(second).wrapping_add(1),
+        Made::Raised => first.wrapping_add(second).min(7),
+        Made::Lowered => first.saturating_sub(second),
+        Made::Lesser => first.min(second),
+        Made::Less => u32::from(first < second),
+        Made::Equal => u32::from(first == second),
+        Made::Selected => first.checked_shr(second).unwrap_or(0) % 2,
+    }
+}
+
+/// Whether this is right for all numbers.
+fn is_right(alloc: Global, made: Made) -> Result<bool, AllocError> {
+    let mut circuit = Circuit::new(alloc, 6);
+    let word = word_of(&mut circuit, alloc, made)?;
+    for inputs in 0..64u32 {
+        let values = values_of(alloc, &circuit, inputs)?;
+        if number(&values, &word) != ought(made, inputs % 8, inputs / 8) {
+            return Ok(false);
+        }
+    }
+    Ok(true)
+}
+
 #[test]
 fn words_are_numbers(rt: HostRuntime) -> Result<(), Fail> {
-    let mut circuit = Circuit::new(rt.alloc(), 6);
-    let made = Made::by(&mut circuit, rt.alloc())?;
-    for inputs in 0..64u32 {
-        let values = values_of(rt.alloc(), &circuit, inputs)?;
-        assert!(rt; made.is_right(&values, inputs % 8, inputs / 8), "{inputs}");
+    for made in ALL {
+        assert!(rt; is_right(rt.alloc(), made)?, "{}", made as u8);
     }
     Ok(())
 }
@@ -130,23 +173,32 @@ fn constants_have_the_lowest_places(rt: HostRuntime) -> Result<(), Fail> {
     Ok(())
 }
 
-/// So many gates there are behind two numbers of three places, where nothing is made twice.
+/// The sides of two gates, and others that need none: turned, constant, or of one signal.
+const SIDES: [(Literal, Literal); 7] = [
+    (A, B),
+    (B, A),
+    (NOT_A, B),
+    (A, TRUE),
+    (FALSE, B),
+    (A, A),
+    (A, NOT_A),
+];
+
 #[test]
 fn gates_are_made_once(rt: HostRuntime) -> Result<(), Fail> {
     let mut circuit = Circuit::new(rt.alloc(), 6);
-    let [a, b, _] = FIRST;
-    circuit.and(a, b)?;
-    circuit.and(b, a)?;
-    circuit.and(a.opposite(), b)?;
-    circuit.or(a, b.opposite())?;
-    circuit.and(a, TRUE)?;
-    circuit.and(FALSE, b)?;
-    circuit.and(a, a)?;
-    let neither = circuit.and(a, a.opposite())?;
-    assert!(rt; neither.signal == 0 && !neither.negated);
+    for (a, b) in SIDES {
+        circuit.and(a, b)?;
+    }
     assert_eq!(rt; circuit.gates().len(), 2);
-    circuit.xor(a, b)?;
-    assert_eq!(rt; circuit.gates().len(), 4);
+    Ok(())
+}
+
+#[test]
+fn opposites_are_never_both_true(rt: HostRuntime) -> Result<(), Fail> {
+    let mut circuit = Circuit::new(rt.alloc(), 6);
+    let both = circuit.and(A, NOT_A)?;
+    assert_eq!(rt; (both.signal, both.negated), (0, false));
     Ok(())
 }
 
@@ -165,9 +217,8 @@ const HALF_ADDER: &str = "aag 6 2 0 2 4
 #[test]
 fn a_half_adder_is_written(rt: HostRuntime) -> Result<(), Fail> {
     let mut circuit = Circuit::new(rt.alloc(), 2);
-    let [a, b, _] = FIRST;
-    let carry = circuit.and(a, b)?;
-    let sum = circuit.xor(a, b)?;
+    let carry = circuit.and(A, B)?;
+    let sum = circuit.xor(A, B)?;
     let mut text = Vec::new(rt.alloc());
     push_aiger(&mut text, &circuit, &[], &[carry, sum])?;
     assert_eq!(rt; text.as_slice(), HALF_ADDER.as_bytes());
@@ -187,12 +238,10 @@ const TOGGLE: &str = "aag 5 1 1 1 3
 #[test]
 fn a_register_is_written(rt: HostRuntime) -> Result<(), Fail> {
     let mut circuit = Circuit::new(rt.alloc(), 2);
-    assert!(rt; circuit.inputs() == 2);
-    let [input, state, _] = FIRST;
-    let next = circuit.xor(input, state)?;
+    let next = circuit.xor(A, B)?;
     let register = Register { next, starts: true };
     let mut text = Vec::new(rt.alloc());
-    push_aiger(&mut text, &circuit, &[register], &[state])?;
+    push_aiger(&mut text, &circuit, &[register], &[B])?;
     assert_eq!(rt; text.as_slice(), TOGGLE.as_bytes());
     Ok(())
 }

@@ -1,4 +1,4 @@
-use Rattle.std.proofs.Common.{◌≡◌, ◌<◌, length, ap, sym, arith, ◌∙◌}
+use Rattle.std.proofs.Common.{◌≡◌, ◌<◌, ◌≤◌, length, ap, sym, arith, ◌∙◌}
 use Rattle.can_page.specs.Plain.{plain_times}
 use Rattle.can_page.specs.declared.answer.Answer.TheVariants.{Done, NoRoom, BadScenario, NoPort}
 use Rattle.can_page.proofs.scenarios.tell_port_times.Goals as goal
@@ -26,3 +26,8 @@ pub returns-in-Ok-told_times-clause-port : goal.returns-in-Ok-told_times-clause-
 returns-in-Ok-told_times-clause-port c = λ is.
     let room : c.hand_over.result ≡ NoRoom = c.hand_over.ensures.no_other (λ done. let e : NoPort ≡ Done = sym is ∙ done in cc) in
     absurd (let e : NoPort ≡ NoRoom = sym is ∙ room in cc)
+
+pub returns-then-node-port_count-clause-port : goal.returns-then-node-port_count-clause-port
+returns-then-node-port_count-clause-port c = λ _.
+    let beyond : length c.in-Ok.scenario.ports.items ≤ c.args.node = omega (arith, c.if-node-port_count.true, c.port_count.ensures) in
+    (c.in-Ok.scenario, (c.in-Ok.ensures.found, beyond))
