@@ -3,9 +3,10 @@ use Rattle.std.specs.Prelude.{ℕ, ◌≡◌, ◌⊎◌, ◌<◌, List, [], ◌+
 use Rattle.can_plan_text.specs.declared.field.PlanField.{PlanField}
 use Rattle.can_plan_text.specs.Plans.{IsWrongPlanField}
 use Rattle.can_plan_text.specs.Report.{IsAnswer}
+use Rattle.can_plan_worst.specs.Timelines.{IsTimeline, IsUnending, IsUnknown}
 use Rattle.can_stream.specs.declared.fault.TraceFault.TheVariants.{Read, Write, Memory}
 use Rattle.canplan_commands.specs.declared.fault.CanplanFault.{CanplanFault}
-use Rattle.canplan_commands.specs.declared.fault.CanplanFault.TheVariants.{Field, DeadlinesMissed, Stream}
+use Rattle.canplan_commands.specs.declared.fault.CanplanFault.TheVariants.{Field, MessageUnknown, TimelineTooLong, DeadlinesMissed, Stream}
 
 -- nothing is written
 abbrev pub WritesNothing : List ℕ → List ℕ → Type 0
@@ -39,8 +40,47 @@ pub record BeginsAnswer (input output : List ℕ) : Type 0 where
 abbrev pub Does : Result (Unit {0}) CanplanFault → List ℕ → List ℕ → Type 0
 Does (Ok done) = Answers 0
 Does (Err (Field wrong)) = Refuses wrong
+Does (Err MessageUnknown) = λ input output. ⊥
+Does (Err TimelineTooLong) = λ input output. ⊥
 Does (Err DeadlinesMissed) = AnswersLate
 Does (Err (Stream Read)) = WritesNothing
 Does (Err (Stream Write)) = BeginsAnswer
 Does (Err (Stream Memory)) = WritesNothing
 Does (Err (Stream _)) = λ input output. ⊥
+
+-- ---- the scenario of the worst case of a message
+
+-- the whole scenario is written
+abbrev pub Draws : List ℕ → List ℕ → List ℕ → Type 0
+Draws message input output = IsTimeline input message output
+
+-- no message has the name, and nothing is written
+abbrev pub RefusesName : List ℕ → List ℕ → List ℕ → Type 0
+RefusesName message input output = IsUnknown input message × WritesNothing input output
+
+-- no scenario is long enough, and nothing is written
+abbrev pub RefusesLength : List ℕ → List ℕ → List ℕ → Type 0
+RefusesLength message input output = IsUnending input message × WritesNothing input output
+
+-- a beginning of it is written
+pub record BeginsTimeline (message input output : List ℕ) : Type 0 where
+  pub scenario : List ℕ
+  pub is : IsTimeline input message scenario
+  pub rest : List ℕ
+  pub all : scenario ≡ output ++ rest
+
+-- what is written where the run ends so
+abbrev pub DoesTimeline : List ℕ → Result (Unit {0}) CanplanFault → List ℕ → List ℕ → Type 0
+DoesTimeline message (Ok done) = Draws message
+DoesTimeline message (Err (Field wrong)) = Refuses wrong
+DoesTimeline message (Err MessageUnknown) = RefusesName message
+DoesTimeline message (Err TimelineTooLong) = RefusesLength message
+DoesTimeline message (Err DeadlinesMissed) = λ input output. ⊥
+DoesTimeline message (Err (Stream Read)) = WritesNothing
+DoesTimeline message (Err (Stream Write)) = BeginsTimeline message
+DoesTimeline message (Err (Stream Memory)) = WritesNothing
+DoesTimeline message (Err (Stream _)) = λ input output. ⊥
+
+-- the scenario is refused for a field, a name or its length, or memory ran out
+abbrev pub IsTimelineFault : CanplanFault → Type 0
+IsTimelineFault fault = IsFieldOrMemory fault ⊎ ((fault ≡ MessageUnknown) ⊎ (fault ≡ TimelineTooLong))

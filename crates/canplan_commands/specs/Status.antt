@@ -4,12 +4,16 @@ use Rattle.can_plan_text.specs.declared.fault.PlanFault.{PlanFault}
 use Rattle.can_plan_text.specs.declared.fault.PlanFault.TheVariants as plan
 use Rattle.can_program.specs.Status.{stream_status}
 use Rattle.can_stream.specs.declared.fault.TraceFault.TheVariants.{Memory}
+use Rattle.can_plan_worst.specs.declared.fault.WorstFault.{WorstFault}
+use Rattle.can_plan_worst.specs.declared.fault.WorstFault.TheVariants as worst
 use Rattle.canplan_commands.specs.declared.fault.CanplanFault.{CanplanFault}
-use Rattle.canplan_commands.specs.declared.fault.CanplanFault.TheVariants.{Field, DeadlinesMissed, Stream}
+use Rattle.canplan_commands.specs.declared.fault.CanplanFault.TheVariants.{Field, MessageUnknown, TimelineTooLong, DeadlinesMissed, Stream}
 
--- 1: the document is refused, or some message is not sure to meet its deadline. 3: a stream failed. 4: memory ran out.
+-- 1: the document is refused, or the message that is named, or some message is not sure to meet its deadline. 3: a stream failed. 4: memory ran out.
 abbrev pub fault_status : CanplanFault → ℕ
 fault_status (Field wrong) = 1
+fault_status MessageUnknown = 1
+fault_status TimelineTooLong = 1
 fault_status DeadlinesMissed = 1
 fault_status (Stream fault) = stream_status fault
 
@@ -17,3 +21,10 @@ fault_status (Stream fault) = stream_status fault
 abbrev pub fault_of : PlanFault → CanplanFault
 fault_of (plan.Field wrong) = Field wrong
 fault_of plan.Memory = Stream Memory
+
+-- and that there is no scenario
+abbrev pub worst_fault_of : WorstFault → CanplanFault
+worst_fault_of (worst.Field wrong) = Field wrong
+worst_fault_of worst.Unknown = MessageUnknown
+worst_fault_of worst.TooLong = TimelineTooLong
+worst_fault_of worst.Memory = Stream Memory

@@ -4,7 +4,7 @@ use Rattle.std.specs.Str.{bytes_eq}
 use Rattle.std.specs.declared.alloc.Global.{Global}
 use Rattle.std.specs.declared.string.String.{String}
 use Rattle.canplan_commands.specs.declared.words.Asked.{Asked}
-use Rattle.canplan_commands.specs.declared.words.Asked.TheVariants.{Answer, Help, Version}
+use Rattle.canplan_commands.specs.declared.words.Asked.TheVariants.{Answer, Help, Timeline, Version}
 
 -- the words as texts
 abbrev pub texts_of : List (String Global) → List (List ℕ)
@@ -16,9 +16,19 @@ asked_word word =
     if bytes_eq word (codes "help") || (bytes_eq word (codes "--help") || bytes_eq word (codes "-h")) then Some Help
     else (if bytes_eq word (codes "--version") || bytes_eq word (codes "-V") then Some Version else None)
 
--- what the words ask for: the program's name, whatever it is, and no word or one
+-- what one with the name of a message behind it asks for: the scenario of its worst case
+abbrev pub asked_of_message : List ℕ → Option Asked
+asked_of_message word = if bytes_eq word (codes "--timeline") then Some Timeline else None
+
+-- what the words ask for: the program's name, whatever it is, and no word, one, or one with the name of a message
 abbrev pub asked_by : List (List ℕ) → Option Asked
 asked_by [] = None
 asked_by (name ∷ []) = Some Answer
 asked_by (name ∷ word ∷ []) = asked_word word
-asked_by (name ∷ word ∷ other ∷ words) = None
+asked_by (name ∷ word ∷ message ∷ []) = asked_of_message word
+asked_by (name ∷ word ∷ message ∷ other ∷ words) = None
+
+-- the message that they name
+abbrev pub message_in : List (List ℕ) → List ℕ
+message_in (name ∷ word ∷ message ∷ []) = message
+message_in _ = []

@@ -3,14 +3,15 @@ ghost use Rattle.std.specs.Prelude.{◌≡◌, ◌≢◌, ◌⊎◌, ◌<◌, fa
 ghost use Rattle.std.specs.Io.KnownBytes.{Appends};
 ghost use Rattle.can_stream.specs.Told.{Told};
 ghost use Rattle.can_program.specs.Status.{exit_status};
-ghost use Rattle.canplan_commands.specs.Runs.{Does};
+ghost use Rattle.canplan_commands.specs.Runs.{Does, DoesTimeline};
 ghost use Rattle.canplan_commands.specs.Status.{fault_status};
-ghost use Rattle.canplan_commands.specs.Words.{asked_by, texts_of};
+ghost use Rattle.canplan_commands.specs.Words.{asked_by, message_in, texts_of};
 
 use crate::document::answer_document;
 use crate::fault::CanplanFault;
 use crate::help::{HELP, VERSION};
-use crate::words::{Asked, read_words};
+use crate::words::{Asked, message_of, read_words};
+use crate::worst::write_timeline;
 use can_program::{WordsFault, conclude, refuse, write_help};
 use can_stream::{Sink, Source};
 use std::alloc::Global;
@@ -19,13 +20,15 @@ use std::alloc::Global;
 pub const NAME: &str = "canplan";
 
 /// Does what the words ask, and answers the exit status. The first of the words is the program's name. Where there is
-/// no other, it reads a network's document from `r` and writes the answer to `w`; the text of help and the version go to
-/// `w`, and the line of a fault to `e`.
+/// no other, it reads a network's document from `r` and writes the answer to `w`, and with `--timeline` and the name of a
+/// message the scenario of its worst case; the text of help and the version go to `w`, and the line of a fault to `e`.
 ///
 /// | Status | Line | Why |
 /// |---|---|---|
-/// | 0 | none | all was done, and each message is sure to meet its deadline |
+/// | 0 | none | all was done, and each message is sure to meet its deadline, if the answer was asked for |
 /// | 1 | `canplan: P2 message[3].period` | the document is refused |
+/// | 1 | `canplan: message unknown` | no message of the network has the name |
+/// | 1 | `canplan: timeline too long` | no scenario is long enough for the worst case of the message |
 /// | 1 | `canplan: deadlines missed` | all was done, and some message is not sure to |
 /// | 2 | `canplan: usage` | the words are refused |
 /// | 3 | `canplan: P3 read`, `canplan: P4 write` | `r` or `w` failed |
@@ -46,6 +49,9 @@ pub fn execute<R: Source, W: Sink, E: Sink>(
     ensures told { asked_by (texts_of words.now) ≡ Option.Some Asked.Answer
         → (outcome : Result (Unit {0}) CanplanFault) × (result ≡ exit_status fault_status outcome)
         × Told R.remaining r.old r.new W.contents w.old w.new (Does outcome) }
+    ensures drawn { asked_by (texts_of words.now) ≡ Option.Some Asked.Timeline
+        → (outcome : Result (Unit {0}) CanplanFault) × (result ≡ exit_status fault_status outcome)
+        × Told R.remaining r.old r.new W.contents w.old w.new (DoesTimeline (message_in (texts_of words.now)) outcome) }
 
     // A stream's failure is told, and nothing else is told so.
     ensures stream_failed { result ≡ 3 → IsTrue (R.has_failed r.new) ⊎ IsTrue (W.has_failed w.new) }
@@ -72,6 +78,7 @@ pub fn execute<R: Source, W: Sink, E: Sink>(
 {
     match read_words(words) {
         Some(Asked::Answer) => conclude(NAME, answer(alloc, r, w), e),
+        Some(Asked::Timeline) => conclude(NAME, draw(alloc, message_of(words), r, w), e),
         Some(Asked::Help) => conclude(NAME, write_help(HELP, w), e),
         Some(Asked::Version) => conclude(NAME, write_help(VERSION, w), e),
         None => refuse(NAME, WordsFault::Usage, e),
@@ -93,4 +100,24 @@ fn answer<R: Source, W: Sink>(alloc: Global, r: &mut R, w: &mut W) -> Result<(),
         0 => Ok(()),
         _ => Err(CanplanFault::DeadlinesMissed),
     }
+}
+
+/// Writes the scenario of the worst case of the message that has this name, for the document that the reader tells.
+fn draw<R: Source, W: Sink>(
+    alloc: Global,
+    message: &str,
+    r: &mut R,
+    w: &mut W,
+) -> Result<(), CanplanFault>
+    requires reader_unfailed { R.has_failed r.old ≡ false }
+    requires reader_unended { R.has_ended r.old ≡ false }
+    requires writer_unfailed { W.has_failed w.old ≡ false }
+    ensures told { Told R.remaining r.old r.new W.contents w.old w.new (DoesTimeline message.now result) }
+    ensures stream_failed { exit_status fault_status result ≡ 3 → IsTrue (R.has_failed r.new) ⊎ IsTrue (W.has_failed w.new) }
+    ensures write_told { IsTrue (W.has_failed w.new) → exit_status fault_status result ≡ 3 }
+    ensures read_told { IsTrue (R.has_failed r.new) → exit_status fault_status result ≡ 3 }
+    ensures no_misuse { exit_status fault_status result ≢ 2 }
+{
+    write_timeline(alloc, message, r, w)?;
+    Ok(())
 }

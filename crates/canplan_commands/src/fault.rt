@@ -1,9 +1,10 @@
 //! Why `canplan` did not do all that it was asked.
 ghost use Rattle.std.specs.Prelude.{◌≡◌};
-ghost use Rattle.canplan_commands.specs.Status.{fault_of, fault_status};
+ghost use Rattle.canplan_commands.specs.Status.{fault_of, fault_status, worst_fault_of};
 ghost use Rattle.canplan_commands.specs.declared.fault.CanplanFault.TheVariants.{Stream};
 
 use can_plan_text::{PlanFault, PlanField};
+use can_plan_worst::WorstFault;
 use can_program::RunFault;
 use can_stream::TraceFault;
 use thiserror::Error;
@@ -14,6 +15,12 @@ pub enum CanplanFault {
     /// The document is refused for this field.
     #[error("P2 {0}")]
     Field(PlanField),
+    /// No message of the network has the name.
+    #[error("message unknown")]
+    MessageUnknown,
+    /// No scenario is long enough for the worst case of the message.
+    #[error("timeline too long")]
+    TimelineTooLong,
     /// Not each message is sure to meet its deadline.
     #[error("deadlines missed")]
     DeadlinesMissed,
@@ -41,12 +48,28 @@ impl From<PlanFault> for CanplanFault {
     }
 }
 
+impl From<WorstFault> for CanplanFault {
+    ghost from_gives = { λ fault own. own ≡ worst_fault_of fault };
+
+    fn from(fault: WorstFault) -> CanplanFault {
+        match fault {
+            WorstFault::Field(wrong) => CanplanFault::Field(wrong),
+            WorstFault::Unknown => CanplanFault::MessageUnknown,
+            WorstFault::TooLong => CanplanFault::TimelineTooLong,
+            WorstFault::Memory => CanplanFault::Stream(TraceFault::Memory),
+        }
+    }
+}
+
 impl RunFault for CanplanFault {
     ghost status_of = { fault_status };
 
     fn status(&self) -> u8 {
         match self {
-            CanplanFault::Field(_) | CanplanFault::DeadlinesMissed => 1,
+            CanplanFault::Field(_)
+            | CanplanFault::MessageUnknown
+            | CanplanFault::TimelineTooLong
+            | CanplanFault::DeadlinesMissed => 1,
             CanplanFault::Stream(fault) => fault.status(),
         }
     }

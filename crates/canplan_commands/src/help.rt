@@ -5,6 +5,7 @@ pub const HELP: &str = "\
 How late the frames of a CAN network can be: proved response time analysis
 
 Usage: canplan [--help]
+       canplan --timeline MESSAGE
        canplan --version
 
 It reads a network from standard input, a document of TOML, and answers for
@@ -34,15 +35,21 @@ late stands for ok where the bound is above the deadline, or is none. With
 errors a last line tells for how long no port can become error passive:
   hits at most 15 within 149999
 
+With --timeline it writes a scenario for canbit run instead, in which MESSAGE,
+as 'S 300 D', comes as late as can be where nothing is hit: all before it are
+offered with it at bit time 1, and one behind it a bit time before.
+
 Faults, on standard error as canplan: P3 read:
   P2 FIELD           the document's first field that isn't as it has to be, as
                      P2 message[3].period; nothing has been written
   P3 read, P4 write  standard input could not be read, standard output not be written
   P5 memory          no memory for the words of the command line or the document
+  message unknown    no message of the network has that frame
+  timeline too long  MESSAGE is not sure to end within a million bit times
   deadlines missed   some message is late
 
-Exit status: 0 all done, and each message is ok; 1 P2, or some message is late;
-2 wrong use; 3 P3, P4; 4 P5
+Exit status: 0 all done, and each message is ok; 1 P2, unknown, too long, or
+some message is late; 2 wrong use; 3 P3, P4; 4 P5
 ";
 
 /// The program's name and its version, which is that of the file VERSION.

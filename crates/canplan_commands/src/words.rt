@@ -1,26 +1,29 @@
 //! What the words of a command line ask for.
 ghost use Rattle.std.specs.Prelude.{◌≡◌};
-ghost use Rattle.canplan_commands.specs.Words.{asked_by, asked_word, texts_of};
+ghost use Rattle.canplan_commands.specs.Words.{asked_by, asked_of_message, asked_word, message_in, texts_of};
 
 /// What is asked for.
 #[derive(Clone, Copy, Debug, PartialEq, Eq)]
 pub enum Asked {
     /// The answer to a network's document.
     Answer,
+    /// The scenario of the worst case of a message, whose name stands behind the word.
+    Timeline,
     /// The help text.
     Help,
     /// The program's name and its version.
     Version,
 }
 
-/// What the words ask for, the first of which is the program's name: the answer where there is no other, the help text
-/// or the version. Other words are no use of the program.
+/// What the words ask for, the first of which is the program's name: the answer where there is no other, the scenario of
+/// a message's worst case, the help text or the version. Other words are no use of the program.
 pub fn read_words(words: &[String]) -> Option<Asked>
     ensures { result ≡ asked_by (texts_of words.now) }
 {
     match words {
         [_] => Some(Asked::Answer),
         [_, word] => read_word(word.as_str()),
+        [_, word, _] => read_word_of_message(word.as_str()),
         _ => None,
     }
 }
@@ -33,5 +36,25 @@ fn read_word(word: &str) -> Option<Asked>
         "help" | "--help" | "-h" => Some(Asked::Help),
         "--version" | "-V" => Some(Asked::Version),
         _ => None,
+    }
+}
+
+/// What one word asks for with the name of a message behind it.
+fn read_word_of_message(word: &str) -> Option<Asked>
+    ensures { result ≡ asked_of_message word.now }
+{
+    match word {
+        "--timeline" => Some(Asked::Timeline),
+        _ => None,
+    }
+}
+
+/// The message that the words name.
+pub(crate) fn message_of(words: &[String]) -> &str
+    ensures { result.now ≡ message_in (texts_of words.now) }
+{
+    match words {
+        [_, _, message] => message.as_str(),
+        _ => "",
     }
 }

@@ -1,0 +1,69 @@
+//! For how long the bus is busy with the frames of a worst case.
+ghost use Rattle.std.specs.Prelude.{◌≡◌, ◌+◌, ◌*◌, ◌^◌, ◌<◌, ◌≤◌, ℕ, MatchOption};
+ghost use Rattle.can_plan.specs.Analysis.{IsLeast, arrivals as arrivals_of};
+ghost use Rattle.can_plan_worst.specs.Worst.{IsBusyPeriod, load_of, most_long};
+
+use can_plan_text::Planned;
+
+/// For how many bit times a worst case may keep the bus busy, at most: a scenario has one more.
+const MOST_LONG: u64 = 999_999;
+
+/// How many frames of a message arrive within so many bit times at most.
+pub(crate) fn arrivals(planned: &Planned, long: u64) -> u64
+    requires { long ≤ 2 ^ 32 }
+    ensures value { result ≡ arrivals_of planned.now.message long }
+    ensures range { result < 2 ^ 34 }
+    ensures whole { result * planned.now.message.period ≤ 2 ^ 34 }
+{
+    let period = u64::from(planned.message.period);
+    (long + u64::from(planned.message.jitter) + period - 1) / period
+}
+
+/// How long they keep the bus.
+fn own_load(planned: &Planned, long: u64) -> u64
+    requires { long ≤ 2 ^ 32 }
+    ensures value { result ≡ arrivals_of planned.now.message long * planned.now.message.longest }
+    ensures range { result < 2 ^ 50 }
+{
+    arrivals(planned, long) * u64::from(planned.message.longest)
+}
+
+/// How long the frames of these messages keep the bus; none where it is longer than a scenario.
+fn load(level: &[Planned], long: u64) -> Option<u64>
+    requires { long ≤ 2 ^ 32 }
+    ensures { MatchOption result (most_long < load_of level.now long) (λ n. (n ≡ load_of level.now long) × (n ≤ most_long)) }
+{
+    let mut total = 0;
+    for planned in level {
+        total += own_load(planned, long);
+        if total > MOST_LONG {
+            return None;
+        }
+    }
+    Some(total)
+}
+
+/// The same with what is left of a frame that blocks them.
+fn kept(blocking: u16, level: &[Planned], long: u64) -> Option<u64>
+    requires { long ≤ 2 ^ 32 }
+    ensures { MatchOption result (most_long < blocking + load_of level.now long) (λ n. (n ≡ blocking + load_of level.now long) × (n ≤ most_long)) }
+{
+    let total = u64::from(blocking) + load(level, long)?;
+    if total > MOST_LONG { None } else { Some(total) }
+}
+
+/// The busy period of these messages, where a frame that blocks them has so much left: the least number of bit times
+/// within which all of them that arrive have been sent. None where it is longer than a scenario.
+pub(crate) fn busy_period(blocking: u16, level: &[Planned]) -> Option<u64>
+    ensures { MatchOption result ((n : ℕ) → IsBusyPeriod blocking level.now n → most_long < n)
+        (λ long. (long ≤ most_long) × IsLeast (IsBusyPeriod blocking level.now) long) }
+{
+    let mut long = 1;
+    while let Some(next) = kept(blocking, level, long) {
+        if next <= long {
+            return Some(long);
+        }
+        long = next;
+    }
+    None
+}
