@@ -1,6 +1,6 @@
 /** The answer to a network, line by line. */
 
-const MESSAGE = /^(.+) longest (\d+) blocking (\d+) bound (\d+|none) deadline (\d+) (?:slack (\d+) ok|late)$/;
+const MESSAGE = /^(.+) longest (\d+) blocking (\d+) bound (\d+|none) deadline (\d+) (?:slack (\d+) ok|late)(?: name "([^"]*)")?$/;
 const LAST = /^load (\S+) late (\d+) of (\d+)$/;
 
 /**
@@ -11,6 +11,7 @@ const LAST = /^load (\S+) late (\d+) of (\d+)$/;
  * @property {number | null} bound none where there is none
  * @property {number} deadline
  * @property {number | null} slack none where it is late
+ * @property {string} name empty where the message has none
  */
 
 /**
@@ -34,9 +35,9 @@ export function answerOf(bytes) {
 
 /** @param {string} line @returns {Verdict} */
 function verdictOf(line) {
-  const [, frame, longest, blocking, bound, deadline, slack] = MESSAGE.exec(line);
+  const [, frame, longest, blocking, bound, deadline, slack, name = ''] = MESSAGE.exec(line);
   return {
     frame, longest: Number(longest), blocking: Number(blocking), bound: bound === 'none' ? null : Number(bound), deadline: Number(deadline),
-    slack: slack === undefined ? null : Number(slack),
+    slack: slack === undefined ? null : Number(slack), name,
   };
 }

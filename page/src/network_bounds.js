@@ -35,12 +35,12 @@ export class BoundsView {
 
 /** @param {Verdict} verdict */
 function rowOf(verdict) {
-  const { frame, longest, blocking, bound, deadline, slack } = verdict;
+  const { frame, longest, blocking, bound, deadline, slack, name } = verdict;
   const isLate = slack === null;
   const outcome = isLate ? html('strong', { class: 'fault-name' }, ['▲ late']) : `ok, slack ${told(slack)}`;
   const cells = [told(longest), told(blocking), bound === null ? 'none' : told(bound), told(deadline), outcome];
   return html('tr', isLate ? { class: 'late' } : {}, [
-    html('th', { scope: 'row', class: 'mono' }, [frame]),
+    html('th', { scope: 'row', class: 'mono' }, name === '' ? [frame] : [frame, html('div', { class: 'called' }, [name])]),
     ...cells.map((cell, column) => html('td', { 'data-name': COLUMNS[column], class: column < 4 ? 'number' : 'outcome' }, [cell])),
     html('td', { class: 'bar-room' }, [barOf(verdict)]),
   ]);

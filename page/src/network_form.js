@@ -18,6 +18,7 @@ const FIELDS = Object.freeze({
   period: { label: 'Period', empty: '', size: 8 },
   jitter: { label: 'Jitter', empty: '0', size: 8 },
   deadline: { label: 'Deadline', empty: 'period', size: 8 },
+  name: { label: 'Name', empty: '', size: 16 },
 });
 
 export class NetworkForm {
@@ -88,7 +89,7 @@ export class NetworkForm {
       const { label, empty, size } = FIELDS[name];
       const field = html('input', {
         id: `network-${name}-${place}`, 'data-place': place, 'data-name': name, class: 'mono', type: 'text', size, value: message[name], placeholder: empty, autocomplete: 'off', spellcheck: 'false',
-        'aria-label': `${label} of message ${place}`, 'aria-describedby': 'network-fault', ...(name === 'frame' ? {} : { inputmode: 'numeric' }),
+        'aria-label': `${label} of message ${place}`, 'aria-describedby': 'network-fault', ...(name === 'frame' || name === 'name' ? {} : { inputmode: 'numeric' }),
       });
       return html('td', { class: name, 'data-name': label }, [field]);
     };
@@ -114,7 +115,7 @@ export class NetworkForm {
   /** Marks it among the fields that are shown: the frame stands for the whole message. */
   markShown() {
     for (const field of byId('network-form').querySelectorAll('[aria-invalid]')) field.removeAttribute('aria-invalid');
-    const found = /^(?:message\[(\d+)\](?:\.(frame|dlc|period|jitter|deadline))?|(rate)|errors\.(burst|spacing))$/.exec(this.wrong);
+    const found = /^(?:message\[(\d+)\](?:\.(frame|dlc|period|jitter|deadline|name))?|(rate)|errors\.(burst|spacing))$/.exec(this.wrong);
     if (!found) return;
     const [, place, name = 'frame', rate, error] = found;
     document.getElementById(place === undefined ? `network-${rate ?? error}` : `network-${name}-${place}`)?.setAttribute('aria-invalid', 'true');

@@ -2,7 +2,7 @@
 import { scanned } from './toml_places.js';
 
 /**
- * @typedef {Record<'frame' | 'dlc' | 'period' | 'jitter' | 'deadline', string>} MessageForm
+ * @typedef {Record<'frame' | 'dlc' | 'period' | 'jitter' | 'deadline' | 'name', string>} MessageForm
  */
 
 /**
@@ -17,15 +17,16 @@ import { scanned } from './toml_places.js';
 /** The names at the top, those of errors, and those of a message. */
 export const TOP_NAMES = ['version', 'rate', 'errors', 'message'];
 export const ERROR_NAMES = ['burst', 'spacing'];
-export const MESSAGE_NAMES = ['frame', 'dlc', 'period', 'jitter', 'deadline'];
+export const MESSAGE_NAMES = ['frame', 'dlc', 'period', 'jitter', 'deadline', 'name'];
+const NUMBER_NAMES = ['dlc', 'period', 'jitter', 'deadline'];
 
 /** The paths of numbers, of texts, and of what holds them. */
 const NUMBER = /^(?:version|rate|errors\.(?:burst|spacing)|message\[\d+\]\.(?:dlc|period|jitter|deadline))$/;
-const TEXT = /^message\[\d+\]\.frame$/;
+const TEXT = /^message\[\d+\]\.(?:frame|name)$/;
 const HOLDER = /^(?:errors|message|message\[\d+\])$/;
 
 /** @returns {MessageForm} */
-export const newMessage = () => ({ frame: '', dlc: '', period: '', jitter: '', deadline: '' });
+export const newMessage = () => ({ frame: '', dlc: '', period: '', jitter: '', deadline: '', name: '' });
 
 /**
  * The form of a text.
@@ -40,8 +41,8 @@ export function formOf(text) {
   const messages = [];
   for (let place = 0; places.has(`message[${place}]`); place += 1) {
     const path = `message[${place}]`;
-    const message = Object.fromEntries(MESSAGE_NAMES.map((name) => [name, number(`${path}.${name}`)]));
-    messages.push({ ...message, frame: strings.get(`${path}.frame`) ?? '' });
+    const numbers = Object.fromEntries(NUMBER_NAMES.map((name) => [name, number(`${path}.${name}`)]));
+    messages.push({ ...numbers, frame: strings.get(`${path}.frame`) ?? '', name: strings.get(`${path}.name`) ?? '' });
   }
   const [burst, spacing] = ERROR_NAMES.map((name) => number(`errors.${name}`));
   // a table of errors with nothing in it says that there are none, and is kept
@@ -64,7 +65,8 @@ export function textOf(form) {
 /** @param {MessageForm} message */
 function messageLines(message) {
   const frame = message.frame.trim() === '' ? [] : [`frame = ${JSON.stringify(message.frame.trim())}`];
-  return ['[[message]]', ...frame, ...MESSAGE_NAMES.slice(1).flatMap((name) => lineOf(message, name))];
+  const name = message.name === '' ? [] : [`name = ${JSON.stringify(message.name)}`];
+  return ['[[message]]', ...name, ...frame, ...NUMBER_NAMES.flatMap((it) => lineOf(message, it))];
 }
 
 /** The line of a number, if there is one. @param {Record<string, string>} from @param {string} name */

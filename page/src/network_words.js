@@ -9,7 +9,7 @@ const IN_MESSAGE = 9;
 /** By the numbers of fields, as canplan names them. */
 const NAMES = Object.freeze([
   'toml', 'key', 'version', 'rate', 'errors', 'errors.key', 'errors.burst', 'errors.spacing', 'message',
-  '', '.key', '.frame', '.dlc', '.period', '.jitter', '.deadline', '',
+  '', '.key', '.frame', '.dlc', '.period', '.jitter', '.deadline', '', '.name', '.name',
 ]);
 
 const TIME = 'a whole number from 0 to 4294967295';
@@ -19,6 +19,7 @@ const WHY = Object.freeze([
   'A name of the errors is not one of theirs.', 'A burst is 0 to 65535 hits.', `A spacing is ${TIME}: 0, or a bit time at least.`, 'There are 1 to 512 messages, each a table [[message]].',
   'A message is a table.', 'A name of this message is not one of a message’s.', 'A frame is named by its kind, its identifier and D or R, as “S 100 D”: its DLC stands by itself.', 'A DLC is 0 to 15.',
   `A period is ${TIME}, and a bit time at least.`, `A jitter is ${TIME}.`, `A deadline is ${TIME}.`, 'A message before it has frames of the same arbitration field.',
+  'A name is 1 to 64 printable characters of ASCII, without quotation marks and backslashes.', 'A message before it has this name.',
 ]);
 
 /**

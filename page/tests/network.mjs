@@ -66,6 +66,15 @@ export const networkTests = [
     // the deadline is at 48 %, and 361 of 360 go 0.3 % beyond it, of which 2 % are drawn; 422 of 200 are cut at 96 %
     assert.deepEqual(bars, [['48%', 0, 0], ['48%', '2%', 0], ['48%', '48%', 1]]);
   }],
+  ['a name is shown beneath its frame, and edited in the table', async ({ open }) => {
+    const page = await networkShown(open, 'version = 1\n[[message]]\nname = " Engine speed"\nframe = "S 000 D"\nperiod = 500\n[[message]]\nframe = "S 001 D"\nperiod = 500\n');
+    const names = () => page.run(() => [...document.querySelectorAll('#network-bounds .called')].map((name) => name.textContent));
+    assert.deepEqual(await names(), [' Engine speed']);
+    assert.equal(await page.get("document.getElementById('network-name-0').value"), ' Engine speed');
+    await fillNetwork(page, 'network-name-1', 'Brake');
+    assert.equal(await networkText(page), 'version = 1\n\n[[message]]\nname = " Engine speed"\nframe = "S 000 D"\nperiod = 500\n\n[[message]]\nname = "Brake"\nframe = "S 001 D"\nperiod = 500\n');
+    assert.deepEqual(await names(), [' Engine speed', 'Brake']);
+  }],
   ['a message with no bound is late, and told so', async ({ open }) => {
     const page = await networkShown(open, 'version = 1\n[[message]]\nframe = "S 000 D"\nperiod = 100\n[[message]]\nframe = "S 001 D"\nperiod = 5000000\n');
     assert.deepEqual((await bounds(page)).map(([, , , bound, , outcome]) => [bound, outcome]), [['none', '▲ late'], ['none', '▲ late']]);

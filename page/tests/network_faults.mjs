@@ -25,7 +25,9 @@ const WRONG = [
   [GOOD.replace('1000', '0'), 'message[0].period', [4, 10], ['network-period-0']],
   [`${GOOD}jitter = 4294967296\n`, 'message[0].jitter', [5, 10], ['network-jitter-0']],
   [`${GOOD}deadline = -1\n`, 'message[0].deadline', [5, 12], ['network-deadline-0']],
+  [`${GOOD}name = ""\n`, 'message[0].name', [5, 8], ['network-name-0']],
   [`${GOOD}[[message]]\nframe = "S 000 D"\nperiod = 2000\n`, 'message[1]', [5, 1], ['network-frame-1']],
+  [`${GOOD}name = "a"\n[[message]]\nframe = "S 001 D"\nname = "a"\nperiod = 2000\n`, 'message[1].name', [8, 8], ['network-name-1']],
 ];
 
 export const networkFaultTests = [

@@ -50,6 +50,8 @@ _READ = {
 # It holds the signals that are in no message.
 _NO_MESSAGE = "VECTOR__INDEPENDENT_SIG_MSG"
 _NO_SENDER = "Vector__XXX"
+# What canplan takes as a name.
+_TOLD = re.compile(r"[ !#-\[\]-~]{1,64}")
 # An identifier with this bit is an extended one.
 _EXTENDED = 1 << 31
 _MOST_CYCLE = 10**9
@@ -296,16 +298,32 @@ def network(messages: Iterable[Message], asked: Asked) -> str:
     lines = ["version = 1", f"rate = {asked.bitrate}"]
     if asked.errors is not None:
         lines += ["", "[errors]", f"burst = {asked.errors[0]}", f"spacing = {asked.errors[1]}"]
-    for message in messages:
-        if asked.period(message):
-            lines += ["", *_message_lines(message, asked)]
+    planned = [message for message in messages if asked.period(message)]
+    unnamed = _unnamed(planned)
+    for message in planned:
+        lines += ["", *_message_lines(message, asked, message not in unnamed)]
     return "\n".join(lines) + "\n"
 
 
-def _message_lines(message: Message, asked: Asked) -> Iterator[str]:
-    """The lines of a message, its name and sender in a comment."""
-    yield f"# {message.name}" + (f", sent by {message.sender}" if message.sender else "")
+def _unnamed(messages: Sequence[Message]) -> list[Message]:
+    """Those whose names canplan would refuse: by a character, by their length, or as that of a message before."""
+    earlier: set[str] = set()
+    unnamed = []
+    for message in messages:
+        if message.name in earlier or not _TOLD.fullmatch(message.name):
+            unnamed.append(message)
+        earlier.add(message.name)
+    return unnamed
+
+
+def _message_lines(message: Message, asked: Asked, is_named: bool) -> Iterator[str]:
+    """The lines of a message, its sender in a comment, and its name too where canplan would refuse it."""
+    comment = [message.name] * (not is_named) + [f"sent by {message.sender}"] * bool(message.sender)
+    if comment:
+        yield f"# {', '.join(comment)}"
     yield "[[message]]"
+    if is_named:
+        yield f'name = "{message.name}"'
     yield 'frame = "' + " ".join(message.frame.text.split(" ")[:3]) + '"'
     yield f"dlc = {message.frame.dlc}"
     yield f"period = {asked.period(message)}"
@@ -325,6 +343,8 @@ def _notes(file: str, messages: Sequence[Message], asked: Asked) -> Iterator[str
     for message in planned:
         if message.senders > 1:
             yield f"{file}:{message.line}: {message.name} has {message.senders} senders; canplan's bounds are for one"
+    for message in _unnamed(planned):
+        yield f"{file}:{message.line}: canplan would refuse the name {message.name}; it is in a comment"
     by_cycle = [message for message in planned if message.name not in asked.periods and message.cycle]
     for sending in sorted({message.sending for message in by_cycle} - {""}):
         if sending.lower() != "cyclic":

@@ -238,13 +238,24 @@ def test_asked() -> None:
     text = 'BO_ 1 A: 1 N\nBO_ 2 B: 2 N\nBO_ 3 C: 3 N\nBA_ "GenMsgCycleTime" BO_ 1 10;\nBA_ "GenMsgCycleTime" BO_ 2 20;'
     asked = Asked(500000, {"A": 7000, "": 100}, {"": 5, "B": 0}, {"C": 9})
     assert tables(text, asked) == [
-        {"frame": "S 001 D", "dlc": 1, "period": 7000, "jitter": 5},
-        {"frame": "S 002 D", "dlc": 2, "period": 20000, "jitter": 0},
-        {"frame": "S 003 D", "dlc": 3, "period": 100, "jitter": 5, "deadline": 9},
+        {"name": "A", "frame": "S 001 D", "dlc": 1, "period": 7000, "jitter": 5},
+        {"name": "B", "frame": "S 002 D", "dlc": 2, "period": 20000, "jitter": 0},
+        {"name": "C", "frame": "S 003 D", "dlc": 3, "period": 100, "jitter": 5, "deadline": 9},
     ]
     assert [it["period"] for it in tables(text, Asked(500000, {"B": 0}))] == [10000]
     document = tomllib.loads(network(read(text), Asked(250000, errors=(2, 30))))
     assert (document["rate"], document["errors"]) == (250000, {"burst": 2, "spacing": 30})
+
+
+def test_names() -> None:
+    """A name that canplan would refuse stands in a comment: by a character, by its length, or a second time."""
+    names = ["a.b", 'a"b', "a\\b", "é", 64 * "x", 65 * "x", "a.b"]
+    text = "\n".join(f"BO_ {place} {name}: 0 N" for place, name in enumerate(names))
+    document = network(read(text), Asked(500000, {"": 100}))
+    told = [it.get("name") for it in tomllib.loads(document)["message"]]
+    assert told == ["a.b", None, None, None, 64 * "x", None, None]
+    comments = [line for line in document.splitlines() if line.startswith("#")]
+    assert comments == [f"# {it}sent by N" for it in ("", 'a"b, ', "a\\b, ", "é, ", "", 65 * "x" + ", ", "a.b, ")]
 
 
 @pytest.mark.parametrize(
@@ -255,6 +266,7 @@ def test_asked() -> None:
         ("BO_ 1 Name: 12 A\nBO_ 2 Other", [], 1, ":2: this BO_ can't be read: BO_ 2 Other"),
         ("?\n" * 50, [], 1, ": and 30 more lines"),
         ("BO_ 1 Name: 8 A\nBO_TX_BU_ 1 : A,B,A;", ["--period", "9"], 0, ":1: Name has 2 senders; canplan's bounds are"),
+        ('BO_ 1 A"B: 8 A', ["--period", "9"], 0, ':1: canplan would refuse the name A"B'),
     ],
 )
 def test_told(

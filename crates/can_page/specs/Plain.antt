@@ -119,6 +119,8 @@ wrong_in_message place of_message.Period = wrong_at 13 place 0
 wrong_in_message place of_message.Jitter = wrong_at 14 place 0
 wrong_in_message place of_message.Deadline = wrong_at 15 place 0
 wrong_in_message place of_message.Repeated = wrong_at 16 place 0
+wrong_in_message place of_message.Name = wrong_at 17 place 0
+wrong_in_message place of_message.RepeatedName = wrong_at 18 place 0
 
 abbrev pub wrong_in_plan : PlanField → WrongField
 wrong_in_plan plan.Document = wrong_at 0 0 0

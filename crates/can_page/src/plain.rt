@@ -146,6 +146,8 @@ impl WrongField {
             MessageField::Jitter => WrongField::at(14, place, 0),
             MessageField::Deadline => WrongField::at(15, place, 0),
             MessageField::Repeated => WrongField::at(16, place, 0),
+            MessageField::Name => WrongField::at(17, place, 0),
+            MessageField::RepeatedName => WrongField::at(18, place, 0),
         }
     }
 

@@ -1,5 +1,7 @@
 -- messages that are put in the order of arbitration, one after another
 pub mod InOrder
+-- names of their own
+pub mod OwnNames
 -- that a message within its deadline meets it; what analyses ask of messages
 pub mod Kept
 -- the text of a head

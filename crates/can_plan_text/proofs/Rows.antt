@@ -1,10 +1,12 @@
 -- The definitions, computed on numbers worked out by hand.
-use Rattle.std.proofs.Common.{◌≡◌, ◌<◌, ℕ, true, false, Some, None, pos, refl, subst, arith}
+use Rattle.std.proofs.Common.{◌≡◌, ◌<◌, ℕ, true, false, [], ◌∷◌, length, Some, None, pos, refl, subst, arith}
+use Rattle.std.specs.List.{list_all}
 use Rattle.std.specs.Prelude.{codes}
 use Rattle.toml.specs.Data.{integer}
 use Rattle.can_plan_text.specs.Answers.{is_above}
+use Rattle.can_plan_text.specs.Names.{IsName, is_name_byte}
 use Rattle.can_plan_text.specs.Plans.{IsPeriod, IsSpacing}
-use Rattle.can_plan_text.specs.Report.{outcome_text}
+use Rattle.can_plan_text.specs.Report.{end_text, outcome_text, quoted_text}
 use Rattle.can_plan_text.specs.Times.{bits_down, bits_up}
 
 -- at 125 kbit/s a bit time is 8 microseconds
@@ -59,5 +61,28 @@ late = refl
 unbound : is_above 4294967295 None ≡ true
 unbound = refl
 
-late-told : outcome_text 131 (Some 132) ≡ codes " late\n"
+late-told : outcome_text 131 (Some 132) ≡ codes " late"
 late-told = refl
+
+-- a name: the first and the last characters that may stand in it, and their neighbours, which may not
+named-all : IsName (codes " !#[]~")
+named-all = let six : length (codes " !#[]~") ≡ 6 = refl in record { some = omega (arith, six); few = omega (arith, six); printed = refl }
+
+named-none : list_all is_name_byte (31 ∷ []) ≡ false
+named-none = refl
+
+quoted-none : list_all is_name_byte (codes "a\"") ≡ false
+quoted-none = refl
+
+slashed-none : list_all is_name_byte (97 ∷ 92 ∷ []) ≡ false
+slashed-none = refl
+
+deleted-none : list_all is_name_byte (127 ∷ []) ≡ false
+deleted-none = refl
+
+-- it ends the line
+nameless : end_text None ≡ codes "\n"
+nameless = refl
+
+name-told : quoted_text (codes "Speed") ≡ codes " name \"Speed\"\n"
+name-told = refl

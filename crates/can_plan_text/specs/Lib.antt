@@ -1,5 +1,6 @@
 -- To believe: what public calls promise is said in these words
 pub mod Times
+pub mod Names
 pub mod Plans
 pub mod Answers
 pub mod Report

@@ -19,6 +19,7 @@ use Rattle.can_plan_text.specs.declared.field.MessageField.TheVariants as of_mes
 use Rattle.can_plan_text.specs.declared.messages.Fields.{Fields}
 use Rattle.can_plan_text.specs.declared.plan.Plan.{Plan}
 use Rattle.can_plan_text.specs.declared.plan.Planned.{Planned}
+use Rattle.can_plan_text.specs.Names.{IsNameValue, SaysName}
 use Rattle.can_plan_text.specs.Times.{bits_down, bits_up}
 
 -- ---- the fields at the top
@@ -73,7 +74,7 @@ errors_demands rate (Some d) = demand field.Errors (IsTable d) (table_demands ra
 -- ---- a message
 
 abbrev pub message_fields : List (List ℕ)
-message_fields = codes "frame" ∷ codes "dlc" ∷ codes "period" ∷ codes "jitter" ∷ codes "deadline" ∷ []
+message_fields = codes "frame" ∷ codes "dlc" ∷ codes "period" ∷ codes "jitter" ∷ codes "deadline" ∷ codes "name" ∷ []
 
 -- the text of this frame but for the DLC, which is 0
 abbrev pub IsHeadText : List ℕ → Parts → Type 0
@@ -97,7 +98,8 @@ fields_demands rate place d =
     (demand (field.Message place of_message.Period) (IsRequired (IsPeriod rate) (named (codes "period") d))
     (demand (field.Message place of_message.Jitter) (IsOptional (IsUpTo most_time) (named (codes "jitter") d))
     (demand (field.Message place of_message.Deadline) (IsOptional (IsUpTo most_time) (named (codes "deadline") d))
-    no_demands)))))
+    (demand (field.Message place of_message.Name) (IsOptional IsNameValue (named (codes "name") d))
+    no_demands))))))
 
 abbrev pub message_demands : ℕ → ℕ → Data → Demands PlanField
 message_demands rate place d = demand (field.Message place of_message.Table) (IsTable d) (fields_demands rate place d)
@@ -112,6 +114,17 @@ IsNew ds place d = (n : ℕ) (e : Data) (f g : Parts) → n < place → slice_ge
 
 abbrev pub new_demands : List Data → ℕ → Data → Demands PlanField
 new_demands ds place d = demand (field.Message place of_message.Repeated) (IsNew ds place d) no_demands
+
+-- a message's table says this name
+abbrev pub SaysText : Data → List ℕ → Type 0
+SaysText d text = named (codes "name") d ≡ Some (string text)
+
+-- the message has another name than each message before this place
+abbrev pub IsNewName : List Data → ℕ → Data → Type 0
+IsNewName ds place d = (n : ℕ) (e : Data) (text : List ℕ) → n < place → slice_get ds n ≡ Some e → SaysText e text → ¬ SaysText d text
+
+abbrev pub name_demands : List Data → ℕ → Data → Demands PlanField
+name_demands ds place d = demand (field.Message place of_message.RepeatedName) (IsNewName ds place d) no_demands
 
 -- ---- the document
 
@@ -133,7 +146,8 @@ abbrev pub plan_demands : Data → Demands PlanField
 plan_demands document =
     followed (top_demands document)
     (followed (demands_on_each (message_demands (rate_in document)) 0 (messages_in document))
-    (demands_on_each (new_demands (messages_in document)) 0 (messages_in document)))
+    (followed (demands_on_each (new_demands (messages_in document)) 0 (messages_in document))
+    (demands_on_each (name_demands (messages_in document)) 0 (messages_in document))))
 
 -- ---- which network it says
 
@@ -156,6 +170,7 @@ pub record SaysFields (d : Data) (said : Fields) : Type 0 where
   pub period : IsRequired (IsNumber said.period) (named (codes "period") d)
   pub jitter : SaysNumber 0 (named (codes "jitter") d) said.jitter
   pub deadline : SaysNumber said.period (named (codes "deadline") d) said.deadline
+  pub name : SaysName (named (codes "name") d) said.name
 
 -- the message of these fields, in bit times
 pub record IsPlanned (rate : ℕ) (said : Fields) (planned : Planned) : Type 0 where
@@ -165,6 +180,7 @@ pub record IsPlanned (rate : ℕ) (said : Fields) (planned : Planned) : Type 0 w
   pub period : planned.message.period ≡ bits_down rate said.period
   pub jitter : planned.message.jitter ≡ bits_up rate said.jitter
   pub deadline : planned.deadline ≡ bits_down rate said.deadline
+  pub name : planned.name ≡ said.name
 
 abbrev pub SaysMessage : ℕ → Data → Planned → Type 0
 SaysMessage rate d planned = (said : Fields) × SaysFields d said × IsPlanned rate said planned

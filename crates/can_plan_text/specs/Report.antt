@@ -4,11 +4,13 @@ use Rattle.std.specs.List.{flat_map, sum_by}
 use Rattle.can_frame.specs.Text.{frame_text}
 use Rattle.can_plan.specs.declared.borne.Borne.{Borne}
 use Rattle.can_plan.specs.declared.borne.Borne.TheVariants.{Ever, For, Never}
+use Rattle.can_plan_text.specs.declared.name.Name.{Name}
 use Rattle.can_plan_text.specs.declared.verdict.Analysis.{Analysis}
 use Rattle.can_plan_text.specs.declared.verdict.Verdict.{Verdict}
 use Rattle.can_plan_text.specs.declared.plan.Plan.{Plan}
 use Rattle.can_plan_text.specs.declared.plan.Planned.{Planned}
 use Rattle.can_plan_text.specs.Answers.{IsAnalysis, Keeps, late_in}
+use Rattle.can_plan_text.specs.Names.{bytes_of}
 use Rattle.can_plan_text.specs.Plans.{IsPlanText}
 
 -- ---- the load
@@ -28,8 +30,8 @@ thousandths n = decimal (n / 1000) ++ (codes "." ++ (decimal (n / 100 % 10) ++ (
 -- ---- lines
 
 -- `S 100 D 7`: the text of the head up to its last digit, which is its DLC, and the DLC of the message
-abbrev pub name_text : Planned → List ℕ
-name_text p = take (length (frame_text p.head) - 1) (frame_text p.head) ++ decimal p.dlc
+abbrev pub head_text : Planned → List ℕ
+head_text p = take (length (frame_text p.head) - 1) (frame_text p.head) ++ decimal p.dlc
 
 -- `246`, or `none`
 abbrev pub bound_text : Option ℕ → List ℕ
@@ -38,22 +40,31 @@ bound_text (Some bound) = decimal bound
 
 -- ` slack 66 ok`
 abbrev pub slack_text : ℕ → List ℕ
-slack_text slack = codes " slack " ++ (decimal slack ++ codes " ok\n")
+slack_text slack = codes " slack " ++ (decimal slack ++ codes " ok")
 
 -- by how much a bound is within the deadline; ` late` where it isn't, or there is none
 abbrev pub outcome_text : ℕ → Option ℕ → List ℕ
-outcome_text deadline None = codes " late\n"
-outcome_text deadline (Some bound) = if nat_lt deadline bound then codes " late\n" else slack_text (deadline - bound)
+outcome_text deadline None = codes " late"
+outcome_text deadline (Some bound) = if nat_lt deadline bound then codes " late" else slack_text (deadline - bound)
 
 -- ` bound 246 deadline 312`, and the outcome
 abbrev pub times_text : ℕ → Option ℕ → List ℕ
 times_text deadline bound = codes " bound " ++ (bound_text bound ++ (codes " deadline " ++ (decimal deadline ++ outcome_text deadline bound)))
 
--- `S 100 D 7 longest 125 blocking 124`, and bound and deadline
+-- ` name "Speed"`, and the end of the line
+abbrev pub quoted_text : List ℕ → List ℕ
+quoted_text name = codes " name \"" ++ (name ++ codes "\"\n")
+
+-- the end of the line, behind the name where there is one
+abbrev pub end_text : Option Name → List ℕ
+end_text None = codes "\n"
+end_text (Some name) = quoted_text (bytes_of name)
+
+-- `S 100 D 7 longest 125 blocking 124`, bound and deadline, and the name
 unfoldable pub message_line : Verdict → List ℕ
 message_line v =
-    name_text v.planned ++ (codes " longest " ++ (decimal v.planned.message.longest ++
-    (codes " blocking " ++ (decimal v.blocking ++ times_text v.planned.deadline v.bound))))
+    head_text v.planned ++ (codes " longest " ++ (decimal v.planned.message.longest ++
+    (codes " blocking " ++ (decimal v.blocking ++ (times_text v.planned.deadline v.bound ++ end_text v.planned.name)))))
 
 -- `network messages 3 load 0.972 rate 125000`
 unfoldable pub first_line : ℕ → List Verdict → List ℕ

@@ -56,7 +56,12 @@ pub enum MessageField {
     Jitter,
     #[error(".deadline")]
     Deadline,
+    #[error(".name")]
+    Name,
     /// Its frames have the arbitration field of a message before it.
     #[error("")]
     Repeated,
+    /// It has the name of a message before it.
+    #[error(".name")]
+    RepeatedName,
 }

@@ -6,6 +6,8 @@
 //! | `plan.rt` | [`Plan`], a network that was read: its messages in the order of arbitration | `specs/Plans.antt` |
 //! | `document.rt` | the document, and its fields at the top | `specs/Plans.antt` |
 //! | `messages.rt` | its messages, one after another | `specs/Plans.antt` |
+//! | `name.rt` | [`Name`], the name of a message | `specs/Names.antt` |
+//! | `names.rt` | names in documents, of which no two are one | `specs/Names.antt` |
 //! | `times.rt` | microseconds as whole bit times | `specs/Times.antt` |
 //! | `order.rt` | messages in the order of arbitration | `specs/Plans.antt` |
 //! | `verdict.rt` | [`Analysis`], what is answered of a network, a [`Verdict`] for each message | `specs/Answers.antt` |
@@ -24,6 +26,8 @@ mod fault;
 mod field;
 mod laws;
 mod messages;
+mod name;
+mod names;
 mod order;
 mod plan;
 mod report;
@@ -35,6 +39,7 @@ pub use answer::{Answer, answered};
 pub use fault::PlanFault;
 pub use field::{MessageField, PlanField};
 pub use laws::one_plan_field;
+pub use name::{LONGEST_NAME, Name};
 pub use plan::{Plan, Planned};
 pub use report::push_report;
 pub use verdict::{Analysis, Verdict};

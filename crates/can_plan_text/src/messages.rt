@@ -12,6 +12,8 @@ ghost use Rattle.can_plan_text.specs.Plans.{fields_demands, message_demands, IsH
 use crate::document::MOST_TIME;
 use crate::fault::PlanFault;
 use crate::field::MessageField;
+use crate::name::Name;
+use crate::names::name;
 use crate::plan::Planned;
 use crate::times::{bits_down, bits_up};
 use arrayvec::ArrayVec;
@@ -23,7 +25,7 @@ use std::alloc::Global;
 use toml::{Table, Value};
 
 /// The fields that a message may have.
-const MESSAGE_FIELDS: [&str; 5] = ["frame", "dlc", "period", "jitter", "deadline"];
+const MESSAGE_FIELDS: [&str; 6] = ["frame", "dlc", "period", "jitter", "deadline", "name"];
 
 /// The DLC of a message where nothing is said.
 const USUAL_DLC: u64 = 8;
@@ -78,6 +80,7 @@ pub(crate) struct Fields {
     pub(crate) period: u32,
     pub(crate) jitter: u32,
     pub(crate) deadline: u32,
+    pub(crate) name: Option<Name>,
 }
 
 /// Reads the fields of the message at this place.
@@ -105,12 +108,14 @@ fn read_fields(place: usize, rate: u32, fields: &Table) -> Result<Fields, PlanFa
     let deadline = number_or(fields, "deadline", u64::from(period), MOST_TIME).ok_or(
         PlanFault::of_message(place, MessageField::Deadline),
     )?;
+    let name = name(fields).ok_or(PlanFault::of_message(place, MessageField::Name))?;
     Ok(Fields {
         head,
         dlc: dlc as u8,
         period,
         jitter: jitter as u32,
         deadline: deadline as u32,
+        name,
     })
 }
 
@@ -163,5 +168,6 @@ fn planned(wires: &LongestWires, rate: u32, said: &Fields) -> Planned
             jitter: bits_up(rate, said.jitter),
         },
         deadline: bits_down(rate, said.deadline),
+        name: said.name,
     }
 }

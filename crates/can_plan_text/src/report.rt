@@ -1,7 +1,7 @@
 //! The answer to a network, as text.
 ghost use Rattle.std.specs.Prelude.{◌≡◌, ◌++◌, ◌^◌, ◌<◌, codes, decimal, OnOk};
 ghost use Rattle.std.specs.List.{flat_map};
-ghost use Rattle.can_plan_text.specs.Report.{borne_line, bound_text, first_line, last_line, load_of, message_line, name_text, outcome_text, report_text, share_of, slack_text, thousandths, times_text};
+ghost use Rattle.can_plan_text.specs.Report.{borne_line, bound_text, end_text, first_line, head_text, last_line, load_of, message_line, outcome_text, quoted_text, report_text, share_of, slack_text, thousandths, times_text};
 
 use crate::plan::Planned;
 use crate::verdict::{Analysis, Verdict};
@@ -52,19 +52,20 @@ fn push_messages(out: &mut Vec<u8>, verdicts: &[Verdict]) -> Result<(), AllocErr
 fn push_message(out: &mut Vec<u8>, verdict: &Verdict) -> Result<(), AllocError>
     ensures { OnOk result (out.new.items ≡ out.old.items ++ message_line verdict.now) }
 {
-    push_name(out, &verdict.planned)?;
+    push_head(out, &verdict.planned)?;
     push_named(
         out,
         b" longest ",
         u64::from(verdict.planned.message.longest),
     )?;
     push_named(out, b" blocking ", u64::from(verdict.blocking))?;
-    push_times(out, u64::from(verdict.planned.deadline), verdict.bound)
+    push_times(out, u64::from(verdict.planned.deadline), verdict.bound)?;
+    push_end(out, &verdict.planned)
 }
 
 /// Appends what a message's frames have in common: a frame's text up to its DLC.
-fn push_name(out: &mut Vec<u8>, planned: &Planned) -> Result<(), AllocError>
-    ensures { OnOk result (out.new.items ≡ out.old.items ++ name_text planned.now) }
+fn push_head(out: &mut Vec<u8>, planned: &Planned) -> Result<(), AllocError>
+    ensures { OnOk result (out.new.items ≡ out.old.items ++ head_text planned.now) }
 {
     let text = planned.head.to_text();
     let bytes = text.as_bytes();
@@ -98,7 +99,7 @@ fn push_outcome(out: &mut Vec<u8>, deadline: u64, bound: Option<u64>) -> Result<
 {
     match bound {
         Some(bound) if bound <= deadline => push_slack(out, deadline - bound),
-        _ => push_text(out, b" late\n"),
+        _ => push_text(out, b" late"),
     }
 }
 
@@ -107,7 +108,26 @@ fn push_slack(out: &mut Vec<u8>, slack: u64) -> Result<(), AllocError>
     ensures { OnOk result (out.new.items ≡ out.old.items ++ slack_text slack) }
 {
     push_named(out, b" slack ", slack)?;
-    push_text(out, b" ok\n")
+    push_text(out, b" ok")
+}
+
+/// Appends the name of a message, if it has one, and the end of its line.
+fn push_end(out: &mut Vec<u8>, planned: &Planned) -> Result<(), AllocError>
+    ensures { OnOk result (out.new.items ≡ out.old.items ++ end_text planned.now.name) }
+{
+    match &planned.name {
+        Some(name) => push_quoted(out, name.as_bytes()),
+        None => push_text(out, b"\n"),
+    }
+}
+
+/// Appends a name in quotation marks, and the end of the line.
+fn push_quoted(out: &mut Vec<u8>, name: &[u8]) -> Result<(), AllocError>
+    ensures { OnOk result (out.new.items ≡ out.old.items ++ quoted_text name.now) }
+{
+    push_text(out, b" name \"")?;
+    push_text(out, name)?;
+    push_text(out, b"\"\n")
 }
 
 /// Appends the line that counts the messages that may be late.

@@ -23,6 +23,7 @@ each message how long behind its release a frame ends at most:
   jitter = 100         from release to offer at most; 0 where it is left out
   deadline = 5000      from release to the end of the frame; the period where
                        it is left out
+  name = 'Speed'       its own, of 64 characters at most; it may be left out
 
 The answer is a line for the whole, one for each message in the order of
 arbitration, and one for the whole again, with all times in bit times:
@@ -31,8 +32,9 @@ arbitration, and one for the whole again, with all times in bit times:
   S 200 D 7 longest 125 blocking 124 bound 371 deadline 437 slack 66 ok
   S 300 D 7 longest 125 blocking 0 bound 435 deadline 437 slack 2 ok
   load 0.972 late 0 of 3
-late stands for ok where the bound is above the deadline, or is none. With
-errors a last line tells for how long no port can become error passive:
+late stands for ok where the bound is above the deadline, or is none. A name
+ends its line, as name \"Speed\". With errors a last line tells for how long
+no port can become error passive:
   hits at most 15 within 149999
 
 With --timeline it writes a scenario for canbit run instead, in which MESSAGE,

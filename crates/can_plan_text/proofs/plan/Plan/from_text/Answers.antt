@@ -4,9 +4,9 @@ use Rattle.toml.specs.Data.{Data, table}
 use Rattle.toml.specs.View.{view, table_view}
 use Rattle.document_values.specs.Demands.{IsFirstUnmet}
 use Rattle.document_values.specs.Values.{named, ArePaired}
-use Rattle.can_plan_text.specs.Order.{IsRepeated}
+use Rattle.can_plan_text.specs.Order.{IsNamedAgain, IsRepeated}
 use Rattle.can_plan_text.specs.Plans.{SaysErrors, SaysMessage, messages_in, rate_in, top_demands}
-use Rattle.can_plan_text.proofs.PlanParts.{length-paired, listed-unmet, plan-met, repeated-unmet, top-unmet}
+use Rattle.can_plan_text.proofs.PlanParts.{length-paired, listed-unmet, named-again-unmet, plan-met, repeated-unmet, top-unmet}
 use Rattle.can_plan_text.proofs.plan.Plan.from_text.Goals as goal
 
 pub returns-in_err-top-clause-wrong : goal.returns-in_err-top-clause-wrong
@@ -30,6 +30,14 @@ returns-in_err-messages-clause-wrong c = λ wrong told.
     let repeated : IsRepeated wrong c.in_ok-listed.listed.items = search rules in
     inr (document, c.in_ok-document.ensures.said, repeated-unmet document ds c.in_ok-top.top.rate top.messages top.rate top.met c.in_ok-listed.ensures.met c.in_ok-listed.listed.items c.in_ok-listed.ensures.said wrong repeated)
 
+pub returns-in_err-refuse_same_names-clause-wrong : goal.returns-in_err-refuse_same_names-clause-wrong
+returns-in_err-refuse_same_names-clause-wrong c = λ wrong told.
+    let document : Data = table (table_view c.in_ok-document.document) in
+    let top = c.in_ok-top.ensures in
+    let ds = map view c.in_ok-top.top.messages.now in
+    let again : IsNamedAgain wrong c.in_ok-listed.listed.items = search rules in
+    inr (document, c.in_ok-document.ensures.said, named-again-unmet document ds c.in_ok-top.top.rate top.messages top.rate top.met c.in_ok-listed.ensures.met c.in_ok-listed.listed.items c.in_ok-listed.ensures.said wrong (search rules) again)
+
 pub invariant_of-result : goal.invariant_of-result
 invariant_of-result c =
     let ds = map view c.in_ok-top.top.messages.now in
@@ -48,7 +56,7 @@ returns-clause-found c =
       document,
       c.in_ok-document.ensures.said,
       record {
-        met = plan-met document ds c.in_ok-top.top.rate top.messages top.rate top.met c.in_ok-listed.ensures.met listed c.in_ok-listed.ensures.said (search rules);
+        met = plan-met document ds c.in_ok-top.top.rate top.messages top.rate top.met c.in_ok-listed.ensures.met listed c.in_ok-listed.ensures.said (search rules) (search rules);
         rate = top.rate;
         errors = subst (λ (r : ℕ). SaysErrors r (named (codes "errors") document) c.in_ok-top.top.errors) (sym top.rate) top.errors;
         listed = listed;

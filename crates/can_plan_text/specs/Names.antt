@@ -1,0 +1,33 @@
+-- The names of messages. (docs/PLANNING.md, "`canplan`")
+use Rattle.std.specs.Prelude.{ℕ, ◌≡◌, ◌<◌, ◌≤◌, nat_le, Bool, true, ◌&&◌, ◌||◌, List, length, take, Option, Some, None}
+use Rattle.std.specs.List.{list_all}
+use Rattle.toml.specs.Data.{Data, string}
+use Rattle.can_plan_text.specs.declared.name.Name.{Name}
+
+-- a printable character of ASCII, but a quotation mark or a backslash
+abbrev pub is_name_byte : ℕ → Bool
+is_name_byte byte = (nat_le 32 byte && nat_le byte 33) || ((nat_le 35 byte && nat_le byte 91) || (nat_le 93 byte && nat_le byte 126))
+
+-- 1 to 64 of them
+pub record IsName (text : List ℕ) : Type 0 where
+  pub some : 0 < length text
+  pub few : length text ≤ 64
+  pub printed : list_all is_name_byte text ≡ true
+
+-- a string that is a name
+abbrev pub IsNameValue : Data → Type 0
+IsNameValue d = (text : List ℕ) × (d ≡ string text) × IsName text
+
+-- the characters of a name
+abbrev pub bytes_of : Name → List ℕ
+bytes_of name = take name.size name.store
+
+-- the name that a message has
+abbrev pub HasName : Option Name → List ℕ → Type 0
+HasName None text = ⊥
+HasName (Some name) text = bytes_of name ≡ text
+
+-- what a field says of it: where it is left out, the message has none
+abbrev pub SaysName : Option Data → Option Name → Type 0
+SaysName None name = name ≡ None
+SaysName (Some d) name = (text : List ℕ) × (d ≡ string text) × HasName name text

@@ -1,0 +1,38 @@
+//! The name of a message.
+ghost use Rattle.std.specs.Prelude.{◌≤◌};
+
+/// How many bytes the name of a message has at most.
+pub const LONGEST_NAME: usize = 64;
+
+/// The name of a message.
+#[derive(Clone, Copy, Debug)]
+pub struct Name {
+    store: [u8; LONGEST_NAME],
+    size: usize,
+    ghost within: { size ≤ 64 },
+}
+
+impl Name {
+    ghost use Rattle.std.specs.Prelude.{◌≡◌, length};
+    ghost use Rattle.can_plan_text.specs.Names.{bytes_of};
+
+    /// The name of these bytes.
+    pub(crate) fn of(text: &[u8]) -> Name
+        requires { length text.now ≤ 64 }
+        ensures { bytes_of result ≡ text.now }
+    {
+        let mut store = [0; LONGEST_NAME];
+        store[..text.len()].copy_from_slice(text);
+        Name {
+            store,
+            size: text.len(),
+        }
+    }
+
+    /// Its characters: 1 to 64 printable ones of ASCII.
+    pub fn as_bytes(&self) -> &[u8]
+        ensures { result.now ≡ bytes_of self.now }
+    {
+        &self.store[..self.size]
+    }
+}
