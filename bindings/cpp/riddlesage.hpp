@@ -446,8 +446,7 @@ private:
 
   [[nodiscard]] Status answered(riddlesage_status status) const noexcept
   {
-    if (at_ == nullptr)
-      std::abort();
+    static_cast<void>(place());
     return detail::status_of(status);
   }
 

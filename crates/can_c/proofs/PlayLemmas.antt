@@ -88,19 +88,6 @@ module _ (handles : List Handle) where
   size : length (held_in handles) ≡ length handles
   size = length-map handles held_by
 
-  pub none-refused : length handles ≡ 0 → ports_refusal (held_in handles) ≡ Some BadBus
-  none-refused none =
-      let all : length (held_in handles) ≡ length handles = size in
-      let test : (length (held_in handles) == 0) ≡ true = grind (arith, nat_tests) in
-      ap (λ b. by_tests b (nat_lt 64 (length (held_in handles))) (lacks_port (held_in handles))) test
-
-  pub many-refused : 64 < length handles → ports_refusal (held_in handles) ≡ Some BadBus
-  many-refused many =
-      let all : length (held_in handles) ≡ length handles = size in
-      let test : (length (held_in handles) == 0) ≡ false = grind (arith, nat_tests) in
-      let more : nat_lt 64 (length (held_in handles)) ≡ true = grind (arith, nat_tests) in
-      ap (λ b. by_tests b (nat_lt 64 (length (held_in handles))) (lacks_port (held_in handles))) test ∙ ap (λ b. by_tests false b (lacks_port (held_in handles))) more
-
   pub by-lack : (lacks : Bool) → 1 ≤ length handles → length handles ≤ 64 → lacks_port (held_in handles) ≡ lacks → ports_refusal (held_in handles) ≡ by_tests false false lacks
   by-lack lacks some few is =
       let all : length (held_in handles) ≡ length handles = size in
@@ -122,10 +109,6 @@ fits-parts held fits =
 -- the reasons of a call, one behind another
 pub refused-ports : (held : List (Option PortState)) (offers : List PlainOffer) (hits : List PlainHit) (why : Status) → ports_refusal held ≡ Some why → play_refusal held offers hits ≡ Some why
 refused-ports held offers hits why is = ap (λ r. option_or r (option_or (offers_refusal offers) (hits_refusal hits))) is
-
-pub refused-offers : (held : List (Option PortState)) (offers : List PlainOffer) (hits : List PlainHit) (why : Status) → ports_refusal held ≡ None → offers_refusal offers ≡ Some why → play_refusal held offers hits ≡ Some why
-refused-offers held offers hits why fits is =
-    ap (λ r. option_or r (option_or (offers_refusal offers) (hits_refusal hits))) fits ∙ ap (λ r. option_or r (hits_refusal hits)) is
 
 pub refused-hits : (held : List (Option PortState)) (offers : List PlainOffer) (hits : List PlainHit) (why : Option Status) → ports_refusal held ≡ None → offers_refusal offers ≡ None → hits_refusal hits ≡ why →
     play_refusal held offers hits ≡ why
@@ -215,17 +198,6 @@ module _ (first handles : List Handle) (plain : List PlainOffer) (given : List P
   refused-run fits frames kinds why (inl memory) = inl memory
   refused-run fits frames kinds why (inr other) = inr (inr (refused-hits (held_in first) plain given None fits frames kinds, (other.0, (fault-of other.0 other.1.0, other.1.1))))
 
-  call-ports : (n : ℕ) → (call_after offers hits n (bus_held (held_in handles))).bus.ports ≡ (call_after (offers_in plain) (hits_in given) n (bus_held (held_in first))).bus.ports
-  call-ports n =
-      ap (λ (os : List Offer). (call_after os hits n (bus_held (held_in handles))).bus.ports) read
-      ∙ ap (λ (hs : List Hit). (call_after (offers_in plain) hs n (bus_held (held_in handles))).bus.ports) told
-      ∙ ap (λ (held : List (Option PortState)). (call_after (offers_in plain) (hits_in given) n (bus_held held)).bus.ports) same
-
-  pub played-ports : (held : List (Option PortState)) (k n : ℕ) → k ≡ n → held ≡ map Some (call_after offers hits k (bus_held (held_in handles))).bus.ports
-      → held ≡ map Some (call_after (offers_in plain) (hits_in given) n (bus_held (held_in first))).bus.ports
-  played-ports held k n size is =
-      is ∙ ap (λ (m : ℕ). map Some (call_after offers hits m (bus_held (held_in handles))).bus.ports) size ∙ ap (map Some) (call-ports n)
-
   call-levels : (t : ℕ) → call_level offers hits t (bus_held (held_in handles)) ≡ call_level (offers_in plain) (hits_in given) t (bus_held (held_in first))
   call-levels t =
       ap (λ (os : List Offer). call_level os hits t (bus_held (held_in handles))) read
@@ -236,13 +208,6 @@ module _ (first handles : List Handle) (plain : List PlainOffer) (given : List P
       → AreCodesOf (λ t. call_level (offers_in plain) (hits_in given) t (bus_held (held_in first))) codes
   played-levels recorded codes are is =
       codes-of (λ t. call_level (offers_in plain) (hits_in given) t (bus_held (held_in first))) recorded codes are (λ t within. is t within ∙ ap Some (call-levels t))
-
-  pub played-count : (count k n : ℕ) → k ≡ n → count ≡ call_refused offers hits k (bus_held (held_in handles)) → count ≡ call_refused (offers_in plain) (hits_in given) n (bus_held (held_in first))
-  played-count count k n size is =
-      is ∙ ap (λ (m : ℕ). call_refused offers hits m (bus_held (held_in handles))) size
-      ∙ ap (λ (os : List Offer). call_refused os hits n (bus_held (held_in handles))) read
-      ∙ ap (λ (hs : List Hit). call_refused (offers_in plain) hs n (bus_held (held_in handles))) told
-      ∙ ap (λ (held : List (Option PortState)). call_refused (offers_in plain) (hits_in given) n (bus_held held)) same
 
 -- ---- handles whose ports have been on a bus, and are back
 
@@ -257,9 +222,6 @@ module _ (first last : List Handle) (before after : List PortState) (lent : held
 
   pub back-count : (offers : List Offer) (hits : List Hit) (k count : ℕ) → count ≡ call_refused offers hits k (bus_of before) → count ≡ call_refused offers hits k (bus_held (held_in first))
   back-count offers hits k count is = is ∙ ap (λ (b : BusState). call_refused offers hits k b) (bus-held (held_in first) before lent)
-
-  pub back-unchanged : after ≡ before → held_in last ≡ held_in first
-  back-unchanged is = back ∙ ap (map Some) is ∙ sym lent
 
 -- ---- a network
 
