@@ -129,6 +129,7 @@ fn planned(text: &str, times: (u16, u32, u32)) -> Option<Planned> {
             jitter,
         },
         deadline: period,
+        name: None,
     })
 }
 
