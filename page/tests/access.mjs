@@ -209,12 +209,12 @@ export const accessTests = [
     await networkSettled(page);
     await page.run(() => document.getElementById('tab-network').focus());
     const reached = [];
-    for (let step = 0; step < 18; step += 1) {
+    for (let step = 0; step < 19; step += 1) {
       await page.key('Tab');
       reached.push(await page.run(() => document.activeElement.id || document.activeElement.getAttribute('aria-label') || document.activeElement.textContent));
     }
     assert.deepEqual(reached, ['network-examples', 'network-edit', 'network-link', 'Bounds and deadlines', 'The answer of canplan', 'network-file', 'network-save', 'network-rate', 'network-burst', 'network-spacing',
-      'Messages', 'network-frame-0', 'network-dlc-0', 'network-period-0', 'network-jitter-0', 'network-deadline-0', 'network-remove-0', 'network-frame-1']);
+      'Messages', 'network-frame-0', 'network-dlc-0', 'network-period-0', 'network-jitter-0', 'network-deadline-0', 'network-name-0', 'network-remove-0', 'network-frame-1']);
   }],
   ['tabs are changed by keys', async ({ open }) => {
     const page = await open();
