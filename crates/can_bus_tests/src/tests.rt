@@ -1,6 +1,5 @@
 ghost use Rattle.std.specs.Prelude.{◌≤◌};
 
-mod at_once;
 mod course;
 mod crowd;
 mod disturbed;
