@@ -8,8 +8,9 @@ use Rattle.can_frame.specs.Parts.{Parts, IsFrame}
 use Rattle.can_wire.specs.Wire.{wire, stuffed_part}
 use Rattle.can_fault.specs.declared.cause.Cause.TheVariants.{FrameSent, FrameReceived}
 use Rattle.can_fault.specs.Counters.{counted}
+use Rattle.can_mac.specs.declared.phase.Phase.TheVariants.{Idle}
 use Rattle.can_mac.specs.Frames.{with_intermission, behind_part, counters_after, role_at}
-use Rattle.can_mac.proofs.FrameParts.{length-wire}
+use Rattle.can_mac.proofs.FrameParts.{length-wire, length-with_intermission}
 use Rattle.can_mac.proofs.FrameRoles.{role-own}
 use Rattle.can_mac.proofs.HitLevels.{IsHit}
 use Rattle.can_node.specs.declared.entry.Entry.{Entry}
@@ -19,6 +20,7 @@ use Rattle.can_node.proofs.BrokenFrames.{seen_of}
 use Rattle.can_node.proofs.OneFrame.{port_at}
 use Rattle.can_node.proofs.FrameLeaves.{receiver-late, gaining_run-sent, gaining_run-received, log-unsent, log-sent, log-unreceived, log-received}
 use Rattle.can_bus.specs.Course.{AllEnded, IsMade, Transmission, course_tally, ended_by, frames_sent, hit_time, lasting}
+use Rattle.can_bus.specs.Network.{AllOver}
 use Rattle.can_bus.specs.Quiet.{IsPrefixOf, holds, marked}
 use Rattle.can_bus.specs.Repair.{IsLow, Tally, tallied}
 use Rattle.can_bus.proofs.RestingPorts.{IsAtRest}
@@ -57,6 +59,12 @@ has-none : (t : ℕ) (course : List Transmission) (o : CoursePort) (log : List E
 has-none t course o log none is =
     subst (λ (l : List Entry). IsPrefixOf l log) (sym (ap (λ (some : List Transmission). log_of some o) none ∙ append-nil o.machine.port.log)) is
 
+-- it is idle, has nothing left to send, and asks for no overload frame
+pub record IsDone (p : PortState) : Type 0 where
+  pub idle : p.mac.phase ≡ Idle
+  pub empty : p.queue ≡ []
+  pub unasked : p.mac.overloads.pending ≡ 0
+
 -- what becomes of the port by this time, where these attempts are still to come
 pub record Becomes (most : ℕ) (course : List Transmission) (until : ℕ) (o : CoursePort) (p : PortState) : Type 0 where
   pub begins : IsPrefixOf p.log (log_of course o)
@@ -65,19 +73,21 @@ pub record Becomes (most : ℕ) (course : List Transmission) (until : ℕ) (o : 
   pub within : IsWithin most p.mac.counters
   pub tally : AllEnded course until → tally_of p.mac.counters ≡ course_tally o.mine course (counts_of o)
   pub missed : p.missed ≡ o.machine.port.missed
+  pub done : AllOver course until → IsDone p
 
 -- ---- at rest
 
 -- where no attempt has come, the port is as it was
-pub becomes-now : (most : ℕ) (course : List Transmission) (now : ℕ) (o : CoursePort) → IsWithin most o.machine.port.mac.counters → ((s : Transmission) → IsMade course s → now < s.time) →
-    Becomes most course now o o.machine.port
-becomes-now most course now o within late = record {
+pub becomes-now : (most : ℕ) (course : List Transmission) (now : ℕ) (o : CoursePort) → IsWithin most o.machine.port.mac.counters → IsDone o.machine.port →
+    ((s : Transmission) → IsMade course s → now < s.time) → Becomes most course now o o.machine.port
+becomes-now most course now o within done late = record {
   begins = (marked o.mine (frames_sent course), refl);
   has = has-none now course o o.machine.port.log (ended-none now course late) ([], append-nil o.machine.port.log);
   whole = whole course late;
   within = within;
   tally = tally course late;
   missed = refl;
+  done = λ over. done;
 }
   where
     whole : (course : List Transmission) → ((s : Transmission) → IsMade course s → now < s.time) → AllEnded course now → o.machine.port.log ≡ log_of course o
@@ -92,7 +102,7 @@ becomes-now most course now o within late = record {
 pub becomes-rested : (most : ℕ) (course : List Transmission) (until : ℕ) (o : CoursePort) (p : PortState) → IsAtRest o.machine.port → Becomes most course until (rested o) p → Becomes most course until o p
 becomes-rested most course until o p rest becomes =
     let same : Becomes most course until (turned 1 o.machine.port o.own o) p = subst (λ v. Becomes most course until v p) (rested-turned o rest) becomes in
-    record { begins = same.begins; has = same.has; whole = same.whole; within = same.within; tally = same.tally; missed = same.missed }
+    record { begins = same.begins; has = same.has; whole = same.whole; within = same.within; tally = same.tally; missed = same.missed; done = same.done }
 
 -- ---- what an attempt leaves
 
@@ -120,6 +130,7 @@ becomes-behind most s course entries o next same leaves more until ended q becom
       tally = λ over.
           becomes.tally (λ x made. over x (inr made)) ∙ ap (λ queue. course_tally queue course (counts_of next)) same ∙ ap (course_tally o.mine course) leaves.tally;
       missed = becomes.missed ∙ leaves.missed;
+      done = λ over. becomes.done (λ x made. over x (inr made));
     }
 
 -- ---- a frame
@@ -209,6 +220,7 @@ module _ (h now n : ℕ) (f : Parts) (o : CoursePort) (is : IsCoursePort h now n
           tally = λ over.
               tally-end o.machine.arrives part k (omega (arith, over start (inl refl))) ∙ no-more course late over (tallied (holds o.mine f) f None (counts_of o));
           missed = misses-part f p o.machine.arrives (takes-part f o part) k;
+          done = λ over. absurd (omega (arith, less, length-with_intermission f, length-wire f, over start (inl refl)));
         }
       where
         nothing-left : (rest : List Transmission) → ((s : Transmission) → IsMade rest s → now + length (with_intermission f) ≤ s.time) → AllEnded (start ∷ rest) (now + k) → [] ≡ marked o.mine (frames_sent rest)
@@ -270,6 +282,7 @@ module _ (f : Parts) (framed : IsFrame f) (offset : ℕ) (hit : IsHit f offset) 
         within = within-le (suc h) most few r.mac.counters kept.within;
         tally = λ over. absurd (omega (arith, less, over here (inl refl)));
         missed = kept.same_missed;
+        done = λ over. absurd (omega (arith, less, over here (inl refl)));
       }
 
   -- behind it

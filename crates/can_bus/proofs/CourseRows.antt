@@ -1,6 +1,6 @@
 -- Courses that were worked out by hand, from the lengths of the frames' wires and from how late the receivers of a hit are, computed on the
 -- definitions.
-use Rattle.std.proofs.Common.{◌≡◌, ℕ, zero, suc, ◌+◌, false, Option, Some, None, List, [], ◌∷◌, length, map, take, refl}
+use Rattle.std.proofs.Common.{◌≡◌, ℕ, zero, suc, ◌+◌, Bool, true, false, Option, Some, None, List, [], ◌∷◌, ◌++◌, length, map, take, refl}
 use Rattle.can_frame.specs.Arbitration.{arbitration_field}
 use Rattle.can_frame.specs.Levels.{bits_of}
 use Rattle.can_frame.specs.Parts.{Parts}
@@ -8,11 +8,13 @@ use Rattle.can_wire.specs.Crc.{crc_of}
 use Rattle.can_wire.specs.Stuffing.{stuffed}
 use Rattle.can_wire.specs.Layout.{frame_len}
 use Rattle.can_wire.specs.Wire.{head, unstuffed, stuffed_part, wire}
+use Rattle.can_node.specs.declared.entry.Entry.{Entry}
 use Rattle.can_node.specs.Ports.{waiting}
 use Rattle.can_hit.specs.declared.hit.Hit.{Hit}
 use Rattle.can_hit.specs.declared.hit.Hit.TheVariants.{In}
 use Rattle.can_bus.specs.Course.{Transmission, course_of, course_tally, ended_by, frames_sent}
-use Rattle.can_bus.specs.CourseWaiting.{attempts_between, going_before, hit_attempts, kept_times, left_on, sends_of}
+use Rattle.can_bus.specs.CourseWaiting.{attempts_between, going_before, hit_attempts, keeping, kept_times, left_on, sends_of}
+use Rattle.can_bus.specs.Quiet.{marked}
 use Rattle.can_bus.specs.Repair.{Tally}
 use Rattle.can_bus.specs.RepairedLine.{lateness}
 use Rattle.can_bus.specs.Schedule.{TimedParts}
@@ -119,6 +121,29 @@ second_receiver = refl
 second_sender : course_tally (frame_001 ∷ []) second (counts 0 0) ≡ counts 7 0
 unfolding stuffed_part unstuffed stuffed crc_of head arbitration_field bits_of
 second_sender = refl
+
+-- the first call is over at 93; behind it each log goes on, with 000 and then 001, each as sent at its own port
+abbrev first : List Transmission
+first = goes 0 frame_000 (Some 16) ∷ goes 40 frame_000 None ∷ []
+
+first_call : course_of (In 0 16 ∷ []) (at 0 frame_000 ∷ []) ≡ first
+unfolding course_of waiting lateness stuffed_part unstuffed stuffed crc_of head arbitration_field bits_of frame_len
+first_call = refl
+
+first_over : map (λ (s : Transmission). s.time + keeping s.frame s.hit) first ≡ 40 ∷ 93 ∷ []
+unfolding lateness stuffed_part unstuffed stuffed crc_of head arbitration_field bits_of frame_len
+first_over = refl
+
+abbrev entry : Parts → Bool → Entry
+entry f sent = record { frame = f; sent = sent }
+
+second_receiver_log : marked (frame_000 ∷ []) (frames_sent first) ++ marked [] (frames_sent second) ≡ entry frame_000 true ∷ entry frame_001 false ∷ []
+unfolding arbitration_field bits_of
+second_receiver_log = refl
+
+second_sender_log : marked [] (frames_sent first) ++ marked (frame_001 ∷ []) (frames_sent second) ≡ entry frame_000 false ∷ entry frame_001 true ∷ []
+unfolding arbitration_field bits_of
+second_sender_log = refl
 
 -- fifteen attempts that are hit at 16, and a sixteenth: 128 is not that of an error active port
 abbrev hits_from : ℕ → ℕ → List Hit

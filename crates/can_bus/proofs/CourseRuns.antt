@@ -17,6 +17,8 @@ use Rattle.can_node.proofs.OneFrame.{gaining_run-at}
 use Rattle.can_hit.specs.declared.hit.Hit.{Hit}
 use Rattle.can_bus.specs.declared.moment.Attempt.{Attempt}
 use Rattle.can_bus.specs.Course.{Transmission, IsNext, IsCourse, over, sent, broken, IsMade, course_at, hit_time, hits_made}
+use Rattle.can_bus.specs.CourseWaiting.{keeping}
+use Rattle.can_bus.specs.Network.{AllOver}
 use Rattle.can_bus.specs.Quiet.{holds, busy_time}
 use Rattle.can_bus.specs.Repair.{IsLow, Tally, tallied}
 use Rattle.can_bus.specs.RepairedLine.{attempt_levels}
@@ -69,11 +71,13 @@ PortBears course o = CourseBears o.mine course (counts_of o)
 -- ---- the ports, through one attempt
 
 module _ (most : ℕ) where
-  each-now : (h now n : ℕ) (course : List Transmission) (os : List CoursePort) → h ≤ most → AllPorts (IsCoursePort h now n) os → ((s : Transmission) → IsMade course s → now < s.time) →
-      Each (Becomes most course now) os (ports_now os)
-  each-now h now n course [] few are late = tt
-  each-now h now n course (o ∷ os) few are late =
-      (becomes-now most course now o (within-le h most few o.machine.port.mac.counters are.0.calm.within) late, each-now h now n course os few are.1 late)
+  each-now : (h now n : ℕ) (course : List Transmission) (os : List CoursePort) → h ≤ most → AllPorts (IsCoursePort h now n) os → AllPorts IsAtRest (ports_now os) →
+      ((s : Transmission) → IsMade course s → now < s.time) → Each (Becomes most course now) os (ports_now os)
+  each-now h now n course [] few are rest late = tt
+  each-now h now n course (o ∷ os) few are rest late = (
+    becomes-now most course now o (within-le h most few o.machine.port.mac.counters are.0.calm.within) (record { idle = rest.0.idle; empty = rest.0.empty; unasked = are.0.calm.unasked }) late,
+    each-now h now n course os few are.1 rest.1 late,
+  )
 
   each-rested : (course : List Transmission) (t : ℕ) (os : List CoursePort) (ports : List PortState) → AllPorts IsAtRest (ports_now os) → Each (Becomes most course t) (map rested os) ports →
       Each (Becomes most course t) os ports
@@ -172,6 +176,7 @@ module _ (hits : List Hit) (most : ℕ) where
   pub record Follows (course : List Transmission) (t : ℕ) (os : List CoursePort) (w : HitWire GainingPort) : Type 0 where
     pub level : seen_now w ≡ course_at course t
     pub each : Each (Becomes most course t) os (ports_of w.machines)
+    pub rests : AllOver course t → w.rest ≡ 11
 
   at-time : (course : List Transmission) (s t : ℕ) (os : List CoursePort) (w : HitWire GainingPort) → s ≡ t → Follows course s os w → Follows course t os w
   at-time course s t os w same follows = subst (λ u. Follows course u os w) same follows
@@ -222,14 +227,15 @@ module _ (hits : List Hit) (most : ℕ) where
     follows-rest zero more =
         at-time course now (now + 0) os w_rest (omega arith) (record {
           level = hit_seen-known gaining_drives gaining_sees hits (Recessive, Recessive) w_rest rest-level rest-falls ∙ sym (track-rests course now late);
-          each = each-now most h now (length left) course os few round.ports late;
+          each = each-now most h now (length left) course os few round.ports resting late;
+          rests = λ over. refl;
         })
     follows-rest (suc j) more =
         let follows = more j refl in
         let w = later j (wire_with (map rested os) (aged latest)) in
         subst (λ v. Follows course (now + suc j) os (later j v)) (sym rest-step)
         (at-time course ((now + 1) + j) (now + suc j) os w (omega arith)
-        (record { level = follows.level; each = each-rested most course ((now + 1) + j) os (ports_of w.machines) resting follows.each }))
+        (record { level = follows.level; each = each-rested most course ((now + 1) + j) os (ports_of w.machines) resting follows.each; rests = follows.rests }))
 
   -- ---- an attempt, of these levels
 
@@ -245,9 +251,9 @@ module _ (hits : List Hit) (most : ℕ) where
     size = sym (ap length seen) ∙ seen-size levels
 
     -- within it
-    attempt-within : (k : ℕ) → k < length levels → Each (Becomes most (s ∷ course) (now + k)) os (ports_of (map (λ g. gaining_run g (take k (seen_of levels))) (machines_of os))) →
+    attempt-within : (k : ℕ) → length levels ≡ keeping f hit → k < length levels → Each (Becomes most (s ∷ course) (now + k)) os (ports_of (map (λ g. gaining_run g (take k (seen_of levels))) (machines_of os))) →
         Follows (s ∷ course) (now + k) os (later k w)
-    attempt-within k less each = record {
+    attempt-within k kept less each = record {
       level =
           hits-levels gaining_drives gaining_sees hits levels w k Recessive gives counted.fall less
           ∙ ap (λ xs. slice_index_or xs k Recessive) seen
@@ -259,6 +265,7 @@ module _ (hits : List Hit) (most : ℕ) where
           ∙ all_after-gaining (seen_of (take k levels)) (machines_of os)
           ∙ ap (λ xs. map (λ g. gaining_run g xs) (machines_of os)) (seen-first k levels)))
           each;
+      rests = λ over. absurd (omega (arith, less, kept, over s (inl refl)));
     }
 
     -- behind it
@@ -280,6 +287,7 @@ module _ (hits : List Hit) (most : ℕ) where
         (at-time (s ∷ course) until (now + (length levels + j)) os v (omega arith) (record {
           level = follows.level ∙ sym (track-behind s course until (omega (arith, size)));
           each = each until (omega arith) (ports_of v.machines) follows.each;
+          rests = λ over. follows.rests (λ x made. over x (inr made));
         }))
 
   -- ---- any number of bit times
@@ -336,7 +344,7 @@ module _ (hits : List Hit) (most : ℕ) where
           at-time (start ∷ course) (time + k) (free + k) os (later k (wire_with os latest)) (omega (arith, now))
           (elim (cases_lt k (length levels)) [
             | inl within ↦
-                attempt-within time number f None course os latest levels seen gives counted k within
+                attempt-within time number f None course os latest levels seen gives counted k (long ∙ length-busy f) within
                 (subst (λ xs. Each (Becomes most (start ∷ course) (time + k)) os (ports_of (map (λ g. gaining_run g (take k xs)) (machines_of os)))) (sym seen)
                 (each-within most h time (length left) f course (omega (arith, few)) os round_now.ports parts late k (omega (arith, within, long))))
             | inr past ↦
@@ -385,7 +393,7 @@ module _ (hits : List Hit) (most : ℕ) where
           at-time (start ∷ course) (time + k) (free + k) os (later k (wire_with os latest)) (omega (arith, now))
           (elim (cases_lt k (length levels)) [
             | inl within ↦
-                attempt-within time number f (Some offset) course os latest levels seen gives counted k within
+                attempt-within time number f (Some offset) course os latest levels seen gives counted k long within
                 (each-in_hit most h time (length left) f course framed offset hit (omega (arith, few)) (λ s made. course-free rest s made) os round_now.ports parts low k (omega (arith, within, long)))
             | inr past ↦
                 let j : ℕ = k - length levels in

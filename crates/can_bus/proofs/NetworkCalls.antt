@@ -1,9 +1,10 @@
 -- What a bus of any ports does to which frames are offered meanwhile, and on which frames are disturbed, told by their course: the clauses of the theorem.
 use Rattle.std.specs.Prelude.{slice_get}
-use Rattle.std.proofs.Common.{◌≡◌, ℕ, zero, suc, ◌+◌, ◌<◌, true, false, Some, None, List, [], ◌∷◌, length, map, refl, sym, ap, subst, ◌∙◌, arith}
+use Rattle.std.proofs.Common.{◌≡◌, ℕ, zero, suc, ◌+◌, ◌<◌, true, false, Some, None, List, [], ◌∷◌, ◌++◌, length, map, refl, sym, ap, subst, ◌∙◌, arith}
 use Rattle.std.proofs.Math.Dec.{leb}
 use Rattle.std.proofs.lemmas.Bool.{cond-false, leb-true, false_from_ne_true, or_from}
 use Rattle.std.proofs.lemmas.List.{length-map}
+use Rattle.can_frame.specs.Parts.{Parts}
 use Rattle.can_node.specs.Ports.{PortState, IsPort}
 use Rattle.can_fault.specs.declared.state.State.TheVariants.{Active}
 use Rattle.can_fault.specs.Counters.{ConfineParts, state_of, is_bus_off, is_passive}
@@ -12,7 +13,7 @@ use Rattle.can_hit.specs.declared.hit.Hit.{Hit}
 use Rattle.can_hit.specs.declared.hit.Hit.TheVariants.{At, In, View}
 use Rattle.can_bus.specs.declared.offer.Offer.{Offer}
 use Rattle.can_bus.specs.Course.{AllEnded, Transmission, course_at, hits_made}
-use Rattle.can_bus.specs.Network.{AllCountAtMost, CountsAtMost, IsNetworkCall, NetworkLogBegins, NetworkLogHas, NetworkLogWhole, NetworkTally, StaysActive, call_after, call_level, call_refused}
+use Rattle.can_bus.specs.Network.{AllCountAtMost, AllOver, CountsAtMost, IsNetworkCall, NetworkLogBegins, NetworkLogHas, NetworkLogWhole, NetworkTally, RestsAgain, StaysActive, call_after, call_level, call_refused}
 use Rattle.can_hit.specs.Hits.{AreTaken, hit_names_port}
 use Rattle.can_bus.specs.Network.{AreInAttempts}
 use Rattle.can_bus.specs.Offers.{AreOffered}
@@ -30,6 +31,7 @@ use Rattle.can_bus.proofs.HitWires.{HitWire}
 use Rattle.can_bus.proofs.OpenStart.{OfFrames}
 use Rattle.can_bus.proofs.PlayedRuns.{all_arrived, all-taken, open-now}
 use Rattle.can_bus.proofs.CalmPorts.{IsWithin}
+use Rattle.can_bus.proofs.CallsFollow.{call-rooms, room-at, rooms_of}
 use Rattle.can_bus.proofs.CourseLogs.{Becomes}
 use Rattle.can_bus.proofs.CoursePorts.{CoursePort}
 use Rattle.can_bus.proofs.CourseRuns.{Each, Follows, follows, later, wire_with}
@@ -65,6 +67,10 @@ within-active h c within =
     (false_from_ne_true (leb 128 c.tec) (λ e. omega (arith, leb-true 128 c.tec e, within.low_tec)))
     (false_from_ne_true (leb 128 c.rec) (λ e. omega (arith, leb-true 128 c.rec e, within.low_rec))))
 
+front-empty : (a b : List Parts) → a ++ b ≡ [] → a ≡ []
+front-empty [] b e = refl
+front-empty (f ∷ a) b e = absurd (let h : f ∷ (a ++ b) ≡ [] = e in cc)
+
 module _ (most : ℕ) (course : List Transmission) (until : ℕ) (offers : List Offer) where
   -- what is offered behind the last bit time has no part in what has become of a port
   each-before : (t node : ℕ) (os : List CoursePort) (ports : List PortState) → Each (Becomes most course until) os (all_arrived offers t node ports) → Each (Becomes most course until) os ports
@@ -72,7 +78,15 @@ module _ (most : ℕ) (course : List Transmission) (until : ℕ) (offers : List 
   each-before t node [] (p ∷ ports) each = each
   each-before t node (o ∷ os) [] each = each
   each-before t node (o ∷ os) (p ∷ ports) each = (
-    record { begins = each.0.begins; has = each.0.has; whole = each.0.whole; within = each.0.within; tally = each.0.tally; missed = each.0.missed },
+    record {
+      begins = each.0.begins;
+      has = each.0.has;
+      whole = each.0.whole;
+      within = each.0.within;
+      tally = each.0.tally;
+      missed = each.0.missed;
+      done = λ over. let done = each.0.done over in record { idle = done.idle; empty = front-empty p.queue _ done.empty; unasked = done.unasked };
+    },
     each-before t (node + 1) os ports each.1,
   )
 
@@ -183,6 +197,28 @@ module _ (offers : List Offer) (hits : List Hit) (course : List Transmission) (b
 
     pub network-missed : AtEachPort MissesNothing bus.ports after.ports
     network-missed node p q before now = (at-port 128 all-low node p q before now).missed
+
+    -- behind the last attempt all rest
+    pub network-rests : AllOver course n → RestsAgain bus after
+    network-rests over =
+        let rooms : map rooms_of after.ports ≡ map rooms_of bus.ports = ap (λ (b : BusState). map rooms_of b.ports) ran ∙ call-rooms offers hits n bus in
+        record {
+          count = sym (length-map after.ports rooms_of) ∙ ap length rooms ∙ length-map bus.ports rooms_of;
+          rest =
+              ap (λ (b : BusState). b.rest) ran
+              ∙ sym (ap (λ (v : HitWire GainingPort). v.rest) (wire-after offers hits order within n bus w (call-wire offers hits course bus valid framed call)).wire)
+              ∙ (follows-call 128 all-low n).rests over;
+          ports = λ node p q before now.
+              let done = (at-port 128 all-low node p q before now).done over in
+              let same : rooms_of q ≡ rooms_of p = room-at bus.ports after.ports rooms node p q before now in
+              record {
+                idle = done.idle;
+                empty = done.empty;
+                unasked = done.unasked;
+                queue_room = ap (λ (r : ℕ × ℕ). r.0) same;
+                log_room = ap (λ (r : ℕ × ℕ). r.1) same;
+              };
+        }
 
 -- ---- offers and hits that are not taken meet no premises
 

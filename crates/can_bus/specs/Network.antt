@@ -1,6 +1,6 @@
 -- A network: a bus to whose ports frames are offered while it goes on, each arbitration field at one port, and on which frames are
 -- disturbed and sent again. (docs/BUS.md, "Networks"; Bosch CAN 2.0 part B, sections 2, 3.2.5, 6 and 8)
-use Rattle.std.specs.Prelude.{ℕ, zero, suc, ◌≡◌, ◌≢◌, ◌+◌, ◌*◌, ◌<◌, ◌≤◌, List, ◌++◌, length, slice_get, take, Some}
+use Rattle.std.specs.Prelude.{ℕ, zero, suc, ◌≡◌, ◌≢◌, ◌+◌, ◌*◌, ◌<◌, ◌≤◌, List, [], ◌++◌, length, map, slice_get, take, Some}
 use Rattle.can_frame.specs.declared.level.Level.{Level}
 use Rattle.can_frame.specs.Arbitration.{arbitration_field}
 use Rattle.can_frame.specs.IdleRow.{idle_row}
@@ -11,10 +11,11 @@ use Rattle.can_node.specs.Ports.{PortState}
 use Rattle.can_hit.specs.declared.hit.Hit.{Hit}
 use Rattle.can_hit.specs.declared.hit.Hit.TheVariants.{In}
 use Rattle.can_bus.specs.declared.offer.Offer.{Offer}
-use Rattle.can_bus.specs.Course.{IsCourse, Transmission, course_tally, ended_by, frames_sent}
+use Rattle.can_bus.specs.Course.{IsCourse, IsMade, Transmission, course_tally, ended_by, frames_sent}
+use Rattle.can_bus.specs.CourseWaiting.{keeping}
 use Rattle.can_bus.specs.Offers.{AreOffered, all_made, refused_at}
-use Rattle.can_bus.specs.OpenBus.{QueuesHaveRoom, all_offers, own_offers}
-use Rattle.can_bus.specs.Quiet.{IsPrefixOf, marked}
+use Rattle.can_bus.specs.OpenBus.{QueuesHaveRoom, all_offers, offered_to, own_offers, timed}
+use Rattle.can_bus.specs.Quiet.{AtEachPort, IsPrefixOf, marked}
 use Rattle.can_bus.specs.Repair.{AreApart, IsLow, Tally}
 use Rattle.can_bus.specs.Run.{BusState, CallState, bus_step, call_begun, recorded}
 use Rattle.can_bus.specs.Schedule.{Lists, TimedParts, frames_of}
@@ -118,3 +119,37 @@ AllCountAtMost errors ports = (n : ℕ) (p : PortState) → slice_get ports n �
 -- its counters are those of the tally
 abbrev pub NetworkTally : List Offer → List Transmission → ℕ → PortState → PortState → Type 0
 NetworkTally offers course node p q = counters_of q ≡ course_tally (frames_of (own_offers offers node p)) course (counters_of p)
+
+-- Calls that follow one another.
+
+-- all attempts are over by this time, and the intermission behind each
+abbrev pub AllOver : List Transmission → ℕ → Type 0
+AllOver course t = (s : Transmission) → IsMade course s → s.time + keeping s.frame s.hit ≤ t
+
+-- a port that is idle, has nothing left to send, asks for no overload frame, and has the rooms that it had
+pub record IsFreeAgain (p q : PortState) : Type 0 where
+  pub idle : q.mac.phase ≡ Idle
+  pub empty : q.queue ≡ []
+  pub unasked : q.mac.overloads.pending ≡ 0
+  pub queue_room : q.queue_room ≡ p.queue_room
+  pub log_room : q.log_room ≡ p.log_room
+
+-- a bus at rest with as many ports as it had, each of them free again
+pub record RestsAgain (before after : BusState) : Type 0 where
+  pub count : length after.ports ≡ length before.ports
+  pub rest : after.rest ≡ idle_row
+  pub ports : AtEachPort IsFreeAgain before.ports after.ports
+
+-- What is asked of the call that comes next, behind one with these offers and this course: of its own offers and hits, and of the ports as
+-- they were before the first.
+pub record IsNextCall (offers : List Offer) (course : List Transmission) (ports : List PortState) (next : List Offer) (hits : List Hit) (behind : List Transmission) : Type 0 where
+  pub offered : AreOffered (length ports) next
+  pub logs : (n : ℕ) (p : PortState) → slice_get ports n ≡ Some p → length p.log + length (frames_sent course) + length next ≤ p.log_room
+  pub room : (n : ℕ) (p : PortState) → slice_get ports n ≡ Some p → length (offered_to n next) ≤ p.queue_room
+  pub owned : (m n : ℕ) → m < n → (x y : TimedParts) → Lists (offered_to m next) x → Lists (offered_to n next) y → arbitration_field x.frame ≢ arbitration_field y.frame
+  pub within : AreInAttempts hits
+  pub apart : AreApart 1 hits
+  pub is_course : IsCourse hits 0 0 (map timed next) behind
+  -- the tally goes on from that of the first call
+  pub borne : (n : ℕ) (p : PortState) → slice_get ports n ≡ Some p → (number : ℕ) → number ≤ length behind →
+      IsLow (course_tally (frames_of (offered_to n next)) (take number behind) (course_tally (frames_of (own_offers offers n p)) course (counters_of p)))

@@ -5,10 +5,12 @@ ghost use Rattle.can_frame.specs.Parts.{Parts};
 ghost use Rattle.can_frame.specs.IdleRow.{idle_row};
 ghost use Rattle.can_hit.specs.declared.hit.Hit.{Hit as Disturbance};
 ghost use Rattle.can_bus.specs.declared.offer.Offer.{Offer};
+ghost use Rattle.can_bus.specs.Course.{Transmission};
 ghost use Rattle.can_bus.specs.DisturbedPlay.{IsDisturbedPlay, WasPlayed};
-ghost use Rattle.can_bus.specs.Network.{AreInAttempts, IsNetworkCall, call_after, call_level, call_refused};
+ghost use Rattle.can_bus.specs.Network.{AreInAttempts, IsNetworkCall, IsNextCall, NetworkLogWhole, NetworkTally, RestsAgain, call_after, call_level, call_refused};
 ghost use Rattle.can_bus.specs.NetworkPlans.{AllInWindow, AreNoEarlier, IsNetworkPlan, network_course, offered_again, two_ports};
 ghost use Rattle.can_bus.specs.Plans.{PlannedPort, ready_port};
+ghost use Rattle.can_bus.specs.Quiet.{AtEachNode};
 ghost use Rattle.can_bus.specs.Repair.{AreApart};
 ghost use Rattle.can_bus.specs.Run.{AreLevelsOf, BusState};
 
@@ -28,6 +30,15 @@ pub fn a_call_is_a_disturbed_play()
     ensures one { (offers : List Offer) (hits : List Disturbance) (bus one other : BusState) (wired wires recorded records : List Level) (seen views : List (List Level)) (few many : ℕ) →
         bus.rest ≤ idle_row → IsDisturbedPlay offers hits bus wired recorded seen one few → IsDisturbedPlay offers hits bus wires records views other many → length recorded ≡ length records →
         (recorded ≡ records) × (one ≡ other) × (wired ≡ wires) × (seen ≡ views) × (few ≡ many) }
+{}
+
+/// Where the bus rests again behind a call on a network, as `play_disturbed` promises, the next call is one too, if its own offers and
+/// hits are as asked: what it needs to know of the ports follows from what they were before the first, and from its course.
+pub fn a_network_call_can_follow()
+    ensures { (offers next : List Offer) (hits struck : List Disturbance) (before after : BusState) (course behind : List Transmission) →
+        IsNetworkCall offers hits before course → RestsAgain before after →
+        AtEachNode (NetworkLogWhole offers course) before.ports after.ports → AtEachNode (NetworkTally offers course) before.ports after.ports →
+        IsNextCall offers course before.ports next struck behind → IsNetworkCall next struck after behind }
 {}
 
 /// A call on a new bus of ports that are made idle and offered frames, as in `a_quiet_bus_can_be_made`, with offers to them and

@@ -7,7 +7,7 @@ ghost use Rattle.can_bus.specs.Course.{AllEnded, course_at, hits_made};
 ghost use Rattle.can_bus.specs.DisturbedPlay.{WasPlayed};
 ghost use Rattle.can_hit.specs.Hits.{AreTaken};
 ghost use Rattle.can_bus.specs.Inputs.{IsFirstHitFault};
-ghost use Rattle.can_bus.specs.Network.{AllCountAtMost, CountsAtMost, NetworkLogBegins, NetworkLogHas, NetworkLogWhole, NetworkTally, OnNetworkCall, StaysActive, call_after, call_level, call_refused, offered_now};
+ghost use Rattle.can_bus.specs.Network.{AllCountAtMost, AllOver, CountsAtMost, NetworkLogBegins, NetworkLogHas, NetworkLogWhole, NetworkTally, OnNetworkCall, RestsAgain, StaysActive, call_after, call_level, call_refused, offered_now};
 ghost use Rattle.can_bus.specs.Offers.{AreOffered, IsFirstOfferFault, all_made, is_full, made, refused_at};
 ghost use Rattle.can_bus.specs.Quiet.{AtEachPort, MissesNothing, AtEachNode};
 ghost use Rattle.can_bus.specs.Run.{AreLevelsOf, BusState};
@@ -132,7 +132,8 @@ impl<P: Port> Bus<P> {
     /// up to 128: the attempts are those of the course, and so are the recorded levels. Behind what it named before, each
     /// log names the frames of the attempts that aren't hit, in their order, as sent at the port that had the frame and
     /// as received at each other port; each whose wire has ended is there. Behind the last attempt all are, and the
-    /// counters are those of the tally. No offer is given back, all ports stay error active, and no entry is missed.
+    /// counters are those of the tally. No offer is given back, all ports stay error active, and no entry is missed. Three
+    /// bit times later the bus is at rest again, with nothing left to send, and another such call can follow.
     pub fn play_disturbed(
         &mut self,
         offers: &[Offer],
@@ -163,6 +164,8 @@ impl<P: Port> Bus<P> {
             AtEachPort (λ p q. CountsAtMost (errors + hits_made course) q) (port_states P.port self.old) (port_states P.port self.new)) }
         ensures network_missed { OnNetworkCall offers.now hits.now (state_of P.port self.old) (λ course.
             AtEachPort MissesNothing (port_states P.port self.old) (port_states P.port self.new)) }
+        ensures network_rests { OnNetworkCall offers.now hits.now (state_of P.port self.old) (λ course. AllOver course (length rec.new) →
+            RestsAgain (state_of P.port self.old) (state_of P.port self.new)) }
         ensures unchanged { OnErr result (self.new ≡ self.old) }
         ensures unrecorded { OnErr result (rec.new ≡ rec.old) }
     {

@@ -16,7 +16,7 @@ use Rattle.can_bus.specs.Walks.{IsCall, IsReached, call_on}
 use Rattle.can_bus.proofs.DisturbedPlays.{call-played}
 use Rattle.can_bus.proofs.CallLemmas.{call-none, refused-none, refused-several}
 use Rattle.can_bus.proofs.HitOrder.{taken-rising}
-use Rattle.can_bus.proofs.NetworkCalls.{network-active, network-counts, network-has, network-logs, network-missed, network-refused, network-tally, network-track, network-whole, not-offered, not-taken, valid-ports}
+use Rattle.can_bus.proofs.NetworkCalls.{network-active, network-counts, network-has, network-logs, network-missed, network-refused, network-rests, network-tally, network-track, network-whole, not-offered, not-taken, valid-ports}
 use Rattle.can_bus.proofs.OfferLemmas.{reached-first, length-all_made}
 use Rattle.can_bus.proofs.StepLemmas.{first_ready}
 use Rattle.can_bus.proofs.bus.Bus.play_disturbed.Goals as goal
@@ -54,6 +54,12 @@ returns-in_err-check-clause-network_whole g c = λ course call past.
 
 pub returns-in_err-check-clause-network_tally : goal.returns-in_err-check-clause-network_tally
 returns-in_err-check-clause-network_tally g c = λ course call past.
+    let size : c.len.result ≡ length c.args.self.now.ports.items = search rules in
+    let untaken : AreOffered c.len.result c.args.offers.now → ⊥ = λ offered. let e : false ≡ true = c.in_err-check.ensures.taken.1 offered in cc in
+    absurd (not-offered g.P.Port.port c.args.self.now.ports.items c.len.result (rest_of c.args.self.now) c.args.offers.now c.args.hits.now course size untaken call)
+
+pub returns-in_err-check-clause-network_rests : goal.returns-in_err-check-clause-network_rests
+returns-in_err-check-clause-network_rests g c = λ course call past.
     let size : c.len.result ≡ length c.args.self.now.ports.items = search rules in
     let untaken : AreOffered c.len.result c.args.offers.now → ⊥ = λ offered. let e : false ≡ true = c.in_err-check.ensures.taken.1 offered in cc in
     absurd (not-offered g.P.Port.port c.args.self.now.ports.items c.len.result (rest_of c.args.self.now) c.args.offers.now c.args.hits.now course size untaken call)
@@ -99,6 +105,11 @@ returns-in_err-check-2-clause-network_whole g c = λ course call past.
 
 pub returns-in_err-check-2-clause-network_tally : goal.returns-in_err-check-2-clause-network_tally
 returns-in_err-check-2-clause-network_tally g c = λ course call past.
+    let untaken : AreTaken c.len-2.result c.args.hits.now → ⊥ = λ taken. let e : false ≡ true = c.in_err-check-2.ensures.taken.1 taken in cc in
+    absurd (not-taken g.P.Port.port c.args.self.now.ports.items c.len-2.result (rest_of c.args.self.now) c.args.offers.now c.args.hits.now course untaken call)
+
+pub returns-in_err-check-2-clause-network_rests : goal.returns-in_err-check-2-clause-network_rests
+returns-in_err-check-2-clause-network_rests g c = λ course call past.
     let untaken : AreTaken c.len-2.result c.args.hits.now → ⊥ = λ taken. let e : false ≡ true = c.in_err-check-2.ensures.taken.1 taken in cc in
     absurd (not-taken g.P.Port.port c.args.self.now.ports.items c.len-2.result (rest_of c.args.self.now) c.args.offers.now c.args.hits.now course untaken call)
 
@@ -265,6 +276,11 @@ pub returns-clause-network_missed : goal.returns-clause-network_missed
 returns-clause-network_missed g c = λ course call.
     network-missed c.args.offers.now c.args.hits.now course (state_of g.P.Port.port c.args.self.now) (valid-ports g.P.Port.port (λ x. g.met.P.Port.valid x) c.args.self.now.ports.items)
     (c.in_ok-check.ensures.known (refl {a = true})) call _ _ (returns-clause-bus g c)
+
+pub returns-clause-network_rests : goal.returns-clause-network_rests
+returns-clause-network_rests g c = λ course call past.
+    network-rests c.args.offers.now c.args.hits.now course (state_of g.P.Port.port c.args.self.now) (valid-ports g.P.Port.port (λ x. g.met.P.Port.valid x) c.args.self.now.ports.items)
+    (c.in_ok-check.ensures.known (refl {a = true})) call _ _ (returns-clause-bus g c) past
 
 pub returns-clause-known : goal.returns-clause-known
 returns-clause-known g c = c.in_ok-check.ensures.known
