@@ -1,5 +1,5 @@
 -- Bounds on how long an offered frame waits for its start.
-use Rattle.std.proofs.Common.{◌≡◌, ◌≢◌, ℕ, suc, ◌+◌, ◌*◌, ◌<◌, ◌≤◌, Bool, true, false, cond, List, [], ◌∷◌, ◌++◌, length, get_or, refl, sym, ◌∙◌, ap, subst, inl, inr, arith, ◌-◌, zero, Some, None, take}
+use Rattle.std.proofs.Common.{◌≡◌, ◌≢◌, ℕ, suc, ◌+◌, ◌*◌, ◌<◌, ◌≤◌, Bool, true, false, cond, Option, List, [], ◌∷◌, ◌++◌, length, get_or, refl, sym, ◌∙◌, ap, subst, inl, inr, arith, ◌-◌, zero, Some, None, take}
 use Rattle.std.specs.Prelude.{max, option_map, nat_le, nat_lt, filter, ◌&&◌, slice_get}
 use Rattle.std.specs.List.{sum_by}
 use Rattle.std.proofs.lemmas.Bool.{and_parts, cases_lt, cases_order, cond-false, cond_both, ltb-true}
@@ -11,16 +11,16 @@ use Rattle.can_frame.specs.Arbitration.{arbitration_field, Before}
 use Rattle.can_wire.proofs.WireLemmas.{length-wire-le}
 use Rattle.can_node.specs.Ports.{goes_before, same_field}
 use Rattle.can_node.proofs.WaitingLemmas.{Shares-same_field}
-use Rattle.can_bus.specs.Quiet.{busy_time}
+use Rattle.can_bus.specs.Quiet.{AreDifferent, busy_time}
 use Rattle.can_bus.specs.Schedule.{TimedParts, Lists, IsScheduleOf, StartsAt, frames_of, without_offer}
 use Rattle.can_bus.specs.Waiting.{left_at, starts_between, ahead_of, busy_times, FindsFree}
 use Rattle.can_bus.proofs.Members.{stands-none, stands-here, stands-later, stands-cases, filter-stands, stands-filter}
 use Rattle.can_bus.proofs.NextStarts.{AllDiffer, differ-from, one-of-field}
 use Rattle.can_bus.proofs.Schedules.{starts-offered, schedule-frames}
 use Rattle.can_bus.specs.Course.{Transmission, IsCourse, over, sent, broken, IsMade, unhit}
-use Rattle.can_bus.specs.CourseWaiting.{AreInTime, IsSentBy, attempts_between, keeping, kept_times, left_behind, of_field, sends_of, sent_attempts}
+use Rattle.can_bus.specs.CourseWaiting.{AreInTime, IsSentBy, attempts_between, going_before, hit_attempts, keeping, kept_times, left_behind, left_by, of_field, sends_of, sent_attempts}
 use Rattle.can_bus.proofs.Ascending.{different_permuted}
-use Rattle.can_bus.proofs.CourseDelays.{busy-weighed, exact as course-exact, meanwhile as course-meanwhile, going, weigh, weigh-first, length-weigh, some-first, waits-unhit}
+use Rattle.can_bus.proofs.CourseDelays.{bound as course-bound, busy-weighed, exact as course-exact, few as course-few, meanwhile as course-meanwhile, weigh, weigh-first, length-weigh, some-first, waits-unhit}
 use Rattle.can_bus.proofs.CourseSchedules.{schedule-course}
 use Rattle.can_bus.proofs.CourseTracks.{course-free}
 use Rattle.can_bus.proofs.CourseWaits.{between-before, between-late, between-more, between-none, sends-more, sends-other}
@@ -72,13 +72,39 @@ module _ (weight : Parts → ℕ) (test : TimedParts → Bool) where
         omega (arith, weigh-first weight test f offers first.0 first.1 first.2)
   ]
 
-  left-less : (starts offers : List TimedParts) → weigh weight (filter test (left_behind offers (unhit starts))) ≤ weigh weight (filter test offers)
-  left-less [] offers = omega arith
-  left-less (s ∷ starts) offers = omega (arith, left-less starts (without_offer s.frame offers), without-less s.frame offers)
+  by-less : (f : Parts) (hit : Option ℕ) (offers : List TimedParts) → weigh weight (filter test (left_by f hit offers)) ≤ weigh weight (filter test offers)
+  by-less f None offers = without-less f offers
+  by-less f (Some offset) offers = omega arith
 
-none-left : (f : Parts) (starts offers : List TimedParts) → of_field f offers ≡ [] → of_field f (left_behind offers (unhit starts)) ≡ []
+  left-less : (course : List Transmission) (offers : List TimedParts) → weigh weight (filter test (left_behind offers course)) ≤ weigh weight (filter test offers)
+  left-less [] offers = omega arith
+  left-less (s ∷ course) offers = omega (arith, left-less course (left_by s.frame s.hit offers), by-less s.frame s.hit offers)
+
+none-by : (f g : Parts) (hit : Option ℕ) (offers : List TimedParts) → of_field f offers ≡ [] → of_field f (left_by g hit offers) ≡ []
+none-by f g None offers none = field-without f g offers ∙ ap (without_offer g) none
+none-by f g (Some offset) offers none = none
+
+none-left : (f : Parts) (course : List Transmission) (offers : List TimedParts) → of_field f offers ≡ [] → of_field f (left_behind offers course) ≡ []
 none-left f [] offers none = none
-none-left f (s ∷ starts) offers none = none-left f starts (without_offer s.frame offers) (field-without f s.frame offers ∙ ap (without_offer s.frame) none)
+none-left f (s ∷ course) offers none = none-left f course (left_by s.frame s.hit offers) (none-by f s.frame s.hit offers none)
+
+-- where no two offers have one field, what goes before one is of those that go before it in arbitration
+module _ (offers : List TimedParts) (course : List Transmission) (place t : ℕ) (offer : TimedParts) (different : AreDifferent (frames_of offers)) (at : slice_get offers place ≡ Some offer) where
+  abbrev going : List TimedParts
+  going = going_before offers course place offer t
+
+  abbrev ahead : List TimedParts
+  ahead = ahead_of offer.frame t offers
+
+  going-less : (weight : Parts → ℕ) → weigh weight going ≤ weigh weight ahead
+  going-less weight =
+      let begun = attempts_between 0 offer.time course in
+      let both = sum_by-append (λ (x : TimedParts). weight x.frame) (ahead_of offer.frame t (left_behind offers begun)) (of_field offer.frame (left_behind (take place offers) begun)) in
+      let own = ap (weigh weight) (none-left offer.frame begun (take place offers) (none-before offers place offer (differ-from offers different) at)) in
+      omega (arith, both, own, left-less weight (λ x. goes_before x.frame offer.frame && nat_lt x.time t) begun offers)
+
+  pub going-few : (busy_times going ≤ busy_times ahead) × (length going ≤ length ahead)
+  going-few = (omega (arith, going-less busy_time, busy-weighed going, busy-weighed ahead), omega (arith, going-less (λ f. 1), length-weigh going, length-weigh ahead))
 
 -- the attempts between two times are the starts
 between-unhit : (from until : ℕ) (starts : List TimedParts) → attempts_between from until (unhit starts) ≡ unhit (starts_between from until starts)
@@ -89,9 +115,14 @@ between-unhit from until (s ∷ starts) = by_test (nat_le from s.time && nat_lt 
     by_test true s some others same = ap (λ l. one_unhit s ∷ l) same
     by_test false s some others same = same
 
-sent-unhit : (weight : Parts → ℕ) (starts : List TimedParts) → sum_by (λ (z : Transmission). weight z.frame) (sent_attempts (unhit starts)) ≡ sum_by (λ (x : TimedParts). weight x.frame) starts
-sent-unhit weight [] = refl
-sent-unhit weight (s ∷ starts) = omega (arith, sent-unhit weight starts, sum_by-cons (λ (z : Transmission). weight z.frame) (one_unhit s) (sent_attempts (unhit starts)), sum_by-cons (λ (x : TimedParts). weight x.frame) s starts)
+-- all of them are sent
+length-sent : (starts : List TimedParts) → length (sent_attempts (unhit starts)) ≡ length starts
+length-sent [] = refl
+length-sent (s ∷ starts) = ap suc (length-sent starts)
+
+none-hit : (starts : List TimedParts) → hit_attempts (unhit starts) ≡ []
+none-hit [] = refl
+none-hit (s ∷ starts) = none-hit starts
 
 -- ---- how long a frame keeps the bus at most
 
@@ -191,29 +222,24 @@ module _ (offers starts : List TimedParts) (is : IsScheduleOf offers starts) (of
         absurd (omega (arith, e, until))
   ]
 
-  weigh-meantime : (weight : Parts → ℕ) →
-      sum_by (λ (x : TimedParts). weight x.frame) (starts_between offer.time start.time starts) ≤ sum_by (λ (x : TimedParts). weight x.frame) (ahead_of offer.frame start.time offers)
-  weigh-meantime weight =
-      let begun = starts_between 0 offer.time starts in
-      let place = at.is_offer.0 in
-      let goes = going [] offers (unhit starts) course rise place offer (one_unhit start) by weight in
-      let sent = ap (λ l. sum_by (λ (z : Transmission). weight z.frame) (sent_attempts l)) (between-unhit offer.time start.time starts) ∙ sent-unhit weight (starts_between offer.time start.time starts) in
-      let before = ap (λ l. sum_by (λ (x : TimedParts). weight x.frame) (ahead_of offer.frame start.time (left_behind offers l) ++ of_field offer.frame (left_behind (take place offers) l))) (between-unhit 0 offer.time starts) in
-      let both = sum_by-append (λ (x : TimedParts). weight x.frame) (ahead_of offer.frame start.time (left_behind offers (unhit begun))) (of_field offer.frame (left_behind (take place offers) (unhit begun))) in
-      let own = ap (weigh weight) (none-left offer.frame begun (take place offers) (none-before offers place offer apart at.is_offer.1)) in
-      let less = left-less weight (λ x. goes_before x.frame offer.frame && nat_lt x.time start.time) begun offers in
-      omega (arith, goes, sent, before, both, own, less)
+  fewer : (busy_times (going_before offers (unhit starts) at.is_offer.0 offer start.time) ≤ busy_times (ahead_of offer.frame start.time offers))
+      × (length (going_before offers (unhit starts) at.is_offer.0 offer start.time) ≤ length (ahead_of offer.frame start.time offers))
+  fewer = going-few offers (unhit starts) at.is_offer.0 start.time offer is.different at.is_offer.1
+
+  same_between : attempts_between offer.time start.time (unhit starts) ≡ unhit (starts_between offer.time start.time starts)
+  same_between = between-unhit offer.time start.time starts
 
   pub bound : start.time ≤ offer.time + left_at offer.time starts + busy_times (ahead_of offer.frame start.time offers)
   bound =
-      omega (arith, exact, weigh-meantime busy_time, busy-weighed (starts_between offer.time start.time starts), busy-weighed (ahead_of offer.frame start.time offers))
+      let wait = course-bound [] offers (unhit starts) course rise at.is_offer.0 offer (one_unhit start) by in
+      let none = ap (λ l. kept_times (hit_attempts l)) same_between ∙ ap kept_times (none-hit (starts_between offer.time start.time starts)) in
+      omega (arith, wait, fewer.0, none, (waits-unhit starts offer.time offer.time start.time).0)
 
   pub few : length (starts_between offer.time start.time starts) ≤ length (ahead_of offer.frame start.time offers)
   few =
-      let most = weigh-meantime (λ f. 1) in
-      let meantime = length-weigh (starts_between offer.time start.time starts) in
-      let ahead = length-weigh (ahead_of offer.frame start.time offers) in
-      omega arith
+      let less = course-few [] offers (unhit starts) course rise at.is_offer.0 offer (one_unhit start) by in
+      let sent = ap (λ l. length (sent_attempts l)) same_between ∙ length-sent (starts_between offer.time start.time starts) in
+      omega (arith, less, fewer.1, sent)
 
   short-starts : (most : ℕ) → AreShort most offers → AreShort most starts
   short-starts most short s there =

@@ -13,7 +13,7 @@ ghost use Rattle.can_bus.specs.OpenBus.{all_offers};
 ghost use Rattle.can_bus.specs.Quiet.{AreDifferent, ascending, busy_time};
 ghost use Rattle.can_bus.specs.Repair.{AreApart, FallInWindows, frame_of_attempt, hit_of};
 ghost use Rattle.can_bus.specs.Schedule.{AreAtOnce, IsScheduleOf, Lists, TimedParts, frames_of, schedule};
-ghost use Rattle.can_bus.specs.Waiting.{busy_times, left_at, starts_between};
+ghost use Rattle.can_bus.specs.Waiting.{ahead_of, busy_times, left_at, starts_between};
 
 /// Offers and hits, at most one in an attempt, have one course at most. It is the one that is computed, if in that
 /// one each attempt that is hit is so in the window of its frame.
@@ -42,7 +42,8 @@ pub fn a_course_at_once_ascends()
 /// wire is over, and each attempt that starts meanwhile. Each of these wins arbitration against it, or sends a frame of its own
 /// field. So it waits no longer than the frames take that go before it and are offered before it starts, and the attempts
 /// that are hit meanwhile. An attempt that is hit keeps the bus for at most thirteen bit times more than its frame and intermission.
-/// Without hits the terms are those of `waiting_is_bounded`.
+/// Without hits the terms are those of `waiting_is_bounded`; and where no two offers have one field, no more frames go before one, and
+/// for no longer, than win arbitration against it and are offered before it starts.
 pub fn waiting_on_a_network_is_bounded()
     ensures in_time { (offers : List Offer) (ports : List PortState) → AreOffered (length ports) offers → AreInTime (all_offers offers ports) }
     ensures sent { (hits : List Disturbance) (offers : List TimedParts) (course : List Transmission) → IsCourse hits 0 0 offers course →
@@ -59,6 +60,8 @@ pub fn waiting_on_a_network_is_bounded()
         length (sent_attempts (attempts_between offer.time s.time course)) ≤ length (going_before offers course place offer s.time)) }
     ensures without_hits { (starts : List TimedParts) (t from until : ℕ) → (left_on t (unhit starts) ≡ left_at t starts)
         × (kept_times (attempts_between from until (unhit starts)) ≡ busy_times (starts_between from until starts)) }
+    ensures one_of_a_field { (offers : List TimedParts) (course : List Transmission) (place t : ℕ) (offer : TimedParts) → AreDifferent (frames_of offers) → slice_get offers place ≡ Some offer →
+        (busy_times (going_before offers course place offer t) ≤ busy_times (ahead_of offer.frame t offers)) × (length (going_before offers course place offer t) ≤ length (ahead_of offer.frame t offers)) }
     ensures costs { (hits : List Disturbance) (offers : List TimedParts) (course : List Transmission) → IsCourse hits 0 0 offers course →
         (s : Transmission) → IsMade course s → IsFrame s.frame → keeping s.frame s.hit ≤ busy_time s.frame + 13 }
 {}
