@@ -21,8 +21,7 @@ use Rattle.can_bus.proofs.CalmPorts.{IsWithin, IsCalm, calm-sent, calm-received}
 use Rattle.can_bus.proofs.RestingPorts.{IsAtRest, rest-step}
 use Rattle.can_bus.proofs.QuietLogs.{TakesPart}
 use Rattle.can_bus.proofs.AttemptTallies.{Survives}
-use Rattle.can_bus.proofs.BrokenOnBus.{broken-sent, broken-received}
-use Rattle.can_bus.proofs.BreaksWithOffers.{gaining-broken-sent, gaining-broken-received}
+use Rattle.can_bus.proofs.BrokenOnBus.{broken-sent, broken-received, gaining-broken-sent, gaining-broken-received}
 use Rattle.can_bus.proofs.Repairs.{broken_levels, bear-port, Stays, part-stays}
 use Rattle.can_bus.proofs.Fields.{holds-same, without-in_time, without-listed, without-order}
 

@@ -25,10 +25,9 @@ use Rattle.can_bus.specs.RepairedLine.{attempt_levels}
 use Rattle.can_bus.specs.Run.{aged, following, inverted_if}
 use Rattle.can_bus.specs.Schedule.{TimedParts, without_offer}
 use Rattle.can_bus.specs.Wired.{wired}
-use Rattle.can_bus.proofs.AttemptHits.{Counted, attempt, broken-counted, length-undisturbed, whole-counted}
+use Rattle.can_bus.proofs.AttemptHits.{Counted, attempt, broken-counted, whole-counted}
 use Rattle.can_bus.proofs.AttemptTallies.{Survives}
-use Rattle.can_bus.proofs.BreaksWithOffers.{gaining-broken-gives}
-use Rattle.can_bus.proofs.BrokenOnBus.{seen-first, seen-size, seen-undisturbed}
+use Rattle.can_bus.proofs.BrokenOnBus.{gaining-broken-gives, seen-first, seen-size, seen-undisturbed}
 use Rattle.can_bus.proofs.Contests.{AllPorts}
 use Rattle.can_bus.proofs.FrameOnBus.{gaining_sees, ports_of, frame-gives, all_after-gaining}
 use Rattle.can_bus.proofs.HitRuns.{falls, latest_after, latest_now}
@@ -41,7 +40,7 @@ use Rattle.can_bus.proofs.RepairCounts.{within-le}
 use Rattle.can_bus.proofs.RepairPlans.{Apart, struck-at, unhit-free, window-hit}
 use Rattle.can_bus.proofs.Repairs.{IsFree, bear-all, broken_levels}
 use Rattle.can_bus.proofs.CalmPorts.{IsWithin}
-use Rattle.can_bus.proofs.WireRuns.{undisturbed, rest_run}
+use Rattle.can_bus.proofs.WireRuns.{undisturbed, length-undisturbed, rest_run}
 use Rattle.can_bus.proofs.CourseLogs.{Becomes, becomes-now, becomes-rested, becomes-behind, becomes-within, becomes-in_hit, counts_of, frame-leaves, hit-leaves, mine-survives}
 use Rattle.can_bus.proofs.CoursePorts.{CoursePort, IsCoursePort, HasPart, behind_frame, behind_hit, rested, rested-turned, takes-part}
 use Rattle.can_bus.proofs.CourseRounds.{CourseRound, NoneWaits, SendsOne, machines_of, ports_now, all-calm, next-frame, next-left, one-parts, one-sends, round-behind, round-broken, round-rested, round-rests, round-sends}
