@@ -15,11 +15,11 @@ use Rattle.can_wire.specs.Layout.{frame_of, frame_len}
 use Rattle.can_mac.specs.State.{idle}
 use Rattle.can_mac.specs.Moves.{agrees}
 use Rattle.can_mac.specs.Machine.{mac_drives, mac_step}
-use Rattle.can_node.specs.Ports.{PortState, fresh_port, port_offered, port_drives, port_run, port_step, waiting, without}
+use Rattle.can_node.specs.Ports.{PortState, fresh_port, port_offered, port_drives, port_step, waiting, without}
 use Rattle.can_hit.specs.declared.hit.Hit.TheVariants.{At, In}
 use Rattle.can_bus.specs.declared.offer.Offer.{Offer}
-use Rattle.can_bus.specs.Disturbed.{level_then, ports_then, rest_before, begins_at, attempts_before, FallsOnWire}
-use Rattle.can_bus.specs.DisturbedPlay.{refusals}
+use Rattle.can_bus.specs.Disturbed.{level_then, rest_before, begins_at, attempts_before, FallsOnWire}
+use Rattle.can_bus.specs.DisturbedPlay.{played_then, refusals}
 use Rattle.can_bus.specs.Wired.{wired as wired_of}
 
 -- the levels of a text of `0` and `1`
@@ -103,16 +103,16 @@ abbrev both_saw : List (List Level)
 both_saw = recorded_once ∷ recorded_once ∷ []
 
 -- the sender's flag goes on up to 22 and the receiver's up to 28, and with 40 the sender starts again
-driven_then : map (λ t. wired_of (map port_drives (ports_then t sender_and_receiver both_saw))) (16 ∷ 17 ∷ 22 ∷ 23 ∷ 28 ∷ 29 ∷ 39 ∷ 40 ∷ []) ≡ levels_of (codes "00000110")
-unfolding wired_of port_drives mac_drives port_run port_step waiting without mac_step agrees crc_of frame_of frame_len bits_of unstuffed head arbitration_field
+driven_then : map (λ t. wired_of (map port_drives (played_then [] t 0 sender_and_receiver both_saw))) (16 ∷ 17 ∷ 22 ∷ 23 ∷ 28 ∷ 29 ∷ 39 ∷ 40 ∷ []) ≡ levels_of (codes "00000110")
+unfolding wired_of port_drives mac_drives port_step waiting without mac_step agrees crc_of frame_of frame_len bits_of unstuffed head arbitration_field
 driven_then = refl
 
-counted_at_last : map (λ (p : PortState). p.mac.counters.tec) (ports_then 93 sender_and_receiver both_saw) ≡ 7 ∷ 0 ∷ []
-unfolding port_run port_step waiting without mac_step agrees crc_of frame_of frame_len bits_of unstuffed head arbitration_field
+counted_at_last : map (λ (p : PortState). p.mac.counters.tec) (played_then [] 93 0 sender_and_receiver both_saw) ≡ 7 ∷ 0 ∷ []
+unfolding port_step waiting without mac_step agrees crc_of frame_of frame_len bits_of unstuffed head arbitration_field
 counted_at_last = refl
 
-logged_at_last : map (λ (p : PortState). p.log) (ports_then 93 sender_and_receiver both_saw) ≡ (record { frame = frame_zero; sent = true } ∷ []) ∷ (record { frame = frame_zero; sent = false } ∷ []) ∷ []
-unfolding port_run port_step waiting without mac_step agrees crc_of frame_of frame_len bits_of unstuffed head arbitration_field
+logged_at_last : map (λ (p : PortState). p.log) (played_then [] 93 0 sender_and_receiver both_saw) ≡ (record { frame = frame_zero; sent = true } ∷ []) ∷ (record { frame = frame_zero; sent = false } ∷ []) ∷ []
+unfolding port_step waiting without mac_step agrees crc_of frame_of frame_len bits_of unstuffed head arbitration_field
 logged_at_last = refl
 
 -- Two idle ports. A dominant level is recorded at 5, which no port drove; the sixth recessive level behind it is a

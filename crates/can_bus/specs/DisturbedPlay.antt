@@ -46,9 +46,14 @@ module _ (offers : List Offer) (ports : List PortState) (seen : List (List Level
   refusals earlier [] = 0
   refusals earlier (offer ∷ later) = (if is_refused earlier offer then 1 else 0) + refusals (earlier ++ offer ∷ []) later
 
--- a run of a bus from one state to another with these offers and under these hits, by its lists of levels: as `IsDisturbedRun`, but that
--- each port drives with what it is offered at that time (`drives`), and is led through what it is offered and what it saw (`leads`); and
--- so many of the offers find a full queue (`refuses`)
+-- A run of a bus from one state to another with these offers and under these hits, by its lists of levels. Each has one level for each
+-- bit time, and each port has one list.
+-- `drives`: the wired level at each time is that of what the ports drive, each after the levels that it has seen, with what it is offered.
+-- `records`: the recorded level is the opposite of the wired one exactly at those times at which a hit falls on the wire.
+-- `sees`: a port sees the opposite of the recorded level exactly at those times at which a `View` names it.
+-- `leads`: each port goes from its state through what it was offered and the levels that it saw.
+-- `keeps_rest`: the bus keeps how many recessive levels were recorded last, up to eleven.
+-- `refuses`: so many of the offers find a full queue.
 pub record IsDisturbedPlay (offers : List Offer) (hits : List Hit) (before : BusState) (wired recorded : List Level) (seen : List (List Level)) (after : BusState) (refused : ℕ) : Type 0 where
   pub long : length wired ≡ length recorded
   pub seen_long : All (λ levels. length levels ≡ length recorded) seen
@@ -66,3 +71,10 @@ pub record IsDisturbedPlay (offers : List Offer) (hits : List Hit) (before : Bus
 abbrev pub WasPlayed : List Offer → List Hit → BusState → List Level → BusState → ℕ → Type 0
 WasPlayed offers hits before recorded after refused =
     (wired : List Level) × (seen : List (List Level)) × IsDisturbedPlay offers hits before wired recorded seen after refused
+
+-- a run to which nothing is offered
+abbrev pub IsDisturbedRun : List Hit → BusState → List Level → List Level → List (List Level) → BusState → Type 0
+IsDisturbedRun hits before wired recorded seen after = IsDisturbedPlay [] hits before wired recorded seen after 0
+
+abbrev pub WasDisturbed : List Hit → BusState → List Level → BusState → Type 0
+WasDisturbed hits before recorded after = WasPlayed [] hits before recorded after 0

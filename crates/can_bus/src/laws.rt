@@ -1,6 +1,7 @@
 //! Laws of the definitions, each a function that does nothing and ensures it.
-ghost use Rattle.std.specs.Prelude.{◌≡◌, ◌<◌, ◌≤◌, ◌+◌, ◌-◌, ◌↔◌, ◌⊎◌, ℕ, true, List, [], drop, length, map, None};
+ghost use Rattle.std.specs.Prelude.{◌≡◌, ◌<◌, ◌≤◌, ◌+◌, ◌-◌, ◌↔◌, ◌⊎◌, ℕ, true, List, [], drop, length, map, take, None};
 ghost use Rattle.std.specs.Ordering.{partial_lt};
+ghost use Rattle.std.specs.List.{zip};
 ghost use Rattle.std.specs.List.Sorted.{IsPermutation};
 ghost use Rattle.can_frame.specs.declared.level.Level.{Level};
 ghost use Rattle.can_frame.specs.Parts.{IsFrame, Parts};
@@ -10,10 +11,10 @@ ghost use Rattle.can_code.specs.CodeFaults.{IsCodeFault};
 ghost use Rattle.can_code.specs.Front.{first_front, heard_levels};
 ghost use Rattle.can_wire.specs.Stuffing.{is_stuff_place};
 ghost use Rattle.can_wire.specs.Wire.{stuffed_part, wire};
-ghost use Rattle.can_node.specs.Ports.{IsPort, PortState};
+ghost use Rattle.can_node.specs.Ports.{IsPort, PortState, port_run};
 ghost use Rattle.can_hit.specs.declared.hit.Hit.{Hit as Disturbance};
 ghost use Rattle.can_bus.specs.Agreement.{AreAlike, LogsAgree};
-ghost use Rattle.can_bus.specs.Disturbed.{IsDisturbedRun, WasDisturbed};
+ghost use Rattle.can_bus.specs.DisturbedPlay.{IsDisturbedRun, WasDisturbed, all_given, played_then};
 ghost use Rattle.can_hit.specs.Hits.{AreTaken, is_above};
 ghost use Rattle.can_bus.specs.Offers.{played, played_level};
 ghost use Rattle.can_bus.specs.Plans.{FitsQueue, IsQuietPlan, PlannedPort, planned, ready_port};
@@ -31,7 +32,8 @@ pub fn hits_are_ordered()
 
 /// A run, bit time by bit time, is a disturbed run over whole lists of levels, whatever its hits: with the
 /// levels that it records there are levels on the wire and levels that the ports saw. The recorded levels
-/// and the end of every disturbed run are those of the run, and there is one for each number of bit times.
+/// and the end of every disturbed run are those of the run, and there is one for each number of bit times. As nothing
+/// is offered to its ports, each is where the levels that it saw have brought it.
 pub fn a_run_is_a_disturbed_run()
     ensures exists { (hits : List Disturbance) (bus : BusState) (recorded : List Level) → bus.rest ≤ idle_row →
         AreLevelsOf (λ t. bus_level hits t bus) recorded →
@@ -43,6 +45,8 @@ pub fn a_run_is_a_disturbed_run()
     ensures one { (hits : List Disturbance) (bus one other : BusState) (wired wires recorded records : List Level) (seen views : List (List Level)) → bus.rest ≤ idle_row →
         IsDisturbedRun hits bus wired recorded seen one → IsDisturbedRun hits bus wires records views other → length recorded ≡ length records →
         (recorded ≡ records) × (one ≡ other) × (wired ≡ wires) × (seen ≡ views) }
+    ensures ports { (t node : ℕ) (ports : List PortState) (seen : List (List Level)) → (all_given [] t node ports ≡ ports)
+        × (played_then [] t node ports seen ≡ map (λ (beside : PortState × List Level). port_run beside.0 (take t beside.1)) (zip ports seen)) }
 {}
 
 /// Without disturbances, two runs are one run of as many bit times.
