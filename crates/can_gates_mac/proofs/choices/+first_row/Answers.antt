@@ -1,0 +1,15 @@
+use Rattle.std.proofs.Common.{◌∙◌, arith, length, drop, length-drop, ◌-◌}
+use Rattle.std.proofs.lemmas.List.{take_all}
+use Rattle.can_gates_mac.proofs.ShownFields.{listed_first}
+use Rattle.can_gates_mac.proofs.choices.+first_row.Goals as goal
+
+pub returns : goal.returns
+returns t c = (
+  c.in_ok-made.ensures.0 ∙ c.in_ok-test.ensures.made.0 ∙ c.in_ok-rest.ensures.0,
+  λ v keeps.
+      let made = c.in_ok-made.ensures.1 v keeps in
+      let test = c.in_ok-test.ensures.made.1 v made.0 in
+      let rest = c.in_ok-rest.ensures.1 v test.0 in
+      let rows = c.args.rows.now in
+      (rest.0, listed_first v rows _ _ _ _ _ (omega (arith, c.if-rows-eq0.false)) test.1 (rw (take_all (length rows - 1) (drop 1 rows) (omega (arith, length-drop 1 rows))) at rest.1) made.1),
+)

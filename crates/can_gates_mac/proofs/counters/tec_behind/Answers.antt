@@ -1,0 +1,27 @@
+use Rattle.std.proofs.Common.{◌≡◌, ◌∙◌, length, ap, arith}
+use Rattle.can_gates.specs.Circuit.{value}
+use Rattle.can_gates.specs.Words.{number}
+use Rattle.can_gates.proofs.Constants.{zero-kept}
+use Rattle.can_gates_mac.specs.Nibbles.{nibble}
+use Rattle.can_gates_mac.proofs.NibbleBits.{nibble-bits}
+use Rattle.can_gates_mac.proofs.Counts.{by_8, tec_bits}
+use Rattle.can_gates_mac.proofs.counters.tec_behind.Goals as goal
+
+pub returns : goal.returns
+returns c =
+    let long_up : length c.in_ok-up.up.items ≡ 9 = omega (arith, c.in_ok-up.ensures.0, c.requires) in
+    let long : length c.in_ok-made.made.items ≡ 9 = omega (arith, c.in_ok-made.ensures.0, ap length c.deref.ensures.value, long_up) in (
+      long,
+      (
+        c.in_ok-made.ensures.1.0 ∙ c.in_ok-up.ensures.1.0 ∙ c.in_ok-falls.ensures.made.0 ∙ c.in_ok-rises.ensures.made.0,
+        λ v keeps.
+            let made = c.in_ok-made.ensures.1.1 v keeps in
+            let up = c.in_ok-up.ensures.1.1 v made.0 in
+            let falls = c.in_ok-falls.ensures.made.1 v up.0 in
+            let rises = c.in_ok-rises.ensures.made.1 v falls.0 in
+            let n = c.args.cause in
+            let zero_is = zero-kept v c.args.circuit.now.gates rises.0 in
+            let risen = rw (long_up, by_8 v zero_is c.in_ok-rises.rises) at up.1 in
+            (rises.0, λ few small. made.1 ∙ rw (c.deref.ensures.value, risen, falls.1, rises.1, c.opposite.ensures v) (tec_bits (value v n.ones) (value v n.twos) (value v n.fours) (value v n.eights) (nibble v n) (number v c.args.tec.now) (nibble-bits v n) few small)),
+      ),
+    )

@@ -1,0 +1,60 @@
+use Rattle.std.proofs.Common.{not, ap, ◌∙◌}
+use Rattle.can_gates.proofs.Constants.{zero-kept}
+use Rattle.can_gates_mac.proofs.Roles.{held_back_is}
+use Rattle.can_gates_mac.proofs.sensing.sense.Goals as goal
+
+pub returns : goal.returns
+returns c = (
+  c.in_ok-first.ensures.made.0 ∙ c.in_ok-run_below_6.ensures.0 ∙ c.in_ok-run.ensures.0 ∙ c.in_ok-counts.ensures.made.0 ∙ c.in_ok-still.ensures.made.0 ∙ c.in_ok-refuses.ensures.made.0 ∙ c.in_ok-starts.ensures.made.0 ∙ c.in_ok-asks.ensures.0 ∙ c.in_ok-held_back.ensures.made.0 ∙ c.in_ok-places.ensures.0,
+  λ v keeps.
+      let first = c.in_ok-first.ensures.made.1 v keeps in
+      let run_below_6 = c.in_ok-run_below_6.ensures.1 v first.0 in
+      let run = c.in_ok-run.ensures.1 v run_below_6.0 in
+      let counts = c.in_ok-counts.ensures.made.1 v run.0 in
+      let still = c.in_ok-still.ensures.made.1 v counts.0 in
+      let refuses = c.in_ok-refuses.ensures.made.1 v still.0 in
+      let starts = c.in_ok-starts.ensures.made.1 v refuses.0 in
+      let asks = c.in_ok-asks.ensures.1 v starts.0 in
+      let held_back = c.in_ok-held_back.ensures.made.1 v asks.0 in
+      let places = c.in_ok-places.ensures.1 v held_back.0 in
+      let zero_is = zero-kept v c.args.circuit.now.gates places.0 in (
+        places.0,
+        λ s p waiting x now.
+            let held = rw (now.sender, now.passive) at held_back.1 ∙ held_back_is s s.role in
+            let next = rw now.place at (places.1.next (rw now.place now.small)) in
+            let so_long = rw (now.last, now.seen, next) at run.1 in
+            record {
+              never = zero_is;
+              passive = now.passive;
+              sender = now.sender;
+              receiver = c.opposite-receiver.ensures v ∙ ap not now.sender;
+              held_back = held;
+              pending = now.pending;
+              used = now.used;
+              asks = rw (now.pending, now.used) at (asks.1 (rw now.pending now.few) (rw now.used now.few_used));
+              fewer = rw now.pending at (c.fewer_than.ensures v zero_is (rw now.pending now.few));
+              more = λ below. rw now.used at (c.more_than.ensures v zero_is (rw now.used below));
+              waits = now.waits;
+              starts = rw (now.waits, c.opposite-free.ensures v, held) at starts.1;
+              recessive = now.seen;
+              dominant = c.opposite-dominant.ensures v ∙ ap not now.seen;
+              below_2 = rw now.place at places.1.below_2;
+              below_5 = rw now.place at places.1.below_5;
+              below_6 = rw now.place at places.1.below_6;
+              below_7 = rw now.place at places.1.below_7;
+              below_10 = rw now.place at places.1.below_10;
+              next = next;
+              agrees = now.agrees;
+              refuses = rw (c.opposite-receiver.ensures v, c.opposite-differs.ensures v, now.sender) at refuses.1;
+              still = rw (now.unacknowledged, now.seen) at still.1;
+              counts = rw (now.unacknowledged, c.opposite-dominant.ensures v, now.seen) at counts.1;
+              run = so_long;
+              run_below_6 = rw so_long at run_below_6.1;
+              first = rw (c.opposite-receiver.ensures v, now.sender, now.first) at first.1;
+              flag = rw now.passive at (c.flag_of.ensures v zero_is);
+              error_cause = rw now.sender at (c.error_cause_of.ensures v zero_is);
+              flag_bit_cause = rw now.sender at (c.flag_bit_cause_of.ensures v zero_is);
+              form_kind = rw now.sender at (c.form_kind_of.ensures v zero_is);
+            },
+      ),
+)

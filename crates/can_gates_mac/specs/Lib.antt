@@ -1,0 +1,12 @@
+-- To believe: what public calls promise is said in these words
+pub mod Nibbles
+pub mod Numbers
+pub mod Shown
+pub mod Inputs
+pub mod Stepping
+pub mod Driving
+-- For private calls
+pub mod Sensed
+pub mod Shows
+pub mod Counting
+pub mod StepParts

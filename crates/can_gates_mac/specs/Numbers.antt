@@ -1,0 +1,140 @@
+-- The numbers by which a circuit's registers hold a controller: of phases and their places, of what is counted, and of
+-- what is told.
+use Rattle.std.specs.Prelude.{ℕ, Bool, true, false, Option, Some, None}
+use Rattle.can_frame.specs.Levels.{is_recessive}
+use Rattle.can_frame.specs.Parts.{Parts}
+use Rattle.can_fault.specs.declared.cause.Cause.{Cause}
+use Rattle.can_fault.specs.declared.cause.Cause.TheVariants.{ReceiverError, ReceiverFlagBit, ReceiverFirstDominant, ReceiverDominantRun, SenderError, SenderFlagBit, SenderDominantRun, PassiveUnacknowledged, FrameSent, FrameReceived}
+use Rattle.can_mac.specs.declared.event.Event.{Event}
+use Rattle.can_mac.specs.declared.event.Event.TheVariants.{Sent, Received, Lost, Error, Overload, WentOff, Recovered}
+use Rattle.can_mac.specs.declared.event.ErrorKind.{ErrorKind}
+use Rattle.can_mac.specs.declared.event.ErrorKind.TheVariants.{Bit, Stuff, Crc, Form, Ack}
+use Rattle.can_mac.specs.declared.phase.Reading.{Reading}
+use Rattle.can_mac.specs.declared.phase.Role.{Role}
+use Rattle.can_mac.specs.declared.phase.Role.TheVariants.{Receiver, Sender}
+use Rattle.can_mac.specs.declared.phase.Phase.TheVariants.{Joining, Idle, StuffedPart, CrcDelimiter, AckSlot, AckDelimiter, EndOfFrame, ErrorFlag, PassiveFlag, OverloadFlag, AfterFlag, Delimiter, Intermission, Suspend, BusOff}
+use Rattle.can_mac.specs.State.{MacPhase}
+use Rattle.can_mac.specs.Moves.{MacMove}
+
+-- Phases.
+
+-- the phase's own number; the place in it, or how many levels in a row it has counted; whether the last level in a passive
+-- flag was recessive; whether its sender has no acknowledgement; whether the next level is the first behind an error flag
+pub record PhaseNumbers : Type 0 where
+  pub phase : ℕ
+  pub place : ℕ
+  pub last : Bool
+  pub unacknowledged : Bool
+  pub first : Bool
+
+abbrev pub at_place : ℕ → ℕ → PhaseNumbers
+at_place phase place = record { phase = phase; place = place; last = false; unacknowledged = false; first = false }
+
+abbrev pub phase_numbers : MacPhase → PhaseNumbers
+phase_numbers Idle = at_place 0 0
+phase_numbers (Joining row) = at_place 1 row
+phase_numbers (StuffedPart front) = at_place 2 0
+phase_numbers (CrcDelimiter r) = at_place 3 0
+phase_numbers (AckSlot r) = at_place 4 0
+phase_numbers (AckDelimiter r) = at_place 5 0
+phase_numbers (EndOfFrame r place) = at_place 6 place
+phase_numbers (ErrorFlag place) = at_place 7 place
+phase_numbers (PassiveFlag last run unacknowledged) = record (at_place 8 run) { last = is_recessive last; unacknowledged = unacknowledged }
+phase_numbers (OverloadFlag place) = at_place 9 place
+phase_numbers (AfterFlag first dominant) = record (at_place 10 dominant) { first = first }
+phase_numbers (Delimiter place) = at_place 11 place
+phase_numbers (Intermission place) = at_place 12 place
+phase_numbers (Suspend place) = at_place 13 place
+phase_numbers BusOff = at_place 14 0
+
+abbrev pub phase_number : MacPhase → ℕ
+phase_number p = (phase_numbers p).phase
+
+abbrev pub place_number : MacPhase → ℕ
+place_number p = (phase_numbers p).place
+
+abbrev pub last_recessive : MacPhase → Bool
+last_recessive p = (phase_numbers p).last
+
+abbrev pub unacknowledged_of : MacPhase → Bool
+unacknowledged_of p = (phase_numbers p).unacknowledged
+
+abbrev pub is_first : MacPhase → Bool
+is_first p = (phase_numbers p).first
+
+-- what the stuffed part has told, where the phase is behind it in a frame
+abbrev pub reading_in : MacPhase → Option Reading
+reading_in (CrcDelimiter r) = Some r
+reading_in (AckSlot r) = Some r
+reading_in (AckDelimiter r) = Some r
+reading_in (EndOfFrame r place) = Some r
+reading_in Idle = None
+reading_in (Joining row) = None
+reading_in (StuffedPart front) = None
+reading_in (ErrorFlag place) = None
+reading_in (PassiveFlag last run unacknowledged) = None
+reading_in (OverloadFlag place) = None
+reading_in (AfterFlag first dominant) = None
+reading_in (Delimiter place) = None
+reading_in (Intermission place) = None
+reading_in (Suspend place) = None
+reading_in BusOff = None
+
+abbrev pub is_sender : Role → Bool
+is_sender Receiver = false
+is_sender (Sender f) = true
+
+abbrev pub is_waiting : Option Parts → Bool
+is_waiting None = false
+is_waiting (Some f) = true
+
+-- What is counted, and what is told.
+
+-- by 1 or by 8 at a receiver, by 8 at a sender, and the two of a frame
+abbrev pub cause_number : Option Cause → ℕ
+cause_number None = 0
+cause_number (Some ReceiverError) = 1
+cause_number (Some ReceiverFlagBit) = 2
+cause_number (Some ReceiverFirstDominant) = 2
+cause_number (Some ReceiverDominantRun) = 2
+cause_number (Some SenderError) = 3
+cause_number (Some SenderFlagBit) = 3
+cause_number (Some SenderDominantRun) = 3
+cause_number (Some PassiveUnacknowledged) = 3
+cause_number (Some FrameSent) = 4
+cause_number (Some FrameReceived) = 5
+
+abbrev pub kind_number : ErrorKind → ℕ
+kind_number Stuff = 4
+kind_number Bit = 5
+kind_number Form = 6
+kind_number Crc = 7
+kind_number Ack = 8
+
+abbrev pub event_number : Option Event → ℕ
+event_number None = 0
+event_number (Some (Sent f)) = 1
+event_number (Some (Received f)) = 2
+event_number (Some Lost) = 3
+event_number (Some (Error kind)) = kind_number kind
+event_number (Some Overload) = 9
+event_number (Some WentOff) = 10
+event_number (Some Recovered) = 11
+
+-- Moves.
+
+-- a controller but for its counters and frames, with what is counted and told
+pub record Numbers : Type 0 where
+  pub phase : ℕ
+  pub place : ℕ
+  pub last : Bool
+  pub unacknowledged : Bool
+  pub first : Bool
+  pub sender : Bool
+  pub pending : ℕ
+  pub used : ℕ
+  pub cause : ℕ
+  pub event : ℕ
+
+abbrev pub numbers : MacMove → Numbers
+numbers m = record { phase = phase_number m.phase; place = place_number m.phase; last = last_recessive m.phase; unacknowledged = unacknowledged_of m.phase; first = is_first m.phase; sender = is_sender m.role; pending = m.overloads.pending; used = m.overloads.used; cause = cause_number m.cause; event = event_number m.event }

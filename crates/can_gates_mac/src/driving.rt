@@ -1,0 +1,120 @@
+//! What a controller drives, and the stuffing of a frame. (Bosch CAN 2.0 part B, sections 3.2 and 6)
+ghost use Rattle.std.specs.Prelude.{◌≡◌, ◌≤◌, ◌==◌, ℕ, Bool, nat_le, Option, IfOk};
+ghost use Rattle.can_frame.specs.declared.level.Level.{Level};
+ghost use Rattle.can_frame.specs.Levels.{is_recessive, same};
+ghost use Rattle.can_frame.specs.Parts.{Parts};
+ghost use Rattle.can_wire.specs.Layout.{rtr_place};
+ghost use Rattle.can_code.specs.Front.{FrontParts, heard_level};
+ghost use Rattle.can_mac.specs.State.{MacState};
+ghost use Rattle.can_mac.specs.Machine.{mac_drives};
+ghost use Rattle.can_gates.specs.Circuit.{value, Makes};
+ghost use Rattle.can_gates.specs.Words.{number};
+ghost use Rattle.can_gates_mac.specs.Stepping.{Holds};
+ghost use Rattle.can_gates_mac.specs.Driving.{DrivesIn, HoldsRun};
+
+use crate::nibble::Nibble;
+use crate::registers::Controller;
+use can_gates::{Circuit, FALSE, Literal, TRUE, constant};
+use std::alloc::{AllocError, Global};
+
+/// What a controller reads of the frame that waits and of the frame on the bus, to drive a level.
+#[derive(Clone, Copy, Debug)]
+pub struct Sends {
+    /// Whether a frame waits.
+    pub waits: Literal,
+    /// Whether the check sequence of the frame on the bus agrees, where its stuffed part has ended.
+    pub agrees: Literal,
+    /// Whether the next level is a stuff bit.
+    pub due: Literal,
+    /// Whether the last level was recessive.
+    pub last: Literal,
+    /// Whether the next level of the sender's frame is recessive.
+    pub sent: Literal,
+}
+
+/// What a level is to the run of equal levels before it, and the run behind it.
+#[derive(Clone, Copy, Debug)]
+pub struct StuffPlace {
+    /// Whether the level is a stuff bit.
+    pub due: Literal,
+    /// Whether it repeats the last one.
+    pub repeats: Literal,
+    /// Whether it is recessive.
+    pub last: Literal,
+    /// How many levels in a row, up to it, equal it.
+    pub run: Nibble,
+}
+
+/// Whether a controller drives recessive.
+pub fn drive(
+    circuit: &mut Circuit,
+    alloc: Global,
+    held: &Controller,
+    sends: &Sends,
+) -> Result<Literal, AllocError>
+    ensures { IfOk result (λ r. Makes circuit.old circuit.new (λ v. (m : MacState) (waiting : Option Parts) → Holds v held.now m → DrivesIn v sends.now m waiting → value v r ≡ is_recessive (mac_drives m waiting))) }
+{
+    let phase = held.wires.phase;
+    let receiver = held.wires.sender.opposite();
+    let silent = sends.waits.opposite();
+    let stuff = sends.last.opposite();
+    let differs = sends.agrees.opposite();
+    let of_sender = circuit.ite(sends.due, stuff, sends.sent)?;
+    let of_part = circuit.or(receiver, of_sender)?;
+    let of_slot = circuit.or(held.wires.sender, differs)?;
+    // in the order of the phases' numbers
+    let items = [
+        silent, TRUE, of_part, TRUE, of_slot, TRUE, TRUE, FALSE, TRUE, FALSE, TRUE, TRUE, TRUE,
+        TRUE, TRUE,
+    ];
+    let place = [phase.ones, phase.twos, phase.fours, phase.eights];
+    let made = circuit.select(alloc, &items, &place)?;
+    Ok(made)
+}
+
+/// What a level is to the run of equal levels before it, of which the last was recessive or not.
+pub fn stuffing(
+    circuit: &mut Circuit,
+    last: Literal,
+    run: Nibble,
+    seen: Literal,
+) -> Result<StuffPlace, AllocError>
+    ensures { IfOk result (λ r. Makes circuit.old circuit.new (λ v. (front : FrontParts) (x : Level) → HoldsRun v last run front → front.run ≤ 5 → value v seen ≡ is_recessive x → (value v r.due ≡ (front.run == 5)) × ((value v r.repeats ≡ same x front.last) × HoldsRun v r.last r.run (heard_level front x)))) }
+{
+    let due = circuit.and(run.ones, run.fours)?;
+    let differs = circuit.xor(seen, last)?;
+    let repeats = differs.opposite();
+    let plain = due.opposite();
+    let grows = circuit.and(plain, repeats)?;
+    let next = run.next(circuit)?;
+    let behind = Nibble::choose(circuit, grows, next, Nibble::of(1))?;
+    Ok(StuffPlace {
+        due,
+        repeats,
+        last: seen,
+        run: behind,
+    })
+}
+
+/// The first place behind the arbitration of a standard frame.
+const BEHIND_STANDARD: u64 = 13;
+
+/// The first place behind the arbitration of an extended frame.
+const BEHIND_EXTENDED: u64 = 33;
+
+/// Whether the place of this number belongs to the arbitration of a frame of this format. (Bosch CAN 2.0 part B,
+/// section 3.2.1)
+pub fn arbitrates(
+    circuit: &mut Circuit,
+    alloc: Global,
+    count: &[Literal],
+    extended: Literal,
+) -> Result<Literal, AllocError>
+    ensures { IfOk result (λ r. Makes circuit.old circuit.new (λ v. value v r ≡ nat_le (number v count.now) (rtr_place (value v extended)))) }
+{
+    let long = constant(alloc, BEHIND_EXTENDED, 6)?;
+    let short = constant(alloc, BEHIND_STANDARD, 6)?;
+    let bound = circuit.choose(alloc, extended, &long, &short)?;
+    let made = circuit.less(count, &bound)?;
+    Ok(made)
+}

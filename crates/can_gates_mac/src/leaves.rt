@@ -1,0 +1,207 @@
+//! What moves end in: the leaves of can_mac/specs/Moves.antt. (Bosch CAN 2.0 part B, sections 3.2 and 8)
+ghost use Rattle.std.specs.Prelude.{◌≡◌, ◌+◌, ◌-◌, ◌<◌, ℕ, Bool, true, false, nat_lt, Option, Some, None};
+ghost use Rattle.can_frame.specs.Levels.{is_recessive};
+ghost use Rattle.can_fault.specs.declared.cause.Cause.{Cause};
+ghost use Rattle.can_mac.specs.declared.event.ErrorKind.{ErrorKind};
+ghost use Rattle.can_mac.specs.declared.phase.Role.{Role};
+ghost use Rattle.can_mac.specs.declared.phase.Role.TheVariants.{Receiver};
+ghost use Rattle.can_mac.specs.declared.phase.Phase.TheVariants.{Idle};
+ghost use Rattle.can_mac.specs.Moves.{begins_frame, errs_by, errs, errs_in_flag, overload, goes};
+ghost use Rattle.can_gates.specs.Circuit.{value};
+ghost use Rattle.can_gates_mac.specs.Nibbles.{nibble};
+ghost use Rattle.can_gates_mac.specs.Numbers.{numbers, is_sender, cause_number, kind_number};
+ghost use Rattle.can_gates_mac.specs.Shown.{shown};
+ghost use Rattle.can_gates_mac.specs.Sensed.{WhereSensed, going, run_of};
+
+use crate::nibble::Nibble;
+use crate::numbers::{
+    ACK_ERROR, AFTER_FLAG, BIT_ERROR, IDLE, LOST, OVERLOAD, OVERLOAD_FLAG, PASSIVE_FLAG,
+    STUFFED_PART, UNCOUNTED, UNTOLD,
+};
+use crate::senses::Senses;
+use crate::wires::Wires;
+use can_gates::{FALSE, Literal, TRUE};
+
+impl Senses {
+    /// Another phase or place; this is counted and told.
+    pub(crate) fn goes(&self, phase: u8, place: Nibble, cause: u8, event: u8) -> Wires
+        requires phase { phase < 16 }
+        requires cause { cause < 16 }
+        requires event { event < 16 }
+        ensures { WhereSensed self.now (λ v s p x. (n : ℕ) → nibble v place ≡ n → shown v result ≡ going s phase n cause event) }
+    {
+        Wires {
+            phase: Nibble::of(phase),
+            place,
+            last: FALSE,
+            unacknowledged: FALSE,
+            first: FALSE,
+            sender: self.sender,
+            pending: self.pending,
+            used: self.used,
+            cause: Nibble::of(cause),
+            event: Nibble::of(event),
+        }
+    }
+
+    /// An error at a sender or a receiver: an error flag starts.
+    pub(crate) fn errs_by(&self, sender: Literal, cause: Nibble, kind: Nibble) -> Wires
+        ensures { WhereSensed self.now (λ v s p x. (role : Role) (c : Option Cause) (e : ErrorKind) → value v sender ≡ is_sender role → nibble v cause ≡ cause_number c → nibble v kind ≡ kind_number e → shown v result ≡ numbers (errs_by c false (record s { role = role }) e)) }
+    {
+        Wires {
+            phase: self.flag,
+            place: Nibble::of(0),
+            last: self.passive,
+            unacknowledged: FALSE,
+            first: FALSE,
+            sender,
+            pending: self.pending,
+            used: self.used,
+            cause,
+            event: kind,
+        }
+    }
+
+    /// An error in a frame or in a delimiter.
+    pub(crate) fn errs(&self, kind: Nibble) -> Wires
+        ensures { WhereSensed self.now (λ v s p x. (e : ErrorKind) → nibble v kind ≡ kind_number e → shown v result ≡ numbers (errs s e)) }
+    {
+        self.errs_by(self.sender, self.error_cause, kind)
+    }
+
+    /// A bit error in an own active error flag or overload flag.
+    pub(crate) fn errs_in_flag(&self) -> Wires
+        ensures { WhereSensed self.now (λ v s p x. shown v result ≡ numbers (errs_in_flag s)) }
+    {
+        self.errs_by(self.sender, self.flag_bit_cause, Nibble::of(BIT_ERROR))
+    }
+
+    /// A frame begins.
+    pub(crate) fn begins_frame(&self, sender: Literal) -> Wires
+        ensures { WhereSensed self.now (λ v s p x. (role : Role) → value v sender ≡ is_sender role → shown v result ≡ numbers (begins_frame s role)) }
+    {
+        Wires {
+            phase: Nibble::of(STUFFED_PART),
+            place: Nibble::of(0),
+            last: FALSE,
+            unacknowledged: FALSE,
+            first: FALSE,
+            sender,
+            pending: self.pending,
+            used: Nibble::of(0),
+            cause: Nibble::of(UNCOUNTED),
+            event: Nibble::of(UNTOLD),
+        }
+    }
+
+    /// An overload flag of its own starts.
+    pub(crate) fn own_overload(&self) -> Wires
+        ensures { WhereSensed self.now (λ v s p x. nat_lt s.overloads.used 2 ≡ true → shown v result ≡ numbers (record (overload s) { overloads = record { pending = s.overloads.pending - 1; used = s.overloads.used + 1 } })) }
+    {
+        Wires {
+            phase: Nibble::of(OVERLOAD_FLAG),
+            place: Nibble::of(0),
+            last: FALSE,
+            unacknowledged: FALSE,
+            first: FALSE,
+            sender: self.sender,
+            pending: self.fewer,
+            used: self.more,
+            cause: Nibble::of(UNCOUNTED),
+            event: Nibble::of(OVERLOAD),
+        }
+    }
+
+    /// No frame is on the bus, and the controller may send.
+    pub(crate) fn rests(&self) -> Wires
+        ensures { WhereSensed self.now (λ v s p x. shown v result ≡ numbers (goes (record s { role = Receiver }) Idle)) }
+    {
+        Wires {
+            phase: Nibble::of(IDLE),
+            place: Nibble::of(0),
+            last: FALSE,
+            unacknowledged: FALSE,
+            first: FALSE,
+            sender: FALSE,
+            pending: self.pending,
+            used: self.used,
+            cause: Nibble::of(UNCOUNTED),
+            event: Nibble::of(UNTOLD),
+        }
+    }
+
+    /// An error passive sender has no acknowledgement.
+    pub(crate) fn lacks_acknowledgement(&self) -> Wires
+        ensures { WhereSensed self.now (λ v s p x. shown v result ≡ record (going s 8 0 0 8) { last = true; unacknowledged = true }) }
+    {
+        Wires {
+            phase: Nibble::of(PASSIVE_FLAG),
+            place: Nibble::of(0),
+            last: TRUE,
+            unacknowledged: TRUE,
+            first: FALSE,
+            sender: self.sender,
+            pending: self.pending,
+            used: self.used,
+            cause: Nibble::of(UNCOUNTED),
+            event: Nibble::of(ACK_ERROR),
+        }
+    }
+
+    /// An error flag has ended.
+    pub(crate) fn ends_error_flag(&self, cause: u8) -> Wires
+        requires { cause < 16 }
+        ensures { WhereSensed self.now (λ v s p x. shown v result ≡ record (going s 10 0 cause 0) { first = true }) }
+    {
+        Wires {
+            phase: Nibble::of(AFTER_FLAG),
+            place: Nibble::of(0),
+            last: FALSE,
+            unacknowledged: FALSE,
+            first: TRUE,
+            sender: self.sender,
+            pending: self.pending,
+            used: self.used,
+            cause: Nibble::of(cause),
+            event: Nibble::of(UNTOLD),
+        }
+    }
+
+    /// A passive error flag goes on.
+    pub(crate) fn stays_in_passive_flag(&self, unacknowledged: Literal, cause: u8) -> Wires
+        requires { cause < 16 }
+        ensures { WhereSensed self.now (λ v s p x. (u : Bool) → value v unacknowledged ≡ u → shown v result ≡ record (going s 8 (run_of p x) cause 0) { last = is_recessive x; unacknowledged = u }) }
+    {
+        Wires {
+            phase: Nibble::of(PASSIVE_FLAG),
+            place: self.run,
+            last: self.recessive,
+            unacknowledged,
+            first: FALSE,
+            sender: self.sender,
+            pending: self.pending,
+            used: self.used,
+            cause: Nibble::of(cause),
+            event: Nibble::of(UNTOLD),
+        }
+    }
+
+    /// Arbitration is lost.
+    pub(crate) fn loses(&self, phase: u8) -> Wires
+        requires { phase < 16 }
+        ensures { WhereSensed self.now (λ v s p x. shown v result ≡ record (going s phase 0 0 3) { sender = false }) }
+    {
+        Wires {
+            phase: Nibble::of(phase),
+            place: Nibble::of(0),
+            last: FALSE,
+            unacknowledged: FALSE,
+            first: FALSE,
+            sender: FALSE,
+            pending: self.pending,
+            used: self.used,
+            cause: Nibble::of(UNCOUNTED),
+            event: Nibble::of(LOST),
+        }
+    }
+}
