@@ -5,6 +5,7 @@ pub mod Shown
 pub mod Inputs
 pub mod Stepping
 pub mod Driving
+pub mod Fronts
 -- For private calls
 pub mod Sensed
 pub mod Shows

@@ -14,6 +14,7 @@
 //! | `registers.rt` | [`Controller`], [`Counters`] | `specs/Stepping.antt` |
 //! | `bit_time.rt` | [`step`], a bit time | `specs/Stepping.antt` |
 //! | `driving.rt` | [`drive`], the level that is driven; [`stuffing`], [`arbitrates`], what is read of a frame | `specs/Driving.antt` |
+//! | `heard.rt`, `front.rt` | [`Heard`], the registers of a frame's front; [`hear`], one more level; [`ends`], whether its stuffed part ends | `specs/Fronts.antt` |
 //! | `laws.rt` | from one bit time to the next | `specs/Stepping.antt` |
 //! | `numbers.rt` | the numbers, as constants | `specs/Numbers.antt` |
 //! | `senses.rt`, `sensing.rt` | what all moves read, made once | `specs/Sensed.antt` |
@@ -28,6 +29,8 @@ mod bit_time;
 mod choices;
 mod counters;
 mod driving;
+mod front;
+mod heard;
 mod laws;
 mod leaves;
 mod moves;
@@ -41,6 +44,8 @@ mod wires;
 
 pub use bit_time::step;
 pub use driving::{Sends, StuffPlace, arbitrates, drive, stuffing};
+pub use front::{ends, hear};
+pub use heard::Heard;
 pub use laws::{a_step_is_the_next_state, asking};
 pub use nibble::Nibble;
 pub use registers::{Controller, Counters};

@@ -1,0 +1,45 @@
+use Rattle.std.proofs.Common.{◌≡◌, ◌∙◌, ℕ, ◌<◌, length, get_or, refl, ap, arith}
+use Rattle.can_frame.specs.Levels.{is_recessive}
+use Rattle.can_wire.specs.Layout.{level_at}
+use Rattle.can_gates.specs.Circuit.{value}
+use Rattle.can_gates.specs.Words.{number, bit}
+use Rattle.can_gates.proofs.Constants.{never, zero-kept, value-never}
+use Rattle.can_gates.proofs.WordNumbers.{number-lt}
+use Rattle.can_gates_mac.proofs.Lengths.{length_is}
+use Rattle.can_gates_mac.proofs.front.frame_length.Goals as goal
+
+pub returns : goal.returns
+returns c = (
+  c.in_ok-sum.ensures.1.0 ∙ c.in_ok-least.ensures.1.0 ∙ c.in_ok-one.ensures.made.0 ∙ c.in_ok-two.ensures.made.0 ∙ c.in_ok-four.ensures.made.0 ∙ c.in_ok-few.ensures.made.0 ∙ c.in_ok-eight.ensures.made.0 ∙ c.in_ok-ones.ensures.0 ∙ c.in_ok-twos.ensures.0 ∙ c.in_ok-fours.ensures.0 ∙ c.in_ok-eights.ensures.0 ∙ c.in_ok-remote.ensures.0,
+  λ v keeps.
+      let sum = c.in_ok-sum.ensures.1.1 v keeps in
+      let least = c.in_ok-least.ensures.1.1 v sum.0 in
+      let one = c.in_ok-one.ensures.made.1 v least.0 in
+      let two = c.in_ok-two.ensures.made.1 v one.0 in
+      let four = c.in_ok-four.ensures.made.1 v two.0 in
+      let few = c.in_ok-few.ensures.made.1 v four.0 in
+      let eight = c.in_ok-eight.ensures.made.1 v few.0 in
+      let ones = c.in_ok-ones.ensures.1 v eight.0 in
+      let twos = c.in_ok-twos.ensures.1 v ones.0 in
+      let fours = c.in_ok-fours.ensures.1 v twos.0 in
+      let eights = c.in_ok-eights.ensures.1 v fours.0 in
+      let remote = c.in_ok-remote.ensures.1 v eights.0 in
+      let zero_is = zero-kept v c.args.circuit.now.gates remote.0 in
+      let no = value-never v zero_is in (
+        remote.0,
+        λ u held.
+            let at : (p : ℕ) → p < 103 → value v (get_or c.args.levels.now p never) ≡ is_recessive (level_at u p) = held in
+            let long : length c.in_ok-sum.sum.word.items ≡ 7 = omega (arith, c.in_ok-sum.ensures.0, ap length c.deref-3.ensures.value, c.in_ok-least.ensures.0, ap length c.deref.ensures.value, ap length c.deref-2.ensures.value, c.in_ok-long.ensures.0, c.in_ok-short.ensures.0) in
+            let small = rw long at (number-lt v c.in_ok-sum.sum.word.items) in
+            let extended = ap (value v) c.literal_at-extended.ensures ∙ at 13 (omega arith) in
+            length_is u (value v c.literal_at-extended.result) (value v c.in_ok-remote.remote) (value v c.in_ok-eights.eights) (value v c.in_ok-fours.fours) (value v c.in_ok-twos.twos) (value v c.in_ok-ones.ones) (value v c.in_ok-few.few) (number v c.in_ok-sum.sum.word.items) (bit (value v c.in_ok-sum.sum.carry)) extended
+            (remote.1 ∙ rw (c.literal_at.ensures, c.literal_at-2.ensures, at 32 (omega arith), at 12 (omega arith)) refl)
+            (eights.1 ∙ rw (c.literal_at-3.ensures, c.literal_at-4.ensures, at 35 (omega arith), at 15 (omega arith)) refl)
+            (fours.1 ∙ rw (c.literal_at-5.ensures, c.literal_at-6.ensures, at 36 (omega arith), at 16 (omega arith)) refl)
+            (twos.1 ∙ rw (c.literal_at-7.ensures, c.literal_at-8.ensures, at 37 (omega arith), at 17 (omega arith)) refl)
+            (ones.1 ∙ rw (c.literal_at-9.ensures, c.literal_at-10.ensures, at 38 (omega arith), at 18 (omega arith)) refl)
+            (few.1 ∙ rw (c.opposite-2.ensures v, c.opposite-3.ensures v) refl)
+            (rw (long, no, one.1, two.1, four.1, eight.1, c.opposite.ensures v, c.deref-3.ensures.value, least.1, c.deref.ensures.value, c.deref-2.ensures.value, c.in_ok-long.ensures.1 v zero_is, c.in_ok-short.ensures.1 v zero_is) at sum.1 ∙ omega arith)
+            small,
+      ),
+)

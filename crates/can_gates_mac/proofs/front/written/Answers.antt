@@ -1,0 +1,37 @@
+use Rattle.std.proofs.Common.{◌≡◌, ◌%◌, ◌^◌, ◌∙◌, get_or, refl, rules, arith}
+use Rattle.std.specs.Prelude.{◌==◌, ◌&&◌, ◌||◌}
+use Rattle.can_gates.specs.Circuit.{value}
+use Rattle.can_gates.specs.Words.{number}
+use Rattle.can_gates.proofs.Constants.{never, zero-kept}
+use Rattle.can_gates_mac.proofs.FrontPlaces.{written_place}
+use Rattle.can_gates_mac.proofs.front.written.Goals as goal
+
+pub loop-place-preserved : goal.loop-place-preserved
+loop-place-preserved c =
+    let l = c.loop-place in
+    let count = c.args.count.now in
+    let levels = c.args.levels.now in (
+      search rules,
+      (
+        c.in_ok-both.ensures.0 ∙ c.in_ok-new.ensures.made.0 ∙ c.in_ok-here.ensures.0 ∙ l.invariant.1.0,
+        λ v keeps.
+            let both = c.in_ok-both.ensures.1 v keeps in
+            let new = c.in_ok-new.ensures.made.1 v both.0 in
+            let here = c.in_ok-here.ensures.1 v new.0 in
+            let before = l.invariant.1.1 v here.0 in
+            let zero_is = zero-kept v c.args.circuit.now.gates before.0 in
+            let low : l.place % 2 ^ 7 ≡ l.place = omega (arith, c.loop-place-test.true) in
+            let is = both.1 ∙ rw (new.1, here.1, c.deref.ensures.value, c.in_ok-number.ensures.1 v zero_is, low, c.literal_at.ensures) refl in
+            (before.0, λ p h. written_place v (λ q. value v (get_or levels q never) || ((number v count == q) && value v c.args.level)) l.all.items c.push.new.self.items c.in_ok-both.both l.place p c.in_ok-push.ensures.items l.invariant.0 is before.1 h),
+      ),
+    )
+
+pub returns : goal.returns
+returns c =
+    let l = c.loop-place in
+    let e : l.place ≡ 103 = omega (arith, c.loop-place-test.false, l.auto.place-end) in (
+      l.invariant.1.0,
+      λ v keeps.
+          let whole = l.invariant.1.1 v keeps in
+          (whole.0, λ p h. whole.1 p (rw e h)),
+    )

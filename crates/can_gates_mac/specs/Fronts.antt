@@ -1,0 +1,27 @@
+-- The front of a frame in a circuit's registers.
+use Rattle.std.specs.Prelude.{ℕ, ◌≡◌, ◌<◌, ◌==◌, Bool, false, List, length, slice_index_or}
+use Rattle.can_frame.specs.declared.level.Level.{Level}
+use Rattle.can_frame.specs.Levels.{is_recessive, same}
+use Rattle.can_wire.specs.Layout.{level_at}
+use Rattle.can_code.specs.Front.{FrontParts, heard_level}
+use Rattle.can_gates.specs.declared.literal.Literal.{Literal}
+use Rattle.can_gates.specs.Circuit.{value}
+use Rattle.can_gates.specs.Words.{number}
+use Rattle.can_gates_mac.specs.declared.heard.Heard.{Heard}
+use Rattle.can_gates_mac.specs.declared.driving.StuffPlace.{StuffPlace}
+use Rattle.can_gates_mac.specs.Driving.{HoldsRun}
+
+-- the registers of the first 103 places are these levels
+abbrev pub HoldsLevels : (ℕ → Bool) → List Literal → List Level → Type 0
+HoldsLevels v levels u = (p : ℕ) → p < 103 → value v (slice_index_or levels p (record { signal = 0; negated = false })) ≡ is_recessive (level_at u p)
+
+pub record HoldsFront (v : ℕ → Bool) (k : Heard) (front : FrontParts) : Type 0 where
+  pub levels : HoldsLevels v k.levels.items front.unstuffed
+  pub count : number v k.count.items ≡ length front.unstuffed
+  pub run : HoldsRun v k.last k.run front
+
+-- the front with one more level, whether that is a stuff bit, and whether it repeats the last one
+pub record HearsFront (v : ℕ → Bool) (k : Heard) (s : StuffPlace) (front : FrontParts) (x : Level) : Type 0 where
+  pub next : HoldsFront v k (heard_level front x)
+  pub due : value v s.due ≡ (front.run == 5)
+  pub repeats : value v s.repeats ≡ same x front.last

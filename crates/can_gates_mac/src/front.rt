@@ -1,0 +1,107 @@
+//! The front of a frame as it is heard: a register for each place of its unstuffed levels. (Bosch CAN 2.0 part B,
+//! sections 3.2.1 and 6)
+ghost use Rattle.std.specs.Prelude.{◌≡◌, ◌<◌, ◌≤◌, ◌==◌, ◌&&◌, ◌||◌, ℕ, Bool, List, IfOk, length, slice_index_or};
+ghost use Rattle.can_frame.specs.declared.level.Level.{Level};
+ghost use Rattle.can_frame.specs.Levels.{is_recessive};
+ghost use Rattle.can_wire.specs.Layout.{frame_len};
+ghost use Rattle.can_code.specs.Front.{FrontParts};
+ghost use Rattle.can_mac.specs.Moves.{ends_part};
+ghost use Rattle.can_gates.specs.Circuit.{value, Makes};
+ghost use Rattle.can_gates.specs.Words.{number};
+ghost use Rattle.can_gates_mac.specs.Fronts.{HoldsLevels, HoldsFront, HearsFront};
+
+use crate::driving::{StuffPlace, stuffing};
+use crate::heard::Heard;
+use can_gates::{Circuit, FALSE, Literal, constant, literal_at};
+use std::alloc::{AllocError, Global};
+
+/// How many places have a register: up to the last level of the data of the longest frame. The check sequence has none.
+const PLACES: u64 = 103;
+
+/// How many unstuffed levels a standard frame without data has, its check sequence among them.
+const STANDARD_LENGTH: u64 = 34;
+
+/// The same of an extended frame.
+const EXTENDED_LENGTH: u64 = 54;
+
+/// The front with one more level, and what the level is to the run before it.
+pub fn hear(
+    circuit: &mut Circuit,
+    alloc: Global,
+    heard: &Heard,
+    seen: Literal,
+) -> Result<(Heard, StuffPlace), AllocError>
+    ensures { IfOk result (λ r. Makes circuit.old circuit.new (λ v. (front : FrontParts) (x : Level) → HoldsFront v heard.now front → front.run ≤ 5 → length front.unstuffed < 127 → value v seen ≡ is_recessive x → HearsFront v r.0 r.1 front x)) }
+{
+    let stuffing = stuffing(circuit, heard.last, heard.run, seen)?;
+    let plain = stuffing.due.opposite();
+    let level = circuit.and(plain, seen)?;
+    let levels = written(circuit, alloc, &heard.levels, &heard.count, level)?;
+    let count = circuit.raised(alloc, &heard.count, &[plain])?;
+    let next = Heard {
+        levels,
+        count,
+        last: stuffing.last,
+        run: stuffing.run,
+    };
+    Ok((next, stuffing))
+}
+
+/// The levels, with one more at the place of this number.
+fn written(
+    circuit: &mut Circuit,
+    alloc: Global,
+    levels: &[Literal],
+    count: &[Literal],
+    level: Literal,
+) -> Result<Vec<Literal>, AllocError>
+    ensures { IfOk result (λ r. Makes circuit.old circuit.new (λ v. (p : ℕ) → p < 103 → value v (slice_index_or r.items p FALSE) ≡ (value v (slice_index_or levels.now p FALSE) || ((number v count.now == p) && value v level)))) }
+{
+    let mut all = Vec::new(alloc);
+    for place in 0..PLACES {
+        let number = constant(alloc, place, 7)?;
+        let here = circuit.equals(count, &number)?;
+        let new = circuit.and(here, level)?;
+        let both = circuit.or(literal_at(levels, place as usize), new)?;
+        all.push(both)?;
+    }
+    Ok(all)
+}
+
+/// Whether the stuffed part ends behind a front: it has its whole check sequence, and no stuff bit is due.
+pub fn ends(circuit: &mut Circuit, alloc: Global, heard: &Heard) -> Result<Literal, AllocError>
+    ensures { IfOk result (λ r. Makes circuit.old circuit.new (λ v. (front : FrontParts) → HoldsFront v heard.now front → front.run ≤ 5 → value v r ≡ ends_part front)) }
+{
+    let length = frame_length(circuit, alloc, &heard.levels)?;
+    let whole = circuit.equals(&length, &heard.count)?;
+    let due = circuit.and(heard.run.ones, heard.run.fours)?;
+    let made = circuit.and(whole, due.opposite())?;
+    Ok(made)
+}
+
+/// How many unstuffed levels the frame has that begins with these.
+fn frame_length(
+    circuit: &mut Circuit,
+    alloc: Global,
+    levels: &[Literal],
+) -> Result<Vec<Literal>, AllocError>
+    ensures { IfOk result (λ r. Makes circuit.old circuit.new (λ v. (u : List Level) → HoldsLevels v levels.now u → number v r.items ≡ frame_len u)) }
+{
+    let extended = literal_at(levels, 13);
+    let remote = circuit.ite(extended, literal_at(levels, 32), literal_at(levels, 12))?;
+    let eights = circuit.ite(extended, literal_at(levels, 35), literal_at(levels, 15))?;
+    let fours = circuit.ite(extended, literal_at(levels, 36), literal_at(levels, 16))?;
+    let twos = circuit.ite(extended, literal_at(levels, 37), literal_at(levels, 17))?;
+    let ones = circuit.ite(extended, literal_at(levels, 38), literal_at(levels, 18))?;
+    let eight = circuit.and(remote.opposite(), eights)?;
+    let few = circuit.and(remote.opposite(), eights.opposite())?;
+    let four = circuit.and(few, fours)?;
+    let two = circuit.and(few, twos)?;
+    let one = circuit.and(few, ones)?;
+    let long = constant(alloc, EXTENDED_LENGTH, 6)?;
+    let short = constant(alloc, STANDARD_LENGTH, 6)?;
+    let least = circuit.choose(alloc, extended, &long, &short)?;
+    let data = [FALSE, FALSE, FALSE, one, two, four, eight];
+    let sum = circuit.add(alloc, &data, &least, FALSE)?;
+    Ok(sum.word)
+}

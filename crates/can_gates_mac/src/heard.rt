@@ -1,0 +1,19 @@
+//! The registers of the front of a frame.
+ghost use Rattle.std.specs.Prelude.{◌≡◌, vec_len};
+
+use crate::nibble::Nibble;
+use can_gates::Literal;
+
+/// What is heard of a frame whose stuffed part goes on.
+#[derive(Drop)]
+pub struct Heard {
+    /// Whether each unstuffed level is recessive, the start of frame first. Places that are not heard yet are not.
+    pub levels: Vec<Literal>,
+    /// How many unstuffed levels were heard, of seven places.
+    pub count: Vec<Literal>,
+    /// Whether the last level is recessive, a stuff bit or not.
+    pub last: Literal,
+    /// How many levels in a row, up to it, equal it.
+    pub run: Nibble,
+    ghost width: { vec_len count ≡ 7 },
+}
