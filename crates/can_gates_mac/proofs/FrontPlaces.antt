@@ -1,11 +1,11 @@
 -- One more level of a front.
-use Rattle.std.proofs.Common.{◌≡◌, ℕ, ◌+◌, ◌-◌, ◌*◌, ◌<◌, ◌≤◌, ◌⊎◌, inl, inr, min, Bool, true, false, not, ◌&&◌, ◌||◌, List, [], ◌∷◌, ◌++◌, length, get_or, refl, sym, ◌∙◌, ap, arith, length-append}
+use Rattle.std.proofs.Common.{cond, ◌≡◌, ℕ, ◌+◌, ◌-◌, ◌*◌, ◌<◌, ◌≤◌, ◌⊎◌, inl, inr, min, Bool, true, false, not, ◌&&◌, ◌||◌, List, [], ◌∷◌, ◌++◌, length, get_or, refl, sym, ◌∙◌, ap, arith, length-append}
 use Rattle.std.proofs.Math.Dec.{eqb}
-use Rattle.std.proofs.lemmas.Bool.{cases_lt, cases_eq, ne_eqb, eq-eqb, cond-true, cond-false}
+use Rattle.std.proofs.lemmas.Bool.{cases_lt, cases_eq, ne_eqb, eq-eqb, cond-true, cond-false, cond_both, eqb-false}
 use Rattle.std.proofs.lemmas.List.{get_or_past, get_or_append_left, get_or_push}
 use Rattle.can_frame.specs.declared.level.Level.{Level}
 use Rattle.can_frame.specs.declared.level.Level.TheVariants.{Dominant}
-use Rattle.can_frame.specs.Levels.{is_recessive}
+use Rattle.can_frame.specs.Levels.{is_recessive, same}
 use Rattle.can_wire.specs.Layout.{level_at}
 use Rattle.can_wire.specs.Stuffing.{run_after}
 use Rattle.can_wire.proofs.LayoutPlaces.{level_at-append, level_at-behind}
@@ -69,3 +69,11 @@ written_place v f all more l i p e long is before h = by (cases_eq p i)
     by (inl d) = rw (d, e) (ap (value v) (get_or_push all l never i long) ∙ is)
     by (inr d) =
         let lower : p < i = omega (arith, h, d) in rw e (ap (value v) (get_or_append_left all (l ∷ []) never p (omega (arith, lower, long))) ∙ before p lower)
+
+after_short : (b : Bool) (n : ℕ) → (n ≡ 5 → ⊥) → n ≤ 5 → cond b (n + 1) 1 ≤ 5
+after_short true n other few = omega (arith, other, few)
+after_short false n other few = omega arith
+
+-- a run stays at most five
+pub heard_short : (front : FrontParts) (x : Level) → front.run ≤ 5 → (heard_level front x).run ≤ 5
+heard_short front x few = cond_both (eqb front.run 5) (due front x) (plain front x) (λ (f : FrontParts). f.run ≤ 5) (λ e. omega arith) (λ e. after_short (same x front.last) front.run (eqb-false front.run 5 e) few)

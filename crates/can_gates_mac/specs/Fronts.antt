@@ -3,7 +3,11 @@ use Rattle.std.specs.Prelude.{ℕ, ◌≡◌, ◌<◌, ◌==◌, Bool, false, Li
 use Rattle.can_frame.specs.declared.level.Level.{Level}
 use Rattle.can_frame.specs.Levels.{is_recessive, same}
 use Rattle.can_wire.specs.Layout.{level_at}
+use Rattle.can_frame.specs.Parts.{Parts}
 use Rattle.can_code.specs.Front.{FrontParts, heard_level}
+use Rattle.can_code.specs.Sending.{sent_level}
+use Rattle.can_mac.specs.declared.phase.Role.{Role}
+use Rattle.can_mac.specs.declared.phase.Role.TheVariants.{Sender}
 use Rattle.can_gates.specs.declared.literal.Literal.{Literal}
 use Rattle.can_gates.specs.Circuit.{value}
 use Rattle.can_gates.specs.Words.{number}
@@ -25,3 +29,8 @@ pub record HearsFront (v : ℕ → Bool) (k : Heard) (s : StuffPlace) (front : F
   pub next : HoldsFront v k (heard_level front x)
   pub due : value v s.due ≡ (front.run == 5)
   pub repeats : value v s.repeats ≡ same x front.last
+
+-- of a sender's frame: whether its next level is recessive, and whether it is extended
+pub record TellsSender (v : ℕ → Bool) (level format : Literal) (role : Role) (front : FrontParts) : Type 0 where
+  pub sent : (f : Parts) → role ≡ Sender f → value v level ≡ is_recessive (sent_level f (length front.unstuffed))
+  pub extended : (f : Parts) → role ≡ Sender f → value v format ≡ f.id.extended

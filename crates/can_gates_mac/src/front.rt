@@ -4,14 +4,17 @@ ghost use Rattle.std.specs.Prelude.{◌≡◌, ◌<◌, ◌≤◌, ◌==◌, ◌
 ghost use Rattle.can_frame.specs.declared.level.Level.{Level};
 ghost use Rattle.can_frame.specs.Levels.{is_recessive};
 ghost use Rattle.can_wire.specs.Layout.{frame_len};
-ghost use Rattle.can_code.specs.Front.{FrontParts};
+ghost use Rattle.can_code.specs.Front.{FrontParts, heard_level};
+ghost use Rattle.can_mac.specs.declared.phase.Role.{Role};
 ghost use Rattle.can_mac.specs.Moves.{ends_part};
 ghost use Rattle.can_gates.specs.Circuit.{value, Makes};
 ghost use Rattle.can_gates.specs.Words.{number};
-ghost use Rattle.can_gates_mac.specs.Fronts.{HoldsLevels, HoldsFront, HearsFront};
+ghost use Rattle.can_gates_mac.specs.Fronts.{HoldsLevels, HoldsFront, HearsFront, TellsSender};
+ghost use Rattle.can_gates_mac.specs.Inputs.{IsPart};
 
-use crate::driving::{StuffPlace, stuffing};
+use crate::driving::{StuffPlace, arbitrates, stuffing};
 use crate::heard::Heard;
+use crate::wires::Part;
 use can_gates::{Circuit, FALSE, Literal, constant, literal_at};
 use std::alloc::{AllocError, Global};
 
@@ -66,6 +69,31 @@ fn written(
         all.push(both)?;
     }
     Ok(all)
+}
+
+/// What the stuffed part's move reads, and the front behind the level that is seen: by the front, whether the next level of
+/// the sender's frame is recessive, and whether that frame is extended.
+pub fn read(
+    circuit: &mut Circuit,
+    alloc: Global,
+    heard: &Heard,
+    seen: Literal,
+    sent: Literal,
+    extended: Literal,
+) -> Result<(Heard, Part), AllocError>
+    ensures { IfOk result (λ r. Makes circuit.old circuit.new (λ v. (role : Role) (front : FrontParts) (x : Level) → HoldsFront v heard.now front → front.run ≤ 5 → length front.unstuffed < 127 → value v seen ≡ is_recessive x → TellsSender v sent extended role front → HoldsFront v r.0 (heard_level front x) × IsPart v r.1 role front x)) }
+{
+    let (next, stuffing) = hear(circuit, alloc, heard, seen)?;
+    let ends = ends(circuit, alloc, &next)?;
+    let arbitrates = arbitrates(circuit, alloc, &heard.count, extended)?;
+    let part = Part {
+        due: stuffing.due,
+        repeats: stuffing.repeats,
+        arbitrates,
+        sent,
+        ends,
+    };
+    Ok((next, part))
 }
 
 /// Whether the stuffed part ends behind a front: it has its whole check sequence, and no stuff bit is due.
