@@ -13,6 +13,10 @@ pub mod Growth
 pub mod Bounds
 pub mod Carried
 pub mod Places
+-- and which frame is as late, and why
+pub mod LatestFrames
+-- the definitions on numbers worked out by hand
+pub mod Rows
 -- the bus: its levels, its logs, and hits that its ports bear
 pub mod Lines
 pub mod Logs

@@ -7,5 +7,6 @@ pub mod Borne
 -- which numbers the analysis gives
 pub mod Analysis
 pub mod Carried
+pub mod Latest
 -- For private calls alone
 pub mod Steps

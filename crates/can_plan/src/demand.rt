@@ -12,18 +12,19 @@ const LEFT_BEHIND_HIT: u64 = 5;
 const HIT_COST: u64 = 13;
 
 /// How many frames of a message are offered at most in a stretch of so many bit times.
-pub(crate) fn arrivals(message: &Message, long: u64) -> u64
+pub fn arrivals(message: &Message, long: u64) -> u64
     requires periodic { 0 < message.now.period }
     requires short { long ≤ 2 ^ 32 }
     ensures value { result ≡ arrivals_of message.now long }
     ensures range { result < 2 ^ 34 }
+    ensures whole { result * message.now.period ≤ 2 ^ 34 }
 {
     let period = u64::from(message.period);
     (long + u64::from(message.jitter) + period - 1) / period
 }
 
 /// How long the frames of a message that are offered in such a stretch keep the bus.
-pub(crate) fn own_load(message: &Message, long: u64) -> u64
+pub fn own_load(message: &Message, long: u64) -> u64
     requires periodic { 0 < message.now.period }
     requires short { long ≤ 2 ^ 32 }
     ensures value { result ≡ arrivals_of message.now long * message.now.longest }
@@ -85,14 +86,25 @@ fn most_hits(rate: &HitRate, long: u64) -> u64
     }
 }
 
-/// What the hits cost that fall in such a stretch.
-fn hits_cost(rate: &HitRate, widest: u16, long: u64) -> u64
+/// How many hits there are at most in attempts that begin within so many bit times.
+pub(crate) fn hits(rate: &HitRate, widest: u16, long: u64) -> u64
+    requires short { long ≤ 2 ^ 32 }
+    ensures value { result ≡ most_hits_of rate.now (long + widest - 5) }
+    ensures range { result ≤ 2 ^ 34 }
+{
+    most_hits(
+        rate,
+        (long + u64::from(widest)).saturating_sub(LEFT_BEHIND_HIT),
+    )
+}
+
+/// What they cost.
+pub(crate) fn hits_cost(rate: &HitRate, widest: u16, long: u64) -> u64
     requires short { long ≤ 2 ^ 32 }
     ensures value { result ≡ hits_cost_of (most_hits_of rate.now) widest long }
     ensures range { result < 2 ^ 52 }
 {
-    let widest = u64::from(widest);
-    most_hits(rate, (long + widest).saturating_sub(LEFT_BEHIND_HIT)) * (widest + HIT_COST)
+    hits(rate, widest, long) * (u64::from(widest) + HIT_COST)
 }
 
 /// What keeps the bus in attempts that begin within so many bit times: some time, these messages, and hits; none

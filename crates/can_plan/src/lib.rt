@@ -8,8 +8,9 @@
 //! |---|---|---|
 //! | `message.rt` | [`Message`] and [`HitRate`] | `specs/Messages.antt` |
 //! | `longest.rt` | [`longest_busy`], how long a frame keeps the bus | `specs/FramesOf.antt` |
-//! | `demand.rt` | what keeps the bus in a stretch of bit times; [`blocking`] by the messages behind one | `specs/Analysis.antt` |
+//! | `demand.rt` | what keeps the bus in a stretch of bit times: [`arrivals`] of a message; [`blocking`] by the messages behind one | `specs/Analysis.antt` |
 //! | `response.rt` | [`response_bound`], the least bound that the analysis gives; [`response_after`], one message after another | `specs/Analysis.antt`, `specs/Ends.antt`, `specs/Carried.antt` |
+//! | `parts.rt` | [`latest_frame`], which frame is as late as a bound says, and why: [`Latest`], of `latest.rt` | `specs/Latest.antt` |
 //! | `borne.rt` | [`borne_for`], for how long a rate of hits is borne wherever they fall | `specs/Borne.antt` |
 //! | `laws.rt` | what a bound says of the levels and logs of a bus; that fifteen hits are borne | `specs/OnBus.antt`, `specs/Borne.antt` |
 //!
@@ -20,14 +21,18 @@
 
 mod borne;
 mod demand;
+mod latest;
 mod laws;
 mod longest;
 mod message;
+mod parts;
 mod response;
 
 pub use borne::{Borne, borne_for};
-pub use demand::blocking;
+pub use demand::{arrivals, blocking, own_load};
+pub use latest::Latest;
 pub use laws::{few_hits_are_borne, frames_end_in_time_on_the_bus};
 pub use longest::longest_busy;
 pub use message::{HitRate, Message};
+pub use parts::latest_frame;
 pub use response::{Response, response_after, response_bound};

@@ -5,6 +5,7 @@ ghost use Rattle.can_plan.specs.declared.message.Message.{Message as Sent};
 ghost use Rattle.can_plan.specs.Analysis.{IsBound, IsLeast, IsLeastBound, Ranking, arrivals as arrivals_of, blocking as blocking_of, busied, demand as demand_of, ranking_at, widest as widest_of};
 ghost use Rattle.can_plan.specs.Carried.{IsBusyBefore};
 ghost use Rattle.can_plan.specs.Ends.{EndAlways};
+ghost use Rattle.can_plan.specs.Latest.{end_of};
 ghost use Rattle.can_plan.specs.Messages.{ArePeriodic, IsMessageSet, most_hits as most_hits_of};
 ghost use Rattle.can_plan.specs.Steps.{AllEnd, IsBusy, IsEnough};
 
@@ -14,7 +15,7 @@ use crate::message::{HitRate, Message};
 
 /// The least delay that is enough for what keeps the bus meanwhile; none where it is above the limit. None that is less
 /// than `from` is enough.
-fn delay(
+pub(crate) fn delay(
     from: u64,
     time: u64,
     widest: u16,
@@ -80,10 +81,10 @@ fn busy(
 }
 
 /// How long behind its release the wire of the frame of number q, counted from 0, ends, where this is its delay.
-fn end(q: u64, delay: u64, message: &Message) -> u64
+pub(crate) fn end(q: u64, delay: u64, message: &Message) -> u64
     requires short { delay < 2 ^ 32 }
     requires small { q * message.now.period ≤ 2 ^ 34 }
-    ensures { result ≡ message.now.jitter + delay + message.now.longest - (3 + q * message.now.period) }
+    ensures { result ≡ end_of message.now q delay }
 {
     let longest = u64::from(message.longest);
     let until = u64::from(message.jitter) + delay + longest;
@@ -207,7 +208,7 @@ fn first_delay(before: u64, blocking: u16, longest: u16) -> u64
 }
 
 /// Whether each message has a period.
-fn are_periodic(messages: &[Message]) -> bool
+pub(crate) fn are_periodic(messages: &[Message]) -> bool
     ensures { result ≡ list_all (λ m. nat_lt 0 m.period) messages.now }
 {
     messages.iter().all(|message| message.period > 0)

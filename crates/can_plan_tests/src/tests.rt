@@ -1,7 +1,8 @@
 use can_frame::Frame;
 use can_longest::LongestWires;
 use can_plan::{
-    Borne, HitRate, Message, Response, borne_for, longest_busy, response_after, response_bound,
+    Borne, HitRate, Latest, Message, Response, borne_for, latest_frame, longest_busy,
+    response_after, response_bound,
 };
 use std::process::Abort;
 use std::test::Fail;
@@ -121,6 +122,67 @@ fn bounds_are_so_one_after_another(rt: HostRuntime) -> Result<(), Fail> {
     let rows = BOUNDS;
     for (row, number) in rows.iter().zip(0..) {
         assert!(rt; carries_bounds(row), "row {number}");
+    }
+    Ok(())
+}
+
+/// Three messages; how many hits there are; the bound of the third, and of its latest frame the number, the delay, how long
+/// its own frames before it take, how long behind the first it is released, and what hits cost.
+type LatestRow = (Set, (u16, u32), u64, [u64; 5]);
+
+/// Worked out by hand, by the formulas of docs/PLANNING.md.
+const LATEST: [LatestRow; 3] = [
+    // 122 of its own, and 3 of 122 and 2 of 121 before it
+    (
+        [(122, 303, 0), (121, 427, 0), (122, 427, 0)],
+        (0, 0),
+        422,
+        [1, 730, 122, 427, 0],
+    ),
+    // the second starts 4000 behind the first, as it is released, so both end as late: the first is told
+    (
+        [(1000, 2500, 0), (1000, 3500, 0), (1000, 4000, 0)],
+        (0, 0),
+        2997,
+        [0, 2000, 0, 0, 0],
+    ),
+    // one hit costs 122 + 13
+    (
+        [(122, 3030, 0), (121, 4270, 0), (122, 4270, 0)],
+        (1, 10_000),
+        497,
+        [0, 378, 0, 0, 135],
+    ),
+];
+
+/// Whether the third message of a row has the latest frame that it says.
+fn has_latest(row: &LatestRow) -> bool {
+    let (set, (burst, spacing), bound, told) = *row;
+    let Some(messages) = messages_of(set) else {
+        return false;
+    };
+    match latest_frame(bound, &messages, 2, &HitRate { burst, spacing }, LIMIT) {
+        Some(latest) => numbers_of(&latest) == told && latest.end == bound,
+        None => false,
+    }
+}
+
+/// The numbers of a row.
+fn numbers_of(latest: &Latest) -> [u64; 5] {
+    [
+        latest.number,
+        u64::from(latest.delay),
+        latest.earlier,
+        latest.later,
+        latest.hits_cost,
+    ]
+}
+
+#[test]
+fn latest_frames_are_as_worked_out(rt: HostRuntime) -> Result<(), Fail> {
+    let rows = LATEST;
+    for (row, number) in rows.iter().zip(0..) {
+        assert!(rt; has_latest(row), "row {number}");
     }
     Ok(())
 }

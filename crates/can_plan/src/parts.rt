@@ -1,0 +1,103 @@
+//! What makes a bound.
+ghost use Rattle.std.specs.Prelude.{◌≡◌, ◌*◌, ◌+◌, ◌^◌, ◌<◌, ◌≤◌, ℕ, IfSome, MatchOption, Some, slice_get};
+ghost use Rattle.can_plan.specs.declared.message.Message.{Message as Sent};
+ghost use Rattle.can_plan.specs.Analysis.{IsLeast, IsLeastBound, Ranking, ranking_at};
+ghost use Rattle.can_plan.specs.Latest.{IsLatest, end_of, sum_of_parts};
+ghost use Rattle.can_plan.specs.Messages.{ArePeriodic, most_hits as most_hits_of};
+ghost use Rattle.can_plan.specs.Steps.{EndsElse, IsEnough, NoneEnds};
+
+use crate::demand::{arrivals, blocking, hits, hits_cost, widest};
+use crate::latest::Latest;
+use crate::message::{HitRate, Message};
+use crate::response::{are_periodic, delay, end};
+
+/// The first frame of a busy period that ends as late as the bound says, and its delay.
+fn first_to_end(
+    bound: u64,
+    blocking: u16,
+    widest: u16,
+    message: &Message,
+    higher: &[Message],
+    rate: &HitRate,
+    limit: u32,
+) -> Option<(u64, u32)>
+    requires first { 0 < message.now.period }
+    requires periodic { ArePeriodic higher.now }
+    ensures first_found { MatchOption result (NoneEnds (most_hits_of rate.now) blocking widest message.now higher.now limit bound)
+        (λ f. IsLeast (IsEnough (most_hits_of rate.now) blocking widest message.now higher.now f.0) f.1 × (end_of message.now f.0 f.1 ≡ bound)
+        × ((k : ℕ) → k < f.0 → EndsElse (most_hits_of rate.now) blocking widest message.now higher.now limit bound k)) }
+    ensures small { IfSome result (λ f. (f.0 < 2 ^ 34) × (f.0 * message.now.period ≤ 2 ^ 34)) }
+{
+    let longest = u64::from(message.longest);
+    let mut from = 0;
+    for number in 0..arrivals(message, u64::from(limit)) {
+        let before = u64::from(blocking) + number * longest;
+        let delay = delay(from, before, widest, higher, rate, limit)?;
+        if end(number, u64::from(delay), message) == bound {
+            return Some((number, delay));
+        }
+        from = u64::from(delay) + longest;
+    }
+    None
+}
+
+/// The latest frame of this message, by the messages that go before it and those that go behind it.
+fn ranked_latest(
+    bound: u64,
+    higher: &[Message],
+    message: &Message,
+    lower: &[Message],
+    rate: &HitRate,
+    limit: u32,
+) -> Option<Latest>
+    requires first { 0 < message.now.period }
+    requires periodic { ArePeriodic higher.now }
+    ensures { let ranking : Ranking = record { higher = higher.now; message = message.now; lower = lower.now } in
+        MatchOption result (¬ IsLeastBound (most_hits_of rate.now) limit ranking bound) (λ latest. IsLatest (most_hits_of rate.now) ranking bound latest) }
+{
+    let blocking = blocking(lower);
+    let widest = widest(message.longest, higher);
+    let (number, delay) = first_to_end(bound, blocking, widest, message, higher, rate, limit)?;
+    let long = u64::from(delay) + 1;
+    Some(Latest {
+        number,
+        delay,
+        end: end(number, u64::from(delay), message),
+        earlier: number * u64::from(message.longest),
+        later: number * u64::from(message.period),
+        hits: hits(rate, widest, long),
+        hits_cost: hits_cost(rate, widest, long),
+    })
+}
+
+/// Which frame of the message at this place is as late as `bound` says, which is what [`crate::response_bound`] answers
+/// of it: of the frames in a busy period the first. The bound is the sum of its parts: the jitter, the blocking, `earlier`,
+/// what [`crate::own_load`] says of each message before it in arbitration for one bit time more than its delay,
+/// `hits_cost`, and its wire, which is `longest` less three bit times; less `later`. None where the bound is another one, where there is no such
+/// place, and where a period is 0.
+///
+/// Its work is in proportion to the messages and to the frames of this one up to the latest.
+pub fn latest_frame(
+    bound: u64,
+    messages: &[Message],
+    place: usize,
+    rate: &HitRate,
+    limit: u32,
+) -> Option<Latest>
+    ensures latest { (message : Sent) → slice_get messages.now place ≡ Some message → ArePeriodic messages.now → let ranking = ranking_at messages.now place message in
+        MatchOption result (¬ IsLeastBound (most_hits_of rate.now) limit ranking bound) (λ latest. IsLatest (most_hits_of rate.now) ranking bound latest) }
+    ensures parts { (message : Sent) → slice_get messages.now place ≡ Some message → ArePeriodic messages.now →
+        IfSome result (λ latest. bound ≡ sum_of_parts (ranking_at messages.now place message) latest) }
+{
+    if place >= messages.len() || !are_periodic(messages) {
+        return None;
+    }
+    ranked_latest(
+        bound,
+        &messages[..place],
+        &messages[place],
+        &messages[place + 1..],
+        rate,
+        limit,
+    )
+}
