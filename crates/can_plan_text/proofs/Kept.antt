@@ -42,7 +42,7 @@ Judged place v messages rate p =
     (λ b. IsLeastBound (most_hits rate) limit (ranking_at messages place p.message) b)
     × (IsMessageSet messages → is_late v ≡ false → EndAlways (most_hits rate) messages p.message p.deadline)
 
-last-cases : {A : Type 0} (xs : List A) (x y : A) (n : ℕ) → slice_get (xs ++ x ∷ []) n ≡ Some y → (slice_get xs n ≡ Some y) ⊎ ((n ≡ length xs) × (x ≡ y))
+pub last-cases : {A : Type 0} (xs : List A) (x y : A) (n : ℕ) → slice_get (xs ++ x ∷ []) n ≡ Some y → (slice_get xs n ≡ Some y) ⊎ ((n ≡ length xs) × (x ≡ y))
 last-cases [] x y zero is = inr (refl, cc)
 last-cases [] x y (suc n) is = absurd (cc)
 last-cases (z ∷ xs) x y zero is = inl is

@@ -4,6 +4,8 @@ pub mod InOrder
 pub mod OwnNames
 -- that a message within its deadline meets it; what analyses ask of messages
 pub mod Kept
+-- which frame of each is the latest
+pub mod LatestFrames
 -- the text of a head
 pub mod Heads
 -- the parts of a document, read one after another

@@ -4,5 +4,6 @@ pub mod Names
 pub mod Plans
 pub mod Answers
 pub mod Report
+pub mod Details
 -- For proofs only
 pub mod Order

@@ -4,7 +4,7 @@ use Rattle.std.specs.Prelude.{ℕ, ◌≡◌, ◌≢◌, ◌<◌, ◌≤◌, pos
 use Rattle.std.specs.List.Sorted.{IsPermutation}
 use Rattle.toml.specs.Data.{Data, string, integer}
 use Rattle.can_frame.specs.Arbitration.{arbitration_field}
-use Rattle.can_frame.specs.Parts.{Parts, IsFrame, byte_count}
+use Rattle.can_frame.specs.Parts.{Parts, IsFrame}
 use Rattle.can_frame.specs.Text.{frame_text}
 use Rattle.can_plan.specs.declared.message.HitRate.{HitRate}
 use Rattle.can_plan.specs.declared.message.Message.{Message}

@@ -10,7 +10,7 @@ use can_plan::{Borne, HitRate, Message, blocking, borne_for, response_after};
 use std::alloc::{AllocError, Global};
 
 /// Up to which number of bit times a bound is looked for.
-const LIMIT: u32 = 10_000_000;
+pub(crate) const LIMIT: u32 = 10_000_000;
 
 /// What the analysis answers of a network.
 pub fn analysed(alloc: Global, plan: &Plan) -> Result<Analysis, AllocError>
@@ -35,7 +35,7 @@ fn borne(errors: Option<HitRate>) -> Option<Borne>
 }
 
 /// What the analysis has to know of these messages.
-fn messages_of(alloc: Global, planned: &[Planned]) -> Result<Vec<Message>, AllocError>
+pub(crate) fn messages_of(alloc: Global, planned: &[Planned]) -> Result<Vec<Message>, AllocError>
     ensures { IfOk result (λ messages. messages.items ≡ messages_in planned.now) }
 {
     let mut messages = Vec::new(alloc);

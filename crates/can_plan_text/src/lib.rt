@@ -8,12 +8,14 @@
 //! | `messages.rt` | its messages, one after another | `specs/Plans.antt` |
 //! | `name.rt` | [`Name`], the name of a message | `specs/Names.antt` |
 //! | `names.rt` | names in documents, of which no two are one | `specs/Names.antt` |
-//! | `times.rt` | microseconds as whole bit times | `specs/Times.antt` |
+//! | `times.rt` | microseconds as whole bit times, and back | `specs/Times.antt` |
 //! | `order.rt` | messages in the order of arbitration | `specs/Plans.antt` |
 //! | `verdict.rt` | [`Analysis`], what is answered of a network, a [`Verdict`] for each message | `specs/Answers.antt` |
 //! | `analysis.rt` | [`analysed`], which answers it by can_plan | `specs/Answers.antt` |
-//! | `answer.rt` | [`answered`], a document in, the answer to it out | `specs/Report.antt` |
+//! | `latest.rt` | which frame of each message is the latest, and makes its bound: a `Detail`, of `detail.rt` | `specs/Details.antt` |
+//! | `answer.rt` | [`answered`] and [`answered_in`], a document in, the answer to it out | `specs/Report.antt`, `specs/Details.antt` |
 //! | `report.rt` | [`push_report`], the answer as text | `specs/Report.antt` |
+//! | `details.rt` | the answer with details, as text | `specs/Details.antt` |
 //! | `laws.rt` | [`one_plan_field`]: of bytes at most one field is told | `specs/Plans.antt` |
 //! | `fault.rt` | [`PlanFault`], why a document is not read | |
 //! | `field.rt` | [`PlanField`], what is wrong in one | |
@@ -21,9 +23,12 @@
 
 mod analysis;
 mod answer;
+mod detail;
+mod details;
 mod document;
 mod fault;
 mod field;
+mod latest;
 mod laws;
 mod messages;
 mod name;
@@ -35,7 +40,7 @@ mod times;
 mod verdict;
 
 pub use analysis::analysed;
-pub use answer::{Answer, answered};
+pub use answer::{Answer, Form, answered, answered_in};
 pub use fault::PlanFault;
 pub use field::{MessageField, PlanField};
 pub use laws::one_plan_field;

@@ -29,7 +29,11 @@ pub fn push_report(out: &mut Vec<u8>, rate: u32, analysis: &Analysis) -> Result<
 
 /// Appends the line of the whole: how many messages there are, their load, and the rate.
 #[tactic(auto, unfolding(crate::specs::Report::first_line))]
-fn push_first(out: &mut Vec<u8>, rate: u64, analysis: &Analysis) -> Result<(), AllocError>
+pub(crate) fn push_first(
+    out: &mut Vec<u8>,
+    rate: u64,
+    analysis: &Analysis,
+) -> Result<(), AllocError>
     ensures { OnOk result (out.new.items ≡ out.old.items ++ first_line rate analysis.now.verdicts.items) }
 {
     push_named(out, b"network messages ", analysis.verdicts.len() as u64)?;
@@ -49,7 +53,7 @@ fn push_messages(out: &mut Vec<u8>, verdicts: &[Verdict]) -> Result<(), AllocErr
 
 /// Appends a message's line.
 #[tactic(auto, unfolding(crate::specs::Report::message_line))]
-fn push_message(out: &mut Vec<u8>, verdict: &Verdict) -> Result<(), AllocError>
+pub(crate) fn push_message(out: &mut Vec<u8>, verdict: &Verdict) -> Result<(), AllocError>
     ensures { OnOk result (out.new.items ≡ out.old.items ++ message_line verdict.now) }
 {
     push_head(out, &verdict.planned)?;
@@ -64,7 +68,7 @@ fn push_message(out: &mut Vec<u8>, verdict: &Verdict) -> Result<(), AllocError>
 }
 
 /// Appends what a message's frames have in common: a frame's text up to its DLC.
-fn push_head(out: &mut Vec<u8>, planned: &Planned) -> Result<(), AllocError>
+pub(crate) fn push_head(out: &mut Vec<u8>, planned: &Planned) -> Result<(), AllocError>
     ensures { OnOk result (out.new.items ≡ out.old.items ++ head_text planned.now) }
 {
     let text = planned.head.to_text();
@@ -104,7 +108,7 @@ fn push_outcome(out: &mut Vec<u8>, deadline: u64, bound: Option<u64>) -> Result<
 }
 
 /// Appends by how much a bound is within the deadline.
-fn push_slack(out: &mut Vec<u8>, slack: u64) -> Result<(), AllocError>
+pub(crate) fn push_slack(out: &mut Vec<u8>, slack: u64) -> Result<(), AllocError>
     ensures { OnOk result (out.new.items ≡ out.old.items ++ slack_text slack) }
 {
     push_named(out, b" slack ", slack)?;
@@ -112,7 +116,7 @@ fn push_slack(out: &mut Vec<u8>, slack: u64) -> Result<(), AllocError>
 }
 
 /// Appends the name of a message, if it has one, and the end of its line.
-fn push_end(out: &mut Vec<u8>, planned: &Planned) -> Result<(), AllocError>
+pub(crate) fn push_end(out: &mut Vec<u8>, planned: &Planned) -> Result<(), AllocError>
     ensures { OnOk result (out.new.items ≡ out.old.items ++ end_text planned.now.name) }
 {
     match &planned.name {
@@ -132,7 +136,7 @@ fn push_quoted(out: &mut Vec<u8>, name: &[u8]) -> Result<(), AllocError>
 
 /// Appends the line that counts the messages that may be late.
 #[tactic(auto, unfolding(crate::specs::Report::last_line))]
-fn push_last(out: &mut Vec<u8>, analysis: &Analysis) -> Result<(), AllocError>
+pub(crate) fn push_last(out: &mut Vec<u8>, analysis: &Analysis) -> Result<(), AllocError>
     ensures { OnOk result (out.new.items ≡ out.old.items ++ last_line analysis.now.verdicts.items) }
 {
     push_load(out, b"load ", analysis)?;
@@ -141,7 +145,7 @@ fn push_last(out: &mut Vec<u8>, analysis: &Analysis) -> Result<(), AllocError>
 }
 
 /// Appends the line that tells for how long hits are borne.
-fn push_borne(out: &mut Vec<u8>, borne: Option<Borne>) -> Result<(), AllocError>
+pub(crate) fn push_borne(out: &mut Vec<u8>, borne: Option<Borne>) -> Result<(), AllocError>
     ensures { OnOk result (out.new.items ≡ out.old.items ++ borne_line borne) }
 {
     match borne {
@@ -182,7 +186,7 @@ fn share(verdict: &Verdict) -> u64
 }
 
 /// Appends a word, and a number in decimal behind it.
-fn push_named(out: &mut Vec<u8>, word: &[u8], number: u64) -> Result<(), AllocError>
+pub(crate) fn push_named(out: &mut Vec<u8>, word: &[u8], number: u64) -> Result<(), AllocError>
     ensures { OnOk result (out.new.items ≡ out.old.items ++ (word.now ++ decimal number)) }
 {
     push_text(out, word)?;
@@ -190,7 +194,7 @@ fn push_named(out: &mut Vec<u8>, word: &[u8], number: u64) -> Result<(), AllocEr
 }
 
 /// Appends a word, a number in decimal behind it, and the end of the line.
-fn push_ended(out: &mut Vec<u8>, word: &[u8], number: u64) -> Result<(), AllocError>
+pub(crate) fn push_ended(out: &mut Vec<u8>, word: &[u8], number: u64) -> Result<(), AllocError>
     ensures { OnOk result (out.new.items ≡ out.old.items ++ (word.now ++ (decimal number ++ codes "\n"))) }
 {
     push_named(out, word, number)?;

@@ -1,8 +1,8 @@
-use Rattle.std.proofs.Common.{◌≡◌, ℕ, true, false, List, length, take, refl, subst, arith, rules}
+use Rattle.std.proofs.Common.{◌≡◌, true, false, length, take, refl, rules}
 use Rattle.std.specs.List.{list_any}
 use Rattle.std.proofs.lemmas.Option.{slice_get_read}
 use Rattle.can_plan_text.specs.declared.plan.Planned.{Planned}
-use Rattle.can_plan_text.specs.Order.{HaveOwnNames, is_one_name}
+use Rattle.can_plan_text.specs.Order.{is_one_name}
 use Rattle.can_plan_text.proofs.OwnNames.{named-again, own-names-more}
 use Rattle.can_plan_text.proofs.names.refuse_same_names.Goals as goal
 

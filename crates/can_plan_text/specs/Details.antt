@@ -1,0 +1,115 @@
+-- What makes the bounds of a network, and the answer that tells it. (docs/PLANNING.md, "What makes a bound")
+use Rattle.std.specs.Prelude.{ℕ, ◌≡◌, ◌+◌, ◌-◌, ◌*◌, ◌==◌, nat_lt, if◌then◌else◌, List, [], ◌++◌, length, take, slice_get, codes, decimal, Option, Some, None}
+use Rattle.std.specs.List.{flat_map}
+use Rattle.can_plan.specs.declared.latest.Latest.{Latest}
+use Rattle.can_plan.specs.Analysis.{Ranking, arrivals, ranking_at}
+use Rattle.can_plan.specs.Latest.{IsLatest, sum_of_parts}
+use Rattle.can_plan_text.specs.declared.answer.Form.{Form}
+use Rattle.can_plan_text.specs.declared.answer.Form.TheVariants.{Brief, Detailed}
+use Rattle.can_plan_text.specs.declared.detail.Detail.{Detail}
+use Rattle.can_plan_text.specs.declared.plan.Plan.{Plan}
+use Rattle.can_plan_text.specs.declared.plan.Planned.{Planned}
+use Rattle.can_plan_text.specs.declared.verdict.Analysis.{Analysis}
+use Rattle.can_plan_text.specs.declared.verdict.Verdict.{Verdict}
+use Rattle.can_plan_text.specs.Answers.{IsAnalysis, Keeps, late_in, most_of}
+use Rattle.can_plan_text.specs.Plans.{IsPlanText, messages_of}
+use Rattle.can_plan_text.specs.Report.{IsAnswer, borne_line, end_text, first_line, head_text, last_line, message_line, slack_text}
+use Rattle.can_plan_text.specs.Times.{time_down, time_up}
+
+-- ---- which frame is the latest
+
+-- the latest frame of the message at a place, where it has this bound: its parts make the bound
+abbrev pub IsLatestOf : Plan → ℕ → Verdict → Option ℕ → Option Latest → Type 0
+IsLatestOf plan place v None latest = latest ≡ None
+IsLatestOf plan place v (Some bound) latest =
+    let ranking : Ranking = ranking_at (messages_of plan.messages.items) place v.planned.message in
+    (l : Latest) × (latest ≡ Some l) × IsLatest (most_of plan) ranking bound l × (bound ≡ sum_of_parts ranking l)
+
+-- what is told of the message at a place
+pub record IsDetail (plan : Plan) (at : ℕ) (v : Verdict) (d : Detail) : Type 0 where
+  pub verdict : d.verdict ≡ v
+  pub place : d.place ≡ at
+  pub latest : IsLatestOf plan at v v.bound d.latest
+
+-- one for each verdict
+abbrev pub AreDetails : Plan → List Verdict → List Detail → Type 0
+AreDetails plan verdicts details = (length details ≡ length verdicts)
+    × ((n : ℕ) (v : Verdict) (d : Detail) → slice_get verdicts n ≡ Some v → slice_get details n ≡ Some d → IsDetail plan n v d)
+
+-- ---- lines
+
+-- `  jitter 12`
+abbrev pub number_line : List ℕ → ℕ → List ℕ
+number_line word n = word ++ (decimal n ++ codes "\n")
+
+-- `  hits 2 bits 270`
+abbrev pub bits_line : List ℕ → ℕ → ℕ → List ℕ
+bits_line word n bits = word ++ (decimal n ++ number_line (codes " bits ") bits)
+
+-- ` slack 40 ok`, in microseconds rounded down, or ` late`
+abbrev pub time_outcome : ℕ → ℕ → ℕ → List ℕ
+time_outcome rate deadline bound = if nat_lt deadline bound then codes " late" else slack_text (time_down rate (deadline - bound))
+
+-- `  microseconds bound 3376 deadline 3416 slack 40 ok`: the bound rounded up, the deadline down
+unfoldable pub time_line : ℕ → ℕ → ℕ → List ℕ
+time_line rate deadline bound =
+    codes "  microseconds bound " ++ (decimal (time_up rate bound) ++ (codes " deadline " ++ (decimal (time_down rate deadline) ++
+    (time_outcome rate deadline bound ++ codes "\n"))))
+
+-- where there is a rate
+abbrev pub time_lines : ℕ → ℕ → ℕ → List ℕ
+time_lines rate deadline bound = if rate == 0 then [] else time_line rate deadline bound
+
+-- `  before frames 3 bits 366 of S 100 D 7`, and its name: how many frames of a message go before one of this delay
+unfoldable pub before_line : ℕ → Planned → List ℕ
+before_line delay p =
+    codes "  before frames " ++ (decimal (arrivals p.message (delay + 1)) ++ (codes " bits " ++ (decimal (arrivals p.message (delay + 1) * p.message.longest) ++
+    (codes " of " ++ (head_text p ++ end_text p.name)))))
+
+-- `  latest frame 1 start 730`
+abbrev pub latest_line : Latest → List ℕ
+latest_line l = codes "  latest frame " ++ (decimal l.number ++ number_line (codes " start ") l.delay)
+
+-- jitter, blocking, and its own frames before it
+unfoldable pub own_lines : Verdict → Latest → List ℕ
+own_lines v l = number_line (codes "  jitter ") v.planned.message.jitter ++ (number_line (codes "  blocking ") v.blocking ++ bits_line (codes "  earlier frames ") l.number l.earlier)
+
+-- hits, its wire, and the periods
+unfoldable pub last_lines : Verdict → Latest → List ℕ
+last_lines v l = bits_line (codes "  hits ") l.hits l.hits_cost ++ (number_line (codes "  wire ") (v.planned.message.longest - 3) ++ bits_line (codes "  less periods ") l.number l.later)
+
+-- the parts of a bound
+abbrev pub part_lines : List Planned → Verdict → Latest → List ℕ
+part_lines higher v l = latest_line l ++ (own_lines v l ++ (flat_map (before_line l.delay) higher ++ last_lines v l))
+
+-- those of the latest frame, where there is a bound
+abbrev pub latest_lines : ℕ → List Planned → Verdict → Option Latest → List ℕ
+latest_lines rate higher v None = []
+latest_lines rate higher v (Some l) = time_lines rate v.planned.deadline l.end ++ part_lines higher v l
+
+-- a message's line, and below it what makes its bound
+abbrev pub detail_lines : Plan → Detail → List ℕ
+detail_lines plan d = message_line d.verdict ++ latest_lines plan.rate (take d.place plan.messages.items) d.verdict d.latest
+
+-- the whole answer
+abbrev pub details_text : Plan → Analysis → List Detail → List ℕ
+details_text plan analysis details =
+    first_line plan.rate analysis.verdicts.items ++ (flat_map (detail_lines plan) details ++
+    (last_line analysis.verdicts.items ++ borne_line analysis.borne))
+
+-- The answer to a document with details: as the answer without, with what makes each bound below its message's line.
+pub record IsDetailedAnswer (input output : List ℕ) (late : ℕ) : Type 0 where
+  pub plan : Plan
+  pub said : IsPlanText input plan
+  pub analysis : Analysis
+  pub answered : IsAnalysis plan analysis
+  pub details : List Detail
+  pub detailed : AreDetails plan analysis.verdicts.items details
+  pub written : output ≡ details_text plan analysis details
+  pub counted : late ≡ late_in analysis.verdicts.items
+  pub kept : (place : ℕ) (v : Verdict) → slice_get analysis.verdicts.items place ≡ Some v → Keeps plan v
+
+-- the answer in a form
+abbrev pub IsAnswerIn : Form → List ℕ → List ℕ → ℕ → Type 0
+IsAnswerIn Brief = IsAnswer
+IsAnswerIn Detailed = IsDetailedAnswer
