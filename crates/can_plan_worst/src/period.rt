@@ -1,32 +1,13 @@
 //! For how long the bus is busy with the frames of a worst case.
 ghost use Rattle.std.specs.Prelude.{◌≡◌, ◌+◌, ◌*◌, ◌^◌, ◌<◌, ◌≤◌, ℕ, MatchOption};
-ghost use Rattle.can_plan.specs.Analysis.{IsLeast, arrivals as arrivals_of};
+ghost use Rattle.can_plan.specs.Analysis.{IsLeast};
 ghost use Rattle.can_plan_worst.specs.Worst.{IsBusyPeriod, load_of, most_long};
 
+use can_plan::own_load;
 use can_plan_text::Planned;
 
 /// For how many bit times a worst case may keep the bus busy, at most: a scenario has one more.
 const MOST_LONG: u64 = 999_999;
-
-/// How many frames of a message arrive within so many bit times at most.
-pub(crate) fn arrivals(planned: &Planned, long: u64) -> u64
-    requires { long ≤ 2 ^ 32 }
-    ensures value { result ≡ arrivals_of planned.now.message long }
-    ensures range { result < 2 ^ 34 }
-    ensures whole { result * planned.now.message.period ≤ 2 ^ 34 }
-{
-    let period = u64::from(planned.message.period);
-    (long + u64::from(planned.message.jitter) + period - 1) / period
-}
-
-/// How long they keep the bus.
-fn own_load(planned: &Planned, long: u64) -> u64
-    requires { long ≤ 2 ^ 32 }
-    ensures value { result ≡ arrivals_of planned.now.message long * planned.now.message.longest }
-    ensures range { result < 2 ^ 50 }
-{
-    arrivals(planned, long) * u64::from(planned.message.longest)
-}
 
 /// How long the frames of these messages keep the bus; none where it is longer than a scenario.
 fn load(level: &[Planned], long: u64) -> Option<u64>
@@ -35,7 +16,7 @@ fn load(level: &[Planned], long: u64) -> Option<u64>
 {
     let mut total = 0;
     for planned in level {
-        total += own_load(planned, long);
+        total += own_load(&planned.message, long);
         if total > MOST_LONG {
             return None;
         }

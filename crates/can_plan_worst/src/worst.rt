@@ -7,8 +7,9 @@ ghost use Rattle.can_plan_worst.specs.declared.case.Sequence.{Sequence as Offere
 use crate::case::{Sequence, WorstCase};
 use crate::fault::WorstFault;
 use crate::frames::{blocker_of, longest_frame};
-use crate::period::{arrivals, busy_period};
+use crate::period::busy_period;
 use can_longest::LongestWires;
+use can_plan::arrivals;
 use can_plan_text::Planned;
 use std::alloc::{AllocError, Global};
 
@@ -131,7 +132,7 @@ fn offer_times(alloc: Global, planned: &Planned, long: u64) -> Result<Vec<u64>, 
     ensures { IfOk result (λ times. times.items ≡ offer_times_of long planned.now.message) }
 {
     let mut times = Vec::new(alloc);
-    for number in 0..arrivals(planned, long) {
+    for number in 0..arrivals(&planned.message, long) {
         times.push(offer_time(planned, number))?;
     }
     Ok(times)
