@@ -1,8 +1,9 @@
 -- What a run of `canplan` has written for what it read, for each outcome. (docs/PLANNING.md, "`canplan`")
 use Rattle.std.specs.Prelude.{ℕ, ◌≡◌, ◌⊎◌, ◌<◌, List, [], ◌++◌, Result, Ok, Err}
+use Rattle.can_plan_text.specs.declared.answer.Form.{Form}
 use Rattle.can_plan_text.specs.declared.field.PlanField.{PlanField}
 use Rattle.can_plan_text.specs.Plans.{IsWrongPlanField}
-use Rattle.can_plan_text.specs.Report.{IsAnswer}
+use Rattle.can_plan_text.specs.Details.{IsAnswerIn}
 use Rattle.can_plan_worst.specs.Timelines.{IsTimeline, IsUnending, IsUnknown}
 use Rattle.can_stream.specs.declared.fault.TraceFault.TheVariants.{Read, Write, Memory}
 use Rattle.canplan_commands.specs.declared.fault.CanplanFault.{CanplanFault}
@@ -20,33 +21,33 @@ Refuses wrong input output = IsWrongPlanField wrong input × WritesNothing input
 abbrev pub IsFieldOrMemory : CanplanFault → Type 0
 IsFieldOrMemory fault = ((wrong : PlanField) × (fault ≡ Field wrong)) ⊎ (fault ≡ Stream Memory)
 
--- the whole answer is written, by which so many messages may be late
-abbrev pub Answers : ℕ → List ℕ → List ℕ → Type 0
-Answers late input output = IsAnswer input output late
+-- the whole answer is written in a form, by which so many messages may be late
+abbrev pub Answers : Form → ℕ → List ℕ → List ℕ → Type 0
+Answers form late input output = IsAnswerIn form input output late
 
 -- some may be
-abbrev pub AnswersLate : List ℕ → List ℕ → Type 0
-AnswersLate input output = (late : ℕ) × (0 < late) × Answers late input output
+abbrev pub AnswersLate : Form → List ℕ → List ℕ → Type 0
+AnswersLate form input output = (late : ℕ) × (0 < late) × Answers form late input output
 
 -- a beginning of the answer is written
-pub record BeginsAnswer (input output : List ℕ) : Type 0 where
+pub record BeginsAnswer (form : Form) (input output : List ℕ) : Type 0 where
   pub answer : List ℕ
   pub late : ℕ
-  pub is : IsAnswer input answer late
+  pub is : IsAnswerIn form input answer late
   pub rest : List ℕ
   pub all : answer ≡ output ++ rest
 
 -- what is written where the run ends so
-abbrev pub Does : Result (Unit {0}) CanplanFault → List ℕ → List ℕ → Type 0
-Does (Ok done) = Answers 0
-Does (Err (Field wrong)) = Refuses wrong
-Does (Err MessageUnknown) = λ input output. ⊥
-Does (Err TimelineTooLong) = λ input output. ⊥
-Does (Err DeadlinesMissed) = AnswersLate
-Does (Err (Stream Read)) = WritesNothing
-Does (Err (Stream Write)) = BeginsAnswer
-Does (Err (Stream Memory)) = WritesNothing
-Does (Err (Stream _)) = λ input output. ⊥
+abbrev pub Does : Form → Result (Unit {0}) CanplanFault → List ℕ → List ℕ → Type 0
+Does form (Ok done) = Answers form 0
+Does form (Err (Field wrong)) = Refuses wrong
+Does form (Err MessageUnknown) = λ input output. ⊥
+Does form (Err TimelineTooLong) = λ input output. ⊥
+Does form (Err DeadlinesMissed) = AnswersLate form
+Does form (Err (Stream Read)) = WritesNothing
+Does form (Err (Stream Write)) = BeginsAnswer form
+Does form (Err (Stream Memory)) = WritesNothing
+Does form (Err (Stream _)) = λ input output. ⊥
 
 -- ---- the scenario of the worst case of a message
 

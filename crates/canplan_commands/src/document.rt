@@ -5,14 +5,15 @@ ghost use Rattle.can_plan_text.specs.declared.field.PlanField.{PlanField as Wron
 ghost use Rattle.canplan_commands.specs.Runs.{Answers, BeginsAnswer, IsFieldOrMemory, Refuses, WritesNothing};
 
 use crate::fault::CanplanFault;
-use can_plan_text::answered;
+use can_plan_text::{Form, answered_in};
 use can_stream::{Sink, Source, TraceFault, read_whole, write_all};
 use std::alloc::Global;
 
-/// Reads a network's document up to the reader's end, and writes the answer to it. It answers how many of its messages
-/// may be late. Nothing is written where the reader failed, the document is refused, or memory ran out.
+/// Reads a network's document up to the reader's end, and writes the answer to it in this form. It answers how many of
+/// its messages may be late. Nothing is written where the reader failed, the document is refused, or memory ran out.
 pub fn answer_document<R: Source, W: Sink>(
     alloc: Global,
+    form: Form,
     r: &mut R,
     w: &mut W,
 ) -> Result<usize, CanplanFault>
@@ -21,11 +22,11 @@ pub fn answer_document<R: Source, W: Sink>(
     requires writer_unfailed { W.has_failed w.old ≡ false }
 
     // What was written of what was read.
-    ensures ok { IfOk result (λ late. Told R.remaining r.old r.new W.contents w.old w.new (Answers late)) }
+    ensures ok { IfOk result (λ late. Told R.remaining r.old r.new W.contents w.old w.new (Answers form late)) }
     ensures field { (wrong : Wrong) → IsErrOf result (CanplanFault.Field wrong) →
         Told R.remaining r.old r.new W.contents w.old w.new (Refuses wrong) }
     ensures read { IsErrOf result (CanplanFault.Stream TraceFault.Read) → Told R.remaining r.old r.new W.contents w.old w.new WritesNothing }
-    ensures write { IsErrOf result (CanplanFault.Stream TraceFault.Write) → Told R.remaining r.old r.new W.contents w.old w.new BeginsAnswer }
+    ensures write { IsErrOf result (CanplanFault.Stream TraceFault.Write) → Told R.remaining r.old r.new W.contents w.old w.new (BeginsAnswer form) }
     ensures memory { IsErrOf result (CanplanFault.Stream TraceFault.Memory) → Told R.remaining r.old r.new W.contents w.old w.new WritesNothing }
     ensures other { IfErr result (λ fault. IsFieldOrMemory fault ⊎ (fault ≡ CanplanFault.Stream TraceFault.Read) ⊎ (fault ≡ CanplanFault.Stream TraceFault.Write)) }
 
@@ -34,7 +35,7 @@ pub fn answer_document<R: Source, W: Sink>(
     ensures write_failed { IsErrOf result (CanplanFault.Stream TraceFault.Write) ↔ IsTrue (W.has_failed w.new) }
 {
     let text = read_whole(alloc, r)?;
-    let answer = answered(alloc, text.as_slice())?;
+    let answer = answered_in(alloc, form, text.as_slice())?;
     write_all(w, answer.bytes.as_slice())?;
     Ok(answer.late)
 }

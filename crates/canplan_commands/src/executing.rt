@@ -12,6 +12,7 @@ use crate::fault::CanplanFault;
 use crate::help::{HELP, VERSION};
 use crate::words::{Asked, message_of, read_words};
 use crate::worst::write_timeline;
+use can_plan_text::Form;
 use can_program::{WordsFault, conclude, refuse, write_help};
 use can_stream::{Sink, Source};
 use std::alloc::Global;
@@ -20,8 +21,8 @@ use std::alloc::Global;
 pub const NAME: &str = "canplan";
 
 /// Does what the words ask, and answers the exit status. The first of the words is the program's name. Where there is
-/// no other, it reads a network's document from `r` and writes the answer to `w`, and with `--timeline` and the name of a
-/// message the scenario of its worst case; the text of help and the version go to `w`, and the line of a fault to `e`.
+/// no other, it reads a network's document from `r` and writes the answer to `w`, with `--details` what makes each bound
+/// too, and with `--timeline` and the name of a message the scenario of its worst case; the text of help and the version go to `w`, and the line of a fault to `e`.
 ///
 /// | Status | Line | Why |
 /// |---|---|---|
@@ -48,7 +49,10 @@ pub fn execute<R: Source, W: Sink, E: Sink>(
     // What was written of what was read, by the outcome that the status tells.
     ensures told { asked_by (texts_of words.now) ≡ Option.Some Asked.Answer
         → (outcome : Result (Unit {0}) CanplanFault) × (result ≡ exit_status fault_status outcome)
-        × Told R.remaining r.old r.new W.contents w.old w.new (Does outcome) }
+        × Told R.remaining r.old r.new W.contents w.old w.new (Does Form.Brief outcome) }
+    ensures detailed { asked_by (texts_of words.now) ≡ Option.Some Asked.Details
+        → (outcome : Result (Unit {0}) CanplanFault) × (result ≡ exit_status fault_status outcome)
+        × Told R.remaining r.old r.new W.contents w.old w.new (Does Form.Detailed outcome) }
     ensures drawn { asked_by (texts_of words.now) ≡ Option.Some Asked.Timeline
         → (outcome : Result (Unit {0}) CanplanFault) × (result ≡ exit_status fault_status outcome)
         × Told R.remaining r.old r.new W.contents w.old w.new (DoesTimeline (message_in (texts_of words.now)) outcome) }
@@ -77,7 +81,8 @@ pub fn execute<R: Source, W: Sink, E: Sink>(
     ensures no_fault_line { result ≡ 0 → e.new ≡ e.old }
 {
     match read_words(words) {
-        Some(Asked::Answer) => conclude(NAME, answer(alloc, r, w), e),
+        Some(Asked::Answer) => conclude(NAME, answer(alloc, Form::Brief, r, w), e),
+        Some(Asked::Details) => conclude(NAME, answer(alloc, Form::Detailed, r, w), e),
         Some(Asked::Timeline) => conclude(NAME, draw(alloc, message_of(words), r, w), e),
         Some(Asked::Help) => conclude(NAME, write_help(HELP, w), e),
         Some(Asked::Version) => conclude(NAME, write_help(VERSION, w), e),
@@ -85,18 +90,23 @@ pub fn execute<R: Source, W: Sink, E: Sink>(
     }
 }
 
-/// Answers the document that the reader tells.
-fn answer<R: Source, W: Sink>(alloc: Global, r: &mut R, w: &mut W) -> Result<(), CanplanFault>
+/// Answers the document that the reader tells in this form.
+fn answer<R: Source, W: Sink>(
+    alloc: Global,
+    form: Form,
+    r: &mut R,
+    w: &mut W,
+) -> Result<(), CanplanFault>
     requires reader_unfailed { R.has_failed r.old ≡ false }
     requires reader_unended { R.has_ended r.old ≡ false }
     requires writer_unfailed { W.has_failed w.old ≡ false }
-    ensures told { Told R.remaining r.old r.new W.contents w.old w.new (Does result) }
+    ensures told { Told R.remaining r.old r.new W.contents w.old w.new (Does form result) }
     ensures stream_failed { exit_status fault_status result ≡ 3 → IsTrue (R.has_failed r.new) ⊎ IsTrue (W.has_failed w.new) }
     ensures write_told { IsTrue (W.has_failed w.new) → exit_status fault_status result ≡ 3 }
     ensures read_told { IsTrue (R.has_failed r.new) → exit_status fault_status result ≡ 3 }
     ensures no_misuse { exit_status fault_status result ≢ 2 }
 {
-    match answer_document(alloc, r, w)? {
+    match answer_document(alloc, form, r, w)? {
         0 => Ok(()),
         _ => Err(CanplanFault::DeadlinesMissed),
     }

@@ -5,6 +5,7 @@ pub const HELP: &str = "\
 How late the frames of a CAN network can be: proved response time analysis
 
 Usage: canplan [--help]
+       canplan --details
        canplan --timeline MESSAGE
        canplan --version
 
@@ -36,6 +37,19 @@ late stands for ok where the bound is above the deadline, or is none. A name
 ends its line, as name \"Speed\". With errors a last line tells for how long
 no port can become error passive:
   hits at most 15 within 149999
+
+With --details lines below each message tell which frame of a busy period is the
+latest, counted from 0, and the parts of its bound:
+  S 300 D 7 longest 122 blocking 0 bound 422 deadline 427 slack 5 ok
+    latest frame 1 start 730
+    jitter 0
+    blocking 0
+    earlier frames 1 bits 122
+    before frames 3 bits 366 of S 100 D 7
+    before frames 2 bits 242 of S 200 D 7
+    hits 0 bits 0
+    wire 119
+    less periods 1 bits 427
 
 With --timeline it writes a scenario for canbit run instead, in which MESSAGE,
 as 'S 300 D', comes as late as can be where nothing is hit: all before it are

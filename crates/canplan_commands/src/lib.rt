@@ -2,7 +2,7 @@
 //!
 //! | File | What it has | Defined in |
 //! |---|---|---|
-//! | `words.rt` | [`Asked`], what the words of a command line ask for: an answer, a scenario, the help text, or the version | `specs/Words.antt` |
+//! | `words.rt` | [`Asked`], what the words of a command line ask for: an answer, with details or without, a scenario, the help text, or the version | `specs/Words.antt` |
 //! | `help.rt` | [`HELP`], the help text; [`VERSION`] | |
 //! | `fault.rt` | [`CanplanFault`], why a run did not do all that it was asked | `specs/Status.antt` |
 //! | `document.rt` | a network's document in, the answer to it out | `specs/Runs.antt` |

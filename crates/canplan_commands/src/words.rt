@@ -7,6 +7,8 @@ ghost use Rattle.canplan_commands.specs.Words.{asked_by, asked_of_message, asked
 pub enum Asked {
     /// The answer to a network's document.
     Answer,
+    /// The answer with what makes each bound.
+    Details,
     /// The scenario of the worst case of a message, whose name stands behind the word.
     Timeline,
     /// The help text.
@@ -15,8 +17,8 @@ pub enum Asked {
     Version,
 }
 
-/// What the words ask for, the first of which is the program's name: the answer where there is no other, the scenario of
-/// a message's worst case, the help text or the version. Other words are no use of the program.
+/// What the words ask for, the first of which is the program's name: the answer where there is no other, the answer with
+/// details, the scenario of a message's worst case, the help text or the version. Other words are no use of the program.
 pub fn read_words(words: &[String]) -> Option<Asked>
     ensures { result ≡ asked_by (texts_of words.now) }
 {
@@ -35,6 +37,7 @@ fn read_word(word: &str) -> Option<Asked>
     match word {
         "help" | "--help" | "-h" => Some(Asked::Help),
         "--version" | "-V" => Some(Asked::Version),
+        "--details" => Some(Asked::Details),
         _ => None,
     }
 }
