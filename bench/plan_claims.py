@@ -57,14 +57,25 @@ def least(enough: Callable[[int], int], start: int, limit: int) -> int | None:
     return None
 
 
-def bound(messages: list[Message], place: int, rate: HitRate, limit: int) -> int | None:
-    """The least bound for the message at this place, by numbers up to a limit."""
-    own, higher, lower = messages[place], messages[:place], messages[place + 1 :]
-    blocking = max((message.longest - 1 for message in lower), default=0)
-    widest = max(message.longest for message in [own, *higher])
+def widest(messages: list[Message], place: int) -> int:
+    """The longest time on the bus of the message at this place and of those before it."""
+    return max(message.longest for message in messages[: place + 1])
+
+
+def hits_until(messages: list[Message], place: int, rate: HitRate, long: int) -> tuple[int, int]:
+    """How many hits there are in attempts that begin within so many bit times, and what they cost."""
+    wide = widest(messages, place)
+    hits = rate.most(long + wide - 5)
+    return hits, hits * (wide + 13)
+
+
+def frames(messages: list[Message], place: int, rate: HitRate, limit: int) -> list[tuple[int, int]] | None:
+    """How late each frame of the message at this place starts and ends in a busy period, by numbers up to a limit."""
+    own, higher = messages[place], messages[:place]
+    blocking = max((message.longest - 1 for message in messages[place + 1 :]), default=0)
 
     def demand(time: int, some: list[Message], long: int) -> int:
-        hits = rate.most(long + widest - 5) * (widest + 13)
+        hits = hits_until(messages, place, rate, long)[1]
         return time + sum(arrivals(message, long) * message.longest for message in some) + hits
 
     def delay(instance: int) -> int | None:
@@ -74,10 +85,16 @@ def bound(messages: list[Message], place: int, rate: HitRate, limit: int) -> int
     busy = least(lambda long: demand(blocking, [own, *higher], long), 1, limit)
     if busy is None:
         return None
-    most = 0
+    found = []
     for instance in range(arrivals(own, busy)):
         start = delay(instance)
         if start is None:
             return None
-        most = max(most, own.jitter + start + own.longest - 3 - instance * own.period)
-    return most
+        found.append((start, own.jitter + start + own.longest - 3 - instance * own.period))
+    return found
+
+
+def bound(messages: list[Message], place: int, rate: HitRate, limit: int) -> int | None:
+    """The least bound for the message at this place, by numbers up to a limit."""
+    found = frames(messages, place, rate, limit)
+    return None if found is None else max(end for _, end in found)

@@ -4,12 +4,20 @@ from __future__ import annotations
 
 from making.programs import Program
 
+# What the options do with which a program is called alone, and their short forms.
+_DOES = {
+    "--details": "print what makes each bound",
+    "--timeline": "print the worst case of a message",
+    "--version": "print version",
+}
+_SHORT = {"--version": "-V"}
+
 
 def bash(told: Program) -> str:
     """The completion for bash."""
     commands = " ".join(told.commands)
     helped = " ".join(it for it in told.commands if it != "help")
-    options = " ".join(["--help"] + ["--version"] * told.has_version)
+    options = " ".join(["--help", *told.options])
     return f"""\
 # bash completion of {told.name}
 _{told.name}() {{
@@ -17,6 +25,7 @@ _{told.name}() {{
     case $COMP_CWORD,${{COMP_WORDS[1]}} in
         1,*) words='{commands} {options}' ;;
         2,help) words='{helped}' ;;
+        2,-*) ;;
         2,*) words=--help ;;
     esac
     mapfile -t COMPREPLY < <(compgen -W "$words" -- "$2")
@@ -28,7 +37,7 @@ complete -F _{told.name} {told.name}
 def zsh(told: Program) -> str:
     """The completion for zsh."""
     commands = "\n".join(f"    {_quoted(f'{name}:{does}')}" for name, does in told.commands.items())
-    version = " '(- *)'{-V,--version}'[print version]'" if told.has_version else ""
+    options = "".join(f" {_zsh_option(name, has_word)}" for name, has_word in told.options.items())
     return f"""\
 #compdef {told.name}
 local -a subcommands
@@ -41,7 +50,7 @@ elif (( CURRENT == 3 )) && [[ $words[2] == help ]]; then
     subcommands=(${{subcommands:#help:*}})
     _describe command subcommands
 fi
-_arguments '(-h --help)'{{-h,--help}}'[print help]'{version}
+_arguments '(-h --help)'{{-h,--help}}'[print help]'{options}
 """
 
 
@@ -57,9 +66,18 @@ def fish(told: Program) -> str:
         helped = " ".join(it for it in told.commands if it != "help")
         lines.append(f"complete -c {name} -n '__fish_seen_subcommand_from help' -a '{helped}'")
     lines.append(f"complete -c {name} -s h -l help -d 'Print help'")
-    if told.has_version:
-        lines.append(f"complete -c {name} -n __fish_is_first_arg -s V -l version -d 'Print version'")
+    for option, has_word in told.options.items():
+        short = f" -s {_SHORT[option][1:]}" if option in _SHORT else ""
+        word = " -x" * has_word
+        does = _DOES[option].capitalize()
+        lines.append(f"complete -c {name} -n __fish_is_first_arg{short} -l {option[2:]}{word} -d '{does}'")
     return "\n".join(lines) + "\n"
+
+
+def _zsh_option(name: str, has_word: bool) -> str:
+    """An option that stands alone, for zsh's `_arguments`."""
+    names = f"{{{_SHORT[name]},{name}}}" if name in _SHORT else name
+    return f"'(- *)'{names}'[{_DOES[name]}]{':word: ' * has_word}'"
 
 
 def _quoted(text: str) -> str:

@@ -43,9 +43,10 @@ class Program(NamedTuple):
     helps: dict[str, Help]
 
     @property
-    def has_version(self) -> bool:
-        """Whether it tells its version."""
-        return ["--version"] in self.help.usage
+    def options(self) -> dict[str, bool]:
+        """The options with which it is called alone, but for help, and whether each has a word behind it."""
+        calls = (it for it in self.help.usage if it and it[0].startswith("--") and it != ["--help"])
+        return {call[0]: len(call) > 1 for call in calls}
 
 
 def _read(text: str) -> Help:
