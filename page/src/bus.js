@@ -3,7 +3,7 @@ import { numberIn, packed, unpacked } from './address.js';
 import { ANSWER } from './core.js';
 import { EndView } from './bus_end.js';
 import { BusPicture } from './bus_picture.js';
-import { BusTimes, DOES, PortTimes } from './bus_times.js';
+import { BROUGHT, BusTimes, DOES, PortTimes } from './bus_times.js';
 import { BROUGHT_WORDS, DOES_WORDS, STAGES } from './bus_words.js';
 import { DocumentView } from './document_view.js';
 import { byId, copyText, download, html } from './draw.js';
@@ -12,6 +12,7 @@ import { ScenarioForm } from './scenario_form.js';
 import { faultIn } from './scenario_fault.js';
 import { formOf, textOf } from './scenario_text.js';
 import { counted } from './words.js';
+import { latestOf, worstCaseWords } from './worst_case.js';
 
 /** A picture of more bit times of ports is not drawn, and a longer report not shown but downloaded. */
 const MOST_PORT_TIMES = 8000000;
@@ -38,6 +39,8 @@ export class BusView extends DocumentView {
     this.bus = null;
     /** @type {Report | null} */
     this.report = null;
+    /** @type {import('./worst_case.js').WorstCase | null} that is shown */
+    this.worst = null;
     this.waits = false;
     this.picture = new BusPicture(byId('bus-picture'), (levels) => core.marks(levels), (time) => this.pick(time));
     this.ends = new EndView((time, node) => this.visit(time, node));
@@ -79,10 +82,24 @@ export class BusView extends DocumentView {
   /** @param {import('./core.js').WrongField} wrong */
   faultIn(wrong) { return faultIn(this.core, this.document.text, wrong); }
 
+  /** @param {string} text @param {object} [how] as in every such view */
+  take(text, how) {
+    this.worst = null;
+    super.take(text, how);
+  }
+
+  /** Shows the worst case of a message, and goes to its latest frame. @param {import('./worst_case.js').WorstCase} worst */
+  async showWorst(worst) {
+    this.take(worst.scenario);
+    this.worst = worst;
+    await this.ran;
+  }
+
   forget() {
     this.bus = null;
     this.report = null;
     this.picture.show(null);
+    byId('bus-worst').textContent = '';
   }
 
   /** @param {Uint8Array} bytes the scenario */
@@ -111,6 +128,7 @@ export class BusView extends DocumentView {
     byId('bus-shown').hidden = false;
     byId('bus-drawn').hidden = !bus?.count;
     this.tellWhole(took);
+    byId('bus-worst').textContent = this.worst ? worstCaseWords(this.worst, null) : '';
     byId('bus-report').textContent = report.bytes.length > MOST_SHOWN
       ? `${new TextDecoder().decode(report.bytes.subarray(0, MOST_SHOWN))}\n(So far ${MOST_SHOWN.toLocaleString('en')} of ${counted(report.bytes.length, 'byte')}; the whole report is in the download.)` : report.text;
     this.ends.show(report, bus);
@@ -145,6 +163,18 @@ export class BusView extends DocumentView {
     this.ends.refresh(node);
     this.picture.come(node);
     this.tellSoon();
+    if (node === this.worst?.port) this.goToLatest();
+  }
+
+  /** Goes to the end of the latest frame of the message whose worst case is shown, with all in view since its offer. */
+  goToLatest() {
+    const { port, name } = this.worst;
+    const { first } = this.report.end(port);
+    const isOwn = (time, entry) => this.bus.ports[port].brought(time) === BROUGHT.sent && this.report.line(first + entry).startsWith(`sent ${name} `);
+    const latest = latestOf(this.worst, Array.from(this.bus.ports[port].heard.filter(isOwn), (time) => time + 1));
+    byId('bus-worst').textContent = worstCaseWords(this.worst, latest);
+    this.picture.view(latest.offer - 1, latest.wait + 2);
+    this.visit(latest.end - 1, port);
   }
 
   /** @param {number} took in milliseconds */

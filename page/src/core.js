@@ -29,8 +29,8 @@ export const MOST_DOCUMENT = 1024 * 1024;
 
 /** What a call answers (`Answer` of can_page). */
 export const ANSWER = Object.freeze({
-  done: 0, noRoom: 1, badLevel: 2, badIdentifier: 3, badDlc: 4, badCount: 5, badScenario: 6, noPort: 7, noMemory: 8, badPlan: 9,
-  letter: 11, identifier: 12, direction: 13, dlc: 14, data: 15, trailing: 16,
+  done: 0, noRoom: 1, badLevel: 2, badIdentifier: 3, badDlc: 4, badCount: 5, badScenario: 6, noPort: 7, noMemory: 8, badPlan: 9, noMessage: 10,
+  letter: 11, identifier: 12, direction: 13, dlc: 14, data: 15, trailing: 16, tooLong: 17,
 });
 
 /**
@@ -244,6 +244,21 @@ export class Core {
     this.calls.page_heap_begin(rooms.next);
     const answer = this.calls.page_plan(...slice, rooms.lines, rooms.count, rooms.wrong);
     return { answer, wrong: this.wrong(), late: this.number(rooms.count), lines: this.answered(answer) };
+  }
+
+  /**
+   * The worst case of a message, as a scenario, in the network that a document says; or the first field that is wrong. No name
+   * of a message is as long as a frame text, so a longer one has the same answer as so much of it.
+   * @param {Uint8Array} text at most MOST_DOCUMENT
+   * @param {Uint8Array} name a frame's text up to the blank before its DLC
+   * @returns {{answer: number, wrong: WrongField, scenario: Uint8Array}}
+   */
+  worstCase(text, name) {
+    const { rooms } = this;
+    const slices = [...this.put(rooms.text, text), ...this.put(rooms.short, name.subarray(0, MOST_TEXT))];
+    this.calls.page_heap_begin(rooms.next);
+    const answer = this.calls.page_worst_case(...slices, rooms.lines, rooms.wrong);
+    return { answer, wrong: this.wrong(), scenario: this.answered(answer) };
   }
 
   /** @returns {WrongField} what a call has told */

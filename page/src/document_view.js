@@ -19,6 +19,8 @@ export class DocumentView {
     this.examples = JSON.parse(byId(`${of.what}s`).textContent);
     /** @type {Promise<void>} until the form of the text is seen */
     this.filled = Promise.resolve();
+    /** @type {Promise<void>} until the document is answered, or refused */
+    this.ran = Promise.resolve();
     this.box = byId(`${of.view}-examples`);
     this.box.append(...this.examples.map(([name]) => html('option', { value: name }, [name.replaceAll('_', ' ')])));
     this.box.addEventListener('change', () => { if (this.box.value) this.showExample(this.box.value); });
@@ -39,7 +41,7 @@ export class DocumentView {
     this.document.put(text, types);
     this.box.value = this.exampleOf(text);
     this.filled = fills ? this.fillForm(text) : Promise.resolve();
-    this.run();
+    this.ran = this.run();
   }
 
   /**

@@ -79,7 +79,7 @@ class Views {
       encode: () => new EncodeView(core),
       decode: () => new DecodeView(core),
       bus: () => new BusView(core, new Runs(byId('worker').textContent, module)),
-      network: () => new NetworkView(core, new Runs(byId('worker').textContent, module)),
+      network: () => new NetworkView(core, new Runs(byId('worker').textContent, module), (worst) => this.showWorst(worst)),
     };
     /** @type {Record<string, string>} the address of each view as it begins */
     this.first = {};
@@ -99,6 +99,15 @@ class Views {
     if (name === 'encode') this.shown.encode.wires.draw();
     if (Object.keys(what).length > 0) await this.shown[name].open(what);
     else this.followSoon(name);
+  }
+
+  /** Shows the worst case of a message in the view of buses; the way back leads to the network. @param {import('./worst_case.js').WorstCase} worst */
+  async showWorst(worst) {
+    history.pushState(null, '', '#bus');
+    byId('tab-bus').click();
+    byId('tab-bus').focus();
+    await this.shown.bus.showWorst(worst);
+    this.followSoon('bus');
   }
 
   /** The part of the address that says what a view shows, or nothing where that is too long. */

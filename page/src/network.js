@@ -8,21 +8,25 @@ import { BoundsView } from './network_bounds.js';
 import { networkFault } from './network_fault.js';
 import { NetworkForm } from './network_form.js';
 import { formOf, textOf } from './network_text.js';
-import { borneWords } from './network_words.js';
+import { borneWords, worstCaseRefusal } from './network_words.js';
 import { counted } from './words.js';
+import { nameOf, worstCaseOf } from './worst_case.js';
+
+/** @typedef {import('./worst_case.js').WorstCase} WorstCase */
 
 export class NetworkView extends DocumentView {
   /**
    * @param {import('./core.js').Core} core
    * @param {import('./runs.js').Runs} runs
+   * @param {(worst: WorstCase) => void} onWorst told of the worst case of a message that is to be shown
    */
-  constructor(core, runs) {
+  constructor(core, runs, onWorst) {
     super({ view: 'network', what: 'network', program: 'canplan', most: 12000 }, runs);
-    this.core = core;
+    Object.assign(this, { core, onWorst });
     /** @type {import('./network_answer.js').Answer | null} */
     this.answered = null;
     this.form = new NetworkForm(() => this.take(textOf(this.form.form), { fills: false }));
-    this.bounds = new BoundsView();
+    this.bounds = new BoundsView((verdict, tell) => this.askWorst(verdict, tell));
     this.listen();
     this.showExample('seventeen');
   }
@@ -68,6 +72,24 @@ export class NetworkView extends DocumentView {
     byId('network-shown').hidden = false;
     this.bounds.show(verdicts);
     this.enter('shown');
+  }
+
+  /**
+   * Has the worst case of a message shown, once the network is answered as it stands.
+   * @param {import('./network_answer.js').Verdict} verdict
+   * @param {(why: string) => void} tell why there is none
+   */
+  async askWorst(verdict, tell) {
+    tell('');
+    await this.ran;
+    if (!this.answered) return;
+    try {
+      const told = await this.runs.worstCase(this.document.bytes, new TextEncoder().encode(nameOf(verdict.frame)));
+      if (told?.answer === ANSWER.done) this.onWorst(worstCaseOf(new TextDecoder().decode(told.scenario), verdict, this.answered.borne !== ''));
+      else if (told) tell(worstCaseRefusal(told.answer));
+    } catch (error) {
+      tell(`This browser could not write the worst case (${error.message}). The program canplan can.`);
+    }
   }
 
   async copy() {

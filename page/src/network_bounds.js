@@ -18,11 +18,16 @@ const LEAST = 2;
 const COLUMNS = ['Longest', 'Blocking', 'Bound', 'Deadline', 'Outcome'];
 
 export class BoundsView {
-  constructor() {
+  /** @param {(verdict: Verdict, tell: (why: string) => void) => void} onWorst told of a message whose worst case is asked for; `tell` says why there is none */
+  constructor(onWorst) {
     this.rows = byId('network-bounds');
     /** @type {Verdict[]} */
     this.verdicts = [];
-    this.pages = new Pages('network-bounds', SHOWN, (first, last) => this.rows.replaceChildren(...this.verdicts.slice(first, last).map(rowOf)));
+    this.pages = new Pages('network-bounds', SHOWN, (first, last) => this.rows.replaceChildren(...this.verdicts.slice(first, last).map((verdict, index) => rowOf(verdict, first + index))));
+    this.rows.addEventListener('click', ({ target }) => {
+      const { place } = target.dataset;
+      if (place !== undefined) onWorst(this.verdicts[Number(place)], (why) => { target.nextElementSibling.textContent = why; });
+    });
   }
 
   /** @param {Verdict[]} verdicts in the order of arbitration */
@@ -33,8 +38,8 @@ export class BoundsView {
   }
 }
 
-/** @param {Verdict} verdict */
-function rowOf(verdict) {
+/** @param {Verdict} verdict @param {number} place in the order of arbitration */
+function rowOf(verdict, place) {
   const { frame, longest, blocking, bound, deadline, slack, name } = verdict;
   const isLate = slack === null;
   const outcome = isLate ? html('strong', { class: 'fault-name' }, ['▲ late']) : `ok, slack ${told(slack)}`;
@@ -43,6 +48,9 @@ function rowOf(verdict) {
     html('th', { scope: 'row', class: 'mono' }, name === '' ? [frame] : [frame, html('div', { class: 'called' }, [name])]),
     ...cells.map((cell, column) => html('td', { 'data-name': COLUMNS[column], class: column < 4 ? 'number' : 'outcome' }, [cell])),
     html('td', { class: 'bar-room' }, [barOf(verdict)]),
+    html('td', { class: 'worst' }, [
+      html('button', { type: 'button', class: 'link', 'data-place': place, 'aria-label': `Worst case of ${frame}` }, ['Worst case']), html('p', { class: 'hint', role: 'status' }),
+    ]),
   ]);
 }
 

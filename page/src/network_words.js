@@ -1,4 +1,5 @@
 /** What is wrong in a network, in words. */
+import { ANSWER } from './core.js';
 
 /** The numbers of the fields of which more is told. */
 export const WRONG = Object.freeze({ toml: 0, key: 1, errorKey: 5, messageKey: 10, frame: 11 });
@@ -41,4 +42,13 @@ export function borneWords(line) {
   return line.endsWith('for ever')
     ? 'Hits are borne for ever: at most 15 come in all, so that no port becomes error passive.'
     : 'Hits are not borne: more than 15 may come at once, so that a port may become error passive.';
+}
+
+/**
+ * Why the worst case of a message is not shown.
+ * @param {number} answer
+ */
+export function worstCaseRefusal(answer) {
+  if (answer === ANSWER.tooLong) return 'No scenario is long enough: the bus is busy with this message and those before it for more than 999,999 bit times, or for ever.';
+  return answer === ANSWER.noMessage ? 'The network has no such message any more.' : 'The worst case needs more memory than this page has. The program canplan has no such limit.';
 }

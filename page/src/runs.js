@@ -72,6 +72,14 @@ export class Runs {
    */
   plan(text) { return this.newest({ ask: 'plan', text }); }
 
+  /**
+   * The worst case of a message in a network, as a scenario; none where another text came meanwhile.
+   * @param {Uint8Array} text
+   * @param {Uint8Array} name of the message
+   * @returns {Promise<{answer: number, scenario: Uint8Array} | null>}
+   */
+  worstCase(text, name) { return this.newest({ ask: 'worstCase', text, name }); }
+
   /** The answer to what is asked, if nothing else was meanwhile. @param {object} asked */
   async newest(asked) {
     this.number += 1;

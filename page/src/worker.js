@@ -24,6 +24,10 @@ const ANSWERS = Object.freeze({
     const told = code.plan(text);
     return { told, handed: [told.lines.buffer] };
   },
+  worstCase: (code, { text, name }) => {
+    const told = code.worstCase(text, name);
+    return { told, handed: [told.scenario.buffer] };
+  },
   ports: (code, { text, levels }) => {
     const { answer, times } = code.allPortTimes(text);
     const ports = [];

@@ -1,7 +1,7 @@
 // Names, order, contrast, narrow screens and motion.
 import assert from 'node:assert/strict';
 import { drawn, fill, settled } from './bus_page.mjs';
-import { fillNetwork, networkSettled } from './network_page.mjs';
+import { askWorst, fillNetwork, networkSettled } from './network_page.mjs';
 
 /** What in a view has no name, or a name or place that is not right. */
 const complaints = () => {
@@ -123,6 +123,9 @@ async function eachView(page, test) {
   await networkSettled(page);
   await page.run(() => { for (const folded of document.querySelectorAll('#panel-network details')) folded.open = true; });
   await test('network');
+  await fillNetwork(page, 'network-period-1', '60');
+  assert.notEqual(await askWorst(page, 'S 102 D 1'), '');
+  await test('network with a refused worst case');
   await fillNetwork(page, 'network-period-3', '0');
   await test('network with a fault');
   await page.click('tab-about');
@@ -208,12 +211,14 @@ export const accessTests = [
     await page.click('tab-network');
     await networkSettled(page);
     await page.run(() => document.getElementById('tab-network').focus());
+    const worst = await page.run(() => [...document.querySelectorAll('#network-bounds th')].map((frame) => `Worst case of ${frame.textContent}`));
+    assert.equal(worst.length, 17);
     const reached = [];
-    for (let step = 0; step < 19; step += 1) {
+    for (let step = 0; step < 19 + worst.length; step += 1) {
       await page.key('Tab');
       reached.push(await page.run(() => document.activeElement.id || document.activeElement.getAttribute('aria-label') || document.activeElement.textContent));
     }
-    assert.deepEqual(reached, ['network-examples', 'network-edit', 'network-link', 'Bounds and deadlines', 'The answer of canplan', 'network-file', 'network-save', 'network-rate', 'network-burst', 'network-spacing',
+    assert.deepEqual(reached, ['network-examples', 'network-edit', 'network-link', 'Bounds and deadlines', ...worst, 'The answer of canplan', 'network-file', 'network-save', 'network-rate', 'network-burst', 'network-spacing',
       'Messages', 'network-frame-0', 'network-dlc-0', 'network-period-0', 'network-jitter-0', 'network-deadline-0', 'network-name-0', 'network-remove-0', 'network-frame-1']);
   }],
   ['tabs are changed by keys', async ({ open }) => {

@@ -36,6 +36,23 @@ S 300 D 7 longest 122 blocking 0 bound 422 deadline 427 slack 5 ok
 load 0.971 late 1 of 3
 `;
 
+/** A message alone, of the frame of WIRE, which keeps the bus for 53 bit times; and its worst case: no other is offered, and the bus is free behind it. */
+const LONE = 'version = 1\n[[message]]\nframe = "S 000 D"\ndlc = 0\nperiod = 53\n';
+const WORST = `version = 2
+bits = 54
+
+[[port]]
+queue = [
+    [1, "S 000 D 0"],
+]
+log = 1
+
+[[port]]
+queue = [
+]
+log = 1
+`;
+
 /** What a call is given: a text, levels by their digits, bytes; room for so many bytes; a place for a number, or what is told. */
 const text = (letters) => ({ bytes: [...letters].map((letter) => letter.charCodeAt(0)) });
 const levels = (digits) => ({ bytes: [...digits].map(Number) });
@@ -56,6 +73,7 @@ const levelsOf = (letters) => ['page_levels', [text(letters), room('levels', 8),
 const marks = (digits, most = 157) => ['page_marks', [levels(digits), room('fields', most), room('stuffed', 157), number('count')]];
 const run = (letters) => ['page_run', [text(letters), LINES, WRONG]];
 const plan = (letters) => ['page_plan', [text(letters), LINES, number('late'), WRONG]];
+const worstCase = (letters, name) => ['page_worst_case', [text(letters), text(name), LINES, WRONG]];
 const portTimes = (letters, port, most) => ['page_port_times', [text(letters), size(port), room('times', most, 10), number('count')]];
 
 const allPortTimes = (letters, most) => ['page_all_port_times', [text(letters), room('times', most, 10), number('count')]];
@@ -140,6 +158,11 @@ const ROWS = [
     ['period = 303', '', 13, 1], ['frame = "S 100 D"', 'frame = "S 100 D 7"', 11, 1], ['frame = "S 100 D"', 'frame = "S 300 D"', 16, 1], ['dlc = 7', 'dlc = 16', 12, 0],
     ['deadline = 360', 'deadline = -1', 15, 2], ['deadline = 360', 'jitter = 4294967296', 14, 2],
   ].map(([right, wrong, field, place]) => [...plan(NETWORK.replace(right, wrong)), 9, { late: 99, 'wrong 16': field, 'wrong 0': place, 'wrong 8': 0 }]),
+
+  [...worstCase(LONE, 'S 000 D'), 0, { lines: WORST }],
+  ...['S 000 R', 'S 000 D 0', 'S 000', '', 'E 00000000 D', 'S 000 D                             '].map((name) => [...worstCase(LONE, name), 10, {}]),
+  [...worstCase(LONE.replace('53', '52'), 'S 000 D'), 17, {}],
+  [...worstCase(LONE.replace('53', '0'), 'S 000 D'), 9, { 'wrong 16': 13, 'wrong 0': 0, 'wrong 8': 0 }],
 ];
 
 /** What the calls of rows answer and write, by the module as it stands in the page: the same names as the rows want. It runs there. */

@@ -42,6 +42,10 @@ const ANSWERS = {
     if (answer === ANSWER.done) return [byte(answer), number(late), lines];
     return [byte(answer), ...(answer === ANSWER.badPlan ? [wrongField(wrong)] : [])];
   },
+  worstCase: (core, { numbers: [front], bytes }) => {
+    const { answer, wrong, scenario } = core.worstCase(bytes.subarray(front), bytes.subarray(0, front));
+    return [byte(answer), answer === ANSWER.badPlan ? wrongField(wrong) : scenario];
+  },
   portTimes: (core, { numbers: [node], bytes }) => {
     const { answer, times } = core.portTimes(bytes, node);
     return [byte(answer), times];
@@ -101,6 +105,13 @@ function documents(chance, folder, count) {
   return [...texts, ...many(count, () => changedDocument(chance, chance.of(texts)))].map((text) => encoder.encode(text));
 }
 
+/** A document of a network, behind the name of one of its messages or another one. */
+function named(chance, text) {
+  const names = [...new TextDecoder().decode(text).matchAll(/^frame = "([^"\n]*)"/gm)].map(([, name]) => name);
+  const name = encoder.encode(chance.below(10) === 0 ? changed(chance, 'S 100 D') : chance.of([...names, 'S 100 D']));
+  return { numbers: [name.length], bytes: Buffer.concat([name, text]) };
+}
+
 /** The levels of frames, as digits. */
 function wiresOf(core, chance, count) {
   return many(count, () => core.encode(encoder.encode(textOf(madeParts(chance)))))
@@ -129,6 +140,7 @@ const QUESTIONS = {
   decode: ({ chance, wires }) => many(2000, (index) => ({ bytes: encoder.encode(madeTrace(chance, wires, index % 400 === 0 ? 3000 : chance.below(20))) })),
   run: ({ chance, examples }) => documents(chance, join(examples, 'scenarios'), 4000).map((bytes) => ({ bytes })),
   plan: ({ chance, examples }) => documents(chance, join(examples, 'networks'), 2000).map((bytes) => ({ bytes })),
+  worstCase: ({ chance, examples }) => documents(chance, join(examples, 'networks'), 300).map((bytes) => named(chance, bytes)),
   portTimes: ({ chance, examples }) => documents(chance, join(examples, 'scenarios'), 400).flatMap((bytes) => [0, 1, chance.below(5)].map((node) => ({ numbers: [node], bytes }))),
   allPortTimes: ({ chance, examples }) => documents(chance, join(examples, 'scenarios'), 400).map((bytes) => ({ bytes })),
 };

@@ -40,6 +40,8 @@ uint8_t page_decode(const uint8_t *text, size_t length, struct lines *out, uint6
 uint8_t page_levels(const uint8_t *text, size_t length, uint8_t *levels, size_t room, size_t *count, size_t *place);
 uint8_t page_run(const uint8_t *text, size_t length, struct lines *out, struct wrong *wrong);
 uint8_t page_plan(const uint8_t *text, size_t length, struct lines *out, size_t *late, struct wrong *wrong);
+uint8_t page_worst_case(const uint8_t *text, size_t length, const uint8_t *name, size_t name_length,
+                        struct lines *out, struct wrong *wrong);
 uint8_t page_port_times(const uint8_t *text, size_t length, size_t node, struct time *times, size_t room,
                         size_t *count);
 uint8_t page_all_port_times(const uint8_t *text, size_t length, struct time *times, size_t room, size_t *count);
@@ -150,6 +152,19 @@ static void plan(size_t length)
   }
 }
 
+/* The name stands in front of the document. */
+static void worst_case(size_t length)
+{
+  struct wrong wrong = { 0, 0, 0 };
+  size_t front = question[1] < length ? question[1] : length;
+  uint8_t answer = page_worst_case(given + front, length - front, given, front, &lines, &wrong);
+  tell_byte(answer);
+  if (answer == BAD_PLAN)
+    tell_wrong(&wrong);
+  if (answer == DONE)
+    tell(lines.bytes, lines.count);
+}
+
 static void port_times(size_t length)
 {
   size_t count = 0;
@@ -171,7 +186,7 @@ static void all_port_times(size_t length)
 int main(void)
 {
   static void (*const calls[])(size_t) = {
-    frame_text, encode, marks, decode, run, plan, port_times, all_port_times,
+    frame_text, encode, marks, decode, run, plan, worst_case, port_times, all_port_times,
   };
   while (fread(question, sizeof question, 1, stdin) == 1) {
     if (question[0] >= sizeof calls / sizeof *calls || question[5] > MOST_BYTES ||

@@ -38,7 +38,15 @@ export const saved = (page, button) => page.run(async (id) => {
 }, button);
 
 /** The rows of bounds, each its cells. */
-export const bounds = (page) => page.run(() => [...document.querySelectorAll('#network-bounds tr')].map((row) => [...row.children].slice(0, -1).map((cell) => cell.textContent)));
+export const bounds = (page) => page.run(() => [...document.querySelectorAll('#network-bounds tr')].map((row) => [...row.children].slice(0, 6).map((cell) => cell.textContent)));
+
+/** Asks for the worst case of a message by the button in its row, and waits until it is run, or it is told why there is none. */
+export async function askWorst(page, frame) {
+  const row = `[...document.querySelectorAll('#network-bounds tr')].find((row) => row.children[0].firstChild.textContent === '${frame}')`;
+  await page.get(`${row}.querySelector('.worst button').click()`);
+  await page.until(`${row}.querySelector('.worst [role=status]').textContent !== '' || document.querySelector('#panel-bus:not([hidden])')?.dataset.state === 'shown'`);
+  return page.get(`${row}.querySelector('.worst [role=status]').textContent`);
+}
 
 export const networkText = (page) => page.get("document.getElementById('network-text').value");
 

@@ -16,6 +16,7 @@ import { networkFaultTests } from './network_faults.mjs';
 import { networkTests } from './network.mjs';
 import { pageTests } from './page.mjs';
 import { taskTests } from './tasks.mjs';
+import { worstCaseTests } from './worst_case.mjs';
 
 const [program, file, examples, work] = process.argv.slice(2);
 const browser = new Browser(program);
@@ -26,7 +27,7 @@ const only = new RegExp(process.env.PAGE_TEST ?? '');
 let passed = 0;
 let failed = 0;
 
-for (const [name, test] of [...moduleTests, ...pageTests, ...taskTests, ...callTests, ...encodeTests, ...decodeTests, ...busTests, ...busViewTests, ...busFaultTests, ...busSpeedTests, ...networkTests, ...networkFaultTests, ...linkTests, ...accessTests].filter(([name]) => only.test(name))) {
+for (const [name, test] of [...moduleTests, ...pageTests, ...taskTests, ...callTests, ...encodeTests, ...decodeTests, ...busTests, ...busViewTests, ...busFaultTests, ...busSpeedTests, ...networkTests, ...networkFaultTests, ...worstCaseTests, ...linkTests, ...accessTests].filter(([name]) => only.test(name))) {
   const pages = [];
   const open = async (how) => {
     const page = await browser.open(place.address, how);

@@ -4,7 +4,7 @@ use Rattle.std.specs.Prelude.{ℕ}
 use Rattle.can_frame.specs.declared.text.TextFaultKind.{TextFaultKind}
 use Rattle.can_frame.specs.declared.text.TextFaultKind.TheVariants.{KindLetter, Identifier, DataOrRemote, Dlc, Data, Trailing}
 use Rattle.can_page.specs.declared.answer.Answer.{Answer}
-use Rattle.can_page.specs.declared.answer.Answer.TheVariants.{Done, NoRoom, BadLevel, BadIdentifier, BadDlc, BadCount, BadScenario, NoPort, NoMemory, BadPlan, LetterFault, IdentifierFault, DirectionFault, DlcFault, DataFault, TrailingFault}
+use Rattle.can_page.specs.declared.answer.Answer.TheVariants.{Done, NoRoom, BadLevel, BadIdentifier, BadDlc, BadCount, BadScenario, NoPort, NoMemory, BadPlan, NoMessage, LetterFault, IdentifierFault, DirectionFault, DlcFault, DataFault, TrailingFault, TooLong}
 
 abbrev pub answer_code : Answer → ℕ
 answer_code Done = 0
@@ -17,12 +17,14 @@ answer_code BadScenario = 6
 answer_code NoPort = 7
 answer_code NoMemory = 8
 answer_code BadPlan = 9
+answer_code NoMessage = 10
 answer_code LetterFault = 11
 answer_code IdentifierFault = 12
 answer_code DirectionFault = 13
 answer_code DlcFault = 14
 answer_code DataFault = 15
 answer_code TrailingFault = 16
+answer_code TooLong = 17
 
 -- the call has done what it says
 abbrev pub done : ℕ
@@ -47,6 +49,14 @@ no_port = answer_code NoPort
 -- the document says no network
 abbrev pub bad_plan : ℕ
 bad_plan = answer_code BadPlan
+
+-- no message of the network has the name
+abbrev pub no_message : ℕ
+no_message = answer_code NoMessage
+
+-- no scenario is long enough for the worst case of the message
+abbrev pub too_long : ℕ
+too_long = answer_code TooLong
 
 -- the answer for a fault of a frame text
 abbrev pub text_answer : TextFaultKind → Answer

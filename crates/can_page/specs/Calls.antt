@@ -3,7 +3,7 @@ use Rattle.std.specs.Prelude.{◌≢◌, ℕ, ◌<◌, ◌≤◌, Bool, List, le
 use Rattle.can_frame.specs.Ident.{ident_count}
 use Rattle.can_frame.specs.Parts.{Parts, byte_count}
 use Rattle.can_page.specs.declared.answer.Answer.{Answer}
-use Rattle.can_page.specs.declared.answer.Answer.TheVariants.{Done, NoRoom, BadLevel, BadIdentifier, BadDlc, BadCount, BadScenario, NoPort, NoMemory, BadPlan, LetterFault, IdentifierFault, DirectionFault, DlcFault, DataFault, TrailingFault}
+use Rattle.can_page.specs.declared.answer.Answer.TheVariants.{BadIdentifier, BadDlc, BadCount}
 
 -- the parts of a frame
 abbrev pub parts_of : ℕ → Bool → Bool → ℕ → List ℕ → Parts
@@ -14,16 +14,4 @@ abbrev pub IsRefusal : Answer → Parts → Type 0
 IsRefusal BadIdentifier f = ident_count f.id.extended ≤ f.id.raw
 IsRefusal BadDlc f = 15 < f.dlc
 IsRefusal BadCount f = length f.bytes ≢ byte_count f.remote f.dlc
-IsRefusal Done f = ⊥
-IsRefusal NoRoom f = ⊥
-IsRefusal BadLevel f = ⊥
-IsRefusal BadScenario f = ⊥
-IsRefusal NoPort f = ⊥
-IsRefusal NoMemory f = ⊥
-IsRefusal BadPlan f = ⊥
-IsRefusal LetterFault f = ⊥
-IsRefusal IdentifierFault f = ⊥
-IsRefusal DirectionFault f = ⊥
-IsRefusal DlcFault f = ⊥
-IsRefusal DataFault f = ⊥
-IsRefusal TrailingFault f = ⊥
+IsRefusal _ f = ⊥

@@ -26,6 +26,8 @@ pub enum Answer {
     NoMemory,
     /// The document says no network.
     BadPlan,
+    /// No message of the network has this name.
+    NoMessage,
     /// A frame text is wrong in its kind letter.
     LetterFault,
     /// A frame text is wrong in its identifier.
@@ -38,6 +40,8 @@ pub enum Answer {
     DataFault,
     /// Bytes stand behind a frame text.
     TrailingFault,
+    /// No scenario is long enough for the worst case of the message.
+    TooLong,
 }
 
 impl Answer {
@@ -56,12 +60,14 @@ impl Answer {
             Answer::NoPort => 7,
             Answer::NoMemory => 8,
             Answer::BadPlan => 9,
+            Answer::NoMessage => 10,
             Answer::LetterFault => 11,
             Answer::IdentifierFault => 12,
             Answer::DirectionFault => 13,
             Answer::DlcFault => 14,
             Answer::DataFault => 15,
             Answer::TrailingFault => 16,
+            Answer::TooLong => 17,
         }
     }
 

@@ -1,8 +1,8 @@
 //! What the page in page/, and the library for C, ask of the proved code: bytes and numbers in, bytes and numbers out. Only
 //! those that run a scenario or answer a network take memory of their own.
 //!
-//! Each export does what one call of can_frame, can_code, can_fields, can_decode, can_scenario, can_port_times or
-//! can_plan_text does, and promises it in the same definitions. It answers an [`Answer`] as a number.
+//! Each export does what one call of can_frame, can_code, can_fields, can_decode, can_scenario, can_port_times,
+//! can_plan_text or can_plan_worst does, and promises it in the same definitions. It answers an [`Answer`] as a number.
 //!
 //! | File | What it has | Defined in |
 //! |---|---|---|
@@ -17,6 +17,7 @@
 //! | `text.rt` | `Text`, bytes to be read, which a read never fails | `specs/Texts.antt` |
 //! | `traces.rt` | [`page_decode`] and [`page_decode_levels`], the frames and faults in a trace by its text or its levels, and [`page_levels`], the levels of such a text | `specs/Calls.antt` |
 //! | `wires.rt` | [`page_marks`], the field of each level of a frame | `specs/Calls.antt` |
+//! | `worst.rt` | [`page_worst_case`], the worst case of a message of a network, as a scenario | `specs/Calls.antt` |
 #![tactic(auto)]
 
 mod answer;
@@ -30,6 +31,7 @@ mod scenarios;
 mod text;
 mod traces;
 mod wires;
+mod worst;
 
 pub use answer::Answer;
 pub use frames::{page_encode, page_frame_text};
@@ -39,3 +41,4 @@ pub use plans::page_plan;
 pub use scenarios::{page_all_port_times, page_port_times, page_run};
 pub use traces::{page_decode, page_decode_levels, page_levels};
 pub use wires::page_marks;
+pub use worst::page_worst_case;

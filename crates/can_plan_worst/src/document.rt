@@ -18,7 +18,7 @@ use std::alloc::Global;
 /// `Field` names the first field of the document that isn't as it has to be, as [`Plan::from_text`] does. `Unknown` says
 /// that no message has the name, `TooLong` that the bus is busy for longer than a scenario may have bit times, and
 /// `Memory` that memory ran out.
-pub fn timeline(alloc: Global, document: &[u8], name: &str) -> Result<Vec<u8>, WorstFault>
+pub fn timeline(alloc: Global, document: &[u8], name: &[u8]) -> Result<Vec<u8>, WorstFault>
     ensures found { IfOk result (λ scenario. IsTimeline document.now name.now scenario.items) }
     ensures wrong { (wrong : Wrong) → IsErrOf result (WorstFault.Field wrong) → IsWrongPlanField wrong document.now }
     ensures unknown { IsErrOf result WorstFault.Unknown → IsUnknown document.now name.now }

@@ -13,19 +13,19 @@ use can_plan_text::Planned;
 const LONGEST_TEXT: usize = 32;
 
 /// The place of the message that has this name, a frame's text up to the blank before its DLC.
-pub(crate) fn place_of(messages: &[Planned], name: &str) -> Option<usize>
+pub(crate) fn place_of(messages: &[Planned], name: &[u8]) -> Option<usize>
     ensures { MatchOption result (IsUnnamed name.now messages.now) (IsNamedAt name.now messages.now) }
 {
     place_of_field(messages, head_of(name)?.key())
 }
 
 /// The frame of whose text this is all but the DLC, which is 0.
-fn head_of(name: &str) -> Option<Frame>
+fn head_of(name: &[u8]) -> Option<Frame>
     ensures said { IfSome result (IsHeadText name.now) }
     ensures unmet { IfNone result (¬ ((f : Parts) × IsHeadText name.now f)) }
 {
     let mut whole = ArrayVec::<u8, LONGEST_TEXT>::new();
-    whole.try_extend_from_slice(name.as_bytes()).ok()?;
+    whole.try_extend_from_slice(name).ok()?;
     whole.try_extend_from_slice(b" 0").ok()?;
     Frame::from_text(&whole).ok()
 }

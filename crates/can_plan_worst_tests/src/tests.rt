@@ -228,9 +228,9 @@ log = 3
 
 #[test]
 fn document_has_a_timeline(rt: HostRuntime) -> Result<(), Fail> {
-    let written = timeline(rt.alloc(), NETWORK.as_bytes(), "S 123 R");
+    let written = timeline(rt.alloc(), NETWORK.as_bytes(), b"S 123 R");
     assert!(rt; is_written(&written, TIMELINE));
-    let unknown = timeline(rt.alloc(), NETWORK.as_bytes(), "S 123 D");
+    let unknown = timeline(rt.alloc(), NETWORK.as_bytes(), b"S 123 D");
     assert!(rt; matches!(unknown, Err(WorstFault::Unknown)));
     Ok(())
 }

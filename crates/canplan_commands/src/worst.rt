@@ -38,7 +38,7 @@ pub fn write_timeline<R: Source, W: Sink>(
     ensures write_failed { IsErrOf result (CanplanFault.Stream TraceFault.Write) ↔ IsTrue (W.has_failed w.new) }
 {
     let text = read_whole(alloc, r)?;
-    let scenario = timeline(alloc, text.as_slice(), message)?;
+    let scenario = timeline(alloc, text.as_slice(), message.as_bytes())?;
     write_all(w, scenario.as_slice())?;
     Ok(())
 }

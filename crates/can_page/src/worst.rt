@@ -1,0 +1,66 @@
+ghost use Rattle.std.specs.Prelude.{◌≡◌, [], false, true, IfSome, Some};
+ghost use Rattle.can_page.specs.Answers.{answer_code, bad_plan, done, no_message, too_long};
+ghost use Rattle.can_page.specs.Lines.{is_full, lines_of};
+ghost use Rattle.can_page.specs.Plain.{wrong_in_plan};
+ghost use Rattle.can_plan_text.specs.Plans.{IsWrongPlanField};
+ghost use Rattle.can_plan_text.specs.declared.field.PlanField.{PlanField as Wrong};
+ghost use Rattle.can_plan_worst.specs.Timelines.{IsTimeline, IsUnending, IsUnknown};
+
+use crate::answer::Answer;
+use crate::lines::Lines;
+use crate::plain::WrongField;
+use can_plan_worst::{WorstFault, timeline};
+use can_stream::{Sink, write_all};
+use std::alloc::Global;
+
+/// Writes the scenario of the worst case of a message to `out`, where nothing is hit, for the network that a document says.
+/// The message is named by a frame's text up to the blank before its DLC. Where the document says no network, the first
+/// field that is wrong is told.
+#[unsafe(no_mangle)]
+pub extern "C" fn page_worst_case(
+    alloc: Global,
+    text: &[u8],
+    name: &[u8],
+    out: &mut Lines,
+    wrong: &mut WrongField,
+) -> u8
+    ensures scenario { result ≡ done → IsTimeline text.now name.now (lines_of out.new) }
+    ensures wrong { result ≡ bad_plan → (field : Wrong) × (IsWrongPlanField field text.now × (wrong.new ≡ wrong_in_plan field)) }
+    ensures unknown { result ≡ no_message → IsUnknown text.now name.now }
+    ensures unending { result ≡ too_long → IsUnending text.now name.now }
+    ensures room { result ≡ answer_code Answer.NoRoom → is_full out.new ≡ true }
+{
+    out.clear();
+    worst_case_onto(alloc, text, name, out, wrong).code()
+}
+
+/// The same onto any sink that holds nothing.
+fn worst_case_onto<W: Sink>(
+    alloc: Global,
+    text: &[u8],
+    name: &[u8],
+    out: &mut W,
+    wrong: &mut WrongField,
+) -> Answer
+    requires unfailed { W.has_failed out.old ≡ false }
+    requires empty { W.contents out.old ≡ Some [] }
+    ensures scenario { result ≡ Answer.Done → IfSome (W.contents out.new) (IsTimeline text.now name.now) }
+    ensures wrong { result ≡ Answer.BadPlan → (field : Wrong) × (IsWrongPlanField field text.now × (wrong.new ≡ wrong_in_plan field)) }
+    ensures unknown { result ≡ Answer.NoMessage → IsUnknown text.now name.now }
+    ensures unending { result ≡ Answer.TooLong → IsUnending text.now name.now }
+    ensures room { result ≡ Answer.NoRoom → W.has_failed out.new ≡ true }
+{
+    match timeline(alloc, text, name) {
+        Ok(scenario) => match write_all(out, scenario.as_slice()) {
+            Ok(()) => Answer::Done,
+            Err(_) => Answer::NoRoom,
+        },
+        Err(WorstFault::Field(field)) => {
+            *wrong = WrongField::in_plan(field);
+            Answer::BadPlan
+        }
+        Err(WorstFault::Unknown) => Answer::NoMessage,
+        Err(WorstFault::TooLong) => Answer::TooLong,
+        Err(WorstFault::Memory) => Answer::NoMemory,
+    }
+}
