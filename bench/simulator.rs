@@ -2,72 +2,17 @@
 //! on standard input, the checksum of the recorded levels and a line for each port on standard output. Standard
 //! library only, written from docs/ACCESS.md and docs/BUS.md; it is what `bench/bus` measures `Bus::run`
 //! against, and its output is compared with that of `bench/bus_driver.rattle`, which reads the same scenarios.
-//! Its controllers are in `machine.rs`.
+//! Its bus is in `wire.rs`, its controllers in `machine.rs`.
 
 #[path = "machine.rs"]
 mod machine;
+#[path = "wire.rs"]
+mod wire;
 
-use machine::{Dominant, Frame, Level, Phase, Port, Recessive};
+use machine::{Frame, Level, Phase, Port, Recessive};
 use std::error::Error;
 use std::io::{self, Read};
-
-// The bus
-
-enum Hit {
-    At(u64),
-    In { attempt: u64, offset: u64 },
-    View { time: u64, node: usize },
-}
-
-struct Offer {
-    time: u64,
-    port: usize,
-    frame: Frame,
-}
-
-struct Bus {
-    ports: Vec<Port>,
-    rest: u32,
-    /// How many offers a full queue has refused.
-    refused: usize,
-}
-
-impl Bus {
-    fn run(&mut self, hits: &[Hit], offers: &[Offer], levels: &mut [Level]) {
-        let mut attempts = 0u64;
-        let mut began = 0u64;
-        for (time, recorded) in (0u64..).zip(levels.iter_mut()) {
-            for offer in offers.iter().filter(|offer| offer.time == time) {
-                if !self.ports[offer.port].offer(offer.frame) {
-                    self.refused += 1;
-                }
-            }
-            let is_driven = self.ports.iter().any(|port| port.drive() == Dominant);
-            let wired = Level::of_bit(!is_driven);
-            if wired == Dominant && self.rest == 11 {
-                attempts += 1;
-                began = time;
-            }
-            let is_hit = hits.iter().any(|hit| match *hit {
-                Hit::At(at) => at == time,
-                Hit::In { attempt, offset } => attempt + 1 == attempts && began + offset == time,
-                Hit::View { .. } => false,
-            });
-            let level = if is_hit { wired.opposite() } else { wired };
-            for (place, port) in self.ports.iter_mut().enumerate() {
-                let is_hit = hits.iter().any(|hit| match *hit {
-                    Hit::View { time: at, node } => at == time && node == place,
-                    Hit::At(_) | Hit::In { .. } => false,
-                });
-                port.sample(if is_hit { level.opposite() } else { level });
-            }
-            self.rest = if level == Recessive { (self.rest + 1).min(11) } else { 0 };
-            *recorded = level;
-        }
-    }
-}
-
-// The scenario and the report
+use wire::{Bus, Hit, Offer};
 
 #[derive(Default)]
 struct Scenario {
@@ -162,7 +107,7 @@ fn main() -> Result<(), Box<dyn Error>> {
     io::stdin().read_to_string(&mut text)?;
     let scenario = Scenario::parse(&text)?;
     let ports = (0..scenario.ports).map(|place| scenario.port(place)).collect();
-    let mut bus = Bus { ports, rest: 11, refused: 0 };
+    let mut bus = Bus::new(ports);
     let mut levels = vec![Recessive; scenario.call];
     let mut sum = Checksum(0xcbf2_9ce4_8422_2325);
     for _ in 0..scenario.bits / scenario.call {
