@@ -9,7 +9,7 @@ mod machine;
 #[path = "wire.rs"]
 mod wire;
 
-use machine::{Frame, Level, Phase, Port, Recessive};
+use machine::{Frame, Phase, Port, Recessive};
 use std::error::Error;
 use std::io::{self, Read};
 use wire::{Bus, Hit, Offer};
