@@ -8,7 +8,7 @@ import pathlib
 import shutil
 from typing import NamedTuple
 
-from making import completions, man_pages
+from making import completions, links, man_pages
 from making.programs import Program
 from making.record import LIBRARY, OBJECTS, PAGE
 from making.tree import TOP, VERSION, commit_time, told, toolchain, tracked
@@ -62,17 +62,29 @@ def stage(root: pathlib.Path, layout: Layout, parts: Parts) -> None:
     share = root / "share"
     _programs(root, parts)
     _library(root, layout)
-    for name in tracked(*SHARED):
-        if not name.endswith(".md") and not set(name.split("/")) & set(OF_THE_REPOSITORY):
-            copy(name, share / "riddlesage" / name)
+    shared = [it for it in tracked(*SHARED) if _is_shared(it)]
+    for name in shared:
+        copy(name, share / "riddlesage" / name)
     copy(PAGE, share / "riddlesage" / "riddlesage.html")
     documents = share / "doc" / "riddlesage"
-    for name in tracked(*DOCUMENTS):
-        if name.endswith((".md", ".png")):
-            copy(name, documents / name)
+    _documents(documents, set(shared))
     put(documents / "BUILT-FROM", parts.built_from)
     for name, text in _notices().items():
         put(documents / "notices" / name, text)
+
+
+def _is_shared(name: str) -> bool:
+    return not name.endswith(".md") and not set(name.split("/")) & set(OF_THE_REPOSITORY)
+
+
+def _documents(folder: pathlib.Path, shared: set[str]) -> None:
+    """The documents and their pictures, with links to what the release has."""
+    documents = [it for it in tracked(*DOCUMENTS) if it.endswith((".md", ".png"))]
+    for name in documents:
+        if name.endswith(".md"):
+            put(folder / name, links.settled((TOP / name).read_text("utf-8"), name, set(documents), shared))
+        else:
+            copy(name, folder / name)
 
 
 def _programs(root: pathlib.Path, parts: Parts) -> None:
