@@ -124,7 +124,9 @@ since_before s (suc t) = last_event (moment_at s t).event t (since_before s t)
 -- the rule behind a bit time
 abbrev pub next_rule : Option TesterLevel → Script → ℕ → PortState → Rule → Rule
 next_rule None s t p now = now
-next_rule (Some x) s t p now = rule_behind (told_of x (handed s t p)) (phase_name p.mac) (sees x (handed s t p)) (met x (handed s t p)).mac
+next_rule (Some x) s t p now =
+    rule_behind (told_of x (handed s t p)) (phase_name p.mac)
+    (sees x (handed s t p)) (met x (handed s t p)).mac
 
 -- the rule that decides in bit time t
 unfoldable pub rule_before : Script → ℕ → Rule

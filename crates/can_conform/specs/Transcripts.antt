@@ -28,7 +28,9 @@ timed t (Some x) = record { time = t; told = x } ∷ []
 
 -- their times rise
 abbrev pub AreRising : {A : Type 0} → List (Timed A) → Type 0
-AreRising {A} xs = (m n : ℕ) (x y : Timed A) → m < n → slice_get xs m ≡ Some x → slice_get xs n ≡ Some y → x.time < y.time
+AreRising {A} xs =
+    (m n : ℕ) (x y : Timed A) → m < n
+    → slice_get xs m ≡ Some x → slice_get xs n ≡ Some y → x.time < y.time
 
 -- all of them come before time t
 abbrev pub EndBefore : {A : Type 0} → List (Timed A) → ℕ → Type 0
@@ -68,7 +70,8 @@ same_counters c d = (c.transmit == d.transmit) && (c.receive == d.receive)
 -- the counters behind bit time t, where it changed one
 abbrev pub changed_in : Script → ℕ → Option Counters
 changed_in s t =
-    if same_counters (counters_of (before s (t + 1))) (counters_of (before s t)) then None else Some (counters_of (before s (t + 1)))
+    if same_counters (counters_of (before s (t + 1))) (counters_of (before s t)) then None
+    else Some (counters_of (before s (t + 1)))
 
 -- each of these times is told, and no other
 pub record Tells {A : Type 0} (at : ℕ → Option A) (xs : List (Timed A)) : Type 0 where
@@ -76,7 +79,8 @@ pub record Tells {A : Type 0} (at : ℕ → Option A) (xs : List (Timed A)) : Ty
   pub each : (t : ℕ) → told_at xs t ≡ at t
 
 -- the levels, events and changes of a counter of the run
-pub record TellsRun (s : Script) (drove : List Level) (told : List (Timed Event)) (changed : List (Timed Counters)) : Type 0 where
+pub record TellsRun (s : Script) (drove : List Level)
+    (told : List (Timed Event)) (changed : List (Timed Counters)) : Type 0 where
   pub levels : (t : ℕ) → slice_get drove t ≡ (moment_at s t).drove
   pub events : Tells (λ t. (moment_at s t).event) told
   pub changes : Tells (changed_in s) changed

@@ -32,14 +32,18 @@ pub data Finds : ℕ → List Level → List Finding → Type 0 where
   -- the levels are over
   over : (place : ℕ) → Finds place [] []
   -- between frames recessive levels are skipped
-  idle : (place : ℕ) (rest : List Level) (found : List Finding) → Finds (place + 1) rest found → Finds place (Recessive ∷ rest) found
+  idle : (place : ℕ) (rest : List Level) (found : List Finding)
+      → Finds (place + 1) rest found → Finds place (Recessive ∷ rest) found
   -- a frame is spelled there; on with what follows it
   frame : (place : ℕ) (h : HeardParts) (w rest : List Level) (found : List Finding) → Spells h w
       → Finds (place + length w) rest found → Finds place (w ++ rest) (Frame place h ∷ found)
   -- none is, and a dominant level stands there; on behind eleven recessive levels from the fault on
   fault : (place : ℕ) (levels front skipped rest : List Level) (kind : CodeFaultKind) (found : List Finding)
-      → Dominant ∷ levels ≡ front ++ (skipped ++ rest) → IsCodeFault (Dominant ∷ levels) (record { kind = kind; place = length front }) → SkipsToIdle skipped rest
-      → Finds (place + length (front ++ skipped)) rest found → Finds place (Dominant ∷ levels) (Fault place kind (place + length front) ∷ found)
+      → Dominant ∷ levels ≡ front ++ (skipped ++ rest)
+      → IsCodeFault (Dominant ∷ levels) (record { kind = kind; place = length front })
+      → SkipsToIdle skipped rest
+      → Finds (place + length (front ++ skipped)) rest found
+      → Finds place (Dominant ∷ levels) (Fault place kind (place + length front) ∷ found)
 
 -- ---- what is written for it
 
@@ -67,8 +71,12 @@ code_of Form = codes "C5"
 
 -- the line of a finding
 unfoldable pub finding_line : Finding → List ℕ
-finding_line (Frame place h) = decimal place ++ (codes " " ++ (frame_text h.frame ++ (acknowledgement h.acked ++ (deviations h ++ 10 ∷ []))))
-finding_line (Fault place kind fault_place) = decimal place ++ (codes " fault " ++ (code_of kind ++ (codes " at " ++ (decimal fault_place ++ 10 ∷ []))))
+finding_line (Frame place h) =
+    decimal place ++ (codes " " ++ (frame_text h.frame
+    ++ (acknowledgement h.acked ++ (deviations h ++ 10 ∷ []))))
+finding_line (Fault place kind fault_place) =
+    decimal place ++ (codes " fault " ++ (code_of kind
+    ++ (codes " at " ++ (decimal fault_place ++ 10 ∷ []))))
 
 -- the levels didn't end within the frame
 abbrev pub is_closed : Finding → Bool

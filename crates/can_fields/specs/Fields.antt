@@ -33,6 +33,9 @@ abbrev pub field_at : List Level → ℕ → Field
 field_at u place =
     if place == 0 then StartOfFrame
     else if nat_lt place 12 then Identifier
-    else if place == 12 then (if nat_lt (length u) 14 then RemoteOrSubstitute else if extended_of u then SubstituteRequest else RemoteRequest)
+    else if place == 12 then
+    (if nat_lt (length u) 14 then RemoteOrSubstitute
+    else if extended_of u then SubstituteRequest
+    else RemoteRequest)
     else if place == 13 then IdentifierExtension
     else field_from_rtr u (rtr_place (extended_of u)) place

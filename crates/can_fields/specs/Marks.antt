@@ -21,7 +21,9 @@ stuff_bit_of field = record { field = field; stuffed = true }
 
 -- the ten levels behind the stuffed part
 abbrev pub tail_marks : List Mark
-tail_marks = map bit_of (CheckDelimiter ∷ AckSlot ∷ AckDelimiter ∷ EndOfFrame ∷ EndOfFrame ∷ EndOfFrame ∷ EndOfFrame ∷ EndOfFrame ∷ EndOfFrame ∷ EndOfFrame ∷ [])
+tail_marks = map bit_of (
+    CheckDelimiter ∷ AckSlot ∷ AckDelimiter ∷ EndOfFrame ∷ EndOfFrame ∷ EndOfFrame ∷ EndOfFrame ∷
+    EndOfFrame ∷ EndOfFrame ∷ EndOfFrame ∷ [])
 
 -- the front that levels make, as far as they can be heard: up to a wrong stuff bit or the end of the stuffed part
 abbrev pub heard_to : FrontParts → List Level → FrontParts
@@ -31,7 +33,9 @@ heard_to f (x ∷ xs) = unwrap_or (option_map (λ g. heard_to g xs) (hear_at (ne
 -- Marks from a level x on, where f has been heard before it, `more` levels follow it, and these are their marks. A stuff
 -- bit stands in the field of the level before it; behind a wrong one nothing is told.
 abbrev pub marks_at : Place → List Level → FrontParts → Level → ℕ → List Mark → List Mark
-marks_at StuffBit u f x more rest = stuff_bit_of (field_at u (length f.unstuffed - 1)) ∷ (if is_stuff_error f x then [] else rest)
+marks_at StuffBit u f x more rest =
+    stuff_bit_of (field_at u (length f.unstuffed - 1))
+    ∷ (if is_stuff_error f x then [] else rest)
 marks_at Bit u f x more rest = bit_of (field_at u (length f.unstuffed)) ∷ rest
 marks_at CrcDelimiter u f x more rest = take (suc more) tail_marks
 

@@ -4,7 +4,8 @@ use Rattle.std.specs.Prelude.{◌≡◌, ℕ, ◌+◌, List, ◌∷◌, ◌++◌
 use Rattle.can_stream.specs.Lines.{whole_lines}
 
 -- The output is a beginning of the answer to some first lines of the input that are known whole.
-pub record BeginsAnswer (Answer : List (List ℕ) → List ℕ → Type 0) (reader_ended : Bool) (input output : List ℕ) : Type 0 where
+pub record BeginsAnswer (Answer : List (List ℕ) → List ℕ → Type 0)
+    (reader_ended : Bool) (input output : List ℕ) : Type 0 where
   pub good : List (List ℕ)
   pub others : List (List ℕ)
   pub rest : List ℕ
@@ -13,7 +14,8 @@ pub record BeginsAnswer (Answer : List (List ℕ) → List ℕ → Type 0) (read
 
 -- Of the lines of the input that are known whole, the line of this number, from 1, is bad. The output is
 -- the answer to the lines before it.
-pub record StopsAtLine (Answer : List (List ℕ) → List ℕ → Type 0) (IsBad : List ℕ → Type 0) (number : ℕ) (reader_ended : Bool) (input output : List ℕ) : Type 0 where
+pub record StopsAtLine (Answer : List (List ℕ) → List ℕ → Type 0) (IsBad : List ℕ → Type 0)
+    (number : ℕ) (reader_ended : Bool) (input output : List ℕ) : Type 0 where
   pub before : List (List ℕ)
   pub bad : List ℕ
   pub after : List (List ℕ)

@@ -174,7 +174,9 @@ pub record BeginsTotal (reader_ended : Bool) (input output : List ℕ) : Type 0 
 -- The output is a beginning of the answer to the lines of the input that are known whole, up to the first
 -- that is bad; if all lines are known and none is bad, their total belongs to the answer.
 abbrev pub BeginsChecking : Bool → List ℕ → List ℕ → Type 0
-BeginsChecking reader_ended input output = BeginsAnswer ChecksLines reader_ended input output ⊎ BeginsTotal reader_ended input output
+BeginsChecking reader_ended input output =
+    BeginsAnswer ChecksLines reader_ended input output
+    ⊎ BeginsTotal reader_ended input output
 
 -- Of the lines of the input that are known whole, the line of this number, from 1, is the first bad one,
 -- and its frame text has this fault. The output is the answer to the lines before it.

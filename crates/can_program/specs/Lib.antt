@@ -1,2 +1,4 @@
 -- To believe: what public calls and laws promise is said in these words
 pub mod Status
+pub mod Words
+pub mod Written

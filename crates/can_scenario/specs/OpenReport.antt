@@ -29,7 +29,8 @@ pub record IsQuietPlan (entries : ℕ) (plan : PortPlan) : Type 0 where
 pub record IsOpenScenario (s : Scenario) : Type 0 where
   pub two : 2 ≤ length s.ports.items
   pub undisturbed : s.hits.items ≡ []
-  pub quiet : (n : ℕ) (plan : PortPlan) → slice_get s.ports.items n ≡ Some plan → IsQuietPlan (length (all_frames (queues s))) plan
+  pub quiet : (n : ℕ) (plan : PortPlan) → slice_get s.ports.items n ≡ Some plan
+      → IsQuietPlan (length (all_frames (queues s))) plan
   pub different : AreDifferent (all_frames (queues s))
 
 -- which frame starts when, by the schedule of the offers
@@ -43,4 +44,6 @@ quiet_port frames queue = record { state = Active; tec = 0; rec = 0; missed = 0;
 -- the report of an open bus with these starts, after so many bit times, at whose ports these frames were offered: the track of the
 -- starts, and at each port all frames, in the order in which they start
 abbrev pub open_report : ℕ → List TimedParts → List (List Parts) → List ℕ
-open_report bits starts queues = report_text (levels_until (track_at starts) bits) (map (quiet_port (frames_of starts)) queues)
+open_report bits starts queues =
+    report_text (levels_until (track_at starts) bits)
+    (map (quiet_port (frames_of starts)) queues)

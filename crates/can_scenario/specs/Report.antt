@@ -24,7 +24,9 @@ use Rattle.can_scenario_text.specs.declared.scenario.PortPlan.{PortPlan}
 
 -- A port as it is made: with a place in its queue for each frame that it is offered, and asked for its overload frames.
 abbrev pub made_port : PortPlan → PortState
-made_port plan = port_holding plan.overloads (fresh_port (if plan.joins then joining else idle) (length plan.queue.items) plan.log_room)
+made_port plan =
+    port_holding plan.overloads
+    (fresh_port (if plan.joins then joining else idle) (length plan.queue.items) plan.log_room)
 
 -- a bus as it is made, where eleven recessive levels count as recorded last
 abbrev pub new_bus : List PortState → BusState
@@ -78,7 +80,13 @@ pub record PortReport : Type 0 where
   pub log : List Entry
 
 abbrev pub reported : PortState → PortReport
-reported p = record { state = state_of p.mac.counters; tec = p.mac.counters.tec; rec = p.mac.counters.rec; missed = p.missed; log = p.log }
+reported p = record {
+  state = state_of p.mac.counters;
+  tec = p.mac.counters.tec;
+  rec = p.mac.counters.rec;
+  missed = p.missed;
+  log = p.log;
+}
 
 abbrev pub line_end : List ℕ
 line_end = 10 ∷ []
@@ -123,4 +131,6 @@ report s = report_text (recorded_levels s) (map reported (ended_bus s).ports)
 
 -- the report of a run at whose beginning all frames wait
 abbrev pub waiting_report : Scenario → List ℕ
-waiting_report s = report_text (levels_until (λ t. bus_level s.hits.items t (waiting_bus s)) s.bits) (map reported (bus_run s.hits.items s.bits (waiting_bus s)).ports)
+waiting_report s =
+    report_text (levels_until (λ t. bus_level s.hits.items t (waiting_bus s)) s.bits)
+    (map reported (bus_run s.hits.items s.bits (waiting_bus s)).ports)

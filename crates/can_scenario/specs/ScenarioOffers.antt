@@ -29,7 +29,9 @@ pub record AreInTime (offers ordered : List Offer) : Type 0 where
 -- The same, computed: an offer at its place, ahead of all that aren't earlier.
 abbrev pub put_in_time : Offer → List Offer → List Offer
 put_in_time offer [] = offer ∷ []
-put_in_time offer (next ∷ offers) = if nat_le offer.time next.time then offer ∷ next ∷ offers else next ∷ put_in_time offer offers
+put_in_time offer (next ∷ offers) =
+    if nat_le offer.time next.time then offer ∷ next ∷ offers
+    else next ∷ put_in_time offer offers
 
 unfoldable pub in_time : List Offer → List Offer
 in_time [] = []

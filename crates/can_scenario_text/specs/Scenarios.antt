@@ -65,7 +65,9 @@ IsQueueElement One d = IsFrameValue d
 IsQueueElement Two d = IsTimedFrameValue d
 
 abbrev pub frame_demands : Version → ℕ → ℕ → Data → Demands Field
-frame_demands version number place d = demand (field.Port number (of_port.Frame place)) (IsQueueElement version d) no_demands
+frame_demands version number place d =
+    demand (field.Port number (of_port.Frame place)) (IsQueueElement version d)
+    no_demands
 
 -- a queue and its elements
 abbrev pub queue_demands : Version → ℕ → Data → Demands Field
@@ -121,7 +123,8 @@ IsSoundHit ports before (Some hit) = (hit_names_port ports hit ≡ true) × IsAb
 abbrev pub hit_demands : HitList → ℕ → ℕ → Option Hit → List Data → Demands Field
 hit_demands list ports place before [] = no_demands
 hit_demands list ports place before (d ∷ ds) =
-    demand (field.Hit list place) (IsSoundHit ports before (hit_in list d)) (hit_demands list ports (place + 1) (hit_in list d) ds)
+    demand (field.Hit list place) (IsSoundHit ports before (hit_in list d))
+    (hit_demands list ports (place + 1) (hit_in list d) ds)
 
 abbrev pub list_name : HitList → List ℕ
 list_name At = codes "at"
@@ -155,7 +158,9 @@ ports_in document = elements_in (named (codes "port") document)
 -- all three lists of disturbances
 abbrev pub hits_demands : ℕ → Data → Demands Field
 hits_demands ports document =
-    followed (list_demands At ports document) (followed (list_demands In ports document) (list_demands View ports document))
+    followed (list_demands At ports document)
+    (followed (list_demands In ports document)
+    (list_demands View ports document))
 
 -- the fields at the top, but for the disturbances
 abbrev pub top_demands : Data → Demands Field

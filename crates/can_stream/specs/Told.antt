@@ -6,7 +6,10 @@ use Rattle.std.specs.Io.KnownBytes.{Consumes, Appends}
 -- The call read the input from its reader and its writer took the output, and they are related so. What
 -- the reader has left and what the writer holds is given before and after the call; where it is unknown,
 -- the input or the output is any.
-pub record Told {R W : Type 0} (remaining : R → Option (List ℕ)) (before after : R) (contents : W → Option (List ℕ)) (held holds : W) (Related : List ℕ → List ℕ → Type 0) : Type 0 where
+pub record Told {R W : Type 0}
+    (remaining : R → Option (List ℕ)) (before after : R)
+    (contents : W → Option (List ℕ)) (held holds : W)
+    (Related : List ℕ → List ℕ → Type 0) : Type 0 where
   pub input : List ℕ
   pub output : List ℕ
   pub consumes : Consumes (remaining before) (remaining after) input

@@ -11,7 +11,8 @@ use Rattle.can_stream.specs.Told.{Told}
 use Rattle.can_stream.specs.declared.fault.TraceFault.{TraceFault}
 use Rattle.can_stream.specs.declared.fault.TraceFault.TheVariants.{ScenarioField, Read, Write, Memory}
 use Rattle.can_stream.specs.declared.field.Field.{Field}
-use Rattle.canbit_commands.specs.Answers.{RefusesScenario, WritesNothing}
+use Rattle.canbit_commands.specs.Answers.{RefusesScenario}
+use Rattle.can_program.specs.Written.{WritesNothing}
 use Rattle.canbit_commands.specs.Ends.{RunEnds}
 
 took-nothing : (taken : Option (List ℕ)) → Appends taken taken []
@@ -140,7 +141,7 @@ module _ {R W : Type 0} (remaining : R → Option (List ℕ)) (before after : R)
           read = λ e. cc;
           write = λ e.
               let taken = front e in
-              record { input = text; output = taken.taken; consumes = takes; appends = taken.appends; related = (scenario, says, (taken.left, taken.split)) };
+              record { input = text; output = taken.taken; consumes = takes; appends = taken.appends; related = record { answer = report scenario; is = (scenario, says, refl); rest = taken.left; all = taken.split } };
           memory = λ e. kept e;
           no_byte = λ place e. cc;
           no_line = λ n bad e. cc;

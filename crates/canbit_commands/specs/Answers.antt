@@ -1,11 +1,12 @@
 -- What each subcommand has written of what it read, for each way in which it can end. (docs/FORMATS.md)
-use Rattle.std.specs.Prelude.{◌≡◌, ◌≢◌, ◌⊎◌, ℕ, Bool, IsTrue, List, [], ◌++◌}
+use Rattle.std.specs.Prelude.{◌≡◌, ◌≢◌, ◌⊎◌, ℕ, Bool, IsTrue, List}
 use Rattle.can_lines.specs.Checked.{BeginsChecking, ChecksAll, ChecksEnded, ChecksTooLong, IsFirstBadByte, IsFirstBadVectorLine}
 use Rattle.can_lines.specs.Coded.{BeginsEncoding, EncodesAll, EncodesEnded, EncodesTooLong, IsFirstBadLine}
 use Rattle.can_decode.specs.Decoded.{BeginsDecoding, DecodesAll, DecodesSoFar, DecodesToBadByte, DecodesTooLong}
 use Rattle.can_scenario.specs.Report.{report}
 use Rattle.can_scenario_text.specs.Scenarios.{IsWrongScenarioField, IsScenarioText}
 use Rattle.can_scenario_text.specs.declared.scenario.Scenario.{Scenario}
+use Rattle.can_program.specs.Written.{WritesBeginning, WritesNothing}
 use Rattle.can_stream.specs.declared.field.Field.{Field}
 use Rattle.canbit_words.specs.declared.subcommands.Chosen.{Chosen}
 use Rattle.canbit_words.specs.declared.subcommands.Chosen.TheVariants.{Encode, Decode, Run, Check}
@@ -21,14 +22,6 @@ PassesNotAll input output = (passed : ℕ) × ((count : ℕ) × (passed ≢ coun
 -- the input is the text of a scenario, and the output is its report
 abbrev pub Reports : List ℕ → List ℕ → Type 0
 Reports input output = (scenario : Scenario) × IsScenarioText input scenario × (output ≡ report scenario)
-
--- the input is the text of a scenario, and the output is a beginning of its report
-abbrev pub BeginsReport : List ℕ → List ℕ → Type 0
-BeginsReport input output = (scenario : Scenario) × IsScenarioText input scenario × ((rest : List ℕ) × (report scenario ≡ output ++ rest))
-
--- nothing is written, whatever the input
-abbrev pub WritesNothing : List ℕ → List ℕ → Type 0
-WritesNothing input output = output ≡ []
 
 -- the input says no scenario, for which this field is told, and nothing is written
 abbrev pub RefusesScenario : Field → List ℕ → List ℕ → Type 0
@@ -52,7 +45,7 @@ AnswersEnded Check = ChecksEnded
 abbrev pub BeginsAnswering : Chosen → Bool → List ℕ → List ℕ → Type 0
 BeginsAnswering Encode = BeginsEncoding
 BeginsAnswering Decode = λ reader_ended. BeginsDecoding
-BeginsAnswering Run = λ reader_ended input output. IsTrue reader_ended × BeginsReport input output
+BeginsAnswering Run = λ reader_ended input output. IsTrue reader_ended × WritesBeginning Reports input output
 BeginsAnswering Check = BeginsChecking
 
 -- the input is too long

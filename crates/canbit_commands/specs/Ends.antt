@@ -7,7 +7,8 @@ use Rattle.can_stream.specs.declared.fault.TraceFault.TheVariants.{BadByte, Scen
 use Rattle.can_stream.specs.declared.field.Field.{Field}
 use Rattle.canbit_words.specs.declared.subcommands.Chosen.{Chosen}
 use Rattle.canbit_words.specs.declared.subcommands.Chosen.TheVariants.{Run}
-use Rattle.canbit_commands.specs.Answers.{AnswersAll, AnswersEnded, BeginsAnswering, BeginsReport, HasBadByte, RefusesInput, RefusesScenario, Reports, WritesNothing}
+use Rattle.canbit_commands.specs.Answers.{AnswersAll, AnswersEnded, BeginsAnswering, HasBadByte, RefusesInput, RefusesScenario, Reports}
+use Rattle.can_program.specs.Written.{WritesBeginning, WritesNothing}
 
 -- The reader and the writer before and behind a call, whether the reader has ended or failed by then, and whether the
 -- writer has failed, so that what it took is cut.
@@ -17,7 +18,7 @@ module _ {R W : Type 0} (remaining : R → Option (List ℕ)) (before after : R)
     pub ok : OnOk result (Told remaining before after contents held holds Reports)
     pub field : (wrong : Field) → IsErrOf result (ScenarioField wrong) → Told remaining before after contents held holds (RefusesScenario wrong)
     pub read : IsErrOf result Read → Told remaining before after contents held holds WritesNothing
-    pub write : IsErrOf result Write → Told remaining before after contents held holds BeginsReport
+    pub write : IsErrOf result Write → Told remaining before after contents held holds (WritesBeginning Reports)
     pub memory : IsErrOf result Memory → holds ≡ held
     pub no_byte : (place : ℕ) → IsErrOf result (BadByte place) → ⊥
     pub no_line : (n : ℕ) (fault : _) → IsErrOf result (FrameLine n fault) → ⊥

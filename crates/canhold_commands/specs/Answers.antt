@@ -1,11 +1,12 @@
 -- What each subcommand has written for what it read, for each outcome. (docs/CONFORMANCE.md, "Line by line",
 -- "What is expected", "What is judged")
-use Rattle.std.specs.Prelude.{ℕ, ◌≡◌, ◌⊎◌, ◌==◌, if◌then◌else◌, List, [], ◌++◌, Result, Ok, Err}
+use Rattle.std.specs.Prelude.{ℕ, ◌≡◌, ◌⊎◌, ◌==◌, if◌then◌else◌, List, Result, Ok, Err}
 use Rattle.toml.specs.Data.{Data}
 use Rattle.kit_adapter.specs.Plays.{Plays}
 use Rattle.kit_answers.specs.Documents.{document_demands, IsWrongKitField}
 use Rattle.kit_answers.specs.Expectations.{cases_alone_demands, IsExpected}
 use Rattle.kit_answers.specs.Judgements.{IsJudged}
+use Rattle.can_program.specs.Written.{WritesBeginning, WritesNothing}
 use Rattle.can_stream.specs.declared.fault.TraceFault.TheVariants.{Read, Write, Memory}
 use Rattle.kit_cases.specs.declared.field.KitField.{KitField}
 use Rattle.document_values.specs.Demands.{Demands}
@@ -36,48 +37,38 @@ PlaysLines (Err NothingJudged) input output = ⊥
 abbrev pub finding_of : Tally → Finding
 finding_of tally = if cases_in tally == 0 then Nothing else (if tally.failed == 0 then Agree else Differ)
 
--- the answer to a document, and what is found in it
-abbrev pub IsAnswerTo : Question → List ℕ → List ℕ → Finding → Type 0
-IsAnswerTo Expect input answer finding = IsExpected input answer × (finding ≡ Agree)
-IsAnswerTo Judge input answer finding = (tally : Tally) × IsJudged input answer tally × (finding ≡ finding_of tally)
+-- the output is the whole answer to a document in which this is found
+abbrev pub AnswersSo : Question → Finding → List ℕ → List ℕ → Type 0
+AnswersSo Expect finding input output = IsExpected input output × (finding ≡ Agree)
+AnswersSo Judge finding input output =
+    (tally : Tally) × IsJudged input output tally × (finding ≡ finding_of tally)
+
+-- it is, whatever is found
+abbrev pub Answers : Question → List ℕ → List ℕ → Type 0
+Answers question input output = (finding : Finding) × AnswersSo question finding input output
 
 -- what is demanded of the document
 abbrev pub demands_of : Question → Data → Demands KitField
 demands_of Expect = cases_alone_demands
 demands_of Judge = document_demands
 
--- nothing is written
-abbrev pub WritesNothing : List ℕ → List ℕ → Type 0
-WritesNothing input output = output ≡ []
-
 -- the document is refused for this field, and nothing is written
 abbrev pub Refuses : Question → KitField → List ℕ → List ℕ → Type 0
-Refuses question wrong input output = IsWrongKitField (demands_of question) wrong input × WritesNothing input output
+Refuses question wrong input output =
+    IsWrongKitField (demands_of question) wrong input × WritesNothing input output
 
 -- a field is wrong, or memory ran out
 abbrev pub IsFieldOrMemory : CanholdFault → Type 0
 IsFieldOrMemory fault = ((wrong : KitField) × (fault ≡ Field wrong)) ⊎ (fault ≡ Stream Memory)
 
--- the whole answer is written
-abbrev pub Answers : Question → Finding → List ℕ → List ℕ → Type 0
-Answers question finding input output = IsAnswerTo question input output finding
-
--- a beginning of the answer is written
-pub record BeginsAnswer (question : Question) (input output : List ℕ) : Type 0 where
-  pub answer : List ℕ
-  pub finding : Finding
-  pub is : IsAnswerTo question input answer finding
-  pub rest : List ℕ
-  pub all : answer ≡ output ++ rest
-
 -- the document has been answered
 abbrev pub AnswersDocument : Question → Result (Unit {0}) CanholdFault → List ℕ → List ℕ → Type 0
-AnswersDocument question (Ok done) = Answers question Agree
+AnswersDocument question (Ok done) = AnswersSo question Agree
 AnswersDocument question (Err (Field wrong)) = Refuses question wrong
-AnswersDocument question (Err TranscriptsDiffer) = Answers question Differ
-AnswersDocument question (Err NothingJudged) = Answers question Nothing
+AnswersDocument question (Err TranscriptsDiffer) = AnswersSo question Differ
+AnswersDocument question (Err NothingJudged) = AnswersSo question Nothing
 AnswersDocument question (Err (Stream Read)) = WritesNothing
-AnswersDocument question (Err (Stream Write)) = BeginsAnswer question
+AnswersDocument question (Err (Stream Write)) = WritesBeginning (Answers question)
 AnswersDocument question (Err (Stream Memory)) = WritesNothing
 AnswersDocument question (Err (Stream _)) = λ input output. ⊥
 

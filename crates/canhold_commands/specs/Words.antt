@@ -1,17 +1,12 @@
 -- What the words of a command line ask for. (docs/CONFORMANCE.md, "Line by line")
-use Rattle.std.specs.Prelude.{ℕ, ◌≡◌, Bool, ◌&&◌, ◌||◌, if◌then◌else◌, List, [], ◌∷◌, Option, Some, None, codes, map, string_bytes}
+use Rattle.std.specs.Prelude.{ℕ, ◌≡◌, Bool, ◌&&◌, ◌||◌, if◌then◌else◌, List, [], ◌∷◌, Option, Some, None, codes}
 use Rattle.std.specs.Str.{bytes_eq}
-use Rattle.std.specs.declared.alloc.Global.{Global}
-use Rattle.std.specs.declared.string.String.{String}
+use Rattle.can_program.specs.Words.{is_help_option, is_help_word, is_version_word}
 use Rattle.canhold_commands.specs.declared.words.Asked.{Asked}
 use Rattle.canhold_commands.specs.declared.words.Asked.TheVariants.{Run, Help, Version}
 use Rattle.canhold_commands.specs.declared.words.Chosen.{Chosen}
 use Rattle.canhold_commands.specs.declared.words.Chosen.TheVariants.{Play, Document}
 use Rattle.canhold_commands.specs.declared.words.Question.TheVariants.{Expect, Judge}
-
--- the words as texts
-abbrev pub texts_of : List (String Global) → List (List ℕ)
-texts_of words = map string_bytes words
 
 -- what one word asks for: it names a subcommand, or asks for help or for the version
 abbrev pub asked_word : List ℕ → Option Asked
@@ -19,8 +14,8 @@ asked_word word =
     if bytes_eq word (codes "play") then Some (Run Play)
     else if bytes_eq word (codes "expect") then Some (Run (Document Expect))
     else if bytes_eq word (codes "judge") then Some (Run (Document Judge))
-    else if bytes_eq word (codes "help") || (bytes_eq word (codes "--help") || bytes_eq word (codes "-h")) then Some Help
-    else (if bytes_eq word (codes "--version") || bytes_eq word (codes "-V") then Some Version else None)
+    else if is_help_word word then Some Help
+    else (if is_version_word word then Some Version else None)
 
 -- a word that names a subcommand
 abbrev pub is_subcommand : List ℕ → Bool
@@ -28,8 +23,7 @@ is_subcommand word = bytes_eq word (codes "play") || (bytes_eq word (codes "expe
 
 -- what two words ask for: help, where the second asks for it behind a subcommand
 abbrev pub asked_words : List ℕ → List ℕ → Option Asked
-asked_words word option =
-    if is_subcommand word && (bytes_eq option (codes "--help") || bytes_eq option (codes "-h")) then Some Help else None
+asked_words word option = if is_subcommand word && is_help_option option then Some Help else None
 
 -- what the words ask for: the program's name, whatever it is, and one word or two
 abbrev pub asked_by : List (List ℕ) → Option Asked

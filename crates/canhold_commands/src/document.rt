@@ -3,7 +3,8 @@ ghost use Rattle.std.specs.Prelude.{◌≡◌, ◌⊎◌, ◌↔◌, false, IfEr
 ghost use Rattle.can_stream.specs.Told.{Told};
 ghost use Rattle.kit_cases.specs.declared.field.KitField.{KitField};
 ghost use Rattle.kit_answers.specs.Documents.{IsWrongKitField};
-ghost use Rattle.canhold_commands.specs.Answers.{demands_of, finding_of, Answers, BeginsAnswer, IsAnswerTo, IsFieldOrMemory, Refuses, WritesNothing};
+ghost use Rattle.can_program.specs.Written.{WritesBeginning, WritesNothing};
+ghost use Rattle.canhold_commands.specs.Answers.{demands_of, finding_of, Answers, AnswersSo, IsFieldOrMemory, Refuses};
 
 use crate::fault::CanholdFault;
 use crate::words::Question;
@@ -39,11 +40,11 @@ pub fn answer_document<R: Source, W: Sink>(
     requires writer_unfailed { W.has_failed w.old ≡ false }
 
     // What was written of what was read.
-    ensures ok { IfOk result (λ finding. Told R.remaining r.old r.new W.contents w.old w.new (Answers question finding)) }
+    ensures ok { IfOk result (λ finding. Told R.remaining r.old r.new W.contents w.old w.new (AnswersSo question finding)) }
     ensures field { (wrong : KitField) → IsErrOf result (CanholdFault.Field wrong) →
         Told R.remaining r.old r.new W.contents w.old w.new (Refuses question wrong) }
     ensures read { IsErrOf result (CanholdFault.Stream TraceFault.Read) → Told R.remaining r.old r.new W.contents w.old w.new WritesNothing }
-    ensures write { IsErrOf result (CanholdFault.Stream TraceFault.Write) → Told R.remaining r.old r.new W.contents w.old w.new (BeginsAnswer question) }
+    ensures write { IsErrOf result (CanholdFault.Stream TraceFault.Write) → Told R.remaining r.old r.new W.contents w.old w.new (WritesBeginning (Answers question)) }
     ensures memory { IsErrOf result (CanholdFault.Stream TraceFault.Memory) → Told R.remaining r.old r.new W.contents w.old w.new WritesNothing }
     ensures other { IfErr result (λ fault. IsFieldOrMemory fault ⊎ (fault ≡ CanholdFault.Stream TraceFault.Read) ⊎ (fault ≡ CanholdFault.Stream TraceFault.Write)) }
 
@@ -71,7 +72,7 @@ fn answer_or_name(
     text: &[u8],
     of: &mut String,
 ) -> Result<Answer, KitFault>
-    ensures found { IfOk result (λ answer. IsAnswerTo question text.now answer.bytes.items answer.finding) }
+    ensures found { IfOk result (λ answer. AnswersSo question answer.finding text.now answer.bytes.items) }
     ensures wrong { (wrong : KitField) → IsErrOf result (KitFault.Field wrong) → IsWrongKitField (demands_of question) wrong text.now }
 {
     let answer = answer_to(alloc, question, text);
@@ -85,7 +86,7 @@ fn answer_or_name(
 
 /// The answer to the document that the bytes are.
 fn answer_to(alloc: Global, question: Question, text: &[u8]) -> Result<Answer, KitFault>
-    ensures found { IfOk result (λ answer. IsAnswerTo question text.now answer.bytes.items answer.finding) }
+    ensures found { IfOk result (λ answer. AnswersSo question answer.finding text.now answer.bytes.items) }
     ensures wrong { (wrong : KitField) → IsErrOf result (KitFault.Field wrong) → IsWrongKitField (demands_of question) wrong text.now }
 {
     match question {

@@ -1,6 +1,7 @@
 //! What the words of a command line ask for.
 ghost use Rattle.std.specs.Prelude.{◌≡◌};
-ghost use Rattle.canhold_commands.specs.Words.{asked_by, asked_word, asked_words, texts_of};
+ghost use Rattle.can_program.specs.Words.{texts_of};
+ghost use Rattle.canhold_commands.specs.Words.{asked_by, asked_word, asked_words};
 
 /// What is asked of a kit document.
 #[derive(Clone, Copy, Debug, PartialEq, Eq)]

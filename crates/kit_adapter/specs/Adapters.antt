@@ -45,7 +45,9 @@ play_answer xs p = event_lines 0 xs p ++ (codes "drove " ++ (map digit_of (drove
 -- the state and both counters
 abbrev pub state_answer : PortState → List ℕ
 state_answer p =
-    codes "state " ++ (state_word (state_of p.mac.counters) ++ (codes " " ++ (decimal p.mac.counters.tec ++ (codes " " ++ (decimal p.mac.counters.rec ++ line_end)))))
+    codes "state " ++ (state_word (state_of p.mac.counters)
+    ++ (codes " " ++ (decimal p.mac.counters.tec
+    ++ (codes " " ++ (decimal p.mac.counters.rec ++ line_end)))))
 
 -- what answers a line that wants a case where none has begun
 abbrev pub no_case_answer : List ℕ

@@ -34,7 +34,10 @@ top_demands d =
 
 -- the top, then each case, then each transcript
 abbrev pub document_demands : Data → Demands KitField
-document_demands d = followed (top_demands d) (followed (cases_demands (cases_of d)) (transcripts_demands (cases_of d) (transcripts_of d)))
+document_demands d =
+    followed (top_demands d)
+    (followed (cases_demands (cases_of d))
+    (transcripts_demands (cases_of d) (transcripts_of d)))
 
 -- ---- what is said
 

@@ -31,7 +31,9 @@ has_one transcripts place = list_any (λ told. told.case == place) transcripts
 
 -- how many of the document's cases have no transcript
 abbrev pub cases_without : Document → ℕ
-cases_without document = count_by (λ place. not (has_one document.transcripts.items place)) (range_with_len 0 (length document.cases.items))
+cases_without document =
+    count_by (λ place. not (has_one document.transcripts.items place))
+    (range_with_len 0 (length document.cases.items))
 
 -- ---- the lines
 
@@ -40,8 +42,8 @@ pub record Lines : Type 0 where
   pub text : List ℕ
   pub tally : Tally
 
-abbrev pub lines_of : List ℕ → Tally → Lines
-lines_of text tally = record { text = text; tally = tally }
+abbrev pub lines_with : List ℕ → Tally → Lines
+lines_with text tally = record { text = text; tally = tally }
 
 -- behind these lines that of the verdict on this transcript of this case, which is counted
 pub record AddsVerdict (case : Case) (told : Told) (before after : Lines) : Type 0 where
@@ -61,7 +63,7 @@ AddVerdicts cases (told ∷ transcripts) before after =
 -- cases without a transcript
 pub record IsAnswer (document : Document) (answer : List ℕ) (tally : Tally) : Type 0 where
   pub lines : List ℕ
-  pub verdicts : AddVerdicts document.cases.items document.transcripts.items (lines_of [] no_cases) (lines_of lines tally)
+  pub verdicts : AddVerdicts document.cases.items document.transcripts.items (lines_with [] no_cases) (lines_with lines tally)
   pub each : cases_in tally ≡ length document.transcripts.items
   pub all : answer ≡ lines ++ count_line tally (cases_without document)
 

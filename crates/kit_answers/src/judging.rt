@@ -7,7 +7,7 @@ ghost use Rattle.kit_cases.specs.declared.field.KitField.{KitField as Wrong};
 ghost use Rattle.kit_cases.specs.Cases.{most_bits};
 ghost use Rattle.kit_answers.specs.Documents.{document_demands, IsWrongKitField};
 ghost use Rattle.kit_answers.specs.Marks.{marked};
-ghost use Rattle.kit_answers.specs.Judgements.{cases_without as without_in, counted as counted_as, lines_of, no_cases, AddVerdicts, AddsVerdict, IsAnswer, IsJudged};
+ghost use Rattle.kit_answers.specs.Judgements.{cases_without as without_in, counted as counted_as, lines_with, no_cases, AddVerdicts, AddsVerdict, IsAnswer, IsJudged};
 
 use crate::document::Document;
 use can_conform::{Verdict, judge};
@@ -106,7 +106,7 @@ fn push_verdicts(
     requires told { All (λ one. IsTold one.transcript) transcripts.now }
     requires known { All (λ one. one.case < length cases.now) transcripts.now }
     requires few { length transcripts.now ≤ 4096 }
-    ensures { IfOk result (λ counts. AddVerdicts cases.now transcripts.now (lines_of out.old.items no_cases) (lines_of out.new.items counts)) }
+    ensures { IfOk result (λ counts. AddVerdicts cases.now transcripts.now (lines_with out.old.items no_cases) (lines_with out.new.items counts)) }
 {
     let mut tally = Tally::NONE;
     for told in transcripts {
@@ -126,7 +126,7 @@ fn push_one(
     requires short { length case.now.script.tester.items ≤ most_bits }
     requires told { IsTold told.now.transcript }
     requires few { (tally.passed ≤ 4095) × (tally.failed ≤ 4095) }
-    ensures { IfOk result (λ counts. AddsVerdict case.now told.now (lines_of out.old.items tally) (lines_of out.new.items counts)) }
+    ensures { IfOk result (λ counts. AddsVerdict case.now told.now (lines_with out.old.items tally) (lines_with out.new.items counts)) }
 {
     match judge(alloc, &case.script, &told.transcript) {
         Ok(verdict) => push_said(out, case, &verdict, tally),

@@ -50,7 +50,8 @@ abbrev pub naming_demands : List Data → ℕ → Data → Demands KitField
 naming_demands earlier number d =
     demand (in_case number of_case.Version) (IsRequired (IsNumber 1) (named (codes "version") d))
     (demand (in_case number of_case.Family) (IsRequired (IsText (IsName 40)) (named (codes "family") d))
-    (demand (in_case number of_case.Name) (IsRequired (IsText (IsNewName earlier (text_in (named (codes "family") d)))) (named (codes "name") d))
+    (demand (in_case number of_case.Name)
+    (IsRequired (IsText (IsNewName earlier (text_in (named (codes "family") d)))) (named (codes "name") d))
     (demand (in_case number of_case.Purpose) (IsOptional (IsText IsPurpose) (named (codes "purpose") d))
     no_demands)))
 
@@ -86,14 +87,18 @@ abbrev pub tester_demands : ℕ → Data → Demands KitField
 tester_demands number d =
     demand (in_case number of_case.Tester) (IsRequired (IsArrayOf 1 4096) (named (codes "tester") d))
     (followed (strings_demands (λ place. in_case number (of_case.Levels place)) (strings_of d))
-    (demand (in_case number of_case.Tester) ((levels : List Level) × SayStrings (strings_of d) levels × IsRequired (IsNumber (length levels)) (named (codes "bits") d))
+    (demand (in_case number of_case.Tester)
+    ((levels : List Level) × SayStrings (strings_of d) levels
+    × IsRequired (IsNumber (length levels)) (named (codes "bits") d))
     no_demands))
 
 -- ---- what comes at its time
 
 -- the tester is recessive at a forced time
 abbrev pub forced_demands : ℕ → List Data → ℕ → Data → Demands KitField
-forced_demands number strings place d = demand (in_case number (of_case.ForcedTime place)) (AreRecessive strings (time_in d)) no_demands
+forced_demands number strings place d =
+    demand (in_case number (of_case.ForcedTime place)) (AreRecessive strings (time_in d))
+    no_demands
 
 -- offers, wishes, and forced bit times of a case of so many bit times
 abbrev pub lists_demands : ℕ → ℕ → Data → Demands KitField

@@ -28,7 +28,9 @@ SaysString d levels = (text : List ℕ) × (d ≡ string text) × SaysLevels tex
 -- strings that say these levels, one string after another
 abbrev pub SayStrings : List Data → List Level → Type 0
 SayStrings [] levels = levels ≡ []
-SayStrings (d ∷ ds) levels = (first : List Level) × (rest : List Level) × SaysString d first × SayStrings ds rest × (levels ≡ first ++ rest)
+SayStrings (d ∷ ds) levels =
+    (first : List Level) × (rest : List Level)
+    × SaysString d first × SayStrings ds rest × (levels ≡ first ++ rest)
 
 -- the first of the levels that these strings say, at most so many
 abbrev pub SayUpTo : ℕ → List Data → List Level → Type 0
@@ -111,8 +113,10 @@ elements_demands told Says end apart all = demands_on_each (element_demands told
 -- a list of the case of this number, which has so many bit times; it is empty where it is left out
 abbrev pub list_demands : {A : Type 0} → CaseList → (Data → A → Type 0) → ℕ → ℕ → Data → Demands KitField
 list_demands list Says number bits d =
-    demand (field.Case number (list_field list)) (IsOptional (IsArrayOf 0 (most_elements list)) (named (list_name list) d))
-    (elements_demands (λ place. field.Case number (element_field list place)) Says bits (apart list) (elements_in (named (list_name list) d)))
+    demand (field.Case number (list_field list))
+    (IsOptional (IsArrayOf 0 (most_elements list)) (named (list_name list) d))
+    (elements_demands (λ place. field.Case number (element_field list place)) Says bits (apart list)
+    (elements_in (named (list_name list) d)))
 
 -- a string of levels
 abbrev pub string_demands : (ℕ → KitField) → ℕ → Data → Demands KitField

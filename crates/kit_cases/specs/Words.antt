@@ -71,4 +71,6 @@ SaysChoices field choices = AreWords (map choice_word choices) field
 
 -- whether the list begins with this word, and what stands behind it: all of the list where it doesn't
 abbrev pub TakesWord : List ℕ → List Data → Bool → List Data → Type 0
-TakesWord word ds taken rest = MatchBool taken (ds ≡ string word ∷ rest) ((rest ≡ ds) × ((more : List Data) → ds ≢ string word ∷ more))
+TakesWord word ds taken rest =
+    MatchBool taken (ds ≡ string word ∷ rest)
+    ((rest ≡ ds) × ((more : List Data) → ds ≢ string word ∷ more))

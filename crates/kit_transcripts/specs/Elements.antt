@@ -36,11 +36,15 @@ pub record SayCounters (transmit receive : Data) (counters : Counters) : Type 0 
 
 -- an array of this time and these counters
 abbrev pub SaysChange : Data → Timed Counters → Type 0
-SaysChange d change = (transmit receive : Data) × (d ≡ three (integer (pos change.time)) transmit receive) × SayCounters transmit receive change.told
+SaysChange d change =
+    (transmit receive : Data) × (d ≡ three (integer (pos change.time)) transmit receive)
+    × SayCounters transmit receive change.told
 
 -- an array of the word for this state and these counters
 abbrev pub SaysEnd : Data → Ending → Type 0
-SaysEnd d end = (transmit receive : Data) × (d ≡ three (string (state_word end.state)) transmit receive) × SayCounters transmit receive end.counters
+SaysEnd d end =
+    (transmit receive : Data) × (d ≡ three (string (state_word end.state)) transmit receive)
+    × SayCounters transmit receive end.counters
 
 -- a field that may be left out says this, and nothing where it is left out
 abbrev pub SaysIfThere : {A : Type 0} → (Data → A → Type 0) → Option Data → Option A → Type 0
@@ -74,5 +78,7 @@ time_end = 100001
 -- a list of the transcript of this number; its times rise
 abbrev pub list_demands : {A : Type 0} → TranscriptList → (Data → A → Type 0) → ℕ → Data → Demands KitField
 list_demands list Says number d =
-    demand (field.Transcript number (list_field list)) (IsOptional (IsArrayOf 0 most_elements) (named (list_name list) d))
-    (elements_demands (λ place. field.Transcript number (element_field list place)) Says time_end 1 (elements_in (named (list_name list) d)))
+    demand (field.Transcript number (list_field list))
+    (IsOptional (IsArrayOf 0 most_elements) (named (list_name list) d))
+    (elements_demands (λ place. field.Transcript number (element_field list place)) Says time_end 1
+    (elements_in (named (list_name list) d)))

@@ -57,7 +57,8 @@ abbrev pub drove_demands : ℕ → Data → Demands KitField
 drove_demands number d =
     demand (in_transcript number of_transcript.Drove) (IsRequired (IsArrayOf 0 4096) (named (codes "drove") d))
     (followed (strings_demands (λ place. in_transcript number (of_transcript.Levels place)) (drove_of d))
-    (demand (in_transcript number of_transcript.Drove) ((levels : List Level) × SayStrings (drove_of d) levels × (length levels ≤ most_levels))
+    (demand (in_transcript number of_transcript.Drove)
+    ((levels : List Level) × SayStrings (drove_of d) levels × (length levels ≤ most_levels))
     no_demands))
 
 -- ---- a transcript
@@ -72,7 +73,10 @@ naming_demands cases earlier number d =
 
 -- the end, which may be left out
 abbrev pub end_demands : ℕ → Data → Demands KitField
-end_demands number d = demand (in_transcript number of_transcript.End) (IsOptional (λ value. (end : Ending) × SaysEnd value end) (named (codes "end") d)) no_demands
+end_demands number d =
+    demand (in_transcript number of_transcript.End)
+    (IsOptional (λ value. (end : Ending) × SaysEnd value end) (named (codes "end") d))
+    no_demands
 
 -- what it tells of the run of its case
 abbrev pub telling_demands : ℕ → Data → Demands KitField
@@ -98,8 +102,10 @@ transcripts_demands cases ds = demands_on_each (λ number d. transcript_demands 
 -- the table tells this of the run of a case
 pub record SaysTelling (d : Data) (t : Transcript) : Type 0 where
   pub drove : SayStrings (drove_of d) t.drove.items
-  pub events : SaysIfThere (λ list events. ArePaired SaysEventAt (elements list) events.items) (named (codes "events") d) t.events
-  pub counters : SaysIfThere (λ list changes. ArePaired SaysChange (elements list) changes.items) (named (codes "counters") d) t.counters
+  pub events : SaysIfThere (λ list events. ArePaired SaysEventAt (elements list) events.items)
+      (named (codes "events") d) t.events
+  pub counters : SaysIfThere (λ list changes. ArePaired SaysChange (elements list) changes.items)
+      (named (codes "counters") d) t.counters
   pub end : SaysIfThere SaysEnd (named (codes "end") d) t.end
 
 -- the table says this transcript, of the case at this place among these

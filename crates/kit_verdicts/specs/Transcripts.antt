@@ -52,7 +52,9 @@ drove_line levels =
 
 -- the state in quotes, TEC and REC
 abbrev pub end_line : Ending → List ℕ
-end_line end = codes "end = [\"" ++ (state_word end.state ++ (codes "\", " ++ (counters_elements end.counters ++ codes "]\n")))
+end_line end =
+    codes "end = [\"" ++ (state_word end.state
+    ++ (codes "\", " ++ (counters_elements end.counters ++ codes "]\n")))
 
 -- the transcript of the case of this name
 abbrev pub transcript_text : List ℕ → Transcript → List ℕ

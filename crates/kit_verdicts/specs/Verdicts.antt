@@ -54,7 +54,9 @@ difference_text (difference.End told ought) = codes "end " ++ not_text ending_te
 
 -- the bit time, the difference, and where the reference stands before
 abbrev pub failure_text : Failure → List ℕ
-failure_text f = codes " at " ++ (decimal f.time ++ (codes ": " ++ (difference_text f.difference ++ (codes "; " ++ standing_text f.standing))))
+failure_text f =
+    codes " at " ++ (decimal f.time ++ (codes ": " ++ (difference_text f.difference
+    ++ (codes "; " ++ standing_text f.standing))))
 
 -- the choices on which the case rests, in their order
 abbrev pub choices_text : List Choice → List ℕ

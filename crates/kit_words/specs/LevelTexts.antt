@@ -28,7 +28,9 @@ SaysPiece piece levels = (piece ≡ map digit_of levels) ⊎ IsRun piece levels
 -- the pieces say these levels, one piece after another
 abbrev pub SayPieces : List (List ℕ) → List Level → Type 0
 SayPieces [] levels = levels ≡ []
-SayPieces (piece ∷ pieces) levels = (first : List Level) × (rest : List Level) × SaysPiece piece first × SayPieces pieces rest × (levels ≡ first ++ rest)
+SayPieces (piece ∷ pieces) levels =
+    (first : List Level) × (rest : List Level)
+    × SaysPiece piece first × SayPieces pieces rest × (levels ≡ first ++ rest)
 
 -- the text says these levels, at least one
 pub record SaysLevels (text : List ℕ) (levels : List Level) : Type 0 where

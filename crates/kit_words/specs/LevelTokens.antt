@@ -21,7 +21,8 @@ gap_before_literal LongRun = codes " "
 -- a run of n equal levels behind this
 abbrev pub run_text : Before → Level → ℕ → List ℕ
 run_text b x n =
-    if nat_le 8 n then gap_before_run b ++ (digit_of x ∷ (codes "*" ++ decimal n)) else gap_before_literal b ++ replicate n (digit_of x)
+    if nat_le 8 n then gap_before_run b ++ (digit_of x ∷ (codes "*" ++ decimal n))
+    else gap_before_literal b ++ replicate n (digit_of x)
 
 -- what such a run is to the next one
 abbrev pub behind_run : ℕ → Before
@@ -30,7 +31,9 @@ behind_run n = if nat_le 8 n then LongRun else Literal
 -- n levels x, and then these, behind this
 abbrev pub tokens_from : Before → Level → ℕ → List Level → List ℕ
 tokens_from b x n [] = run_text b x n
-tokens_from b x n (y ∷ ys) = if same x y then tokens_from b x (n + 1) ys else run_text b x n ++ tokens_from (behind_run n) y 1 ys
+tokens_from b x n (y ∷ ys) =
+    if same x y then tokens_from b x (n + 1) ys
+    else run_text b x n ++ tokens_from (behind_run n) y 1 ys
 
 -- the levels as tokens
 abbrev pub levels_text : List Level → List ℕ

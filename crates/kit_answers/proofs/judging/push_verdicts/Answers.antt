@@ -4,7 +4,7 @@ use Rattle.std.proofs.lemmas.List.{drop_more}
 use Rattle.std.proofs.lemmas.List.Elements.{All-get_or}
 use Rattle.std.proofs.lemmas.Option.{slice_get_read}
 use Rattle.kit_transcripts.specs.declared.told.Told.{Told}
-use Rattle.kit_answers.specs.Judgements.{lines_of, AddVerdicts}
+use Rattle.kit_answers.specs.Judgements.{lines_with, AddVerdicts}
 use Rattle.kit_answers.proofs.CountedVerdicts.{counted-within}
 use Rattle.kit_answers.proofs.judging.push_verdicts.Goals as goal
 
@@ -21,8 +21,8 @@ loop-told-preserved c =
     drop_more transcripts place told c.loop-told-test.true ∙ ap (λ (v : Told). v ∷ drop (place + 1) transcripts) (sym c.told-item.is) in
     let counts = counted-within place c.loop-told.tally c.in_ok-tally.tally c.in_ok-tally.ensures.verdict c.in_ok-tally.ensures.count (c.loop-told.invariant.1, c.loop-told.invariant.2) in (
       λ after later. c.loop-told.invariant.0 after
-          (subst (λ (rest : List Told). AddVerdicts cases rest (lines_of c.loop-told.out.items c.loop-told.tally) after) (sym from)
-          (c.index-cases-told.result, is, lines_of c.push_one.new.out.items c.in_ok-tally.tally, c.in_ok-tally.ensures, later)),
+          (subst (λ (rest : List Told). AddVerdicts cases rest (lines_with c.loop-told.out.items c.loop-told.tally) after) (sym from)
+          (c.index-cases-told.result, is, lines_with c.push_one.new.out.items c.in_ok-tally.tally, c.in_ok-tally.ensures, later)),
       counts.0,
       counts.1,
     )
