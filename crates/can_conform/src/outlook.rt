@@ -8,10 +8,10 @@ ghost use Rattle.can_conform.specs.Walks.{AreMarked, Foresees, IsMarked, KeepsMa
 use crate::script::Script;
 use crate::timed::Timed;
 
-/// How many bit times one look tells of.
+/// How many bit times one look tells of. Chosen for speed, but the definitions of a look have this number too.
 const SIGHT: usize = 256;
 
-/// The last bit time before the first look: a short case needs none.
+/// The last bit time before the first look: a short case needs none. Chosen for speed alone.
 const LAST_UNSEEN: u32 = 31;
 
 /// The bit times ahead in which frames or wishes come.

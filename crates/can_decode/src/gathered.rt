@@ -7,10 +7,11 @@ ghost use Rattle.can_decode.specs.Decoding.{Gathers};
 use crate::masks::{BLOCK, are_digits, are_skipped, is_digit, is_text};
 use crate::skipped::skipped_count;
 
-/// How many digits are gathered at most.
+/// How many digits are gathered at most. Chosen for speed; a block has to fit in.
 pub(crate) const GATHERED_ROOM: usize = 512;
 
 /// Behind so many blocks of digits alone, those behind them are likely to stand together too: none is gathered then.
+/// Chosen for speed alone.
 const DIGIT_BLOCKS: usize = 2;
 
 /// Digits that were gathered into the front of a buffer.

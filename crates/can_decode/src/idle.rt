@@ -4,10 +4,10 @@ ghost use Rattle.std.specs.Simd.Lanes.{mask_l};
 
 use std::simd::prelude::*;
 
-/// How many bytes are compared at once.
+/// How many bytes are compared at once: the bits of the mask, a number that the proofs have too.
 const BLOCK: usize = 64;
 
-/// How many bytes are compared first, as most rows between frames are short.
+/// How many bytes are compared first, as most rows between frames are short. The proofs have this number too.
 const FIRST: usize = 16;
 
 /// How many digits of recessive levels stand at the front of the bytes.

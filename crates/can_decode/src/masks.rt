@@ -6,7 +6,7 @@ ghost use Rattle.can_decode.specs.Decoding.{AreDigits, AreSkipped};
 
 use std::simd::prelude::*;
 
-/// How many bytes are looked at together.
+/// How many bytes are looked at together: the bits of the masks, a number that the proofs have too.
 pub(crate) const BLOCK: usize = 16;
 
 /// All places of a block, as the bits of a number.

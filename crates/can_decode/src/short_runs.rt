@@ -3,10 +3,11 @@
 use crate::gathered::Gathered;
 
 /// A run of so many digits is long: where the bus is busy up to twice as many are heard sooner if they are gathered, but where
-/// it is mostly at rest fewer.
+/// it is mostly at rest fewer. Chosen for speed alone.
 const LONG_RUN: usize = 20;
 
 /// Digits are gathered behind so many short runs. Hearing these takes some twenty times what gathering in vain costs.
+/// Chosen for speed alone.
 const ENOUGH: usize = 32;
 
 /// How many short runs of digits within frames stood one behind the other.

@@ -5,7 +5,7 @@ ghost use Rattle.can_decode.specs.Decoding.{AreSkipped};
 
 use crate::masks::{BLOCK, others_of};
 
-/// How many are looked at one by one before that, as most line ends stand alone.
+/// How many are looked at one by one before that, as most line ends stand alone. Chosen for speed alone.
 const FIRST: usize = 3;
 
 /// How many blanks and line ends stand at the front of the bytes.

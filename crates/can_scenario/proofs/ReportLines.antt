@@ -6,7 +6,8 @@ use Rattle.can_frame.specs.declared.level.Level.{Level}
 use Rattle.can_node.specs.declared.entry.Entry.{Entry}
 use Rattle.can_node.specs.Ports.{PortState}
 use Rattle.can_frame.specs.Levels.{digit_of}
-use Rattle.can_scenario.specs.Report.{entry_line, line_end, port_lines, ports_lines, reported}
+use Rattle.can_stream.specs.Lines.{line_end}
+use Rattle.can_scenario.specs.Report.{entry_line, port_lines, ports_lines, reported}
 
 -- how the pieces of a port's line are put together
 pub port_parts : (a n b s c t d r e m f : List ℕ) →

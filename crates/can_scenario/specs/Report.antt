@@ -16,6 +16,7 @@ use Rattle.can_hit.specs.declared.hit.Hit.{Hit}
 use Rattle.can_bus.specs.Offers.{played, played_level}
 use Rattle.can_bus.specs.Run.{BusState, bus_level, bus_run}
 use Rattle.can_frame.specs.Levels.{digit_of}
+use Rattle.can_stream.specs.Lines.{line_end}
 use Rattle.can_scenario.specs.ScenarioOffers.{scenario_offers}
 use Rattle.can_scenario_text.specs.declared.scenario.Scenario.{Scenario}
 use Rattle.can_scenario_text.specs.declared.scenario.PortPlan.{PortPlan}
@@ -87,9 +88,6 @@ reported p = record {
   missed = p.missed;
   log = p.log;
 }
-
-abbrev pub line_end : List ℕ
-line_end = 10 ∷ []
 
 -- `port 0 active tec 0 rec 0 missed 0`
 unfoldable pub port_line : ℕ → PortReport → List ℕ

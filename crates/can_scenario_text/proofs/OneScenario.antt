@@ -14,7 +14,7 @@ use Rattle.can_stream.specs.declared.field.HitList.{HitList}
 use Rattle.can_stream.specs.declared.field.HitList.TheVariants.{At, In, View}
 use Rattle.document_values.specs.Demands.{IsFirstUnmet}
 use Rattle.document_values.specs.Values.{SaysFrame, elements_in, named}
-use Rattle.can_scenario_text.specs.Scenarios.{SaysTimedFrame, SaysQueueElement, version_of, SaysHit, SaysPort, SaysHits, SaysScenario, IsScenarioText, IsWrongScenarioField, AreSamePorts, AreSame, ports_in, scenario_demands}
+use Rattle.can_scenario_text.specs.Scenarios.{SaysTimedFrame, SaysQueueElement, version_of, SaysHit, SaysPort, SaysHits, SaysScenario, IsScenarioText, IsWrongScenarioField, AreSamePorts, AreSameScenarios, ports_in, scenario_demands}
 use Rattle.document_values.proofs.DemandLemmas.{met-unmet, one-unmet}
 use Rattle.document_values.proofs.OneReading.{one-document, required-number, said-number, said-whether, said-frame, paired-each, one-list}
 
@@ -63,14 +63,14 @@ one-hits document a b x y =
     let view = one-list (SaysHit View) (said-hit View) _ x.view y.view x.view_said y.view_said in
     x.all ∙ ap (λ h. h ++ (x.within ++ x.view)) at ∙ ap (λ h. y.at ++ (h ++ x.view)) within ∙ ap (λ h. y.at ++ (y.within ++ h)) view ∙ sym y.all
 
-says-one : (document : Data) (s t : Scenario) → SaysScenario document s → SaysScenario document t → AreSame s t
+says-one : (document : Data) (s t : Scenario) → SaysScenario document s → SaysScenario document t → AreSameScenarios s t
 says-one document s t a b = record {
   bits = required-number s.bits t.bits (named (codes "bits") document) a.bits b.bits;
   ports = paired-each (SaysPort (version_of document)) AreSamePorts (one-port (version_of document)) (ports_in document) s.ports.items t.ports.items a.ports b.ports;
   hits = one-hits document s.hits.items t.hits.items a.hits b.hits;
 }
 
-pub one-scenario : (bytes : List ℕ) (s t : Scenario) → IsScenarioText bytes s → IsScenarioText bytes t → AreSame s t
+pub one-scenario : (bytes : List ℕ) (s t : Scenario) → IsScenarioText bytes s → IsScenarioText bytes t → AreSameScenarios s t
 one-scenario bytes s t a b = says-one a.0 s t a.2 (subst (λ d. SaysScenario d t) (one-document bytes b.0 a.0 b.1 a.1) b.2)
 
 -- bytes that say a scenario have no field that is told

@@ -249,7 +249,7 @@ pub record AreSamePorts (p q : PortPlan) : Type 0 where
   pub overloads : p.overloads ≡ q.overloads
 
 -- the scenarios are the same
-pub record AreSame (s t : Scenario) : Type 0 where
+pub record AreSameScenarios (s t : Scenario) : Type 0 where
   pub bits : s.bits ≡ t.bits
   pub ports : ArePaired AreSamePorts s.ports.items t.ports.items
   pub hits : s.hits.items ≡ t.hits.items

@@ -2,9 +2,13 @@
 use Rattle.std.specs.Prelude.{◌≡◌, ℕ, ◌==◌, if◌then◌else◌, Bool, false, List, [], ◌∷◌, ◌++◌}
 use Rattle.std.specs.List.{AllByRecursion}
 
+-- what ends a line
+abbrev pub line_end : List ℕ
+line_end = 10 ∷ []
+
 -- a line with its end
 abbrev pub with_end : List ℕ → List ℕ
-with_end line = line ++ 10 ∷ []
+with_end line = line ++ line_end
 
 -- the text with a byte in front of its first line
 abbrev pub onto_first : ℕ → List (List ℕ) → List (List ℕ)

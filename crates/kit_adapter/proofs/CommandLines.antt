@@ -9,7 +9,7 @@ use Rattle.can_conform.specs.declared.script.Start.TheVariants.{Idle, Joining}
 use Rattle.can_conform.specs.declared.script.TesterLevel.{TesterLevel}
 use Rattle.can_conform.specs.declared.script.TesterLevel.TheVariants.{Dominant, Recessive, Forced}
 use Rattle.can_node.specs.Ports.{PortState}
-use Rattle.kit_adapter.specs.Commands.{Command, begins, offers, wishes, plays, ends, is_tester_digit, quit_line, start_word, tester_digit, tester_of, IsCaseLine, IsCommandLine, IsPlayLine}
+use Rattle.kit_adapter.specs.Commands.{Command, begins, offers, wishes, plays, ends, is_tester_digit, quit_line, start_part, tester_digit, tester_of, IsCaseLine, IsCommandLine, IsPlayLine}
 use Rattle.kit_adapter.specs.Adapters.{answer_to, behind_command, IsStep}
 
 -- ---- digits
@@ -63,7 +63,7 @@ name-from line ending rest (Some x) starts is = starts ∙ ap (λ t. codes "case
 pub case_length : (line ending name : List ℕ) → line ≡ codes "case " ++ (name ++ ending) → (is : IsCaseLine line ending) → length name ≡ length is.name
 case_length line ending name starts is = omega (arith, length-append name ending, length-append is.name ending, ap length (sym starts ∙ is.text))
 
-pub no_start : (line : List ℕ) → (IsCaseLine line (codes " idle") → ⊥) → (IsCaseLine line (codes " joining") → ⊥) → (start : Start) → IsCaseLine line (start_word start) → ⊥
+pub no_start : (line : List ℕ) → (IsCaseLine line (codes " idle") → ⊥) → (IsCaseLine line (codes " joining") → ⊥) → (start : Start) → IsCaseLine line (start_part start) → ⊥
 no_start line no_idle no_joining Idle is = no_idle is
 no_start line no_idle no_joining Joining is = no_joining is
 

@@ -8,11 +8,9 @@ use Rattle.can_conform.specs.declared.script.TesterLevel.{TesterLevel}
 use Rattle.can_conform.specs.Runs.{met, started, told_of, wished}
 use Rattle.can_frame.specs.Levels.{digit_of}
 use Rattle.can_fault.specs.Words.{state_word}
+use Rattle.can_stream.specs.Lines.{line_end}
 use Rattle.kit_words.specs.Words.{event_text}
 use Rattle.kit_adapter.specs.Commands.{Command, begins, offers, wishes, plays, ends, IsCommandLine, quit_line}
-
-abbrev pub line_end : List ℕ
-line_end = codes "\n"
 
 -- ---- bit times one behind another
 

@@ -31,9 +31,9 @@ abbrev pub tester_of : ℕ → TesterLevel
 tester_of digit = if digit == 48 then Dominant else (if digit == 49 then Recessive else Forced)
 
 -- what stands behind the name of a case
-abbrev pub start_word : Start → List ℕ
-start_word Idle = codes " idle"
-start_word Joining = codes " joining"
+abbrev pub start_part : Start → List ℕ
+start_part Idle = codes " idle"
+start_part Joining = codes " joining"
 
 -- how many bit times a line plays at most
 abbrev pub most_levels : ℕ
@@ -63,7 +63,7 @@ pub record IsPlayLine (line : List ℕ) (levels : List TesterLevel) : Type 0 whe
 
 -- the line asks for this
 abbrev pub IsCommandLine : List ℕ → Command → Type 0
-IsCommandLine line (begins start) = IsCaseLine line (start_word start)
+IsCommandLine line (begins start) = IsCaseLine line (start_part start)
 IsCommandLine line (offers f) = IsOfferLine line f
 IsCommandLine line (wishes n) = IsHoldLine line n
 IsCommandLine line (plays levels) = IsPlayLine line levels

@@ -4,7 +4,7 @@ ghost use Rattle.std.specs.List.{list_all};
 ghost use Rattle.can_conform.specs.declared.script.Start.{Start as StartSaid};
 ghost use Rattle.can_conform.specs.declared.script.TesterLevel.{TesterLevel as TesterSaid};
 ghost use Rattle.can_frame.specs.Parts.{Parts};
-ghost use Rattle.kit_adapter.specs.Commands.{is_tester_digit, start_word, tester_of as tester_by, IsCaseLine, IsHoldLine, IsOfferLine, IsPlayLine};
+ghost use Rattle.kit_adapter.specs.Commands.{is_tester_digit, start_part, tester_of as tester_by, IsCaseLine, IsHoldLine, IsOfferLine, IsPlayLine};
 
 use can_conform::{Start, TesterLevel};
 use can_frame::Frame;
@@ -39,7 +39,7 @@ fn is_case(line: &[u8], ending: &[u8]) -> bool
 
 /// What the bus was before the case that the line begins.
 pub(crate) fn start_in(line: &[u8]) -> Option<Start>
-    ensures { MatchOption result ((start : StartSaid) → IsCaseLine line.now (start_word start) → ⊥) (λ start. IsCaseLine line.now (start_word start)) }
+    ensures { MatchOption result ((start : StartSaid) → IsCaseLine line.now (start_part start) → ⊥) (λ start. IsCaseLine line.now (start_part start)) }
 {
     if is_case(line, b" idle") {
         return Some(Start::Idle);

@@ -16,7 +16,7 @@ use Rattle.kit_cases.specs.declared.words.Choice.{Choice}
 use Rattle.kit_cases.specs.declared.words.Choice.TheVariants.{ReservedLevels, StuffException, OwnStart, FlagErrorOnce, OwnOverload, Rec127, RecoveryByItself, RecoveryRows, Prompt}
 use Rattle.kit_cases.specs.Words.{choice_word, SaysChoices, SaysStart}
 use Rattle.kit_cases.specs.Lists.{SaysHold, SaysOffer, SaysTime}
-use Rattle.kit_cases.specs.Cases.{driven, forced_at, strings_of, AreSame, SaysCase, SaysTester}
+use Rattle.kit_cases.specs.Cases.{driven, forced_at, strings_of, AreSameCases, SaysCase, SaysTester}
 use Rattle.kit_cases.proofs.OneNeeds.{one-needs}
 use Rattle.kit_cases.proofs.TesterParts.{one-strings}
 use Rattle.kit_cases.proofs.WordLists.{differ}
@@ -105,7 +105,7 @@ one-tester d a b x y =
 same_text : (field : Option Data) (a b : List ℕ) → field ≡ Some (string a) → field ≡ Some (string b) → a ≡ b
 same_text field a b x y = let texts : Some (string a) ≡ Some (string b) = sym x ∙ y in cc
 
-pub one-case : (d : Data) (a b : Case) → SaysCase d a → SaysCase d b → AreSame a b
+pub one-case : (d : Data) (a b : Case) → SaysCase d a → SaysCase d b → AreSameCases a b
 one-case d a b x y = record {
   name = same_text (named (codes "name") d) (string_bytes a.name) (string_bytes b.name) x.name y.name;
   needs = one-needs (named (codes "needs") d) a.needs b.needs x.needs y.needs;

@@ -165,7 +165,7 @@ pub record SaysCase (d : Data) (c : Case) : Type 0 where
   pub holds : ArePaired SaysHold (elements_in (named (codes "holds") d)) c.script.holds.items
 
 -- the cases are the same
-pub record AreSame (a b : Case) : Type 0 where
+pub record AreSameCases (a b : Case) : Type 0 where
   pub name : string_bytes a.name ≡ string_bytes b.name
   pub needs : a.needs ≡ b.needs
   pub choices : a.choices.items ≡ b.choices.items

@@ -18,7 +18,7 @@ use Rattle.kit_cases.proofs.OneCase.{same-timed}
 use Rattle.kit_cases.proofs.TesterParts.{one-strings}
 use Rattle.kit_transcripts.specs.declared.told.Told.{Told}
 use Rattle.kit_transcripts.specs.Elements.{SayCounters, SaysChange, SaysEnd, SaysEventAt, SaysIfThere}
-use Rattle.kit_transcripts.specs.Transcripts.{drove_of, place_where, AreBoth, AreSame, SaysTranscript}
+use Rattle.kit_transcripts.specs.Transcripts.{drove_of, place_where, AreBoth, AreSameTranscripts, SaysTranscript}
 
 -- ---- elements
 
@@ -85,7 +85,7 @@ one_told {A} Says one field a b x y =
 
 -- ---- a transcript
 
-pub one-transcript : (cases : List Data) (d : Data) (a b : Told) → SaysTranscript cases d a → SaysTranscript cases d b → AreSame a b
+pub one-transcript : (cases : List Data) (d : Data) (a b : Told) → SaysTranscript cases d a → SaysTranscript cases d b → AreSameTranscripts a b
 one-transcript cases d a b x y =
     let telling = x.telling in
     let other = y.telling in

@@ -121,7 +121,7 @@ AreBoth Same (Some a) None = ⊥
 AreBoth Same (Some a) (Some b) = Same a b
 
 -- the transcripts are the same
-pub record AreSame (a b : Told) : Type 0 where
+pub record AreSameTranscripts (a b : Told) : Type 0 where
   pub case : a.case ≡ b.case
   pub drove : a.transcript.drove.items ≡ b.transcript.drove.items
   pub events : AreBoth (λ xs ys. xs.items ≡ ys.items) a.transcript.events b.transcript.events

@@ -2,7 +2,8 @@ use Rattle.std.proofs.Common.{◌≡◌, [], ◌++◌, length, map, rules}
 use Rattle.std.proofs.lemmas.List.{nil_from_length}
 use Rattle.std.proofs.lemmas.Result.{err_from_is_err_and}
 use Rattle.can_frame.specs.Levels.{digit_of}
-use Rattle.can_scenario.specs.Report.{levels_line, line_end}
+use Rattle.can_stream.specs.Lines.{line_end}
+use Rattle.can_scenario.specs.Report.{levels_line}
 use Rattle.can_stream.proofs.PutParts.{PutsPart-failed, PutsPart-last, PutsPart-more, Puts-at_once}
 use Rattle.can_scenario.proofs.ReportLines.{digits-split}
 use Rattle.can_scenario.proofs.report.put_levels.Goals as goal

@@ -1,6 +1,6 @@
 use Rattle.std.proofs.Common.{◌≡◌, ◌++◌, false, length, map}
 use Rattle.can_frame.specs.Levels.{digit_of}
-use Rattle.can_scenario.specs.Report.{line_end}
+use Rattle.can_stream.specs.Lines.{line_end}
 use Rattle.can_stream.proofs.PutParts.{PutsPart}
 use Rattle.can_scenario.proofs.report.put_levels.Given as goal
 
