@@ -2,3 +2,5 @@
 pub mod Status
 pub mod Words
 pub mod Written
+-- For private calls of the programs only
+pub mod Streams

@@ -1,9 +1,10 @@
 //! What the program does, over any streams.
-ghost use Rattle.std.specs.Prelude.{◌≡◌, ◌≢◌, ◌⊎◌, ◌<◌, false, Option, Result, IsTrue};
+ghost use Rattle.std.specs.Prelude.{◌≡◌, ◌⊎◌, ◌<◌, false, Option, Result, IsTrue};
 ghost use Rattle.std.specs.Io.KnownBytes.{Appends};
 ghost use Rattle.can_stream.specs.Told.{Told};
 ghost use Rattle.canhold_commands.specs.Answers.{AnswersDocument, Does};
 ghost use Rattle.can_program.specs.Status.{exit_status};
+ghost use Rattle.can_program.specs.Streams.{TellsStreams};
 ghost use Rattle.can_program.specs.Words.{texts_of};
 ghost use Rattle.canhold_commands.specs.Status.{fault_status};
 ghost use Rattle.canhold_commands.specs.Words.{AsksFor, asked_by};
@@ -97,10 +98,7 @@ fn answer<R: Source, W: Sink>(
     requires reader_unended { R.has_ended r.old ≡ false }
     requires writer_unfailed { W.has_failed w.old ≡ false }
     ensures told { Told R.remaining r.old r.new W.contents w.old w.new (Does chosen result) }
-    ensures stream_failed { exit_status fault_status result ≡ 3 → IsTrue (R.has_failed r.new) ⊎ IsTrue (W.has_failed w.new) }
-    ensures write_told { IsTrue (W.has_failed w.new) → exit_status fault_status result ≡ 3 }
-    ensures read_told { IsTrue (R.has_failed r.new) → exit_status fault_status result ≡ 3 }
-    ensures no_misuse { exit_status fault_status result ≢ 2 }
+    ensures streams { TellsStreams (R.has_failed r.new) (W.has_failed w.new) (exit_status fault_status result) }
 {
     match chosen {
         Chosen::Play => Ok(play_lines(alloc, r, w)?),
@@ -120,10 +118,7 @@ fn answered<R: Source, W: Sink>(
     requires reader_unended { R.has_ended r.old ≡ false }
     requires writer_unfailed { W.has_failed w.old ≡ false }
     ensures told { Told R.remaining r.old r.new W.contents w.old w.new (AnswersDocument question result) }
-    ensures stream_failed { exit_status fault_status result ≡ 3 → IsTrue (R.has_failed r.new) ⊎ IsTrue (W.has_failed w.new) }
-    ensures write_told { IsTrue (W.has_failed w.new) → exit_status fault_status result ≡ 3 }
-    ensures read_told { IsTrue (R.has_failed r.new) → exit_status fault_status result ≡ 3 }
-    ensures no_misuse { exit_status fault_status result ≢ 2 }
+    ensures streams { TellsStreams (R.has_failed r.new) (W.has_failed w.new) (exit_status fault_status result) }
 {
     match answer_document(alloc, question, r, w, of)? {
         Finding::Agree => Ok(()),
