@@ -34,9 +34,6 @@ row_added n old new row new_is are is =
       each = pushed (λ k r. IsRow (8 * k) r) old row are.each (subst (λ k. IsRow (8 * k) row) (sym are.full) is);
     })
 
-pub no_rows : AreRows 0 []
-no_rows = record { full = refl; each = λ k row at. absurd (let within : k < 0 = slice_get_within [] k row at in omega arith) }
-
 pub row_at : (n k : ℕ) (rows : List Row) (row : Row) → AreRows n rows → k < n → row ≡ get_or rows k row → IsRow (8 * k) row
 row_at n k rows row are less is = are.each k row (slice_get_read rows n k row (sym are.full) less is)
 
