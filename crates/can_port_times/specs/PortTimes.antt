@@ -73,10 +73,7 @@ port_time p seen = record {
 
 -- the bus as a bit time begins, behind the offers of this time
 abbrev pub bus_by : List Hit → Scenario → ℕ → BusState
-bus_by [] s t =
-    record (played (scenario_offers s) t (made_bus s)) {
-      ports = all_made (scenario_offers s) t (played (scenario_offers s) t (made_bus s)).ports;
-    }
+bus_by [] s t = record (played (scenario_offers s) t (made_bus s)) { ports = all_made (scenario_offers s) t (played (scenario_offers s) t (made_bus s)).ports }
 bus_by (hit ∷ hits) s t = bus_run (hit ∷ hits) t (waiting_bus s)
 
 abbrev pub bus_at : Scenario → ℕ → BusState
@@ -92,9 +89,7 @@ level_seen s node t = seen_by s.hits.items s node t
 -- what the port of this number does in each bit time
 pub record AreTold (s : Scenario) (node : ℕ) (times : List PortTime) : Type 0 where
   pub each : length times ≡ s.bits
-  pub told : (t : ℕ) (p : PortState) → t < s.bits
-      → slice_get (bus_at s t).ports node ≡ Some p
-      → slice_get times t ≡ Some (port_time p (level_seen s node t))
+  pub told : (t : ℕ) (p : PortState) → t < s.bits → slice_get (bus_at s t).ports node ≡ Some p → slice_get times t ≡ Some (port_time p (level_seen s node t))
 
 -- what the first ports do, as many as are said, port behind port
 pub record AreFirstTold (s : Scenario) (ports : ℕ) (times : List PortTime) : Type 0 where
@@ -119,19 +114,13 @@ offers_meanwhile (hit ∷ hits) s = []
 -- the port is made the offers of this time that name it, in their order
 abbrev pub own_made : ℕ → List Offer → ℕ → PortState → PortState
 own_made node [] t p = p
-own_made node (offer ∷ offers) t p =
-    own_made node offers t
-    (if (offer.time == t) && (offer.node == node) then with_offer offer.frame p else p)
+own_made node (offer ∷ offers) t p = own_made node offers t (if (offer.time == t) && (offer.node == node) then with_offer offer.frame p else p)
 
 -- from time t on it sees these levels
 abbrev pub told_from : ℕ → List Offer → ℕ → PortState → List Level → List PortTime
 told_from node offers t p [] = []
-told_from node offers t p (x ∷ seen) =
-    port_time (own_made node offers t p) x
-    ∷ told_from node offers (t + 1) (port_step (own_made node offers t p) x) seen
+told_from node offers t p (x ∷ seen) = port_time (own_made node offers t p) x ∷ told_from node offers (t + 1) (port_step (own_made node offers t p) x) seen
 
 -- where these levels are recorded, the port of this number sees those
 abbrev pub AreSeen : List Hit → ℕ → List Level → List Level → Type 0
-AreSeen hits node levels seen =
-    (t : ℕ) (d : Level) → t < length levels
-    → get_or seen t d ≡ inverted_if (list_any (hits_view t node) hits) (get_or levels t d)
+AreSeen hits node levels seen = (t : ℕ) (d : Level) → t < length levels → get_or seen t d ≡ inverted_if (list_any (hits_view t node) hits) (get_or levels t d)

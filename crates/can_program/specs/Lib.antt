@@ -2,5 +2,3 @@
 pub mod Status
 pub mod Words
 pub mod Written
--- For private calls of the programs only
-pub mod Streams

@@ -1,5 +1,5 @@
 -- What the exit status of a run says. (docs/CODES.md)
-use Rattle.std.specs.Prelude.{ℕ, Result, Ok, Err}
+use Rattle.std.specs.Prelude.{ℕ, ◌≡◌, ◌≢◌, ◌⊎◌, Bool, IsTrue, Result, Ok, Err}
 use Rattle.can_stream.specs.declared.fault.TraceFault.{TraceFault}
 use Rattle.can_stream.specs.declared.fault.TraceFault.TheVariants.{BadByte, ScenarioField, Read, Write, Memory as OutOfMemory, Long, FrameLine}
 use Rattle.can_program.specs.declared.fault.WordsFault.{WordsFault}
@@ -24,3 +24,10 @@ words_status Memory = 4
 abbrev pub exit_status : {F : Type 0} → (F → ℕ) → Result (Unit {0}) F → ℕ
 exit_status status_of (Ok done) = 0
 exit_status status_of (Err fault) = status_of fault
+
+-- the status tells a stream's failure, and tells nothing else so; and it blames no words
+pub record TellsStreams (reader_failed writer_failed : Bool) (status : ℕ) : Type 0 where
+  pub stream_failed : status ≡ 3 → IsTrue reader_failed ⊎ IsTrue writer_failed
+  pub write_told : IsTrue writer_failed → status ≡ 3
+  pub read_told : IsTrue reader_failed → status ≡ 3
+  pub no_misuse : status ≢ 2

@@ -6,9 +6,6 @@
 //! | `fault.rt` | [`RunFault`], what a fault has to tell; those of streams and of words, [`WordsFault`] | `specs/Status.antt` |
 //! | `ending.rt` | [`conclude`], [`conclude_of`] and [`refuse`], how a run ends; [`write_help`] | `specs/Status.antt` |
 //! | `process.rt` | [`run_program`], a run on the words and streams of its process; [`words_or_status`] | `specs/Status.antt` |
-//!
-//! `specs/Words.antt`, `Written.antt` and `Streams.antt` have what the contracts of all programs say of their words, of
-//! what they write, and of their streams.
 #![tactic(auto)]
 
 mod ending;

@@ -3,8 +3,7 @@ ghost use Rattle.std.specs.Prelude.{◌≡◌, ◌⊎◌, ◌<◌, false, Option
 ghost use Rattle.std.specs.Io.KnownBytes.{Appends};
 ghost use Rattle.can_stream.specs.Told.{Told};
 ghost use Rattle.canhold_commands.specs.Answers.{AnswersDocument, Does};
-ghost use Rattle.can_program.specs.Status.{exit_status};
-ghost use Rattle.can_program.specs.Streams.{TellsStreams};
+ghost use Rattle.can_program.specs.Status.{exit_status, TellsStreams};
 ghost use Rattle.can_program.specs.Words.{texts_of};
 ghost use Rattle.canhold_commands.specs.Status.{fault_status};
 ghost use Rattle.canhold_commands.specs.Words.{AsksFor, asked_by};
