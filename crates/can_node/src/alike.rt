@@ -1,4 +1,5 @@
 ghost use Rattle.std.specs.Prelude.{◌≡◌};
+ghost use Rattle.can_node.specs.Ports.{port_drives, port_event, port_step};
 
 use crate::port::Port;
 use can_frame::Level;
@@ -12,6 +13,10 @@ type Answer = (Level, Option<Event>);
 /// the same levels, and are offered and asked the same, have the same levels, events, logs and
 /// counters.
 pub fn sample_both<P: Port, Q: Port>(one: &mut P, other: &mut Q, seen: Level) -> (Answer, Answer)
+    ensures first { P.port one.new ≡ port_step (P.port one.old) seen }
+    ensures second { Q.port other.new ≡ port_step (Q.port other.old) seen }
+    ensures first_answer { result.0 ≡ (port_drives (P.port one.old), port_event (P.port one.old) seen) }
+    ensures second_answer { result.1 ≡ (port_drives (Q.port other.old), port_event (Q.port other.old) seen) }
     ensures answers { P.port one.old ≡ Q.port other.old → result.0 ≡ result.1 }
     ensures states { P.port one.old ≡ Q.port other.old → P.port one.new ≡ Q.port other.new }
 {
