@@ -236,13 +236,14 @@ export class Core {
   /**
    * The answer to the network that a document says, and how many of its messages are late; or the first field that is wrong.
    * @param {Uint8Array} text at most MOST_DOCUMENT
+   * @param {boolean} [details] whether it tells what makes each bound
    * @returns {{answer: number, wrong: WrongField, late: number, lines: Uint8Array}}
    */
-  plan(text) {
+  plan(text, details = false) {
     const { rooms } = this;
     const slice = this.put(rooms.text, text);
     this.calls.page_heap_begin(rooms.next);
-    const answer = this.calls.page_plan(...slice, rooms.lines, rooms.count, rooms.wrong);
+    const answer = this.calls.page_plan(...slice, Number(details), rooms.lines, rooms.count, rooms.wrong);
     return { answer, wrong: this.wrong(), late: this.number(rooms.count), lines: this.answered(answer) };
   }
 

@@ -1,5 +1,7 @@
 /** The view that answers how late the frames of a network can be. */
 import { packed, unpacked } from './address.js';
+import { makingsOf } from './bound_parts.js';
+import { makingsView } from './bound_view.js';
 import { ANSWER } from './core.js';
 import { DocumentView } from './document_view.js';
 import { byId, copyText, download } from './draw.js';
@@ -26,7 +28,7 @@ export class NetworkView extends DocumentView {
     /** @type {import('./network_answer.js').Answer | null} */
     this.answered = null;
     this.form = new NetworkForm(() => this.take(textOf(this.form.form), { fills: false }));
-    this.bounds = new BoundsView((verdict, tell) => this.askWorst(verdict, tell));
+    this.bounds = new BoundsView((verdict, tell) => this.askWorst(verdict, tell), (verdict, show) => this.askMakings(verdict, show));
     this.listen();
     this.showExample('seventeen');
   }
@@ -89,6 +91,23 @@ export class NetworkView extends DocumentView {
       else if (told) tell(worstCaseRefusal(told.answer));
     } catch (error) {
       tell(`This browser could not write the worst case (${error.message}). The program canplan can.`);
+    }
+  }
+
+  /**
+   * Shows what makes the bound of a message, once the network is answered as it stands.
+   * @param {import('./network_answer.js').Verdict} verdict
+   * @param {(view: Node) => void} show
+   */
+  async askMakings(verdict, show) {
+    await this.ran;
+    if (!this.answered) return;
+    try {
+      const told = await this.runs.makings(this.document.bytes, verdict.frame);
+      if (told?.answer === ANSWER.done) show(makingsView(verdict, makingsOf(told.lines)));
+      else if (told) show(new Text('This needs more memory than this page has. The program canplan has no such limit.'));
+    } catch (error) {
+      show(new Text(`This browser could not tell the parts (${error.message}). The program canplan can.`));
     }
   }
 

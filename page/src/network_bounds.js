@@ -18,15 +18,19 @@ const LEAST = 2;
 const COLUMNS = ['Longest', 'Blocking', 'Bound', 'Deadline', 'Outcome'];
 
 export class BoundsView {
-  /** @param {(verdict: Verdict, tell: (why: string) => void) => void} onWorst told of a message whose worst case is asked for; `tell` says why there is none */
-  constructor(onWorst) {
+  /**
+   * @param {(verdict: Verdict, tell: (why: string) => void) => void} onWorst told of a message whose worst case is asked for; `tell` says why there is none
+   * @param {(verdict: Verdict, show: (view: Node) => void) => void} onMakings told of one of which is asked what makes its bound; `show` shows that
+   */
+  constructor(onWorst, onMakings) {
     this.rows = byId('network-bounds');
     /** @type {Verdict[]} */
     this.verdicts = [];
     this.pages = new Pages('network-bounds', SHOWN, (first, last) => this.rows.replaceChildren(...this.verdicts.slice(first, last).map((verdict, index) => rowOf(verdict, first + index))));
     this.rows.addEventListener('click', ({ target }) => {
-      const { place } = target.dataset;
-      if (place !== undefined) onWorst(this.verdicts[Number(place)], (why) => { target.nextElementSibling.textContent = why; });
+      const { worst, makings } = target.dataset;
+      if (worst !== undefined) onWorst(this.verdicts[Number(worst)], (why) => { target.parentElement.querySelector('[role=status]').textContent = why; });
+      if (makings !== undefined) toggle(target, (show) => onMakings(this.verdicts[Number(makings)], show));
     });
   }
 
@@ -49,9 +53,29 @@ function rowOf(verdict, place) {
     ...cells.map((cell, column) => html('td', { 'data-name': COLUMNS[column], class: column < 4 ? 'number' : 'outcome' }, [cell])),
     html('td', { class: 'bar-room' }, [barOf(verdict)]),
     html('td', { class: 'worst' }, [
-      html('button', { type: 'button', class: 'link', 'data-place': place, 'aria-label': `Worst case of ${frame}` }, ['Worst case']), html('p', { class: 'hint', role: 'status' }),
+      html('button', { type: 'button', class: 'link', 'data-worst': place, 'aria-label': `Worst case of ${frame}` }, ['Worst case']),
+      ...(bound === null ? [] : [html('button', { type: 'button', class: 'link', 'data-makings': place, 'aria-expanded': 'false', 'aria-label': `Parts of the bound of ${frame}` }, ['Parts'])]),
+      html('p', { class: 'hint', role: 'status' }),
     ]),
   ]);
+}
+
+/**
+ * Shows a row below that of a button, or takes it away.
+ * @param {HTMLElement} button
+ * @param {(show: (view: Node) => void) => void} fill
+ */
+function toggle(button, fill) {
+  const isOpen = button.getAttribute('aria-expanded') === 'true';
+  const row = button.closest('tr');
+  button.setAttribute('aria-expanded', String(!isOpen));
+  if (isOpen) {
+    row.nextElementSibling.remove();
+    return;
+  }
+  const cell = html('td', { colspan: COLUMNS.length + 3 });
+  row.after(html('tr', { class: 'below' }, [cell]));
+  fill((view) => cell.replaceChildren(view));
 }
 
 /** @param {number} time */

@@ -73,6 +73,14 @@ export class Runs {
   plan(text) { return this.newest({ ask: 'plan', text }); }
 
   /**
+   * What makes the bound of a message in a network, in the lines of the answer; none where another text came meanwhile.
+   * @param {Uint8Array} text
+   * @param {string} frame of the message, with its DLC
+   * @returns {Promise<{answer: number, lines: string[]} | null>}
+   */
+  makings(text, frame) { return this.newest({ ask: 'makings', text, frame }); }
+
+  /**
    * The worst case of a message in a network, as a scenario; none where another text came meanwhile.
    * @param {Uint8Array} text
    * @param {Uint8Array} name of the message

@@ -1,4 +1,5 @@
 /** What runs beside the page: the proved code on a document, so that the page goes on meanwhile. */
+import { linesBelow } from './bound_parts.js';
 import { ANSWER, Core, TIME_BYTES } from './core.js';
 import { indexOf } from './bus_times.js';
 import { indexReport } from './report.js';
@@ -23,6 +24,10 @@ const ANSWERS = Object.freeze({
   plan: (code, { text }) => {
     const told = code.plan(text);
     return { told, handed: [told.lines.buffer] };
+  },
+  makings: (code, { text, frame }) => {
+    const { answer, lines } = code.plan(text, true);
+    return { told: { answer, lines: linesBelow(new TextDecoder().decode(lines), frame) }, handed: [] };
   },
   worstCase: (code, { text, name }) => {
     const told = code.worstCase(text, name);

@@ -122,6 +122,8 @@ async function eachView(page, test) {
   await page.click('tab-network');
   await networkSettled(page);
   await page.run(() => { for (const folded of document.querySelectorAll('#panel-network details')) folded.open = true; });
+  await page.run(() => document.querySelector('[data-makings]').click());
+  await page.until("document.querySelector('#network-bounds .makings') !== null");
   await test('network');
   await fillNetwork(page, 'network-period-1', '60');
   assert.notEqual(await askWorst(page, 'S 102 D 1'), '');
@@ -211,8 +213,8 @@ export const accessTests = [
     await page.click('tab-network');
     await networkSettled(page);
     await page.run(() => document.getElementById('tab-network').focus());
-    const worst = await page.run(() => [...document.querySelectorAll('#network-bounds th')].map((frame) => `Worst case of ${frame.textContent}`));
-    assert.equal(worst.length, 17);
+    const worst = await page.run(() => [...document.querySelectorAll('#network-bounds th')].flatMap((frame) => [`Worst case of ${frame.textContent}`, `Parts of the bound of ${frame.textContent}`]));
+    assert.equal(worst.length, 34);
     const reached = [];
     for (let step = 0; step < 19 + worst.length; step += 1) {
       await page.key('Tab');

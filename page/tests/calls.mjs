@@ -38,6 +38,18 @@ load 0.971 late 1 of 3
 
 /** A message alone, of the frame of WIRE, which keeps the bus for 53 bit times; and its worst case: no other is offered, and the bus is free behind it. */
 const LONE = 'version = 1\n[[message]]\nframe = "S 000 D"\ndlc = 0\nperiod = 53\n';
+/** What makes its bound: its wire alone. */
+const DETAILS = `network messages 1 load 1.000 rate 0
+S 000 D 0 longest 53 blocking 0 bound 50 deadline 53 slack 3 ok
+  latest frame 0 start 0
+  jitter 0
+  blocking 0
+  earlier frames 0 bits 0
+  hits 0 bits 0
+  wire 50
+  less periods 0 bits 0
+load 1.000 late 0 of 1
+`;
 const WORST = `version = 2
 bits = 54
 
@@ -72,7 +84,7 @@ const frameText = (identifier, extended, remote, dlc, data, most = 32) =>
 const levelsOf = (letters) => ['page_levels', [text(letters), room('levels', 8), number('count'), number('place')]];
 const marks = (digits, most = 157) => ['page_marks', [levels(digits), room('fields', most), room('stuffed', 157), number('count')]];
 const run = (letters) => ['page_run', [text(letters), LINES, WRONG]];
-const plan = (letters) => ['page_plan', [text(letters), LINES, number('late'), WRONG]];
+const plan = (letters, details = 0) => ['page_plan', [text(letters), details, LINES, number('late'), WRONG]];
 const worstCase = (letters, name) => ['page_worst_case', [text(letters), text(name), LINES, WRONG]];
 const portTimes = (letters, port, most) => ['page_port_times', [text(letters), size(port), room('times', most, 10), number('count')]];
 
@@ -150,6 +162,7 @@ const ROWS = [
 
   [...plan(NETWORK), 0, { lines: ANSWER, late: 1 }],
   [...plan(NETWORK.replace('360', '361')), 0, { late: 0 }],
+  [...plan(LONE, 1), 0, { late: 0, lines: DETAILS }],
   ...[
     ['', 'version', 0, 0], ['', 'version = 2', 2, 0], ['rate = 1000001', '', 3, 0], ['', 'errors = 1', 4, 0], ['', '[errors]\nspace = 1', 5, 0], ['', '[errors]\nburst = 65536', 6, 0],
     ['', '[errors]\nspacing = -1', 7, 0], ['', 'message = []', 8, 0], ['', 'message = [1]', 9, 0], ['', '[[message]]\nframes = 1', 10, 0],

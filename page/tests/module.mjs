@@ -37,8 +37,8 @@ const ANSWERS = {
     const { answer, wrong, report } = core.run(bytes);
     return [byte(answer), answer === ANSWER.badScenario ? wrongField(wrong) : report];
   },
-  plan: (core, { bytes }) => {
-    const { answer, wrong, late, lines } = core.plan(bytes);
+  plan: (core, { numbers: [details], bytes }) => {
+    const { answer, wrong, late, lines } = core.plan(bytes, details === 1);
     if (answer === ANSWER.done) return [byte(answer), number(late), lines];
     return [byte(answer), ...(answer === ANSWER.badPlan ? [wrongField(wrong)] : [])];
   },
@@ -139,7 +139,7 @@ const QUESTIONS = {
   marks: ({ chance, wires }) => many(20000, () => ({ bytes: madeLevels(chance, wires) })),
   decode: ({ chance, wires }) => many(2000, (index) => ({ bytes: encoder.encode(madeTrace(chance, wires, index % 400 === 0 ? 3000 : chance.below(20))) })),
   run: ({ chance, examples }) => documents(chance, join(examples, 'scenarios'), 4000).map((bytes) => ({ bytes })),
-  plan: ({ chance, examples }) => documents(chance, join(examples, 'networks'), 2000).map((bytes) => ({ bytes })),
+  plan: ({ chance, examples }) => documents(chance, join(examples, 'networks'), 2000).map((bytes) => ({ numbers: [chance.below(2)], bytes })),
   worstCase: ({ chance, examples }) => documents(chance, join(examples, 'networks'), 300).map((bytes) => named(chance, bytes)),
   portTimes: ({ chance, examples }) => documents(chance, join(examples, 'scenarios'), 400).flatMap((bytes) => [0, 1, chance.below(5)].map((node) => ({ numbers: [node], bytes }))),
   allPortTimes: ({ chance, examples }) => documents(chance, join(examples, 'scenarios'), 400).map((bytes) => ({ bytes })),

@@ -39,7 +39,8 @@ uint8_t page_marks(const uint8_t *levels, size_t length, uint8_t *fields, size_t
 uint8_t page_decode(const uint8_t *text, size_t length, struct lines *out, uint64_t *place);
 uint8_t page_levels(const uint8_t *text, size_t length, uint8_t *levels, size_t room, size_t *count, size_t *place);
 uint8_t page_run(const uint8_t *text, size_t length, struct lines *out, struct wrong *wrong);
-uint8_t page_plan(const uint8_t *text, size_t length, struct lines *out, size_t *late, struct wrong *wrong);
+uint8_t page_plan(const uint8_t *text, size_t length, bool details, struct lines *out, size_t *late,
+                  struct wrong *wrong);
 uint8_t page_worst_case(const uint8_t *text, size_t length, const uint8_t *name, size_t name_length,
                         struct lines *out, struct wrong *wrong);
 uint8_t page_port_times(const uint8_t *text, size_t length, size_t node, struct time *times, size_t room,
@@ -142,7 +143,7 @@ static void plan(size_t length)
 {
   struct wrong wrong = { 0, 0, 0 };
   size_t late = 0;
-  uint8_t answer = page_plan(given, length, &lines, &late, &wrong);
+  uint8_t answer = page_plan(given, length, question[1] != 0, &lines, &late, &wrong);
   tell_byte(answer);
   if (answer == BAD_PLAN)
     tell_wrong(&wrong);

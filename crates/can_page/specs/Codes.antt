@@ -1,11 +1,13 @@
 -- The numbers by which the page knows levels, fields and flags.
-use Rattle.std.specs.Prelude.{ℕ, ◌==◌, if◌then◌else◌, List, map}
+use Rattle.std.specs.Prelude.{ℕ, ◌==◌, Bool, if◌then◌else◌, List, map}
 use Rattle.std.specs.Int.{from_bool}
 use Rattle.can_frame.specs.declared.level.Level.{Level}
 use Rattle.can_frame.specs.Levels.{level_code}
 use Rattle.can_fields.specs.declared.field.Field.{Field}
 use Rattle.can_fields.specs.declared.field.Field.TheVariants.{StartOfFrame, Identifier, RemoteOrSubstitute, RemoteRequest, SubstituteRequest, IdentifierExtension, ReservedOne, ReservedZero, DataLength, Data, CheckSequence, CheckDelimiter, AckSlot, AckDelimiter, EndOfFrame}
 use Rattle.can_fields.specs.declared.mark.Mark.{Mark}
+use Rattle.can_plan_text.specs.declared.answer.Form.{Form}
+use Rattle.can_plan_text.specs.declared.answer.Form.TheVariants.{Brief, Detailed}
 
 abbrev pub level_codes : List Level → List ℕ
 level_codes levels = map level_code levels
@@ -42,3 +44,7 @@ field_codes marks = map (λ m. field_code m.field) marks
 -- which levels are stuff bits
 abbrev pub stuff_codes : List Mark → List ℕ
 stuff_codes marks = map (λ m. from_bool m.stuffed) marks
+
+-- the answer to a network has details
+abbrev pub form_of : Bool → Form
+form_of details = if details then Detailed else Brief

@@ -1,39 +1,49 @@
 ghost use Rattle.std.specs.Prelude.{◌≡◌, [], false, true, IfSome, Some};
 ghost use Rattle.can_page.specs.Answers.{answer_code, bad_plan, done};
+ghost use Rattle.can_page.specs.Codes.{form_of};
 ghost use Rattle.can_page.specs.Lines.{is_full, lines_of};
 ghost use Rattle.can_page.specs.Plain.{wrong_in_plan};
+ghost use Rattle.can_plan_text.specs.Details.{IsAnswerIn};
 ghost use Rattle.can_plan_text.specs.Plans.{IsWrongPlanField};
-ghost use Rattle.can_plan_text.specs.Report.{IsAnswer};
 ghost use Rattle.can_plan_text.specs.declared.field.PlanField.{PlanField as Wrong};
 
 use crate::answer::Answer;
 use crate::lines::Lines;
 use crate::plain::WrongField;
-use can_plan_text::{PlanFault, answered};
+use can_plan_text::{Form, PlanFault, answered_in};
 use can_stream::{Sink, write_all};
 use std::alloc::Global;
 
-/// Answers the network that a document says: writes the lines of `canplan` to `out`, and tells how many messages may be
-/// late. Where the document says none, the first field that is wrong is told.
+/// Answers the network that a document says: writes the lines of `canplan` to `out`, with what makes each bound or without,
+/// and tells how many messages may be late. Where the document says none, the first field that is wrong is told.
 #[unsafe(no_mangle)]
 pub extern "C" fn page_plan(
     alloc: Global,
     text: &[u8],
+    details: bool,
     out: &mut Lines,
     late: &mut usize,
     wrong: &mut WrongField,
 ) -> u8
-    ensures answer { result ≡ done → IsAnswer text.now (lines_of out.new) late.new }
+    ensures answer { result ≡ done → IsAnswerIn (form_of details) text.now (lines_of out.new) late.new }
     ensures wrong { result ≡ bad_plan → (field : Wrong) × (IsWrongPlanField field text.now × (wrong.new ≡ wrong_in_plan field)) }
     ensures room { result ≡ answer_code Answer.NoRoom → is_full out.new ≡ true }
 {
     out.clear();
-    plan_onto(alloc, text, out, late, wrong).code()
+    plan_onto(alloc, form(details), text, out, late, wrong).code()
+}
+
+/// The form of an answer, with details or without.
+fn form(details: bool) -> Form
+    ensures { result ≡ form_of details }
+{
+    if details { Form::Detailed } else { Form::Brief }
 }
 
 /// The same onto any sink that holds nothing.
 pub(crate) fn plan_onto<W: Sink>(
     alloc: Global,
+    form: Form,
     text: &[u8],
     out: &mut W,
     late: &mut usize,
@@ -41,11 +51,11 @@ pub(crate) fn plan_onto<W: Sink>(
 ) -> Answer
     requires unfailed { W.has_failed out.old ≡ false }
     requires empty { W.contents out.old ≡ Some [] }
-    ensures answer { result ≡ Answer.Done → IfSome (W.contents out.new) (λ bytes. IsAnswer text.now bytes late.new) }
+    ensures answer { result ≡ Answer.Done → IfSome (W.contents out.new) (λ bytes. IsAnswerIn form text.now bytes late.new) }
     ensures wrong { result ≡ Answer.BadPlan → (field : Wrong) × (IsWrongPlanField field text.now × (wrong.new ≡ wrong_in_plan field)) }
     ensures room { result ≡ Answer.NoRoom → W.has_failed out.new ≡ true }
 {
-    match answered(alloc, text) {
+    match answered_in(alloc, form, text) {
         Ok(answer) => {
             *late = answer.late;
             match write_all(out, answer.bytes.as_slice()) {

@@ -1,0 +1,51 @@
+/** What makes the bound of a message: the lines below its own in the answer of canplan --details. */
+
+const MESSAGE = /^(\S+ \S+ \S+ \S+) longest /;
+const LATEST = /^ {2}latest frame (\d+) /;
+const TIMES = /^ {2}microseconds (.+)$/;
+const PART = /^ {2}(jitter|blocking|earlier frames|before frames|hits|wire|less periods) (\d+)(?: bits (\d+))?(?: of (\S+ \S+ \S+ \S+)(?: name "([^"]*)")?)?$/;
+
+/**
+ * @typedef {object} Part of a bound
+ * @property {string} kind the first of its words in the answer
+ * @property {number | null} count how many frames or hits it is, where they are counted
+ * @property {number} bits how long it is, in bit times
+ * @property {string} frame of the message before this one, where it is of one, with its DLC; else empty
+ * @property {string} name of that message, or empty
+ */
+
+/**
+ * @typedef {object} Makings what makes the bound of a message
+ * @property {number} latest which frame of the busy period is the latest, counted from 0
+ * @property {Part[]} parts in the order of the answer
+ * @property {number} later how many bit times behind the first frame of the busy period the latest one is released: they are taken away
+ * @property {string} times bound, deadline and what is left in microseconds, as the answer has them; empty where it has none
+ */
+
+/**
+ * The lines below that of a message.
+ * @param {string} answer
+ * @param {string} frame of the message, with its DLC
+ * @returns {string[]} none where it has no bound
+ */
+export function linesBelow(answer, frame) {
+  const lines = answer.split('\n');
+  const first = lines.findIndex((line) => MESSAGE.exec(line)?.[1] === frame) + 1;
+  const end = lines.findIndex((line, at) => at >= first && !line.startsWith('  '));
+  return lines.slice(first, end);
+}
+
+/** @param {string[]} lines below that of a message @returns {Makings} */
+export function makingsOf(lines) {
+  const makings = { latest: 0, parts: [], later: 0, times: '' };
+  for (const line of lines) {
+    const [, number] = LATEST.exec(line) ?? [];
+    const [, times] = TIMES.exec(line) ?? [];
+    const [, words, count, bits, frame = '', name = ''] = PART.exec(line) ?? [];
+    if (number !== undefined) makings.latest = Number(number);
+    else if (times !== undefined) makings.times = times;
+    else if (words === 'less periods') makings.later = Number(bits);
+    else if (words !== undefined) makings.parts.push({ kind: words.split(' ')[0], count: bits === undefined ? null : Number(count), bits: Number(bits ?? count), frame, name });
+  }
+  return makings;
+}
