@@ -12,7 +12,7 @@ use Rattle.can_mac.specs.Frames.{behind_part, counters_after, slot_place}
 use Rattle.can_node.specs.Ports.{PortState, waiting}
 use Rattle.can_node.proofs.FrameLeaves.{Sends, Receives}
 use Rattle.can_bus.specs.Quiet.{holds}
-use Rattle.can_bus.specs.Repair.{Tally, IsLow, tallied}
+use Rattle.can_bus.specs.Attempts.{Tally, IsLow, tallied}
 use Rattle.can_bus.proofs.CalmPorts.{IsWithin, within-received, sends-has}
 use Rattle.can_bus.proofs.QuietLogs.{TakesPart, holds-own, holds-none, others-of}
 

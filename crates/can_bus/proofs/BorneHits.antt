@@ -1,91 +1,67 @@
 -- Hits that leave every port error active: fifteen at most, or one in nine attempts of one sender.
 use Rattle.std.specs.Prelude.{slice_get, nat_lt, if◌then◌else◌}
-use Rattle.std.proofs.Common.{◌≡◌, ℕ, zero, suc, ◌+◌, ◌-◌, ◌*◌, ◌<◌, ◌≤◌, Bool, true, false, Option, Some, None, List, [], ◌∷◌, length, refl, sym, ap, subst, ◌∙◌, arith, inl, inr}
-use Rattle.std.proofs.Math.Dec.{eqb, ltb}
-use Rattle.std.proofs.lemmas.Bool.{cond-true, cond-false, cases_eq, cases_lt, lt-ltb, le-ltb, ne_eqb}
+use Rattle.std.proofs.Common.{◌≡◌, ℕ, zero, suc, ◌+◌, ◌-◌, ◌*◌, ◌<◌, ◌≤◌, Bool, true, false, Option, Some, None, List, [], ◌∷◌, length, take, refl, sym, ap, subst, ◌∙◌, arith, inl, inr}
+use Rattle.std.proofs.lemmas.Bool.{cases_lt}
+use Rattle.std.proofs.lemmas.List.{take_all}
 use Rattle.can_frame.specs.Parts.{Parts}
 use Rattle.can_mac.specs.Frames.{slot_place}
 use Rattle.can_node.specs.Ports.{PortState}
 use Rattle.can_hit.specs.declared.hit.Hit.{Hit}
-use Rattle.can_hit.specs.declared.hit.Hit.TheVariants.{At, In, View}
-use Rattle.can_bus.specs.Quiet.{holds}
-use Rattle.can_bus.specs.Repair.{Tally, IsLow, AreBorne, FallInWindows, IsLater, AreApart, HoldsAllOrNone, AreOfOnePort, tallied, tallied_attempt, tally_after, hits_before, hit_of, frame_of_attempt}
-use Rattle.can_bus.proofs.RepairPlans.{Apart, apart-from, few-before, hit-cases, frame-cases, struck-there}
-use Rattle.can_bus.proofs.RepairCounts.{none-stays}
+use Rattle.can_hit.specs.declared.hit.Hit.TheVariants.{In}
+use Rattle.can_bus.specs.Attempts.{AreApart, IsLow, Tally, hit_of, tallied}
+use Rattle.can_bus.specs.Course.{Transmission, and_hit, course_tally, hit_time, hits_made}
+use Rattle.can_bus.specs.Quiet.{busy_time, holds}
+use Rattle.can_bus.specs.Repair.{AreBorne, AreOfOnePort, HoldsAllOrNone, attempts_from, no_errors, repaired_course, tally}
+use Rattle.can_bus.proofs.PassedFrames.{none-taken}
+use Rattle.can_bus.proofs.RepairPlans.{few-made, from-again, from-whole, hit-cases, struck-there}
 
 -- ---- Few hits.
 
-before-hit : (hits : List Hit) (number : ℕ) → (hits_before hits number ≤ hits_before hits (suc number)) × ((o : ℕ) → hit_of hits number ≡ Some o → suc (hits_before hits number) ≤ hits_before hits (suc number))
-before-hit [] number = (omega arith, λ o e. absurd (let h : None ≡ Some o = e in cc))
-before-hit (At time ∷ hits) number = before-hit hits number
-before-hit (View time node ∷ hits) number = before-hit hits number
-before-hit (In a offset ∷ hits) number =
-    let rest = before-hit hits number in
-    elim (cases_lt a number) [
-      | inl less ↦
-          let now = cond-true (ltb a number) (suc (hits_before hits number)) (hits_before hits number) (lt-ltb a number less) in
-          let next = cond-true (ltb a (suc number)) (suc (hits_before hits (suc number))) (hits_before hits (suc number)) (lt-ltb a (suc number) (omega (arith, less))) in (
-            omega (arith, now, next, rest.0),
-            λ o e. (
-                let more = rest.1 o (sym (cond-false (eqb a number) (Some offset) (hit_of hits number) (ne_eqb a number (λ same. omega (arith, same, less)))) ∙ e) in
-                omega (arith, now, next, more)),
-          )
-      | inr more ↦
-          let now = cond-false (ltb a number) (suc (hits_before hits number)) (hits_before hits number) (le-ltb a number more) in
-          elim (cases_eq a number) [
-            | inl same ↦
-                let next = cond-true (ltb a (suc number)) (suc (hits_before hits (suc number))) (hits_before hits (suc number)) (lt-ltb a (suc number) (omega (arith, same))) in
-                (omega (arith, now, next, rest.0), λ o e. omega (arith, now, next, rest.0))
-            | inr other ↦
-                let apart : (a ≡ number) → ⊥ = other in
-                let next = cond-false (ltb a (suc number)) (suc (hits_before hits (suc number))) (hits_before hits (suc number)) (le-ltb a (suc number) (omega (arith, more, apart))) in (
-                  omega (arith, now, next, rest.0),
-                  λ o e. (
-                      let hit = rest.1 o (sym (cond-false (eqb a number) (Some offset) (hit_of hits number) (ne_eqb a number other)) ∙ e) in
-                      omega (arith, now, next, hit)),
-                )
-          ]
-    ]
-
-abbrev pub Few : ℕ → Tally → Type 0
+abbrev Few : ℕ → Tally → Type 0
 Few n t = (t.tec ≤ 8 * n) × (t.rec ≤ n)
 
 fewer-or-same : (b : Bool) (n : ℕ) → (if b then n - 1 else n) ≤ n
 fewer-or-same true n = omega arith
 fewer-or-same false n = omega arith
 
-pub few-tallied : (n m : ℕ) (holds_it : Bool) (f : Parts) (hit : Option ℕ) (t : Tally) → n ≤ m → ((o : ℕ) → hit ≡ Some o → suc n ≤ m) → Few n t → Few m (tallied holds_it f hit t)
-few-tallied n m true f None t less more few = (omega (arith, few.0, less), omega (arith, few.1, less))
-few-tallied n m false f None t less more few = (omega (arith, few.0, less), omega (arith, few.1, less))
-few-tallied n m true f (Some o) t less more few = (omega (arith, few.0, more o refl), omega (arith, few.1, less))
-few-tallied n m false f (Some o) t less more few = (omega (arith, few.0, less), omega (arith, few.1, more o refl, fewer-or-same (nat_lt (slot_place f) o) t.rec))
+-- each hit counts eight at most
+few-tallied : (n : ℕ) (holds_it : Bool) (f : Parts) (hit : Option ℕ) (t : Tally) → Few n t → Few (and_hit hit n) (tallied holds_it f hit t)
+few-tallied n true f None t few = (omega (arith, few.0), few.1)
+few-tallied n false f None t few = (few.0, omega (arith, few.1))
+few-tallied n true f (Some o) t few = (omega (arith, few.0), omega (arith, few.1))
+few-tallied n false f (Some o) t few = (omega (arith, few.0), omega (arith, few.1, fewer-or-same (nat_lt (slot_place f) o) t.rec))
 
-few-attempt : (n m : ℕ) (queue : List Parts) (w : Option Parts) (hit : Option ℕ) (t : Tally) → n ≤ m → ((o : ℕ) → hit ≡ Some o → suc n ≤ m) → Few n t → Few m (tallied_attempt queue w hit t)
-few-attempt n m queue None hit t less more few = (omega (arith, few.0, less), omega (arith, few.1, less))
-few-attempt n m queue (Some f) hit t less more few = few-tallied n m (holds queue f) f hit t less more few
+hit-first : (hit : Option ℕ) (n k : ℕ) → and_hit hit n + k ≡ n + and_hit hit k
+hit-first None n k = refl
+hit-first (Some o) n k = omega arith
 
--- each hit so far has counted eight at most
-tally-few : (queue frames : List Parts) (hits : List Hit) (number : ℕ) → Few (hits_before hits number) (tally_after queue frames hits number)
-tally-few queue frames hits zero = (omega arith, omega arith)
-tally-few queue frames hits (suc number) =
-    let before = before-hit hits number in
-    few-attempt (hits_before hits number) (hits_before hits (suc number)) queue (frame_of_attempt frames hits number) (hit_of hits number) (tally_after queue frames hits number)
-    before.0 before.1 (tally-few queue frames hits number)
+pub few-course : (queue : List Parts) (course : List Transmission) (number n : ℕ) (t : Tally) → Few n t → Few (n + hits_made course) (course_tally queue (take number course) t)
+few-course queue [] zero n t few = (omega (arith, few.0), omega (arith, few.1))
+few-course queue (s ∷ course) zero n t few = (omega (arith, few.0), omega (arith, few.1))
+few-course queue [] (suc number) n t few = (omega (arith, few.0), omega (arith, few.1))
+few-course queue (s ∷ course) (suc number) n t few =
+    let rest = course_tally queue (take number course) (tallied (holds queue s.frame) s.frame s.hit t) in
+    subst (λ m. Few m rest) (hit-first s.hit n (hits_made course))
+    (few-course queue course number (and_hit s.hit n) (tallied (holds queue s.frame) s.frame s.hit t) (few-tallied n (holds queue s.frame) s.frame s.hit t few))
 
-pub fifteen-borne : (frames : List Parts) (hits : List Hit) (ports : List PortState) → length hits ≤ 15 → AreBorne frames hits ports
-fifteen-borne frames hits ports most n p e number within =
-    let few = tally-few p.queue frames hits number in
-    let less = few-before hits number in
-    record { tec = omega (arith, few.0, less, most); rec = omega (arith, few.1, less, most) }
+module _ (frames : List Parts) (hits : List Hit) where
+  repaired-few : (queue : List Parts) (number : ℕ) → Few (length hits) (course_tally queue (take number (repaired_course frames hits)) no_errors)
+  repaired-few queue number =
+      let few = few-course queue (repaired_course frames hits) number 0 no_errors (omega arith, omega arith) in
+      let made = few-made hits frames in
+      (omega (arith, few.0, made), omega (arith, few.1, made))
+
+  pub fifteen-borne : (ports : List PortState) → length hits ≤ 15 → AreBorne frames hits ports
+  fifteen-borne ports most n p e number = let few = repaired-few p.queue number in record { tec = omega (arith, few.0, most); rec = omega (arith, few.1, most) }
+
+-- nothing is counted without hits
+pub quiet-tally : (queue frames : List Parts) → ((tally queue frames []).tec ≡ 0) × ((tally queue frames []).rec ≡ 0)
+quiet-tally queue frames =
+    let course = repaired_course frames [] in
+    let few : Few 0 (tally queue frames []) = subst (λ some. Few 0 (course_tally queue some no_errors)) (take_all (length course) course (omega arith)) (repaired-few frames [] queue (length course)) in
+    (omega (arith, few.0), omega (arith, few.1))
 
 -- ---- One hit in nine attempts of one sender.
-
-later-closer : (a b : Hit) → IsLater 9 a b → IsLater 1 a b
-later-closer (In a offset) (In b place) h = omega (arith, h)
-later-closer (In a offset) (At time) h = absurd h
-later-closer (In a offset) (View time node) h = absurd h
-later-closer (At time) b h = absurd h
-later-closer (View time node) b h = absurd h
 
 -- how many attempts without a hit come next, at least
 abbrev allowed : Option ℕ → ℕ → ℕ
@@ -96,10 +72,7 @@ abbrev allowance : List Hit → ℕ → ℕ
 allowance hits zero = 0
 allowance hits (suc number) = allowed (hit_of hits number) (allowance hits number)
 
-module _ (frames : List Parts) (hits : List Hit) (windows : FallInWindows frames hits) (nine : AreApart 9 hits) where
-  apart : Apart hits
-  apart = apart-from frames hits hits windows (λ m n a b less i j. later-closer a b (nine m n a b less i j))
-
+module _ (hits : List Hit) (nine : AreApart 9 hits) where
   -- of two hits the later falls nine attempts later
   two-hits : (a b o place : ℕ) → a < b → hit_of hits a ≡ Some o → hit_of hits b ≡ Some place → a + 9 ≤ b
   two-hits a b o place less at_a at_b =
@@ -166,68 +139,68 @@ module _ (frames : List Parts) (hits : List Hit) (windows : FallInWindows frames
   tallied-more true f o t = omega arith
   tallied-more false f o t = omega (arith, fewer-or-same (nat_lt (slot_place f) o) t.rec)
 
-  module _ (queue : List Parts) (b : Bool) (each : (n : ℕ) (f : Parts) → slice_get frames n ≡ Some f → holds queue f ≡ b) where
-    -- it is eight at most, and goes back to 0 before the next hit
-    record IsRestored (number : ℕ) : Type 0 where
-      still : other b (tally_after queue frames hits number) ≡ 0
-      most : own b (tally_after queue frames hits number) ≤ 8
-      soon : (f : Parts) → frame_of_attempt frames hits number ≡ Some f → own b (tally_after queue frames hits number) ≤ allowance hits number
+  -- The own counter is eight at most, and goes back to 0 before the next hit; the other one stays 0.
+  record IsRestored (b : Bool) (number : ℕ) (t : Tally) : Type 0 where
+    still : other b t ≡ 0
+    most : own b t ≤ 8
+    soon : own b t ≤ allowance hits number
 
-    start-own : (c : Bool) → own c (tally_after queue frames hits zero) ≡ 0
-    start-own true = refl
-    start-own false = refl
+  low-by : (b : Bool) (number : ℕ) (t : Tally) → IsRestored b number t → IsLow t
+  low-by true number t is = record { tec = omega (arith, is.most); rec = omega (arith, is.still) }
+  low-by false number t is = record { tec = omega (arith, is.still); rec = omega (arith, is.most) }
 
-    start-other : (c : Bool) → other c (tally_after queue frames hits zero) ≡ 0
-    start-other true = refl
-    start-other false = refl
+  restored-whole : (b : Bool) (number : ℕ) (f : Parts) (t : Tally) → hit_of hits number ≡ None → IsRestored b number t → IsRestored b (number + 1) (tallied b f None t)
+  restored-whole b number f t none is =
+      let left = ap (allowance hits) (let k : number + 1 ≡ suc number = omega arith in k) ∙ ap (λ w. allowed w (allowance hits number)) none in
+      record {
+        still = tallied-other b f None t ∙ is.still;
+        most = omega (arith, tallied-fewer b f t, is.most);
+        soon = omega (arith, tallied-fewer b f t, is.soon, left);
+      }
 
-    restored-hit : (number : ℕ) (f : Parts) → frame_of_attempt frames hits number ≡ Some f → IsRestored number → (hit : Option ℕ) → hit_of hits number ≡ hit →
-        (own b (tallied b f hit (tally_after queue frames hits number)) ≤ 8) × (own b (tallied b f hit (tally_after queue frames hits number)) ≤ allowed hit (allowance hits number))
-    restored-hit number f e before None none =
-        let t = tally_after queue frames hits number in
-        (omega (arith, tallied-fewer b f t, before.most), omega (arith, tallied-fewer b f t, before.soon f e))
-    restored-hit number f e before (Some o) some =
-        let t = tally_after queue frames hits number in
-        let nothing = none-allowed number o some in
-        (omega (arith, tallied-more b f o t, before.soon f e, nothing), omega (arith, tallied-more b f o t, before.soon f e, nothing))
+  restored-again : (b : Bool) (number : ℕ) (f : Parts) (o : ℕ) (t : Tally) → hit_of hits number ≡ Some o → IsRestored b number t → IsRestored b (number + 1) (tallied b f (Some o) t)
+  restored-again b number f o t some is =
+      let left = ap (allowance hits) (let k : number + 1 ≡ suc number = omega arith in k) ∙ ap (λ w. allowed w (allowance hits number)) some in
+      let nothing = none-allowed number o some in
+      record {
+        still = tallied-other b f (Some o) t ∙ is.still;
+        most = omega (arith, tallied-more b f o t, is.soon, nothing);
+        soon = omega (arith, tallied-more b f o t, is.soon, nothing, left);
+      }
 
-    restored : (number : ℕ) → IsRestored number
-    restored zero = record { still = start-other b; most = omega (arith, start-own b); soon = λ f e. omega (arith, start-own b) }
-    restored (suc number) = elim (frame-cases (frame_of_attempt frames hits number)) [
-      | inl none ↦
-          let before = restored number in
-          let t = tally_after queue frames hits number in
-          let same : tally_after queue frames hits (suc number) ≡ t = ap (λ w. tallied_attempt queue w (hit_of hits number) t) none in
-          record {
-            still = ap (other b) same ∙ before.still;
-            most = subst (λ u. own b u ≤ 8) (sym same) before.most;
-            soon = λ f e. (
-                let next = none-stays queue frames hits apart number 1 none in
-                let k : suc number ≡ number + 1 = omega arith in
-                absurd (let none_there : None ≡ Some f = sym next ∙ sym (ap (frame_of_attempt frames hits) k) ∙ e in cc));
-          }
-      | inr some ↦
-          let before = restored number in
-          let t = tally_after queue frames hits number in
-          let f = some.0 in
-          let hit = hit_of hits number in
-          let same : tally_after queue frames hits (suc number) ≡ tallied b f hit t =
-          ap (λ w. tallied_attempt queue w hit t) some.1 ∙ ap (λ c. tallied c f hit t) (each (number - hits_before hits number) f some.1) in
-          let bound = restored-hit number f some.1 before hit refl in
-          record {
-            still = ap (other b) same ∙ tallied-other b f hit t ∙ before.still;
-            most = subst (λ u. own b u ≤ 8) (sym same) bound.0;
-            soon = λ g e. subst (λ u. own b u ≤ allowance hits (suc number)) (sym same) bound.1;
-          }
-    ]
+  -- so it stays low through all attempts
+  module _ (queue : List Parts) (b : Bool) where
+    abbrev AllHeld : List Parts → Type 0
+    AllHeld frames = (n : ℕ) (f : Parts) → slice_get frames n ≡ Some f → holds queue f ≡ b
 
-  low-by : (b : Bool) (t : Tally) → other b t ≡ 0 → own b t ≤ 8 → IsLow t
-  low-by true t none most = record { tec = omega (arith, most); rec = omega (arith, none) }
-  low-by false t none most = record { tec = omega (arith, none); rec = omega (arith, most) }
+    stays-low : (count number time : ℕ) (frames : List Parts) (t : Tally) → AllHeld frames → IsRestored b number t → (some : ℕ) → IsLow (course_tally queue (take some (attempts_from count hits number time frames)) t)
+    stays-low count number time frames t each is zero = subst (λ none. IsLow (course_tally queue none t)) (sym (none-taken (attempts_from count hits number time frames))) (low-by b number t is)
+    stays-low zero number time frames t each is (suc some) = low-by b number t is
+    stays-low (suc count) number time [] t each is (suc some) = low-by b number t is
+    stays-low (suc count) number time (f ∷ frames) t each is (suc some) =
+        let own_frame = each 0 f refl in
+        elim (hit-cases (hit_of hits number)) [
+          | inl none ↦
+              let behind = attempts_from count hits (number + 1) (time + busy_time f) frames in
+              subst (λ course. IsLow (course_tally queue (take (suc some) course) t)) (sym (from-whole hits count number time f frames none))
+              (subst (λ c. IsLow (course_tally queue (take some behind) (tallied c f None t))) (sym own_frame)
+              (stays-low count (number + 1) (time + busy_time f) frames (tallied b f None t) (λ n g at. each (suc n) g at) (restored-whole b number f t none is) some))
+          | inr hit ↦
+              let o = hit.0 in
+              let behind = attempts_from count hits (number + 1) (time + hit_time f o) (f ∷ frames) in
+              subst (λ course. IsLow (course_tally queue (take (suc some) course) t)) (sym (from-again hits count number time f frames o hit.1))
+              (subst (λ c. IsLow (course_tally queue (take some behind) (tallied c f (Some o) t))) (sym own_frame)
+              (stays-low count (number + 1) (time + hit_time f o) (f ∷ frames) (tallied b f (Some o) t) each (restored-again b number f o t hit.1 is) some))
+        ]
 
-  stays-low : (queue : List Parts) → HoldsAllOrNone queue frames → (number : ℕ) → IsLow (tally_after queue frames hits number)
-  stays-low queue (inl each) number = let r = restored queue true each number in low-by true (tally_after queue frames hits number) r.still r.most
-  stays-low queue (inr each) number = let r = restored queue false each number in low-by false (tally_after queue frames hits number) r.still r.most
+  start : (b : Bool) → IsRestored b 0 no_errors
+  start true = record { still = refl; most = omega arith; soon = omega arith }
+  start false = record { still = refl; most = omega arith; soon = omega arith }
 
-  pub nine-borne : (ports : List PortState) → AreOfOnePort frames ports → AreBorne frames hits ports
-  nine-borne ports of_one n p e number within = stays-low p.queue (of_one n p e) number
+  all-low : (queue frames : List Parts) → HoldsAllOrNone queue frames → (number : ℕ) → IsLow (course_tally queue (take number (repaired_course frames hits)) no_errors)
+  unfolding repaired_course
+  all-low queue frames (inl each) number = stays-low queue true (length frames + length hits) 0 0 frames no_errors each (start true) number
+  all-low queue frames (inr each) number = stays-low queue false (length frames + length hits) 0 0 frames no_errors each (start false) number
+
+  pub nine-borne : (frames : List Parts) (ports : List PortState) → AreOfOnePort frames ports → AreBorne frames hits ports
+  nine-borne frames ports of_one n p e number = all-low p.queue frames (of_one n p e) number

@@ -1,13 +1,12 @@
 -- A call with offers and hits, where it has no offers or no hits: it is the run, or what is played.
-use Rattle.std.proofs.Common.{◌≡◌, ℕ, zero, suc, Some, None, Ok, Err, List, [], length, map, refl, sym, ap, subst, ◌∙◌}
+use Rattle.std.proofs.Common.{◌≡◌, ℕ, suc, Some, None, Ok, Err, List, [], length, map, sym, ap, subst, ◌∙◌}
 use Rattle.std.proofs.lemmas.List.{length-map}
 use Rattle.std.specs.Prelude.{◌↔◌, IfOk, IsOk, OnOk, Result}
 use Rattle.can_node.specs.Ports.{PortState, port_drives}
 use Rattle.can_bus.specs.declared.offer.Offer.{Offer}
 use Rattle.can_hit.specs.Hits.{AreTaken}
-use Rattle.can_bus.specs.Network.{call_after, offered_now}
-use Rattle.can_bus.specs.Offers.{AreOffered, all_made, played}
-use Rattle.can_bus.specs.Run.{BusState, CallState, bus_after, bus_run, bus_step, call_begun, recorded, rest_after}
+use Rattle.can_bus.specs.Offers.{AreOffered, all_made, call_after, call_level, offered_now, played, played_level}
+use Rattle.can_bus.specs.Run.{BusState, CallState, bus_after, bus_level, bus_run, bus_step, call_begun, recorded, rest_after}
 use Rattle.can_bus.specs.Wired.{wired}
 use Rattle.can_bus.proofs.CallLemmas.{call-time}
 use Rattle.can_bus.proofs.HitRuns.{all-see, sees}
@@ -49,16 +48,21 @@ pub run_one : (bus : BusState) → bus_run [] 1 bus ≡ record { ports = map (se
 unfolding bus_run bus_after
 run_one bus = plain-bus (call_begun bus)
 
-module _ (offers : List Offer) (bus : BusState) where
-  pub played-call : (n : ℕ) → played offers n bus ≡ (call_after offers [] n bus).bus
-  unfolding played call_after
-  played-call zero = refl
-  played-call (suc n) =
-      let before : BusState = played offers n bus in
-      let now : CallState = offered_now offers (call_after offers [] n bus) in
-      let same : record before { ports = all_made offers n before.ports } ≡ now.bus =
-      ap (λ (b : BusState). record b { ports = all_made offers n b.ports }) (played-call n)
-      ∙ ap (λ t. record (call_after offers [] n bus).bus { ports = all_made offers t (call_after offers [] n bus).bus.ports }) (sym (call-time offers [] bus n)) in
-      run_one (record before { ports = all_made offers n before.ports })
-      ∙ ap (λ (b : BusState). let x = wired (map port_drives b.ports) in let next : BusState = record { ports = map (sees x) b.ports; rest = rest_after b.rest x } in next) same
-      ∙ sym (plain-bus now)
+-- it goes one bit time after another, before each of which the offers of its number are made
+module _ (offers : List Offer) (bus : BusState) (n : ℕ) where
+  abbrev now : BusState
+  now = record (played offers n bus) { ports = all_made offers n (played offers n bus).ports }
+
+  offered-is : (offered_now offers (call_after offers [] n bus)).bus ≡ now
+  offered-is = ap (λ t. record (played offers n bus) { ports = all_made offers t (played offers n bus).ports }) (call-time offers [] bus n)
+
+  pub played-next : played offers (suc n) bus ≡ bus_run [] 1 now
+  unfolding call_after
+  played-next =
+      plain-bus (offered_now offers (call_after offers [] n bus))
+      ∙ ap (λ (b : BusState). let x = wired (map port_drives b.ports) in let next : BusState = record { ports = map (sees x) b.ports; rest = rest_after b.rest x } in next) offered-is
+      ∙ sym (run_one now)
+
+  pub played-level : played_level offers n bus ≡ bus_level [] 0 now
+  unfolding call_level bus_level bus_after recorded
+  played-level = ap (λ (b : BusState). wired (map port_drives b.ports)) offered-is

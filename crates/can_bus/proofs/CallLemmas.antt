@@ -3,10 +3,8 @@ use Rattle.std.proofs.Common.{◌≡◌, ℕ, zero, suc, ◌+◌, ◌<◌, ◌�
 use Rattle.can_node.specs.Ports.{PortState}
 use Rattle.can_hit.specs.declared.hit.Hit.{Hit}
 use Rattle.can_bus.specs.declared.offer.Offer.{Offer}
-use Rattle.can_bus.specs.Network.{call_after, call_level, call_refused, offered_now}
-use Rattle.can_bus.specs.Offers.{all_made, refused_at, played, played_level}
+use Rattle.can_bus.specs.Offers.{all_made, call_after, call_level, call_refused, offered_now, refused_at}
 use Rattle.can_bus.specs.Run.{BusState, CallState, bus_after, bus_level, bus_run, bus_step, call_begun, recorded}
-use Rattle.can_bus.proofs.RunLemmas.{runs_joined, levels_joined}
 
 module _ (offers : List Offer) (hits : List Hit) (bus : BusState) where
   pub call-time : (n : ℕ) → (call_after offers hits n bus).time ≡ n
@@ -77,12 +75,3 @@ call_level-run hits t bus = ap (λ c. recorded hits (offered_now [] c)) (call-ru
 pub call_bus-run : (hits : List Hit) (n : ℕ) (bus : BusState) → (call_after [] hits n bus).bus ≡ bus_run hits n bus
 unfolding bus_run
 call_bus-run hits n bus = ap (λ (c : CallState). c.bus) (call-run hits n bus)
-
-pub played-quiet : (n : ℕ) (bus : BusState) → played [] n bus ≡ bus_run [] n bus
-unfolding played bus_run bus_after
-played-quiet zero bus = refl
-played-quiet (suc n) bus = ap (bus_run [] 1) (played-quiet n bus) ∙ sym (runs_joined n 1 bus) ∙ ap (λ k. bus_run [] k bus) (let e : n + 1 ≡ suc n = omega arith in e)
-
-pub played_level-quiet : (t : ℕ) (bus : BusState) → played_level [] t bus ≡ bus_level [] t bus
-unfolding played_level
-played_level-quiet t bus = ap (bus_level [] 0) (played-quiet t bus) ∙ sym (levels_joined t 0 bus) ∙ ap (λ k. bus_level [] k bus) (let e : t + 0 ≡ t = omega arith in e)

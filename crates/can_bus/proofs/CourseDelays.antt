@@ -1,5 +1,5 @@
 -- How long an offered frame waits at most, where frames are disturbed meanwhile.
-use Rattle.std.specs.Prelude.{filter, nat_le, nat_lt, slice_get, take, ◌&&◌}
+use Rattle.std.specs.Prelude.{filter, nat_lt, slice_get, take, ◌&&◌}
 use Rattle.std.proofs.Common.{◌≡◌, ℕ, zero, suc, ◌+◌, ◌-◌, ◌<◌, ◌≤◌, Bool, true, false, cond, Option, Some, None, List, [], ◌∷◌, ◌++◌, length, map, refl, sym, ◌∙◌, ap, subst, inl, inr, arith}
 use Rattle.std.specs.List.{sum_by}
 use Rattle.std.proofs.lemmas.Bool.{cases_Bool, cases_lt, lt-ltb}
@@ -12,14 +12,14 @@ use Rattle.can_node.specs.Ports.{PortState, goes_before, same_field}
 use Rattle.can_node.proofs.WaitingLemmas.{Wins-goes_before, Shares-same_field, same_field-Shares}
 use Rattle.can_hit.specs.declared.hit.Hit.{Hit}
 use Rattle.can_bus.specs.declared.offer.Offer.{Offer}
-use Rattle.can_bus.specs.Course.{Transmission, IsCourse, over, sent, broken, IsMade, hit_time, unhit}
-use Rattle.can_bus.specs.CourseWaiting.{AreInTime, IsSentBy, attempts_between, going_before, hit_attempts, keeping, kept_times, left_behind, left_on, of_field, sent_attempts}
+use Rattle.can_bus.specs.Course.{Transmission, IsCourse, over, sent, broken, IsMade, hit_time}
+use Rattle.can_bus.specs.Schedule.{unhit}
+use Rattle.can_bus.specs.CourseWaiting.{AreInTime, IsSentBy, attempts_between, going_before, hit_attempts, keeping, kept_times, left_behind, left_on, of_field, sent_attempts, ahead_of, busy_times}
 use Rattle.can_bus.specs.Offers.{AreOffered}
 use Rattle.can_bus.specs.OpenBus.{all_offers, offered_first, timed}
 use Rattle.can_bus.specs.Quiet.{queued, busy_time, span}
-use Rattle.can_bus.specs.Repair.{IsInWindow}
-use Rattle.can_bus.specs.Schedule.{TimedParts, Lists, without_offer, frames_of}
-use Rattle.can_bus.specs.Waiting.{ahead_of, busy_times, left_at, starts_between}
+use Rattle.can_bus.specs.Attempts.{IsInWindow}
+use Rattle.can_bus.specs.Timed.{TimedParts, Lists, without_offer, frames_of}
 use Rattle.can_bus.proofs.CourseTracks.{course-free}
 use Rattle.can_bus.proofs.CourseWaits.{Awaits, FieldsInOrder, GoesFirst, IsOwn, awaits-listed, awaits-made, between-before, between-late, between-more, between-none, fields-without, first-left, hit-awaits, next-first, others-kept, sends-it, sent-cases, wait-exact, wait-first, wait-own}
 use Rattle.can_bus.proofs.Fields.{field-more, field-skip}
@@ -347,27 +347,3 @@ offers-in_time offers ports offered =
     let other = timed-at offers n y b in
     let t = offers-rise (length ports) offers offered m n one.0 other.0 (omega (arith, less)) one.1 other.1 in
     omega (arith, t, one.2, other.2))
-
--- ---- without hits
-
-abbrev one_unhit : TimedParts → Transmission
-one_unhit s = record { time = s.time; frame = s.frame; hit = None }
-
-left-unhit : (t : ℕ) (starts : List TimedParts) → left_on t (unhit starts) ≡ left_at t starts
-left-unhit t [] = refl
-left-unhit t (s ∷ starts) = ap (cond (nat_lt s.time t && nat_lt t (s.time + busy_time s.frame)) (s.time + busy_time s.frame - t)) (left-unhit t starts)
-
-unhit-more : (s : TimedParts) (starts : List TimedParts) (some : List Transmission) (b : Bool) → kept_times some ≡ busy_times starts →
-    kept_times (cond b (one_unhit s ∷ some) some) ≡ busy_times (cond b (s ∷ starts) starts)
-unfolding span
-unhit-more s starts some true same = omega (arith, same, sum_by-cons (λ (z : Transmission). keeping z.frame z.hit) (one_unhit s) some, sum_by-cons busy_time s.frame (frames_of starts))
-unhit-more s starts some false same = same
-
-kept-unhit : (from until : ℕ) (starts : List TimedParts) → kept_times (attempts_between from until (unhit starts)) ≡ busy_times (starts_between from until starts)
-unfolding span
-kept-unhit from until [] = refl
-kept-unhit from until (s ∷ starts) =
-    unhit-more s (starts_between from until starts) (attempts_between from until (unhit starts)) (nat_le from s.time && nat_lt s.time until) (kept-unhit from until starts)
-
-pub waits-unhit : (starts : List TimedParts) (t from until : ℕ) → (left_on t (unhit starts) ≡ left_at t starts) × (kept_times (attempts_between from until (unhit starts)) ≡ busy_times (starts_between from until starts))
-waits-unhit starts t from until = (left-unhit t starts, kept-unhit from until starts)

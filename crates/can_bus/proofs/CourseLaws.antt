@@ -9,12 +9,12 @@ use Rattle.can_node.proofs.WaitingLaws.{waiting-IsWaiting, waiting-some, waits}
 use Rattle.can_node.proofs.WaitingLemmas.{Shares-same_field}
 use Rattle.can_hit.specs.declared.hit.Hit.{Hit}
 use Rattle.can_bus.specs.Course.{HitInWindows, IsCourse, IsNext, Transmission, attempt_of, broken, course_from, course_of, hit_time, over, sent}
-use Rattle.can_bus.specs.Repair.{IsInWindow, hit_of, hits_before}
+use Rattle.can_bus.specs.Attempts.{IsInWindow, hit_of}
 use Rattle.can_bus.specs.Quiet.{busy_time}
-use Rattle.can_bus.specs.Schedule.{TimedParts, earliest, offered_by, without_offer}
+use Rattle.can_bus.specs.Timed.{TimedParts, earliest, offered_by, without_offer}
 use Rattle.can_bus.proofs.Fields.{without-length}
-use Rattle.can_bus.proofs.NextStarts.{earliest-each, earliest-is, offered-stands, stands-offered}
-use Rattle.can_bus.proofs.RepairPlans.{Apart, few-before, hit-cases, struck-before, unhit-before}
+use Rattle.can_bus.proofs.LeftOffers.{earliest-each, earliest-is, offered-stands, stands-offered}
+use Rattle.can_bus.proofs.RepairPlans.{few-before, hit-cases, hits_before, weigh-next}
 
 -- ---- it is one
 
@@ -58,7 +58,7 @@ module _ (free : ℕ) (x : TimedParts) (others : List TimedParts) (f : Parts) (w
       let there = offered-stands time left f (is.place, is.stands) in
       without-length f left there.0 there.1 (Shares-same_field f there.0.frame (sym (ap arbitration_field there.3)))
 
-module _ (hits : List Hit) (apart : Apart hits) where
+module _ (hits : List Hit) where
   there-from : (count number free : ℕ) (left : List TimedParts) → length left + length hits ≤ count + hits_before hits number → HitInWindows (course_from count hits number free left) →
       IsCourse hits number free left (course_from count hits number free left)
   there-from zero number free [] enough windows = over number free
@@ -79,7 +79,7 @@ module _ (hits : List Hit) (apart : Apart hits) where
             let all : HitInWindows (record { time = time; frame = f; hit = None } ∷ behind f) = subst HitInWindows same windows in
             subst (IsCourse hits number free left) (sym same)
             (sent number free time f left (behind f) is unhit
-            (there-from count (number + 1) (time + busy_time f) (without_offer f left) (omega (arith, enough, one-less free x others f first.1, unhit-before hits number apart unhit))
+            (there-from count (number + 1) (time + busy_time f) (without_offer f left) (omega (arith, enough, one-less free x others f first.1, (weigh-next (λ o. 1) hits number).0))
             (λ s o made e. all s o (inr made) e)))
         | inr struck ↦
             let o = struck.0 in
@@ -88,7 +88,7 @@ module _ (hits : List Hit) (apart : Apart hits) where
             let all : HitInWindows (record { time = time; frame = f; hit = Some o } ∷ again f o) = subst HitInWindows same windows in
             subst (IsCourse hits number free left) (sym same)
             (broken number free time f o left (again f o) is struck.1 (all (record { time = time; frame = f; hit = Some o }) o (inl refl) refl)
-            (there-from count (number + 1) (time + hit_time f o) left (omega (arith, enough, struck-before hits number o apart struck.1))
+            (there-from count (number + 1) (time + hit_time f o) left (omega (arith, enough, (weigh-next (λ o. 1) hits number).1 o struck.1))
             (λ s p made e. all s p (inr made) e)))
       ]
 
@@ -134,22 +134,22 @@ module _ (hits : List Hit) (count number free : ℕ) (x : TimedParts) (others : 
       ∙ ap (attempt_of (behind_at (max free (earliest x others))) (again_at (max free (earliest x others))) (max free (earliest x others)) hit) first-waits
       ∙ ap (λ k. attempt_of (behind_at k) (again_at k) k hit (Some f)) (sym first-time)
 
-pub course-is : {hits : List Hit} {number free : ℕ} {left : List TimedParts} {course : List Transmission} (count : ℕ) → Apart hits → IsCourse hits number free left course →
+pub course-is : {hits : List Hit} {number free : ℕ} {left : List TimedParts} {course : List Transmission} (count : ℕ) → IsCourse hits number free left course →
     length left + length hits ≤ count + hits_before hits number → course ≡ course_from count hits number free left
-course-is zero apart (over number free) enough = refl
-course-is (suc count) apart (over number free) enough = refl
-course-is count apart (sent number free time f [] course is unhit rest) enough = absurd (none-next free time f is)
-course-is count apart (broken number free time f offset [] course is struck window rest) enough = absurd (none-next free time f is)
-course-is {hits} zero apart (sent number free time f (x ∷ others) course is unhit rest) enough = absurd (omega (arith, enough, few-before hits number))
-course-is {hits} zero apart (broken number free time f offset (x ∷ others) course is struck window rest) enough = absurd (omega (arith, enough, few-before hits number))
-course-is {hits} (suc count) apart (sent number free time f (x ∷ others) course is unhit rest) enough =
+course-is zero (over number free) enough = refl
+course-is (suc count) (over number free) enough = refl
+course-is count (sent number free time f [] course is unhit rest) enough = absurd (none-next free time f is)
+course-is count (broken number free time f offset [] course is struck window rest) enough = absurd (none-next free time f is)
+course-is {hits} zero (sent number free time f (x ∷ others) course is unhit rest) enough = absurd (omega (arith, enough, few-before hits number))
+course-is {hits} zero (broken number free time f offset (x ∷ others) course is struck window rest) enough = absurd (omega (arith, enough, few-before hits number))
+course-is {hits} (suc count) (sent number free time f (x ∷ others) course is unhit rest) enough =
     let less = one-less free x others f (first-waits hits count number free x others time f is) in
-    ap (λ l. let s : Transmission = record { time = time; frame = f; hit = None } in s ∷ l) (course-is count apart rest (omega (arith, enough, less, unhit-before hits number apart unhit)))
+    ap (λ l. let s : Transmission = record { time = time; frame = f; hit = None } in s ∷ l) (course-is count rest (omega (arith, enough, less, (weigh-next (λ o. 1) hits number).0)))
     ∙ sym (first-made hits count number free x others time f is None unhit)
-course-is {hits} (suc count) apart (broken number free time f offset (x ∷ others) course is struck window rest) enough =
-    ap (λ l. let s : Transmission = record { time = time; frame = f; hit = Some offset } in s ∷ l) (course-is count apart rest (omega (arith, enough, struck-before hits number offset apart struck)))
+course-is {hits} (suc count) (broken number free time f offset (x ∷ others) course is struck window rest) enough =
+    ap (λ l. let s : Transmission = record { time = time; frame = f; hit = Some offset } in s ∷ l) (course-is count rest (omega (arith, enough, (weigh-next (λ o. 1) hits number).1 offset struck)))
     ∙ sym (first-made hits count number free x others time f is (Some offset) struck)
 
-pub course-only : (hits : List Hit) (offers : List TimedParts) (course : List Transmission) → Apart hits → IsCourse hits 0 0 offers course → (course ≡ course_of hits offers) × HitInWindows course
+pub course-only : (hits : List Hit) (offers : List TimedParts) (course : List Transmission) → IsCourse hits 0 0 offers course → (course ≡ course_of hits offers) × HitInWindows course
 unfolding course_of
-course-only hits offers course apart is = (course-is (length offers + length hits) apart is (omega arith), course-windows is)
+course-only hits offers course is = (course-is (length offers + length hits) is (omega arith), course-windows is)

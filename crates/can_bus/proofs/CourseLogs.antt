@@ -22,7 +22,7 @@ use Rattle.can_node.proofs.FrameLeaves.{receiver-late, gaining_run-sent, gaining
 use Rattle.can_bus.specs.Course.{AllEnded, IsMade, Transmission, course_tally, ended_by, frames_sent, hit_time, lasting}
 use Rattle.can_bus.specs.Network.{AllOver}
 use Rattle.can_bus.specs.Quiet.{IsPrefixOf, holds, marked}
-use Rattle.can_bus.specs.Repair.{IsLow, Tally, tallied}
+use Rattle.can_bus.specs.Attempts.{IsLow, Tally, tallied}
 use Rattle.can_bus.proofs.RestingPorts.{IsAtRest}
 use Rattle.can_bus.proofs.QuietLogs.{entry_of, misses-part}
 use Rattle.can_bus.proofs.CalmPorts.{IsWithin}

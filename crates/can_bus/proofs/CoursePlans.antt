@@ -1,9 +1,9 @@
 -- Where all frames wait as a call begins, its attempts are a course: each sends the frame that an ascending list tells, where the one before has ended.
-use Rattle.std.specs.Prelude.{slice_get, slice_index_or}
-use Rattle.std.proofs.Common.{◌≡◌, ℕ, zero, suc, ◌+◌, ◌-◌, ◌≤◌, Option, Some, None, List, [], ◌∷◌, ◌++◌, length, take, refl, sym, ap, subst, ◌∙◌, arith, inl, inr}
+use Rattle.std.specs.Prelude.{slice_index_or}
+use Rattle.std.proofs.Common.{◌≡◌, ℕ, suc, ◌+◌, ◌-◌, ◌≤◌, Some, None, List, [], ◌∷◌, ◌++◌, length, refl, sym, ap, subst, ◌∙◌, arith, inl, inr}
 use Rattle.std.proofs.lemmas.Bool.{cases_lt}
 use Rattle.std.proofs.lemmas.List.Sorted.{IsPermutation-sym}
-use Rattle.std.proofs.lemmas.List.{get_or_append_left, get_or-append_right, take_all}
+use Rattle.std.proofs.lemmas.List.{get_or_append_left, get_or-append_right}
 use Rattle.can_frame.specs.declared.level.Level.{Level}
 use Rattle.can_frame.specs.declared.level.Level.TheVariants.{Recessive}
 use Rattle.can_frame.specs.Parts.{Parts}
@@ -12,21 +12,19 @@ use Rattle.can_frame.proofs.BeforeLemmas.{Before-differs}
 use Rattle.can_mac.specs.Frames.{with_intermission}
 use Rattle.can_node.proofs.WaitingLaws.{waiting-IsWaiting}
 use Rattle.can_hit.specs.declared.hit.Hit.{Hit}
-use Rattle.can_bus.specs.Course.{IsCourse, IsNext, Transmission, broken, course_at, course_tally, frames_sent, hit_time, hits_made, over, sent}
-use Rattle.can_bus.specs.Quiet.{AreDifferent, IsAscending, IsRising, holds, busy_time}
-use Rattle.can_bus.specs.Repair.{frame_of_attempt, hit_of, hits_before, tallied, tallied_attempt, tally, tally_after}
+use Rattle.can_bus.specs.Course.{IsCourse, IsNext, Transmission, broken, HitInWindows, course_at, frames_sent, hit_time, over, sent}
+use Rattle.can_bus.specs.Quiet.{AreDifferent, IsAscending, IsRising, busy_time}
+use Rattle.can_bus.specs.Repair.{course_levels, repaired_course}
 use Rattle.can_bus.specs.RepairedLine.{attempt_levels}
-use Rattle.can_bus.specs.Schedule.{AreAtOnce, AreOthers, TimedParts, Lists, frames_of, offered_by, without_offer}
-use Rattle.can_bus.proofs.Fields.{without-listed}
+use Rattle.can_bus.specs.Timed.{AreAtOnce, TimedParts, Lists, frames_of, offered_by, without_offer}
+use Rattle.can_bus.proofs.Fields.{without-cases, without-differ, without-listed, without-other}
 use Rattle.can_bus.proofs.Ascending.{Goes, rising_tail}
 use Rattle.can_bus.proofs.Contests.{Has, at-has, has-at, own-waits}
 use Rattle.can_bus.proofs.CourseTracks.{length-struck, track-behind, track-on}
 use Rattle.can_bus.proofs.Members.{map-stands, stands-here, stands-map, stands-permuted}
-use Rattle.can_bus.proofs.NextStarts.{AllDiffer, differ-from, left-cases, offered-stands, others-without, rest-differ, rest-other, stands-offered}
-use Rattle.can_bus.proofs.RepairCounts.{tally-next, tally-stays}
-use Rattle.can_bus.proofs.RepairedLevels.{course_levels}
-use Rattle.can_bus.proofs.RepairPlans.{Apart, Plan, again, done, few-before, struck-before, unhit-before, whole}
-use Rattle.can_bus.proofs.Tracks.{length-busy}
+use Rattle.can_bus.proofs.LeftOffers.{AllDiffer, differ-from, offered-stands, stands-offered}
+use Rattle.can_bus.proofs.RepairPlans.{Plan, again, done, plan, whole}
+use Rattle.can_bus.proofs.QuietLogs.{length-busy}
 
 -- ---- they are a course
 
@@ -73,58 +71,48 @@ module _ (f : Parts) (frames : List Parts) (left : List TimedParts) (rising : Is
 
   others-left : AreLeft frames (without_offer f left)
   others-left =
-      let own = are.from f (inl refl) in
-      let out = subst (λ g. AreOthers g left (without_offer g left)) own.2 (others-without left are.apart own.0 own.1) in
       record {
-        apart = rest-differ f left (without_offer f left) out are.apart;
+        apart = without-differ f left are.apart;
         at_once = λ x there. are.at_once x (without-listed f left x there);
         to = λ x there. elim (are.to x (without-listed f left x there)) [
-          | inl same ↦ absurd (rest-other f left (without_offer f left) out are.apart x there (ap arbitration_field same))
+          | inl same ↦ absurd (without-other f left are.apart x there (ap arbitration_field same))
           | inr later ↦ later
         ];
         from = λ g h. (
             let there = are.from g (inr h) in
-            elim (left-cases f left (without_offer f left) out there.0 there.1) [
-              | inl taken ↦ absurd (Before-differs (arbitration_field f) (arbitration_field g) (rising-goes f frames rising g h) (ap (λ (x : TimedParts). arbitration_field x.frame) taken ∙ ap arbitration_field there.2))
+            elim (without-cases f left there.0 there.1) [
+              | inl same ↦ absurd (Before-differs (arbitration_field f) (arbitration_field g) (rising-goes f frames rising g h) (same ∙ ap arbitration_field there.2))
               | inr kept ↦ (there.0, kept, there.2)
             ]);
       }
 
-pub plan-course : {all : List Parts} {hits : List Hit} {number time : ℕ} {frames : List Parts} {course : List Transmission} → Plan all hits number time frames course → (left : List TimedParts) →
+pub plan-course : {hits : List Hit} {number time : ℕ} {frames : List Parts} {course : List Transmission} → Plan hits number time frames course → (left : List TimedParts) →
     IsRising frames → AreLeft frames left → IsCourse hits number time left course
-plan-course {hits = hits} (done number time end) left rising are = subst (λ l. IsCourse hits number time l []) (sym (none-left left are)) (over number time)
-plan-course (whole number time f frames course sends unhit rest) left rising are =
+plan-course {hits} (done number time) left rising are = subst (λ l. IsCourse hits number time l []) (sym (none-left left are)) (over number time)
+plan-course (whole number time f frames course unhit rest) left rising are =
     sent number time time f left course (first-next f frames left rising are time) unhit
     (plan-course rest (without_offer f left) (rising_tail f frames rising) (others-left f frames left rising are))
-plan-course (again number time f o frames course sends struck window rest) left rising are =
+plan-course (again number time f o frames course struck window rest) left rising are =
     broken number time time f o left course (first-next f frames left rising are time) struck window (plan-course rest left rising are)
+
+-- where all frames are offered at once
+pub course-at_once : (hits : List Hit) (offers : List TimedParts) (frames : List Parts) → AreDifferent (frames_of offers) → AreAtOnce offers → IsAscending (frames_of offers) frames →
+    HitInWindows (repaired_course frames hits) → IsCourse hits 0 0 offers (repaired_course frames hits)
+course-at_once hits offers frames different at_once is windows = plan-course (plan hits frames windows) offers is.rising (left-ascending offers frames different at_once is)
 
 -- ---- what is told from it
 
-pub plan-frames : {all : List Parts} {hits : List Hit} {number time : ℕ} {frames : List Parts} {course : List Transmission} → Plan all hits number time frames course → frames_sent course ≡ frames
-plan-frames (done number time end) = refl
-plan-frames (whole number time f frames course sends unhit rest) = ap (λ fs. f ∷ fs) (plan-frames rest)
-plan-frames (again number time f o frames course sends struck window rest) = plan-frames rest
-
--- how many of its attempts are hit, and how many they are
-pub plan-hits : {all : List Parts} {hits : List Hit} {number time : ℕ} {frames : List Parts} {course : List Transmission} → Plan all hits number time frames course → Apart hits →
-    hits_before hits number + hits_made course ≤ length hits
-plan-hits {hits = hits} (done number time end) apart = omega (arith, few-before hits number)
-plan-hits {hits = hits} (whole number time f frames course sends unhit rest) apart = omega (arith, plan-hits rest apart, unhit-before hits number apart unhit)
-plan-hits {hits = hits} (again number time f o frames course sends struck window rest) apart = omega (arith, plan-hits rest apart, struck-before hits number o apart struck)
-
-pub plan-count : {all : List Parts} {hits : List Hit} {number time : ℕ} {frames : List Parts} {course : List Transmission} → Plan all hits number time frames course →
-    length course ≡ length frames + hits_made course
-plan-count (done number time end) = refl
-plan-count (whole number time f frames course sends unhit rest) = omega (arith, plan-count rest)
-plan-count (again number time f o frames course sends struck window rest) = omega (arith, plan-count rest)
+pub plan-frames : {hits : List Hit} {number time : ℕ} {frames : List Parts} {course : List Transmission} → Plan hits number time frames course → frames_sent course ≡ frames
+plan-frames (done number time) = refl
+plan-frames (whole number time f frames course unhit rest) = ap (λ fs. f ∷ fs) (plan-frames rest)
+plan-frames (again number time f o frames course struck window rest) = plan-frames rest
 
 -- its track
 one-more : (s : Transmission) (course : List Transmission) (behind : List Level) (t : ℕ) →
-    (length (attempt_levels (Some s.frame) s.hit) ≤ t → course_at course (s.time + t) ≡ slice_index_or behind (t - length (attempt_levels (Some s.frame) s.hit)) Recessive) →
-    course_at (s ∷ course) (s.time + t) ≡ slice_index_or (attempt_levels (Some s.frame) s.hit ++ behind) t Recessive
+    (length (attempt_levels s.frame s.hit) ≤ t → course_at course (s.time + t) ≡ slice_index_or behind (t - length (attempt_levels s.frame s.hit)) Recessive) →
+    course_at (s ∷ course) (s.time + t) ≡ slice_index_or (attempt_levels s.frame s.hit ++ behind) t Recessive
 one-more s course behind t next =
-    let levels : List Level = attempt_levels (Some s.frame) s.hit in
+    let levels : List Level = attempt_levels s.frame s.hit in
     elim (cases_lt t (length levels)) [
       | inl within ↦
           track-on s course (s.time + t) (omega arith) (omega (arith, within))
@@ -135,80 +123,16 @@ one-more s course behind t next =
           ∙ sym (get_or-append_right levels behind (length levels) t Recessive refl past)
     ]
 
-pub plan-track : {all : List Parts} {hits : List Hit} {number time : ℕ} {frames : List Parts} {course : List Transmission} → Plan all hits number time frames course → (t : ℕ) →
+pub plan-track : {hits : List Hit} {number time : ℕ} {frames : List Parts} {course : List Transmission} → Plan hits number time frames course → (t : ℕ) →
     course_at course (time + t) ≡ slice_index_or (course_levels course) t Recessive
 unfolding course_at
-plan-track (done number time end) t = refl
-plan-track (whole number time f frames course sends unhit rest) t =
+plan-track (done number time) t = refl
+plan-track (whole number time f frames course unhit rest) t =
     one-more (record { time = time; frame = f; hit = None }) course (course_levels course) t (λ past.
     ap (course_at course) (let e : time + t ≡ (time + busy_time f) + (t - length (with_intermission f)) = omega (arith, past, length-busy f) in e)
     ∙ plan-track rest (t - length (with_intermission f)))
-plan-track (again number time f o frames course sends struck window rest) t =
+plan-track (again number time f o frames course struck window rest) t =
     let size = length-struck f o (omega (arith, window.before_last)) in
     one-more (record { time = time; frame = f; hit = Some o }) course (course_levels course) t (λ past.
-    ap (course_at course) (let e : time + t ≡ (time + hit_time f o) + (t - length (attempt_levels (Some f) (Some o))) = omega (arith, past, size) in e)
-    ∙ plan-track rest (t - length (attempt_levels (Some f) (Some o))))
-
--- its tally, after each attempt
-module _ (queue all : List Parts) (hits : List Hit) (apart : Apart hits) where
-  tally-more : (number : ℕ) (f : Parts) (hit : Option ℕ) → frame_of_attempt all hits number ≡ Some f → hit_of hits number ≡ hit →
-      tallied (holds queue f) f hit (tally_after queue all hits number) ≡ tally_after queue all hits (number + 1)
-  tally-more number f hit sends at =
-      sym (tally-next queue all hits apart number ∙ ap (λ w. tallied_attempt queue w (hit_of hits number) (tally_after queue all hits number)) sends
-      ∙ ap (λ w. tallied_attempt queue (Some f) w (tally_after queue all hits number)) at)
-
-  pub plan-tally : {number time : ℕ} {frames : List Parts} {course : List Transmission} → Plan all hits number time frames course → (some : ℕ) → some ≤ length course →
-      course_tally queue (take some course) (tally_after queue all hits number) ≡ tally_after queue all hits (number + some)
-  plan-tally (done number time end) zero within = ap (tally_after queue all hits) (let e : number ≡ number + zero = omega arith in e)
-  plan-tally (done number time end) (suc some) within = absurd (omega (arith, within))
-  plan-tally (whole number time f frames course sends unhit rest) zero within = ap (tally_after queue all hits) (let e : number ≡ number + zero = omega arith in e)
-  plan-tally (again number time f o frames course sends struck window rest) zero within = ap (tally_after queue all hits) (let e : number ≡ number + zero = omega arith in e)
-  plan-tally (whole number time f frames course sends unhit rest) (suc some) within =
-      ap (course_tally queue (take some course)) (tally-more number f None sends unhit)
-      ∙ plan-tally rest some (omega (arith, within)) ∙ ap (tally_after queue all hits) (let e : (number + 1) + some ≡ number + suc some = omega arith in e)
-  plan-tally (again number time f o frames course sends struck window rest) (suc some) within =
-      ap (course_tally queue (take some course)) (tally-more number f (Some o) sends struck)
-      ∙ plan-tally rest some (omega (arith, within)) ∙ ap (tally_after queue all hits) (let e : (number + 1) + some ≡ number + suc some = omega arith in e)
-
-  -- and behind the last
-  plan-over : {number time : ℕ} {frames : List Parts} {course : List Transmission} → Plan all hits number time frames course → frame_of_attempt all hits (number + length course) ≡ None
-  plan-over (done number time end) = ap (frame_of_attempt all hits) (let e : number + 0 ≡ number = omega arith in e) ∙ end
-  plan-over (whole number time f frames course sends unhit rest) =
-      ap (frame_of_attempt all hits) (let e : number + suc (length course) ≡ (number + 1) + length course = omega arith in e) ∙ plan-over rest
-  plan-over (again number time f o frames course sends struck window rest) =
-      ap (frame_of_attempt all hits) (let e : number + suc (length course) ≡ (number + 1) + length course = omega arith in e) ∙ plan-over rest
-
-  pub plan-all : {course : List Transmission} → Plan all hits 0 0 all course → course_tally queue course (tally_after queue all hits 0) ≡ tally queue all hits
-  plan-all {course} plan =
-      let total = length all + length hits in
-      let few : length course ≤ total = omega (arith, plan-count plan, plan-hits plan apart) in
-      ap (λ some. course_tally queue some (tally_after queue all hits 0)) (sym (take_all (length course) course (omega arith))) ∙ plan-tally plan (length course) (omega arith)
-      ∙ sym (tally-stays queue all hits apart (0 + length course) (total - length course) (plan-over plan))
-      ∙ ap (tally_after queue all hits) (let e : (0 + length course) + (total - length course) ≡ total = omega (arith, few) in e)
-
--- what each attempt sends, and where it is hit
-pub plan-each : {all : List Parts} {hits : List Hit} {number time : ℕ} {frames : List Parts} {course : List Transmission} → Plan all hits number time frames course → (n : ℕ) (s : Transmission) →
-    slice_get course n ≡ Some s → (frame_of_attempt all hits (number + n) ≡ Some s.frame) × (hit_of hits (number + n) ≡ s.hit)
-plan-each (done number time end) n s at = absurd (let e : None ≡ Some s = at in cc)
-plan-each {all} {hits} (whole number time f frames course sends unhit rest) zero s at =
-    let first : Transmission = record { time = time; frame = f; hit = None } in
-    let same : first ≡ s = (let e : Some first ≡ Some s = at in cc) in
-    let here : number + zero ≡ number = omega arith in (
-      ap (frame_of_attempt all hits) here ∙ sends ∙ ap (λ (x : Transmission). Some x.frame) same,
-      ap (hit_of hits) here ∙ unhit ∙ ap (λ (x : Transmission). x.hit) same,
-    )
-plan-each {all} {hits} (again number time f o frames course sends struck window rest) zero s at =
-    let first : Transmission = record { time = time; frame = f; hit = Some o } in
-    let same : first ≡ s = (let e : Some first ≡ Some s = at in cc) in
-    let here : number + zero ≡ number = omega arith in (
-      ap (frame_of_attempt all hits) here ∙ sends ∙ ap (λ (x : Transmission). Some x.frame) same,
-      ap (hit_of hits) here ∙ struck ∙ ap (λ (x : Transmission). x.hit) same,
-    )
-plan-each {all} {hits} (whole number time f frames course sends unhit rest) (suc n) s at =
-    let more = plan-each rest n s at in
-    let e : number + suc n ≡ (number + 1) + n = omega arith in
-    (ap (frame_of_attempt all hits) e ∙ more.0, ap (hit_of hits) e ∙ more.1)
-plan-each {all} {hits} (again number time f o frames course sends struck window rest) (suc n) s at =
-    let more = plan-each rest n s at in
-    let e : number + suc n ≡ (number + 1) + n = omega arith in
-    (ap (frame_of_attempt all hits) e ∙ more.0, ap (hit_of hits) e ∙ more.1)
+    ap (course_at course) (let e : time + t ≡ (time + hit_time f o) + (t - length (attempt_levels f (Some o))) = omega (arith, past, size) in e)
+    ∙ plan-track rest (t - length (attempt_levels f (Some o))))

@@ -13,7 +13,7 @@ use Rattle.can_node.proofs.GainingBreaks.{gained}
 use Rattle.can_node.proofs.FramesWaiting.{AreFrames, AreFrames-without}
 use Rattle.can_node.proofs.FrameLeaves.{Sends, Receives, sent_port, received_port, gaining_run-sent, gaining_run-received, port_run-sent, port_run-received}
 use Rattle.can_bus.specs.Quiet.{holds}
-use Rattle.can_bus.specs.Schedule.{TimedParts, Lists, frames_of, offered_by, without_offer}
+use Rattle.can_bus.specs.Timed.{TimedParts, Lists, frames_of, offered_by, without_offer}
 use Rattle.can_bus.proofs.Ascending.{Other}
 use Rattle.can_bus.proofs.OfferTimes.{AreInOrder, frames-offered, queue-later}
 use Rattle.can_bus.proofs.OwnOffers.{without-absent, without-frames}

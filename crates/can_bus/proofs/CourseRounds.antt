@@ -15,11 +15,11 @@ use Rattle.can_node.proofs.FrameLeaves.{Sends, Receives, IsReady}
 use Rattle.can_node.proofs.WaitingLemmas.{Shares-same_field}
 use Rattle.can_bus.specs.CourseWaiting.{of_field}
 use Rattle.can_bus.specs.Quiet.{holds, queued}
-use Rattle.can_bus.specs.Schedule.{TimedParts, Lists, offered_by, without_offer}
+use Rattle.can_bus.specs.Timed.{TimedParts, Lists, offered_by, without_offer}
 use Rattle.can_bus.proofs.Ascending.{Goes, Other}
 use Rattle.can_bus.proofs.Contests.{Has, AllPorts, at-has, has-front, has-back, behind-waits}
 use Rattle.can_bus.proofs.FrameOnBus.{AllReceive, OneSends, ports_of}
-use Rattle.can_bus.proofs.NextStarts.{offered-stands, stands-offered}
+use Rattle.can_bus.proofs.LeftOffers.{offered-stands, stands-offered}
 use Rattle.can_bus.proofs.OfferTimes.{offered_by-append}
 use Rattle.can_bus.proofs.OwnOffers.{without-absent}
 use Rattle.can_bus.proofs.CalmPorts.{IsCalm, all-ready, frame-queued, sends-has}

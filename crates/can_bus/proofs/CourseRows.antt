@@ -15,9 +15,9 @@ use Rattle.can_hit.specs.declared.hit.Hit.TheVariants.{In}
 use Rattle.can_bus.specs.Course.{Transmission, course_of, course_tally, ended_by, frames_sent}
 use Rattle.can_bus.specs.CourseWaiting.{attempts_between, going_before, hit_attempts, keeping, kept_times, left_on, sends_of}
 use Rattle.can_bus.specs.Quiet.{marked}
-use Rattle.can_bus.specs.Repair.{Tally}
+use Rattle.can_bus.specs.Attempts.{Tally}
 use Rattle.can_bus.specs.RepairedLine.{lateness}
-use Rattle.can_bus.specs.Schedule.{TimedParts}
+use Rattle.can_bus.specs.Timed.{TimedParts}
 use Rattle.can_bus.proofs.RepairRows.{frame_000, frame_001}
 
 -- `S 009 D 0`, and `S 001 D 1 55`

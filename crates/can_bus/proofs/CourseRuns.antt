@@ -20,10 +20,10 @@ use Rattle.can_bus.specs.Course.{Transmission, IsNext, IsCourse, over, sent, bro
 use Rattle.can_bus.specs.CourseWaiting.{keeping}
 use Rattle.can_bus.specs.Network.{AllOver}
 use Rattle.can_bus.specs.Quiet.{holds, busy_time}
-use Rattle.can_bus.specs.Repair.{IsLow, Tally, tallied}
+use Rattle.can_bus.specs.Attempts.{IsLow, Tally, tallied}
 use Rattle.can_bus.specs.RepairedLine.{attempt_levels}
 use Rattle.can_bus.specs.Run.{aged, following, inverted_if}
-use Rattle.can_bus.specs.Schedule.{TimedParts, without_offer}
+use Rattle.can_bus.specs.Timed.{TimedParts, without_offer}
 use Rattle.can_bus.specs.Wired.{wired}
 use Rattle.can_bus.proofs.AttemptHits.{Counted, attempt, broken-counted, whole-counted}
 use Rattle.can_bus.proofs.AttemptTallies.{Survives}
@@ -45,8 +45,7 @@ use Rattle.can_bus.proofs.CourseLogs.{Becomes, becomes-now, becomes-rested, beco
 use Rattle.can_bus.proofs.CoursePorts.{CoursePort, IsCoursePort, HasPart, behind_frame, behind_hit, rested, rested-turned, takes-part}
 use Rattle.can_bus.proofs.CourseRounds.{CourseRound, NoneWaits, SendsOne, machines_of, ports_now, all-calm, next-frame, next-left, one-parts, one-sends, round-behind, round-broken, round-rested, round-rests, round-sends}
 use Rattle.can_bus.proofs.CourseTracks.{course-free, length-broken, track-behind, track-on, track-rests}
-use Rattle.can_bus.proofs.QuietLogs.{part-meets}
-use Rattle.can_bus.proofs.Tracks.{length-busy}
+use Rattle.can_bus.proofs.QuietLogs.{length-busy, part-meets}
 
 -- at each of the ports, before and after
 abbrev pub Each : (CoursePort → PortState → Type 0) → List CoursePort → List PortState → Type 0
@@ -239,14 +238,14 @@ module _ (hits : List Hit) (most : ℕ) where
   -- ---- an attempt, of these levels
 
   module _ (now number : ℕ) (f : Parts) (hit : Option ℕ) (course : List Transmission) (os : List CoursePort) (latest : Option Attempt) (levels : List (Level × Level))
-      (seen : seen_of levels ≡ attempt_levels (Some f) hit) (gives : Gives gaining_drives gaining_sees levels (machines_of os)) (counted : Counted hits latest levels number) where
+      (seen : seen_of levels ≡ attempt_levels f hit) (gives : Gives gaining_drives gaining_sees levels (machines_of os)) (counted : Counted hits latest levels number) where
     abbrev w : HitWire GainingPort
     w = wire_with os latest
 
     abbrev s : Transmission
     s = record { time = now; frame = f; hit = hit }
 
-    size : length (attempt_levels (Some f) hit) ≡ length levels
+    size : length (attempt_levels f hit) ≡ length levels
     size = sym (ap length seen) ∙ seen-size levels
 
     -- within it
@@ -256,7 +255,7 @@ module _ (hits : List Hit) (most : ℕ) where
       level =
           hits-levels gaining_drives gaining_sees hits levels w k Recessive gives counted.fall less
           ∙ ap (λ xs. slice_index_or xs k Recessive) seen
-          ∙ ap (λ o. slice_index_or (attempt_levels (Some f) hit) o Recessive) (let e : k ≡ (now + k) - now = omega arith in e)
+          ∙ ap (λ o. slice_index_or (attempt_levels f hit) o Recessive) (let e : k ≡ (now + k) - now = omega arith in e)
           ∙ sym (track-on s course (now + k) (omega arith) (omega (arith, less, size)));
       each =
           subst (λ gs. Each (Becomes most (s ∷ course) (now + k)) os (ports_of gs))
@@ -379,7 +378,7 @@ module _ (hits : List Hit) (most : ℕ) where
           let framed : IsFrame f = next-frame h time left os round_now f is.waits in
           let hit : IsHit f offset = window-hit f framed offset window in
           let levels : List (Level × Level) = broken_levels f framed offset hit in
-          let seen : seen_of levels ≡ attempt_levels (Some f) (Some offset) = broken-attempt f framed offset hit in
+          let seen : seen_of levels ≡ attempt_levels f (Some offset) = broken-attempt f framed offset hit in
           let long : length levels ≡ hit_time f offset = length-broken f offset framed hit in
           let low : AllPorts (Survives f offset) (ports_now os) = all-survive most h time (length left) f course framed offset hit os parts bears in
           let many : 1 < length (machines_of os) = simp length-map two in

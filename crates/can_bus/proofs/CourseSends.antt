@@ -11,12 +11,12 @@ use Rattle.can_node.proofs.WaitingLemmas.{Shares-same_field, same_field-Shares}
 use Rattle.can_hit.specs.declared.hit.Hit.{Hit}
 use Rattle.can_bus.specs.Course.{IsCourse, IsNext, Transmission, broken, over, sent}
 use Rattle.can_bus.specs.CourseWaiting.{IsSentBy, of_field, sends_of}
-use Rattle.can_bus.specs.Schedule.{TimedParts, Lists, without_offer}
+use Rattle.can_bus.specs.Timed.{TimedParts, Lists, without_offer}
 use Rattle.can_bus.proofs.CourseDelays.{parted}
 use Rattle.can_bus.proofs.CourseWaits.{sends-hit, sends-more, sends-other}
 use Rattle.can_bus.proofs.Fields.{field-more, field-without, without-length}
 use Rattle.can_bus.proofs.Members.{filter-stands, stands-filter}
-use Rattle.can_bus.proofs.NextStarts.{offered-stands}
+use Rattle.can_bus.proofs.LeftOffers.{offered-stands}
 use Rattle.can_bus.proofs.OwnedFields.{field-append}
 use Rattle.can_bus.proofs.OwnOffers.{without-absent}
 

@@ -1,6 +1,6 @@
 -- How long an offered frame waits until it is sent, where frames are disturbed meanwhile: exactly.
 use Rattle.std.specs.Prelude.{max, nat_le, nat_lt, filter, not, slice_get, ◌&&◌}
-use Rattle.std.proofs.Common.{◌≡◌, ℕ, zero, suc, ◌+◌, ◌-◌, ◌<◌, ◌≤◌, ◌⊎◌, Bool, true, false, Some, None, List, [], ◌∷◌, ◌++◌, length, refl, sym, ◌∙◌, ap, subst, inl, inr, arith}
+use Rattle.std.proofs.Common.{◌≡◌, ℕ, suc, ◌+◌, ◌-◌, ◌<◌, ◌≤◌, ◌⊎◌, Bool, true, false, Some, None, List, [], ◌∷◌, ◌++◌, length, refl, sym, ◌∙◌, ap, subst, inl, inr, arith}
 use Rattle.std.proofs.lemmas.Bool.{cond-true, cond-false, cases_Bool, cases_lt, le-leb, lt-leb, lt-ltb, le-ltb}
 use Rattle.std.proofs.lemmas.List.Sums.{sum_by-cons}
 use Rattle.can_frame.specs.Parts.{Parts}
@@ -11,11 +11,11 @@ use Rattle.can_node.proofs.WaitingLemmas.{same_field-Shares, Shares-same_field}
 use Rattle.can_hit.specs.declared.hit.Hit.{Hit}
 use Rattle.can_bus.specs.Course.{Transmission, IsNext, IsCourse, over, sent, broken, IsMade}
 use Rattle.can_bus.specs.CourseWaiting.{attempts_between, keeping, kept_times, left_on, of_field, sends_of, was_hit}
-use Rattle.can_bus.specs.Schedule.{TimedParts, Lists, offered_by, without_offer}
-use Rattle.can_bus.proofs.CourseTracks.{course-free}
+use Rattle.can_bus.specs.Timed.{TimedParts, Lists, offered_by, without_offer}
+use Rattle.can_bus.proofs.CourseTracks.{course-free, made-at}
 use Rattle.can_bus.proofs.Fields.{field-more, field-without, like-offered, waiting-head, without-behind, without-front, without-length, without-order}
 use Rattle.can_bus.proofs.Members.{stands-cases, stands-filter, stands-middle, filter-stands}
-use Rattle.can_bus.proofs.NextStarts.{stands-offered}
+use Rattle.can_bus.proofs.LeftOffers.{stands-offered}
 use Rattle.can_bus.proofs.OfferTimes.{AreInOrder, by-early, by-none}
 use Rattle.can_bus.proofs.OwnedFields.{field-append, field-cases, field-none}
 use Rattle.can_bus.proofs.OwnOffers.{first-stays, without-absent}
@@ -88,11 +88,6 @@ module _ (f : Parts) (time : ℕ) (g : Parts) (course : List Transmission) where
         | inl same ↦ cond-false (same_field f g && false) (s ∷ sends_of f course) (sends_of f course) (ap (λ b. b && false) same)
         | inr other ↦ cond-false (same_field f g && false) (s ∷ sends_of f course) (sends_of f course) (ap (λ b. b && false) other)
       ]
-
-made-at : (course : List Transmission) (n : ℕ) (s : Transmission) → slice_get course n ≡ Some s → IsMade course s
-made-at [] n s at = absurd (let h : None ≡ Some s = at in cc)
-made-at (x ∷ course) zero s at = inl (let h : Some x ≡ Some s = at in cc)
-made-at (x ∷ course) (suc n) s at = inr (made-at course n s at)
 
 pub sends-made : (f : Parts) (course : List Transmission) (n : ℕ) (s : Transmission) → slice_get (sends_of f course) n ≡ Some s → IsMade course s × (same_field f s.frame && not (was_hit s.hit) ≡ true)
 sends-made f course n s at =

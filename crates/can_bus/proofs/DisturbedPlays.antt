@@ -13,8 +13,7 @@ use Rattle.can_hit.specs.declared.hit.Hit.{Hit}
 use Rattle.can_bus.specs.declared.offer.Offer.{Offer}
 use Rattle.can_bus.specs.Disturbed.{level_then, rest_before, begins_at, FallsOnWire}
 use Rattle.can_bus.specs.DisturbedPlay.{IsDisturbedPlay, WasPlayed, all_given, given, played_then, port_played, refusals}
-use Rattle.can_bus.specs.Network.{call_after, call_level, call_refused, offered_now}
-use Rattle.can_bus.specs.Offers.{all_made}
+use Rattle.can_bus.specs.Offers.{call_after, call_level, call_refused, offered_now, all_made}
 use Rattle.can_bus.specs.Run.{BusState, CallState, all_sampled, attempt_now, begins_attempt, bus_step, call_begun, hits_view, hits_wire, inverted_if, recorded as recorded_by, rest_after, wired_level}
 use Rattle.can_bus.specs.Wired.{wired as wired_of}
 use Rattle.can_bus.proofs.DisturbedTimes.{LatestIs, latest-none, latest-more, rest_before-none, rest_before-more, rest_after-capped, begins_attempt-capped, inverted-tells, inverted-told, view-decided, wire-decided}

@@ -3,7 +3,9 @@ use Rattle.std.specs.Prelude.{filter, slice_get}
 use Rattle.std.specs.List.{list_any}
 use Rattle.std.proofs.Common.{◌≡◌, ℕ, zero, suc, ◌<◌, ◌⊎◌, true, false, Some, None, List, [], ◌∷◌, ◌++◌, length, refl, sym, ap, subst, ◌∙◌, arith, inl, inr}
 use Rattle.std.proofs.lemmas.Bool.{cond-true, cond-false, cases_Bool, cases_lt}
+use Rattle.std.specs.List.Sorted.{IsPermutation}
 use Rattle.std.proofs.lemmas.List.Elements.{filter-append}
+use Rattle.std.proofs.lemmas.List.Sorted.{IsPermutation-refl, IsPermutation-trans, IsPermutation-cons, IsPermutation-middle}
 use Rattle.can_frame.specs.Parts.{Parts}
 use Rattle.can_frame.specs.Arbitration.{arbitration_field, field_cmp}
 use Rattle.can_frame.proofs.BeforeLemmas.{Before-differs}
@@ -13,10 +15,11 @@ use Rattle.can_node.proofs.WaitingLemmas.{same_field-Shares, Shares-same_field}
 use Rattle.can_node.proofs.WaitingLaws.{waiting-some, waiting-IsWaiting}
 use Rattle.can_bus.specs.CourseWaiting.{of_field}
 use Rattle.can_bus.specs.Quiet.{holds}
-use Rattle.can_bus.specs.Schedule.{TimedParts, Lists, offered_by, without_offer}
+use Rattle.can_bus.specs.Timed.{TimedParts, Lists, frames_of, offered_by, without_offer}
 use Rattle.can_bus.proofs.Ascending.{Goes, Other}
 use Rattle.can_bus.proofs.Contests.{Has, at-has, has-at}
 use Rattle.can_bus.proofs.Members.{filter-stands, stands-filter, stands-here, stands-later, stands-cases, stands-none}
+use Rattle.can_bus.proofs.LeftOffers.{AllDiffer}
 use Rattle.can_bus.proofs.OfferTimes.{AreInOrder, by-early, by-late, by-none}
 use Rattle.can_bus.proofs.OwnOffers.{first-out, first-stays, without-absent}
 use Rattle.can_bus.proofs.QuietLogs.{other-test}
@@ -133,6 +136,56 @@ without-listed f (y ∷ offers) x there = elim (cases_Bool (same_field f y.frame
     | inl here ↦ subst (Lists (y ∷ offers)) here (stands-here y offers)
     | inr later ↦ stands-later y offers x (without-listed f offers x later)
   ]
+]
+
+pub without-cases : (f : Parts) (offers : List TimedParts) (x : TimedParts) → Lists offers x → (arbitration_field f ≡ arbitration_field x.frame) ⊎ Lists (without_offer f offers) x
+without-cases f [] x there = absurd (stands-none x there)
+without-cases f (y ∷ offers) x there = elim (cases_Bool (same_field f y.frame)) [
+  | inl same ↦ elim (stands-cases y offers x there) [
+    | inl here ↦ inl (same_field-Shares f y.frame same ∙ ap (λ (z : TimedParts). arbitration_field z.frame) here)
+    | inr later ↦ inr (subst (λ l. Lists l x) (sym (first-out f y offers same)) later)
+  ]
+  | inr other ↦ elim (stands-cases y offers x there) [
+    | inl here ↦ inr (subst (λ l. Lists l x) (sym (first-stays f y offers other)) (subst (Lists (y ∷ without_offer f offers)) here (stands-here y (without_offer f offers))))
+    | inr later ↦ elim (without-cases f offers x later) [
+      | inl same ↦ inl same
+      | inr stays ↦ inr (subst (λ l. Lists l x) (sym (first-stays f y offers other)) (stands-later y (without_offer f offers) x stays))
+    ]
+  ]
+]
+
+-- where no two have one field
+pub without-differ : (f : Parts) (offers : List TimedParts) → AllDiffer offers → AllDiffer (without_offer f offers)
+without-differ f [] apart = tt
+without-differ f (x ∷ offers) apart = elim (cases_Bool (same_field f x.frame)) [
+  | inl same ↦ subst AllDiffer (sym (first-out f x offers same)) apart.1
+  | inr other ↦ subst AllDiffer (sym (first-stays f x offers other)) ((λ y there. apart.0 y (without-listed f offers y there)), without-differ f offers apart.1)
+]
+
+pub without-other : (f : Parts) (offers : List TimedParts) → AllDiffer offers → (x : TimedParts) → Lists (without_offer f offers) x → Other f x.frame
+without-other f [] apart x there = absurd (stands-none x there)
+without-other f (y ∷ offers) apart x there = elim (cases_Bool (same_field f y.frame)) [
+  | inl same ↦ (λ e. apart.0 x (subst (λ l. Lists l x) (first-out f y offers same) there) (sym (same_field-Shares f y.frame same) ∙ e))
+  | inr other ↦ elim (stands-cases y (without_offer f offers) x (subst (λ l. Lists l x) (first-stays f y offers other) there)) [
+    | inl here ↦ (λ e. (let same : same_field f y.frame ≡ true = Shares-same_field f y.frame (e ∙ ap (λ (z : TimedParts). arbitration_field z.frame) (sym here)) in cc))
+    | inr later ↦ without-other f offers apart.1 x later
+  ]
+]
+
+pub without-permuted : (f : Parts) (offers : List TimedParts) → AllDiffer offers → (x : TimedParts) → Lists offers x → x.frame ≡ f → IsPermutation (frames_of offers) (f ∷ frames_of (without_offer f offers))
+without-permuted f [] apart x there own = absurd (stands-none x there)
+without-permuted f (y ∷ offers) apart x there own = elim (stands-cases y offers x there) [
+  | inl here ↦
+      let e : y.frame ≡ f = ap (λ (z : TimedParts). z.frame) here ∙ own in
+      subst (λ l. IsPermutation (y.frame ∷ frames_of offers) (f ∷ frames_of l)) (sym (first-out f y offers (Shares-same_field f y.frame (ap arbitration_field (sym e)))))
+      (subst (λ g. IsPermutation (y.frame ∷ frames_of offers) (g ∷ frames_of offers)) e (IsPermutation-refl (y.frame ∷ frames_of offers)))
+  | inr later ↦
+      let rest : List Parts = frames_of (without_offer f offers) in
+      subst (λ l. IsPermutation (y.frame ∷ frames_of offers) (f ∷ frames_of l))
+      (sym (first-stays f y offers (other-test f y.frame (λ e. apart.0 x later (sym e ∙ ap arbitration_field (sym own))))))
+      (IsPermutation-trans (y.frame ∷ frames_of offers) (y.frame ∷ f ∷ rest) (f ∷ y.frame ∷ rest)
+      (IsPermutation-cons y.frame (frames_of offers) (f ∷ rest) (without-permuted f offers apart.1 x later own))
+      (IsPermutation-middle (y.frame ∷ []) f rest))
 ]
 
 pub without-order : (f : Parts) (offers : List TimedParts) → AreInOrder offers → AreInOrder (without_offer f offers)

@@ -9,8 +9,7 @@ use Rattle.can_node.specs.Ports.{PortState, with_offer}
 use Rattle.can_hit.specs.declared.hit.Hit.{Hit}
 use Rattle.can_bus.specs.declared.offer.Offer.{Offer}
 use Rattle.can_bus.specs.DisturbedPlay.{all_given, given, is_refused, played_then, refusals}
-use Rattle.can_bus.specs.Network.{call_after, call_refused}
-use Rattle.can_bus.specs.Offers.{all_made, is_full, made, refused_at}
+use Rattle.can_bus.specs.Offers.{call_after, call_refused, all_made, is_full, made, refused_at}
 use Rattle.can_bus.specs.Run.{BusState}
 
 -- ---- one offer in front

@@ -1,6 +1,6 @@
 -- What a bus of any ports does to which frames are offered meanwhile, and on which frames are disturbed, told by their course: the clauses of the theorem.
-use Rattle.std.specs.Prelude.{slice_get}
-use Rattle.std.proofs.Common.{◌≡◌, ℕ, zero, suc, ◌+◌, ◌<◌, true, false, Some, None, List, [], ◌∷◌, ◌++◌, length, map, refl, sym, ap, subst, ◌∙◌, arith}
+use Rattle.std.specs.Prelude.{◌↔◌, slice_get}
+use Rattle.std.proofs.Common.{◌≡◌, ℕ, zero, suc, ◌+◌, ◌<◌, false, Some, None, List, [], ◌∷◌, ◌++◌, length, map, refl, sym, ap, subst, ◌∙◌, arith, true}
 use Rattle.std.proofs.Math.Dec.{leb}
 use Rattle.std.proofs.lemmas.Bool.{cond-false, leb-true, false_from_ne_true, or_from}
 use Rattle.std.proofs.lemmas.List.{length-map}
@@ -13,13 +13,10 @@ use Rattle.can_hit.specs.declared.hit.Hit.{Hit}
 use Rattle.can_hit.specs.declared.hit.Hit.TheVariants.{At, In, View}
 use Rattle.can_bus.specs.declared.offer.Offer.{Offer}
 use Rattle.can_bus.specs.Course.{AllEnded, Transmission, course_at, hits_made}
-use Rattle.can_bus.specs.Network.{AllCountAtMost, AllOver, CountsAtMost, IsNetworkCall, NetworkLogBegins, NetworkLogHas, NetworkLogWhole, NetworkTally, RestsAgain, StaysActive, call_after, call_level, call_refused}
-use Rattle.can_hit.specs.Hits.{AreTaken, hit_names_port}
-use Rattle.can_bus.specs.Network.{AreInAttempts}
-use Rattle.can_bus.specs.Offers.{AreOffered}
-use Rattle.can_bus.specs.Repair.{AreApart}
-use Rattle.can_bus.proofs.RepairedCalls.{later-above}
-use Rattle.can_bus.specs.Offers.{all_made}
+use Rattle.can_bus.specs.Network.{AllCountAtMost, AllOver, CountsAtMost, IsNetworkCall, NetworkLogBegins, NetworkLogHas, NetworkLogWhole, NetworkTally, OnNetworkCall, RestsAgain, StaysActive}
+use Rattle.can_bus.specs.Offers.{call_after, call_level, call_refused, AreOffered, all_made}
+use Rattle.can_hit.specs.Hits.{AreTaken}
+use Rattle.can_bus.proofs.RepairedCalls.{taken-attempts}
 use Rattle.can_bus.specs.Quiet.{AtEachNode, AtEachPort, CountsNothing, MissesNothing}
 use Rattle.can_bus.specs.Run.{BusState}
 use Rattle.can_bus.proofs.Contests.{AllPorts}
@@ -222,16 +219,11 @@ module _ (offers : List Offer) (hits : List Hit) (course : List Transmission) (b
 
 -- ---- offers and hits that are not taken meet no premises
 
-pub taken-attempts : (ports : ℕ) (hits : List Hit) → AreInAttempts hits → AreApart 1 hits → AreTaken ports hits
-taken-attempts ports hits within apart place hit there = (
-  λ n last before at. later-above last hit (apart n place last hit (omega (arith, before)) at there),
-  let is = within place hit there in subst (λ h. hit_names_port ports h ≡ true) (sym is.2) refl,
-)
+pub unoffered : {X : Type 0} (state : X → PortState) (xs : List X) (size rest : ℕ) (offers : List Offer) (hits : List Hit) → size ≡ length xs → ((false ≡ true) ↔ AreOffered size offers) →
+    (Claim : List Transmission → Type 0) → OnNetworkCall offers hits (record { ports = map state xs; rest = rest }) Claim
+unoffered state xs size rest offers hits same taken Claim course call =
+    absurd (let e : false ≡ true = taken.1 (subst (λ n. AreOffered n offers) (length-map xs state ∙ sym same) call.offered) in cc)
 
-pub not-offered : {X : Type 0} (state : X → PortState) (xs : List X) (size rest : ℕ) (offers : List Offer) (hits : List Hit) (course : List Transmission) → size ≡ length xs → (AreOffered size offers → ⊥) →
-    IsNetworkCall offers hits (record { ports = map state xs; rest = rest }) course → ⊥
-not-offered state xs size rest offers hits course same untaken call = untaken (subst (λ n. AreOffered n offers) (length-map xs state ∙ sym same) call.offered)
-
-pub not-taken : {X : Type 0} (state : X → PortState) (xs : List X) (size rest : ℕ) (offers : List Offer) (hits : List Hit) (course : List Transmission) → (AreTaken size hits → ⊥) →
-    IsNetworkCall offers hits (record { ports = map state xs; rest = rest }) course → ⊥
-not-taken state xs size rest offers hits course untaken call = untaken (taken-attempts size hits call.within call.apart)
+pub untaken : {X : Type 0} (state : X → PortState) (xs : List X) (size rest : ℕ) (offers : List Offer) (hits : List Hit) → ((false ≡ true) ↔ AreTaken size hits) →
+    (Claim : List Transmission → Type 0) → OnNetworkCall offers hits (record { ports = map state xs; rest = rest }) Claim
+untaken state xs size rest offers hits taken Claim course call = absurd (let e : false ≡ true = taken.1 (taken-attempts size hits call.within call.apart) in cc)

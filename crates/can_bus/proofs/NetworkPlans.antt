@@ -1,6 +1,6 @@
 -- Ports that are made idle, with offers and hits as planned, are a network.
 use Rattle.std.specs.Prelude.{slice_get, max}
-use Rattle.std.proofs.Common.{◌≡◌, ℕ, zero, suc, ◌+◌, ◌≤◌, Option, Some, None, List, [], ◌∷◌, All, length, map, take, refl, sym, ap, subst, ◌∙◌, arith, inl, inr}
+use Rattle.std.proofs.Common.{◌≡◌, ℕ, zero, suc, ◌+◌, ◌≤◌, Option, Some, None, List, [], ◌∷◌, All, length, map, refl, sym, ap, subst, ◌∙◌, arith, inl, inr, ◌⊎◌}
 use Rattle.std.proofs.lemmas.Bool.{le-leb}
 use Rattle.std.proofs.lemmas.List.{length-map}
 use Rattle.can_frame.specs.Parts.{Parts}
@@ -9,58 +9,39 @@ use Rattle.can_node.specs.Waiting.{IsWaiting}
 use Rattle.can_node.proofs.WaitingLaws.{waiting-IsWaiting}
 use Rattle.can_hit.specs.declared.hit.Hit.{Hit}
 use Rattle.can_bus.specs.declared.offer.Offer.{Offer}
-use Rattle.can_bus.specs.Course.{HitInWindows, IsCourse, Transmission, attempt_of, broken, course_from, course_of, course_tally, hit_time, hits_made, over, sent}
-use Rattle.can_bus.specs.Network.{AllCountAtMost, AreInAttempts, CourseIsBorne, FieldsAreOwned, IsNetworkCall, counters_of}
+use Rattle.can_bus.specs.Course.{HitInWindows, IsCourse, Transmission, attempt_of, broken, course_from, course_of, hit_time, hits_made, over, sent}
+use Rattle.can_bus.specs.Network.{AllCountAtMost, CourseIsBorne, FieldsAreOwned, IsNetworkCall, counters_of}
+use Rattle.can_bus.specs.Attempts.{AreInAttempts, AreApart, IsInWindow, hit_of}
 use Rattle.can_bus.specs.NetworkPlans.{AllInWindow, AreNoEarlier, IsNetworkPlan, network_course, offered_again, two_ports}
 use Rattle.can_bus.specs.Offers.{AreOffered, offer_names_port}
 use Rattle.can_bus.specs.OpenBus.{all_offers, offered_to, own_offers, timed}
 use Rattle.can_bus.specs.Plans.{PlannedPort, planned, ready_port}
-use Rattle.can_bus.specs.Quiet.{IsQuietPort, holds, busy_time}
-use Rattle.can_bus.specs.Repair.{AreApart, IsInWindow, Tally, hit_of, hits_before, tallied}
-use Rattle.can_bus.specs.Schedule.{TimedParts, Lists, earliest, frames_of, offered_by, without_offer}
-use Rattle.can_bus.proofs.BorneHits.{Few, few-tallied}
+use Rattle.can_bus.specs.Quiet.{IsQuietPort, busy_time}
+use Rattle.can_bus.specs.Timed.{TimedParts, Lists, earliest, frames_of, offered_by, without_offer}
+use Rattle.can_bus.proofs.BorneHits.{few-course}
 use Rattle.can_bus.proofs.CourseLaws.{course-there}
 use Rattle.can_bus.proofs.Fields.{without-listed}
 use Rattle.can_bus.proofs.Members.{stands-none}
-use Rattle.can_bus.proofs.NetworkStart.{apart-attempts}
-use Rattle.can_bus.proofs.NextStarts.{offered-stands}
+use Rattle.can_bus.proofs.LeftOffers.{offered-stands}
 use Rattle.can_bus.proofs.OpenNetworks.{quiet-low}
 use Rattle.can_bus.proofs.OpenPlans.{all-size, own-room}
 use Rattle.can_bus.proofs.PlayedRuns.{to-other}
 use Rattle.can_bus.proofs.QuietPlans.{quiet-each}
-use Rattle.can_bus.proofs.RepairPlans.{Apart, few-before, hit-cases, frame-cases, struck-before, struck-there, unhit-before}
+use Rattle.can_bus.proofs.RepairPlans.{few-before, hit-cases, hits_before, struck-there, weigh-next}
 
 -- ---- fifteen hits are borne
 
--- each hit counts eight at most
-few-more : (queue : List Parts) (course some : List Transmission) (n time : ℕ) (f : Parts) (hit : Option ℕ) (t : Tally) →
-    ((m : ℕ) (u : Tally) → Few m u → Few (m + hits_made course) (course_tally queue some u)) → Few n t →
-    Few (n + hits_made (record { time = time; frame = f; hit = hit } ∷ course)) (course_tally queue some (tallied (holds queue f) f hit t))
-few-more queue course some n time f None t rest few =
-    rest n (tallied (holds queue f) f None t) (few-tallied n n (holds queue f) f None t (omega arith) (λ o e. absurd (let h : None ≡ Some o = e in cc)) few)
-few-more queue course some n time f (Some offset) t rest few =
-    let more = rest (suc n) (tallied (holds queue f) f (Some offset) t) (few-tallied n (suc n) (holds queue f) f (Some offset) t (omega arith) (λ o e. omega arith) few) in
-    (omega (arith, more.0), omega (arith, more.1))
-
-few-course : (queue : List Parts) (course : List Transmission) (number n : ℕ) (t : Tally) → Few n t → Few (n + hits_made course) (course_tally queue (take number course) t)
-few-course queue [] zero n t few = (omega (arith, few.0), omega (arith, few.1))
-few-course queue (s ∷ course) zero n t few = (omega (arith, few.0), omega (arith, few.1))
-few-course queue [] (suc number) n t few = (omega (arith, few.0), omega (arith, few.1))
-few-course queue (s ∷ course) (suc number) n t few = few-more queue course (take number course) n s.time s.frame s.hit t (few-course queue course number) few
-
 -- no more attempts are hit than there are hits
-hits-few : {hits : List Hit} {number free : ℕ} {left : List TimedParts} {course : List Transmission} → Apart hits → IsCourse hits number free left course → hits_before hits number + hits_made course ≤ length hits
-hits-few {hits} apart (over number free) = omega (arith, few-before hits number)
-hits-few {hits} apart (sent number free time f left course is unhit rest) = omega (arith, hits-few apart rest, unhit-before hits number apart unhit)
-hits-few {hits} apart (broken number free time f offset left course is struck window rest) = omega (arith, hits-few apart rest, struck-before hits number offset apart struck)
+hits-few : {hits : List Hit} {number free : ℕ} {left : List TimedParts} {course : List Transmission} → IsCourse hits number free left course → hits_before hits number + hits_made course ≤ length hits
+hits-few {hits} (over number free) = omega (arith, few-before hits number)
+hits-few {hits} (sent number free time f left course is unhit rest) = omega (arith, hits-few rest, (weigh-next (λ o. 1) hits number).0)
+hits-few {hits} (broken number free time f offset left course is struck window rest) = omega (arith, hits-few rest, (weigh-next (λ o. 1) hits number).1 offset struck)
 
-fifteen-borne : (offers : List Offer) (hits : List Hit) (ports : List PortState) (course : List Transmission) → AllCountAtMost 0 ports → Apart hits → IsCourse hits 0 0 (all_offers offers ports) course →
-    length hits ≤ 15 → CourseIsBorne offers ports course
-fifteen-borne offers hits ports course none apart is most n p at number within =
-    let zero_now = none n p at in
-    let few = few-course (frames_of (own_offers offers n p)) course number 0 (counters_of p) (omega (arith, zero_now.tec), omega (arith, zero_now.rec)) in
-    let less = hits-few apart is in
-    record { tec = omega (arith, few.0, less, most); rec = omega (arith, few.1, less, most) }
+pub fifteen-borne : (offers : List Offer) (ports : List PortState) (course : List Transmission) (errors : ℕ) → AllCountAtMost errors ports → errors + hits_made course ≤ 15 → CourseIsBorne offers ports course
+fifteen-borne offers ports course errors most few n p at number within =
+    let now = most n p at in
+    let all = few-course (frames_of (own_offers offers n p)) course number errors (counters_of p) (omega (arith, now.tec), omega (arith, now.rec)) in
+    record { tec = omega (arith, all.0, few); rec = omega (arith, all.1, few) }
 
 -- ---- the call
 
@@ -77,11 +58,8 @@ module _ (offers : List Offer) (hits : List Hit) (plans : List PlannedPort) (is 
   none-counted : AllCountAtMost 0 ports
   none-counted n p at = let still = quiet n p at in record { tec = omega (arith, still.tec); rec = omega (arith, still.rec) }
 
-  apart : Apart hits
-  apart = apart-attempts hits is.within is.apart
-
   course-made : IsCourse hits 0 0 all (network_course offers hits ports)
-  course-made = course-there hits apart all is.windows
+  course-made = course-there hits all is.windows
 
   pub network-made : IsNetworkCall offers hits (record { ports = ports; rest = 11 }) (network_course offers hits ports)
   network-made = record {
@@ -101,12 +79,16 @@ module _ (offers : List Offer) (hits : List Hit) (plans : List PlannedPort) (is 
     apart = is.apart;
     is_course = course-made;
     borne = elim is.borne [
-      | inl few ↦ fifteen-borne offers hits ports (network_course offers hits ports) none-counted apart course-made few
+      | inl few ↦ fifteen-borne offers ports (network_course offers hits ports) 0 none-counted (omega (arith, hits-few course-made, few))
       | inr borne ↦ borne
     ];
   }
 
 -- ---- a frame that comes back
+
+frame-cases : (w : Option Parts) → (w ≡ None) ⊎ ((f : Parts) × (w ≡ Some f))
+frame-cases None = inl refl
+frame-cases (Some f) = inr (f, refl)
 
 -- all offers are of one frame
 abbrev AreOfFrame : Parts → List TimedParts → Type 0

@@ -12,13 +12,13 @@ use Rattle.can_hit.specs.declared.hit.Hit.{Hit}
 use Rattle.can_hit.specs.declared.hit.Hit.TheVariants.{At, In, View}
 use Rattle.can_bus.specs.declared.offer.Offer.{Offer}
 use Rattle.can_bus.specs.Course.{Transmission, course_tally}
-use Rattle.can_bus.specs.Network.{AreInAttempts, CountsAtMost, AllCountAtMost, IsFit, IsNetworkCall, counters_of, call_after}
+use Rattle.can_bus.specs.Attempts.{AreInAttempts, AreApart, IsLow, Tally, tallied}
+use Rattle.can_bus.specs.Network.{CountsAtMost, AllCountAtMost, IsFit, IsNetworkCall, counters_of}
+use Rattle.can_bus.specs.Offers.{call_after, all_made}
 use Rattle.can_bus.specs.OpenBus.{all_offers, offered_first, offered_to, own_offers}
-use Rattle.can_bus.specs.Offers.{all_made}
 use Rattle.can_bus.specs.Quiet.{holds}
-use Rattle.can_bus.specs.Repair.{AreApart, IsLow, Tally, tallied}
 use Rattle.can_bus.specs.Run.{BusState}
-use Rattle.can_bus.specs.Schedule.{TimedParts, Lists, frames_of, offered_by}
+use Rattle.can_bus.specs.Timed.{TimedParts, Lists, frames_of, offered_by}
 use Rattle.can_bus.proofs.Contests.{AllPorts, has-at}
 use Rattle.can_bus.proofs.Members.{stands-map}
 use Rattle.can_bus.proofs.OfferLemmas.{offers-rise}
@@ -29,6 +29,7 @@ use Rattle.can_bus.proofs.PortOffers.{port_offers}
 use Rattle.can_bus.proofs.QuietLogs.{holds-own}
 use Rattle.can_bus.proofs.HitRuns.{AreWithin}
 use Rattle.can_bus.proofs.HitWires.{HitWire}
+use Rattle.can_bus.proofs.PassedFrames.{none-taken}
 use Rattle.can_bus.proofs.RepairPlans.{Apart, apart-within, later-from}
 use Rattle.can_bus.proofs.CoursePorts.{CoursePort, IsCoursePort}
 use Rattle.can_bus.proofs.CourseRounds.{CourseRound, Owned, held, machines_of}
@@ -69,10 +70,6 @@ apart-attempts (At time ∷ hits) within apart = let there = within 0 (At time) 
 apart-attempts (View time node ∷ hits) within apart = let there = within 0 (View time node) refl in let e = there.2 in cc
 
 -- ---- a tally that stays low
-
-none-taken : (course : List Transmission) → take 0 course ≡ []
-none-taken [] = refl
-none-taken (s ∷ course) = refl
 
 pub bears-from : (queue : List Parts) (course : List Transmission) (t : Tally) → ((number : ℕ) → number ≤ length course → IsLow (course_tally queue (take number course) t)) →
     CourseBears queue course t

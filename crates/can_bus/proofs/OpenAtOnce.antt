@@ -10,13 +10,15 @@ use Rattle.can_node.specs.Ports.{PortState}
 use Rattle.can_node.proofs.Arrivals.{gains}
 use Rattle.can_bus.specs.declared.offer.Offer.{Offer}
 use Rattle.can_bus.specs.OpenBus.{QueuesHaveRoom, IsOpenCall, WaitsAt, all_offers, offered_first, offered_to, own_offers, timed, with_first}
-use Rattle.can_bus.specs.Offers.{AreOffered, all_made, played, played_level}
+use Rattle.can_bus.specs.Offers.{AreOffered, all_made, call_after, played, played_level}
 use Rattle.can_bus.specs.Quiet.{AreDifferent, IsAscending, IsQuiet, IsQuietCall, IsQuietPort, ascending, line_at, queued, AtEachNode}
 use Rattle.can_bus.specs.Run.{BusState, bus_level, bus_run}
-use Rattle.can_bus.specs.Schedule.{AreAtOnce, TimedParts, frames_of, schedule, track_at}
+use Rattle.can_bus.specs.Timed.{AreAtOnce, TimedParts, frames_of}
+use Rattle.can_bus.specs.Schedule.{schedule, track_at}
 use Rattle.can_bus.proofs.CourseSchedules.{no-other-schedule, one-schedule}
 use Rattle.can_bus.proofs.Ascending.{ascending_permuted, ascending_there, different_permuted}
-use Rattle.can_bus.proofs.CallLemmas.{played-quiet, played_level-quiet}
+use Rattle.can_bus.proofs.CallCases.{played-level, played-next}
+use Rattle.can_bus.proofs.CallLemmas.{call_bus-run, call_level-run}
 use Rattle.can_bus.proofs.AtOnce.{at_once-frames, at_once-line}
 use Rattle.can_bus.proofs.Members.{filter-stands, map-stands, stands-map, stands-here, stands-later, stands-either}
 use Rattle.can_bus.proofs.OfferLemmas.{none_made}
@@ -166,17 +168,21 @@ module _ (offers : List Offer) (first : AreAtOnce (map timed offers)) where
   none-later t ports = (none_made offers (suc t) ports (λ n offer there now. omega (arith, now, first (timed offer) (stands-map timed offers offer (n, there))))).0
 
   -- so it is what is played behind them without offers
-  still-played : (n : ℕ) (bus : BusState) → record (played offers n bus) { ports = all_made offers n (played offers n bus).ports } ≡ played [] n (with_first offers bus)
-  unfolding played
+  abbrev IsStill : ℕ → BusState → Type 0
+  IsStill n bus = record (played offers n bus) { ports = all_made offers n (played offers n bus).ports } ≡ played [] n (with_first offers bus)
+
+  still-next : (n : ℕ) (bus : BusState) → IsStill n bus → played offers (suc n) bus ≡ played [] (suc n) (with_first offers bus)
+  still-next n bus still = played-next offers bus n ∙ ap (bus_run [] 1) still ∙ sym (played-next [] (with_first offers bus) n)
+
+  still-played : (n : ℕ) (bus : BusState) → IsStill n bus
+  unfolding call_after
   still-played zero bus = refl
-  still-played (suc n) bus =
-      ap (λ ps. record (played offers (suc n) bus) { ports = ps }) (none-later n (played offers (suc n) bus).ports) ∙ ap (bus_run [] 1) (still-played n bus)
+  still-played (suc n) bus = ap (λ ps. record (played offers (suc n) bus) { ports = ps }) (none-later n (played offers (suc n) bus).ports) ∙ still-next n bus (still-played n bus)
 
   pub at_once-run : (n : ℕ) (bus : BusState) → 0 < n → played offers n bus ≡ bus_run [] n (with_first offers bus)
-  unfolding played
   at_once-run zero bus some = absurd (omega (arith, some))
-  at_once-run (suc n) bus some = ap (bus_run [] 1) (still-played n bus) ∙ played-quiet (suc n) (with_first offers bus)
+  at_once-run (suc n) bus some = still-next n bus (still-played n bus) ∙ call_bus-run [] (suc n) (with_first offers bus)
 
   pub at_once-level : (t : ℕ) (bus : BusState) → played_level offers t bus ≡ bus_level [] t (with_first offers bus)
-  unfolding played_level
-  at_once-level t bus = ap (bus_level [] 0) (still-played t bus) ∙ played_level-quiet t (with_first offers bus)
+  at_once-level t bus =
+      played-level offers bus t ∙ ap (bus_level [] 0) (still-played t bus) ∙ sym (played-level [] (with_first offers bus) t) ∙ call_level-run [] t (with_first offers bus)

@@ -5,24 +5,25 @@ use Rattle.std.proofs.Common.{◌≡◌, ℕ, zero, suc, ◌+◌, ◌<◌, Some,
 use Rattle.std.proofs.lemmas.List.Sorted.{IsPermutation-map, IsPermutation-sym}
 use Rattle.can_node.specs.Ports.{PortState, IsPort, port_drives}
 use Rattle.can_bus.specs.declared.offer.Offer.{Offer}
-use Rattle.can_bus.specs.Course.{frames_sent, unhit}
-use Rattle.can_bus.specs.Network.{AllCountAtMost, IsNetworkCall, counters_of, call_after, call_level, call_refused, offered_now}
+use Rattle.can_bus.specs.Course.{frames_sent}
+use Rattle.can_bus.specs.Schedule.{unhit, track_at}
+use Rattle.can_bus.specs.Network.{AllCountAtMost, IsNetworkCall, counters_of}
+use Rattle.can_bus.specs.Offers.{call_after, call_level, call_refused, offered_now, all_made, played, played_level, refused, refused_at}
 use Rattle.can_bus.specs.OpenBus.{AreOver, IsOpenCall, OpenLogBegins, OpenLogWhole, all_offers, own_offers}
-use Rattle.can_bus.specs.Offers.{all_made, played, played_level, refused, refused_at}
 use Rattle.can_bus.specs.Quiet.{AtEachNode, AtEachPort, CountsNothing, IsPrefixOf, IsQuietPort, MissesNothing, marked}
-use Rattle.can_bus.specs.Repair.{IsLow}
-use Rattle.can_bus.specs.Run.{BusState, bus_after, bus_level, recorded}
-use Rattle.can_bus.specs.Schedule.{TimedParts, Lists, frames_of, track_at}
+use Rattle.can_bus.specs.Attempts.{IsLow}
+use Rattle.can_bus.specs.Run.{BusState, recorded}
+use Rattle.can_bus.specs.Timed.{TimedParts, Lists, frames_of}
 use Rattle.can_bus.specs.Wired.{wired}
 use Rattle.can_bus.proofs.Ascending.{Other, different_permuted}
 use Rattle.can_bus.proofs.Contests.{AllPorts}
-use Rattle.can_bus.proofs.CourseSchedules.{schedule-course, unhit-ended, unhit-frames, unhit-low, unhit-none, unhit-track}
-use Rattle.can_bus.proofs.CallCases.{plain-bus, run_one}
+use Rattle.can_bus.proofs.CourseSchedules.{unhit-ended, unhit-frames, unhit-low, unhit-none}
+use Rattle.can_bus.proofs.CallCases.{plain-bus}
 use Rattle.can_bus.proofs.CallLemmas.{call-time}
 use Rattle.can_bus.proofs.HitRuns.{sees}
 use Rattle.can_bus.proofs.Members.{stands-back, stands-front}
 use Rattle.can_bus.proofs.NetworkCalls.{network-logs, network-missed, network-refused, network-track, network-unmoved, network-whole}
-use Rattle.can_bus.proofs.NextStarts.{AllDiffer, differ-from}
+use Rattle.can_bus.proofs.LeftOffers.{AllDiffer, differ-from}
 use Rattle.can_bus.proofs.OpenStart.{OfFrames}
 use Rattle.can_bus.proofs.OwnOffers.{differ-across, differ-back}
 use Rattle.can_bus.proofs.PortOffers.{offers-by-port, port_offers}
@@ -30,29 +31,28 @@ use Rattle.can_bus.proofs.PortOffers.{offers-by-port, port_offers}
 -- ---- without hits it is all the same how long the bus has rested
 
 module _ (offers : List Offer) (bus other : BusState) (same : bus.ports ≡ other.ports) where
-  made-now : (n : ℕ) → (played offers n bus).ports ≡ (call_after offers [] n other).bus.ports →
-      all_made offers n (played offers n bus).ports ≡ (offered_now offers (call_after offers [] n other)).bus.ports
-  made-now n e = ap (all_made offers n) e ∙ ap (λ t. all_made offers t (call_after offers [] n other).bus.ports) (sym (call-time offers [] other n))
+  made-now : (n : ℕ) → (played offers n bus).ports ≡ (played offers n other).ports →
+      (offered_now offers (call_after offers [] n bus)).bus.ports ≡ (offered_now offers (call_after offers [] n other)).bus.ports
+  made-now n e = ap (λ t. all_made offers t (played offers n bus).ports) (call-time offers [] bus n ∙ sym (call-time offers [] other n)) ∙ ap (all_made offers (call_after offers [] n other).time) e
 
-  pub plain-ports : (n : ℕ) → (played offers n bus).ports ≡ (call_after offers [] n other).bus.ports
-  unfolding played call_after
+  pub plain-ports : (n : ℕ) → (played offers n bus).ports ≡ (played offers n other).ports
+  unfolding call_after
   plain-ports zero = same
   plain-ports (suc n) =
-      let before : BusState = played offers n bus in
-      ap (λ (b : BusState). b.ports) (run_one (record before { ports = all_made offers n before.ports }))
+      ap (λ (b : BusState). b.ports) (plain-bus (offered_now offers (call_after offers [] n bus)))
       ∙ ap (λ ps. map (sees (wired (map port_drives ps))) ps) (made-now n (plain-ports n))
       ∙ sym (ap (λ (b : BusState). b.ports) (plain-bus (offered_now offers (call_after offers [] n other))))
 
-  pub plain-level : (t : ℕ) → played_level offers t bus ≡ call_level offers [] t other
-  unfolding played_level call_level bus_level bus_after recorded
+  pub plain-level : (t : ℕ) → played_level offers t bus ≡ played_level offers t other
+  unfolding call_level recorded
   plain-level t = ap (λ ps. wired (map port_drives ps)) (made-now t (plain-ports t))
 
-  pub plain-refused : (n : ℕ) → refused offers n bus ≡ call_refused offers [] n other
-  unfolding refused call_refused
+  pub plain-refused : (n : ℕ) → refused offers n bus ≡ refused offers n other
+  unfolding call_refused
   plain-refused zero = refl
   plain-refused (suc n) =
       ap (λ k. k + refused_at offers n (played offers n bus).ports) (plain-refused n)
-      ∙ ap (λ ps. call_refused offers [] n other + refused_at offers n ps) (plain-ports n)
+      ∙ ap (λ ps. refused offers n other + refused_at offers n ps) (plain-ports n)
 
 -- ---- the premises
 
@@ -117,7 +117,7 @@ module _ (offers : List Offer) (starts : List TimedParts) (ports : List PortStat
             (subst (λ k. Lists (own_offers offers k q) y) (let e : n ≡ 0 + n = omega arith in e) b);
         within = λ n hit at. absurd (let h : None ≡ Some hit = at in cc);
         apart = λ m n a b less at there. absurd (let h : None ≡ Some a = at in cc);
-        is_course = schedule-course 0 call.scheduled.scheduled (differ-from all call.scheduled.different);
+        is_course = call.scheduled.scheduled;
         borne = λ n p at number within. unhit-low (frames_of (own_offers offers n p)) starts number (counters_of p) (quiet-low (length all) p (call.quiet n p at));
       }
 
@@ -130,7 +130,7 @@ module _ (offers : List Offer) (starts : List TimedParts) (bus : BusState) (vali
 
   -- the level at each time is that of the track
   pub open-track : (t : ℕ) → played_level offers t bus ≡ track_at starts t
-  open-track t = plain-level offers bus (at_rest bus.ports) refl t ∙ network-track offers [] (unhit starts) (at_rest bus.ports) valid framed net t ∙ unhit-track call.scheduled.scheduled t
+  open-track t = plain-level offers bus (at_rest bus.ports) refl t ∙ network-track offers [] (unhit starts) (at_rest bus.ports) valid framed net t
 
   -- no queue was full
   pub open-refused : (n : ℕ) → refused offers n bus ≡ 0

@@ -10,7 +10,8 @@ use Rattle.can_bus.specs.OpenBus.{IsOpenCall, IsOpenPlan, all_offers, offered_fi
 use Rattle.can_bus.specs.Offers.{AreOffered}
 use Rattle.can_bus.specs.Plans.{PlannedPort, planned, ready_port}
 use Rattle.can_bus.specs.Quiet.{AreDifferent, queued}
-use Rattle.can_bus.specs.Schedule.{TimedParts, frames_of, schedule}
+use Rattle.can_bus.specs.Timed.{TimedParts, frames_of}
+use Rattle.can_bus.specs.Schedule.{schedule}
 use Rattle.can_bus.proofs.CourseSchedules.{one-schedule}
 use Rattle.can_bus.proofs.OpenAtOnce.{first-frames}
 use Rattle.can_bus.proofs.PlayedRuns.{to-here, to-other}

@@ -3,10 +3,10 @@ use Rattle.std.proofs.Common.{◌≡◌, true, false, List, [], ◌∷◌, ◌++
 use Rattle.std.proofs.lemmas.Bool.{cond-true, cond-false, cases_Bool}
 use Rattle.can_frame.specs.Parts.{Parts}
 use Rattle.can_node.specs.Ports.{same_field, without}
-use Rattle.can_bus.specs.Schedule.{TimedParts, Lists, frames_of, without_offer}
+use Rattle.can_bus.specs.Timed.{TimedParts, Lists, frames_of, without_offer}
 use Rattle.can_bus.proofs.Ascending.{Other}
 use Rattle.can_bus.proofs.Members.{stands-back, stands-cases, stands-here, stands-later}
-use Rattle.can_bus.proofs.NextStarts.{AllDiffer}
+use Rattle.can_bus.proofs.LeftOffers.{AllDiffer}
 use Rattle.can_bus.proofs.QuietLogs.{other-test}
 
 -- ---- two lists, one behind the other

@@ -10,17 +10,17 @@ use Rattle.can_bus.proofs.Contests.{AllPorts}
 use Rattle.can_bus.proofs.OpenNetworks.{at_rest, plain-level, plain-ports}
 use Rattle.can_bus.proofs.RepairedCalls.{quiet-span, repaired-call}
 use Rattle.can_bus.proofs.RepairedLevels.{unhit-line}
-use Rattle.can_bus.proofs.CallLemmas.{call_bus-run, call_level-run, played-quiet, played_level-quiet}
+use Rattle.can_bus.proofs.CallLemmas.{call_bus-run, call_level-run}
 use Rattle.can_bus.proofs.RepairedNetworks.{repaired-line, repaired-logs, repaired-missed, repaired-unmoved, repaired-whole}
 
 -- ---- the bus has rested
 
 still-level : (t : ℕ) (bus : BusState) → bus_level [] t bus ≡ bus_level [] t (at_rest bus.ports)
-still-level t bus = sym (played_level-quiet t bus) ∙ plain-level [] bus (at_rest bus.ports) refl t ∙ call_level-run [] t (at_rest bus.ports)
+still-level t bus = sym (call_level-run [] t bus) ∙ plain-level [] bus (at_rest bus.ports) refl t ∙ call_level-run [] t (at_rest bus.ports)
 
 still-ports : (n : ℕ) (bus : BusState) → (bus_run [] n bus).ports ≡ (bus_run [] n (at_rest bus.ports)).ports
 still-ports n bus =
-    ap (λ (b : BusState). b.ports) (sym (played-quiet n bus)) ∙ plain-ports [] bus (at_rest bus.ports) refl n
+    ap (λ (b : BusState). b.ports) (sym (call_bus-run [] n bus)) ∙ plain-ports [] bus (at_rest bus.ports) refl n
     ∙ ap (λ (b : BusState). b.ports) (call_bus-run [] n (at_rest bus.ports))
 
 -- ---- a call

@@ -12,7 +12,8 @@ use Rattle.can_wire.specs.Stuffing.{stuffed}
 use Rattle.can_wire.specs.Wire.{head, unstuffed, stuffed_part}
 use Rattle.can_wire.specs.Layout.{frame_len}
 use Rattle.can_hit.specs.declared.hit.Hit.TheVariants.{In}
-use Rattle.can_bus.specs.RepairedLine.{lateness, first_attempts}
+use Rattle.can_bus.specs.Repair.{course_levels, repaired_course}
+use Rattle.can_bus.specs.RepairedLine.{lateness}
 
 -- the levels of a text of `0` and `1`
 abbrev pub levels_of : List ℕ → List Level
@@ -65,30 +66,30 @@ late_123 = refl
 abbrev hit_16 : List Level
 hit_16 = levels_of (codes "0000010000010000") ++ (ones 1 ++ (zeros 12 ++ ones 11))
 
-once : first_attempts (frame_000 ∷ []) (In 0 16 ∷ []) 2 ≡ hit_16 ++ (wire_000 ++ ones 3)
-unfolding lateness stuffed_part unstuffed stuffed crc_of head arbitration_field bits_of frame_len
+once : course_levels (repaired_course (frame_000 ∷ []) (In 0 16 ∷ [])) ≡ hit_16 ++ (wire_000 ++ ones 3)
+unfolding repaired_course lateness stuffed_part unstuffed stuffed crc_of head arbitration_field bits_of frame_len
 once = refl
 
 -- a stuff bit is hit
-at_stuff_bit : first_attempts (frame_000 ∷ []) (In 0 17 ∷ []) 2 ≡ levels_of (codes "00000100000100000") ++ (zeros 7 ++ (ones 11 ++ (wire_000 ++ ones 3)))
-unfolding lateness stuffed_part unstuffed stuffed crc_of head arbitration_field bits_of frame_len
+at_stuff_bit : course_levels (repaired_course (frame_000 ∷ []) (In 0 17 ∷ [])) ≡ levels_of (codes "00000100000100000") ++ (zeros 7 ++ (ones 11 ++ (wire_000 ++ ones 3)))
+unfolding repaired_course lateness stuffed_part unstuffed stuffed crc_of head arbitration_field bits_of frame_len
 at_stuff_bit = refl
 
 -- the sixth level of the end of frame is hit
-in_end_of_frame : first_attempts (frame_000 ∷ []) (In 0 48 ∷ []) 2 ≡ take 48 wire_000 ++ (zeros 7 ++ (ones 11 ++ (wire_000 ++ ones 3)))
-unfolding lateness stuffed_part unstuffed stuffed crc_of head arbitration_field bits_of frame_len
+in_end_of_frame : course_levels (repaired_course (frame_000 ∷ []) (In 0 48 ∷ [])) ≡ take 48 wire_000 ++ (zeros 7 ++ (ones 11 ++ (wire_000 ++ ones 3)))
+unfolding repaired_course lateness stuffed_part unstuffed stuffed crc_of head arbitration_field bits_of frame_len
 in_end_of_frame = refl
 
 -- the second of two frames is hit, at a stuff bit
-second_hit : first_attempts (frame_000 ∷ frame_001 ∷ []) (In 1 19 ∷ []) 3
+second_hit : course_levels (repaired_course (frame_000 ∷ frame_001 ∷ []) (In 1 19 ∷ []))
     ≡ wire_000 ++ (ones 3 ++ (take 19 wire_001 ++ (zeros 7 ++ (ones 11 ++ (wire_001 ++ ones 3)))))
-unfolding lateness stuffed_part unstuffed stuffed crc_of head arbitration_field bits_of frame_len
+unfolding repaired_course lateness stuffed_part unstuffed stuffed crc_of head arbitration_field bits_of frame_len
 second_hit = refl
 
 -- fifteen attempts are hit
 abbrev numbers : List ℕ
 numbers = 0 ∷ 1 ∷ 2 ∷ 3 ∷ 4 ∷ 5 ∷ 6 ∷ 7 ∷ 8 ∷ 9 ∷ 10 ∷ 11 ∷ 12 ∷ 13 ∷ 14 ∷ []
 
-fifteen_times : first_attempts (frame_000 ∷ []) (map (λ k. In k 16) numbers) 16 ≡ flat_map (λ k. hit_16) numbers ++ (wire_000 ++ ones 3)
-unfolding lateness stuffed_part unstuffed stuffed crc_of head arbitration_field bits_of frame_len
+fifteen_times : course_levels (repaired_course (frame_000 ∷ []) (map (λ k. In k 16) numbers)) ≡ flat_map (λ k. hit_16) numbers ++ (wire_000 ++ ones 3)
+unfolding repaired_course lateness stuffed_part unstuffed stuffed crc_of head arbitration_field bits_of frame_len
 fifteen_times = refl

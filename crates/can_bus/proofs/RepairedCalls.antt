@@ -1,5 +1,5 @@
 -- Calls that are repaired: that they can be made, and that those without hits are quiet ones.
-use Rattle.std.proofs.Common.{◌≡◌, ℕ, zero, suc, ◌+◌, ◌-◌, ◌<◌, ◌≤◌, ◌⊎◌, Bool, true, false, Option, Some, None, List, [], ◌++◌, length, map, take, refl, sym, ap, subst, ◌∙◌, arith, inl}
+use Rattle.std.proofs.Common.{◌≡◌, ℕ, ◌+◌, ◌-◌, ◌<◌, ◌≤◌, ◌⊎◌, true, Option, Some, None, List, [], ◌∷◌, ◌++◌, length, map, take, refl, sym, ap, subst, ◌∙◌, arith, inl, inr}
 use Rattle.std.specs.Prelude.{◌&&◌, ◌||◌}
 use Rattle.std.proofs.Math.Dec.{eqb, ltb}
 use Rattle.std.proofs.lemmas.Bool.{lt-ltb}
@@ -17,13 +17,31 @@ use Rattle.can_hit.specs.declared.hit.Hit.{Hit}
 use Rattle.can_hit.specs.declared.hit.Hit.TheVariants.{At, In, View}
 use Rattle.can_hit.specs.Hits.{AreTaken, is_above, hit_names_port}
 use Rattle.can_bus.specs.Run.{BusState}
-use Rattle.can_bus.specs.Quiet.{IsQuietCall, IsAscending, ascending, holds, span}
+use Rattle.can_bus.specs.Quiet.{IsQuietCall, IsAscending, ascending, span}
 use Rattle.can_bus.specs.Plans.{PlannedPort, IsQuietPlan, planned, ready_port}
-use Rattle.can_bus.specs.Repair.{IsRepairedCall, IsInWindow, FallsInWindow, FallInWindows, IsLater, AreApart, AreBorne, Tally, tallied, tallied_attempt, tally, tally_after, frame_of_attempt, attempts, repaired_span}
+use Rattle.can_bus.specs.Attempts.{AreApart, AreInAttempts, IsInWindow, IsLater}
+use Rattle.can_bus.specs.Course.{IsMade, Transmission, and_hit, hits_made}
+use Rattle.can_bus.specs.Repair.{AreBorne, FallInWindows, IsRepairedCall, repaired_course, repaired_span}
 use Rattle.can_bus.proofs.Ascending.{ascending_there}
 use Rattle.can_bus.proofs.QuietPlans.{ready_bus, ready-quiet, ready-queued}
+use Rattle.can_bus.proofs.RepairPlans.{few-made}
 
 -- ---- Without hits.
+
+made-hit : (course : List Transmission) (s : Transmission) (o : ℕ) → IsMade course s → s.hit ≡ Some o → 0 < hits_made course
+made-hit [] s o made e = absurd made
+made-hit (x ∷ course) s o (inl here) e = subst (λ hit. 0 < and_hit hit (hits_made course)) (sym (ap (λ (z : Transmission). z.hit) here ∙ e)) (omega arith)
+made-hit (x ∷ course) s o (inr made) e = no-less x.hit (made-hit course s o made e)
+  where
+    no-less : (hit : Option ℕ) → 0 < hits_made course → 0 < and_hit hit (hits_made course)
+    no-less None some = some
+    no-less (Some offset) some = omega (arith, some)
+
+pub no-windows : (frames : List Parts) → FallInWindows frames []
+no-windows frames = record {
+  within = λ n hit there. absurd (let h : None ≡ Some hit = there in cc);
+  windows = λ s o made e. absurd (omega (arith, few-made [] frames, made-hit (repaired_course frames []) s o made e));
+}
 
 pub quiet-call : (bus : BusState) (frames : List Parts) → IsRepairedCall [] bus frames → IsQuietCall [] bus.ports frames × (bus.rest ≡ 11)
 quiet-call bus frames call = (record { undisturbed = refl; quiet = call.quiet; ascending = call.ascending }, call.rest)
@@ -33,31 +51,13 @@ repaired-call bus frames call rest = record {
   quiet = call.quiet;
   rest = rest;
   ascending = call.ascending;
-  windows = λ n hit there. absurd (let h : None ≡ Some hit = there in cc);
+  windows = no-windows frames;
   apart = λ m n a b less there other. absurd (let h : None ≡ Some a = there in cc);
   borne = inl (omega arith);
 }
 
 pub quiet-span : (frames : List Parts) → repaired_span frames [] ≡ span frames
 quiet-span frames = let e : span frames + 0 ≡ span frames = omega arith in e
-
--- nothing is counted
-tallied-nothing : (holds_it : Bool) (f : Parts) (t : Tally) → t.tec ≡ 0 → t.rec ≡ 0 → ((tallied holds_it f None t).tec ≡ 0) × ((tallied holds_it f None t).rec ≡ 0)
-tallied-nothing true f t tec rec = (omega (arith, tec), rec)
-tallied-nothing false f t tec rec = (tec, omega (arith, rec))
-
-attempt-nothing : (queue : List Parts) (w : Option Parts) (t : Tally) → t.tec ≡ 0 → t.rec ≡ 0 → ((tallied_attempt queue w None t).tec ≡ 0) × ((tallied_attempt queue w None t).rec ≡ 0)
-attempt-nothing queue None t tec rec = (tec, rec)
-attempt-nothing queue (Some f) t tec rec = tallied-nothing (holds queue f) f t tec rec
-
-after-nothing : (queue frames : List Parts) (number : ℕ) → ((tally_after queue frames [] number).tec ≡ 0) × ((tally_after queue frames [] number).rec ≡ 0)
-after-nothing queue frames zero = (refl, refl)
-after-nothing queue frames (suc number) =
-    let before = after-nothing queue frames number in
-    attempt-nothing queue (frame_of_attempt frames [] number) (tally_after queue frames [] number) before.0 before.1
-
-pub quiet-tally : (queue frames : List Parts) → ((tally queue frames []).tec ≡ 0) × ((tally queue frames []).rec ≡ 0)
-quiet-tally queue frames = after-nothing queue frames (attempts frames [])
 
 -- ---- With hits.
 
@@ -73,22 +73,17 @@ made-call plans hits is windows apart borne = record {
 }
 
 -- a later attempt is above
-pub later-above : (a b : Hit) → IsLater 1 a b → is_above b a ≡ true
+later-above : (a b : Hit) → IsLater 1 a b → is_above b a ≡ true
 later-above (In attempt offset) (In other place) later = ap (λ b. b || (eqb attempt other && ltb offset place)) (lt-ltb attempt other (omega (arith, later)))
 later-above (In attempt offset) (At time) later = absurd later
 later-above (In attempt offset) (View time node) later = absurd later
 later-above (At time) b later = absurd later
 later-above (View time node) b later = absurd later
 
-window-named : (ports : ℕ) (frames : List Parts) (hits : List Hit) (hit : Hit) → FallsInWindow frames hits hit → hit_names_port ports hit ≡ true
-window-named ports frames hits (At time) falls = refl
-window-named ports frames hits (In attempt offset) falls = refl
-window-named ports frames hits (View time node) falls = absurd falls
-
-pub taken-hits : (ports : ℕ) (frames : List Parts) (hits : List Hit) → FallInWindows frames hits → AreApart 1 hits → AreTaken ports hits
-taken-hits ports frames hits windows apart place hit there = (
+pub taken-attempts : (ports : ℕ) (hits : List Hit) → AreInAttempts hits → AreApart 1 hits → AreTaken ports hits
+taken-attempts ports hits within apart place hit there = (
   λ n last before at. later-above last hit (apart n place last hit (omega (arith, before)) at there),
-  window-named ports frames hits hit (windows place hit there),
+  subst (λ h. hit_names_port ports h ≡ true) (sym (within place hit there).2) refl,
 )
 
 -- ---- The window of a frame.

@@ -1,33 +1,31 @@
 -- A call with hits that are repaired is a network to which nothing is offered: what its theorem says is told from the network's.
-use Rattle.std.specs.Prelude.{slice_index_or, slice_get}
-use Rattle.std.proofs.Common.{◌≡◌, ℕ, ◌+◌, ◌≤◌, Some, None, List, [], ◌++◌, length, take, refl, sym, ap, subst, ◌∙◌, arith, inl, inr}
+use Rattle.std.specs.Prelude.{slice_get}
+use Rattle.std.proofs.Common.{◌≡◌, ℕ, ◌+◌, ◌≤◌, Some, None, List, [], ◌++◌, length, take, sym, ap, subst, ◌∙◌, arith, inl, inr}
 use Rattle.std.proofs.lemmas.List.{append-nil, length-map}
-use Rattle.can_frame.specs.declared.level.Level.TheVariants.{Recessive}
 use Rattle.can_frame.specs.Parts.{Parts}
 use Rattle.can_node.specs.Ports.{PortState, IsPort}
 use Rattle.can_hit.specs.declared.hit.Hit.{Hit}
-use Rattle.can_hit.specs.declared.hit.Hit.TheVariants.{At, In, View}
 use Rattle.can_bus.specs.Course.{AllEnded, Transmission, course_at, course_tally, frames_sent}
-use Rattle.can_bus.specs.Network.{AllCountAtMost, IsNetworkCall, counters_of, call_after}
+use Rattle.can_bus.specs.Network.{AllCountAtMost, IsNetworkCall, counters_of}
+use Rattle.can_bus.specs.Offers.{call_after}
 use Rattle.can_bus.specs.OpenBus.{all_offers, offered_first, own_offers}
 use Rattle.can_bus.specs.Quiet.{AreDifferent, AtEachPort, CountsNothing, IsAscending, IsPrefixOf, LogsBegin, LogsWhole, MissesNothing, marked, queued}
-use Rattle.can_bus.specs.Repair.{AreBorne, CountsAs, CountsFew, FallsInWindow, IsLow, IsRepairedCall, Tally, repaired_span, tally, tally_after}
-use Rattle.can_bus.specs.RepairedLine.{repaired_line_at}
+use Rattle.can_bus.specs.Attempts.{IsLow, Tally}
+use Rattle.can_bus.specs.Repair.{AreBorne, CountsAs, CountsFew, IsRepairedCall, no_errors, repaired_course, repaired_line_at, repaired_span, tally}
 use Rattle.can_bus.specs.Run.{BusState, bus_level, bus_run}
-use Rattle.can_bus.specs.Schedule.{TimedParts, Lists, frames_of}
+use Rattle.can_bus.specs.Timed.{TimedParts, Lists, frames_of}
 use Rattle.can_bus.proofs.CallLemmas.{call_bus-run, call_level-run}
 use Rattle.can_bus.proofs.Contests.{AllPorts}
-use Rattle.can_bus.proofs.CoursePlans.{AreLeft, left-ascending, plan-all, plan-count, plan-course, plan-frames, plan-hits, plan-tally, plan-track}
+use Rattle.can_bus.proofs.CoursePlans.{AreLeft, left-ascending, plan-course, plan-frames, plan-track}
 use Rattle.can_bus.proofs.Members.{map-stands}
 use Rattle.can_bus.proofs.NetworkCalls.{port-at, network-active, network-counts, network-logs, network-missed, network-tally, network-track, network-unmoved, network-whole}
-use Rattle.can_bus.proofs.NextStarts.{AllDiffer}
+use Rattle.can_bus.proofs.LeftOffers.{AllDiffer}
 use Rattle.can_bus.proofs.OpenAtOnce.{first-frames}
 use Rattle.can_bus.proofs.OpenNetworks.{differ-owned, quiet-low}
 use Rattle.can_bus.proofs.OpenStart.{OfFrames}
 use Rattle.can_bus.proofs.PortOffers.{no-offers}
 use Rattle.can_bus.proofs.RepairCounts.{plan-ended}
-use Rattle.can_bus.proofs.RepairedLevels.{plan-attempts}
-use Rattle.can_bus.proofs.RepairPlans.{Apart, Plan, apart-from, plan, windows-from}
+use Rattle.can_bus.proofs.RepairPlans.{Plan, few-made, plan}
 use Rattle.can_bus.proofs.BorneHits.{fifteen-borne}
 
 -- ---- what a port has to send is what waits there
@@ -52,14 +50,11 @@ no-framed n offer at = absurd (let h : None ≡ Some offer = at in cc)
 -- ---- the premises
 
 module _ (hits : List Hit) (bus : BusState) (valid : AllPorts IsPort bus.ports) (frames : List Parts) (call : IsRepairedCall hits bus frames) where
-  pub are_apart : Apart hits
-  are_apart = apart-from frames hits hits call.windows call.apart
-
-  pub planned : (course : List Transmission) × Plan frames hits 0 0 frames course
-  planned = plan frames hits are_apart (windows-from frames hits call.windows)
-
   abbrev pub course : List Transmission
-  course = planned.0
+  course = repaired_course frames hits
+
+  planned : Plan hits 0 0 frames course
+  planned = plan hits frames call.windows.windows
 
   different : AreDifferent (frames_of (all_offers [] bus.ports))
   different = subst AreDifferent (sym (all-queued bus.ports)) call.quiet.different
@@ -67,12 +62,7 @@ module _ (hits : List Hit) (bus : BusState) (valid : AllPorts IsPort bus.ports) 
   all-left : AreLeft frames (all_offers [] bus.ports)
   all-left = left-ascending (all_offers [] bus.ports) frames different (first-times (queued bus.ports)) (subst (λ fs. IsAscending fs frames) (sym (all-queued bus.ports)) call.ascending)
 
-  in-attempt : (hit : Hit) → FallsInWindow frames hits hit → (attempt offset : ℕ) × (hit ≡ In attempt offset)
-  in-attempt (At time) falls = absurd falls
-  in-attempt (In attempt offset) falls = (attempt, offset, refl)
-  in-attempt (View time node) falls = absurd falls
-
-  start-tally : (node : ℕ) (p : PortState) → slice_get bus.ports node ≡ Some p → counters_of p ≡ tally_after p.queue frames hits 0
+  start-tally : (node : ℕ) (p : PortState) → slice_get bus.ports node ≡ Some p → counters_of p ≡ no_errors
   start-tally node p at =
       let quiet = call.quiet.quiet node p at in
       ap (λ t. let u : Tally = record { tec = t; rec = p.mac.counters.rec } in u) quiet.tec ∙ ap (λ r. let u : Tally = record { tec = 0; rec = r } in u) quiet.rec
@@ -96,15 +86,14 @@ module _ (hits : List Hit) (bus : BusState) (valid : AllPorts IsPort bus.ports) 
         omega (arith, port.queue_fits, sym (length-map (own_offers [] n p) (λ (x : TimedParts). x.frame)) ∙ ap length (own-queue n p));
     owned = λ m n p q less at there x y a b.
         differ-owned [] 0 bus.ports (subst AllDiffer (append-nil (offered_first (queued bus.ports)) ∙ sym (no-offers 0 bus.ports)) (all-left.apart)) m n p q less at there x y a b;
-    within = λ n hit at. in-attempt hit (call.windows n hit at);
+    within = call.windows.within;
     apart = call.apart;
-    is_course = plan-course planned.1 (all_offers [] bus.ports) call.ascending.rising all-left;
+    is_course = plan-course planned (all_offers [] bus.ports) call.ascending.rising all-left;
     borne = λ n p at number within.
         subst IsLow
         (sym (ap (λ queue. course_tally queue (take number course) (counters_of p)) (own-queue n p)
-        ∙ ap (course_tally p.queue (take number course)) (start-tally n p at)
-        ∙ plan-tally p.queue frames hits are_apart planned.1 number within))
-        (is-borne n p at (0 + number) (omega (arith, within, plan-count planned.1, plan-hits planned.1 are_apart)));
+        ∙ ap (course_tally p.queue (take number course)) (start-tally n p at)))
+        (is-borne n p at number);
   }
 
   -- ---- the clauses
@@ -114,8 +103,7 @@ module _ (hits : List Hit) (bus : BusState) (valid : AllPorts IsPort bus.ports) 
   unfolding repaired_line_at
   repaired-line t =
       sym (call_level-run hits t bus) ∙ network-track [] hits course bus valid no-framed repaired-network t
-      ∙ ap (course_at course) (let e : t ≡ 0 + t = omega arith in e) ∙ plan-track planned.1 t
-      ∙ ap (λ xs. slice_index_or xs t Recessive) (plan-attempts frames hits are_apart planned.1 (omega arith))
+      ∙ ap (course_at course) (let e : t ≡ 0 + t = omega arith in e) ∙ plan-track planned t
 
   module _ (n : ℕ) (after : BusState) (ran : after ≡ bus_run hits n bus) where
     is-call : after ≡ (call_after [] hits n bus).bus
@@ -125,7 +113,7 @@ module _ (hits : List Hit) (bus : BusState) (valid : AllPorts IsPort bus.ports) 
         p.log ++ marked (frames_of (own_offers [] node p)) (frames_sent course) ≡ marked p.queue frames
     entries node p at =
         ap (λ es. es ++ marked (frames_of (own_offers [] node p)) (frames_sent course)) (call.quiet.quiet node p at).empty
-        ∙ ap (λ queue. marked queue (frames_sent course)) (own-queue node p) ∙ ap (marked p.queue) (plan-frames planned.1)
+        ∙ ap (λ queue. marked queue (frames_sent course)) (own-queue node p) ∙ ap (marked p.queue) (plan-frames planned)
 
     pub repaired-logs : AtEachPort (LogsBegin frames) bus.ports after.ports
     repaired-logs node p q before now =
@@ -135,7 +123,7 @@ module _ (hits : List Hit) (bus : BusState) (valid : AllPorts IsPort bus.ports) 
     repaired-few node p q before now =
         let none : AllCountAtMost 0 bus.ports = λ m r at. let quiet = call.quiet.quiet m r at in record { tec = omega (arith, quiet.tec); rec = omega (arith, quiet.rec) } in
         let few = network-counts [] hits course bus valid no-framed repaired-network n after is-call 0 none node p q before now in
-        let made = plan-hits planned.1 are_apart in
+        let made = few-made hits frames in
         record {
           active = network-active [] hits course bus valid no-framed repaired-network n after is-call node p q before now;
           tec = omega (arith, few.tec, made);
@@ -145,14 +133,14 @@ module _ (hits : List Hit) (bus : BusState) (valid : AllPorts IsPort bus.ports) 
     pub repaired-unmoved : hits ≡ [] → AtEachPort CountsNothing bus.ports after.ports
     repaired-unmoved unhit node p q before now =
         let none : AllCountAtMost 0 bus.ports = λ m r at. let quiet = call.quiet.quiet m r at in record { tec = omega (arith, quiet.tec); rec = omega (arith, quiet.rec) } in
-        network-unmoved [] hits course bus valid no-framed repaired-network n after is-call none (omega (arith, plan-hits planned.1 are_apart, ap length unhit)) node p q before now
+        network-unmoved [] hits course bus valid no-framed repaired-network n after is-call none (omega (arith, few-made hits frames, ap length unhit)) node p q before now
 
     pub repaired-missed : AtEachPort MissesNothing bus.ports after.ports
     repaired-missed node p q before now = network-missed [] hits course bus valid no-framed repaired-network n after is-call node p q before now
 
     module _ (past : repaired_span frames hits ≤ n) where
       ended : AllEnded course n
-      ended = plan-ended planned.1 are_apart n past
+      ended = plan-ended planned n past
 
       pub repaired-whole : AtEachPort (LogsWhole frames) bus.ports after.ports
       repaired-whole node p q before now =
@@ -163,6 +151,5 @@ module _ (hits : List Hit) (bus : BusState) (valid : AllPorts IsPort bus.ports) 
           let same : counters_of q ≡ tally p.queue frames hits =
           network-tally [] hits course bus valid no-framed repaired-network n after is-call ended node p q before now
           ∙ ap (λ queue. course_tally queue course (counters_of p)) (own-queue node p)
-          ∙ ap (course_tally p.queue course) (start-tally node p before)
-          ∙ plan-all p.queue frames hits are_apart planned.1 in
+          ∙ ap (course_tally p.queue course) (start-tally node p before) in
           (ap (λ (t : Tally). t.tec) same, ap (λ (t : Tally). t.rec) same)

@@ -12,9 +12,12 @@ use Rattle.can_wire.specs.Crc.{crc_of}
 use Rattle.can_wire.specs.Stuffing.{stuffed}
 use Rattle.can_wire.specs.Wire.{head, unstuffed, stuffed_part}
 use Rattle.can_node.specs.Ports.{waiting}
+use Rattle.can_bus.specs.Course.{course_at, course_of}
 use Rattle.can_bus.specs.Quiet.{span}
-use Rattle.can_bus.specs.Schedule.{TimedParts, StartsAt, schedule, track_at}
-use Rattle.can_bus.specs.Waiting.{left_at, starts_between, ahead_of, busy_times, FindsFree}
+use Rattle.can_bus.specs.Timed.{TimedParts}
+use Rattle.can_bus.specs.Schedule.{StartsAt, schedule, track_at}
+use Rattle.can_bus.specs.Waiting.{left_at, starts_between, FindsFree}
+use Rattle.can_bus.specs.CourseWaiting.{ahead_of, busy_times}
 use Rattle.can_bus.proofs.Members.{stands-none, stands-cases}
 use Rattle.can_bus.proofs.RepairRows.{levels_of, frame_000, frame_001, frame_123, wire_000, wire_001, ones}
 
@@ -42,11 +45,11 @@ abbrev late_starts : List TimedParts
 late_starts = at 0 frame_001 ∷ at 50 frame_000 ∷ []
 
 one_late : schedule late ≡ late_starts
-unfolding schedule waiting stuffed_part unstuffed stuffed crc_of head arbitration_field bits_of
+unfolding course_of waiting stuffed_part unstuffed stuffed crc_of head arbitration_field bits_of
 one_late = refl
 
 one_late-levels : levels late_starts 103 ≡ wire_001 ++ (ones 3 ++ (wire_000 ++ ones 3))
-unfolding track_at stuffed_part unstuffed stuffed crc_of head arbitration_field bits_of
+unfolding course_at stuffed_part unstuffed stuffed crc_of head arbitration_field bits_of
 one_late-levels = refl
 
 -- ---- offered in the last bit time of an intermission, and right behind it: the one that goes before the other starts
@@ -58,11 +61,11 @@ abbrev two_late_starts : List TimedParts
 two_late_starts = at 0 frame_001 ∷ at 50 frame_000 ∷ at 103 frame_009 ∷ []
 
 two_behind : schedule two_late ≡ two_late_starts
-unfolding schedule waiting stuffed_part unstuffed stuffed crc_of head arbitration_field bits_of
+unfolding course_of waiting stuffed_part unstuffed stuffed crc_of head arbitration_field bits_of
 two_behind = refl
 
 two_behind-levels : levels two_late_starts 155 ≡ wire_001 ++ (ones 3 ++ (wire_000 ++ (ones 3 ++ (wire_009 ++ ones 3))))
-unfolding track_at stuffed_part unstuffed stuffed crc_of head arbitration_field bits_of
+unfolding course_at stuffed_part unstuffed stuffed crc_of head arbitration_field bits_of
 two_behind-levels = refl
 
 -- `S 009 D 0` waits 54 bit times: 1 is left of the intermission as it is offered, and 53 are those of the frame that starts meanwhile. Its
@@ -89,11 +92,11 @@ abbrev spaced : List TimedParts
 spaced = at 3 frame_000 ∷ at 100 frame_001 ∷ []
 
 resting : schedule spaced ≡ spaced
-unfolding schedule waiting stuffed_part unstuffed stuffed crc_of head arbitration_field bits_of
+unfolding course_of waiting stuffed_part unstuffed stuffed crc_of head arbitration_field bits_of
 resting = refl
 
 resting-levels : levels spaced 150 ≡ ones 3 ++ (wire_000 ++ (ones 47 ++ (wire_001 ++ ones 3)))
-unfolding track_at stuffed_part unstuffed stuffed crc_of head arbitration_field bits_of
+unfolding course_at stuffed_part unstuffed stuffed crc_of head arbitration_field bits_of
 resting-levels = refl
 
 -- the second finds the bus free, so it starts at once
@@ -119,7 +122,7 @@ found = record { free = found-free; started = λ x start starts early before. fo
 -- ---- offered at once
 
 together : schedule (at 0 frame_001 ∷ at 0 frame_000 ∷ []) ≡ at 0 frame_000 ∷ at 53 frame_001 ∷ []
-unfolding schedule waiting stuffed_part unstuffed stuffed crc_of head arbitration_field bits_of
+unfolding course_of waiting stuffed_part unstuffed stuffed crc_of head arbitration_field bits_of
 together = refl
 
 -- a data frame, a remote frame and an extended frame whose identifier begins with theirs: `S 123 D 0`, `S 123 R 0` and `E 048c0000 D 0`
@@ -130,15 +133,15 @@ abbrev extended_123 : Parts
 extended_123 = record { id = record { raw = 0x48c0000; extended = true }; remote = false; dlc = 0; bytes = [] }
 
 three_together : schedule (at 0 extended_123 ∷ at 0 remote_123 ∷ at 0 frame_123 ∷ []) ≡ at 0 frame_123 ∷ at 48 remote_123 ∷ at 96 extended_123 ∷ []
-unfolding schedule waiting stuffed_part unstuffed stuffed crc_of head arbitration_field bits_of
+unfolding course_of waiting stuffed_part unstuffed stuffed crc_of head arbitration_field bits_of
 three_together = refl
 
 -- ---- offered later than the levels go
 
 far : schedule (at 150 frame_001 ∷ []) ≡ at 150 frame_001 ∷ []
-unfolding schedule waiting stuffed_part unstuffed stuffed crc_of head arbitration_field bits_of
+unfolding course_of waiting stuffed_part unstuffed stuffed crc_of head arbitration_field bits_of
 far = refl
 
 far-levels : levels (at 150 frame_001 ∷ []) 150 ≡ ones 150
-unfolding track_at stuffed_part unstuffed stuffed crc_of head arbitration_field bits_of
+unfolding course_at stuffed_part unstuffed stuffed crc_of head arbitration_field bits_of
 far-levels = refl

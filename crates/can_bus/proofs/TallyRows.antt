@@ -1,5 +1,5 @@
 -- Windows and tallies computed on disturbed calls whose outcome is known from elsewhere.
-use Rattle.std.proofs.Common.{◌≡◌, ℕ, zero, suc, ◌+◌, false, List, [], ◌∷◌, length, refl}
+use Rattle.std.proofs.Common.{◌≡◌, ℕ, zero, suc, ◌+◌, false, List, [], ◌∷◌, length, take, refl}
 use Rattle.can_frame.specs.Levels.{bits_of}
 use Rattle.can_frame.specs.Arbitration.{arbitration_field}
 use Rattle.can_frame.specs.Parts.{Parts}
@@ -8,8 +8,11 @@ use Rattle.can_wire.specs.Stuffing.{stuffed}
 use Rattle.can_wire.specs.Wire.{head, unstuffed, stuffed_part, wire}
 use Rattle.can_hit.specs.declared.hit.Hit.{Hit}
 use Rattle.can_hit.specs.declared.hit.Hit.TheVariants.{In}
+use Rattle.can_bus.specs.Course.{course_tally}
 use Rattle.can_bus.specs.Quiet.{span}
-use Rattle.can_bus.specs.Repair.{Tally, tally, tally_after, repaired_span, unstuffed_before}
+use Rattle.can_bus.specs.RepairedLine.{lateness}
+use Rattle.can_bus.specs.Attempts.{Tally, unstuffed_before}
+use Rattle.can_bus.specs.Repair.{repaired_course, tally, repaired_span}
 
 -- S 000 D 0 and S 001 D 0
 abbrev least : Parts
@@ -43,29 +46,29 @@ abbrev from : ℕ → ℕ → List Hit
 from number zero = []
 from number (suc n) = In number 16 ∷ from (number + 1) n
 
-sender_after_fifteen : tally_after (least ∷ []) (least ∷ []) (from 0 15) 15 ≡ counts 120 0
-unfolding arbitration_field bits_of crc_of head unstuffed stuffed stuffed_part
+sender_after_fifteen : course_tally (least ∷ []) (take 15 (repaired_course (least ∷ []) (from 0 15))) (counts 0 0) ≡ counts 120 0
+unfolding repaired_course lateness arbitration_field bits_of crc_of head unstuffed stuffed stuffed_part
 sender_after_fifteen = refl
 
-receiver_after_fifteen : tally_after [] (least ∷ []) (from 0 15) 15 ≡ counts 0 15
-unfolding arbitration_field bits_of crc_of head unstuffed stuffed stuffed_part
+receiver_after_fifteen : course_tally [] (take 15 (repaired_course (least ∷ []) (from 0 15))) (counts 0 0) ≡ counts 0 15
+unfolding repaired_course lateness arbitration_field bits_of crc_of head unstuffed stuffed stuffed_part
 receiver_after_fifteen = refl
 
 sender_of_fifteen : tally (least ∷ []) (least ∷ []) (from 0 15) ≡ counts 119 0
-unfolding arbitration_field bits_of crc_of head unstuffed stuffed stuffed_part
+unfolding repaired_course lateness arbitration_field bits_of crc_of head unstuffed stuffed stuffed_part
 sender_of_fifteen = refl
 
 receiver_of_fifteen : tally [] (least ∷ []) (from 0 15) ≡ counts 0 14
-unfolding arbitration_field bits_of crc_of head unstuffed stuffed stuffed_part
+unfolding repaired_course lateness arbitration_field bits_of crc_of head unstuffed stuffed stuffed_part
 receiver_of_fifteen = refl
 
 -- the second of two frames hit, each at a port of its own
 sender_of_second : tally (next ∷ []) (least ∷ next ∷ []) (In 1 19 ∷ []) ≡ counts 7 0
-unfolding arbitration_field bits_of crc_of head unstuffed stuffed stuffed_part
+unfolding repaired_course lateness arbitration_field bits_of crc_of head unstuffed stuffed stuffed_part
 sender_of_second = refl
 
 receiver_of_second : tally (least ∷ []) (least ∷ next ∷ []) (In 1 19 ∷ []) ≡ counts 0 0
-unfolding arbitration_field bits_of crc_of head unstuffed stuffed stuffed_part
+unfolding repaired_course lateness arbitration_field bits_of crc_of head unstuffed stuffed stuffed_part
 receiver_of_second = refl
 
 bound_of_second : repaired_span (least ∷ next ∷ []) (In 1 19 ∷ []) ≡ 146
@@ -74,9 +77,9 @@ bound_of_second = refl
 
 -- a hit behind the ACK slot
 sender_at_48 : tally (least ∷ []) (least ∷ []) (In 0 48 ∷ []) ≡ counts 7 0
-unfolding arbitration_field bits_of crc_of head unstuffed stuffed stuffed_part
+unfolding repaired_course lateness arbitration_field bits_of crc_of head unstuffed stuffed stuffed_part
 sender_at_48 = refl
 
 receiver_at_48 : tally [] (least ∷ []) (In 0 48 ∷ []) ≡ counts 0 0
-unfolding arbitration_field bits_of crc_of head unstuffed stuffed stuffed_part
+unfolding repaired_course lateness arbitration_field bits_of crc_of head unstuffed stuffed stuffed_part
 receiver_at_48 = refl

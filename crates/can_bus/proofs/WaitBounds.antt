@@ -10,17 +10,17 @@ use Rattle.can_frame.specs.Arbitration.{arbitration_field, Before}
 use Rattle.can_wire.proofs.WireLemmas.{length-wire-le}
 use Rattle.can_node.specs.Ports.{goes_before, same_field}
 use Rattle.can_node.proofs.WaitingLemmas.{Shares-same_field}
-use Rattle.can_bus.specs.Quiet.{AreDifferent, busy_time}
-use Rattle.can_bus.specs.Schedule.{TimedParts, Lists, IsScheduleOf, StartsAt, frames_of, without_offer}
-use Rattle.can_bus.specs.Waiting.{left_at, starts_between, ahead_of, busy_times, FindsFree}
+use Rattle.can_bus.specs.Quiet.{AreDifferent, busy_time, span}
+use Rattle.can_bus.specs.Timed.{TimedParts, Lists, frames_of, without_offer}
+use Rattle.can_bus.specs.Schedule.{IsScheduleOf, StartsAt, unhit}
+use Rattle.can_bus.specs.Waiting.{left_at, starts_between, FindsFree}
+use Rattle.can_bus.specs.CourseWaiting.{ahead_of, busy_times, AreInTime, IsSentBy, attempts_between, going_before, hit_attempts, keeping, kept_times, left_behind, left_by, of_field, sends_of, sent_attempts}
 use Rattle.can_bus.proofs.Members.{stands-none, stands-here, stands-later, stands-cases, filter-stands, stands-filter}
-use Rattle.can_bus.proofs.NextStarts.{AllDiffer, differ-from, one-of-field}
-use Rattle.can_bus.proofs.Schedules.{starts-offered, schedule-frames}
-use Rattle.can_bus.specs.Course.{Transmission, IsCourse, over, sent, broken, IsMade, unhit}
-use Rattle.can_bus.specs.CourseWaiting.{AreInTime, IsSentBy, attempts_between, going_before, hit_attempts, keeping, kept_times, left_behind, left_by, of_field, sends_of, sent_attempts}
+use Rattle.can_bus.proofs.LeftOffers.{AllDiffer, differ-from, one-of-field}
+use Rattle.can_bus.specs.Course.{Transmission, IsCourse, over, sent, broken, IsMade}
 use Rattle.can_bus.proofs.Ascending.{different_permuted}
-use Rattle.can_bus.proofs.CourseDelays.{bound as course-bound, busy-weighed, exact as course-exact, few as course-few, meanwhile as course-meanwhile, weigh, weigh-first, length-weigh, some-first, waits-unhit}
-use Rattle.can_bus.proofs.CourseSchedules.{schedule-course}
+use Rattle.can_bus.proofs.CourseDelays.{bound as course-bound, busy-weighed, exact as course-exact, few as course-few, meanwhile as course-meanwhile, weigh, weigh-first, length-weigh, some-first}
+use Rattle.can_bus.proofs.CourseSchedules.{made-unhit, one_unhit, schedule-frames, starts-offered, unhit-made}
 use Rattle.can_bus.proofs.CourseTracks.{course-free}
 use Rattle.can_bus.proofs.CourseWaits.{between-before, between-late, between-more, between-none, sends-more, sends-other}
 use Rattle.can_bus.proofs.Fields.{field-skip, field-without}
@@ -29,18 +29,6 @@ use Rattle.can_bus.proofs.OwnOffers.{without-absent}
 use Rattle.can_bus.proofs.QuietLogs.{other-test}
 
 -- ---- a schedule is a course without hits
-
-abbrev one_unhit : TimedParts → Transmission
-one_unhit s = record { time = s.time; frame = s.frame; hit = None }
-
-unhit-made : (starts : List TimedParts) (s : TimedParts) → Lists starts s → IsMade (unhit starts) (one_unhit s)
-unhit-made [] s there = absurd (stands-none s there)
-unhit-made (x ∷ starts) s there = elim (stands-cases x starts s there) [ inl e ↦ inl (ap one_unhit e) | inr later ↦ inr (unhit-made starts s later) ]
-
-made-unhit : (starts : List TimedParts) (z : Transmission) → IsMade (unhit starts) z → (s : TimedParts) × Lists starts s × (one_unhit s ≡ z)
-made-unhit [] z made = absurd made
-made-unhit (x ∷ starts) z (inl here) = (x, stands-here x starts, here)
-made-unhit (x ∷ starts) z (inr later) = let there = made-unhit starts z later in (there.0, stands-later x starts there.0 there.1, there.2)
 
 -- no other offer of its field stands before an offer
 none-before : (offers : List TimedParts) (n : ℕ) (x : TimedParts) → AllDiffer offers → slice_get offers n ≡ Some x → of_field x.frame (take n offers) ≡ []
@@ -113,6 +101,15 @@ between-unhit from until (s ∷ starts) = by_test (nat_le from s.time && nat_lt 
     by_test : (b : Bool) (s : TimedParts) (some : List Transmission) (others : List TimedParts) → some ≡ unhit others → cond b (one_unhit s ∷ some) some ≡ unhit (cond b (s ∷ others) others)
     by_test true s some others same = ap (λ l. one_unhit s ∷ l) same
     by_test false s some others same = same
+
+kept-starts : (starts : List TimedParts) → kept_times (unhit starts) ≡ busy_times starts
+unfolding span
+kept-starts [] = refl
+kept-starts (s ∷ starts) =
+    omega (arith, kept-starts starts, sum_by-cons (λ (z : Transmission). keeping z.frame z.hit) (one_unhit s) (unhit starts), sum_by-cons busy_time s.frame (frames_of starts))
+
+pub kept-unhit : (from until : ℕ) (starts : List TimedParts) → kept_times (attempts_between from until (unhit starts)) ≡ busy_times (starts_between from until starts)
+kept-unhit from until starts = ap kept_times (between-unhit from until starts) ∙ kept-starts (starts_between from until starts)
 
 -- all of them are sent
 length-sent : (starts : List TimedParts) → length (sent_attempts (unhit starts)) ≡ length starts
@@ -188,10 +185,10 @@ module _ (offers starts : List TimedParts) (is : IsScheduleOf offers starts) (of
   apart = differ-from offers is.different
 
   starts-apart : AllDiffer starts
-  starts-apart = differ-from starts (different_permuted (frames_of offers) (frames_of starts) (schedule-frames is.scheduled) is.different)
+  starts-apart = differ-from starts (different_permuted (frames_of offers) (frames_of starts) (schedule-frames offers starts is) is.different)
 
   course : IsCourse [] 0 0 offers (unhit starts)
-  course = schedule-course 0 is.scheduled apart
+  course = is.scheduled
 
   rise : AreInTime offers
   rise m n x y less a b same =
@@ -209,8 +206,7 @@ module _ (offers starts : List TimedParts) (is : IsScheduleOf offers starts) (of
   pub exact : start.time ≡ offer.time + left_at offer.time starts + busy_times (starts_between offer.time start.time starts)
   exact =
       let wait = course-exact [] offers (unhit starts) course rise at.is_offer.0 offer (one_unhit start) by in
-      let same = waits-unhit starts offer.time offer.time start.time in
-      omega (arith, wait, same.0, same.1)
+      omega (arith, wait, kept-unhit offer.time start.time starts)
 
   pub meanwhile : (s : TimedParts) → Lists starts s → offer.time ≤ s.time → s.time < start.time → Before (arbitration_field s.frame) (arbitration_field offer.frame)
   meanwhile s there from until = elim (course-meanwhile [] offers (unhit starts) course rise at.is_offer.0 offer (one_unhit start) by (one_unhit s) (unhit-made starts s there) from until) [
@@ -232,7 +228,7 @@ module _ (offers starts : List TimedParts) (is : IsScheduleOf offers starts) (of
   bound =
       let wait = course-bound [] offers (unhit starts) course rise at.is_offer.0 offer (one_unhit start) by in
       let none = ap (λ l. kept_times (hit_attempts l)) same_between ∙ ap kept_times (none-hit (starts_between offer.time start.time starts)) in
-      omega (arith, wait, fewer.0, none, (waits-unhit starts offer.time offer.time start.time).0)
+      omega (arith, wait, fewer.0, none)
 
   pub few : length (starts_between offer.time start.time starts) ≤ length (ahead_of offer.frame start.time offers)
   few =
@@ -242,8 +238,8 @@ module _ (offers starts : List TimedParts) (is : IsScheduleOf offers starts) (of
 
   short-starts : (most : ℕ) → AreShort most offers → AreShort most starts
   short-starts most short s there =
-      let back = starts-offered is.scheduled s there in
-      subst (λ f. busy_time f ≤ suc most) back.same (short back.offer back.is_offer)
+      let back = starts-offered offers starts is s there in
+      subst (λ f. busy_time f ≤ suc most) back.3 (short back.0 back.1)
 
   wait-le : (most : ℕ) → AreShort most offers → start.time ≤ offer.time + most + length (starts_between offer.time start.time starts) * suc most
   wait-le most short =
@@ -268,14 +264,13 @@ module _ (offers starts : List TimedParts) (is : IsScheduleOf offers starts) (of
     | inl late ↦
         let none : (z : Transmission) → IsMade (unhit starts) z → z.time ≢ offer.time = λ z made now.
         let there = made-unhit starts z made in
-        let back = starts-offered is.scheduled there.0 there.1 in
+        let back = starts-offered offers starts is there.0 there.1 in
         let same : there.0.time ≡ z.time = ap (λ (y : Transmission). y.time) there.2 in
         let goes = meanwhile there.0 there.1 (omega (arith, same, now)) (omega (arith, same, now, late)) in
-        let before = found.started back.offer there.0 (record { is_offer = back.is_offer; is_start = there.1; same = sym back.same }) (omega (arith, back.in_time, same, now))
-        (subst (λ f. Before (arbitration_field f) (arbitration_field offer.frame)) (sym back.same) goes) in
+        let before = found.started back.0 there.0 (record { is_offer = back.1; is_start = there.1; same = sym back.3 }) (omega (arith, back.2, same, now))
+        (subst (λ f. Before (arbitration_field f) (arbitration_field offer.frame)) (sym back.3) goes) in
         omega (arith, before, same, now) in
         let less = kept-less course offer.time none (one_unhit start) (unhit-made starts start at.is_start) late in
         let wait = exact in
-        let same = waits-unhit starts offer.time offer.time start.time in
-        absurd (omega (arith, less, wait, found.free, same.1))
+        absurd (omega (arith, less, wait, found.free, kept-unhit offer.time start.time starts))
   ]

@@ -1,7 +1,7 @@
 -- The course of a bus to which frames are offered while it goes on, and on which frames are disturbed and sent again: which frame
 -- each attempt sends, when it starts, and where it is hit. It knows no port, no phase and no counter.
 -- (docs/BUS.md, "The course"; Bosch CAN 2.0 part B, sections 2, 3.2.1, 3.2.3, 3.2.5 and 6)
-use Rattle.std.specs.Prelude.{ℕ, ◌≡◌, ◌+◌, ◌-◌, ◌≤◌, zero, suc, max, nat_lt, nat_le, ◌&&◌, if◌then◌else◌, ◌⊎◌, List, [], ◌∷◌, filter, length, map, slice_index_or, Option, Some, None}
+use Rattle.std.specs.Prelude.{ℕ, ◌≡◌, ◌+◌, ◌-◌, ◌≤◌, zero, suc, max, nat_lt, nat_le, ◌&&◌, if◌then◌else◌, ◌⊎◌, List, [], ◌∷◌, filter, length, slice_index_or, Option, Some, None}
 use Rattle.can_frame.specs.declared.level.Level.{Level}
 use Rattle.can_frame.specs.declared.level.Level.TheVariants.{Recessive}
 use Rattle.can_frame.specs.Parts.{Parts}
@@ -10,9 +10,9 @@ use Rattle.can_node.specs.Ports.{waiting}
 use Rattle.can_node.specs.Waiting.{IsWaiting}
 use Rattle.can_hit.specs.declared.hit.Hit.{Hit}
 use Rattle.can_bus.specs.Quiet.{holds, busy_time}
-use Rattle.can_bus.specs.Repair.{IsInWindow, Tally, hit_of, tallied}
+use Rattle.can_bus.specs.Attempts.{IsInWindow, Tally, hit_of, tallied}
 use Rattle.can_bus.specs.RepairedLine.{attempt_levels, lateness}
-use Rattle.can_bus.specs.Schedule.{TimedParts, Lists, earliest, offered_by, without_offer}
+use Rattle.can_bus.specs.Timed.{TimedParts, Lists, earliest, offered_by, without_offer}
 
 -- an attempt to send a frame: when it starts, which frame, and which of its levels is hit, if one is
 pub record Transmission : Type 0 where
@@ -68,10 +68,6 @@ abbrev pub and_hit : Option ℕ → ℕ → ℕ
 and_hit None hits = hits
 and_hit (Some offset) hits = hits + 1
 
--- the starts of a schedule, as attempts that aren't hit
-abbrev pub unhit : List TimedParts → List Transmission
-unhit starts = map (λ (s : TimedParts). let x : Transmission = record { time = s.time; frame = s.frame; hit = None } in x) starts
-
 -- how many of them are hit
 abbrev pub hits_made : List Transmission → ℕ
 hits_made [] = 0
@@ -81,7 +77,7 @@ hits_made (s ∷ course) = and_hit s.hit (hits_made course)
 unfoldable pub course_at : List Transmission → ℕ → Level
 course_at [] t = Recessive
 course_at (s ∷ course) t =
-    let levels = attempt_levels (Some s.frame) s.hit in
+    let levels = attempt_levels s.frame s.hit in
     if nat_le s.time t && nat_lt t (s.time + length levels) then slice_index_or levels (t - s.time) Recessive else course_at course t
 
 -- how long an attempt lasts: as long as the wire of its frame, or as what a hit makes of it keeps the bus

@@ -4,12 +4,11 @@ use Rattle.std.specs.Prelude.{ℕ, ◌≡◌, ◌+◌, ◌-◌, ◌≤◌, ◌<�
 use Rattle.std.specs.List.{sum_by}
 use Rattle.can_frame.specs.Arbitration.{arbitration_field}
 use Rattle.can_frame.specs.Parts.{Parts}
-use Rattle.can_node.specs.Ports.{same_field}
+use Rattle.can_node.specs.Ports.{goes_before, same_field}
 use Rattle.can_hit.specs.declared.hit.Hit.{Hit}
 use Rattle.can_bus.specs.Course.{IsCourse, Transmission, hit_time}
-use Rattle.can_bus.specs.Quiet.{busy_time}
-use Rattle.can_bus.specs.Schedule.{TimedParts, without_offer}
-use Rattle.can_bus.specs.Waiting.{ahead_of}
+use Rattle.can_bus.specs.Quiet.{busy_time, span}
+use Rattle.can_bus.specs.Timed.{TimedParts, frames_of, without_offer}
 
 -- of one arbitration field no offer is made earlier than one that stands before it
 abbrev pub AreInTime : List TimedParts → Type 0
@@ -69,6 +68,14 @@ left_by f (Some offset) offers = offers
 abbrev pub left_behind : List TimedParts → List Transmission → List TimedParts
 left_behind offers [] = offers
 left_behind offers (s ∷ course) = left_behind (left_by s.frame s.hit offers) course
+
+-- the offers that are made before this time, and go before f in arbitration
+abbrev pub ahead_of : Parts → ℕ → List TimedParts → List TimedParts
+ahead_of f t offers = filter (λ x. goes_before x.frame f && nat_lt x.time t) offers
+
+-- how long these frames keep the bus, one after another
+abbrev pub busy_times : List TimedParts → ℕ
+busy_times timed = span (frames_of timed)
 
 -- The offers that go before the one at this place, which starts at this time, of those that are left when it is made: those that win
 -- arbitration against it and are made before it starts, and those of its field that stand before it.

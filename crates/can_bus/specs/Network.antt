@@ -1,7 +1,6 @@
 -- A network: a bus to whose ports frames are offered while it goes on, each arbitration field at one port, and on which frames are
 -- disturbed and sent again. (docs/BUS.md, "Networks"; Bosch CAN 2.0 part B, sections 2, 3.2.5, 6 and 8)
-use Rattle.std.specs.Prelude.{ℕ, zero, suc, ◌≡◌, ◌≢◌, ◌+◌, ◌*◌, ◌<◌, ◌≤◌, List, [], ◌++◌, length, map, slice_get, take, Some}
-use Rattle.can_frame.specs.declared.level.Level.{Level}
+use Rattle.std.specs.Prelude.{ℕ, ◌≡◌, ◌≢◌, ◌+◌, ◌*◌, ◌<◌, ◌≤◌, List, [], ◌++◌, length, map, slice_get, take, Some}
 use Rattle.can_frame.specs.Arbitration.{arbitration_field}
 use Rattle.can_frame.specs.IdleRow.{idle_row}
 use Rattle.can_fault.specs.declared.state.State.TheVariants.{Active}
@@ -9,36 +8,15 @@ use Rattle.can_fault.specs.Counters.{state_of}
 use Rattle.can_mac.specs.declared.phase.Phase.TheVariants.{Idle}
 use Rattle.can_node.specs.Ports.{PortState}
 use Rattle.can_hit.specs.declared.hit.Hit.{Hit}
-use Rattle.can_hit.specs.declared.hit.Hit.TheVariants.{In}
 use Rattle.can_bus.specs.declared.offer.Offer.{Offer}
 use Rattle.can_bus.specs.Course.{IsCourse, IsMade, Transmission, course_tally, ended_by, frames_sent}
 use Rattle.can_bus.specs.CourseWaiting.{keeping}
-use Rattle.can_bus.specs.Offers.{AreOffered, all_made, refused_at}
+use Rattle.can_bus.specs.Offers.{AreOffered}
 use Rattle.can_bus.specs.OpenBus.{QueuesHaveRoom, all_offers, offered_to, own_offers, timed}
 use Rattle.can_bus.specs.Quiet.{AtEachPort, IsPrefixOf, marked}
-use Rattle.can_bus.specs.Repair.{AreApart, IsLow, Tally}
-use Rattle.can_bus.specs.Run.{BusState, CallState, bus_step, call_begun, recorded}
-use Rattle.can_bus.specs.Schedule.{Lists, TimedParts, frames_of}
-
--- The call, one bit time after another.
-
--- with the offers of its bit time made
-abbrev pub offered_now : List Offer → CallState → CallState
-offered_now offers c = record c { bus = record c.bus { ports = all_made offers c.time c.bus.ports } }
-
--- the call after n bit times
-unfoldable pub call_after : List Offer → List Hit → ℕ → BusState → CallState
-call_after offers hits zero bus = call_begun bus
-call_after offers hits (suc n) bus = bus_step hits (offered_now offers (call_after offers hits n bus))
-
--- the level that is recorded at time t
-unfoldable pub call_level : List Offer → List Hit → ℕ → BusState → Level
-call_level offers hits t bus = recorded hits (offered_now offers (call_after offers hits t bus))
-
--- how many offers of the first n bit times find a full queue
-unfoldable pub call_refused : List Offer → List Hit → ℕ → BusState → ℕ
-call_refused offers hits zero bus = 0
-call_refused offers hits (suc n) bus = call_refused offers hits n bus + refused_at offers n (call_after offers hits n bus).bus.ports
+use Rattle.can_bus.specs.Attempts.{AreApart, IsLow, Tally, AreInAttempts}
+use Rattle.can_bus.specs.Run.{BusState}
+use Rattle.can_bus.specs.Timed.{Lists, TimedParts, frames_of}
 
 -- What is asked of it.
 
@@ -57,10 +35,6 @@ pub record IsFit (entries : ℕ) (p : PortState) : Type 0 where
 abbrev pub FieldsAreOwned : List Offer → List PortState → Type 0
 FieldsAreOwned offers ports = (m n : ℕ) (p q : PortState) → m < n → slice_get ports m ≡ Some p → slice_get ports n ≡ Some q →
     (x y : TimedParts) → Lists (own_offers offers m p) x → Lists (own_offers offers n q) y → arbitration_field x.frame ≢ arbitration_field y.frame
-
--- each hit falls within an attempt
-abbrev pub AreInAttempts : List Hit → Type 0
-AreInAttempts hits = (n : ℕ) (hit : Hit) → slice_get hits n ≡ Some hit → (attempt offset : ℕ) × (hit ≡ In attempt offset)
 
 -- the tally of each port stays that of an error active one, behind each attempt
 abbrev pub CourseIsBorne : List Offer → List PortState → List Transmission → Type 0

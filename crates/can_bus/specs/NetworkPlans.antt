@@ -6,11 +6,11 @@ use Rattle.can_hit.specs.declared.hit.Hit.{Hit}
 use Rattle.can_hit.specs.declared.hit.Hit.TheVariants.{In}
 use Rattle.can_bus.specs.declared.offer.Offer.{Offer}
 use Rattle.can_bus.specs.Course.{HitInWindows, Transmission, course_of}
-use Rattle.can_bus.specs.Network.{AreInAttempts, CourseIsBorne, FieldsAreOwned}
+use Rattle.can_bus.specs.Attempts.{AreInAttempts, AreApart, IsInWindow}
+use Rattle.can_bus.specs.Network.{CourseIsBorne, FieldsAreOwned}
 use Rattle.can_bus.specs.Offers.{AreOffered}
 use Rattle.can_bus.specs.OpenBus.{all_offers}
 use Rattle.can_bus.specs.Plans.{PlannedPort, planned, ready_port}
-use Rattle.can_bus.specs.Repair.{AreApart, IsInWindow}
 
 -- the course of all frames at these ports, as it is computed
 abbrev pub network_course : List Offer → List Hit → List PortState → List Transmission

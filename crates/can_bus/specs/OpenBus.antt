@@ -9,7 +9,8 @@ use Rattle.can_bus.specs.Offers.{AreOffered, all_made}
 use Rattle.can_bus.specs.Plans.{PlannedPort, planned}
 use Rattle.can_bus.specs.Quiet.{AreDifferent, IsPrefixOf, IsQuietPort, marked, queued}
 use Rattle.can_bus.specs.Run.{BusState}
-use Rattle.can_bus.specs.Schedule.{IsScheduleOf, Lists, TimedParts, frames_of}
+use Rattle.can_bus.specs.Schedule.{IsScheduleOf}
+use Rattle.can_bus.specs.Timed.{Lists, TimedParts, frames_of}
 
 -- frames that wait as the call begins: each counts as an offer at time 0
 abbrev pub offered_first : List Parts → List TimedParts

@@ -1,6 +1,6 @@
--- The recorded levels of a bus on which frames are disturbed and sent again, as a function of the frames and the hits.
+-- The levels of an attempt, hit or not, as they are recorded.
 -- (Bosch CAN 2.0 part B, sections 3.2.3, 6 and 7)
-use Rattle.std.specs.Prelude.{ℕ, zero, suc, ◌+◌, List, [], ◌∷◌, ◌++◌, length, take, drop, replicate, Option, Some, None, slice_index_or}
+use Rattle.std.specs.Prelude.{ℕ, zero, suc, ◌+◌, List, ◌∷◌, ◌++◌, take, drop, replicate, Option, Some, None}
 use Rattle.can_frame.specs.declared.level.Level.{Level}
 use Rattle.can_frame.specs.declared.level.Level.TheVariants.{Dominant, Recessive}
 use Rattle.can_frame.specs.Levels.{opposite}
@@ -11,8 +11,6 @@ use Rattle.can_code.specs.declared.fault.CodeFaultKind.TheVariants.{Crc}
 use Rattle.can_wire.specs.Wire.{wire}
 use Rattle.can_wire.specs.Layout.{level_at}
 use Rattle.can_code.specs.Front.{FrontParts, first_front, next_place, hear_at, heard_levels}
-use Rattle.can_hit.specs.declared.hit.Hit.{Hit}
-use Rattle.can_bus.specs.Repair.{frame_of_attempt, hit_of}
 use Rattle.can_mac.specs.Frames.{with_intermission}
 
 -- f is hit at this offset: its levels before it, the opposite of the level there, and so many dominant levels
@@ -41,16 +39,6 @@ refused_place kind place = place
 -- The levels of an attempt. One that isn't hit has those of its frame, and three of intermission. One that is hit has those of its frame
 -- up to the hit; then the error flags, six dominant levels of the sender and as many more as the receivers are late; then eleven
 -- recessive levels, of delimiter and intermission.
-abbrev pub attempt_levels : Option Parts → Option ℕ → List Level
-attempt_levels None hit = []
-attempt_levels (Some f) None = with_intermission f
-attempt_levels (Some f) (Some offset) = struck f offset (6 + lateness f offset) ++ replicate idle_row Recessive
-
--- the levels of the first attempts, so many of them
-abbrev pub first_attempts : List Parts → List Hit → ℕ → List Level
-first_attempts frames hits zero = []
-first_attempts frames hits (suc number) = first_attempts frames hits number ++ attempt_levels (frame_of_attempt frames hits number) (hit_of hits number)
-
--- the level at a time: of all attempts, one for each frame and one more for each hit, and recessive ever after
-unfoldable pub repaired_line_at : List Parts → List Hit → ℕ → Level
-repaired_line_at frames hits t = slice_index_or (first_attempts frames hits (length frames + length hits)) t Recessive
+abbrev pub attempt_levels : Parts → Option ℕ → List Level
+attempt_levels f None = with_intermission f
+attempt_levels f (Some offset) = struck f offset (6 + lateness f offset) ++ replicate idle_row Recessive

@@ -5,37 +5,34 @@ ghost use Rattle.can_frame.specs.Parts.{IsFrame};
 ghost use Rattle.can_node.specs.Ports.{PortState};
 ghost use Rattle.can_hit.specs.declared.hit.Hit.{Hit as Disturbance};
 ghost use Rattle.can_bus.specs.declared.offer.Offer.{Offer};
-ghost use Rattle.can_bus.specs.Course.{HitInWindows, IsCourse, IsMade, Transmission, course_of, unhit};
-ghost use Rattle.can_bus.specs.CourseWaiting.{AreInTime, IsSentBy, OnWait, attempts_between, going_before, hit_attempts, keeping, kept_times, left_on, sent_attempts};
-ghost use Rattle.can_bus.specs.Network.{AreInAttempts};
+ghost use Rattle.can_bus.specs.Course.{HitInWindows, IsCourse, IsMade, Transmission, course_of};
+ghost use Rattle.can_bus.specs.Schedule.{unhit, schedule};
+ghost use Rattle.can_bus.specs.CourseWaiting.{AreInTime, IsSentBy, OnWait, attempts_between, going_before, hit_attempts, keeping, kept_times, left_on, sent_attempts, ahead_of, busy_times};
 ghost use Rattle.can_bus.specs.Offers.{AreOffered};
 ghost use Rattle.can_bus.specs.OpenBus.{all_offers};
 ghost use Rattle.can_bus.specs.Quiet.{AreDifferent, ascending, busy_time};
-ghost use Rattle.can_bus.specs.Repair.{AreApart, FallInWindows, frame_of_attempt, hit_of};
-ghost use Rattle.can_bus.specs.Schedule.{AreAtOnce, IsScheduleOf, Lists, TimedParts, frames_of, schedule};
-ghost use Rattle.can_bus.specs.Waiting.{ahead_of, busy_times, left_at, starts_between};
+ghost use Rattle.can_bus.specs.Repair.{FallInWindows, repaired_course};
+ghost use Rattle.can_bus.specs.Timed.{AreAtOnce, TimedParts, frames_of};
+ghost use Rattle.can_bus.specs.Waiting.{starts_between};
 
-/// Offers and hits, at most one in an attempt, have one course at most. It is the one that is computed, if in that
-/// one each attempt that is hit is so in the window of its frame.
+/// Offers and hits have one course at most. It is the one that is computed, if in that one each attempt that is hit
+/// is so in the window of its frame.
 pub fn one_course()
-    ensures exists { (hits : List Disturbance) (offers : List TimedParts) → AreInAttempts hits → AreApart 1 hits → HitInWindows (course_of hits offers) →
-        IsCourse hits 0 0 offers (course_of hits offers) }
-    ensures only { (hits : List Disturbance) (offers : List TimedParts) (course : List Transmission) → AreInAttempts hits → AreApart 1 hits → IsCourse hits 0 0 offers course →
+    ensures exists { (hits : List Disturbance) (offers : List TimedParts) → HitInWindows (course_of hits offers) → IsCourse hits 0 0 offers (course_of hits offers) }
+    ensures only { (hits : List Disturbance) (offers : List TimedParts) (course : List Transmission) → IsCourse hits 0 0 offers course →
         (course ≡ course_of hits offers) × HitInWindows course }
 {}
 
-/// Where nothing is hit, and no two offers have one arbitration field, the course is the schedule.
+/// Where nothing is hit, and no two offers have one arbitration field, the course is the schedule that is computed.
 pub fn a_course_without_hits_is_a_schedule()
-    ensures from_schedule { (offers starts : List TimedParts) → IsScheduleOf offers starts → IsCourse [] 0 0 offers (unhit starts) }
-    ensures to_schedule { (offers : List TimedParts) (course : List Transmission) → AreDifferent (frames_of offers) → IsCourse [] 0 0 offers course → course ≡ unhit (schedule offers) }
+    ensures { (offers : List TimedParts) (course : List Transmission) → AreDifferent (frames_of offers) → IsCourse [] 0 0 offers course → course ≡ unhit (schedule offers) }
 {}
 
-/// Where all frames are offered at time 0, no two of one arbitration field, each attempt of the course sends the frame of the
-/// ascending list that its number tells, and is hit where its number says.
+/// Where all frames are offered at time 0, no two of one arbitration field, the attempts of the course send those of the ascending
+/// list one after another, each as often as it is hit and once more.
 pub fn a_course_at_once_ascends()
-    ensures { (hits : List Disturbance) (offers : List TimedParts) → AreDifferent (frames_of offers) → AreAtOnce offers →
-        FallInWindows (ascending (frames_of offers)) hits → AreApart 1 hits → (course : List Transmission) → IsCourse hits 0 0 offers course →
-        (n : ℕ) (s : Transmission) → slice_get course n ≡ Some s → (frame_of_attempt (ascending (frames_of offers)) hits n ≡ Some s.frame) × (hit_of hits n ≡ s.hit) }
+    ensures { (hits : List Disturbance) (offers : List TimedParts) → AreDifferent (frames_of offers) → AreAtOnce offers → FallInWindows (ascending (frames_of offers)) hits →
+        (course : List Transmission) → IsCourse hits 0 0 offers course → course ≡ repaired_course (ascending (frames_of offers)) hits }
 {}
 
 /// Each frame that is offered to a network is sent, by one attempt: when what is left, as it is offered, of the attempt on the
@@ -58,8 +55,7 @@ pub fn waiting_on_a_network_is_bounded()
         s.time ≤ offer.time + left_on offer.time course + busy_times (going_before offers course place offer s.time) + kept_times (hit_attempts (attempts_between offer.time s.time course))) }
     ensures few { OnWait (λ hits offers course place offer s.
         length (sent_attempts (attempts_between offer.time s.time course)) ≤ length (going_before offers course place offer s.time)) }
-    ensures without_hits { (starts : List TimedParts) (t from until : ℕ) → (left_on t (unhit starts) ≡ left_at t starts)
-        × (kept_times (attempts_between from until (unhit starts)) ≡ busy_times (starts_between from until starts)) }
+    ensures without_hits { (starts : List TimedParts) (from until : ℕ) → kept_times (attempts_between from until (unhit starts)) ≡ busy_times (starts_between from until starts) }
     ensures one_of_a_field { (offers : List TimedParts) (course : List Transmission) (place t : ℕ) (offer : TimedParts) → AreDifferent (frames_of offers) → slice_get offers place ≡ Some offer →
         (busy_times (going_before offers course place offer t) ≤ busy_times (ahead_of offer.frame t offers)) × (length (going_before offers course place offer t) ≤ length (ahead_of offer.frame t offers)) }
     ensures costs { (hits : List Disturbance) (offers : List TimedParts) (course : List Transmission) → IsCourse hits 0 0 offers course →

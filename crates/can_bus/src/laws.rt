@@ -1,5 +1,5 @@
 //! Laws of the definitions, each a function that does nothing and ensures it.
-ghost use Rattle.std.specs.Prelude.{◌≡◌, ◌<◌, ◌≤◌, ◌+◌, ◌-◌, ◌↔◌, ◌⊎◌, ℕ, true, List, [], drop, length, map, take, None};
+ghost use Rattle.std.specs.Prelude.{◌≡◌, ◌<◌, ◌≤◌, ◌+◌, ◌-◌, ◌↔◌, ◌⊎◌, ℕ, suc, true, List, [], drop, length, map, take, None};
 ghost use Rattle.std.specs.Ordering.{partial_lt};
 ghost use Rattle.std.specs.List.{zip};
 ghost use Rattle.std.specs.List.Sorted.{IsPermutation};
@@ -16,11 +16,13 @@ ghost use Rattle.can_hit.specs.declared.hit.Hit.{Hit as Disturbance};
 ghost use Rattle.can_bus.specs.Agreement.{AreAlike, LogsAgree};
 ghost use Rattle.can_bus.specs.DisturbedPlay.{IsDisturbedRun, WasDisturbed, all_given, played_then};
 ghost use Rattle.can_hit.specs.Hits.{AreTaken, is_above};
-ghost use Rattle.can_bus.specs.Offers.{played, played_level};
+ghost use Rattle.can_bus.specs.Offers.{all_made, played, played_level};
+ghost use Rattle.can_bus.specs.declared.offer.Offer.{Offer as Asked};
 ghost use Rattle.can_bus.specs.Plans.{FitsQueue, IsQuietPlan, PlannedPort, planned, ready_port};
 ghost use Rattle.can_bus.specs.Quiet.{AreDifferent, IsAscending, IsQuiet, IsQuietCall, ascending, line_at, queued, span};
-ghost use Rattle.can_bus.specs.Repair.{AreApart, AreBorne, AreOfOnePort, FallInWindows, IsInWindow, IsRepairedCall, repaired_span, tally};
-ghost use Rattle.can_bus.specs.RepairedLine.{lateness, refused_place, repaired_line_at, struck};
+ghost use Rattle.can_bus.specs.Attempts.{AreApart, IsInWindow};
+ghost use Rattle.can_bus.specs.Repair.{AreBorne, AreOfOnePort, FallInWindows, IsRepairedCall, repaired_span, tally, repaired_line_at};
+ghost use Rattle.can_bus.specs.RepairedLine.{lateness, refused_place, struck};
 ghost use Rattle.can_bus.specs.Run.{AreLevelsOf, BusState, bus_level, bus_run};
 
 use can_hit::Hit;
@@ -55,10 +57,15 @@ pub fn runs_join()
     ensures levels { (m t : ℕ) (bus : BusState) → bus_level [] (m + t) bus ≡ bus_level [] t (bus_run [] m bus) }
 {}
 
-/// Where nothing is offered, a bus that is played is a run without disturbances.
+/// Where nothing is offered, a bus that is played is a run without disturbances. Else it is runs of one bit time, one after
+/// another, before each of which the offers of its number are made.
 pub fn a_run_without_offers_is_a_run()
     ensures bus { (n : ℕ) (bus : BusState) → played [] n bus ≡ bus_run [] n bus }
     ensures levels { (t : ℕ) (bus : BusState) → played_level [] t bus ≡ bus_level [] t bus }
+    ensures next { (offers : List Asked) (n : ℕ) (bus : BusState) →
+        played offers (suc n) bus ≡ bus_run [] 1 (record (played offers n bus) { ports = all_made offers n (played offers n bus).ports }) }
+    ensures next_level { (offers : List Asked) (t : ℕ) (bus : BusState) →
+        played_level offers t bus ≡ bus_level [] 0 (record (played offers t bus) { ports = all_made offers t (played offers t bus).ports }) }
 {}
 
 /// Frames of which no two have one arbitration field have exactly one ascending list, in whatever

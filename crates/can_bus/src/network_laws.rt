@@ -7,11 +7,12 @@ ghost use Rattle.can_hit.specs.declared.hit.Hit.{Hit as Disturbance};
 ghost use Rattle.can_bus.specs.declared.offer.Offer.{Offer};
 ghost use Rattle.can_bus.specs.Course.{Transmission};
 ghost use Rattle.can_bus.specs.DisturbedPlay.{IsDisturbedPlay, WasPlayed};
-ghost use Rattle.can_bus.specs.Network.{AreInAttempts, IsNetworkCall, IsNextCall, NetworkLogWhole, NetworkTally, RestsAgain, call_after, call_level, call_refused};
+ghost use Rattle.can_bus.specs.Attempts.{AreInAttempts, AreApart};
+ghost use Rattle.can_bus.specs.Network.{IsNetworkCall, IsNextCall, NetworkLogWhole, NetworkTally, RestsAgain};
+ghost use Rattle.can_bus.specs.Offers.{call_after, call_level, call_refused};
 ghost use Rattle.can_bus.specs.NetworkPlans.{AllInWindow, AreNoEarlier, IsNetworkPlan, network_course, offered_again, two_ports};
 ghost use Rattle.can_bus.specs.Plans.{PlannedPort, ready_port};
 ghost use Rattle.can_bus.specs.Quiet.{AtEachNode};
-ghost use Rattle.can_bus.specs.Repair.{AreApart};
 ghost use Rattle.can_bus.specs.Run.{AreLevelsOf, BusState};
 
 /// A call, bit time by bit time, is a disturbed play over whole lists of levels, whatever its offers and hits: with the

@@ -8,7 +8,8 @@ ghost use Rattle.can_bus.specs.OpenBus.{QueuesHaveRoom, IsOpenCall, IsOpenPlan, 
 ghost use Rattle.can_bus.specs.Plans.{PlannedPort, ready_port};
 ghost use Rattle.can_bus.specs.Quiet.{IsQuietCall, line_at, AtEachNode};
 ghost use Rattle.can_bus.specs.Run.{BusState, bus_level, bus_run};
-ghost use Rattle.can_bus.specs.Schedule.{AreAtOnce, TimedParts, frames_of, schedule, track_at};
+ghost use Rattle.can_bus.specs.Timed.{AreAtOnce, TimedParts, frames_of};
+ghost use Rattle.can_bus.specs.Schedule.{schedule, track_at};
 
 /// Where all frames are offered at time 0, a bus to which frames are offered is a quiet bus at which they
 /// all wait: the premises of `play` are those of `run`, and what `play` does is what `run` does. The frames

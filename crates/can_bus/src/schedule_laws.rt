@@ -6,8 +6,10 @@ ghost use Rattle.can_frame.specs.Arbitration.{Before, arbitration_field};
 ghost use Rattle.can_frame.specs.Parts.{IsFrame};
 ghost use Rattle.can_wire.specs.Wire.{wire};
 ghost use Rattle.can_bus.specs.Quiet.{AreDifferent, ascending, line_at, busy_time};
-ghost use Rattle.can_bus.specs.Schedule.{AreAtOnce, IsScheduleOf, Lists, StartsAt, TimedParts, frames_of, schedule, track_at};
-ghost use Rattle.can_bus.specs.Waiting.{FindsFree, ahead_of, busy_times, left_at, starts_between};
+ghost use Rattle.can_bus.specs.Timed.{AreAtOnce, Lists, TimedParts, frames_of};
+ghost use Rattle.can_bus.specs.Schedule.{IsScheduleOf, StartsAt, schedule, track_at};
+ghost use Rattle.can_bus.specs.Waiting.{FindsFree, left_at, starts_between};
+ghost use Rattle.can_bus.specs.CourseWaiting.{ahead_of, busy_times};
 
 /// Offers of which no two have one arbitration field have exactly one schedule. It starts each frame
 /// once, not before it is offered, and none before the one that started last and its intermission are

@@ -15,8 +15,8 @@ use Rattle.can_hit.specs.Hits.{AreTaken}
 use Rattle.can_bus.specs.declared.fault.BusFault.{BusFault}
 use Rattle.can_bus.specs.declared.fault.BusFault.TheVariants as bus
 use Rattle.can_bus.specs.declared.offer.Offer.{Offer}
-use Rattle.can_bus.specs.Network.{IsNetworkCall, OnNetworkCall, call_after, call_level, call_refused, offered_now}
-use Rattle.can_bus.specs.Offers.{AreOffered}
+use Rattle.can_bus.specs.Network.{IsNetworkCall, OnNetworkCall}
+use Rattle.can_bus.specs.Offers.{call_after, call_level, call_refused, offered_now, AreOffered}
 use Rattle.can_bus.specs.Run.{AreLevelsOf, BusState}
 use Rattle.can_bus.proofs.OfferLemmas.{length-all_made}
 use Rattle.can_bus.proofs.RunLemmas.{length-step}

@@ -2,8 +2,8 @@
 ghost use Rattle.std.specs.Prelude.{◌≡◌, ◌≢◌, ◌≤◌, ◌⊎◌, ◌↔◌, None, Some, IfErr, IfOk, IsOk, IsSome, OnErr, OnOk, false, length, map, not};
 ghost use Rattle.can_frame.specs.Levels.{levels_of_codes};
 ghost use Rattle.can_hit.specs.Hits.{AreTaken};
-ghost use Rattle.can_bus.specs.Network.{OnNetworkCall, call_after, call_level, call_refused};
-ghost use Rattle.can_bus.specs.Offers.{AreOffered};
+ghost use Rattle.can_bus.specs.Network.{OnNetworkCall};
+ghost use Rattle.can_bus.specs.Offers.{call_after, call_level, call_refused, AreOffered};
 ghost use Rattle.can_bus.specs.Run.{AreLevelsOf};
 ghost use Rattle.can_bus.specs.declared.fault.BusFault.{BusFault as Fault};
 ghost use Rattle.can_c.specs.declared.status.Status.{Status as Why};

@@ -9,11 +9,11 @@ use Rattle.can_hit.specs.declared.hit.Hit.{Hit}
 use Rattle.can_bus.specs.declared.offer.Offer.{Offer}
 use Rattle.can_bus.specs.Course.{IsCourse, Transmission, ended_by, lasting}
 use Rattle.can_bus.specs.CourseWaiting.{AreInTime, IsSentBy}
-use Rattle.can_bus.specs.Network.{call_after, call_level}
+use Rattle.can_bus.specs.Offers.{call_after, call_level}
 use Rattle.can_bus.specs.OpenBus.{all_offers, offered_first, own_offers, timed}
 use Rattle.can_bus.specs.Quiet.{AtEachNode, holds, queued}
 use Rattle.can_bus.specs.Run.{BusState}
-use Rattle.can_bus.specs.Schedule.{TimedParts, frames_of}
+use Rattle.can_bus.specs.Timed.{TimedParts, frames_of}
 use Rattle.can_bus.proofs.Contests.{AllPorts}
 use Rattle.can_bus.proofs.CourseDelays.{offers-in_time, own}
 use Rattle.can_bus.proofs.CourseWaits.{IsOwn, sends-made}
@@ -23,7 +23,7 @@ use Rattle.can_plan.specs.declared.message.Message.{Message}
 use Rattle.can_plan.specs.Ends.{EndAlways}
 use Rattle.can_plan.specs.Messages.{IsIn, IsOf, Release, offer_of}
 use Rattle.can_plan.specs.OnBus.{IsPlannedCall, LogNames, StandsWithin}
-use Rattle.can_plan.proofs.Lines.{line-wire}
+use Rattle.can_bus.proofs.CourseTracks.{line-wire}
 use Rattle.can_plan.proofs.Logs.{ended-turn, named}
 
 all-ports : (ports : List PortState) → ((n : ℕ) (p : PortState) → slice_get ports n ≡ Some p → IsPort p) → AllPorts IsPort ports

@@ -9,7 +9,7 @@ use Rattle.can_node.specs.Ports.{same_field}
 use Rattle.can_bus.specs.Course.{Transmission, hit_time}
 use Rattle.can_bus.specs.CourseWaiting.{of_field, sends_of, was_hit}
 use Rattle.can_bus.specs.Quiet.{busy_time}
-use Rattle.can_bus.specs.Schedule.{TimedParts}
+use Rattle.can_bus.specs.Timed.{TimedParts}
 use Rattle.can_bus.proofs.Members.{stands-none, stands-here, stands-later, stands-middle}
 use Rattle.can_plan.specs.declared.message.Message.{Message}
 use Rattle.can_plan.specs.Messages.{IsIn, IsMessageSet, IsOf, Release, offer_of}

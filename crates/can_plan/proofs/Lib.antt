@@ -18,7 +18,6 @@ pub mod LatestFrames
 -- the definitions on numbers worked out by hand
 pub mod Rows
 -- the bus: its levels, its logs, and hits that its ports bear
-pub mod Lines
 pub mod Logs
 pub mod Calls
 pub mod BorneHits

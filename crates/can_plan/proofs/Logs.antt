@@ -12,7 +12,7 @@ use Rattle.can_hit.specs.declared.hit.Hit.{Hit}
 use Rattle.can_bus.specs.Course.{IsCourse, Transmission, and_sent, broken, ended_by, frames_sent, lasting, over, sent}
 use Rattle.can_bus.specs.CourseWaiting.{sends_of, was_hit}
 use Rattle.can_bus.specs.Quiet.{IsPrefixOf, holds, marked}
-use Rattle.can_bus.specs.Schedule.{TimedParts}
+use Rattle.can_bus.specs.Timed.{TimedParts}
 use Rattle.can_bus.proofs.CourseTracks.{course-free}
 use Rattle.can_bus.proofs.CourseWaits.{sends-hit, sends-made, sends-more, sends-other}
 use Rattle.can_bus.proofs.CourseLogs.{ended-more}

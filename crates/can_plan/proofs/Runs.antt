@@ -8,9 +8,9 @@ use Rattle.can_node.proofs.WaitingLemmas.{Shares-same_field, same_field-Shares}
 use Rattle.can_hit.specs.declared.hit.Hit.{Hit}
 use Rattle.can_bus.specs.Course.{Transmission, IsNext, IsCourse, over, sent, broken, hit_time}
 use Rattle.can_bus.specs.CourseWaiting.{AreInTime, of_field}
-use Rattle.can_bus.specs.Repair.{IsInWindow}
+use Rattle.can_bus.specs.Attempts.{IsInWindow}
 use Rattle.can_bus.specs.Quiet.{busy_time}
-use Rattle.can_bus.specs.Schedule.{TimedParts, without_offer}
+use Rattle.can_bus.specs.Timed.{TimedParts, without_offer}
 use Rattle.can_bus.proofs.CourseDelays.{course-costs}
 use Rattle.can_bus.proofs.CourseWaits.{FieldsInOrder, fields-without, first-left, next-first}
 use Rattle.can_bus.proofs.Fields.{field-more, field-skip}

@@ -6,7 +6,7 @@ use Rattle.can_frame.specs.Parts.{Parts}
 use Rattle.can_frame.specs.Arbitration.{arbitration_field, Before}
 use Rattle.can_bus.specs.Course.{Transmission}
 use Rattle.can_bus.specs.Quiet.{busy_time}
-use Rattle.can_bus.specs.Schedule.{TimedParts}
+use Rattle.can_bus.specs.Timed.{TimedParts}
 use Rattle.can_plan.specs.declared.message.Message.{Message}
 use Rattle.can_plan.specs.declared.message.HitRate.{HitRate}
 

@@ -8,7 +8,7 @@ use Rattle.std.proofs.lemmas.Option.{slice_get-get_or, slice_get_within}
 use Rattle.can_frame.specs.Parts.{Parts}
 use Rattle.can_frame.specs.Arbitration.{arbitration_field}
 use Rattle.can_bus.specs.Quiet.{busy_time}
-use Rattle.can_bus.specs.Schedule.{TimedParts}
+use Rattle.can_bus.specs.Timed.{TimedParts}
 use Rattle.can_bus.proofs.Members.{stands-none, stands-cases, stands-front, stands-back, stands-either, stands-map, map-stands}
 use Rattle.document_values.specs.Values.{ArePaired}
 use Rattle.can_plan.specs.declared.message.Message.{Message}

@@ -1,7 +1,7 @@
 -- That the frames of a worst case keep to the messages, so that bounds speak of them. (docs/PLANNING.md, "The worst case")
 use Rattle.std.specs.Prelude.{ℕ, ◌≡◌, ◌+◌, List, map}
 use Rattle.std.specs.List.{flat_map}
-use Rattle.can_bus.specs.Schedule.{TimedParts}
+use Rattle.can_bus.specs.Timed.{TimedParts}
 use Rattle.can_plan.specs.declared.message.Message.{Message}
 use Rattle.can_plan.specs.FramesOf.{IsLongestBusy}
 use Rattle.can_plan.specs.Messages.{IsIn, KeepTo, Release, offer_of}

@@ -15,7 +15,8 @@ use Rattle.can_frame.specs.declared.level.Level.TheVariants.{Recessive}
 use Rattle.can_node.specs.Ports.{PortState, port_step, with_offer}
 use Rattle.can_hit.specs.declared.hit.Hit.{Hit}
 use Rattle.can_bus.specs.declared.offer.Offer.{Offer}
-use Rattle.can_bus.specs.Offers.{AreOffered, all_made, made, played, played_level}
+use Rattle.can_bus.specs.Offers.{AreOffered, all_made, call_after, made, played, played_level}
+use Rattle.can_bus.proofs.CallCases.{played-level, played-next}
 use Rattle.can_bus.specs.Run.{BusState, all_sampled, bus_after, bus_level, bus_run, bus_step, call_begun, hits_view, inverted_if, recorded}
 use Rattle.can_port_times.specs.PortTimes.{AreFirstTold, AreSeen, AreTold, bus_by, first_port, level_seen, offers_meanwhile, own_made, seen_by, port_time, told_from}
 use Rattle.can_scenario.specs.Report.{level_by, levels_until, made_bus, made_port, recorded_levels, waiting_bus, waiting_port}
@@ -82,13 +83,14 @@ plain-next : (bus : BusState) (n : ℕ) (p : PortState) → slice_get bus.ports 
 unfolding bus_run bus_after bus_step bus_level
 plain-next bus n p at = sampled-at [] 0 (recorded [] (call_begun bus)) 0 bus.ports n p at
 
-played-next : (offers : List Offer) (t : ℕ) (bus : BusState) (n : ℕ) (p : PortState) → slice_get (all_made offers t (played offers t bus).ports) n ≡ Some p →
+port-next : (offers : List Offer) (t : ℕ) (bus : BusState) (n : ℕ) (p : PortState) → slice_get (all_made offers t (played offers t bus).ports) n ≡ Some p →
     slice_get (played offers (suc t) bus).ports n ≡ Some (port_step p (played_level offers t bus))
-unfolding played played_level
-played-next offers t bus n p at = plain-next (record (played offers t bus) { ports = all_made offers t (played offers t bus).ports }) n p at
+port-next offers t bus n p at =
+    let now : BusState = record (played offers t bus) { ports = all_made offers t (played offers t bus).ports } in
+    ap (λ (b : BusState). slice_get b.ports n) (played-next offers bus t) ∙ plain-next now n p at ∙ ap (λ x. Some (port_step p x)) (sym (played-level offers bus t))
 
 played-first : (offers : List Offer) (bus : BusState) (n : ℕ) (p : PortState) → slice_get bus.ports n ≡ Some p → slice_get (played offers 0 bus).ports n ≡ Some p
-unfolding played
+unfolding call_after
 played-first offers bus n p at = at
 
 run-first : (hits : List Hit) (bus : BusState) (n : ℕ) (p : PortState) → slice_get bus.ports n ≡ Some p → slice_get (bus_run hits 0 bus).ports n ≡ Some p
@@ -211,7 +213,7 @@ told-known [] s node plan seen there known =
     let offers = scenario_offers s in
     told-times node offers (λ t. (played offers t (made_bus s)).ports) (λ t. (bus_by [] s t).ports) (seen_by [] s node)
     (λ t p at. all-made-at offers t (played offers t (made_bus s)).ports node p at)
-    (λ t p at. played-next offers t (made_bus s) node p at)
+    (λ t p at. port-next offers t (made_bus s) node p at)
     seen (made_port plan) (played-first offers (made_bus s) node (made_port plan) (first-at made_port s.ports.items node plan there)) known
 told-known (hit ∷ hits) s node plan seen there known =
     told-times node [] (λ t. (bus_run (hit ∷ hits) t (waiting_bus s)).ports) (λ t. (bus_run (hit ∷ hits) t (waiting_bus s)).ports) (seen_by (hit ∷ hits) s node)

@@ -3,7 +3,7 @@ use Rattle.std.specs.Prelude.{slice_get, All}
 use Rattle.std.proofs.Common.{◌≡◌, ℕ, zero, suc, ◌+◌, Some, List, [], ◌∷◌, map, refl, sym, ap, subst, ◌∙◌, arith}
 use Rattle.can_hit.specs.declared.hit.Hit.{Hit}
 use Rattle.can_bus.specs.declared.offer.Offer.{Offer}
-use Rattle.can_bus.specs.Offers.{all_made, played, played_level}
+use Rattle.can_bus.specs.Offers.{all_made, call_after, played, played_level}
 use Rattle.can_bus.specs.OpenBus.{timed, with_first}
 use Rattle.can_bus.specs.Run.{BusState, bus_after, bus_level, bus_run}
 use Rattle.can_bus.proofs.Members.{Stands, stands-here, stands-later}
@@ -79,7 +79,7 @@ module _ (s : Scenario) (first : All AreFirst s.ports.items) where
   level-first t = at_once-level (scenario_offers s) (offers-at_once s first) t (made_bus s) ∙ ap (bus_level [] t) waits
 
   ports-first : (n : ℕ) → map reported (played (scenario_offers s) n (made_bus s)).ports ≡ map reported (bus_run [] n (waiting_bus s)).ports
-  unfolding played bus_run bus_after
+  unfolding call_after bus_run bus_after
   ports-first zero = told-alike s.ports.items
   ports-first (suc n) = ap (λ (b : BusState). map reported b.ports) (at_once-run (scenario_offers s) (offers-at_once s first) (suc n) (made_bus s) (omega arith) ∙ ap (bus_run [] (suc n)) waits)
 

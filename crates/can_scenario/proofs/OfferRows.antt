@@ -11,7 +11,9 @@ use Rattle.can_node.specs.declared.entry.Entry.{Entry}
 use Rattle.can_node.specs.Ports.{waiting}
 use Rattle.can_bus.specs.declared.offer.Offer.{Offer}
 use Rattle.can_bus.specs.OpenBus.{timed}
-use Rattle.can_bus.specs.Schedule.{TimedParts, frames_of, schedule}
+use Rattle.can_bus.specs.Timed.{TimedParts, frames_of}
+use Rattle.can_bus.specs.Course.{course_of}
+use Rattle.can_bus.specs.Schedule.{schedule}
 use Rattle.can_scenario.specs.OpenReport.{quiet_port}
 use Rattle.can_scenario.specs.Report.{PortReport}
 use Rattle.can_scenario.specs.ScenarioOffers.{in_time}
@@ -46,7 +48,7 @@ abbrev starts : List TimedParts
 starts = record { time = 0; frame = frame 1 } ∷ record { time = 50; frame = frame 0 } ∷ record { time = 103; frame = frame 9 } ∷ []
 
 starts-are : schedule (map timed (offer 0 0 1 ∷ offer 49 1 9 ∷ offer 50 0 0 ∷ [])) ≡ starts
-unfolding schedule waiting stuffed_part unstuffed stuffed crc_of head arbitration_field bits_of
+unfolding course_of waiting stuffed_part unstuffed stuffed crc_of head arbitration_field bits_of
 starts-are = refl
 
 -- what is told of the ports: each has all frames, in the order of their starts

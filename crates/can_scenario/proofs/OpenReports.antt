@@ -13,11 +13,13 @@ use Rattle.can_mac.specs.State.{idle, joining}
 use Rattle.can_node.specs.declared.entry.Entry.{Entry}
 use Rattle.can_node.specs.Ports.{PortState, IsPort, fresh_port, port_holding, same_field}
 use Rattle.can_bus.specs.declared.offer.Offer.{Offer}
-use Rattle.can_bus.specs.Offers.{AreOffered, played, played_level}
+use Rattle.can_bus.specs.Offers.{AreOffered, call_after, played, played_level}
 use Rattle.can_bus.specs.OpenBus.{AreOver, IsOpenCall, OpenLogWhole, QueuesHaveRoom, all_offers, offered_to, own_offers, timed}
 use Rattle.can_bus.specs.Quiet.{AreDifferent, AtEachPort, CountsNothing, IsQuietPort, MissesNothing, holds, marked, queued, AtEachNode}
 use Rattle.can_bus.specs.Run.{BusState}
-use Rattle.can_bus.specs.Schedule.{IsScheduleOf, TimedParts, frames_of, track_at}
+use Rattle.can_bus.specs.Schedule.{IsScheduleOf, track_at}
+use Rattle.can_bus.specs.Timed.{TimedParts, frames_of}
+use Rattle.can_bus.proofs.CallCases.{played-next}
 use Rattle.can_bus.proofs.CourseSchedules.{one-schedule}
 use Rattle.can_bus.proofs.Ascending.{different_permuted}
 use Rattle.can_bus.proofs.Contests.{AllPorts}
@@ -186,9 +188,9 @@ levels-same f g same zero = refl
 levels-same f g same (suc n) = ap (λ levels. levels ++ f n ∷ []) (levels-same f g same n) ∙ ap (λ x. levels_until g n ++ x ∷ []) (same n)
 
 pub length-played : (offers : List Offer) (n : ℕ) (bus : BusState) → length (played offers n bus).ports ≡ length bus.ports
-unfolding played
+unfolding call_after
 length-played offers zero bus = refl
-length-played offers (suc n) bus = length-run [] 1 _ ∙ length-all_made offers n (played offers n bus).ports ∙ length-played offers n bus
+length-played offers (suc n) bus = ap (λ (b : BusState). length b.ports) (played-next offers bus n) ∙ length-run [] 1 _ ∙ length-all_made offers n (played offers n bus).ports ∙ length-played offers n bus
 
 -- the report of a scenario without disturbances
 abbrev pub played_report : Scenario → List ℕ

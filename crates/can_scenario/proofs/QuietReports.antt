@@ -1,7 +1,7 @@
 -- The report of a quiet scenario: the line of its frames, and at each port all of them.
 use Rattle.std.specs.Prelude.{All}
 use Rattle.std.specs.List.Sorted.{IsPermutation}
-use Rattle.std.proofs.Common.{◌≡◌, ℕ, ◌+◌, ◌≤◌, List, ◌∷◌, length, map, sym, ap, subst, ◌∙◌, arith, inl, inr}
+use Rattle.std.proofs.Common.{◌≡◌, ℕ, ◌+◌, ◌≤◌, Some, None, List, [], ◌∷◌, length, map, sym, ap, subst, ◌∙◌, arith, inl, inr}
 use Rattle.std.proofs.lemmas.List.Elements.{All-get_or}
 use Rattle.std.proofs.lemmas.List.Sums.{sum_by-cons}
 use Rattle.std.proofs.lemmas.Option.{get_or_from_slice_get, slice_get_within}
@@ -9,16 +9,18 @@ use Rattle.std.proofs.lemmas.List.Sorted.{IsPermutation-sym}
 use Rattle.can_frame.specs.Parts.{Parts}
 use Rattle.can_wire.specs.Wire.{wire}
 use Rattle.can_bus.specs.declared.offer.Offer.{Offer}
+use Rattle.can_bus.specs.Course.{IsCourse, IsMade, Transmission, broken, frames_sent, over, sent}
 use Rattle.can_bus.specs.OpenBus.{AreOver, timed}
 use Rattle.can_bus.specs.Quiet.{AreDifferent, ascending, line_at, span}
-use Rattle.can_bus.specs.Schedule.{AreAtOnce, IsSchedule, Lists, TimedParts, frames_of, next, over, track_at}
-use Rattle.can_bus.proofs.CourseSchedules.{one-schedule}
+use Rattle.can_bus.specs.Timed.{AreAtOnce, TimedParts, frames_of}
+use Rattle.can_bus.specs.Schedule.{track_at}
+use Rattle.can_bus.proofs.CourseSchedules.{one-schedule, one_unhit, schedule-frames, unhit-frames, unhit-made}
+use Rattle.can_bus.proofs.Fields.{without-listed}
 use Rattle.can_bus.proofs.Ascending.{ascending_permuted, different_permuted}
 use Rattle.can_bus.proofs.AtOnce.{at_once-frames, at_once-line}
-use Rattle.can_bus.proofs.Members.{Stands, map-stands, stands-cases, stands-none, stands-permuted}
-use Rattle.can_bus.proofs.NextStarts.{rest-left}
+use Rattle.can_bus.proofs.Members.{Stands, map-stands, stands-permuted}
+use Rattle.can_bus.proofs.LeftOffers.{offered-stands}
 use Rattle.can_bus.proofs.QuietAgreement.{span-permuted}
-use Rattle.can_bus.proofs.Schedules.{schedule-frames}
 use Rattle.can_scenario_text.specs.declared.scenario.Scenario.{Scenario}
 use Rattle.can_scenario_text.specs.declared.scenario.PortPlan.{PortPlan}
 use Rattle.can_scenario_text.specs.declared.scenario.TimedFrame.{TimedFrame}
@@ -50,20 +52,19 @@ offers-at_once s first x there =
 -- ---- how long the starts take
 
 -- starts of offers at time 0 adjoin
-over-at_once : {free : ℕ} {left starts : List TimedParts} → IsSchedule free left starts → AreAtOnce left → (s : TimedParts) → Lists starts s → s.time + length (wire s.frame) ≤ free + span (frames_of starts)
+over-at_once : {number free : ℕ} {left : List TimedParts} {course : List Transmission} → IsCourse [] number free left course → AreAtOnce left → (s : Transmission) → IsMade course s →
+    s.time + length (wire s.frame) ≤ free + span (frames_sent course)
 unfolding span
-over-at_once (over free) all s there = absurd (stands-none s there)
-over-at_once (next free left rest start starts is others more) all s there =
-    let offered : TimedParts = record { time = is.offered; frame = start.frame } in
-    let soon = is.soon offered is.left_over in
-    let at = all offered is.left_over in
-    let after = is.is_free in
-    let from : start.time ≡ free = omega arith in
-    let whole : span (frames_of (start ∷ starts)) ≡ length (wire start.frame) + 3 + span (frames_of starts) = sum_by-cons (λ (f : Parts). length (wire f) + 3) start.frame (frames_of starts) in
-    elim (stands-cases start starts s there) [
-      | inl same ↦ subst (λ (x : TimedParts). x.time + length (wire x.frame) ≤ free + span (frames_of (start ∷ starts))) same (omega (arith, whole, from))
-      | inr later ↦ let ends = over-at_once more (λ x s. all x (rest-left start.frame left rest others x s)) s later in omega (arith, whole, from, ends)
+over-at_once (over number free) all s made = absurd made
+over-at_once (sent number free time f left course is unhit rest) all s made =
+    let there = offered-stands time left f (is.waits.place, is.waits.stands) in
+    let from : time ≡ free = omega (arith, is.soon there.0 there.1, all there.0 there.1, is.is_free) in
+    let whole : span (f ∷ frames_sent course) ≡ length (wire f) + 3 + span (frames_sent course) = sum_by-cons (λ (g : Parts). length (wire g) + 3) f (frames_sent course) in
+    elim made [
+      | inl here ↦ subst (λ (z : Transmission). z.time + length (wire z.frame) ≤ free + span (f ∷ frames_sent course)) here (omega (arith, whole, from))
+      | inr later ↦ omega (arith, whole, from, over-at_once rest (λ x listed. all x (without-listed f left x listed)) s later)
     ]
+over-at_once (broken number free time f offset left course is struck window rest) all s made = absurd (let none : None ≡ Some offset = struck in cc)
 
 -- ---- the report
 
@@ -89,10 +90,10 @@ module _ (s : Scenario) (is : IsQuietScenario s) where
   -- the starts are over when the frames are
   pub quiet-over : span (all_frames (queues s)) ≤ s.bits → AreOver (scenario_starts s) s.bits
   quiet-over past x there =
-      let ends = over-at_once (one-schedule offers different).scheduled at_once x there in
+      let ends = over-at_once (one-schedule offers different).scheduled at_once (one_unhit x) (unhit-made (scenario_starts s) x there) in
       let same : span (frames_of (scenario_starts s)) ≡ span frames =
-      span-permuted (frames_of offers) (frames_of (scenario_starts s)) (schedule-frames (one-schedule offers different).scheduled) ∙ sym (span-permuted (frames_of offers) frames permuted) in
-      omega (arith, ends, same, past)
+      span-permuted (frames_of offers) (frames_of (scenario_starts s)) (schedule-frames offers (scenario_starts s) (one-schedule offers different)) ∙ sym (span-permuted (frames_of offers) frames permuted) in
+      omega (arith, ends, ap span (unhit-frames (scenario_starts s)), same, past)
 
   -- and their report is that of the quiet bus
   pub open-is-quiet : open_report s.bits (scenario_starts s) (queues s) ≡ quiet_report s.bits (queues s)

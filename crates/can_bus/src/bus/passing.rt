@@ -4,15 +4,14 @@
 //! unless the queue of its sender may be full. Where a hit falls, the sender goes through the levels up to it, and the
 //! others hear as much as it has heard.
 ghost use Rattle.std.specs.Prelude.{ℕ, ◌≡◌, ◌+◌, ◌-◌, ◌<◌, ◌≤◌, ◌^◌, drop, length, map, take, slice_get, slice_index_or, IfSome, IsNone, IsTrue, Some};
-ghost use Rattle.can_frame.specs.Arbitration.{Before, arbitration_field};
+ghost use Rattle.can_frame.specs.Arbitration.{arbitration_field};
 ghost use Rattle.can_frame.specs.Parts.{IsFrame, Parts};
 ghost use Rattle.can_wire.specs.Wire.{stuffed_part};
 ghost use Rattle.can_mac.specs.Frames.{with_intermission};
 ghost use Rattle.can_node.specs.Passing.{HasHeard};
-ghost use Rattle.can_node.specs.Ports.{port_drives, port_run, waiting};
+ghost use Rattle.can_node.specs.Ports.{port_drives, port_run};
 ghost use Rattle.can_bus.specs.declared.offer.Offer.{Offer as Asked};
-ghost use Rattle.can_bus.specs.Network.{call_after, call_level, call_refused, offered_now};
-ghost use Rattle.can_bus.specs.Offers.{AreOffered};
+ghost use Rattle.can_bus.specs.Offers.{call_after, call_level, call_refused, offered_now, AreOffered};
 ghost use Rattle.can_bus.specs.Passing.{HasRoom, IsReceived, MayPass, MayPassAll, PassesAt, PassesBus, PassesBy, PassesByAll, PassesFrom, Receives, due_before, made_behind, refused_behind, rest_run};
 ghost use Rattle.can_bus.specs.Run.{BusState, bus_after, recorded};
 ghost use Rattle.can_bus.specs.State.{port_count, port_states, rest_of, state_of};

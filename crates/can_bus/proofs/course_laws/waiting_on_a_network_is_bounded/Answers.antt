@@ -1,6 +1,6 @@
-use Rattle.can_bus.proofs.CourseDelays.{bound, course-costs, exact, few, meanwhile, offers-in_time, own, waits-unhit}
+use Rattle.can_bus.proofs.CourseDelays.{bound, course-costs, exact, few, meanwhile, offers-in_time, own}
 use Rattle.can_bus.proofs.CourseSends.{each-sent}
-use Rattle.can_bus.proofs.WaitBounds.{going-few}
+use Rattle.can_bus.proofs.WaitBounds.{going-few, kept-unhit}
 use Rattle.can_bus.proofs.course_laws.waiting_on_a_network_is_bounded.Goals as goal
 
 pub returns : goal.returns
@@ -12,7 +12,7 @@ returns c = record {
   meanwhile = meanwhile;
   bound = bound;
   few = few;
-  without_hits = waits-unhit;
+  without_hits = λ starts from until. kept-unhit from until starts;
   one_of_a_field = going-few;
   costs = λ hits offers course is s made framed. course-costs is s made framed;
 }

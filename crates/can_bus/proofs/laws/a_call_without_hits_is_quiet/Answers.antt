@@ -1,4 +1,5 @@
-use Rattle.can_bus.proofs.RepairedCalls.{quiet-call, repaired-call, quiet-span, quiet-tally}
+use Rattle.can_bus.proofs.BorneHits.{quiet-tally}
+use Rattle.can_bus.proofs.RepairedCalls.{quiet-call, repaired-call, quiet-span}
 use Rattle.can_bus.proofs.laws.a_call_without_hits_is_quiet.Goals as goal
 
 pub returns : goal.returns

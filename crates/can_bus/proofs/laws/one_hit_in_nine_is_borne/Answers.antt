@@ -2,4 +2,4 @@ use Rattle.can_bus.proofs.BorneHits.{nine-borne}
 use Rattle.can_bus.proofs.laws.one_hit_in_nine_is_borne.Goals as goal
 
 pub returns : goal.returns
-returns c = λ frames hits ports windows nine. nine-borne frames hits windows nine ports
+returns c = λ frames hits ports windows nine. λ of_one. nine-borne hits nine frames ports of_one

@@ -1,5 +1,5 @@
-use Rattle.can_bus.proofs.Tracks.{track-rests, track-wires}
+use Rattle.can_bus.proofs.CourseSchedules.{track-rests, track-wires}
 use Rattle.can_bus.proofs.schedule_laws.a_track_has_each_wire.Goals as goal
 
 pub returns : goal.returns
-returns c = record { wires = λ offers starts is. track-wires is.scheduled; elsewhere = track-rests }
+returns c = record { wires = track-wires; elsewhere = track-rests }

@@ -1,8 +1,8 @@
 use Rattle.std.proofs.Common.{◌≡◌, Some, length, map, inr, true, refl, sym, ap, subst, ◌∙◌, arith}
 use Rattle.std.proofs.lemmas.List.{take_at}
 use Rattle.can_hit.specs.Hits.{AreTaken}
-use Rattle.can_bus.specs.Network.{OnNetworkCall, call_after, call_level, call_refused}
-use Rattle.can_bus.specs.Offers.{AreOffered}
+use Rattle.can_bus.specs.Network.{OnNetworkCall}
+use Rattle.can_bus.specs.Offers.{call_after, call_level, call_refused, AreOffered}
 use Rattle.can_bus.specs.Run.{AreLevelsOf}
 use Rattle.can_c.specs.Play.{IsNetworkRun, IsPlayFault, bus_held, bus_of, held_in, lacks_port, ports_held}
 use Rattle.can_c.proofs.HandleLists.{lacks-none, node_port, ports-held}

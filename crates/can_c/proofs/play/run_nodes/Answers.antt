@@ -2,8 +2,7 @@ use Rattle.std.specs.Prelude.{◌↔◌, IfErr, IfOk, IsOk, OnOk}
 use Rattle.std.proofs.Common.{◌≡◌, ℕ, [], length, map, ap, refl, subst, ◌∙◌}
 use Rattle.std.proofs.lemmas.Result.{on_err_weaker, on_ok_weaker}
 use Rattle.std.specs.Vec.{vec_items}
-use Rattle.can_bus.specs.Network.{call_level, call_refused}
-use Rattle.can_bus.specs.Offers.{AreOffered}
+use Rattle.can_bus.specs.Offers.{call_level, call_refused, AreOffered}
 use Rattle.can_bus.specs.Run.{AreLevelsOf, BusState}
 use Rattle.can_bus.specs.State.{port_count, port_states, state_of}
 use Rattle.can_hit.specs.Hits.{AreTaken}

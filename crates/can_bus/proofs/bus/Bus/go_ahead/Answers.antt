@@ -3,8 +3,7 @@ use Rattle.std.proofs.lemmas.Grind.{elements}
 use Rattle.std.proofs.lemmas.List.{length-map, length-take-le}
 use Rattle.can_node.specs.Ports.{PortState, port_drives}
 use Rattle.can_bus.specs.declared.bus.play_disturbed.Progress.{Progress}
-use Rattle.can_bus.specs.Network.{call_after, call_level, offered_now}
-use Rattle.can_bus.specs.Offers.{AreOffered, all_made, refused_at}
+use Rattle.can_bus.specs.Offers.{call_after, call_level, offered_now, AreOffered, all_made, refused_at}
 use Rattle.can_bus.specs.Run.{CallState}
 use Rattle.can_bus.specs.State.{state_of}
 use Rattle.can_bus.specs.Walks.{IsReached, call_on}

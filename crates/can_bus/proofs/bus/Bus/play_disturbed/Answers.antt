@@ -8,15 +8,14 @@ use Rattle.can_frame.specs.declared.level.Level.TheVariants.{Recessive}
 use Rattle.can_bus.specs.DisturbedPlay.{WasPlayed}
 use Rattle.can_bus.specs.declared.call.Call.{Call}
 use Rattle.can_hit.specs.Hits.{AreTaken}
-use Rattle.can_bus.specs.Network.{call_after, call_level, call_refused, offered_now}
-use Rattle.can_bus.specs.Offers.{AreOffered, all_made, refused_at}
+use Rattle.can_bus.specs.Offers.{call_after, call_level, call_refused, offered_now, AreOffered, all_made, refused_at}
 use Rattle.can_bus.specs.Run.{CallState}
-use Rattle.can_bus.specs.State.{rest_of, state_of}
+use Rattle.can_bus.specs.State.{state_of}
 use Rattle.can_bus.specs.Walks.{IsCall, IsReached, call_on}
 use Rattle.can_bus.proofs.DisturbedPlays.{call-played}
 use Rattle.can_bus.proofs.CallLemmas.{call-none, refused-none, refused-several}
 use Rattle.can_bus.proofs.HitOrder.{taken-rising}
-use Rattle.can_bus.proofs.NetworkCalls.{network-active, network-counts, network-has, network-logs, network-missed, network-refused, network-rests, network-tally, network-track, network-whole, not-offered, not-taken, valid-ports}
+use Rattle.can_bus.proofs.NetworkCalls.{network-active, network-counts, network-has, network-logs, network-missed, network-refused, network-rests, network-tally, network-track, network-whole, unoffered, untaken, valid-ports}
 use Rattle.can_bus.proofs.OfferLemmas.{reached-first, length-all_made}
 use Rattle.can_bus.proofs.StepLemmas.{first_ready}
 use Rattle.can_bus.proofs.bus.Bus.play_disturbed.Goals as goal
@@ -29,46 +28,25 @@ returns-in_err-check-clause-taken g c =
     (search rules, λ both. absurd (untaken both.0))
 
 pub returns-in_err-check-clause-answer : goal.returns-in_err-check-clause-answer
-returns-in_err-check-clause-answer g c = λ course call.
-    let size : c.len.result ≡ length c.args.self.now.ports.items = search rules in
-    let untaken : AreOffered c.len.result c.args.offers.now → ⊥ = λ offered. let e : false ≡ true = c.in_err-check.ensures.taken.1 offered in cc in
-    absurd (not-offered g.P.Port.port c.args.self.now.ports.items c.len.result (rest_of c.args.self.now) c.args.offers.now c.args.hits.now course size untaken call)
+returns-in_err-check-clause-answer g c = unoffered g.P.Port.port c.args.self.now.ports.items c.len.result _ c.args.offers.now c.args.hits.now (search rules) c.in_err-check.ensures.taken _
 
 pub returns-in_err-check-clause-course : goal.returns-in_err-check-clause-course
-returns-in_err-check-clause-course g c = λ course call t within.
-    let size : c.len.result ≡ length c.args.self.now.ports.items = search rules in
-    let untaken : AreOffered c.len.result c.args.offers.now → ⊥ = λ offered. let e : false ≡ true = c.in_err-check.ensures.taken.1 offered in cc in
-    absurd (not-offered g.P.Port.port c.args.self.now.ports.items c.len.result (rest_of c.args.self.now) c.args.offers.now c.args.hits.now course size untaken call)
+returns-in_err-check-clause-course g c = unoffered g.P.Port.port c.args.self.now.ports.items c.len.result _ c.args.offers.now c.args.hits.now (search rules) c.in_err-check.ensures.taken _
 
 pub returns-in_err-check-clause-network_has : goal.returns-in_err-check-clause-network_has
-returns-in_err-check-clause-network_has g c = λ course call.
-    let size : c.len.result ≡ length c.args.self.now.ports.items = search rules in
-    let untaken : AreOffered c.len.result c.args.offers.now → ⊥ = λ offered. let e : false ≡ true = c.in_err-check.ensures.taken.1 offered in cc in
-    absurd (not-offered g.P.Port.port c.args.self.now.ports.items c.len.result (rest_of c.args.self.now) c.args.offers.now c.args.hits.now course size untaken call)
+returns-in_err-check-clause-network_has g c = unoffered g.P.Port.port c.args.self.now.ports.items c.len.result _ c.args.offers.now c.args.hits.now (search rules) c.in_err-check.ensures.taken _
 
 pub returns-in_err-check-clause-network_whole : goal.returns-in_err-check-clause-network_whole
-returns-in_err-check-clause-network_whole g c = λ course call past.
-    let size : c.len.result ≡ length c.args.self.now.ports.items = search rules in
-    let untaken : AreOffered c.len.result c.args.offers.now → ⊥ = λ offered. let e : false ≡ true = c.in_err-check.ensures.taken.1 offered in cc in
-    absurd (not-offered g.P.Port.port c.args.self.now.ports.items c.len.result (rest_of c.args.self.now) c.args.offers.now c.args.hits.now course size untaken call)
+returns-in_err-check-clause-network_whole g c = unoffered g.P.Port.port c.args.self.now.ports.items c.len.result _ c.args.offers.now c.args.hits.now (search rules) c.in_err-check.ensures.taken _
 
 pub returns-in_err-check-clause-network_tally : goal.returns-in_err-check-clause-network_tally
-returns-in_err-check-clause-network_tally g c = λ course call past.
-    let size : c.len.result ≡ length c.args.self.now.ports.items = search rules in
-    let untaken : AreOffered c.len.result c.args.offers.now → ⊥ = λ offered. let e : false ≡ true = c.in_err-check.ensures.taken.1 offered in cc in
-    absurd (not-offered g.P.Port.port c.args.self.now.ports.items c.len.result (rest_of c.args.self.now) c.args.offers.now c.args.hits.now course size untaken call)
+returns-in_err-check-clause-network_tally g c = unoffered g.P.Port.port c.args.self.now.ports.items c.len.result _ c.args.offers.now c.args.hits.now (search rules) c.in_err-check.ensures.taken _
 
 pub returns-in_err-check-clause-network_rests : goal.returns-in_err-check-clause-network_rests
-returns-in_err-check-clause-network_rests g c = λ course call past.
-    let size : c.len.result ≡ length c.args.self.now.ports.items = search rules in
-    let untaken : AreOffered c.len.result c.args.offers.now → ⊥ = λ offered. let e : false ≡ true = c.in_err-check.ensures.taken.1 offered in cc in
-    absurd (not-offered g.P.Port.port c.args.self.now.ports.items c.len.result (rest_of c.args.self.now) c.args.offers.now c.args.hits.now course size untaken call)
+returns-in_err-check-clause-network_rests g c = unoffered g.P.Port.port c.args.self.now.ports.items c.len.result _ c.args.offers.now c.args.hits.now (search rules) c.in_err-check.ensures.taken _
 
 pub returns-in_err-check-clause-network_active : goal.returns-in_err-check-clause-network_active
-returns-in_err-check-clause-network_active g c = λ course call.
-    let size : c.len.result ≡ length c.args.self.now.ports.items = search rules in
-    let untaken : AreOffered c.len.result c.args.offers.now → ⊥ = λ offered. let e : false ≡ true = c.in_err-check.ensures.taken.1 offered in cc in
-    absurd (not-offered g.P.Port.port c.args.self.now.ports.items c.len.result (rest_of c.args.self.now) c.args.offers.now c.args.hits.now course size untaken call)
+returns-in_err-check-clause-network_active g c = unoffered g.P.Port.port c.args.self.now.ports.items c.len.result _ c.args.offers.now c.args.hits.now (search rules) c.in_err-check.ensures.taken _
 
 pub returns-in_err-check-2-clause-taken : goal.returns-in_err-check-2-clause-taken
 returns-in_err-check-2-clause-taken g c =
@@ -84,39 +62,25 @@ returns-in_err-check-2-clause-fault g c =
     search rules
 
 pub returns-in_err-check-2-clause-answer : goal.returns-in_err-check-2-clause-answer
-returns-in_err-check-2-clause-answer g c = λ course call.
-    let untaken : AreTaken c.len-2.result c.args.hits.now → ⊥ = λ taken. let e : false ≡ true = c.in_err-check-2.ensures.taken.1 taken in cc in
-    absurd (not-taken g.P.Port.port c.args.self.now.ports.items c.len-2.result (rest_of c.args.self.now) c.args.offers.now c.args.hits.now course untaken call)
+returns-in_err-check-2-clause-answer g c = untaken g.P.Port.port c.args.self.now.ports.items c.len-2.result _ c.args.offers.now c.args.hits.now c.in_err-check-2.ensures.taken _
 
 pub returns-in_err-check-2-clause-course : goal.returns-in_err-check-2-clause-course
-returns-in_err-check-2-clause-course g c = λ course call t within.
-    let untaken : AreTaken c.len-2.result c.args.hits.now → ⊥ = λ taken. let e : false ≡ true = c.in_err-check-2.ensures.taken.1 taken in cc in
-    absurd (not-taken g.P.Port.port c.args.self.now.ports.items c.len-2.result (rest_of c.args.self.now) c.args.offers.now c.args.hits.now course untaken call)
+returns-in_err-check-2-clause-course g c = untaken g.P.Port.port c.args.self.now.ports.items c.len-2.result _ c.args.offers.now c.args.hits.now c.in_err-check-2.ensures.taken _
 
 pub returns-in_err-check-2-clause-network_has : goal.returns-in_err-check-2-clause-network_has
-returns-in_err-check-2-clause-network_has g c = λ course call.
-    let untaken : AreTaken c.len-2.result c.args.hits.now → ⊥ = λ taken. let e : false ≡ true = c.in_err-check-2.ensures.taken.1 taken in cc in
-    absurd (not-taken g.P.Port.port c.args.self.now.ports.items c.len-2.result (rest_of c.args.self.now) c.args.offers.now c.args.hits.now course untaken call)
+returns-in_err-check-2-clause-network_has g c = untaken g.P.Port.port c.args.self.now.ports.items c.len-2.result _ c.args.offers.now c.args.hits.now c.in_err-check-2.ensures.taken _
 
 pub returns-in_err-check-2-clause-network_whole : goal.returns-in_err-check-2-clause-network_whole
-returns-in_err-check-2-clause-network_whole g c = λ course call past.
-    let untaken : AreTaken c.len-2.result c.args.hits.now → ⊥ = λ taken. let e : false ≡ true = c.in_err-check-2.ensures.taken.1 taken in cc in
-    absurd (not-taken g.P.Port.port c.args.self.now.ports.items c.len-2.result (rest_of c.args.self.now) c.args.offers.now c.args.hits.now course untaken call)
+returns-in_err-check-2-clause-network_whole g c = untaken g.P.Port.port c.args.self.now.ports.items c.len-2.result _ c.args.offers.now c.args.hits.now c.in_err-check-2.ensures.taken _
 
 pub returns-in_err-check-2-clause-network_tally : goal.returns-in_err-check-2-clause-network_tally
-returns-in_err-check-2-clause-network_tally g c = λ course call past.
-    let untaken : AreTaken c.len-2.result c.args.hits.now → ⊥ = λ taken. let e : false ≡ true = c.in_err-check-2.ensures.taken.1 taken in cc in
-    absurd (not-taken g.P.Port.port c.args.self.now.ports.items c.len-2.result (rest_of c.args.self.now) c.args.offers.now c.args.hits.now course untaken call)
+returns-in_err-check-2-clause-network_tally g c = untaken g.P.Port.port c.args.self.now.ports.items c.len-2.result _ c.args.offers.now c.args.hits.now c.in_err-check-2.ensures.taken _
 
 pub returns-in_err-check-2-clause-network_rests : goal.returns-in_err-check-2-clause-network_rests
-returns-in_err-check-2-clause-network_rests g c = λ course call past.
-    let untaken : AreTaken c.len-2.result c.args.hits.now → ⊥ = λ taken. let e : false ≡ true = c.in_err-check-2.ensures.taken.1 taken in cc in
-    absurd (not-taken g.P.Port.port c.args.self.now.ports.items c.len-2.result (rest_of c.args.self.now) c.args.offers.now c.args.hits.now course untaken call)
+returns-in_err-check-2-clause-network_rests g c = untaken g.P.Port.port c.args.self.now.ports.items c.len-2.result _ c.args.offers.now c.args.hits.now c.in_err-check-2.ensures.taken _
 
 pub returns-in_err-check-2-clause-network_active : goal.returns-in_err-check-2-clause-network_active
-returns-in_err-check-2-clause-network_active g c = λ course call.
-    let untaken : AreTaken c.len-2.result c.args.hits.now → ⊥ = λ taken. let e : false ≡ true = c.in_err-check-2.ensures.taken.1 taken in cc in
-    absurd (not-taken g.P.Port.port c.args.self.now.ports.items c.len-2.result (rest_of c.args.self.now) c.args.offers.now c.args.hits.now course untaken call)
+returns-in_err-check-2-clause-network_active g c = untaken g.P.Port.port c.args.self.now.ports.items c.len-2.result _ c.args.offers.now c.args.hits.now c.in_err-check-2.ensures.taken _
 
 pub returns-clause-taken : goal.returns-clause-taken
 returns-clause-taken g c =

@@ -1,6 +1,6 @@
 use Rattle.std.proofs.Common.{◌≡◌, ◌-◌, ◌≤◌, ◌<◌, ℕ, get_or, length}
 use Rattle.can_frame.specs.declared.level.Level.{Level}
-use Rattle.can_bus.specs.Network.{call_after, call_level, call_refused}
+use Rattle.can_bus.specs.Offers.{call_after, call_level, call_refused}
 use Rattle.can_bus.specs.State.{state_of}
 use Rattle.can_bus.specs.Walks.{IsCall, IsReached}
 use Rattle.can_bus.proofs.bus.Bus.play_disturbed.Given as goal

@@ -1,0 +1,65 @@
+-- Attempts that are hit: in which attempt and where, in the window of its frame, and what the ports count. Nothing here knows what a
+-- port does in a bit time. (docs/BUS.md, "A disturbed bus"; Bosch CAN 2.0 part B, sections whose numbers stand in brackets)
+use Rattle.std.specs.Prelude.{ℕ, ◌≡◌, ◌+◌, ◌-◌, ◌<◌, ◌≤◌, ◌==◌, nat_lt, Bool, true, false, if◌then◌else◌, List, [], ◌∷◌, length, take, Option, Some, None, slice_get}
+use Rattle.can_frame.specs.Parts.{Parts}
+use Rattle.can_frame.specs.Arbitration.{arbitration_field}
+use Rattle.can_wire.specs.Stuffing.{kept}
+use Rattle.can_wire.specs.Wire.{stuffed_part, wire}
+use Rattle.can_fault.specs.Counters.{fresh}
+use Rattle.can_mac.specs.Frames.{IsActive, slot_place}
+use Rattle.can_hit.specs.declared.hit.Hit.{Hit}
+use Rattle.can_hit.specs.declared.hit.Hit.TheVariants.{At, In, View}
+
+-- Hits.
+
+-- each hit falls within an attempt
+abbrev pub AreInAttempts : List Hit → Type 0
+AreInAttempts hits = (n : ℕ) (hit : Hit) → slice_get hits n ≡ Some hit → (attempt offset : ℕ) × (hit ≡ In attempt offset)
+
+-- where this attempt is hit, if it is
+abbrev pub hit_of : List Hit → ℕ → Option ℕ
+hit_of [] number = None
+hit_of (At time ∷ hits) number = hit_of hits number
+hit_of (In attempt offset ∷ hits) number = if attempt == number then Some offset else hit_of hits number
+hit_of (View time node ∷ hits) number = hit_of hits number
+
+-- the second falls in a later attempt than the first, by so many attempts or more
+abbrev pub IsLater : ℕ → Hit → Hit → Type 0
+IsLater by (In attempt offset) (In other place) = attempt + by ≤ other
+IsLater by a b = ⊥
+
+-- of two hits the one that is told later falls so many attempts later, or more
+abbrev pub AreApart : ℕ → List Hit → Type 0
+AreApart by hits = (m n : ℕ) (a b : Hit) → m < n → slice_get hits m ≡ Some a → slice_get hits n ≡ Some b → IsLater by a b
+
+-- The window.
+
+-- how many levels of the stuffed part, its stuff bits aside, stand before this place
+abbrev pub unstuffed_before : Parts → ℕ → ℕ
+unstuffed_before f offset = length (kept (stuffed_part f) 0 (take offset (stuffed_part f)))
+
+-- The place stands behind start of frame and arbitration field, and is at most that of the last but one level of the end of
+-- frame. (3.2.1, 5)
+pub record IsInWindow (f : Parts) (offset : ℕ) : Type 0 where
+  pub behind_field : length (arbitration_field f) < unstuffed_before f offset
+  pub before_last : offset + 2 ≤ length (wire f)
+
+-- The tally.
+
+-- the error counters of a port
+pub record Tally : Type 0 where
+  pub tec : ℕ
+  pub rec : ℕ
+
+-- What an attempt to send f makes of them, at the port that holds f and at each other one. Where it isn't hit the sender's TEC and
+-- each receiver's REC go down by one. Where it is hit they go up, by eight and by one; where the hit falls behind the ACK slot, a
+-- receiver has counted the reception before. (8)
+abbrev pub tallied : Bool → Parts → Option ℕ → Tally → Tally
+tallied true f None t = record { tec = t.tec - 1; rec = t.rec }
+tallied false f None t = record { tec = t.tec; rec = t.rec - 1 }
+tallied true f (Some offset) t = record { tec = t.tec + 8; rec = t.rec }
+tallied false f (Some offset) t = record { tec = t.tec; rec = (if nat_lt (slot_place f) offset then t.rec - 1 else t.rec) + 1 }
+
+-- counters of an error active port (8)
+abbrev pub IsLow : Tally → Type 0
+IsLow t = IsActive (record fresh { tec = t.tec; rec = t.rec })
