@@ -18,6 +18,8 @@ use wire::{Bus, Hit, Offer};
 struct Scenario {
     ports: usize,
     joining: usize,
+    /// how many bit times the bus rests before the first call
+    rest: usize,
     bits: usize,
     call: usize,
     queue: usize,
@@ -44,6 +46,7 @@ impl Scenario {
             match word {
                 "ports" => scenario.ports = first().parse()?,
                 "joining" => scenario.joining = first().parse()?,
+                "rest" => scenario.rest = first().parse()?,
                 "bits" => scenario.bits = first().parse()?,
                 "call" => scenario.call = first().parse()?,
                 "queue" => scenario.queue = first().parse()?,
@@ -110,6 +113,11 @@ fn main() -> Result<(), Box<dyn Error>> {
     let mut bus = Bus::new(ports);
     let mut levels = vec![Recessive; scenario.call];
     let mut sum = Checksum(0xcbf2_9ce4_8422_2325);
+    let mut rested = vec![Recessive; scenario.rest];
+    bus.run(&[], &[], &mut rested);
+    for &level in &rested {
+        sum.add(u64::from(level == Recessive));
+    }
     for _ in 0..scenario.bits / scenario.call {
         // a frame that finds no room in its queue is let go
         for &(port, frame) in &scenario.frames {
