@@ -12,7 +12,7 @@ use Rattle.can_bus.specs.Attempts.{AreApart, IsLow, Tally, hit_of, tallied}
 use Rattle.can_bus.specs.Course.{Transmission, and_hit, course_tally, hit_time, hits_made}
 use Rattle.can_bus.specs.Quiet.{busy_time, holds}
 use Rattle.can_bus.specs.Repair.{AreBorne, AreOfOnePort, HoldsAllOrNone, attempts_from, no_errors, repaired_course, tally}
-use Rattle.can_bus.proofs.PassedFrames.{none-taken}
+use Rattle.can_bus.proofs.Members.{none-taken}
 use Rattle.can_bus.proofs.RepairPlans.{few-made, from-again, from-whole, hit-cases, struck-there}
 
 -- ---- Few hits.

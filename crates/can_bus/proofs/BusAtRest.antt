@@ -6,8 +6,7 @@ use Rattle.std.proofs.lemmas.Bool.{cases_Bool, cond-true, cond-false, lt-ltb, lt
 use Rattle.std.proofs.lemmas.Bool.Decides.{nat_tests}
 use Rattle.std.proofs.lemmas.Option.{slice_get_within, get_or_from_slice_get}
 use Rattle.can_frame.specs.declared.level.Level.{Level}
-use Rattle.can_frame.specs.declared.level.Level.TheVariants.{Dominant, Recessive}
-use Rattle.can_frame.specs.Levels.{is_recessive}
+use Rattle.can_frame.specs.declared.level.Level.TheVariants.{Recessive}
 use Rattle.can_frame.specs.IdleRow.{idle_row}
 use Rattle.can_node.specs.Ports.{PortState, port_drives, port_step}
 use Rattle.can_hit.specs.declared.hit.Hit.{Hit}
@@ -157,10 +156,6 @@ sampled_rest hits time k (p ∷ ports) none still =
     ap (λ b. port_step p (inverted_if b Recessive) ∷ all_sampled hits time Recessive (k + 1) ports) (none k)
     ∙ ap (λ q. q ∷ all_sampled hits time Recessive (k + 1) ports) here
     ∙ ap (λ ps. p ∷ ps) (sampled_rest hits time (k + 1) ports none there)
-
-pub told_recessive : (x : Level) → is_recessive x ≡ true → x ≡ Recessive
-told_recessive Dominant e = cc
-told_recessive Recessive e = refl
 
 -- what a bus at rest is
 pub record IsResting (bus : BusState) : Type 0 where

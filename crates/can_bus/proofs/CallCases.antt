@@ -20,10 +20,6 @@ pub offers-taken : {X T E : Type 0} (state : X → PortState) (xs : List X) (off
     AreOffered (length (map state xs)) offers → IsOk r
 offers-taken state xs offers r taken offered = taken.1 (subst (λ n. AreOffered n offers) (length-map xs state) offered, no-hits (length xs))
 
-pub on-ok : {T E : Type 0} (r : Result T E) (A B : Type 0) → (A → B) → OnOk r A → OnOk r B
-on-ok (Ok x) A B k h = k h
-on-ok (Err e) A B k h = h
-
 pub if-ok : {T E : Type 0} (r : Result T E) (P Q : T → Type 0) → ((x : T) → P x → Q x) → IfOk r P → IfOk r Q
 if-ok (Ok x) P Q k h = k x h
 if-ok (Err e) P Q k h = h

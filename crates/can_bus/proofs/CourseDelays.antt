@@ -1,6 +1,6 @@
 -- How long an offered frame waits at most, where frames are disturbed meanwhile.
 use Rattle.std.specs.Prelude.{filter, nat_lt, slice_get, take, ◌&&◌}
-use Rattle.std.proofs.Common.{◌≡◌, ℕ, zero, suc, ◌+◌, ◌-◌, ◌<◌, ◌≤◌, Bool, true, false, cond, Option, Some, None, List, [], ◌∷◌, ◌++◌, length, map, refl, sym, ◌∙◌, ap, subst, inl, inr, arith}
+use Rattle.std.proofs.Common.{◌≡◌, ℕ, zero, suc, ◌+◌, ◌<◌, ◌≤◌, Bool, true, false, cond, Option, Some, None, List, [], ◌∷◌, ◌++◌, length, map, refl, sym, ◌∙◌, ap, subst, inl, inr, arith}
 use Rattle.std.specs.List.{sum_by}
 use Rattle.std.proofs.lemmas.Bool.{cases_Bool, cases_lt, lt-ltb}
 use Rattle.std.proofs.lemmas.List.Sums.{sum_by-cons, sum_by-append}
@@ -37,7 +37,7 @@ parted [] n x at = absurd (let h : None ≡ Some x = at in cc)
 parted (y ∷ offers) zero x at = let e : y ≡ x = (let h : Some y ≡ Some x = at in cc) in (offers, ap (λ z. z ∷ offers) e)
 parted (y ∷ offers) (suc n) x at = let rest = parted offers n x at in (rest.0, ap (λ l. y ∷ l) rest.1)
 
-in-order : (offers : List TimedParts) → AreInTime offers → FieldsInOrder offers
+pub in-order : (offers : List TimedParts) → AreInTime offers → FieldsInOrder offers
 in-order [] rise f = tt
 in-order (x ∷ offers) rise f =
     let rest : AreInOrder (of_field f offers) = in-order offers (λ m n y z less a b. rise (suc m) (suc n) y z (omega (arith, less)) a b) f in

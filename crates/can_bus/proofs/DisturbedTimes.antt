@@ -17,12 +17,9 @@ use Rattle.can_hit.specs.declared.hit.Hit.TheVariants.{At, In, View}
 use Rattle.can_bus.specs.declared.moment.Attempt.{Attempt}
 use Rattle.can_bus.specs.Disturbed.{level_then, rest_before, begins_at, attempts_before, IsBeginning, FallsOnWire}
 use Rattle.can_bus.specs.Run.{aged, begins_attempt, following, hits_view, hits_wire, inverted_if, is_attempt, rest_after}
+use Rattle.can_bus.proofs.Members.{none-taken}
 
 -- How many recessive levels stand last.
-
-take-none : {A : Type 0} (xs : List A) → take 0 xs ≡ []
-take-none [] = refl
-take-none (x ∷ xs) = refl
 
 last-more : (levels : List Level) (x : Level) → suffix_len is_recessive (levels ++ x ∷ []) ≡ cond (is_recessive x) (1 + suffix_len is_recessive levels) 0
 last-more levels x = rw reverse-append refl
@@ -37,7 +34,7 @@ last-replicate n =
 pub rest_before-none : (rest : ℕ) (recorded : List Level) → rest_before rest recorded 0 ≡ rest
 unfolding rest_before
 rest_before-none rest recorded =
-    ap (λ levels. suffix_len is_recessive (replicate rest Recessive ++ levels)) (take-none recorded)
+    ap (λ levels. suffix_len is_recessive (replicate rest Recessive ++ levels)) (none-taken recorded)
     ∙ ap (suffix_len is_recessive) (append-nil (replicate rest Recessive)) ∙ last-replicate rest
 
 pub rest_before-more : (rest : ℕ) (recorded : List Level) (t : ℕ) → t < length recorded →

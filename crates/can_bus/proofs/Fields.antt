@@ -107,6 +107,9 @@ like-has f x (g ∷ queue) h = elim (cases_Bool (same_field f g)) [
   | inr other ↦ inr (like-has f x queue (subst (Has x) (like-skip f g queue other) h))
 ]
 
+same-head : (f w : Parts) (a b : List Parts) → f ∷ a ≡ w ∷ b → w ≡ f
+same-head f w a b both = cc
+
 -- where none goes before it, the first of a field waits
 pub head-waits : (queue : List Parts) (f : Parts) (more : List Parts) → like f queue ≡ f ∷ more → ((x : Parts) → Has x queue → (arbitration_field f ≡ arbitration_field x) ⊎ Goes f x) →
     waiting queue ≡ Some f
@@ -121,9 +124,7 @@ head-waits queue f more head least =
       | inl same ↦
           let first = head-at f w queue is.place is.stands (Shares-same_field f w same)
           (λ n g less here e. Before-differs (arbitration_field w) (arbitration_field g) (is.first n g less here) (sym same ∙ e)) in
-          let one : f ∷ more ≡ w ∷ first.0 = sym head ∙ first.1 in
-          let e : w ≡ f = cc in
-          there.1 ∙ ap Some e
+          there.1 ∙ ap Some (same-head f w more first.0 (sym head ∙ first.1))
     ]
 
 -- ---- without the first of a field

@@ -1,5 +1,5 @@
 -- Which elements a list has, place by place.
-use Rattle.std.proofs.Common.{◌≡◌, ℕ, zero, suc, ◌⊎◌, Bool, true, false, cond, Some, List, [], ◌∷◌, ◌++◌, map, refl, sym, ◌∙◌, ap, subst, inl, inr}
+use Rattle.std.proofs.Common.{◌≡◌, ℕ, zero, suc, ◌⊎◌, Bool, true, false, cond, Some, List, [], ◌∷◌, ◌++◌, map, take, refl, sym, ◌∙◌, ap, subst, inl, inr}
 use Rattle.std.specs.Prelude.{slice_get, filter, option_map}
 use Rattle.std.proofs.lemmas.Bool.{cond-true}
 use Rattle.std.specs.List.Sorted.{IsPermutation}
@@ -12,6 +12,12 @@ Stands xs x = (n : ℕ) × (slice_get xs n ≡ Some x)
 
 pub stands-none : {A : Type 0} (x : A) → Stands [] x → ⊥
 stands-none x s = let e = s.1 in cc
+
+-- ---- no element
+
+pub none-taken : {A : Type 0} (xs : List A) → take 0 xs ≡ []
+none-taken [] = refl
+none-taken (x ∷ xs) = refl
 
 -- ---- one element in front
 
@@ -35,14 +41,6 @@ pub stands-among : {A : Type 0} (xs : List A) (y : A) (ys : List A) (x : A) → 
 stands-among [] y ys x s = stands-later y ys x s
 stands-among (z ∷ xs) y ys x s =
     elim (stands-cases z (xs ++ ys) x s) [ inl e ↦ (0, ap Some e) | inr later ↦ stands-later z (xs ++ y ∷ ys) x (stands-among xs y ys x later) ]
-
-pub stands-apart : {A : Type 0} (xs : List A) (y : A) (ys : List A) (x : A) → Stands (xs ++ y ∷ ys) x → (y ≡ x) ⊎ Stands (xs ++ ys) x
-stands-apart [] y ys x s = stands-cases y ys x s
-stands-apart (z ∷ xs) y ys x s =
-    elim (stands-cases z (xs ++ y ∷ ys) x s) [
-      | inl e ↦ inr (0, ap Some e)
-      | inr later ↦ elim (stands-apart xs y ys x later) [ inl e ↦ inl e | inr other ↦ inr (stands-later z (xs ++ ys) x other) ]
-    ]
 
 -- ---- two lists, one behind the other
 

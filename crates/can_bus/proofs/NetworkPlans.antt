@@ -1,10 +1,10 @@
 -- Ports that are made idle, with offers and hits as planned, are a network.
 use Rattle.std.specs.Prelude.{slice_get, max}
-use Rattle.std.proofs.Common.{◌≡◌, ℕ, zero, suc, ◌+◌, ◌≤◌, Option, Some, None, List, [], ◌∷◌, All, length, map, refl, sym, ap, subst, ◌∙◌, arith, inl, inr, ◌⊎◌}
+use Rattle.std.proofs.Common.{◌≡◌, ℕ, zero, suc, ◌+◌, ◌≤◌, Some, None, List, [], ◌∷◌, All, length, map, refl, sym, ap, subst, ◌∙◌, arith, inl, inr}
 use Rattle.std.proofs.lemmas.Bool.{le-leb}
 use Rattle.std.proofs.lemmas.List.{length-map}
 use Rattle.can_frame.specs.Parts.{Parts}
-use Rattle.can_node.specs.Ports.{PortState, waiting}
+use Rattle.can_node.specs.Ports.{PortState}
 use Rattle.can_node.specs.Waiting.{IsWaiting}
 use Rattle.can_node.proofs.WaitingLaws.{waiting-IsWaiting}
 use Rattle.can_hit.specs.declared.hit.Hit.{Hit}
@@ -19,7 +19,7 @@ use Rattle.can_bus.specs.Plans.{PlannedPort, planned, ready_port}
 use Rattle.can_bus.specs.Quiet.{IsQuietPort, busy_time}
 use Rattle.can_bus.specs.Timed.{TimedParts, Lists, earliest, frames_of, offered_by, without_offer}
 use Rattle.can_bus.proofs.BorneHits.{few-course}
-use Rattle.can_bus.proofs.CourseLaws.{course-there}
+use Rattle.can_bus.proofs.CourseLaws.{course-there, frame-there}
 use Rattle.can_bus.proofs.Fields.{without-listed}
 use Rattle.can_bus.proofs.Members.{stands-none}
 use Rattle.can_bus.proofs.LeftOffers.{offered-stands}
@@ -86,9 +86,6 @@ module _ (offers : List Offer) (hits : List Hit) (plans : List PlannedPort) (is 
 
 -- ---- a frame that comes back
 
-frame-cases : (w : Option Parts) → (w ≡ None) ⊎ ((f : Parts) × (w ≡ Some f))
-frame-cases None = inl refl
-frame-cases (Some f) = inr (f, refl)
 
 -- all offers are of one frame
 abbrev AreOfFrame : Parts → List TimedParts → Type 0
@@ -103,34 +100,31 @@ module _ (f : Parts) (hits : List Hit) (windows : AllInWindow f hits) where
       let time : ℕ = max free (earliest x others) in
       let behind : Parts → List Transmission = λ g. course_from count hits (number + 1) (time + busy_time g) (without_offer g left) in
       let again : Parts → ℕ → List Transmission = λ g o. course_from count hits (number + 1) (time + hit_time g o) left in
-      elim (frame-cases (waiting (offered_by time left))) [
-        | inl none ↦ subst HitInWindows (sym (ap (attempt_of behind again time (hit_of hits number)) none)) (λ s o made e. absurd made)
-        | inr some ↦
-            let g = some.0 in
-            let waits : IsWaiting (offered_by time left) g = waiting-IsWaiting (offered_by time left) g some.1 in
-            let there = offered-stands time left g (waits.place, waits.stands) in
-            let same : g ≡ f = sym there.3 ∙ are there.0 there.1 in
-            subst HitInWindows (sym (ap (attempt_of behind again time (hit_of hits number)) some.1))
-            (elim (hit-cases (hit_of hits number)) [
-              | inl unhit ↦
-                  subst HitInWindows (sym (ap (λ h. attempt_of behind again time h (Some g)) unhit))
-                  (λ s o made e. elim made [
-                    | inl here ↦ absurd (let h : None ≡ Some o = ap (λ (z : Transmission). z.hit) here ∙ e in cc)
-                    | inr later ↦ windows-from count (number + 1) (time + busy_time g) (without_offer g left) (λ y l. are y (without-listed g left y l)) s o later e
-                  ])
-              | inr struck ↦
-                  let at = struck-there hits number struck.0 struck.1 in
-                  subst HitInWindows (sym (ap (λ h. attempt_of behind again time h (Some g)) struck.1))
-                  (λ s o made e. elim made [
-                    | inl here ↦
-                        let one : Some struck.0 ≡ Some o = ap (λ (z : Transmission). z.hit) here ∙ e in
-                        let place : struck.0 ≡ o = cc in
-                        subst (λ k. IsInWindow s.frame k) place
-                        (subst (λ h. IsInWindow h struck.0) (sym same ∙ ap (λ (z : Transmission). z.frame) here) (windows at.0 number struck.0 at.1))
-                    | inr later ↦ windows-from count (number + 1) (time + hit_time g struck.0) left are s o later e
-                  ])
+      let some = frame-there free x others in
+      let g = some.0 in
+      let waits : IsWaiting (offered_by time left) g = waiting-IsWaiting (offered_by time left) g some.1 in
+      let there = offered-stands time left g (waits.place, waits.stands) in
+      let same : g ≡ f = sym there.3 ∙ are there.0 there.1 in
+      subst HitInWindows (sym (ap (attempt_of behind again time (hit_of hits number)) some.1))
+      (elim (hit-cases (hit_of hits number)) [
+        | inl unhit ↦
+            subst HitInWindows (sym (ap (λ h. attempt_of behind again time h (Some g)) unhit))
+            (λ s o made e. elim made [
+              | inl here ↦ absurd (let h : None ≡ Some o = ap (λ (z : Transmission). z.hit) here ∙ e in cc)
+              | inr later ↦ windows-from count (number + 1) (time + busy_time g) (without_offer g left) (λ y l. are y (without-listed g left y l)) s o later e
             ])
-      ]
+        | inr struck ↦
+            let at = struck-there hits number struck.0 struck.1 in
+            subst HitInWindows (sym (ap (λ h. attempt_of behind again time h (Some g)) struck.1))
+            (λ s o made e. elim made [
+              | inl here ↦
+                  let one : Some struck.0 ≡ Some o = ap (λ (z : Transmission). z.hit) here ∙ e in
+                  let place : struck.0 ≡ o = cc in
+                  subst (λ k. IsInWindow s.frame k) place
+                  (subst (λ h. IsInWindow h struck.0) (sym same ∙ ap (λ (z : Transmission). z.frame) here) (windows at.0 number struck.0 at.1))
+              | inr later ↦ windows-from count (number + 1) (time + hit_time g struck.0) left are s o later e
+            ])
+      ])
 
 again-at : (f : Parts) (times : List ℕ) (n : ℕ) (offer : Offer) → slice_get (offered_again f times) n ≡ Some offer →
     (t : ℕ) × (slice_get times n ≡ Some t) × (offer ≡ record { time = t; node = 0; frame = f })

@@ -20,7 +20,7 @@ use Rattle.can_bus.specs.Quiet.{holds}
 use Rattle.can_bus.specs.Run.{BusState}
 use Rattle.can_bus.specs.Timed.{TimedParts, Lists, frames_of, offered_by}
 use Rattle.can_bus.proofs.Contests.{AllPorts, has-at}
-use Rattle.can_bus.proofs.Members.{stands-map}
+use Rattle.can_bus.proofs.Members.{none-taken, stands-map}
 use Rattle.can_bus.proofs.OfferLemmas.{offers-rise}
 use Rattle.can_bus.proofs.OfferTimes.{AreInOrder, offered-arrived, offered_by-append, offered_by-first, frames-offered}
 use Rattle.can_bus.proofs.OpenStart.{EachFrom, OfFrames, each-from, frames-first, frames-to, order-of, rooms}
@@ -29,7 +29,6 @@ use Rattle.can_bus.proofs.PortOffers.{port_offers}
 use Rattle.can_bus.proofs.QuietLogs.{holds-own}
 use Rattle.can_bus.proofs.HitRuns.{AreWithin}
 use Rattle.can_bus.proofs.HitWires.{HitWire}
-use Rattle.can_bus.proofs.PassedFrames.{none-taken}
 use Rattle.can_bus.proofs.RepairPlans.{Apart, apart-within, later-from}
 use Rattle.can_bus.proofs.CoursePorts.{CoursePort, IsCoursePort}
 use Rattle.can_bus.proofs.CourseRounds.{CourseRound, Owned, held, machines_of}

@@ -5,7 +5,8 @@ use Rattle.std.proofs.Math.Dec.{eqb, leb}
 use Rattle.std.proofs.lemmas.Bool.{cond-true, cond-false, cases_eq, cases_lt, le-leb, lt-leb, eq-eqb, ne_eqb}
 use Rattle.std.proofs.lemmas.List.{append-nil}
 use Rattle.can_frame.specs.Parts.{Parts}
-use Rattle.can_node.proofs.Arrivals.{arrived, later_by, later_by-at}
+use Rattle.can_node.proofs.Arrivals.{arrived, later_by}
+use Rattle.can_node.proofs.GainingBreaks.{arrived-more}
 use Rattle.can_bus.specs.Timed.{TimedParts, Lists, frames_of, offered_by}
 use Rattle.can_bus.specs.OpenBus.{offered_first}
 use Rattle.can_bus.proofs.Members.{stands-here, stands-later}
@@ -104,14 +105,6 @@ frames-offered t (x ∷ own) are = elim (cases_lt t x.time) [
   | inl late ↦ subst AreFrames (sym (by-late x own t late)) (frames-offered t own are.1)
   | inr early ↦ subst AreFrames (sym (by-early x own t early)) (are.0, frames-offered t own are.1)
 ]
-
-arrived-more : (n m : ℕ) (arrives : ℕ → List Parts) → arrived arrives (n + m) ≡ arrived arrives n ++ arrived (later_by n arrives) m
-arrived-more n zero arrives = ap (arrived arrives) (let e : n + 0 ≡ n = omega arith in e) ∙ sym (append-nil (arrived arrives n))
-arrived-more n (suc m) arrives =
-    ap (arrived arrives) (let e : n + suc m ≡ suc (n + m) = omega arith in e)
-    ∙ ap (λ a. a ++ arrives (suc (n + m))) (arrived-more n m arrives)
-    ∙ append_assoc (arrived arrives n) (arrived (later_by n arrives) m) (arrives (suc (n + m)))
-    ∙ ap (λ b. arrived arrives n ++ (arrived (later_by n arrives) m ++ b)) (ap arrives (let e : suc (n + m) ≡ n + suc m = omega arith in e) ∙ sym (later_by-at n (suc m) arrives))
 
 -- n bit times later, in which what has arrived waits behind this queue
 pub queue-later : (now n : ℕ) (arrives : ℕ → List Parts) (queue : List Parts) (own : List TimedParts) → ((m : ℕ) → queue ++ arrived arrives m ≡ offered_by (now + m) own) →

@@ -27,6 +27,7 @@ use Rattle.can_bus.specs.Passing.{IsReceived, MayPass, MayPassAll, PassesAt, Pas
 use Rattle.can_bus.specs.Run.{CallState, all_sampled, aged, attempt_now, begins_attempt, bus_after, bus_step, following, hits_view, hits_wire, inverted_if, recorded, rest_after, wired_level}
 use Rattle.can_bus.specs.Walks.{AreBelow, IsCall, IsFreeFrom, IsPassed, aged_by, in_now}
 use Rattle.can_bus.specs.Wired.{over, wired}
+use Rattle.can_bus.proofs.Members.{none-taken}
 use Rattle.can_bus.proofs.AsidePorts.{apart-drives, aside-apart}
 use Rattle.can_bus.proofs.BusAtRest.{aged_more, aged_none}
 use Rattle.can_bus.proofs.Contests.{AllPorts}
@@ -37,10 +38,6 @@ use Rattle.can_bus.proofs.Reduction.{join_alone, join_more, maps-alike, over_wir
 use Rattle.can_bus.proofs.RestInFrames.{none-begins, rest_at-next, rest-line}
 use Rattle.can_bus.proofs.StepLemmas.{at_next, passed_more, view_later, within_next}
 use Rattle.can_bus.proofs.WireRuns.{all_after, rest_run}
-
-pub none-taken : {A : Type 0} (xs : List A) → take 0 xs ≡ []
-none-taken [] = refl
-none-taken (x ∷ xs) = refl
 
 -- ---- who takes part
 

@@ -4,7 +4,7 @@ use Rattle.std.proofs.lemmas.List.{length-map, length-take-le}
 use Rattle.can_node.specs.Ports.{PortState, port_drives}
 use Rattle.can_bus.specs.declared.bus.play_disturbed.Progress.{Progress}
 use Rattle.can_bus.specs.Offers.{call_after, call_level, offered_now, AreOffered, all_made, refused_at}
-use Rattle.can_bus.specs.Run.{CallState}
+use Rattle.can_bus.specs.Run.{BusState, CallState}
 use Rattle.can_bus.specs.State.{state_of}
 use Rattle.can_bus.specs.Walks.{IsReached, call_on}
 use Rattle.can_bus.specs.Wired.{wired}
@@ -23,8 +23,8 @@ go_through-requires-clause-driven g c =
     c.wired_level-driven.ensures ∙ ap (λ ps. wired (map port_drives (map S ps))) c.as_slice.ensures.value
     ∙ ap (λ (k : CallState). wired (map port_drives k.bus.ports)) (sym (c.pass_open-passed.ensures.unpassed zero))
 
-pub returns-clause-after : goal.returns-clause-after
-returns-clause-after g c = λ bus begun.
+pub returns : goal.returns
+returns g c =
     let S = g.P.Port.port in
     let offers = c.args.offers.now in
     let hits = c.args.hits.now in
@@ -32,7 +32,8 @@ returns-clause-after g c = λ bus begun.
     let place = c.pass_open-passed.new.progress.place in
     let start : CallState = call_on (state_of S c.pass_open-passed.new.self) c.pass_open-passed.new.call in
     let zero : c.pass_open-passed.result ≡ 0 = omega (arith, c.if-passed-gt0.false) in
-    let made : start ≡ offered_now offers (call_after offers hits time bus) = c.pass_open-passed.ensures.unpassed zero ∙ begun in
+    let made : (bus : BusState) → call_on (state_of S c.args.self.now) c.args.call.now ≡ offered_now offers (call_after offers hits time bus) → start ≡ offered_now offers (call_after offers hits time bus) =
+    λ bus begun. c.pass_open-passed.ensures.unpassed zero ∙ begun in
     let same = c.pass_open-passed.ensures.unmade zero in
     let now : c.pass_open-passed.new.call.time ≡ c.args.call.now.time = omega (arith, c.pass_open-passed.ensures.time, zero) in
     let first : IsReached offers place (time + 1) = subst (λ (p : Progress). IsReached offers p.place (time + 1)) (sym same) c.requires.reached in
@@ -42,56 +43,24 @@ returns-clause-after g c = λ bus begun.
     let span : length (take c.until_offer-count.result c.pass_open-passed.new.rec) ≡ c.until_offer-count.result =
     length-take-le c.until_offer-count.result c.pass_open-passed.new.rec (omega (arith, c.until_offer-count.ensures.most)) in
     let few : c.go_through.result ≤ c.until_offer-count.result = omega (arith, c.go_through.ensures.most, span) in
-    c.go_through.ensures.after ∙ sym (call-several offers hits bus time c.until_offer-count.result start made none c.go_through.result (omega (arith, c.go_through.ensures.some)) few)
-
-pub returns-clause-levels : goal.returns-clause-levels
-returns-clause-levels g c = λ bus begun t d early.
-    let S = g.P.Port.port in
-    let offers = c.args.offers.now in
-    let hits = c.args.hits.now in
-    let time = c.args.call.now.time in
-    let place = c.pass_open-passed.new.progress.place in
-    let start : CallState = call_on (state_of S c.pass_open-passed.new.self) c.pass_open-passed.new.call in
-    let zero : c.pass_open-passed.result ≡ 0 = omega (arith, c.if-passed-gt0.false) in
-    let made : start ≡ offered_now offers (call_after offers hits time bus) = c.pass_open-passed.ensures.unpassed zero ∙ begun in
-    let same = c.pass_open-passed.ensures.unmade zero in
-    let now : c.pass_open-passed.new.call.time ≡ c.args.call.now.time = omega (arith, c.pass_open-passed.ensures.time, zero) in
-    let first : IsReached offers place (time + 1) = subst (λ (p : Progress). IsReached offers p.place (time + 1)) (sym same) c.requires.reached in
-    let last : IsReached offers place (time + c.until_offer-count.result) = subst (λ t. IsReached offers place (t + c.until_offer-count.result)) now c.until_offer-count.ensures.reached in
-    let none : (t : ℕ) (ports : List PortState) → c.args.call.now.time < t → t < c.args.call.now.time + c.until_offer-count.result → (all_made offers t ports ≡ ports) × (refused_at offers t ports ≡ 0) =
-    λ t ports after before. none-between offers place time c.until_offer-count.result t ports first last after before in
-    let span : length (take c.until_offer-count.result c.pass_open-passed.new.rec) ≡ c.until_offer-count.result =
-    length-take-le c.until_offer-count.result c.pass_open-passed.new.rec (omega (arith, c.until_offer-count.ensures.most)) in
-    let few : c.go_through.result ≤ c.until_offer-count.result = omega (arith, c.go_through.ensures.most, span) in
-    let here : get_or c.go_through.new.rec t d ≡ call_level c.args.offers.now c.args.hits.now (c.args.call.now.time + t) bus =
-    c.go_through.ensures.levels t d early ∙ level-several offers hits bus time c.until_offer-count.result start made none t (time + t) (omega (arith, early, few)) refl in
-    first_of (grind (arith, elements), search rules)
-
-pub returns-clause-count : goal.returns-clause-count
-returns-clause-count g c = λ bus begun before.
-    let S = g.P.Port.port in
-    let offers = c.args.offers.now in
-    let hits = c.args.hits.now in
-    let time = c.args.call.now.time in
-    let place = c.pass_open-passed.new.progress.place in
-    let start : CallState = call_on (state_of S c.pass_open-passed.new.self) c.pass_open-passed.new.call in
-    let zero : c.pass_open-passed.result ≡ 0 = omega (arith, c.if-passed-gt0.false) in
-    let made : start ≡ offered_now offers (call_after offers hits time bus) = c.pass_open-passed.ensures.unpassed zero ∙ begun in
-    let same = c.pass_open-passed.ensures.unmade zero in
-    let now : c.pass_open-passed.new.call.time ≡ c.args.call.now.time = omega (arith, c.pass_open-passed.ensures.time, zero) in
-    let first : IsReached offers place (time + 1) = subst (λ (p : Progress). IsReached offers p.place (time + 1)) (sym same) c.requires.reached in
-    let last : IsReached offers place (time + c.until_offer-count.result) = subst (λ t. IsReached offers place (t + c.until_offer-count.result)) now c.until_offer-count.ensures.reached in
-    let none : (t : ℕ) (ports : List PortState) → c.args.call.now.time < t → t < c.args.call.now.time + c.until_offer-count.result → (all_made offers t ports ≡ ports) × (refused_at offers t ports ≡ 0) =
-    λ t ports after before. none-between offers place time c.until_offer-count.result t ports first last after before in
-    let span : length (take c.until_offer-count.result c.pass_open-passed.new.rec) ≡ c.until_offer-count.result =
-    length-take-le c.until_offer-count.result c.pass_open-passed.new.rec (omega (arith, c.until_offer-count.ensures.most)) in
-    let few : c.go_through.result ≤ c.until_offer-count.result = omega (arith, c.go_through.ensures.most, span) in
-    ap (λ (p : Progress). p.refused) same ∙ before
-    ∙ refused-several offers hits bus time c.until_offer-count.result start made none 1 (omega arith) (omega (arith, few, c.go_through.ensures.some))
-    ∙ sym (refused-several offers hits bus time c.until_offer-count.result start made none c.go_through.result (omega (arith, c.go_through.ensures.some)) few)
-
-pub returns-clause-ports : goal.returns-clause-ports
-returns-clause-ports g c =
-    let S = g.P.Port.port in
-    sym (length-map c.go_through.new.self.ports.items S) ∙ ap (λ (k : CallState). length k.bus.ports) c.go_through.ensures.after ∙ length-after c.args.hits.now _ _
-    ∙ length-map c.pass_open-passed.new.self.ports.items S ∙ c.pass_open-passed.ensures.ports
+    record {
+      some = omega (arith, c.go_through.ensures.some);
+      most = search rules;
+      after = λ bus begun.
+          c.go_through.ensures.after ∙ sym (call-several offers hits bus time c.until_offer-count.result start (made bus begun) none c.go_through.result (omega (arith, c.go_through.ensures.some)) few);
+      levels = λ bus begun t d early.
+          let here : get_or c.go_through.new.rec t d ≡ call_level offers hits (time + t) bus =
+          c.go_through.ensures.levels t d early ∙ level-several offers hits bus time c.until_offer-count.result start (made bus begun) none t (time + t) (omega (arith, early, few)) refl in
+          first_of (grind (arith, elements), search rules);
+      count = λ bus begun before.
+          ap (λ (p : Progress). p.refused) same ∙ before
+          ∙ refused-several offers hits bus time c.until_offer-count.result start (made bus begun) none 1 (omega arith) (omega (arith, few, c.go_through.ensures.some))
+          ∙ sym (refused-several offers hits bus time c.until_offer-count.result start (made bus begun) none c.go_through.result (omega (arith, c.go_through.ensures.some)) few);
+      reached = search rules;
+      refused = search rules;
+      ports =
+          sym (length-map c.go_through.new.self.ports.items S) ∙ ap (λ (k : CallState). length k.bus.ports) c.go_through.ensures.after ∙ length-after hits _ _
+          ∙ length-map c.pass_open-passed.new.self.ports.items S ∙ c.pass_open-passed.ensures.ports;
+      call = search rules;
+      time = search rules;
+    }

@@ -1,4 +1,4 @@
-use Rattle.std.proofs.Common.{◌≡◌, ◌++◌, List, drop, length, map, take, arith, rules, ap, subst, ◌∙◌}
+use Rattle.std.proofs.Common.{◌≡◌, ◌≤◌, ◌++◌, List, drop, length, map, take, arith, rules, ap, subst, ◌∙◌}
 use Rattle.std.proofs.lemmas.List.{take_at}
 use Rattle.can_node.specs.Ports.{PortState, port_run}
 use Rattle.can_bus.specs.Passing.{IsReceived, PassesBus}
@@ -21,8 +21,8 @@ returns-in_default-clause-after g c = after_none c.args.hits.now (call_on (state
 pub returns-then-count-eq0-clause-after : goal.returns-then-count-eq0-clause-after
 returns-then-count-eq0-clause-after g c = after_none c.args.hits.now (call_on (state_of g.P.Port.port c.args.self.now) c.args.call.now)
 
-pub returns-clause-levels : goal.returns-clause-levels
-returns-clause-levels g c =
+pub returns : goal.returns
+returns g c =
     let S = g.P.Port.port in
     let items = c.args.self.now.ports.items in
     let call = c.args.call.now in
@@ -30,24 +30,23 @@ returns-clause-levels g c =
     let rested : c.args.self.now.rest ≡ 11 = first_of (omega arith, search rules) in
     let got : IsReceived f (map S items) = subst (λ xs. IsReceived f (map S xs)) c.as_slice.ensures.value c.in-Some.ensures.received in
     let passes : PassesBus f (map S items) = subst (λ xs. PassesBus f (map S xs)) c.as_slice.ensures.value c.in-Some.ensures.passes in
-    line-recorded c.args.hits.now f c.in-Some.ensures.whole (map S items) c.args.self.now.rest call.time call.latest rested got (valid-ports S (λ x. g.met.P.Port.valid x) items) passes
-    c.lay_out-count.new.rec c.lay_out-count.result c.if-count-eq0.false (omega (arith, c.lay_out-count.ensures.most, c.lay_out-count.ensures.len)) (c.lay_out-count.ensures.levels c.if-count-eq0.false) c.in-Some-behind.ensures.free
-
-pub returns-clause-after : goal.returns-clause-after
-returns-clause-after g c =
-    let S = g.P.Port.port in
-    let items = c.args.self.now.ports.items in
-    let call = c.args.call.now in
-    let f = c.in-Some.passing.frame in
-    let rested : c.args.self.now.rest ≡ 11 = first_of (omega arith, search rules) in
-    let got : IsReceived f (map S items) = subst (λ xs. IsReceived f (map S xs)) c.as_slice.ensures.value c.in-Some.ensures.received in
-    let passes : PassesBus f (map S items) = subst (λ xs. PassesBus f (map S xs)) c.as_slice.ensures.value c.in-Some.ensures.passes in
+    let valid = valid-ports S (λ x. g.met.P.Port.valid x) items in
+    let within : c.lay_out-count.result ≤ length c.lay_out-count.new.rec = omega (arith, c.lay_out-count.ensures.most, c.lay_out-count.ensures.len) in
+    let are = c.lay_out-count.ensures.levels c.if-count-eq0.false in
     let len : length c.pass_all.new.ports ≡ c.args.self.now.ports.len = omega (arith, c.pass_all.auto.ports, c.as_mut_slice.ensures.len) in
     let back : take c.args.self.now.ports.len (c.pass_all.new.ports ++ drop (length c.pass_all.new.ports) c.args.self.now.ports.items) ≡ c.pass_all.new.ports =
     take_at c.pass_all.new.ports _ c.args.self.now.ports.len len in
     let next : List PortState = map S (take c.args.self.now.ports.len (c.pass_all.new.ports ++ drop (length c.pass_all.new.ports) c.args.self.now.ports.items)) in
     let goes : next ≡ map (λ p. port_run p (take c.lay_out-count.result c.lay_out-count.new.rec)) (map S items) =
     ap (map S) back ∙ c.pass_all.ensures ∙ ap (λ ys. map (λ p. port_run p (take c.lay_out-count.result c.lay_out-count.new.rec)) (map S ys)) c.as_mut_slice.ensures.value in
-    line-passed c.args.hits.now f c.in-Some.ensures.whole (map S items) c.args.self.now.rest call.time call.latest rested got (valid-ports S (λ x. g.met.P.Port.valid x) items) passes
-    c.lay_out-count.new.rec c.lay_out-count.result c.if-count-eq0.false (omega (arith, c.lay_out-count.ensures.most, c.lay_out-count.ensures.len)) (c.lay_out-count.ensures.levels c.if-count-eq0.false) c.in-Some-behind.ensures.free
-    next c.in-Some-behind.later.time c.in-Some-behind.later.latest goes c.in-Some-behind.ensures.time c.in-Some-behind.ensures.latest
+    record {
+      most = first_of (search rules, omega arith);
+      levels = line-recorded c.args.hits.now f c.in-Some.ensures.whole (map S items) c.args.self.now.rest call.time call.latest rested got valid passes
+          c.lay_out-count.new.rec c.lay_out-count.result c.if-count-eq0.false within are c.in-Some-behind.ensures.free;
+      after = line-passed c.args.hits.now f c.in-Some.ensures.whole (map S items) c.args.self.now.rest call.time call.latest rested got valid passes
+          c.lay_out-count.new.rec c.lay_out-count.result c.if-count-eq0.false within are c.in-Some-behind.ensures.free
+          next c.in-Some-behind.later.time c.in-Some-behind.later.latest goes c.in-Some-behind.ensures.time c.in-Some-behind.ensures.latest;
+      driven = search rules;
+      call = first_of (search rules, omega arith);
+      time = first_of (search rules, omega arith);
+    }

@@ -9,7 +9,7 @@ use Rattle.can_bus.specs.DisturbedPlay.{WasPlayed}
 use Rattle.can_bus.specs.declared.call.Call.{Call}
 use Rattle.can_hit.specs.Hits.{AreTaken}
 use Rattle.can_bus.specs.Offers.{call_after, call_level, call_refused, offered_now, AreOffered, all_made, refused_at}
-use Rattle.can_bus.specs.Run.{CallState}
+use Rattle.can_bus.specs.Run.{AreLevelsOf, CallState}
 use Rattle.can_bus.specs.State.{state_of}
 use Rattle.can_bus.specs.Walks.{IsCall, IsReached, call_on}
 use Rattle.can_bus.proofs.DisturbedPlays.{call-played}
@@ -81,17 +81,6 @@ returns-in_err-check-2-clause-network_rests g c = untaken g.P.Port.port c.args.s
 
 pub returns-in_err-check-2-clause-network_active : goal.returns-in_err-check-2-clause-network_active
 returns-in_err-check-2-clause-network_active g c = untaken g.P.Port.port c.args.self.now.ports.items c.len-2.result _ c.args.offers.now c.args.hits.now c.in_err-check-2.ensures.taken _
-
-pub returns-clause-taken : goal.returns-clause-taken
-returns-clause-taken g c =
-    let size : c.len.result ≡ length c.args.self.now.ports.items = search rules in
-    let size_again : c.len-2.result ≡ length c.args.self.now.ports.items = search rules in (
-      λ e. (
-        subst (λ n. AreOffered n c.args.offers.now) size (c.in_ok-check.ensures.taken.0 (refl {a = true})),
-        subst (λ n. AreTaken n c.args.hits.now) size_again (c.in_ok-check-2.ensures.taken.0 (refl {a = true})),
-      ),
-      λ both. refl {a = true},
-    )
 
 pub loop-place-init : goal.loop-place-init
 loop-place-init g c =
@@ -172,79 +161,49 @@ loop-place-preserved g c =
       within = first_of (omega (arith, c.go_ahead-place.ensures.most, left, size), search rules);
     }
 
-pub returns-clause-bus : goal.returns-clause-bus
-returns-clause-bus g c =
-    let size : c.loop-place.place ≡ length c.loop-place.rec = omega arith in
-    ap (λ (k : CallState). k.bus) c.loop-place.invariant.state ∙ ap (λ n. (call_after c.args.offers.now c.args.hits.now n (state_of g.P.Port.port c.args.self.now)).bus) size
-
-pub returns-clause-levels : goal.returns-clause-levels
-returns-clause-levels g c = λ t h.
-    slice_get-get_or c.loop-place.rec t Recessive h ∙ ap Some (c.loop-place.invariant.levels t Recessive (omega arith))
-
-pub returns-clause-count : goal.returns-clause-count
-returns-clause-count g c =
-    let size : c.loop-place.place ≡ length c.loop-place.rec = omega arith in
-    c.loop-place.invariant.count ∙ ap (λ n. call_refused c.args.offers.now c.args.hits.now n (state_of g.P.Port.port c.args.self.now)) size
-
-pub returns-clause-disturbed : goal.returns-clause-disturbed
-returns-clause-disturbed g c = λ rested.
-    let bus = state_of g.P.Port.port c.args.self.now in
-    subst (λ after. WasPlayed c.args.offers.now c.args.hits.now bus c.loop-place.rec after c.loop-place.progress.refused) (sym (returns-clause-bus g c))
-    (subst (λ count. WasPlayed c.args.offers.now c.args.hits.now bus c.loop-place.rec (call_after c.args.offers.now c.args.hits.now (length c.loop-place.rec) bus).bus count) (sym (returns-clause-count g c))
-    (call-played c.args.offers.now c.args.hits.now bus c.loop-place.rec rested (returns-clause-levels g c)))
-
--- ---- a network
-
-pub returns-clause-answer : goal.returns-clause-answer
-returns-clause-answer g c = λ course call.
-    ap Ok (c.loop-place.invariant.count ∙ network-refused c.args.offers.now c.args.hits.now course (state_of g.P.Port.port c.args.self.now) (valid-ports g.P.Port.port (λ x. g.met.P.Port.valid x) c.args.self.now.ports.items)
-    (c.in_ok-check.ensures.known (refl {a = true})) call c.loop-place.place)
-
-pub returns-clause-course : goal.returns-clause-course
-returns-clause-course g c = λ course call t within.
-    returns-clause-levels g c t within
-    ∙ ap Some (network-track c.args.offers.now c.args.hits.now course (state_of g.P.Port.port c.args.self.now) (valid-ports g.P.Port.port (λ x. g.met.P.Port.valid x) c.args.self.now.ports.items)
-    (c.in_ok-check.ensures.known (refl {a = true})) call t)
-
-pub returns-clause-network_logs : goal.returns-clause-network_logs
-returns-clause-network_logs g c = λ course call.
-    network-logs c.args.offers.now c.args.hits.now course (state_of g.P.Port.port c.args.self.now) (valid-ports g.P.Port.port (λ x. g.met.P.Port.valid x) c.args.self.now.ports.items)
-    (c.in_ok-check.ensures.known (refl {a = true})) call _ _ (returns-clause-bus g c)
-
-pub returns-clause-network_has : goal.returns-clause-network_has
-returns-clause-network_has g c = λ course call.
-    network-has c.args.offers.now c.args.hits.now course (state_of g.P.Port.port c.args.self.now) (valid-ports g.P.Port.port (λ x. g.met.P.Port.valid x) c.args.self.now.ports.items)
-    (c.in_ok-check.ensures.known (refl {a = true})) call _ _ (returns-clause-bus g c)
-
-pub returns-clause-network_whole : goal.returns-clause-network_whole
-returns-clause-network_whole g c = λ course call past.
-    network-whole c.args.offers.now c.args.hits.now course (state_of g.P.Port.port c.args.self.now) (valid-ports g.P.Port.port (λ x. g.met.P.Port.valid x) c.args.self.now.ports.items)
-    (c.in_ok-check.ensures.known (refl {a = true})) call _ _ (returns-clause-bus g c) past
-
-pub returns-clause-network_tally : goal.returns-clause-network_tally
-returns-clause-network_tally g c = λ course call past.
-    network-tally c.args.offers.now c.args.hits.now course (state_of g.P.Port.port c.args.self.now) (valid-ports g.P.Port.port (λ x. g.met.P.Port.valid x) c.args.self.now.ports.items)
-    (c.in_ok-check.ensures.known (refl {a = true})) call _ _ (returns-clause-bus g c) past
-
-pub returns-clause-network_active : goal.returns-clause-network_active
-returns-clause-network_active g c = λ course call.
-    network-active c.args.offers.now c.args.hits.now course (state_of g.P.Port.port c.args.self.now) (valid-ports g.P.Port.port (λ x. g.met.P.Port.valid x) c.args.self.now.ports.items)
-    (c.in_ok-check.ensures.known (refl {a = true})) call _ _ (returns-clause-bus g c)
-
-pub returns-clause-network_counts : goal.returns-clause-network_counts
-returns-clause-network_counts g c = λ course call errors few.
-    network-counts c.args.offers.now c.args.hits.now course (state_of g.P.Port.port c.args.self.now) (valid-ports g.P.Port.port (λ x. g.met.P.Port.valid x) c.args.self.now.ports.items)
-    (c.in_ok-check.ensures.known (refl {a = true})) call _ _ (returns-clause-bus g c) errors few
-
-pub returns-clause-network_missed : goal.returns-clause-network_missed
-returns-clause-network_missed g c = λ course call.
-    network-missed c.args.offers.now c.args.hits.now course (state_of g.P.Port.port c.args.self.now) (valid-ports g.P.Port.port (λ x. g.met.P.Port.valid x) c.args.self.now.ports.items)
-    (c.in_ok-check.ensures.known (refl {a = true})) call _ _ (returns-clause-bus g c)
-
-pub returns-clause-network_rests : goal.returns-clause-network_rests
-returns-clause-network_rests g c = λ course call past.
-    network-rests c.args.offers.now c.args.hits.now course (state_of g.P.Port.port c.args.self.now) (valid-ports g.P.Port.port (λ x. g.met.P.Port.valid x) c.args.self.now.ports.items)
-    (c.in_ok-check.ensures.known (refl {a = true})) call _ _ (returns-clause-bus g c) past
-
-pub returns-clause-known : goal.returns-clause-known
-returns-clause-known g c = c.in_ok-check.ensures.known
+pub returns : goal.returns
+returns g c =
+    let S = g.P.Port.port in
+    let items = c.args.self.now.ports.items in
+    let offers = c.args.offers.now in
+    let hits = c.args.hits.now in
+    let bus = state_of S c.args.self.now in
+    let size : c.len.result ≡ length c.args.self.now.ports.items = search rules in
+    let size_again : c.len-2.result ≡ length c.args.self.now.ports.items = search rules in
+    let valid = valid-ports S (λ x. g.met.P.Port.valid x) items in
+    let known = c.in_ok-check.ensures.known (refl {a = true}) in
+    let end : c.loop-place.place ≡ length c.loop-place.rec = omega arith in
+    let ran : state_of S c.loop-place.self ≡ (call_after offers hits (length c.loop-place.rec) bus).bus =
+    ap (λ (k : CallState). k.bus) c.loop-place.invariant.state ∙ ap (λ n. (call_after offers hits n bus).bus) end in
+    let recorded : AreLevelsOf (λ t. call_level offers hits t bus) c.loop-place.rec =
+    λ t h. slice_get-get_or c.loop-place.rec t Recessive h ∙ ap Some (c.loop-place.invariant.levels t Recessive (omega (arith, h, end))) in
+    let counted : c.loop-place.progress.refused ≡ call_refused offers hits (length c.loop-place.rec) bus = c.loop-place.invariant.count ∙ ap (λ n. call_refused offers hits n bus) end in
+    record {
+      taken = (
+        λ e. (
+          subst (λ n. AreOffered n offers) size (c.in_ok-check.ensures.taken.0 (refl {a = true})),
+          subst (λ n. AreTaken n hits) size_again (c.in_ok-check-2.ensures.taken.0 (refl {a = true})),
+        ),
+        λ both. refl {a = true},
+      );
+      fault = search rules;
+      bus = ran;
+      levels = recorded;
+      disturbed = λ rested.
+          subst (λ after. WasPlayed offers hits bus c.loop-place.rec after c.loop-place.progress.refused) (sym ran)
+          (subst (λ count. WasPlayed offers hits bus c.loop-place.rec (call_after offers hits (length c.loop-place.rec) bus).bus count) (sym counted) (call-played offers hits bus c.loop-place.rec rested recorded));
+      count = counted;
+      known = c.in_ok-check.ensures.known;
+      answer = λ course call. ap Ok (c.loop-place.invariant.count ∙ network-refused offers hits course bus valid known call c.loop-place.place);
+      course = λ course call t within. recorded t within ∙ ap Some (network-track offers hits course bus valid known call t);
+      network_logs = λ course call. network-logs offers hits course bus valid known call _ _ ran;
+      network_has = λ course call. network-has offers hits course bus valid known call _ _ ran;
+      network_whole = λ course call past. network-whole offers hits course bus valid known call _ _ ran past;
+      network_tally = λ course call past. network-tally offers hits course bus valid known call _ _ ran past;
+      network_active = λ course call. network-active offers hits course bus valid known call _ _ ran;
+      network_counts = λ course call errors few. network-counts offers hits course bus valid known call _ _ ran errors few;
+      network_missed = λ course call. network-missed offers hits course bus valid known call _ _ ran;
+      network_rests = λ course call past. network-rests offers hits course bus valid known call _ _ ran past;
+      unchanged = search rules;
+      unrecorded = search rules;
+    }

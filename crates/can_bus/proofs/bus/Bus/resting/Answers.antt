@@ -4,7 +4,8 @@ use Rattle.can_frame.specs.IdleRow.{idle_row}
 use Rattle.can_node.specs.Ports.{port_step}
 use Rattle.can_bus.specs.State.{state_of}
 use Rattle.can_bus.specs.Walks.{call_on}
-use Rattle.can_bus.proofs.BusAtRest.{IsResting, rest_recorded, rested_none, rests_on, told_recessive}
+use Rattle.can_frame.proofs.LevelTests.{level_recessive}
+use Rattle.can_bus.proofs.BusAtRest.{IsResting, rest_recorded, rested_none, rests_on}
 use Rattle.can_bus.proofs.bus.Bus.resting.Goals as goal
 
 pub returns-then-all_rest-clause-levels : goal.returns-then-all_rest-clause-levels
@@ -13,7 +14,7 @@ returns-then-all_rest-clause-levels g c = λ n h.
     let told : c.all_rest.result ≡ true = search rules in
     let row : c.args.self.now.rest ≡ idle_row = first_of (omega arith, cc, search rules) in
     let resting : IsResting (state_of g.P.Port.port c.args.self.now) = record {
-      wired = sym c.requires.driven ∙ told_recessive c.args.driven (sym c.is_recessive.ensures ∙ high);
+      wired = sym c.requires.driven ∙ level_recessive c.args.driven (sym c.is_recessive.ensures ∙ high);
       rest = row;
       still = subst (λ xs. map (λ p. port_step p Recessive) (map g.P.Port.port xs) ≡ map g.P.Port.port xs) c.as_slice.ensures.value (c.all_rest.ensures told);
     } in
@@ -26,7 +27,7 @@ returns-then-all_rest-clause-after g c =
     let told : c.all_rest.result ≡ true = search rules in
     let row : c.args.self.now.rest ≡ idle_row = first_of (omega arith, cc, search rules) in
     let resting : IsResting (state_of g.P.Port.port c.args.self.now) = record {
-      wired = sym c.requires.driven ∙ told_recessive c.args.driven (sym c.is_recessive.ensures ∙ high);
+      wired = sym c.requires.driven ∙ level_recessive c.args.driven (sym c.is_recessive.ensures ∙ high);
       rest = row;
       still = subst (λ xs. map (λ p. port_step p Recessive) (map g.P.Port.port xs) ≡ map g.P.Port.port xs) c.as_slice.ensures.value (c.all_rest.ensures told);
     } in

@@ -1,7 +1,8 @@
 use Rattle.std.proofs.Common.{◌≡◌, ◌+◌, ◌++◌, length, take, arith, sym, ap, ◌∙◌}
 use Rattle.can_mac.proofs.FrameEnds.{end_levels}
 use Rattle.can_mac.proofs.FrameParts.{line-parts}
-use Rattle.can_bus.proofs.PassedFrames.{none-taken, part-of}
+use Rattle.can_bus.proofs.Members.{none-taken}
+use Rattle.can_bus.proofs.PassedFrames.{part-of}
 use Rattle.can_bus.proofs.bus.line.lay_out.Goals as goal
 
 pub returns-clause-levels : goal.returns-clause-levels
