@@ -1,0 +1,70 @@
+-- A wire, one bit time after another, whoever drives it: that of a bus, without its ports.
+-- (docs/BUS.md, "A bit time", "Attempts" and "Disturbances")
+use Rattle.std.specs.Prelude.{ℕ, zero, suc, ◌≡◌, ◌↔◌, ◌+◌, ◌<◌, ◌≤◌, Bool, if◌then◌else◌, List, length, Option, Some, None}
+use Rattle.std.specs.List.{Any, list_any}
+use Rattle.can_frame.specs.declared.level.Level.{Level}
+use Rattle.can_frame.specs.Levels.{opposite}
+use Rattle.can_frame.specs.IdleRow.{idle_row}
+use Rattle.can_hit.specs.declared.hit.Hit.{Hit}
+use Rattle.can_bus.specs.declared.moment.Attempt.{Attempt}
+use Rattle.can_bus.specs.Disturbed.{FallsOnWire, level_then}
+use Rattle.can_bus.specs.Run.{CallState, aged, begins_attempt, following, hits_view, hits_wire, inverted_if, rest_after}
+use Rattle.can_bus.specs.Walks.{IsPassed}
+
+-- a wire before a bit time: how many recessive levels it had last in a row, counted up to eleven, the number of the bit time,
+-- and the latest attempt
+pub record WireState : Type 0 where
+  pub rest : ℕ
+  pub time : ℕ
+  pub latest : Option Attempt
+
+-- no attempt has gone on for longer than the wire, and each has begun in a bit time of its own
+abbrev pub IsWire : WireState → Type 0
+IsWire w = (w.rest ≤ idle_row) × IsPassed w.latest w.time
+
+-- before its first bit time, where so many recessive levels count as its last
+abbrev pub wire_begun : ℕ → WireState
+wire_begun rest = record { rest = rest; time = 0; latest = None }
+
+-- the latest attempt in a bit time in which it is driven so
+abbrev pub wire_attempt : WireState → Level → Option Attempt
+wire_attempt w driven = if begins_attempt w.rest driven then Some (following w.latest) else aged w.latest
+
+-- a hit falls on the wire in that bit time
+abbrev pub is_struck : List Hit → WireState → Level → Bool
+is_struck hits w driven = list_any (hits_wire w.time (wire_attempt w driven)) hits
+
+-- its level in that bit time
+abbrev pub wire_level : List Hit → WireState → Level → Level
+wire_level hits w driven = inverted_if (is_struck hits w driven) driven
+
+-- what who has this number sees of a level
+abbrev pub seen_by : List Hit → ℕ → Level → ℕ → Level
+seen_by hits time level node = inverted_if (list_any (hits_view time node) hits) level
+
+-- one bit time later, where it has had this level
+abbrev pub wire_behind : WireState → Level → Level → WireState
+wire_behind w driven level = record { rest = rest_after w.rest level; time = w.time + 1; latest = wire_attempt w driven }
+
+-- one bit time
+abbrev pub wire_step : List Hit → WireState → Level → WireState
+wire_step hits w driven = wire_behind w driven (wire_level hits w driven)
+
+-- so many bit times, each driven as this list says
+unfoldable pub wire_after : List Hit → List Level → ℕ → WireState → WireState
+wire_after hits wired zero w = w
+wire_after hits wired (suc n) w = wire_step hits (wire_after hits wired n w) (level_then wired n)
+
+-- its level at time t
+abbrev pub wire_then : List Hit → List Level → ℕ → WireState → Level
+wire_then hits wired t w = wire_level hits (wire_after hits wired t w) (level_then wired t)
+
+-- the wire of a bus
+abbrev pub wire_of : CallState → WireState
+wire_of c = record { rest = c.bus.rest; time = c.time; latest = c.latest }
+
+-- of levels on the wire, so many recessive ones before them, these are recorded: the opposite ones exactly at those times at which
+-- a hit falls on the wire
+abbrev pub AreRecorded : List Hit → ℕ → List Level → List Level → Type 0
+AreRecorded hits rest wired recorded = (t : ℕ) → t < length recorded →
+    (level_then recorded t ≡ opposite (level_then wired t)) ↔ Any (λ hit. FallsOnWire rest wired recorded hit t) hits
