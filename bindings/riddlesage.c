@@ -28,6 +28,8 @@ uint8_t can_c_entry(struct riddlesage_handle *handle, size_t number, riddlesage_
 uint8_t can_c_play(struct riddlesage_handle *handles, size_t handles_length, const riddlesage_offer *offers,
                    size_t offers_length, const riddlesage_hit *hits, size_t hits_length, uint8_t *levels,
                    size_t levels_length, size_t *refused);
+uint8_t can_c_wire(riddlesage_wire *wire, const uint8_t *drives, size_t drives_length, const riddlesage_hit *hits,
+                   size_t hits_length, uint8_t *level, uint8_t *seen, size_t seen_length);
 uint8_t can_c_encode(const riddlesage_frame *frame, uint8_t *levels, size_t levels_length, size_t *count);
 uint8_t can_c_decode(const uint8_t *levels, size_t levels_length, riddlesage_heard *heard, size_t *place);
 
@@ -276,6 +278,20 @@ EXPORT riddlesage_status riddlesage_play(riddlesage_port *const *ports, size_t c
   return status;
 }
 
+EXPORT riddlesage_status riddlesage_wire_step(riddlesage_wire *wire, const uint8_t *drives, size_t count,
+                                              const riddlesage_hit *hits, size_t hit_count, uint8_t *level,
+                                              uint8_t *seen)
+{
+  static const riddlesage_hit no_hit;
+  static const uint8_t no_level = 0;
+  uint8_t unwanted = 0;
+
+  if (wire == NULL || (drives == NULL && count != 0) || (hits == NULL && hit_count != 0) || level == NULL)
+    return RIDDLESAGE_NULL_POINTER;
+  return (riddlesage_status)can_c_wire(wire, drives == NULL ? &no_level : drives, count, hits == NULL ? &no_hit : hits,
+                                       hit_count, level, seen == NULL ? &unwanted : seen, seen == NULL ? 0 : count);
+}
+
 EXPORT riddlesage_status riddlesage_encode(const riddlesage_frame *frame, uint8_t *levels, size_t room, size_t *count)
 {
   if (frame == NULL || levels == NULL || count == NULL)
@@ -296,7 +312,7 @@ EXPORT const char *riddlesage_status_name(riddlesage_status status)
     "ok",       "null pointer",   "moved",   "no port",   "no memory", "queue full", "no entry",
     "bad flag", "bad identifier", "bad dlc", "bad level", "bad count", "no levels",  "no room",
     "short",    "no start",       "stuff",   "crc",       "form",      "bad scenario", "bad byte",
-    "bad bus",  "no such port",   "bad order", "bad kind",
+    "bad bus",  "no such port",   "bad order", "bad kind",  "bad wire",
   };
   return (size_t)status < sizeof names / sizeof names[0] ? names[status] : NULL;
 }

@@ -81,7 +81,8 @@ typedef enum riddlesage_status {
   RIDDLESAGE_BAD_BUS = 21,       /**< there are no ports for a bus, more than 64, or one of them twice */
   RIDDLESAGE_NO_SUCH_PORT = 22,  /**< an offer or a hit names no port of the bus */
   RIDDLESAGE_BAD_ORDER = 23,     /**< an offer is earlier than the one before it, or a hit is not behind it in order */
-  RIDDLESAGE_BAD_KIND = 24       /**< a hit is of no kind */
+  RIDDLESAGE_BAD_KIND = 24,      /**< a hit is of no kind */
+  RIDDLESAGE_BAD_WIRE = 25       /**< the fields of a wire are those of none, or it has had 2^64 - 1 bit times */
 } riddlesage_status;
 
 /** Levels, in every list of levels one byte each. Dominant overrides recessive. */
@@ -394,6 +395,38 @@ enum { RIDDLESAGE_MOST_PORTS = 64 };
 riddlesage_status riddlesage_play(riddlesage_port *const *ports, size_t count, const riddlesage_offer *offers,
                                   size_t offer_count, const riddlesage_hit *hits, size_t hit_count, uint8_t *levels,
                                   size_t bits, size_t *refused);
+
+/**
+ * The wire of a bus between two bit times, for a bus whose ports and controllers of your own are called bit time by bit
+ * time. It begins as RIDDLESAGE_WIRE_INIT or all bytes 0: no bit time has passed, and it counts as recessive for eleven.
+ * It is a value, which may be read, copied and kept.
+ */
+typedef struct riddlesage_wire {
+  uint64_t time;      /**< how many bit times have passed */
+  uint64_t attempts;  /**< how many attempts to send a frame have begun */
+  uint64_t start;     /**< the bit time in which the latest of them began; not read where there is none */
+  uint8_t until_rest; /**< how many recessive levels are missing until eleven have come in a row, so that a dominant
+                           one behind them begins an attempt: 0 to 11 */
+} riddlesage_wire;
+
+/** What a riddlesage_wire begins as. */
+#define RIDDLESAGE_WIRE_INIT { 0, 0, 0, 0 }
+
+/**
+ * Passes one bit time of a wire, as docs/BUS.md says: it is dominant where anyone drives dominant, and inverted where it
+ * is hit. The hits are read anew in each call, all of them, and may be others than before; those that don't fall in this
+ * bit time do nothing.
+ * @param wire the wire
+ * @param[in] drives the level that each who is on the bus drives; may be NULL where nobody is
+ * @param count how many are on the bus
+ * @param[in] hits the disturbances, in any order; may be NULL where there are none
+ * @param hit_count how many
+ * @param[out] level the level of the wire
+ * @param[out] seen the level that each sees: `count` bytes; may be NULL
+ * @return OK, NULL_POINTER, BAD_WIRE, BAD_LEVEL, and of the first hit that is wrong BAD_KIND, NO_SUCH_PORT
+ */
+riddlesage_status riddlesage_wire_step(riddlesage_wire *wire, const uint8_t *drives, size_t count,
+                                       const riddlesage_hit *hits, size_t hit_count, uint8_t *level, uint8_t *seen);
 
 /**
  * Tells the levels of a frame as its sender drives them, from the start of frame to the end of frame, the ACK slot

@@ -454,6 +454,80 @@ static void bad_buses(void)
   WANT(OK, riddlesage_port_free(&other));
 }
 
+static void bad_wires(void)
+{
+  /* until_rest, start, attempts and time: one beyond the greatest of each */
+  static const riddlesage_wire none[] = {
+    { 0, 0, 0, 12 },         { 0, 0, 0, 255 },        { 0, 1, 0, 0 },  { 5, 1, 5, 0 },
+    { 5, 1, UINT64_MAX, 0 }, { 5, 4, 2, 0 },          { 5, UINT64_MAX, 4, 0 },
+    { UINT64_MAX, 0, 0, 0 }, { UINT64_MAX, 1, 1, 0 },
+  };
+  /* and the greatest themselves */
+  static const riddlesage_wire some[] = {
+    { 0, 0, 0, 11 },
+    { 0, 0, UINT64_MAX, 0 },
+    { 5, 5, 4, 0 },
+    { UINT64_MAX - 1, UINT64_MAX - 1, UINT64_MAX - 2, 11 },
+  };
+  const riddlesage_hit sound[] = { { 0, 0, 3, 0, RIDDLESAGE_HIT_IN }, { 2, 0, 0, 1, RIDDLESAGE_HIT_VIEW } };
+  riddlesage_wire wire = RIDDLESAGE_WIRE_INIT, fresh = RIDDLESAGE_WIRE_INIT, before;
+  riddlesage_hit hits[2];
+  uint8_t given[2] = { 1, 0 }, seen[2] = { 7, 7 }, unseen[2] = { 7, 7 }, bus = 7, unwritten = 7;
+  size_t row;
+
+  memcpy(hits, sound, sizeof hits);
+  WANT(NULL_POINTER, riddlesage_wire_step(NULL, given, 2, hits, 2, &bus, seen));
+  WANT(NULL_POINTER, riddlesage_wire_step(&wire, NULL, 2, hits, 2, &bus, seen));
+  WANT(NULL_POINTER, riddlesage_wire_step(&wire, given, 2, NULL, 2, &bus, seen));
+  WANT(NULL_POINTER, riddlesage_wire_step(&wire, given, 2, hits, 2, NULL, seen));
+  for (row = 0; row < sizeof none / sizeof none[0]; row++) {
+    before = wire = none[row];
+    want(RIDDLESAGE_BAD_WIRE, riddlesage_wire_step(&wire, given, 2, hits, 2, &bus, seen), "no wire", (int)row);
+    WANT_SAME(before, wire);
+  }
+  wire = fresh;
+  for (row = 2; row <= UINT8_MAX; row++) {
+    given[1] = (uint8_t)row;
+    want(RIDDLESAGE_BAD_LEVEL, riddlesage_wire_step(&wire, given, 2, hits, 2, &bus, seen), "no level", (int)row);
+  }
+  given[1] = 0;
+  for (row = 3; row <= UINT8_MAX; row++) {
+    hits[0].kind = (uint8_t)row;
+    want(RIDDLESAGE_BAD_KIND, riddlesage_wire_step(&wire, given, 2, hits, 2, &bus, seen), "no kind", (int)row);
+  }
+  hits[0] = sound[0];
+  WANT(NO_SUCH_PORT, riddlesage_wire_step(&wire, given, 1, hits, 2, &bus, seen));
+  WANT(NO_SUCH_PORT, riddlesage_wire_step(&wire, NULL, 0, hits, 2, &bus, NULL));
+  hits[1].port = SIZE_MAX;
+  WANT(NO_SUCH_PORT, riddlesage_wire_step(&wire, given, 2, hits, 2, &bus, seen));
+  hits[1].kind = 9;
+  WANT(BAD_KIND, riddlesage_wire_step(&wire, given, 2, hits, 2, &bus, seen));
+  WANT_SAME(fresh, wire);
+  WANT_SAME(unseen, seen);
+  WANT_SAME(unwritten, bus);
+
+  for (row = 0; row < sizeof some / sizeof some[0]; row++) {
+    wire = some[row];
+    want(RIDDLESAGE_OK, riddlesage_wire_step(&wire, NULL, 0, NULL, 0, &bus, NULL), "a wire", (int)row);
+    want(wire.time == some[row].time + 1 && bus == 1 ? RIDDLESAGE_OK : RIDDLESAGE_BAD_WIRE, RIDDLESAGE_OK, "passes",
+         (int)row);
+  }
+  /* nobody sees more than he was asked for, and hits may stand in any order */
+  wire = fresh;
+  hits[0] = sound[1];
+  hits[0].time = 0;
+  hits[0].port = 0;
+  hits[1] = sound[0];
+  hits[1].offset = 0;
+  seen[1] = 9;
+  WANT(OK, riddlesage_wire_step(&wire, &given[1], 1, hits, 2, &bus, seen));
+  want(bus == 1 && seen[0] == 0 && seen[1] == 9 && wire.time == 1 && wire.attempts == 1 && wire.start == 0 &&
+               wire.until_rest == 0
+           ? RIDDLESAGE_OK
+           : RIDDLESAGE_BAD_WIRE,
+       RIDDLESAGE_OK, "an attempt that is hit at its start", __LINE__);
+}
+
 int main(void)
 {
   riddlesage_port port = RIDDLESAGE_PORT_INIT;
@@ -475,8 +549,9 @@ int main(void)
   texts();
   traces_of_levels();
   bad_buses();
+  bad_wires();
   WANT(OK, riddlesage_port_free(&port));
-  if (riddlesage_status_name((riddlesage_status)25) != NULL || riddlesage_event_name((riddlesage_event)12) != NULL ||
+  if (riddlesage_status_name((riddlesage_status)26) != NULL || riddlesage_event_name((riddlesage_event)12) != NULL ||
       riddlesage_phase_name((riddlesage_phase)15) != NULL || riddlesage_rule_name((riddlesage_rule)17) != NULL)
     wrong++;
   printf("%u of %u refused or taken as they should be\n", tried - wrong, tried);

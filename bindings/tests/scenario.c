@@ -8,7 +8,7 @@
  *   at TIME, in ATTEMPT OFFSET, view TIME PORT    a disturbance, in the order of docs/BUS.md
  *
  * With the word `play` the library runs the bus by one call; else each port is driven and sampled here, bit time by bit
- * time.
+ * time, over a riddlesage_wire.
  */
 #include "../examples/frame_text.h"
 #include "riddlesage.h"
@@ -17,18 +17,7 @@
 #include <stdlib.h>
 #include <string.h>
 
-enum { LINE_ROOM = 128, REST = 11 };
-
-/* A disturbance: a time, or an attempt with an offset, or a time with a port. */
-struct hit {
-  unsigned long first, second;
-};
-
-/* Disturbances of one kind, and how many of them are over. */
-struct hits {
-  struct hit *items;
-  size_t count, over;
-};
+enum { LINE_ROOM = 128 };
 
 struct scenario {
   unsigned long bits;
@@ -36,7 +25,8 @@ struct scenario {
   size_t port_count;
   riddlesage_offer *offers;
   size_t offer_count, made;
-  struct hits at, in, view;
+  riddlesage_hit *hits;
+  size_t hit_count;
 };
 
 static void demand(riddlesage_status status)
@@ -56,25 +46,6 @@ static void *grown(void *items, size_t count, size_t size)
   if (items == NULL)
     exit(EXIT_FAILURE);
   return items;
-}
-
-static void add(struct hits *hits, struct hit hit)
-{
-  hits->items = grown(hits->items, hits->count, sizeof hit);
-  hits->items[hits->count++] = hit;
-}
-
-static bool is_below(struct hit one, struct hit other)
-{
-  return one.first != other.first ? one.first < other.first : one.second < other.second;
-}
-
-/* Whether a disturbance falls here. What is asked for rises. */
-static bool falls(struct hits *hits, struct hit here)
-{
-  while (hits->over < hits->count && is_below(hits->items[hits->over], here))
-    hits->over++;
-  return hits->over < hits->count && !is_below(here, hits->items[hits->over]);
 }
 
 static void read_port(struct scenario *scenario, const char *line)
@@ -104,24 +75,39 @@ static void read_offer(struct scenario *scenario, const char *line)
   scenario->offers[scenario->offer_count++] = offer;
 }
 
+static void read_hit(struct scenario *scenario, const char *line)
+{
+  riddlesage_hit hit = { 0, 0, 0, 0, 0 };
+  unsigned long first, second;
+
+  if (sscanf(line, "at %lu", &first) == 1) {
+    hit.kind = RIDDLESAGE_HIT_AT;
+    hit.time = first;
+  } else if (sscanf(line, "in %lu %lu", &first, &second) == 2) {
+    hit.kind = RIDDLESAGE_HIT_IN;
+    hit.attempt = first;
+    hit.offset = second;
+  } else if (sscanf(line, "view %lu %lu", &first, &second) == 2) {
+    hit.kind = RIDDLESAGE_HIT_VIEW;
+    hit.time = first;
+    hit.port = second;
+  } else {
+    exit(EXIT_FAILURE);
+  }
+  scenario->hits = grown(scenario->hits, scenario->hit_count, sizeof hit);
+  scenario->hits[scenario->hit_count++] = hit;
+}
+
 static void read_line(struct scenario *scenario, const char *line)
 {
-  struct hit hit = { 0, 0 };
-
   if (sscanf(line, "bits %lu", &scenario->bits) == 1)
     return;
   if (strncmp(line, "port ", 5) == 0)
     read_port(scenario, line);
   else if (strncmp(line, "offer ", 6) == 0)
     read_offer(scenario, line);
-  else if (sscanf(line, "at %lu", &hit.first) == 1)
-    add(&scenario->at, hit);
-  else if (sscanf(line, "in %lu %lu", &hit.first, &hit.second) == 2)
-    add(&scenario->in, hit);
-  else if (sscanf(line, "view %lu %lu", &hit.first, &hit.second) == 2)
-    add(&scenario->view, hit);
   else
-    exit(EXIT_FAILURE);
+    read_hit(scenario, line);
 }
 
 /* Makes the offers of this bit time. */
@@ -133,99 +119,38 @@ static void offer_all(struct scenario *scenario, unsigned long time)
   }
 }
 
-static uint8_t wired(struct scenario *scenario)
-{
-  uint8_t bus = RIDDLESAGE_RECESSIVE, level;
-  size_t place;
-
-  for (place = 0; place < scenario->port_count; place++) {
-    demand(riddlesage_port_drive(&scenario->ports[place], &level));
-    bus &= level;
-  }
-  return bus;
-}
-
-static void sample_all(struct scenario *scenario, unsigned long time, uint8_t bus)
-{
-  struct hit here = { 0, 0 };
-  uint8_t event;
-  size_t place;
-
-  here.first = time;
-  for (place = 0; place < scenario->port_count; place++) {
-    here.second = place;
-    demand(riddlesage_port_sample(&scenario->ports[place], falls(&scenario->view, here) ? !bus : bus, &event, NULL));
-  }
-}
-
 static void run(struct scenario *scenario)
 {
-  struct hit now = { 0, 0 }, attempt = { 0, 0 };
-  bool is_attempt = false, is_hit;
-  unsigned rest = REST;
-
-  for (; now.first < scenario->bits; now.first++) {
-    uint8_t bus;
-    offer_all(scenario, now.first);
-    bus = wired(scenario);
-    if (bus == RIDDLESAGE_DOMINANT && rest == REST) {
-      attempt.first += is_attempt;
-      attempt.second = 0;
-      is_attempt = true;
-    } else {
-      attempt.second++;
-    }
-    is_hit = falls(&scenario->at, now);
-    if (is_attempt && falls(&scenario->in, attempt))
-      is_hit = true;
-    bus = is_hit ? !bus : bus;
-    rest = bus == RIDDLESAGE_DOMINANT ? 0 : rest < REST ? rest + 1 : REST;
-    sample_all(scenario, now.first, bus);
-    putchar('0' + bus);
-  }
-}
-
-/* Puts the disturbances of one kind behind so many others, and tells how many these are then. */
-static size_t put(riddlesage_hit *all, size_t count, const struct hits *hits, uint8_t kind)
-{
+  riddlesage_wire wire = RIDDLESAGE_WIRE_INIT;
+  uint8_t levels[RIDDLESAGE_MOST_PORTS], seen[RIDDLESAGE_MOST_PORTS], level, event;
   size_t place;
 
-  for (place = 0; place < hits->count; place++, count++) {
-    all[count].kind = kind;
-    all[count].time = all[count].attempt = hits->items[place].first;
-    all[count].offset = all[count].port = hits->items[place].second;
+  while (wire.time < scenario->bits) {
+    offer_all(scenario, wire.time);
+    for (place = 0; place < scenario->port_count; place++)
+      demand(riddlesage_port_drive(&scenario->ports[place], &levels[place]));
+    demand(riddlesage_wire_step(&wire, levels, scenario->port_count, scenario->hits, scenario->hit_count, &level, seen));
+    for (place = 0; place < scenario->port_count; place++)
+      demand(riddlesage_port_sample(&scenario->ports[place], seen[place], &event, NULL));
+    putchar('0' + level);
   }
-  return count;
-}
-
-/* Room for so many items, one at least. */
-static void *room(size_t count, size_t size)
-{
-  void *at = malloc((count + 1) * size);
-
-  if (at == NULL)
-    exit(EXIT_FAILURE);
-  return at;
 }
 
 static void play(struct scenario *scenario)
 {
   riddlesage_port *ports[RIDDLESAGE_MOST_PORTS];
-  riddlesage_hit *hits = room(scenario->at.count + scenario->in.count + scenario->view.count, sizeof *hits);
-  uint8_t *levels = room(scenario->bits, 1);
-  size_t place, count;
+  uint8_t *levels = malloc(scenario->bits + 1);
+  size_t place;
 
+  if (levels == NULL)
+    exit(EXIT_FAILURE);
   for (place = 0; place < scenario->port_count; place++)
     ports[place] = &scenario->ports[place];
-  count = put(hits, 0, &scenario->at, RIDDLESAGE_HIT_AT);
-  count = put(hits, count, &scenario->in, RIDDLESAGE_HIT_IN);
-  count = put(hits, count, &scenario->view, RIDDLESAGE_HIT_VIEW);
-  demand(riddlesage_play(ports, scenario->port_count, scenario->offers, scenario->offer_count, hits, count, levels,
-                         scenario->bits, NULL));
+  demand(riddlesage_play(ports, scenario->port_count, scenario->offers, scenario->offer_count, scenario->hits,
+                         scenario->hit_count, levels, scenario->bits, NULL));
   for (place = 0; place < scenario->bits; place++)
     putchar('0' + levels[place]);
   free(levels);
-  free(hits);
 }
 
 static void print_port(riddlesage_port *port, size_t place)
@@ -270,8 +195,6 @@ int main(int count, char **words)
     demand(riddlesage_port_free(&scenario.ports[place]));
   }
   free(scenario.offers);
-  free(scenario.at.items);
-  free(scenario.in.items);
-  free(scenario.view.items);
+  free(scenario.hits);
   return EXIT_SUCCESS;
 }

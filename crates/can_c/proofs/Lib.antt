@@ -4,5 +4,6 @@ mod RunLemmas
 mod LongestFrame
 mod DecodeLemmas
 mod InputLemmas
+mod WireLemmas
 mod HandleLists
 mod PlayLemmas

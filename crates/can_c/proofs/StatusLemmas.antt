@@ -3,7 +3,7 @@ use Rattle.std.proofs.Common.{◌≡◌, ◌≢◌, refl, ap}
 use Rattle.can_code.specs.declared.fault.CodeFaultKind.{CodeFaultKind}
 use Rattle.can_code.specs.declared.fault.CodeFaultKind.TheVariants.{Short, NoStartOfFrame, Stuff, Crc, Form}
 use Rattle.can_c.specs.declared.status.Status.{Status}
-use Rattle.can_c.specs.declared.status.Status.TheVariants.{Done, NoPort, NoMemory, QueueFull, NoEntry, BadFlag, BadIdentifier, BadDlc, BadLevel, BadCount, NoLevels, NoRoom, ShortFrame, NoStart, StuffFault, CrcFault, FormFault, BadBus, NoSuchPort, BadOrder, BadKind}
+use Rattle.can_c.specs.declared.status.Status.TheVariants.{Done, NoPort, NoMemory, QueueFull, NoEntry, BadFlag, BadIdentifier, BadDlc, BadLevel, BadCount, NoLevels, NoRoom, ShortFrame, NoStart, StuffFault, CrcFault, FormFault, BadBus, NoSuchPort, BadOrder, BadKind, BadWire}
 use Rattle.can_c.specs.Statuses.{done, fault_status, status_code}
 
 pub done_only : (s : Status) → status_code s ≡ done → s ≡ Done
@@ -28,6 +28,7 @@ done_only BadBus e = cc
 done_only NoSuchPort e = cc
 done_only BadOrder e = cc
 done_only BadKind e = cc
+done_only BadWire e = cc
 
 pub not_done : (s : Status) → status_code s ≢ done → s ≢ Done
 not_done s h e = h (ap status_code e)

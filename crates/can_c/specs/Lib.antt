@@ -5,5 +5,6 @@ pub mod PlainFrames
 pub mod PlainStandings
 pub mod BitTimes
 pub mod PlainInputs
+pub mod PlainWires
 pub mod Play
 pub mod Calls

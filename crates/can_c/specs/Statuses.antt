@@ -6,7 +6,7 @@ use Rattle.can_bus.specs.declared.fault.BusFault.TheVariants as bus
 use Rattle.can_code.specs.declared.fault.CodeFaultKind.{CodeFaultKind}
 use Rattle.can_code.specs.declared.fault.CodeFaultKind.TheVariants.{Short, NoStartOfFrame, Stuff, Crc, Form}
 use Rattle.can_c.specs.declared.status.Status.{Status}
-use Rattle.can_c.specs.declared.status.Status.TheVariants.{Done, NoPort, NoMemory, QueueFull, NoEntry, BadFlag, BadIdentifier, BadDlc, BadLevel, BadCount, NoLevels, NoRoom, ShortFrame, NoStart, StuffFault, CrcFault, FormFault, BadBus, NoSuchPort, BadOrder, BadKind}
+use Rattle.can_c.specs.declared.status.Status.TheVariants.{Done, NoPort, NoMemory, QueueFull, NoEntry, BadFlag, BadIdentifier, BadDlc, BadLevel, BadCount, NoLevels, NoRoom, ShortFrame, NoStart, StuffFault, CrcFault, FormFault, BadBus, NoSuchPort, BadOrder, BadKind, BadWire}
 
 abbrev pub status_code : Status → ℕ
 status_code Done = 0
@@ -30,6 +30,7 @@ status_code BadBus = 21
 status_code NoSuchPort = 22
 status_code BadOrder = 23
 status_code BadKind = 24
+status_code BadWire = 25
 
 -- the call has done what it says
 abbrev pub done : ℕ

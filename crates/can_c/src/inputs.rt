@@ -1,7 +1,8 @@
 //! Offers and disturbances of a bus, as they cross to C.
-ghost use Rattle.std.specs.Prelude.{◌≡◌, ◌⊎◌, None, Some, IfErr, IfOk, OnOk};
+ghost use Rattle.std.specs.Prelude.{◌≡◌, ◌≢◌, ◌⊎◌, None, Some, IfErr, IfOk, OnOk};
 ghost use Rattle.can_c.specs.PlainFrames.{refusal};
 ghost use Rattle.can_c.specs.PlainInputs.{hit_in, hits_in, hits_refusal, kind_refusal, offer_in, offers_in, offers_refusal};
+ghost use Rattle.can_c.specs.PlainWires.{struck_refusal};
 
 use crate::plain::PlainFrame;
 use crate::status::Status;
@@ -64,17 +65,41 @@ impl PlainHit {
         ensures hit { IfOk result (λ hit. hit ≡ hit_in self.now) }
     {
         match self.kind {
-            0 => Ok(Hit::At(self.time)),
-            1 => Ok(Hit::In {
-                attempt: self.attempt,
-                offset: self.offset,
-            }),
-            2 => Ok(Hit::View {
-                time: self.time,
-                node: self.port,
-            }),
+            0 | 1 | 2 => Ok(self.named()),
             _ => Err(Status::BadKind),
         }
+    }
+
+    /// The disturbance, where a kind that is none is taken for the last.
+    pub(crate) fn named(&self) -> Hit
+        ensures { result ≡ hit_in self.now }
+    {
+        match self.kind {
+            0 => Hit::At(self.time),
+            1 => Hit::In {
+                attempt: self.attempt,
+                offset: self.offset,
+            },
+            _ => Hit::View {
+                time: self.time,
+                node: self.port,
+            },
+        }
+    }
+
+    /// Why it is none of a wire that so many drive, if it isn't.
+    pub(crate) fn check(&self, count: usize) -> Result<(), Status>
+        ensures refused { IfErr result (λ why. struck_refusal count self.now ≡ Some why) }
+        ensures named { IfErr result (λ why. why ≢ Status.Done) }
+        ensures none { OnOk result (struck_refusal count self.now ≡ None) }
+    {
+        if self.kind > 2 {
+            return Err(Status::BadKind);
+        }
+        if self.kind == 2 && self.port >= count {
+            return Err(Status::NoSuchPort);
+        }
+        Ok(())
     }
 }
 

@@ -17,6 +17,7 @@
 //! | `coding.rt` | the exports that encode and decode | `specs/Calls.antt` |
 //! | `inputs.rt` | [`PlainOffer`], [`PlainHit`], what a bus is offered and how it is disturbed, as plain fields | `specs/PlainInputs.antt` |
 //! | `play.rt` | [`can_c_play`], the ports of handles on a bus, with offers and disturbances | `specs/Play.antt` |
+//! | `plain_wire.rt` | [`PlainWire`], a wire between two bit times, and [`can_c_wire`], a bit time of it | `specs/PlainWires.antt` |
 //!
 //! bindings/ has the header, what else a program in C needs, and a module for Python.
 #![tactic(auto)]
@@ -26,6 +27,7 @@ mod codes;
 mod coding;
 mod inputs;
 mod plain;
+mod plain_wire;
 mod play;
 mod ports;
 mod standing;
@@ -36,6 +38,7 @@ pub use bit_times::{can_c_drive, can_c_run, can_c_sample};
 pub use coding::{can_c_decode, can_c_encode};
 pub use inputs::{PlainHit, PlainOffer};
 pub use plain::{PlainFrame, PlainHeard};
+pub use plain_wire::{PlainWire, can_c_wire};
 pub use play::can_c_play;
 pub use ports::{can_c_copy, can_c_free, can_c_hold, can_c_idle, can_c_joining, can_c_offer};
 pub use standing::{PlainStanding, can_c_phase};

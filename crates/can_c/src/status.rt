@@ -50,6 +50,8 @@ pub enum Status {
     BadOrder,
     /// A disturbance is of no kind.
     BadKind,
+    /// A wire is none, or has had 2^64 - 1 bit times.
+    BadWire,
 }
 
 impl Status {
@@ -79,6 +81,7 @@ impl Status {
             Status::NoSuchPort => 22,
             Status::BadOrder => 23,
             Status::BadKind => 24,
+            Status::BadWire => 25,
         }
     }
 

@@ -1,0 +1,227 @@
+//! A wire, bit time by bit time, for controllers of any kind.
+ghost use Rattle.std.specs.Prelude.{◌≡◌, ◌≢◌, ◌<◌, ◌-◌, ◌^◌, IfErr, OnOk, Some, None, length, true};
+ghost use Rattle.std.specs.List.{list_any};
+ghost use Rattle.can_frame.specs.Levels.{level_code};
+ghost use Rattle.can_bus.specs.Run.{hits_view as hits_view_of, hits_wire as hits_wire_of, inverted_if};
+ghost use Rattle.can_bus.specs.Walks.{IsPassed};
+ghost use Rattle.can_bus.specs.WireSteps.{seen_by, wire_level, wire_step};
+ghost use Rattle.can_c.specs.declared.inputs.PlainHit.{PlainHit as Plain};
+ghost use Rattle.can_c.specs.PlainInputs.{first_reason, hit_in, hits_in};
+ghost use Rattle.can_c.specs.PlainWires.{have_come as have_come_of, is_wire as is_wire_of, latest_of, struck_refusal, wire_in, wire_status, wired_in};
+ghost use Rattle.can_c.specs.Play.{AreCodesOf};
+ghost use Rattle.can_c.specs.Statuses.{done, status_code};
+
+use crate::inputs::PlainHit;
+use crate::status::Status;
+use can_bus::{Attempt, Moment, Wire};
+use can_frame::{IDLE_ROW, Level};
+
+/// A wire between two bit times, as plain fields. Where all are 0 it is before its first bit time, and counts as
+/// recessive for eleven.
+#[repr(C)]
+#[derive(Clone, Copy, Debug)]
+pub struct PlainWire {
+    /// How many bit times have passed.
+    pub time: u64,
+    /// How many attempts to send a frame have begun.
+    pub attempts: u64,
+    /// The bit time in which the latest of them began. Where there is none it isn't read.
+    pub start: u64,
+    /// How many recessive levels are missing until eleven have come in a row, so that a dominant one behind them begins
+    /// an attempt: 0 to 11.
+    pub until_rest: u8,
+}
+
+/// One bit time of a wire, which is driven by these numbers of levels and disturbed: writes the level that it has, and
+/// what each who drives it sees. The hits may stand in any order, and may be others in each bit time. It takes no
+/// memory.
+#[tactic(auto, using(crate::proofs::StatusLemmas::done_only, crate::proofs::StatusLemmas::not_done))]
+#[unsafe(no_mangle)]
+pub extern "C" fn can_c_wire(
+    wire: &mut PlainWire,
+    drives: &[u8],
+    hits: &[PlainHit],
+    level: &mut u8,
+    seen: &mut [u8],
+) -> u8
+    ensures status { result ≡ status_code (wire_status wire.old drives.now hits.now) }
+    ensures after { result ≡ done → wire_in wire.new ≡ wire_step (hits_in hits.now) (wire_in wire.old) (wired_in drives.now) }
+    ensures whole { result ≡ done → wire.new.time < 2 ^ 64 - 1 → is_wire_of wire.new ≡ true }
+    ensures level { result ≡ done → level.new ≡ level_code (wire_level (hits_in hits.now) (wire_in wire.old) (wired_in drives.now)) }
+    ensures seen { result ≡ done → AreCodesOf (seen_by (hits_in hits.now) wire.old.time (wire_level (hits_in hits.now) (wire_in wire.old) (wired_in drives.now))) seen.new }
+    ensures unchanged { result ≢ done → wire.new ≡ wire.old }
+    ensures unwritten { result ≢ done → (level.new ≡ level.old) × (seen.new ≡ seen.old) }
+{
+    if !wire.is_wire() {
+        return Status::BadWire.code();
+    }
+    if !Level::are_codes(drives) {
+        return Status::BadLevel.code();
+    }
+    match check_hits(hits, drives.len()) {
+        Err(why) => why.code(),
+        Ok(()) => {
+            *level = pass(wire, wired(drives), hits, seen).code();
+            Status::Done.code()
+        }
+    }
+}
+
+/// One bit time of a wire that is driven so, and its level; writes what each sees of it.
+fn pass(wire: &mut PlainWire, driven: Level, hits: &[PlainHit], seen: &mut [u8]) -> Level
+    requires { is_wire_of wire.old ≡ true }
+    ensures after { wire_in wire.new ≡ wire_step (hits_in hits.now) (wire_in wire.old) driven }
+    ensures whole { wire.new.time < 2 ^ 64 - 1 → is_wire_of wire.new ≡ true }
+    ensures level { result ≡ wire_level (hits_in hits.now) (wire_in wire.old) driven }
+    ensures seen { AreCodesOf (seen_by (hits_in hits.now) wire.old.time (wire_level (hits_in hits.now) (wire_in wire.old) driven)) seen.new }
+{
+    let mut passing = wire.wire();
+    let moment = passing.moment(driven);
+    let level = passing.pass(driven, falls(hits, &moment));
+    *wire = PlainWire::of(&passing);
+    tell_each(hits, &moment, level, seen);
+    level
+}
+
+/// What these drive together, by the numbers of their levels.
+fn wired(drives: &[u8]) -> Level
+    ensures { result ≡ wired_in drives.now }
+{
+    for code in drives {
+        if !Level::from_code(*code).is_recessive() {
+            return Level::Dominant;
+        }
+    }
+    Level::Recessive
+}
+
+/// Whether each is a disturbance of a wire that so many drive, or the first reason why one is none.
+fn check_hits(hits: &[PlainHit], count: usize) -> Result<(), Status>
+    ensures none { OnOk result (first_reason (struck_refusal count) hits.now ≡ None) }
+    ensures why { IfErr result (λ why. first_reason (struck_refusal count) hits.now ≡ Some why) }
+    ensures named { IfErr result (λ why. why ≢ Status.Done) }
+{
+    for place in 0..hits.len() {
+        hits[place].check(count)?;
+    }
+    Ok(())
+}
+
+/// Whether a hit inverts the level of the wire in this bit time.
+fn falls(hits: &[PlainHit], moment: &Moment) -> bool
+    ensures { result ≡ list_any (λ (hit : Plain). hits_wire_of moment.now.time moment.now.attempt (hit_in hit)) hits.now }
+{
+    hits.iter().any(|hit| hits_wire(hit, moment))
+}
+
+/// Whether this one does.
+fn hits_wire(hit: &PlainHit, moment: &Moment) -> bool
+    ensures { result ≡ hits_wire_of moment.now.time moment.now.attempt (hit_in hit.now) }
+{
+    moment.hits_wire(hit.named())
+}
+
+/// Whether a hit inverts what the one of this number sees.
+fn falls_at(hits: &[PlainHit], moment: &Moment, number: usize) -> bool
+    ensures { result ≡ list_any (λ (hit : Plain). hits_view_of moment.now.time number (hit_in hit)) hits.now }
+{
+    hits.iter().any(|hit| hits_view(hit, moment, number))
+}
+
+/// Whether this one does.
+fn hits_view(hit: &PlainHit, moment: &Moment, number: usize) -> bool
+    ensures { result ≡ hits_view_of moment.now.time number (hit_in hit.now) }
+{
+    moment.hits_view(number, hit.named())
+}
+
+/// Writes what each sees of the level.
+fn tell_each(hits: &[PlainHit], moment: &Moment, level: Level, seen: &mut [u8])
+    ensures { AreCodesOf (seen_by (hits_in hits.now) moment.now.time level) seen.new }
+{
+    for number in 0..seen.len() {
+        seen[number] = told(falls_at(hits, moment, number), level);
+    }
+}
+
+/// The number of the level, or of its opposite where it is hit.
+fn told(hit: bool, level: Level) -> u8
+    ensures { result ≡ level_code (inverted_if hit level) }
+{
+    if hit {
+        level.opposite().code()
+    } else {
+        level.code()
+    }
+}
+
+impl PlainWire {
+    /// Whether it is a wire that can have a bit time more.
+    fn is_wire(&self) -> bool
+        ensures { result ≡ is_wire_of self.now }
+    {
+        self.until_rest <= IDLE_ROW
+            && self.time < u64::MAX
+            && have_come(self.attempts, self.start, self.time)
+    }
+
+    /// The wire.
+    fn wire(&self) -> Wire
+        requires { is_wire_of self.now ≡ true }
+        ensures { result ≡ wire_in self.now }
+    {
+        let latest = latest(self.attempts, self.start, self.time);
+        match Wire::at(IDLE_ROW - self.until_rest, self.time, latest) {
+            Some(wire) => wire,
+            None => unreachable!(),
+        }
+    }
+
+    /// The plain fields of a wire.
+    fn of(wire: &Wire) -> PlainWire
+        ensures wire { wire_in result ≡ wire.now }
+        ensures whole { result.time < 2 ^ 64 - 1 → is_wire_of result ≡ true }
+    {
+        let (attempts, start) = counted(wire.latest(), wire.time());
+        PlainWire {
+            time: wire.time(),
+            attempts,
+            start,
+            until_rest: IDLE_ROW - wire.rest(),
+        }
+    }
+}
+
+/// Whether so many attempts can have begun before a bit time, the latest in bit time `start`.
+fn have_come(attempts: u64, start: u64, time: u64) -> bool
+    ensures { result ≡ have_come_of attempts start time }
+{
+    attempts == 0 || (start < time && attempts - 1 <= start)
+}
+
+/// The latest of them.
+fn latest(attempts: u64, start: u64, time: u64) -> Option<Attempt>
+    requires { have_come_of attempts start time ≡ true }
+    ensures latest { result ≡ latest_of attempts start time }
+    ensures passed { IsPassed result time }
+{
+    if attempts == 0 {
+        return None;
+    }
+    Some(Attempt {
+        number: attempts - 1,
+        offset: time - start - 1,
+    })
+}
+
+/// How many attempts have begun, and when the latest of them did.
+fn counted(latest: Option<Attempt>, time: u64) -> (u64, u64)
+    requires { IsPassed latest time }
+    ensures latest { latest_of result.0 result.1 time ≡ latest }
+    ensures come { have_come_of result.0 result.1 time ≡ true }
+{
+    match latest {
+        None => (0, 0),
+        Some(Attempt { number, offset }) => (number + 1, time - offset - 1),
+    }
+}
