@@ -21,6 +21,7 @@
 #include <span>
 #include <string>
 #include <string_view>
+#include <type_traits>
 #include <utility>
 #include <variant>
 #include <vector>
@@ -63,7 +64,8 @@ enum class Status : std::uint8_t {
   bad_byte = RIDDLESAGE_BAD_BYTE,
   bad_bus = RIDDLESAGE_BAD_BUS,
   no_such_port = RIDDLESAGE_NO_SUCH_PORT,
-  bad_order = RIDDLESAGE_BAD_ORDER
+  bad_order = RIDDLESAGE_BAD_ORDER,
+  bad_wire = RIDDLESAGE_BAD_WIRE
 };
 
 /// What a bit time brings to a port.
@@ -491,6 +493,15 @@ public:
 private:
   friend Played play(std::span<Port> ports, std::span<const Offer> offers, std::span<const Hit> hits,
                      std::span<Level> levels);
+  friend class Wire;
+
+  /// A Hit is its plain fields, and nothing else.
+  static const riddlesage_hit *plain(std::span<const Hit> hits) noexcept
+  {
+    static_assert(sizeof(Hit) == sizeof(riddlesage_hit) && std::is_standard_layout_v<Hit>);
+    // NOLINTNEXTLINE(cppcoreguidelines-pro-type-reinterpret-cast)
+    return reinterpret_cast<const riddlesage_hit *>(hits.data());
+  }
 
   explicit constexpr Hit(const riddlesage_hit &plain) noexcept : plain_(plain) {}
 
@@ -521,6 +532,34 @@ private:
                                                  plain.size(), detail::room_of(levels), levels.size(), &out.refused));
   return out;
 }
+
+/// A wire between two bit times, for a bus whose ports and controllers of one's own are called bit time by bit time. It
+/// begins where no bit time has passed, and counts as recessive. It is a value, and takes no memory.
+class Wire {
+public:
+  /// Passes one bit time, in which each drives one of these levels: writes the level of the wire, which is dominant where
+  /// anyone drives dominant, and inverted where it is hit, and what each sees, where that is asked for. Hits may stand in
+  /// any order, and be others in each bit time. no_room where there is room for some, but not for each; no_such_port of
+  /// a hit on what nobody sees.
+  [[nodiscard]] Status step(std::span<const Level> drives, std::span<const Hit> hits, Level &level,
+                            std::span<Level> seen = {}) noexcept
+  {
+    if (!seen.empty() && seen.size() != drives.size())
+      return Status::no_room;
+    return detail::status_of(riddlesage_wire_step(&plain_, detail::bytes_of(drives), drives.size(), Hit::plain(hits),
+                                                  hits.size(), detail::room_of(std::span(&level, 1)),
+                                                  seen.empty() ? nullptr : detail::room_of(seen)));
+  }
+
+  /// How many bit times have passed.
+  [[nodiscard]] std::uint64_t time() const noexcept { return plain_.time; }
+
+  /// How many attempts to send a frame have begun.
+  [[nodiscard]] std::uint64_t attempts() const noexcept { return plain_.attempts; }
+
+private:
+  riddlesage_wire plain_ = RIDDLESAGE_WIRE_INIT;
+};
 
 /// The levels of the frame as its sender drives them, from the start of frame to the end of frame, the ACK slot
 /// recessive. bad_identifier, bad_dlc.

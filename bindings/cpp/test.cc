@@ -117,6 +117,42 @@ void buses()
   want(ports[1].log_length() == 1 && ports[1].entry(0)->frame == some, "and received once");
 }
 
+// A bus bit time by bit time over a wire has the levels and the counters of one call.
+void wires()
+{
+  const std::array offers{Offer{5, 0, some}};
+  const std::array hits{Hit::at(90), Hit::in(0, 16), Hit::view(130, 1)};
+  const std::array disordered{hits[2], hits[0], hits[1]};
+  std::vector<Port> whole;
+  whole.push_back(made(1, 4));
+  whole.push_back(made(1, 4));
+  std::vector<Port> ports;
+  ports.push_back(made(1, 4));
+  ports.push_back(made(1, 4));
+  std::array<Level, 300> levels{};
+  want(play(whole, offers, hits, levels).status == Status::ok, "a bus by one call");
+  Wire wire;
+  for (const Level level : levels) {
+    if (wire.time() == offers[0].time)
+      want(ports[0].offer(some) == Status::ok, "an offer");
+    Level bus{};
+    std::array<Level, 2> seen{};
+    const std::array drives{ports[0].drive(), ports[1].drive()};
+    want(wire.step(drives, disordered, bus, seen) == Status::ok && bus == level, "the level of the wire");
+    for (std::size_t place = 0; place < ports.size(); place++)
+      ports[place].sample(seen[place]);
+  }
+  for (std::size_t place = 0; place < ports.size(); place++)
+    want(ports[place].counters() == whole[place].counters(), "counters");
+  want(wire.attempts() > 1, "attempts");
+  Level bus{};
+  std::array<Level, 1> few{};
+  const std::array drives{Level::dominant, Level::dominant};
+  want(wire.step({}, hits, bus) == Status::no_such_port, "a view that nobody has");
+  want(wire.step(drives, {}, bus, few) == Status::no_room, "room for less than each");
+  want(wire.time() == levels.size() && wire.step(drives, {}, bus) == Status::ok, "no room at all");
+}
+
 // Ports in a container that grows, moved about, replaced and swapped.
 void moves()
 {
@@ -150,6 +186,7 @@ int main()
   standings();
   refusals();
   buses();
+  wires();
   moves();
   return wrong == 0 ? EXIT_SUCCESS : EXIT_FAILURE;
 }

@@ -13,6 +13,7 @@ import threading
 import tracemalloc
 import unittest
 from collections.abc import Callable
+from functools import partial
 from typing import Any
 
 import tomllib
@@ -276,6 +277,64 @@ class Refusals(unittest.TestCase):
             with self.subTest(call.__qualname__, words=words), self.assertRaises(TypeError):
                 call(*words)
         self.assertEqual(bus.run(20), [])
+
+    def test_buses(self) -> None:
+        """What a bus refuses changes nothing: a device that isn't there, what is no time, and no level."""
+
+        class Odd(Port):
+            """A port that drives what it is told."""
+
+            level = 2
+
+            def drive(self) -> int:
+                return self.level
+
+        odd = Odd()
+        bus = Bus(Port(), odd)
+        for place in (2, -1):
+            with self.assertRaises(ValueError):
+                bus.view(0, place)
+        calls: list[tuple[Callable[..., None], list[int]]] = [
+            (bus.hit_at, [-1]),
+            (bus.hit_in, [0, 1 << 64]),
+            (bus.hit_in, [-1, 0]),
+            (bus.view, [-1, 0]),
+        ]
+        for call, words in calls:
+            with self.subTest(call.__name__, words=words), self.assertRaises(ValueError):
+                call(*words)
+        bus.hit_at(0)
+        for odd.level in (2, 255, 256, -1):
+            self.refused(Status.BAD_LEVEL, bus.step)
+        odd.level = 1
+        for level in (2, 256, -1):
+            self.refused(Status.BAD_LEVEL, bus.step, level)
+        bus.run(2)
+        self.assertEqual(bus.levels, b"\0\1")
+
+    def test_hits_of_a_bus(self) -> None:
+        """Hits may be added at any time, before they fall; those that lie in the past do nothing."""
+        frames = [(3, 0, Frame(0x123, b"\1\2")), (200, 1, Frame(0x124))]
+        at, inside, views = [90, 190], [(0, 16), (1, 17), (3, 18)], [(150, 1), (260, 0)]
+        due = play([Port(), Port()], 500, frames, hit_at=at, hit_in=inside, view=views).levels
+        for ahead in (0, 1, 30, 1000):
+            bus = Bus(Port(), Port())
+            for time, place, frame in frames:
+                bus.offer(place, frame, time)
+            # an attempt takes more than 40 bit times where it is hit, from its offset on 24 and more
+            asked: list[tuple[int, Callable[[], None]]] = [(time, partial(bus.hit_at, time)) for time in at]
+            asked += [(40 * attempt, partial(bus.hit_in, attempt, offset)) for attempt, offset in inside]
+            asked += [(time, partial(bus.view, time, place)) for time, place in views]
+            for time in range(500):
+                for last, ask in asked:
+                    if max(last - ahead, 0) == time:
+                        ask()
+                        ask()
+                if time > 0:
+                    bus.hit_at(time - 1)
+                    bus.view(time - 1, 0)
+                bus.step()
+            self.assertEqual(bus.levels, due)
 
     def test_copies(self) -> None:
         """Errors are pickled as they are, and ports are not."""

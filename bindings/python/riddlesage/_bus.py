@@ -2,16 +2,21 @@
 
 from __future__ import annotations
 
+import ctypes
 import heapq
 import operator
 from collections.abc import Sequence
 from typing import NamedTuple, Protocol
 
-from riddlesage._frames import DOMINANT, RECESSIVE, Frame, frame_in
+from riddlesage._frames import RECESSIVE, Frame, Refused, Status, frame_in
+from riddlesage._library import HitKind, PlainHit, PlainWire, lib
+from riddlesage._play import count_in
 from riddlesage._ports import Event, Told
 
-# So many recessive levels in a row lie between two frames: a dominant level behind them begins an attempt.
-_REST = 11
+# It is called in each bit time, with arguments that are of the right types.
+_step = lib.riddlesage_wire_step
+_Handed = tuple["ctypes.Array[PlainHit]", ctypes.c_size_t]
+_UNKNOWN = -1
 
 
 class Device(Protocol):
@@ -51,19 +56,24 @@ class Bus:
         84 0 SENT
 
     Bit times count from 0, devices in the order in which they are given. What a bit time is made of, and in which order
-    it is disturbed, is docs/BUS.md's. The ports are proved; the wire between them is written here a second time, for
-    devices of one's own, and compared with that of `canbit run` by tests. `play` has no such part.
+    it is disturbed, is docs/BUS.md's. The wire is the library's, as its ports are: only when each device is called is
+    said here. A hit may be asked for at any time; one that lies in the past doesn't fall any more.
     """
 
     def __init__(self, *devices: Device) -> None:
         self._devices = devices
-        self._levels = bytearray()
         self._offers: list[tuple[int, int, int, Frame]] = []
         self._offered = 0
-        self._hit_times: set[int] = set()
-        self._hit_places: set[tuple[int, int]] = set()
-        self._views: set[tuple[int, int]] = set()
-        self._attempt, self._offset, self._rest = -1, 0, _REST
+        self._hits = _Hits()
+        self._wire = PlainWire()
+        self._levels = bytearray()
+        # what each drives and sees, the tester behind the devices
+        count = len(devices) + 1
+        self._drives, self._seen = bytearray(count), bytearray(count)
+        drives, seen = ((ctypes.c_uint8 * count).from_buffer(levels) for levels in (self._drives, self._seen))
+        self._level = ctypes.c_uint8()
+        self._given = ctypes.byref(self._wire), drives, ctypes.c_size_t(count)
+        self._told = ctypes.byref(self._level), seen
 
     @property
     def devices(self) -> Sequence[Device]:
@@ -85,47 +95,93 @@ class Bus:
 
         Offers for one bit time are made in the order of these calls; those for a time that has passed, before the next.
         """
-        place = operator.index(place)
-        if not 0 <= place < len(self._devices):
-            raise ValueError(f"there is no device {place}")
+        place = self._place(place)
         due = self.time if time is None else operator.index(time)
         heapq.heappush(self._offers, (due, self._offered, place, frame_in(frame)))
         self._offered += 1
 
     def hit_at(self, time: int) -> None:
         """Has the level of the wire inverted in a bit time."""
-        self._hit_times.add(operator.index(time))
+        time = count_in(time)
+        self._hits.at(time, PlainHit(time=time, kind=HitKind.AT))
 
     def hit_in(self, attempt: int, offset: int) -> None:
         """Has it inverted so many bit times behind the start of an attempt at a frame, both counted from 0."""
-        self._hit_places.add((operator.index(attempt), operator.index(offset)))
+        attempt = count_in(attempt)
+        self._hits.inside(attempt, PlainHit(attempt=attempt, offset=count_in(offset), kind=HitKind.IN))
 
     def view(self, time: int, place: int) -> None:
         """Has one device see the inverse of the wire in a bit time."""
-        self._views.add((operator.index(time), operator.index(place)))
+        time = count_in(time)
+        self._hits.at(time, PlainHit(time=time, port=self._place(place), kind=HitKind.VIEW))
 
     def step(self, level: int = RECESSIVE) -> list[Happened]:
         """One bit time, in which a tester drives this level too; gives what it brought."""
-        time = self.time
+        time, place, drives = len(self._levels), 0, self._drives
         while self._offers and self._offers[0][0] <= time:
-            _, _, place, frame = heapq.heappop(self._offers)
-            self._devices[place].offer(frame)
+            _, _, to, frame = heapq.heappop(self._offers)
+            self._devices[to].offer(frame)
         for device in self._devices:
-            level &= device.drive()
-        level = self._disturbed(time, level)
-        self._levels.append(level)
-        told = (device.sample(level ^ ((time, place) in self._views)) for place, device in enumerate(self._devices))
-        return [Happened(time, place, *what) for place, what in enumerate(told) if what is not None]
+            driven = device.drive()
+            if driven != 0 and driven != 1:
+                raise Refused(Status.BAD_LEVEL)
+            drives[place] = driven
+            place += 1
+        if level != 0 and level != 1:
+            raise Refused(Status.BAD_LEVEL)
+        drives[place] = level
+        status = _step(*self._given, *self._hits.now(time, self._wire), *self._told)
+        if status:
+            raise Refused(Status(status))
+        self._levels.append(self._level.value)
+        happened = []
+        for place, device in enumerate(self._devices):
+            told = device.sample(self._seen[place])
+            if told is not None:
+                happened.append(Happened(time, place, *told))
+        return happened
 
     def run(self, bits: int) -> list[Happened]:
         """So many bit times; gives what they brought."""
         return [told for _ in range(bits) for told in self.step()]
 
-    def _disturbed(self, time: int, level: int) -> int:
-        """The level of the wire where the devices have driven this one."""
-        self._offset += 1
-        if level == DOMINANT and self._rest == _REST:
-            self._attempt, self._offset = self._attempt + 1, 0
-        level ^= time in self._hit_times or (self._attempt, self._offset) in self._hit_places
-        self._rest = 0 if level == DOMINANT else min(self._rest + 1, _REST)
-        return level
+    def _place(self, place: int) -> int:
+        place = operator.index(place)
+        if not 0 <= place < len(self._devices):
+            raise ValueError(f"there is no device {place}")
+        return place
+
+
+class _Hits:
+    """The hits of a bus. Of however many, the wire is handed those that may fall in its next bit time."""
+
+    def __init__(self) -> None:
+        self._timed: dict[int, list[PlainHit]] = {}
+        self._inside: dict[int, list[PlainHit]] = {}
+        # how many attempts had begun when these were chosen, which stay until another begins
+        self._begun = _UNKNOWN
+        self._lasting: list[PlainHit] = []
+        self._handed = _handed([])
+
+    def at(self, time: int, hit: PlainHit) -> None:
+        """Adds one of a bit time."""
+        self._timed.setdefault(time, []).append(hit)
+
+    def inside(self, attempt: int, hit: PlainHit) -> None:
+        """Adds one of an attempt."""
+        self._inside.setdefault(attempt, []).append(hit)
+        self._begun = _UNKNOWN
+
+    def now(self, time: int, wire: PlainWire) -> _Handed:
+        """Those of this bit time, of the latest attempt, and of the one that may begin."""
+        begun = wire.attempts
+        if begun != self._begun:
+            self._begun = begun
+            self._lasting = [*self._inside.get(begun - 1, ()), *self._inside.get(begun, ())]
+            self._handed = _handed(self._lasting)
+        timed = self._timed.get(time)
+        return _handed([*self._lasting, *timed]) if timed else self._handed
+
+
+def _handed(hits: list[PlainHit]) -> _Handed:
+    return (PlainHit * len(hits))(*hits), ctypes.c_size_t(len(hits))

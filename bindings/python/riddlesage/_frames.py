@@ -44,6 +44,7 @@ class Status(enum.IntEnum):
     NO_SUCH_PORT = 22
     BAD_ORDER = 23
     BAD_KIND = 24
+    BAD_WIRE = 25
 
 
 class RiddlesageError(Exception):

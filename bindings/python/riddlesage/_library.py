@@ -65,6 +65,17 @@ class PlainHit(ctypes.Structure):
     )
 
 
+class PlainWire(ctypes.Structure):
+    """A riddlesage_wire."""
+
+    _fields_ = (
+        ("time", ctypes.c_uint64),
+        ("attempts", ctypes.c_uint64),
+        ("start", ctypes.c_uint64),
+        ("until_rest", ctypes.c_uint8),
+    )
+
+
 class PlainStanding(ctypes.Structure):
     """A riddlesage_standing."""
 

@@ -48,14 +48,14 @@ def play(
             raise TypeError(f"a Port is wanted, and not {type(port).__name__}")
     if len({id(port) for port in ports}) < len(ports):
         raise Refused(Status.BAD_BUS)
-    given = [PlainOffer(_count(time), _place(place), plain_of(frame)) for time, place, frame in offers]
+    given = [PlainOffer(count_in(time), _place(place), plain_of(frame)) for time, place, frame in offers]
     given.sort(key=lambda offer: int(offer.time))
-    hits = [PlainHit(time=time, kind=HitKind.AT) for time in sorted({_count(time) for time in hit_at})]
-    inside = sorted({(_count(attempt), _count(offset)) for attempt, offset in hit_in})
+    hits = [PlainHit(time=time, kind=HitKind.AT) for time in sorted({count_in(time) for time in hit_at})]
+    inside = sorted({(count_in(attempt), count_in(offset)) for attempt, offset in hit_in})
     hits += [PlainHit(attempt=attempt, offset=offset, kind=HitKind.IN) for attempt, offset in inside]
-    seen = sorted({(_count(time), _place(place)) for time, place in view})
+    seen = sorted({(count_in(time), _place(place)) for time, place in view})
     hits += [PlainHit(time=time, port=place, kind=HitKind.VIEW) for time, place in seen]
-    length, refused = _count(bits), ctypes.c_size_t()
+    length, refused = count_in(bits), ctypes.c_size_t()
     levels = Room(length)
     with contextlib.ExitStack() as held:
         # in one order, so that two threads never wait for each other
@@ -78,7 +78,7 @@ def play(
     return Played(levels.filled(), refused.value)
 
 
-def _count(value: int) -> int:
+def count_in(value: int) -> int:
     """A time, an attempt or an offset."""
     number = operator.index(value)
     if not 0 <= number < 1 << 64:

@@ -1,4 +1,4 @@
-//! Ports on a bus, run by one call.
+//! Ports on a bus, run by one call, and a wire that is passed bit time by bit time.
 
 use crate::{sys, Frame, Level, Port, Refused};
 
@@ -101,4 +101,78 @@ pub fn play(ports: &mut [Port], bits: usize, offers: &[Offer], hits: &[Hit]) -> 
         )
     })?;
     Ok(Played { levels: levels.into_iter().map(Level::of).collect(), refused })
+}
+
+/// A wire between two bit times, for a bus whose ports and controllers of one's own are called bit time by bit time.
+///
+/// It begins where no bit time has passed, and counts as recessive.
+///
+/// ```
+/// use riddlesage::{Hit, Level, Port, Refused, Wire};
+///
+/// let mut port = Port::idle(16, 64)?;
+/// let mut wire = Wire::new();
+/// let mut seen = [Level::Recessive; 2];
+/// let drives = [port.drive(), Level::Dominant]; // a controller of one's own starts a frame
+/// let level = wire.step(&drives, &[Hit::View { time: 0, port: 0 }], &mut seen)?;
+/// assert_eq!((level, seen), (Level::Dominant, [Level::Recessive, Level::Dominant]));
+/// assert_eq!((wire.time(), wire.attempts()), (1, 1));
+/// port.sample(seen[0]);
+/// # Ok::<(), Refused>(())
+/// ```
+#[derive(Clone, Debug, Default, PartialEq, Eq, Hash)]
+pub struct Wire {
+    plain: sys::Wire,
+}
+
+impl Wire {
+    /// A wire before its first bit time.
+    #[must_use]
+    pub fn new() -> Self {
+        Self::default()
+    }
+
+    /// How many bit times have passed.
+    #[must_use]
+    pub fn time(&self) -> u64 {
+        self.plain.time
+    }
+
+    /// How many attempts to send a frame have begun.
+    #[must_use]
+    pub fn attempts(&self) -> u64 {
+        self.plain.attempts
+    }
+
+    /// Passes one bit time: gives the level of the wire, which is dominant where anyone drives dominant, and inverted where
+    /// it is hit, and writes what each sees.
+    ///
+    /// The hits may stand in any order, and may be others in each bit time; those that don't fall in this one do
+    /// nothing.
+    ///
+    /// # Errors
+    ///
+    /// [`Refused::NoSuchPort`] of a hit on what nobody sees; nothing has changed then.
+    ///
+    /// # Panics
+    ///
+    /// Where `seen` is not as long as `drives`.
+    pub fn step(&mut self, drives: &[Level], hits: &[Hit], seen: &mut [Level]) -> Result<Level, Refused> {
+        assert_eq!(drives.len(), seen.len(), "each who drives the wire sees it");
+        let hits: Vec<_> = hits.iter().map(|hit| hit.plain()).collect();
+        let mut level = 0;
+        // SAFETY: a level is a byte of its number, and what the header demands of pointers is so of references
+        Refused::of(unsafe {
+            sys::riddlesage_wire_step(
+                &mut self.plain,
+                drives.as_ptr().cast(),
+                drives.len(),
+                hits.as_ptr(),
+                hits.len(),
+                &mut level,
+                seen.as_mut_ptr().cast(),
+            )
+        })?;
+        Ok(Level::of(level))
+    }
 }

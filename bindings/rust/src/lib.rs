@@ -33,7 +33,7 @@ use std::error::Error;
 use std::ffi::CStr;
 use std::fmt;
 
-pub use bus::{play, Hit, Offer, Played};
+pub use bus::{play, Hit, Offer, Played, Wire};
 pub use frame::{decode, encode, Fault, FaultKind, Frame, Heard, Level};
 pub use port::{Counters, Entry, Event, EventKind, Phase, Port, Rule, Standing, State};
 pub use text::{decode_levels, decode_trace, run, ScenarioFault, TraceFault};

@@ -51,6 +51,15 @@ pub struct Hit {
     pub kind: u8,
 }
 
+#[repr(C)]
+#[derive(Clone, Copy, Debug, Default, PartialEq, Eq, Hash)]
+pub struct Wire {
+    pub time: u64,
+    pub attempts: u64,
+    pub start: u64,
+    pub until_rest: u8,
+}
+
 pub const HIT_AT: u8 = 0;
 pub const HIT_IN: u8 = 1;
 pub const HIT_VIEW: u8 = 2;
@@ -120,6 +129,15 @@ extern "C" {
         levels: *mut u8,
         bits: usize,
         refused: *mut usize,
+    ) -> Status;
+    pub fn riddlesage_wire_step(
+        wire: *mut Wire,
+        drives: *const u8,
+        count: usize,
+        hits: *const Hit,
+        hit_count: usize,
+        level: *mut u8,
+        seen: *mut u8,
     ) -> Status;
     pub fn riddlesage_encode(frame: *const Frame, levels: *mut u8, room: usize, count: *mut usize) -> Status;
     pub fn riddlesage_decode(levels: *const u8, count: usize, heard: *mut Heard, place: *mut usize) -> Status;

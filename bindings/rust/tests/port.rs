@@ -2,7 +2,7 @@
 
 use riddlesage::{
     decode, decode_levels, decode_trace, encode, play, run, version, Counters, Entry, Event, EventKind, FaultKind,
-    Frame, Hit, Level, Offer, Phase, Port, Refused, Rule, ScenarioFault, Standing, State, TraceFault,
+    Frame, Hit, Level, Offer, Phase, Port, Refused, Rule, ScenarioFault, Standing, State, TraceFault, Wire,
 };
 
 fn frame() -> Frame {
@@ -114,6 +114,35 @@ fn a_bus_by_one_call() {
     assert_eq!(ports[0].counters(), Counters { transmit: 7, receive: 0 });
     assert_eq!(ports[1].log().collect::<Vec<_>>(), [Entry { frame: frame(), sent: false }]);
     assert_eq!(play(&mut ports, 0, &[], &[]).map(|played| played.levels), Ok(Vec::new()));
+}
+
+#[test]
+fn a_wire_has_the_levels_of_a_bus() {
+    let (offer, hits) = (
+        Offer { time: 5, port: 0, frame: frame() },
+        [Hit::At(90), Hit::In { attempt: 0, offset: 16 }, Hit::View { time: 130, port: 1 }],
+    );
+    let mut whole = [port(1, 4), port(1, 4)];
+    let played = play(&mut whole, 300, &[offer], &hits).expect("a bus");
+    let (mut ports, mut wire) = ([port(1, 4), port(1, 4)], Wire::new());
+    let mut levels = Vec::new();
+    while wire.time() < 300 {
+        if wire.time() == offer.time {
+            ports[offer.port].offer(&offer.frame).expect("room");
+        }
+        let (drives, mut seen) = ([ports[0].drive(), ports[1].drive()], [Level::Dominant; 2]);
+        // in any order
+        levels.push(wire.step(&drives, &[hits[2], hits[0], hits[1]], &mut seen).expect("a wire"));
+        for (port, level) in ports.iter_mut().zip(seen) {
+            port.sample(level);
+        }
+    }
+    assert_eq!(levels, played.levels);
+    assert_eq!(ports.map(|port| port.counters()), whole.map(|port| port.counters()));
+    assert!(wire.attempts() > 1);
+    let before = wire.clone();
+    assert_eq!(wire.step(&[], &hits, &mut []), Err(Refused::NoSuchPort));
+    assert_eq!(wire, before);
 }
 
 #[test]
