@@ -15,7 +15,6 @@ from riddlesage._ports import Event, Told
 
 # It is called in each bit time, with arguments that are of the right types.
 _step = lib.riddlesage_wire_step
-_Handed = tuple["ctypes.Array[PlainHit]", ctypes.c_size_t]
 _UNKNOWN = -1
 
 
@@ -64,16 +63,8 @@ class Bus:
         self._devices = devices
         self._offers: list[tuple[int, int, int, Frame]] = []
         self._offered = 0
-        self._hits = _Hits()
-        self._wire = PlainWire()
+        self._wire = _Wire(len(devices) + 1)
         self._levels = bytearray()
-        # what each drives and sees, the tester behind the devices
-        count = len(devices) + 1
-        self._drives, self._seen = bytearray(count), bytearray(count)
-        drives, seen = ((ctypes.c_uint8 * count).from_buffer(levels) for levels in (self._drives, self._seen))
-        self._level = ctypes.c_uint8()
-        self._given = ctypes.byref(self._wire), drives, ctypes.c_size_t(count)
-        self._told = ctypes.byref(self._level), seen
 
     @property
     def devices(self) -> Sequence[Device]:
@@ -103,21 +94,21 @@ class Bus:
     def hit_at(self, time: int) -> None:
         """Has the level of the wire inverted in a bit time."""
         time = count_in(time)
-        self._hits.at(time, PlainHit(time=time, kind=HitKind.AT))
+        self._wire.hit_at(time, PlainHit(time=time, kind=HitKind.AT))
 
     def hit_in(self, attempt: int, offset: int) -> None:
         """Has it inverted so many bit times behind the start of an attempt at a frame, both counted from 0."""
         attempt = count_in(attempt)
-        self._hits.inside(attempt, PlainHit(attempt=attempt, offset=count_in(offset), kind=HitKind.IN))
+        self._wire.hit_in(attempt, PlainHit(attempt=attempt, offset=count_in(offset), kind=HitKind.IN))
 
     def view(self, time: int, place: int) -> None:
         """Has one device see the inverse of the wire in a bit time."""
         time = count_in(time)
-        self._hits.at(time, PlainHit(time=time, port=self._place(place), kind=HitKind.VIEW))
+        self._wire.hit_at(time, PlainHit(time=time, port=self._place(place), kind=HitKind.VIEW))
 
     def step(self, level: int = RECESSIVE) -> list[Happened]:
         """One bit time, in which a tester drives this level too; gives what it brought."""
-        time, place, drives = len(self._levels), 0, self._drives
+        time, place, drives = len(self._levels), 0, self._wire.drives
         while self._offers and self._offers[0][0] <= time:
             _, _, to, frame = heapq.heappop(self._offers)
             self._devices[to].offer(frame)
@@ -130,13 +121,11 @@ class Bus:
         if level != 0 and level != 1:
             raise Refused(Status.BAD_LEVEL)
         drives[place] = level
-        status = _step(*self._given, *self._hits.now(time, self._wire), *self._told)
-        if status:
-            raise Refused(Status(status))
-        self._levels.append(self._level.value)
+        self._levels.append(self._wire.step(time))
         happened = []
+        seen = self._wire.seen
         for place, device in enumerate(self._devices):
-            told = device.sample(self._seen[place])
+            told = device.sample(seen[place])
             if told is not None:
                 happened.append(Happened(time, place, *told))
         return happened
@@ -152,36 +141,47 @@ class Bus:
         return place
 
 
-class _Hits:
-    """The hits of a bus. Of however many, the wire is handed those that may fall in its next bit time."""
+class _Wire:
+    """The wire of the library. It has what each drives and sees, the tester last, and all hits."""
 
-    def __init__(self) -> None:
+    def __init__(self, count: int) -> None:
+        self.drives, self.seen = bytearray(count), bytearray(count)
+        drives, seen = ((ctypes.c_uint8 * count).from_buffer(levels) for levels in (self.drives, self.seen))
+        self._plain, self._level = PlainWire(), ctypes.c_uint8()
+        self._before = ctypes.byref(self._plain), drives, ctypes.c_size_t(count)
+        self._behind = ctypes.byref(self._level), seen
         self._timed: dict[int, list[PlainHit]] = {}
         self._inside: dict[int, list[PlainHit]] = {}
-        # how many attempts had begun when these were chosen, which stay until another begins
+        # the hits that may fall until another attempt begins than had by then, and the arguments of a call with them
         self._begun = _UNKNOWN
         self._lasting: list[PlainHit] = []
-        self._handed = _handed([])
+        self._call = self._arguments([])
 
-    def at(self, time: int, hit: PlainHit) -> None:
-        """Adds one of a bit time."""
+    def hit_at(self, time: int, hit: PlainHit) -> None:
+        """Adds a hit of a bit time."""
         self._timed.setdefault(time, []).append(hit)
 
-    def inside(self, attempt: int, hit: PlainHit) -> None:
+    def hit_in(self, attempt: int, hit: PlainHit) -> None:
         """Adds one of an attempt."""
         self._inside.setdefault(attempt, []).append(hit)
         self._begun = _UNKNOWN
 
-    def now(self, time: int, wire: PlainWire) -> _Handed:
-        """Those of this bit time, of the latest attempt, and of the one that may begin."""
-        begun = wire.attempts
+    def step(self, time: int) -> int:
+        """Passes the next bit time, which is this one, and gives the level.
+
+        Of however many hits the library is handed those of this bit time, of the latest attempt, and of the one that
+        may begin.
+        """
+        begun = self._plain.attempts
         if begun != self._begun:
             self._begun = begun
             self._lasting = [*self._inside.get(begun - 1, ()), *self._inside.get(begun, ())]
-            self._handed = _handed(self._lasting)
+            self._call = self._arguments(self._lasting)
         timed = self._timed.get(time)
-        return _handed([*self._lasting, *timed]) if timed else self._handed
+        status = _step(*(self._arguments([*self._lasting, *timed]) if timed else self._call))
+        if status:
+            raise Refused(Status(status))
+        return self._level.value
 
-
-def _handed(hits: list[PlainHit]) -> _Handed:
-    return (PlainHit * len(hits))(*hits), ctypes.c_size_t(len(hits))
+    def _arguments(self, hits: list[PlainHit]) -> tuple[object, ...]:
+        return *self._before, (PlainHit * len(hits))(*hits), ctypes.c_size_t(len(hits)), *self._behind
