@@ -13,7 +13,7 @@ use Rattle.can_wire.specs.Layout.{filled, levels_at, extended_of, data_place, fr
 use Rattle.can_code.specs.Reading.{HasData}
 use Rattle.can_wire.proofs.LayoutNumbers.{number_from-lt, number_from-append, number_from-split, number_from-upper}
 use Rattle.can_wire.proofs.LayoutPlaces.{length-filled}
-use Rattle.can_wire.proofs.PlaceTable.{byte_at-place}
+use Rattle.can_wire.proofs.CrcBytes.{byte_at-place}
 
 -- the IDE bit stands before the data
 pub data_behind_ide : (extended : Bool) → 19 ≤ data_place extended

@@ -20,7 +20,7 @@ use Rattle.can_wire.specs.FrameNumber.{control_of, header_of}
 use Rattle.can_wire.proofs.LevelLemmas.{bits_of-append, bits_of-mod, length-bits_of}
 use Rattle.can_wire.proofs.LayoutBytes.{length-bytes}
 use Rattle.can_wire.proofs.PackedLemmas.{bits_of-moved, joined-small}
-use Rattle.can_wire.proofs.PlaceTable.{byte_at-place}
+use Rattle.can_wire.proofs.CrcBytes.{byte_at-place}
 use Rattle.can_wire.proofs.RegisterWord.{crc_of-wider}
 
 -- ---- the levels before the data

@@ -25,7 +25,7 @@ pub mod Register
 pub mod LevelLemmas
 pub mod RegisterWord
 pub mod CrcTable
-pub mod PlaceTable
+pub mod CrcBytes
 pub mod OctetLemmas
 pub mod CheckRuns
 -- stuffing

@@ -9,7 +9,7 @@
 //! |---|---|---|
 //! | `crc.rt` | [`crc15`], the CRC sequence | `specs/Crc.antt` |
 //! | `crc_run.rt` | [`CrcRun`], the CRC sequence of levels that come one by one | `specs/Crc.antt` |
-//! | `crc_places.rt` | the CRC sequence of a number's levels by its bytes | `specs/Crc.antt` |
+//! | `crc_places.rt`, `crc_table.rt` | the CRC sequence of a number's levels by its bytes, and what each byte adds | `specs/Crc.antt` |
 //! | `stuffing.rt` | [`stuff`], the stuff bits, and [`run_after`], the run that a level ends | `specs/Stuffing.antt` |
 //! | `stuff_steps.rt`, `stuff_steps/` | [`LONGEST_WIRE`], and levels as they are laid out with their stuff bits, eight in a step | `specs/StuffSteps.antt` |
 //! | `heard.rt` | [`Heard`], a frame as it is heard | `specs/Heard.antt` |
@@ -48,6 +48,7 @@ mod checked_bits;
 mod crc;
 mod crc_places;
 mod crc_run;
+mod crc_table;
 mod digits;
 mod encoding;
 mod frame_bits;

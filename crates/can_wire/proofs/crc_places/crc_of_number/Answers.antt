@@ -1,9 +1,10 @@
 use Rattle.std.proofs.Common.{[], ◌*◌, ◌+◌, ◌<◌, ◌∙◌, ap, sym, arith, get_or}
 use Rattle.std.proofs.lemmas.Nat.{xor_lt}
 use Rattle.can_wire.specs.Crc.{crc_of}
-use Rattle.can_wire.specs.declared.crc_places.TheConstants.{CRC_OF_PLACES}
+use Rattle.can_wire.specs.declared.crc_table.TheConstants.{CRC_OF_PLACES}
+use Rattle.can_wire.proofs.CrcTable.{place_entry-lt}
 use Rattle.can_wire.proofs.LevelLemmas.{bits_of-none, bits_of-zero}
-use Rattle.can_wire.proofs.PlaceTable.{byte_is, crc_of-byte_more, place_entry-lt}
+use Rattle.can_wire.proofs.CrcBytes.{byte_is, crc_of-byte_more}
 use Rattle.can_wire.proofs.Register.{register-crc_of}
 use Rattle.can_wire.proofs.crc_places.crc_of_number.Goals as goal
 

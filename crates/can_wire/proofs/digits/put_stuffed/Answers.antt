@@ -4,7 +4,7 @@ use Rattle.can_frame.specs.Levels.{bits_of, digit_of}
 use Rattle.can_wire.specs.Stuffing.{stuffed_from}
 use Rattle.can_wire.specs.StuffSteps.{HasDigits}
 use Rattle.can_wire.proofs.LevelLemmas.{bits_of-zero, length-bits_of}
-use Rattle.can_wire.proofs.PlaceTable.{byte_is}
+use Rattle.can_wire.proofs.CrcBytes.{byte_is}
 use Rattle.can_wire.proofs.DrivenDigits.{HasDigits-all, HasDigits-none, next_octet}
 use Rattle.can_wire.proofs.digits.put_stuffed.Goals as goal
 
