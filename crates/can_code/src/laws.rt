@@ -18,8 +18,12 @@ pub fn one_code_fault()
 /// A frame's stuffed part, heard level by level behind its start of frame, gives its unstuffed
 /// levels and ends where it ends; and nothing else does.
 pub fn stuffed_parts_are_heard()
-    ensures exists { (u b : List Bit) → IsComplete u → Stuffs u (Dominant ∷ b) → (f : FrontParts) × (heard_levels first_front b ≡ Some f) × (f.unstuffed ≡ u) × (next_place f ≡ CrcDelimiter) }
-    ensures only { (b : List Bit) (f : FrontParts) → heard_levels first_front b ≡ Some f → next_place f ≡ CrcDelimiter → IsComplete f.unstuffed × Stuffs f.unstuffed (Dominant ∷ b) }
+    ensures exists { (u b : List Bit)
+        → IsComplete u → Stuffs u (Dominant ∷ b)
+        → (f : FrontParts) × (heard_levels first_front b ≡ Some f) × (f.unstuffed ≡ u) × (next_place f ≡ CrcDelimiter) }
+    ensures only { (b : List Bit) (f : FrontParts)
+        → heard_levels first_front b ≡ Some f → next_place f ≡ CrcDelimiter
+        → IsComplete f.unstuffed × Stuffs f.unstuffed (Dominant ∷ b) }
 {}
 
 /// Where no level is left before a decoder's frame ends, the levels are too short.

@@ -23,9 +23,15 @@ pub fn runs_end_at_dominant_levels()
 /// Levels that a node takes one by one, while it is bus off, come to the same as the list of them:
 /// it is bus off until the list ends bus off.
 pub fn recovery_goes_level_by_level()
-    ensures ends { (c : ConfineParts) (l : List Bit) (x : Bit) → IsConfine c → state_of c ≡ BusOff → StaysBusOff c l → (IsTrue (ends_bus_off x (after_levels c l)) ↔ EndsBusOff c (l ++ x ∷ [])) }
-    ensures cleared { (c : ConfineParts) (l : List Bit) (x : Bit) → IsConfine c → state_of c ≡ BusOff → StaysBusOff c l → EndsBusOff c (l ++ x ∷ []) → recovered x (after_levels c l) ≡ fresh }
-    ensures waiting { (c : ConfineParts) (l : List Bit) (x : Bit) → IsConfine c → state_of c ≡ BusOff → StaysBusOff c l → (EndsBusOff c (l ++ x ∷ []) → ⊥) → recovered x (after_levels c l) ≡ after_levels c (l ++ x ∷ []) }
+    ensures ends { (c : ConfineParts) (l : List Bit) (x : Bit)
+        → IsConfine c → state_of c ≡ BusOff → StaysBusOff c l
+        → (IsTrue (ends_bus_off x (after_levels c l)) ↔ EndsBusOff c (l ++ x ∷ [])) }
+    ensures cleared { (c : ConfineParts) (l : List Bit) (x : Bit)
+        → IsConfine c → state_of c ≡ BusOff → StaysBusOff c l → EndsBusOff c (l ++ x ∷ [])
+        → recovered x (after_levels c l) ≡ fresh }
+    ensures waiting { (c : ConfineParts) (l : List Bit) (x : Bit)
+        → IsConfine c → state_of c ≡ BusOff → StaysBusOff c l → (EndsBusOff c (l ++ x ∷ []) → ⊥)
+        → recovered x (after_levels c l) ≡ after_levels c (l ++ x ∷ []) }
 {}
 
 /// From its beginning bus off lasts for 1,408 levels at least, and ends with them where all are
