@@ -1,6 +1,6 @@
 -- Which frame of a queue waits, as frames come and go.
-use Rattle.std.proofs.Common.{◌≡◌, ℕ, zero, suc, ◌+◌, Bool, true, false, cond, List, [], ◌∷◌, ◌++◌, take, refl, ◌∙◌, ap, subst, inl, inr, add-one}
-use Rattle.std.specs.Prelude.{Option, Some, None, slice_get, ◌⊎◌}
+use Rattle.std.proofs.Common.{◌≡◌, Bool, true, false, cond, List, [], ◌∷◌, ◌++◌, refl, ◌∙◌, ap, subst, inl, inr}
+use Rattle.std.specs.Prelude.{Option, Some, None, ◌⊎◌}
 use Rattle.std.specs.declared.cmp.Ordering.{Ordering}
 use Rattle.std.specs.declared.cmp.Ordering.TheVariants.{Less, Equal, Greater}
 use Rattle.std.proofs.lemmas.Bool.{cases_Bool}
@@ -43,9 +43,6 @@ module _ (f g : Parts) where
 
   pub Shares-same_field : Shares f g → same_field f g ≡ true
   Shares-same_field h = ap is_equal ((key_cmp-tells f g).equal.1 h)
-
-  pub not_same : same_field f g ≡ false → Shares f g → ⊥
-  not_same e h = let t = Shares-same_field h in cc
 
 -- of three frames: where the first goes before the third, it goes before the second, or the second before the third
 pub Wins-between : (f g h : Parts) → Wins f h → Wins f g ⊎ Wins g h
@@ -101,13 +98,3 @@ pub waiting-push : (queue : List Parts) (f : Parts) → waiting (queue ++ f ∷ 
 unfolding waiting
 waiting-push [] f = refl
 waiting-push (g ∷ queue) f = ap (λ w. Some (earlier g w)) (waiting-push queue f) ∙ earlier_behind g (waiting queue) f
-
--- ---- the place of the frame that waits
-
-pub take_next : (queue : List Parts) (n : ℕ) (f : Parts) → slice_get queue n ≡ Some f → take (n + 1) queue ≡ take n queue ++ f ∷ []
-take_next queue n f e = ap (λ k. take k queue) (add-one n) ∙ by_suc queue n e
-  where
-    by_suc : (xs : List Parts) (k : ℕ) → slice_get xs k ≡ Some f → take (suc k) xs ≡ take k xs ++ f ∷ []
-    by_suc [] k h = cc
-    by_suc (x ∷ xs) zero h = let s : x ≡ f = cc in ap (λ y. y ∷ []) s
-    by_suc (x ∷ xs) (suc k) h = ap (λ l. x ∷ l) (by_suc xs k h)
