@@ -48,7 +48,10 @@ StaysBusOff c levels = (m : ℕ) → EndsBusOff c (take m levels) → ⊥
 
 -- what a node that is bus off holds after levels that don't end it
 abbrev pub after_levels : ConfineParts → List Level → ConfineParts
-after_levels c levels = record c { occurrences = c.occurrences + occurrences_in (since_last c levels); row = last_run (since_last c levels) % idle_row }
+after_levels c levels = record c {
+  occurrences = c.occurrences + occurrences_in (since_last c levels);
+  row = last_run (since_last c levels) % idle_row;
+}
 
 -- The same for one level, computed: a dominant level begins the row anew, and so does the eleventh
 -- recessive one, which is an occurrence.

@@ -51,7 +51,13 @@ overload s = tells s (OverloadFlag 0) Overload
 
 -- [Start of frame] a frame begins
 abbrev pub begins_frame : Stance → Role → MacMove
-begins_frame s role = record { phase = StuffedPart first_front; role = role; overloads = record { pending = s.overloads.pending; used = 0 }; cause = None; event = None }
+begins_frame s role = record {
+  phase = StuffedPart first_front;
+  role = role;
+  overloads = record { pending = s.overloads.pending; used = 0 };
+  cause = None;
+  event = None;
+}
 
 -- Errors.
 
@@ -61,7 +67,13 @@ flag passive unacknowledged = if passive then PassiveFlag Recessive 0 unacknowle
 
 -- an error, and what it counts
 abbrev pub errs_by : Option Cause → Bool → Stance → ErrorKind → MacMove
-errs_by cause unacknowledged s kind = record { phase = flag s.passive unacknowledged; role = s.role; overloads = s.overloads; cause = cause; event = Some (Error kind) }
+errs_by cause unacknowledged s kind = record {
+  phase = flag s.passive unacknowledged;
+  role = s.role;
+  overloads = s.overloads;
+  cause = cause;
+  event = Some (Error kind);
+}
 
 abbrev pub error_cause : Role → Cause
 error_cause Receiver = ReceiverError
@@ -167,7 +179,8 @@ abbrev pub ack_slot_move : Stance → Role → Reading → Level → MacMove
 ack_slot_move s (Sender f) r Dominant = goes s (AckDelimiter r)
 ack_slot_move s (Sender f) r Recessive = unacknowledged_move s
 -- [Acknowledgement] a receiver whose check sequence agrees acknowledges; another one only listens
-ack_slot_move s Receiver r Dominant = if r.agrees then record (goes s (AckDelimiter r)) { cause = Some FrameReceived } else goes s (AckDelimiter r)
+ack_slot_move s Receiver r Dominant =
+    if r.agrees then record (goes s (AckDelimiter r)) { cause = Some FrameReceived } else goes s (AckDelimiter r)
 ack_slot_move s Receiver r Recessive = if r.agrees then errs s Bit else goes s (AckDelimiter r)
 
 -- [Refused check sequence] a receiver whose check sequence differs
@@ -192,7 +205,9 @@ enters_intermission s Receiver =
 abbrev pub sender_end_move : Stance → Parts → Reading → ℕ → Level → MacMove
 sender_end_move s f r place Dominant = errs s Bit
 sender_end_move s f r place Recessive =
-    if nat_lt place 6 then goes s (EndOfFrame r (place + 1)) else record (enters_intermission s s.role) { cause = Some FrameSent; event = Some (Sent f) }
+    if nat_lt place 6
+    then goes s (EndOfFrame r (place + 1))
+    else record (enters_intermission s s.role) { cause = Some FrameSent; event = Some (Sent f) }
 
 -- [Frame validation], [Dominant last level] the frame is valid for a receiver where none but the last is
 -- dominant
@@ -234,7 +249,9 @@ passive_flag_move s last run unacknowledged x =
 -- [Behind a flag] what a dominant level behind a flag counts: at a receiver the first one behind an error
 -- flag, and at any controller each eighth in a row
 abbrev pub dominant_cause : Role → Bool → ℕ → Option Cause
-dominant_cause Receiver first dominant = if first then Some ReceiverFirstDominant else if nat_lt dominant 7 then None else Some ReceiverDominantRun
+dominant_cause Receiver first dominant =
+    if first then Some ReceiverFirstDominant
+    else if nat_lt dominant 7 then None else Some ReceiverDominantRun
 dominant_cause (Sender f) first dominant = if nat_lt dominant 7 then None else Some SenderDominantRun
 
 abbrev pub after_flag_move : Stance → Bool → ℕ → Level → MacMove

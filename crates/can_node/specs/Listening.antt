@@ -68,4 +68,7 @@ RestsBetween levels s t = (n : ℕ) × (s < n) × (n + 10 ≤ t) × (take 10 (dr
 -- between an error, an overload or going off and the next event of a frame the bus rests
 abbrev pub Rested : List Level → List (Option Event) → Type 0
 Rested levels events =
-    (s t : ℕ) (upset told : Option Event) → s < t → slice_get events s ≡ Some upset → slice_get events t ≡ Some told → is_upset upset ≡ true → is_of_frame told ≡ true → RestsBetween levels s t
+    (s t : ℕ) (upset told : Option Event) → s < t
+    → slice_get events s ≡ Some upset → slice_get events t ≡ Some told
+    → is_upset upset ≡ true → is_of_frame told ≡ true
+    → RestsBetween levels s t

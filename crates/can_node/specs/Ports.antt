@@ -65,7 +65,10 @@ missed_limit = 2 ^ 32 - 1
 
 -- one entry more in the log, or one missed where the log is full
 abbrev pub port_logging : Entry → PortState → PortState
-port_logging entry p = if nat_lt (length p.log) p.log_room then record p { log = p.log ++ entry ∷ [] } else record p { missed = min (p.missed + 1) missed_limit }
+port_logging entry p =
+    if nat_lt (length p.log) p.log_room
+    then record p { log = p.log ++ entry ∷ [] }
+    else record p { missed = min (p.missed + 1) missed_limit }
 
 -- what an event makes of queue and log
 abbrev pub port_noting : Option Event → PortState → PortState

@@ -18,7 +18,9 @@ xor (x ∷ xs) (y ∷ ys) = plus x y ∷ xor xs ys
 
 -- x^14 + x^10 + x^8 + x^7 + x^4 + x^3 + 1
 abbrev pub lower_terms : List Level
-lower_terms = Recessive ∷ Dominant ∷ Dominant ∷ Dominant ∷ Recessive ∷ Dominant ∷ Recessive ∷ Recessive ∷ Dominant ∷ Dominant ∷ Recessive ∷ Recessive ∷ Dominant ∷ Dominant ∷ Recessive ∷ []
+lower_terms =
+    Recessive ∷ Dominant ∷ Dominant ∷ Dominant ∷ Recessive ∷ Dominant ∷ Recessive ∷ Recessive
+    ∷ Dominant ∷ Dominant ∷ Recessive ∷ Recessive ∷ Dominant ∷ Dominant ∷ Recessive ∷ []
 
 -- x^15 + x^14 + x^10 + x^8 + x^7 + x^4 + x^3 + 1, 1100010110011001
 abbrev pub generator : List Level

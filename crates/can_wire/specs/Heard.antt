@@ -31,7 +31,10 @@ abbrev pub same_heard : HeardParts → HeardParts → Bool
 same_heard =
     eq_of_both (on (λ h. h.frame) same_parts)
     (eq_of_both (on (λ h. is_recessive h.srr) beq)
-    (eq_of_both (on (λ h. is_recessive h.r1) beq) (eq_of_both (on (λ h. is_recessive h.r0) beq) (eq_of_both (on (λ h. h.acked) beq) (on (λ h. is_recessive h.last) beq)))))
+    (eq_of_both (on (λ h. is_recessive h.r1) beq)
+    (eq_of_both (on (λ h. is_recessive h.r0) beq)
+    (eq_of_both (on (λ h. h.acked) beq)
+    (on (λ h. is_recessive h.last) beq)))))
 
 -- what is heard where all is sent and acknowledged as it should be
 abbrev pub sent : Parts → HeardParts
@@ -46,7 +49,8 @@ data_field f = bits_of 4 f.dlc ++ flat_map (bits_of 8) f.bytes
 unfoldable pub heard_head : HeardParts → List Level
 heard_head h =
     if h.frame.id.extended
-    then Dominant ∷ (bits_of 11 (h.frame.id.raw / 2 ^ 18) ++ h.srr ∷ Recessive ∷ (bits_of 18 h.frame.id.raw ++ level_from h.frame.remote ∷ h.r1 ∷ h.r0 ∷ data_field h.frame))
+    then Dominant ∷ (bits_of 11 (h.frame.id.raw / 2 ^ 18) ++ h.srr ∷ Recessive
+    ∷ (bits_of 18 h.frame.id.raw ++ level_from h.frame.remote ∷ h.r1 ∷ h.r0 ∷ data_field h.frame))
     else Dominant ∷ (bits_of 11 h.frame.id.raw ++ level_from h.frame.remote ∷ Dominant ∷ h.r0 ∷ data_field h.frame)
 
 -- the ACK slot: dominant where a receiver has acknowledged
