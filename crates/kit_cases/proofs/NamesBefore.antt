@@ -5,15 +5,12 @@ use Rattle.std.specs.Cmp.Lexicographic.{slice_cmp}
 use Rattle.std.specs.List.{list_any}
 use Rattle.std.specs.Ordering.{nat_cmp}
 use Rattle.std.specs.Str.{bytes_eq}
-use Rattle.std.proofs.Common.{◌≡◌, ℕ, ◌+◌, ◌<◌, Bool, true, false, ◌||◌, cond, List, [], ◌∷◌, ◌++◌, length, get_or, map, take, refl, sym, ap, ◌∙◌}
+use Rattle.std.proofs.Common.{◌≡◌, ℕ, ◌+◌, Bool, true, false, ◌||◌, cond, List, [], ◌∷◌, ◌++◌, refl, sym, ap, ◌∙◌}
 use Rattle.std.proofs.lemmas.Bool.Decides.{same_from_decides}
-use Rattle.std.proofs.lemmas.List.{map-append, take_more}
 use Rattle.std.proofs.lemmas.List.Folds.{list_any-append}
 use Rattle.std.proofs.lemmas.Map.Text.{is_eq-slice_cmp}
 use Rattle.std.proofs.lemmas.Slice.Eq.{bytes_eq-Decides}
 use Rattle.toml.specs.Data.{Data, same_key}
-use Rattle.toml.specs.View.{view}
-use Rattle.toml.specs.declared.value.Value.{Value}
 use Rattle.kit_cases.specs.Cases.{name_of}
 use Rattle.kit_cases.specs.NameSets.{HasNames}
 
@@ -47,13 +44,3 @@ names-more names more said cases d says updates before = λ text.
     ∙ ap (λ b. list_any test cases || b) here
     ∙ ap (λ b. list_any test cases || b) (sym (or_false (test d)))
     ∙ sym (list_any-append test cases (d ∷ []))
-
--- ---- values
-
--- the tables up to a place and that at it
-pub tables-more : (values : List Value) (place : ℕ) (value : Value) → place < length values → value ≡ get_or values place value
-    → map view (take (place + 1) values) ≡ map view (take place values) ++ view value ∷ []
-tables-more values place value within is =
-    ap (λ vs. map view vs) (take_more values place value within)
-    ∙ map-append view (take place values) (get_or values place value ∷ [])
-    ∙ ap (λ v. map view (take place values) ++ view v ∷ []) (sym is)

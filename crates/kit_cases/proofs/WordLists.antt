@@ -41,11 +41,6 @@ unfolding IsNotFirst
 not_first-other word other false more differ none = none
 not_first-other word other true more differ none = λ rest e. differ (let same : word ≡ other = cc in same)
 
--- a word that is taken, and the words behind it
-took : (word : List ℕ) (ds rest : List Data) (b : Bool) (more : List (List ℕ)) → TakesWord word ds b rest → rest ≡ map string more → ds ≡ map string ((if b then word ∷ [] else []) ++ more)
-took word ds rest true more takes is = takes ∙ ap (λ r. string word ∷ r) is
-took word ds rest false more takes is = sym takes.0 ∙ is
-
 -- what is left of the words behind one of them
 behind : (word : List ℕ) (ds rest : List Data) (b said : Bool) (more : List (List ℕ)) → IsNotFirst word more → TakesWord word ds b rest → ds ≡ map string ((if said then word ∷ [] else []) ++ more) → rest ≡ map string more
 unfolding IsNotFirst

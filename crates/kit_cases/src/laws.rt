@@ -11,5 +11,7 @@ ghost use Rattle.kit_cases.specs.Cases.{cases_demands, AreSameCases, SaysCase};
 pub fn one_case()
     ensures case { (d : Data) (a b : CaseSaid) → SaysCase d a → SaysCase d b → AreSameCases a b }
     ensures no_field { (ds : List Data) (wrong : Wrong) → AllMet (cases_demands ds) → IsFirstUnmet wrong (cases_demands ds) → ⊥ }
-    ensures one_field { (ds : List Data) (wrong other : Wrong) → IsFirstUnmet wrong (cases_demands ds) → IsFirstUnmet other (cases_demands ds) → wrong ≡ other }
+    ensures one_field { (ds : List Data) (wrong other : Wrong)
+        → IsFirstUnmet wrong (cases_demands ds) → IsFirstUnmet other (cases_demands ds)
+        → wrong ≡ other }
 {}

@@ -9,7 +9,13 @@ ghost use Rattle.kit_transcripts.specs.Transcripts.{transcripts_demands, AreSame
 /// A table says at most one transcript; where all that transcripts have to meet is met no field is told, and else at
 /// most one is.
 pub fn one_told()
-    ensures transcript { (cases : List Data) (d : Data) (a b : ToldSaid) → SaysTranscript cases d a → SaysTranscript cases d b → AreSameTranscripts a b }
-    ensures no_field { (cases ds : List Data) (wrong : Wrong) → AllMet (transcripts_demands cases ds) → IsFirstUnmet wrong (transcripts_demands cases ds) → ⊥ }
-    ensures one_field { (cases ds : List Data) (wrong other : Wrong) → IsFirstUnmet wrong (transcripts_demands cases ds) → IsFirstUnmet other (transcripts_demands cases ds) → wrong ≡ other }
+    ensures transcript { (cases : List Data) (d : Data) (a b : ToldSaid)
+        → SaysTranscript cases d a → SaysTranscript cases d b
+        → AreSameTranscripts a b }
+    ensures no_field { (cases ds : List Data) (wrong : Wrong)
+        → AllMet (transcripts_demands cases ds) → IsFirstUnmet wrong (transcripts_demands cases ds)
+        → ⊥ }
+    ensures one_field { (cases ds : List Data) (wrong other : Wrong)
+        → IsFirstUnmet wrong (transcripts_demands cases ds) → IsFirstUnmet other (transcripts_demands cases ds)
+        → wrong ≡ other }
 {}
