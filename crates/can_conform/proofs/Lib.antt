@@ -4,7 +4,6 @@ pub mod Growing
 pub mod RunLemmas
 pub mod OutlookLemmas
 pub mod Drives
-pub mod NodePort
 pub mod AgreementLemmas
 pub mod TranscriptLemmas
 pub mod VerdictLemmas

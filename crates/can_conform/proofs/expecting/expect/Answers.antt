@@ -8,7 +8,7 @@ use Rattle.can_conform.specs.Walks.{Foresees}
 use Rattle.can_conform.proofs.AgreementLemmas.{counters-start}
 use Rattle.can_conform.proofs.Drives.{AreDriven, driven-all, driven-next, driven-none}
 use Rattle.can_conform.proofs.Growing.{IsToldUpTo, told-all, told-next, told-none}
-use Rattle.can_conform.proofs.NodePort.{node_port}
+use Rattle.can_node.proofs.NodePort.{node_port}
 use Rattle.can_conform.proofs.RunLemmas.{before-first, changed-past, event-past}
 use Rattle.can_conform.proofs.expecting.expect.Goals as goal
 

@@ -4,7 +4,7 @@ use Rattle.can_conform.specs.Transcripts.{changed_in}
 use Rattle.can_conform.specs.Walks.{Foresees}
 use Rattle.can_conform.proofs.Drives.{AreDriven}
 use Rattle.can_conform.proofs.Growing.{IsToldUpTo}
-use Rattle.can_conform.proofs.NodePort.{node_port}
+use Rattle.can_node.proofs.NodePort.{node_port}
 use Rattle.can_conform.proofs.expecting.expect.Given as goal
 
 -- the reference stands before this bit time, and the transcript tells all before it

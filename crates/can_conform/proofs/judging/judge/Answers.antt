@@ -6,7 +6,7 @@ use Rattle.can_conform.specs.Runs.{before, moment_at}
 use Rattle.can_conform.specs.Transcripts.{AgreesAt}
 use Rattle.can_conform.specs.Walks.{Foresees}
 use Rattle.can_conform.proofs.AgreementLemmas.{agrees-all, agrees-more, reached-start, stands-past}
-use Rattle.can_conform.proofs.NodePort.{node_port}
+use Rattle.can_node.proofs.NodePort.{node_port}
 use Rattle.can_conform.proofs.RunLemmas.{before-first, rule-first, since-first}
 use Rattle.can_conform.proofs.judging.judge.Goals as goal
 

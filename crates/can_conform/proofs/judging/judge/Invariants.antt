@@ -2,7 +2,7 @@ use Rattle.std.proofs.Common.{◌≡◌, ℕ, ◌<◌}
 use Rattle.can_conform.specs.Runs.{moment_at}
 use Rattle.can_conform.specs.Transcripts.{AgreesAt}
 use Rattle.can_conform.specs.Walks.{Foresees, HasReached, Stands}
-use Rattle.can_conform.proofs.NodePort.{node_port}
+use Rattle.can_node.proofs.NodePort.{node_port}
 use Rattle.can_conform.proofs.judging.judge.Given as goal
 
 -- the reference stands before this bit time, and all agrees before it

@@ -4,7 +4,7 @@ use Rattle.std.proofs.lemmas.Result.{err_from_is_err_and}
 use Rattle.std.specs.Cmp.Lexicographic.{pointwise_decides}
 use Rattle.std.specs.Prelude.{option_map}
 use Rattle.can_stream.proofs.Turns.{PassesOn-flushed}
-use Rattle.can_conform.proofs.NodePort.{node_port}
+use Rattle.can_node.proofs.NodePort.{node_port}
 use Rattle.kit_adapter.proofs.CommandLines.{IsStep-front, quit_from_front}
 use Rattle.kit_adapter.proofs.Conversations.{HasRead, HasRead-next, IsTalking-answered, Told-last, Told-quit, Told-unanswered, Told-ungreeted, Told-unread, Told-unwritten}
 use Rattle.kit_adapter.proofs.Running.{falls-read, none_waits}

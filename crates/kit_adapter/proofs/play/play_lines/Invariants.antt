@@ -1,6 +1,6 @@
 use Rattle.std.proofs.Common.{◌≡◌, ◌+◌, ◌-◌, ◌^◌, ◌<◌, false, [], length}
 use Rattle.std.specs.Prelude.{option_map}
-use Rattle.can_conform.proofs.NodePort.{node_port}
+use Rattle.can_node.proofs.NodePort.{node_port}
 use Rattle.kit_adapter.proofs.Conversations.{IsTalking}
 use Rattle.kit_adapter.proofs.play.play_lines.Given as goal
 

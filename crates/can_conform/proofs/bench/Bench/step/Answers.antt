@@ -2,7 +2,7 @@ use Rattle.std.specs.Prelude.{slice_get}
 use Rattle.std.proofs.Common.{◌≡◌, Some, None, length, refl, ap, sym, ◌∙◌, arith}
 use Rattle.std.proofs.lemmas.Option.{slice_get_past, slice_get_read}
 use Rattle.can_conform.specs.declared.moment.Moment.{Moment}
-use Rattle.can_conform.proofs.NodePort.{node_port}
+use Rattle.can_node.proofs.NodePort.{node_port}
 use Rattle.can_conform.proofs.OutlookLemmas.{foresees-later}
 use Rattle.can_conform.proofs.RunLemmas.{moment-met, moment-still, port-met, port-still}
 use Rattle.can_conform.proofs.bench.Bench.step.Goals as goal

@@ -1,4 +1,4 @@
--- What a contract sees of the reference's port.
+-- What a contract sees of a port with memory of its own.
 use Rattle.can_wire.specs.declared.checked_bits.CheckedBits.{CheckedBits}
 use Rattle.can_wire.specs.contracts.checked_bits.CheckedBitsFrameBits.TheImpl as checked_bits
 use Rattle.can_node.specs.declared.node.Node.{Node}
