@@ -1,70 +1,80 @@
 //! Frames with their levels, and levels with what is heard of them, worked out by hand.
 use CodeFaultKind::{Crc, Form, NoStartOfFrame, Short, Stuff};
-use arrayvec::ArrayVec;
-use can_code::{CodeFaultKind, Heard};
+use can_code::CodeFaultKind;
 use can_frame::{Frame, Level};
 
 mod decoder;
 mod front;
-mod runs;
 mod sending;
 
-/// A list of levels that can be longer than any frame's.
-type Levels = ArrayVec<Level, 200>;
-
 /// Frames, each with its levels from the start of frame to the end of the CRC sequence, without stuff bits and with
-/// them, and how many levels it has on the wire.
-const KNOWN: &[(&str, &str, &str, usize)] = &[
+/// them.
+const KNOWN: &[(&str, &str, &str)] = &[
     (
         "S 000 D 0",
         "0000000000000000000000000000000000",
         "0000010000010000010000010000010000010000",
-        50,
     ),
-    (
-        "S 001 D 0",
-        "0000000000010000000010001000010011",
-        FRAME_001,
-        47,
-    ),
+    ("S 001 D 0", "0000000000010000000010001000010011", FRAME_001),
     (
         "S 009 D 0",
         "0000000010010000000111110000100000",
         "000001000100100000100111110000011000001",
-        49,
     ),
     (
         "S 000 R 8",
         "0000000000001001000000011111000010",
         "000001000001001001000001001111100000110",
-        49,
     ),
     (
         "S 123 D 0",
         "0001001000110000000110100001011000",
         "00010010001100000100110100001011000",
-        45,
     ),
     (
         "S 123 R 0",
         "0001001000111000000001101110011101",
         "00010010001110000010001101110011101",
-        45,
     ),
     (
         "E 048c0000 D 0",
         "000100100011110000000000000000000000000101111000110111",
         "00010010001111000001000001000001000001000001101111000110111",
-        69,
     ),
-];
-
-/// Frames with eight bytes of data. The last two are the longest: each has 118 levels without stuff bits.
-const FULL: &[&str] = &[
-    "S 000 D 12 0000000000000000",
-    "S 000 D 8 0000000000000000",
-    "E 00000000 D 8 0000000000000000",
-    "E 1fffffff D 15 ffffffffffffffff",
+    // eight bytes of data: the levels before them, these, and the check sequence
+    (
+        "S 5a5 D 8 00ff8001aa55fe7f",
+        "0101101001010001000\
+         0000000011111111100000000000000110101010010101011111111001111111\
+         011000111010010",
+        "010110100101000100000100000101111101111000001000001000011010\
+         101001010101111101110011111011011000111010010",
+    ),
+    (
+        "E 12345678 D 8 00ff8001aa55fe7f",
+        "010010001101110001010110011110000001000\
+         0000000011111111100000000000000110101010010101011111111001111111\
+         111100110011101",
+        "010010001101110001010110011110000010100000100000101111101111000001000001\
+         0000110101010010101011111011100111110111110100110011101",
+    ),
+    // a data length code above eight, and the longest frame
+    (
+        "S 000 D 12 0000000000000000",
+        "0000000000000001100\
+         0000000000000000000000000000000000000000000000000000000000000000\
+         111110010111010",
+        "0000010000010000011100000100000100000100000100000100000100000100\
+         000100000100000100000100000100000101111100010111010",
+    ),
+    (
+        "E 1fffffff D 15 ffffffffffffffff",
+        "011111111111111111111111111111110001111\
+         1111111111111111111111111111111111111111111111111111111111111111\
+         000111001101010",
+        "01111101111101111101111101111101111101000111110111110111110111110111\
+         110111110111110111110111110111110111110111110111110111000111001101010",
+    ),
 ];
 
 /// The stuffed part of the standard data frame 001 without data.
@@ -73,21 +83,20 @@ const FRAME_001: &str = "0000010000010100000100010001000010011";
 /// The levels behind the stuffed part of a frame that is acknowledged.
 const TAIL: &str = "1011111111";
 
-/// A stuffed part and the levels behind it, the frame that is heard there, with its SRR, r1, r0, ACK slot and last
-/// level, and how many levels it has.
-const HEARD: &[(&str, &str, &str, &[u8; 5], usize)] = &[
+/// A stuffed part and the levels behind it, the frame that is heard there, and the digits of its SRR, r1, r0, ACK
+/// slot and last level.
+const HEARD: &[(&str, &str, &str, &[u8; 5])] = &[
     // levels behind the frame
-    (FRAME_001, "10111111110", "S 001 D 0", b"10001", 47),
-    (FRAME_001, "1011111111111000", "S 001 D 0", b"10001", 47),
+    (FRAME_001, "10111111110", "S 001 D 0", b"10001"),
+    (FRAME_001, "1011111111111000", "S 001 D 0", b"10001"),
     // what a receiver takes at either level: the ACK slot, the last level, and a reserved bit
-    (FRAME_001, "1111111111", "S 001 D 0", b"10011", 47),
-    (FRAME_001, "1011111110", "S 001 D 0", b"10000", 47),
+    (FRAME_001, "1111111111", "S 001 D 0", b"10011"),
+    (FRAME_001, "1011111110", "S 001 D 0", b"10000"),
     (
         "0000010000010000100000110110110010111",
         TAIL,
         "S 000 D 0",
         b"10101",
-        47,
     ),
     // and SRR and both reserved bits of an extended frame
     (
@@ -95,7 +104,6 @@ const HEARD: &[(&str, &str, &str, &[u8; 5], usize)] = &[
         "1111111110",
         "E 12345678 D 1 ff",
         b"01010",
-        74,
     ),
 ];
 
@@ -132,34 +140,6 @@ fn level_of(digit: u8) -> Level {
     Level::from_bool(digit == b'1')
 }
 
-/// Appends the levels of a text of `0` and `1`.
-fn push_levels(levels: &mut Levels, text: &str) {
-    for digit in text.as_bytes() {
-        let _ = levels.try_push(level_of(*digit));
-    }
-}
-
-/// The levels of a stuffed part and of those behind it.
-fn spelled(stuffed_part: &str, behind: &str) -> Levels {
-    let mut levels = ArrayVec::new();
-    push_levels(&mut levels, stuffed_part);
-    push_levels(&mut levels, behind);
-    levels
-}
-
 fn frame_of(text: &str) -> Option<Frame> {
     Frame::from_text(text.as_bytes()).ok()
-}
-
-/// What is heard of a frame with the digits of SRR, r1, r0, ACK slot and last level.
-fn heard_of(frame: &str, levels: &[u8; 5]) -> Option<Heard> {
-    let [srr, r1, r0, ack, last] = *levels;
-    Heard::new(
-        frame_of(frame)?,
-        level_of(srr),
-        level_of(r1),
-        level_of(r0),
-        ack == b'0',
-        level_of(last),
-    )
 }

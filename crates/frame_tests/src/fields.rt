@@ -61,18 +61,13 @@ fn letter(field: Field) -> u8 {
     }
 }
 
-/// The levels of digits, of which there are at most 157.
-fn levels_of(digits: &[u8]) -> ArrayVec<Level, 157> {
-    let mut levels = ArrayVec::new();
+/// Whether levels have these marks and no more.
+fn have_marks(digits: &[u8], fields: &[u8], stuffed: &[u8]) -> bool {
+    let mut levels = ArrayVec::<Level, 157>::new();
     for digit in digits {
         let _ = levels.try_push(Level::from_bool(*digit == b'1'));
     }
-    levels
-}
-
-/// Whether levels have these marks and no more.
-fn have_marks(levels: &[u8], fields: &[u8], stuffed: &[u8]) -> bool {
-    let found: ArrayVec<Mark, 157> = marks(&levels_of(levels));
+    let found: ArrayVec<Mark, 157> = marks(&levels);
     for ((mark, field), stuffed) in found.iter().zip(fields).zip(stuffed) {
         if letter(mark.field) != *field || mark.stuffed != (*stuffed == b'^') {
             return false;

@@ -3,10 +3,10 @@ use arrayvec::ArrayVec;
 use can_frame::{Frame, Level};
 use can_wire::places::ends_dlc;
 use can_wire::{
-    CrcRun, Heard, PlainBits, crc15, encode, head, respell, rtr_place, run_after, stuff,
+    CrcRun, DIGITS_ROOM, Heard, LONGEST_WIRE, PlainBits, crc15, driven_digits, encode, encode_into,
+    head, respell, rtr_place, run_after, stuff,
 };
 
-mod encoded;
 mod frame_bits;
 mod heard;
 
@@ -84,31 +84,66 @@ const KNOWN: &[Known] = &[
         stuffed: "00010010001111000001000001000001000001000001101111000110111",
         len: 69,
     },
+    // the data, the highest bit of each byte first
+    Known {
+        frame: "S 5a5 D 8 00ff8001aa55fe7f",
+        unstuffed: "0101101001010001000\
+                    0000000011111111100000000000000110101010010101011111111001111111\
+                    011000111010010",
+        base: 0x5a5,
+        crc: 0x31d2,
+        stuffed: "010110100101000100000100000101111101111000001000001000011010\
+                  101001010101111101110011111011011000111010010",
+        len: 115,
+    },
+    // a data length code above eight is sent as it is
+    Known {
+        frame: "S 000 D 12 0000000000000000",
+        unstuffed: "0000000000000001100\
+                    0000000000000000000000000000000000000000000000000000000000000000\
+                    111110010111010",
+        base: 0x000,
+        crc: 0x7cba,
+        stuffed: "000001000001000001110000010000010000010000010000010000010000\
+                  0100000100000100000100000100000100000101111100010111010",
+        len: 125,
+    },
+    // the longest without stuff bits
+    Known {
+        frame: "E 1fffffff D 15 ffffffffffffffff",
+        unstuffed: "011111111111111111111111111111110001111\
+                    1111111111111111111111111111111111111111111111111111111111111111\
+                    000111001101010",
+        base: 0x7ff,
+        crc: 0x0e6a,
+        stuffed: "01111101111101111101111101111101111101000111110111110111110111110111\
+                  110111110111110111110111110111110111110111110111110111000111001101010",
+        len: 147,
+    },
 ];
 
-/// Appends the levels of a text of `0` and `1`.
-fn push_levels(levels: &mut Levels, text: &str) {
-    for digit in text.as_bytes() {
-        let _ = levels.try_push(Level::from_bool(*digit == b'1'));
-    }
+fn level_of(digit: u8) -> Level {
+    Level::from_bool(digit == b'1')
 }
 
 /// The levels of a text of `0` and `1`.
 fn levels_of(text: &str) -> Levels {
     let mut levels = ArrayVec::new();
-    push_levels(&mut levels, text);
+    for digit in text.as_bytes() {
+        let _ = levels.try_push(level_of(*digit));
+    }
     levels
-}
-
-/// Whether these are the levels of a stuffed part and of those behind it.
-fn are(levels: &[Level], stuffed_part: &str, behind: &str) -> bool {
-    let mut expected = levels_of(stuffed_part);
-    push_levels(&mut expected, behind);
-    levels == expected.as_slice()
 }
 
 fn frame_of(text: &str) -> Option<Frame> {
     Frame::from_text(text.as_bytes()).ok()
+}
+
+/// Whether these are the levels of a stuffed part and of the ten behind it.
+fn are(levels: &[Level], stuffed_part: &str, behind: &str) -> bool {
+    let place = stuffed_part.len().min(levels.len());
+    &levels[..place] == levels_of(stuffed_part).as_slice()
+        && &levels[place..] == levels_of(behind).as_slice()
 }
 
 /// Levels and their check sequence.
@@ -147,20 +182,18 @@ const STUFFED: &[(&str, &str)] = &[
     ("0111111000001", "011111010000011"),
 ];
 
-/// Whether levels are stuffed so.
-fn is_stuffed(unstuffed: &str, stuffed: &str) -> bool {
-    let levels = levels_of(unstuffed);
-    levels.len() <= 118 && are(&stuff(&levels), stuffed, "")
-}
-
 #[test]
 fn stuff_bits(rt: HostRuntime) {
     for (unstuffed, stuffed) in STUFFED {
-        assert!(rt; is_stuffed(*unstuffed, *stuffed), "{unstuffed}");
+        let levels = levels_of(*unstuffed);
+        assert!(rt;
+            levels.len() <= 118 && stuff(&levels).as_slice() == levels_of(*stuffed).as_slice(),
+            "{unstuffed}"
+        );
     }
 }
 
-/// Whether a frame has its levels, as it is sent, and as it is heard with the ACK slot at either level.
+/// Whether a frame has its levels, as it is sent in each form, and as it is heard with the ACK slot at either level.
 fn has_its_levels(known: &Known) -> bool {
     let Some(frame) = frame_of(known.frame) else {
         return false;
@@ -168,9 +201,15 @@ fn has_its_levels(known: &Known) -> bool {
     let sent = Heard::sent(frame);
     let unstuffed: PlainBits = head(&sent);
     let levels = encode(&frame);
+    let mut digits = [0; DIGITS_ROOM];
+    let (start, end) = driven_digits(&frame, &mut digits);
     has_check(unstuffed.as_slice(), known.crc)
+        && levels_of(known.unstuffed).starts_with(unstuffed.as_slice())
         && levels.len() == known.len
         && are(&levels, known.stuffed, "1111111111")
+        && encode_into(&frame, &mut [Level::Dominant; LONGEST_WIRE]) == known.len
+        && end - start == known.len
+        && digits[start..end].starts_with(known.stuffed.as_bytes())
         && are(&respell(&sent), known.stuffed, "1011111111")
 }
 
@@ -178,39 +217,6 @@ fn has_its_levels(known: &Known) -> bool {
 fn frames(rt: HostRuntime) {
     for known in KNOWN {
         assert!(rt; has_its_levels(known), "{}", known.frame);
-    }
-}
-
-/// Frames, and levels of their heads from a place on.
-const HEADS: &[(&str, usize, &str)] = &[
-    // data length codes
-    ("S 000 D 12 0000000000000000", 15, "1100"),
-    ("S 000 D 8 0000000000000000", 15, "1000"),
-    // the identifier and the control field, and the data, the highest bit of each byte first
-    ("S 5a5 D 8 00ff8001aa55fe7f", 0, "0101101001010001000"),
-    (
-        "S 5a5 D 8 00ff8001aa55fe7f",
-        19,
-        "0000000011111111100000000000000110101010010101011111111001111111",
-    ),
-];
-
-/// Whether these levels stand at a place of the head of a frame.
-fn head_has(frame: &str, place: usize, text: &str) -> bool {
-    let Some(frame) = frame_of(frame) else {
-        return false;
-    };
-    let levels: PlainBits = head(&Heard::sent(frame));
-    match levels.as_slice().get(place..) {
-        Some(part) => part.starts_with(&levels_of(text)),
-        None => false,
-    }
-}
-
-#[test]
-fn heads(rt: HostRuntime) {
-    for (frame, place, text) in HEADS {
-        assert!(rt; head_has(*frame, *place, *text), "{frame} at {place}");
     }
 }
 
@@ -224,7 +230,10 @@ fn places(rt: HostRuntime) {
     for (count, ends) in ENDS {
         assert!(rt; ends_dlc(*count) == *ends, "{count}");
     }
-    assert!(rt; rtr_place(false) == 12 && rtr_place(true) == 32);
-    assert!(rt; run_after(Level::Dominant, 4, Level::Dominant) == 5);
-    assert!(rt; run_after(Level::Dominant, 4, Level::Recessive) == 1);
+    assert!(rt;
+        rtr_place(false) == 12
+            && rtr_place(true) == 32
+            && run_after(Level::Dominant, 4, Level::Dominant) == 5
+            && run_after(Level::Dominant, 4, Level::Recessive) == 1
+    );
 }

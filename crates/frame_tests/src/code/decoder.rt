@@ -1,39 +1,17 @@
-use super::{FAULTS, FRAME_001, FULL, HEARD, KNOWN, TAIL, frame_of, heard_of, level_of, spelled};
+use super::{FAULTS, FRAME_001, HEARD, KNOWN, TAIL, frame_of, level_of};
 use arrayvec::ArrayVec;
 use can_code::{
-    CodeFault, CodeFaultKind, Decoder, FrameBits, Heard, PackedBits, PlainBits, decode, encode,
+    CodeFault, CodeFaultKind, Decoder, FrameBits, Heard, PackedBits, PlainBits, decode,
 };
 use can_frame::Level;
 use std::test::Fail;
 
 /// What a decoder first says more than that the frame goes on, and the place of the level at which it says that.
-pub(super) type Word = (usize, Result<Heard, CodeFaultKind>);
+type Word = (usize, Result<Heard, CodeFaultKind>);
 
-/// The digits of levels.
-pub(super) type Digits = ArrayVec<u8, 200>;
-
-pub(super) fn digits_of(levels: &[Level]) -> Digits {
-    let mut digits = ArrayVec::new();
-    for level in levels {
-        let _ = digits.try_push(level.digit());
-    }
-    digits
-}
-
-/// The first word of levels that are heard one by one behind the start of frame.
-pub(super) fn first_word<B: FrameBits>(levels: &[Level]) -> Option<Word> {
-    let mut decoder = Decoder::<B>::begin();
-    for (place, level) in levels.iter().enumerate().skip(1) {
-        if let Some(word) = decoder.hear(*level).transpose() {
-            return Some((place, word));
-        }
-    }
-    None
-}
-
-/// The same of the levels that these are the digits of, heard in runs of at most `most` of them, with one level by
-/// itself behind each run.
-pub(super) fn first_word_of_runs<B: FrameBits>(digits: &[u8], most: usize) -> Option<Word> {
+/// The first word of the levels that these are the digits of, heard in runs of at most `most` of them, with one level by
+/// itself behind each run. The first of them is the start of frame.
+fn first_word<B: FrameBits>(digits: &[u8], most: usize) -> Option<Word> {
     let mut decoder = Decoder::<B>::begin();
     let (_, mut rest) = digits.split_first()?;
     for _ in 0..digits.len() {
@@ -49,81 +27,70 @@ pub(super) fn first_word_of_runs<B: FrameBits>(digits: &[u8], most: usize) -> Op
     None
 }
 
-/// Whether this is the first word of levels, if there is one, heard one by one and in runs of any length.
-fn says<B: FrameBits>(levels: &[Level], word: &Option<Word>) -> bool {
-    let digits = digits_of(levels);
-    for most in [0usize, 1, 5, 31, 200] {
-        if first_word_of_runs::<B>(&digits, most) != *word {
+/// Whether this is heard in levels, whole, and by decoders one by one and in runs.
+fn is_told(stuffed_part: &str, behind: &str, expected: Result<Heard, CodeFault>) -> bool {
+    let mut digits = ArrayVec::<u8, 200>::new();
+    let mut levels = ArrayVec::<Level, 200>::new();
+    for digit in stuffed_part.as_bytes().iter().chain(behind.as_bytes()) {
+        let _ = digits.try_push(*digit);
+        let _ = levels.try_push(level_of(*digit));
+    }
+    let len = stuffed_part.len().saturating_add(TAIL.len());
+    let word = match expected {
+        Ok(heard) => Some((len.saturating_sub(1), Ok(heard))),
+        Err(fault) => word_of(fault),
+    };
+    for most in [0usize, 1, 5, 12, 20, 31, 200] {
+        if first_word::<PlainBits>(&digits, most) != word
+            || first_word::<PackedBits>(&digits, most) != word
+        {
             return false;
         }
     }
-    first_word::<B>(levels) == *word
+    match expected {
+        Ok(heard) => decode(&levels) == Ok((heard, len)),
+        Err(fault) => decode(&levels) == Err(fault),
+    }
 }
 
-/// The same in both forms in which the levels of a frame are held.
-fn both_say(levels: &[Level], word: &Option<Word>) -> bool {
-    says::<PlainBits>(levels, word) && says::<PackedBits>(levels, word)
+/// The word of a decoder at a fault. It begins behind the start of frame, and knows of no end.
+fn word_of(fault: CodeFault) -> Option<Word> {
+    match fault.kind {
+        CodeFaultKind::Short | CodeFaultKind::NoStartOfFrame => None,
+        kind => Some((fault.place, Err(kind))),
+    }
 }
 
-/// Whether this is heard at the front of these levels, and nothing else.
-fn is_heard(levels: &[Level], heard: Heard, len: usize) -> bool {
-    decode(levels) == Ok((heard, len))
-        && both_say(levels, &Some((len.saturating_sub(1), Ok(heard))))
-}
-
-/// Whether a frame is heard with the digits of these levels in a stuffed part and in what stands behind it.
-fn is_heard_as(text: &str, heard: &[u8; 5], stuffed_part: &str, behind: &str, len: usize) -> bool {
-    match heard_of(text, heard) {
-        Some(heard) => is_heard(&spelled(stuffed_part, behind), heard, len),
+/// Whether a frame is heard with the digits of SRR, r1, r0, ACK slot and last level.
+fn is_heard(frame: &str, parts: &[u8; 5], stuffed_part: &str, behind: &str) -> bool {
+    let Some(frame) = frame_of(frame) else {
+        return false;
+    };
+    let (srr, r1, r0) = (
+        level_of(parts[0]),
+        level_of(parts[1]),
+        level_of(parts[2]),
+    );
+    match Heard::new(frame, srr, r1, r0, parts[3] == b'0', level_of(parts[4])) {
+        Some(heard) => is_told(stuffed_part, behind, Ok(heard)),
         None => false,
     }
 }
 
 #[test]
 fn whole_frames(rt: HostRuntime) {
-    for (frame, _, stuffed_part, len) in KNOWN {
+    for (frame, _, stuffed_part) in KNOWN {
         assert!(rt;
-            is_heard_as(*frame, b"10001", *stuffed_part, TAIL, *len),
+            is_heard(*frame, b"10001", *stuffed_part, TAIL),
             "{frame}"
         );
     }
-    for (stuffed_part, behind, frame, heard, len) in HEARD {
+    for (stuffed_part, behind, frame, parts) in HEARD {
         assert!(rt;
-            is_heard_as(*frame, *heard, *stuffed_part, *behind, *len),
+            is_heard(*frame, *parts, *stuffed_part, *behind),
             "{behind}"
         );
     }
-}
-
-/// Whether a frame is heard in the levels of its sender.
-fn is_heard_as_sent(text: &str) -> bool {
-    match frame_of(text) {
-        Some(frame) => {
-            let levels = encode(&frame);
-            is_heard(&levels, Heard::unacknowledged(frame), levels.len())
-        }
-        None => false,
-    }
-}
-
-#[test]
-fn full_frames(rt: HostRuntime) {
-    for frame in FULL {
-        assert!(rt; is_heard_as_sent(*frame), "{frame}");
-    }
-}
-
-/// The word of a decoder at a fault. It begins behind the start of frame, and knows of no end.
-fn word_of(kind: CodeFaultKind, place: usize) -> Option<Word> {
-    match kind {
-        CodeFaultKind::Short | CodeFaultKind::NoStartOfFrame => None,
-        _ => Some((place, Err(kind))),
-    }
-}
-
-/// Whether levels have this fault.
-fn is_refused(levels: &[Level], fault: CodeFault) -> bool {
-    decode(levels) == Err(fault) && both_say(levels, &word_of(fault.kind, fault.place))
 }
 
 #[test]
@@ -134,7 +101,7 @@ fn faults(rt: HostRuntime) -> Result<(), Fail> {
             place: *place,
         };
         assert!(rt;
-            is_refused(&spelled(*stuffed_part, *behind), fault),
+            is_told(*stuffed_part, *behind, Err(fault)),
             "{text}"
         );
         assert_eq!(rt; format!(in rt.alloc(); "{fault}")?.as_str(), *text);
@@ -145,14 +112,11 @@ fn faults(rt: HostRuntime) -> Result<(), Fail> {
 /// How many digits of the frame 001 are taken in one run behind the start of frame where the byte at this place is
 /// none.
 fn taken_before(place: usize) -> usize {
-    let mut digits = digits_of(&spelled(FRAME_001, TAIL));
-    if let Some(digit) = digits.get_mut(place) {
-        *digit = b'x';
+    let mut digits = ArrayVec::<u8, 200>::new();
+    for (at, digit) in FRAME_001.as_bytes().iter().enumerate().skip(1) {
+        let _ = digits.try_push(if at == place { b'x' } else { *digit });
     }
-    match digits.split_first() {
-        Some((_, behind)) => Decoder::<PackedBits>::begin().hear_run(behind),
-        None => 0,
-    }
+    Decoder::<PackedBits>::begin().hear_run(&digits)
 }
 
 #[test]

@@ -1,57 +1,46 @@
-use super::frame_of;
 use can_frame::Frame;
 use std::alloc::Global;
 use std::test::Fail;
 
-/// Texts that are read and written.
-const TEXTS: &[&str] = &[
-    "S 000 D 0",
-    "S 123 D 1 7f",
-    "S 123 D 2 aabb",
-    "S 7ff R 0",
-    "S 123 R 1",
-    "S 123 R 10",
-    "E 00000000 D 0",
-    "E 048c0000 D 9 0123456789abcdef",
-    "E 1fffffff R 15",
-    "E 1fffffff D 15 ffffffffffffffff",
-];
-
-fn is_kept(text: &str) -> bool {
-    match frame_of(text) {
-        Some(frame) => {
-            frame.to_text().as_str() == text && frame.text_bytes().as_slice() == text.as_bytes()
-        }
-        None => false,
-    }
-}
-
-#[test]
-fn texts_of_frames_are_read_and_written(rt: HostRuntime) {
-    for text in TEXTS {
-        assert!(rt; is_kept(*text), "{text}");
-    }
-}
-
 /// The parts of a frame: identifier, whether it is extended, whether the frame is remote, data length code, data.
 type Parts = (u32, bool, bool, u8, &'static [u8]);
 
-/// Texts and what they tell. A data length code above eight is kept.
-const PARTS: &[(&str, Parts)] = &[
+/// Texts, and the parts of the frame of each. A data length code above eight is kept.
+const TEXTS: &[(&str, Parts)] = &[
+    ("S 000 D 0", (0, false, false, 0, &[])),
+    ("S 123 D 1 7f", (0x123, false, false, 1, &[0x7f])),
+    ("S 123 D 2 aabb", (0x123, false, false, 2, &[0xaa, 0xbb])),
+    ("S 000 D 8 0000000000000000", (0, false, false, 8, &[0; 8])),
+    ("S 000 D 12 0000000000000000", (0, false, false, 12, &[0; 8])),
+    ("S 7ff R 0", (0x7ff, false, true, 0, &[])),
+    ("S 123 R 1", (0x123, false, true, 1, &[])),
+    ("S 123 R 10", (0x123, false, true, 10, &[])),
+    ("S 0ff R 12", (0xff, false, true, 12, &[])),
+    ("E 00000000 D 0", (0, true, false, 0, &[])),
     (
         "E 12345678 D 3 00a5ff",
         (0x1234_5678, true, false, 3, &[0x00, 0xa5, 0xff]),
     ),
-    ("S 0ff R 12", (0xff, false, true, 12, &[])),
     (
-        "S 000 D 12 0000000000000000",
-        (0, false, false, 12, &[0; 8]),
+        "E 048c0000 D 9 0123456789abcdef",
+        (
+            0x048c_0000,
+            true,
+            false,
+            9,
+            &[0x01, 0x23, 0x45, 0x67, 0x89, 0xab, 0xcd, 0xef],
+        ),
     ),
-    ("S 000 D 8 0000000000000000", (0, false, false, 8, &[0; 8])),
+    ("E 1fffffff R 15", (0x1fff_ffff, true, true, 15, &[])),
+    (
+        "E 1fffffff D 15 ffffffffffffffff",
+        (0x1fff_ffff, true, false, 15, &[0xff; 8]),
+    ),
 ];
 
-fn has_parts(text: &str, parts: &Parts) -> bool {
-    let Some(frame) = frame_of(text) else {
+/// Whether a text is that of a frame with these parts, and is written as it was read.
+fn is_of(text: &str, parts: &Parts) -> bool {
+    let Ok(frame) = Frame::from_text(text.as_bytes()) else {
         return false;
     };
     let (raw, extended, remote, dlc, bytes) = *parts;
@@ -60,12 +49,14 @@ fn has_parts(text: &str, parts: &Parts) -> bool {
         && frame.is_remote() == remote
         && frame.dlc() == dlc
         && frame.bytes() == bytes
+        && frame.to_text().as_str() == text
+        && frame.text_bytes().as_slice() == text.as_bytes()
 }
 
 #[test]
-fn a_text_tells_the_parts_of_its_frame(rt: HostRuntime) {
-    for (text, parts) in PARTS {
-        assert!(rt; has_parts(*text, parts), "{text}");
+fn texts_of_frames(rt: HostRuntime) {
+    for (text, parts) in TEXTS {
+        assert!(rt; is_of(*text, parts), "{text}");
     }
 }
 
