@@ -89,6 +89,12 @@ const HEARD: &[(&str, &str, &str, &[u8; 5])] = &[
     // levels behind the frame
     (FRAME_001, "10111111110", "S 001 D 0", b"10001"),
     (FRAME_001, "1011111111111000", "S 001 D 0", b"10001"),
+    (
+        FRAME_001,
+        "101111111111111111111111111111",
+        "S 001 D 0",
+        b"10001",
+    ),
     // what a receiver takes at either level: the ACK slot, the last level, and a reserved bit
     (FRAME_001, "1111111111", "S 001 D 0", b"10011"),
     (FRAME_001, "1011111110", "S 001 D 0", b"10000"),
@@ -115,7 +121,22 @@ const FAULTS: &[(&str, &str, CodeFaultKind, usize, &str)] = &[
     (FRAME_001, "101111111", Short, 46, "C1 at 46"),
     ("1", "", NoStartOfFrame, 0, "C2 at 0"),
     ("000000", "", Stuff, 5, "C3 at 5"),
-    // the last level of the check sequence
+    // a row of six among others, in the order of a frame
+    (
+        "00010010001100000000110100001011000",
+        TAIL,
+        Stuff,
+        17,
+        "C3 at 17",
+    ),
+    // the last level of the check sequence, dominant and recessive
+    (
+        "00010010001100000100110100001011001",
+        TAIL,
+        Crc,
+        34,
+        "C4 at 34",
+    ),
     (
         "0000010000010100000100010001000010010",
         TAIL,

@@ -40,7 +40,7 @@ fn is_told(stuffed_part: &str, behind: &str, expected: Result<Heard, CodeFault>)
         Ok(heard) => Some((len.saturating_sub(1), Ok(heard))),
         Err(fault) => word_of(fault),
     };
-    for most in [0usize, 1, 5, 12, 20, 31, 200] {
+    for most in 0..=200usize {
         if first_word::<PlainBits>(&digits, most) != word
             || first_word::<PackedBits>(&digits, most) != word
         {
