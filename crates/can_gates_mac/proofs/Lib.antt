@@ -16,8 +16,5 @@ pub mod Rested
 pub mod Next
 -- what is driven, and stuffing
 pub mod Drives
--- the front of a frame
-pub mod FrontPlaces
-pub mod Lengths
 -- known values
 mod Rows

@@ -5,7 +5,6 @@ pub mod Shown
 pub mod Inputs
 pub mod Stepping
 pub mod Driving
-pub mod Fronts
 -- For private calls
 pub mod Sensed
 pub mod Shows

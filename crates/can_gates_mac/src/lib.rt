@@ -4,9 +4,8 @@
 //! Registers hold a controller by [`Controller`], whose numbers `specs/Numbers.antt` gives to phases, places, causes and
 //! events. [`step`] makes the gates from these registers and the inputs of a bit time to what the registers take: in each
 //! assignment that keeps the circuit, whatever controller the registers hold, whatever waits and whatever level is seen, that
-//! is can_mac's `mac_step`. What is read of a frame on the bus comes in by [`Inputs`] and [`Sends`]. [`Heard`] has the
-//! registers of its front, of which [`read`] makes [`Part`] and the next front; nothing here holds the sender's frame, or
-//! whether a check sequence agrees, yet.
+//! is can_mac's `mac_step`. What is read of a frame on the bus comes in by [`Inputs`] and [`Sends`]: can_gates_controller has
+//! the registers that it is read of.
 //!
 //! | File | What it has | Defined in |
 //! |---|---|---|
@@ -15,7 +14,6 @@
 //! | `registers.rt` | [`Controller`], [`Counters`] | `specs/Stepping.antt` |
 //! | `bit_time.rt` | [`step`], a bit time | `specs/Stepping.antt` |
 //! | `driving.rt` | [`drive`], the level that is driven; [`stuffing`], [`arbitrates`], what is read of a frame | `specs/Driving.antt` |
-//! | `heard.rt`, `front.rt` | [`Heard`], the registers of a frame's front; [`hear`], one more level; [`ends`], whether its stuffed part ends; [`read`], what the move reads | `specs/Fronts.antt` |
 //! | `laws.rt` | from one bit time to the next | `specs/Stepping.antt` |
 //! | `numbers.rt` | the numbers, as constants | `specs/Numbers.antt` |
 //! | `senses.rt`, `sensing.rt` | what all moves read, made once | `specs/Sensed.antt` |
@@ -30,8 +28,6 @@ mod bit_time;
 mod choices;
 mod counters;
 mod driving;
-mod front;
-mod heard;
 mod laws;
 mod leaves;
 mod moves;
@@ -45,8 +41,6 @@ mod wires;
 
 pub use bit_time::step;
 pub use driving::{Sends, StuffPlace, arbitrates, drive, stuffing};
-pub use front::{ends, hear, read};
-pub use heard::Heard;
 pub use laws::{a_step_is_the_next_state, asking};
 pub use nibble::Nibble;
 pub use registers::{Controller, Counters};

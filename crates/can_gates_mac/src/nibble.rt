@@ -22,7 +22,7 @@ pub struct Nibble {
 
 impl Nibble {
     /// A number.
-    pub(crate) fn of(number: u8) -> Nibble
+    pub fn of(number: u8) -> Nibble
         requires { number < 16 }
         ensures { (v : ℕ → Bool) → v 0 ≡ false → nibble v result ≡ number }
     {
@@ -35,7 +35,7 @@ impl Nibble {
     }
 
     /// The one number where the test holds, else the other one.
-    pub(crate) fn choose(
+    pub fn choose(
         circuit: &mut Circuit,
         test: Literal,
         a: Nibble,

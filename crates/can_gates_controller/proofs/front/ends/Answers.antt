@@ -3,7 +3,7 @@ use Rattle.can_gates.specs.Circuit.{value}
 use Rattle.can_gates.proofs.Constants.{never}
 use Rattle.can_gates_mac.proofs.NibbleBits.{nibble-bits}
 use Rattle.can_gates_mac.proofs.Drives.{five_bits}
-use Rattle.can_gates_mac.proofs.front.ends.Goals as goal
+use Rattle.can_gates_controller.proofs.front.ends.Goals as goal
 
 pub returns : goal.returns
 returns c = (

@@ -1,8 +1,8 @@
 //! The registers of the front of a frame.
 ghost use Rattle.std.specs.Prelude.{◌≡◌, vec_len};
 
-use crate::nibble::Nibble;
 use can_gates::Literal;
+use can_gates_mac::Nibble;
 
 /// What is heard of a frame whose stuffed part goes on.
 #[derive(Drop)]

@@ -1,7 +1,7 @@
 use Rattle.std.proofs.Common.{◌∙◌, refl}
 use Rattle.can_code.specs.Front.{heard_level}
-use Rattle.can_gates_mac.proofs.FrontPlaces.{heard_short}
-use Rattle.can_gates_mac.proofs.front.read.Goals as goal
+use Rattle.can_gates_controller.proofs.FrontPlaces.{heard_short}
+use Rattle.can_gates_controller.proofs.front.read.Goals as goal
 
 pub returns : goal.returns
 returns c = (

@@ -11,7 +11,7 @@ use Rattle.can_mac.specs.declared.phase.Role.TheVariants.{Sender}
 use Rattle.can_gates.specs.declared.literal.Literal.{Literal}
 use Rattle.can_gates.specs.Circuit.{value}
 use Rattle.can_gates.specs.Words.{number}
-use Rattle.can_gates_mac.specs.declared.heard.Heard.{Heard}
+use Rattle.can_gates_controller.specs.declared.heard.Heard.{Heard}
 use Rattle.can_gates_mac.specs.declared.driving.StuffPlace.{StuffPlace}
 use Rattle.can_gates_mac.specs.Driving.{HoldsRun}
 

@@ -3,8 +3,8 @@ use Rattle.std.specs.Prelude.{◌==◌, ◌&&◌, ◌||◌}
 use Rattle.can_gates.specs.Circuit.{value}
 use Rattle.can_gates.specs.Words.{number}
 use Rattle.can_gates.proofs.Constants.{never, zero-kept}
-use Rattle.can_gates_mac.proofs.FrontPlaces.{written_place}
-use Rattle.can_gates_mac.proofs.front.written.Goals as goal
+use Rattle.can_gates_controller.proofs.FrontPlaces.{written_place}
+use Rattle.can_gates_controller.proofs.front.written.Goals as goal
 
 pub loop-place-preserved : goal.loop-place-preserved
 loop-place-preserved c =

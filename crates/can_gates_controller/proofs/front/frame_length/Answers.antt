@@ -5,8 +5,8 @@ use Rattle.can_gates.specs.Circuit.{value}
 use Rattle.can_gates.specs.Words.{number, bit}
 use Rattle.can_gates.proofs.Constants.{never, zero-kept, value-never}
 use Rattle.can_gates.proofs.WordNumbers.{number-lt}
-use Rattle.can_gates_mac.proofs.Lengths.{length_is}
-use Rattle.can_gates_mac.proofs.front.frame_length.Goals as goal
+use Rattle.can_gates_controller.proofs.Lengths.{length_is}
+use Rattle.can_gates_controller.proofs.front.frame_length.Goals as goal
 
 pub returns : goal.returns
 returns c = (

@@ -1,7 +1,7 @@
 use Rattle.std.proofs.Common.{◌≡◌, ◌∙◌, length, not, refl, ap, arith}
 use Rattle.std.proofs.Math.Dec.{eqb}
-use Rattle.can_gates_mac.proofs.FrontPlaces.{heard_place, heard_count}
-use Rattle.can_gates_mac.proofs.front.hear.Goals as goal
+use Rattle.can_gates_controller.proofs.FrontPlaces.{heard_place, heard_count}
+use Rattle.can_gates_controller.proofs.front.hear.Goals as goal
 
 pub returns : goal.returns
 returns c = (

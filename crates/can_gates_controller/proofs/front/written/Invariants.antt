@@ -2,7 +2,7 @@ use Rattle.std.specs.Prelude.{◌≡◌, ◌<◌, ◌==◌, ◌&&◌, ◌||◌, 
 use Rattle.can_gates.specs.Circuit.{value, Makes}
 use Rattle.can_gates.specs.Words.{number}
 use Rattle.can_gates.proofs.Constants.{never}
-use Rattle.can_gates_mac.proofs.front.written.Given as goal
+use Rattle.can_gates_controller.proofs.front.written.Given as goal
 
 -- what the place p of the levels becomes
 abbrev pub invariant-loop-place : goal.invariant-loop-place

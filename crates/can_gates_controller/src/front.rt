@@ -9,13 +9,12 @@ ghost use Rattle.can_mac.specs.declared.phase.Role.{Role};
 ghost use Rattle.can_mac.specs.Moves.{ends_part};
 ghost use Rattle.can_gates.specs.Circuit.{value, Makes};
 ghost use Rattle.can_gates.specs.Words.{number};
-ghost use Rattle.can_gates_mac.specs.Fronts.{HoldsLevels, HoldsFront, HearsFront, TellsSender};
+ghost use Rattle.can_gates_controller.specs.Fronts.{HoldsLevels, HoldsFront, HearsFront, TellsSender};
 ghost use Rattle.can_gates_mac.specs.Inputs.{IsPart};
 
-use crate::driving::{StuffPlace, arbitrates, stuffing};
 use crate::heard::Heard;
-use crate::wires::Part;
 use can_gates::{Circuit, FALSE, Literal, constant, literal_at};
+use can_gates_mac::{Part, StuffPlace, arbitrates, stuffing};
 use std::alloc::{AllocError, Global};
 
 /// How many places have a register: up to the last level of the data of the longest frame. The check sequence has none.

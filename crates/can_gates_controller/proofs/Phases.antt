@@ -1,0 +1,141 @@
+-- What follows by the phase.
+use Rattle.std.proofs.Common.{◌≡◌, ℕ, zero, suc, ◌<◌, Bool, true, false, not, ◌&&◌, cond, length, Option, Some, None, List, [], ◌∷◌, get_or, refl, sym, subst, ◌∙◌, ap, arith}
+use Rattle.std.proofs.Math.Dec.{eqb}
+use Rattle.std.proofs.lemmas.Bool.{eqb-true}
+use Rattle.can_frame.specs.declared.level.Level.{Level}
+use Rattle.can_frame.specs.declared.level.Level.TheVariants.{Dominant}
+use Rattle.can_frame.specs.Levels.{is_recessive}
+use Rattle.can_frame.specs.Parts.{Parts}
+use Rattle.can_wire.specs.Layout.{level_at, frame_len}
+use Rattle.can_wire.proofs.LayoutLengths.{frame_len_le}
+use Rattle.can_code.specs.Front.{FrontParts, first_front, has_check, heard_level}
+use Rattle.can_mac.specs.declared.phase.Reading.{Reading}
+use Rattle.can_mac.specs.declared.phase.Role.{Role}
+use Rattle.can_mac.specs.declared.phase.Phase.TheVariants.{Joining, Idle, StuffedPart, CrcDelimiter, AckSlot, AckDelimiter, EndOfFrame, ErrorFlag, PassiveFlag, OverloadFlag, AfterFlag, Delimiter, Intermission, Suspend, BusOff}
+use Rattle.can_mac.specs.State.{MacPhase, IsOpen, IsPhase}
+use Rattle.can_mac.specs.Moves.{reading_of, ends_part}
+use Rattle.can_gates.specs.Circuit.{value}
+use Rattle.can_gates.proofs.Constants.{never, always, value-never, value-always}
+use Rattle.can_gates_mac.specs.Numbers.{phase_number, reading_in}
+use Rattle.can_gates_controller.specs.declared.heard.Heard.{Heard}
+use Rattle.can_gates_controller.specs.declared.following.Within.{Within}
+use Rattle.can_gates_controller.specs.Fronts.{HoldsFront}
+use Rattle.can_gates_controller.specs.Holding.{HoldsHeard, HoldsTold}
+use Rattle.can_gates_controller.specs.Following.{Ended, IsWithin, IsEither, IsNext, is_part, is_behind_part, next_front, next_reading}
+
+pub part_at : (v : ℕ → Bool) → v 0 ≡ false → (p : MacPhase) → value v (get_or (never ∷ never ∷ always ∷ []) (phase_number p) never) ≡ is_part p
+part_at v zero_is (StuffedPart front) = value-always v zero_is
+part_at v zero_is p = value-never v zero_is
+
+pub end_at : (v : ℕ → Bool) → v 0 ≡ false → (p : MacPhase) → value v (get_or (never ∷ never ∷ never ∷ always ∷ always ∷ always ∷ always ∷ []) (phase_number p) never) ≡ is_behind_part p
+end_at v zero_is (CrcDelimiter r) = value-always v zero_is
+end_at v zero_is (AckSlot r) = value-always v zero_is
+end_at v zero_is (AckDelimiter r) = value-always v zero_is
+end_at v zero_is (EndOfFrame r place) = value-always v zero_is
+end_at v zero_is p = value-never v zero_is
+
+pub first_level : (v : ℕ → Bool) → v 0 ≡ false → (p : ℕ) → value v (get_or [] p never) ≡ is_recessive (level_at (Dominant ∷ []) p)
+first_level v zero_is zero = value-never v zero_is
+first_level v zero_is (suc p) = value-never v zero_is
+
+-- registers that are chosen
+
+module _ (v : ℕ → Bool) (k a b : Heard) where
+  first_front_is : (t : Bool) (front : FrontParts) → t ≡ true → IsEither v k t a b → HoldsFront v a front → HoldsFront v k front
+  first_front_is true front e is held = record { levels = λ p h. is.levels p h ∙ held.levels p h; count = is.count ∙ held.count; run = record { last = is.last ∙ held.run.last; run = is.run ∙ held.run.run } }
+  first_front_is false front e is held = cc e
+
+  other_front_is : (t : Bool) (front : FrontParts) → t ≡ false → IsEither v k t a b → HoldsFront v b front → HoldsFront v k front
+  other_front_is true front e is held = cc e
+  other_front_is false front e is held = record { levels = λ p h. is.levels p h ∙ held.levels p h; count = is.count ∙ held.count; run = record { last = is.last ∙ held.run.last; run = is.run ∙ held.run.run } }
+
+  first_told_is : (t : Bool) (r : Reading) → t ≡ true → IsEither v k t a b → HoldsTold v a r → HoldsTold v k r
+  first_told_is true r e is held = record { unstuffed = held.unstuffed; whole = held.whole; told = held.told; levels = λ p h. is.levels p h ∙ held.levels p h }
+  first_told_is false r e is held = cc e
+
+  other_told_is : (t : Bool) (r : Reading) → t ≡ false → IsEither v k t a b → HoldsTold v b r → HoldsTold v k r
+  other_told_is true r e is held = cc e
+  other_told_is false r e is held = record { unstuffed = held.unstuffed; whole = held.whole; told = held.told; levels = λ p h. is.levels p h ∙ held.levels p h }
+
+abbrev reading_or : Reading → Option Reading → Reading
+reading_or d None = d
+reading_or d (Some r) = r
+
+same_reading : (q r : Reading) → Some q ≡ Some r → q ≡ r
+same_reading q r e = ap (reading_or q) e
+
+abbrev front_or : FrontParts → Option FrontParts → FrontParts
+front_or d None = d
+front_or d (Some f) = f
+
+pub same_front : (f g : FrontParts) → Some f ≡ Some g → f ≡ g
+same_front f g e = ap (front_or f) e
+
+-- a front tells of its unstuffed levels
+ended_whole : (front : FrontParts) → ends_part front ≡ true → length front.unstuffed ≡ frame_len front.unstuffed
+ended_whole front e = sym (eqb-true (frame_len front.unstuffed) (length front.unstuffed) (first_of_and (has_check front.unstuffed) (not (eqb front.run 5)) e))
+  where
+    first_of_and : (a b : Bool) → (a && b) ≡ true → a ≡ true
+    first_of_and true b e = refl
+    first_of_and false b e = e
+
+told_of : (v : ℕ → Bool) (k : Heard) (front : FrontParts) (r : Reading) → HoldsFront v k front → ends_part front ≡ true → Some (reading_of front.unstuffed) ≡ Some r → HoldsTold v k r
+told_of v k front r held end e = record { unstuffed = front.unstuffed; whole = ended_whole front end; told = sym (same_reading (reading_of front.unstuffed) r e); levels = held.levels }
+
+-- what a next phase says of the front and of the reading before
+
+pub front_in : (p q : MacPhase) (role new : Role) (waiting : Option Parts) (x : Level) (front : FrontParts) → q ≡ StuffedPart front → IsNext p role waiting x q new → next_front p x ≡ Some front
+front_in p q role new waiting x front e is =
+    let P : MacPhase → Type 0 = λ q. IsNext p role waiting x q new in (subst P e is).0
+
+ended_after : (p q : MacPhase) (role new : Role) (waiting : Option Parts) (x : Level) (r : Reading) → reading_in q ≡ Some r → IsNext p role waiting x q new → Ended p x
+ended_after p (CrcDelimiter s) role new waiting x r e is = is.1.1
+ended_after p (AckSlot s) role new waiting x r e is = is.1.1
+ended_after p (AckDelimiter s) role new waiting x r e is = is.1.1
+ended_after p (EndOfFrame s place) role new waiting x r e is = is.1.1
+ended_after p q role new waiting x r e is = cc e
+
+reading_after : (p q : MacPhase) (role new : Role) (waiting : Option Parts) (x : Level) (r : Reading) → reading_in q ≡ Some r → IsNext p role waiting x q new → next_reading p x ≡ Some r
+reading_after p (CrcDelimiter s) role new waiting x r e is = is.0 ∙ e
+reading_after p (AckSlot s) role new waiting x r e is = is.0 ∙ e
+reading_after p (AckDelimiter s) role new waiting x r e is = is.0 ∙ e
+reading_after p (EndOfFrame s place) role new waiting x r e is = is.0 ∙ e
+reading_after p q role new waiting x r e is = cc e
+
+module _ (v : ℕ → Bool) (made kept first heard next : Heard) (k : Within) where
+  -- by the phase before
+  front_follows : (p : MacPhase) (x : Level) (front : FrontParts) → IsWithin v k p → ((f : FrontParts) → p ≡ StuffedPart f → HoldsFront v next (heard_level f x)) → IsEither v made (value v k.part) next kept → IsEither v kept (value v k.end) heard first → HoldsFront v first first_front → next_front p x ≡ Some front → HoldsFront v made front
+  front_follows (StuffedPart f) x front at hears by_part by_end begins e = let P : FrontParts → Type 0 = HoldsFront v made in subst P (same_front (heard_level f x) front e) (first_front_is v made next kept (value v k.part) (heard_level f x) at.part by_part (hears f refl))
+  front_follows (CrcDelimiter r) x front at hears by_part by_end begins e = cc e
+  front_follows (AckSlot r) x front at hears by_part by_end begins e = cc e
+  front_follows (AckDelimiter r) x front at hears by_part by_end begins e = cc e
+  front_follows (EndOfFrame r place) x front at hears by_part by_end begins e = cc e
+  front_follows p x front at hears by_part by_end begins e =
+      let P : FrontParts → Type 0 = HoldsFront v made in
+      subst P (same_front first_front front e) (other_front_is v made next kept (value v k.part) first_front at.part by_part (other_front_is v kept heard first (value v k.end) first_front at.end by_end begins))
+
+  behind_told : (r s : Reading) → value v k.part ≡ false → value v k.end ≡ true → HoldsTold v heard s → IsEither v made (value v k.part) next kept → IsEither v kept (value v k.end) heard first → Some s ≡ Some r → HoldsTold v made r
+  behind_told r s part end held by_part by_end e =
+      let P : Reading → Type 0 = HoldsTold v made in
+      subst P (same_reading s r e) (other_told_is v made next kept (value v k.part) s part by_part (first_told_is v kept heard first (value v k.end) s end by_end held))
+
+  told_follows : (p : MacPhase) (x : Level) (r : Reading) → IsWithin v k p → HoldsHeard v heard p → ((f : FrontParts) → p ≡ StuffedPart f → HoldsFront v next (heard_level f x)) → IsEither v made (value v k.part) next kept → IsEither v kept (value v k.end) heard first → Ended p x → next_reading p x ≡ Some r → HoldsTold v made r
+  told_follows (StuffedPart f) x r at held hears by_part by_end end e = told_of v made (heard_level f x) r (first_front_is v made next kept (value v k.part) (heard_level f x) at.part by_part (hears f refl)) end e
+  told_follows (CrcDelimiter s) x r at held hears by_part by_end end e = behind_told r s at.part at.end (held.told s refl) by_part by_end e
+  told_follows (AckSlot s) x r at held hears by_part by_end end e = behind_told r s at.part at.end (held.told s refl) by_part by_end e
+  told_follows (AckDelimiter s) x r at held hears by_part by_end end e = behind_told r s at.part at.end (held.told s refl) by_part by_end e
+  told_follows (EndOfFrame s place) x r at held hears by_part by_end end e = behind_told r s at.part at.end (held.told s refl) by_part by_end e
+  told_follows p x r at held hears by_part by_end end e = cc e
+
+  pub followed : (p q : MacPhase) (role new : Role) (waiting : Option Parts) (x : Level) → IsWithin v k p → HoldsHeard v heard p → ((f : FrontParts) → p ≡ StuffedPart f → HoldsFront v next (heard_level f x)) → IsNext p role waiting x q new → IsEither v made (value v k.part) next kept → IsEither v kept (value v k.end) heard first → HoldsFront v first first_front → HoldsHeard v made q
+  followed p q role new waiting x at held hears is by_part by_end begins = record {
+    front = λ front e. front_follows p x front at hears by_part by_end begins (front_in p q role new waiting x front e is);
+    told = λ r e. told_follows p x r at held hears by_part by_end (ended_after p q role new waiting x r e is) (reading_after p q role new waiting x r e is);
+  }
+
+-- the front of a controller in a stuffed part goes on, and is short
+pub is_going : (p : MacPhase) (front : FrontParts) → p ≡ StuffedPart front → IsPhase p → IsOpen front
+is_going p front e h = subst IsPhase e h
+
+pub is_short : (front : FrontParts) → IsOpen front → length front.unstuffed < 127
+is_short front h = omega (arith, h.front.within, frame_len_le front.unstuffed)

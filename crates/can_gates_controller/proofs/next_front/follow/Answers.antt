@@ -1,0 +1,14 @@
+use Rattle.std.proofs.Common.{◌∙◌}
+use Rattle.can_gates.proofs.Constants.{zero-kept}
+use Rattle.can_gates_controller.proofs.Phases.{followed}
+use Rattle.can_gates_controller.proofs.next_front.follow.Goals as goal
+
+pub returns : goal.returns
+returns c = (
+  c.in_ok-made.ensures.0 ∙ c.in_ok-kept.ensures.0,
+  λ v keeps.
+      let made = c.in_ok-made.ensures.1 v keeps in
+      let kept = c.in_ok-kept.ensures.1 v made.0 in
+      let zero_is = zero-kept v c.args.circuit.now.gates kept.0 in
+      (kept.0, λ p q role new waiting x within held hears is. followed v c.in_ok-made.made c.in_ok-kept.kept c.in_ok-first.first c.args.heard.now c.args.next.now c.args.within p q role new waiting x within held hears is made.1 kept.1 (c.in_ok-first.ensures v zero_is)),
+)

@@ -1,0 +1,98 @@
+-- What a bit time makes of a frame on the bus: of what is heard of it, of whose it is, and what is told.
+use Rattle.std.specs.Prelude.{ℕ, ◌≡◌, ◌<◌, ◌==◌, slice_index_or, Bool, true, false, if◌then◌else◌, Option, Some, None, length}
+use Rattle.can_frame.specs.declared.level.Level.{Level}
+use Rattle.can_frame.specs.Parts.{Parts}
+use Rattle.can_code.specs.Front.{FrontParts, first_front, heard_level}
+use Rattle.can_code.specs.Sending.{sent_level}
+use Rattle.can_mac.specs.declared.event.Event.{Event}
+use Rattle.can_mac.specs.declared.event.Event.TheVariants.{Sent, Received}
+use Rattle.can_mac.specs.declared.phase.Reading.{Reading}
+use Rattle.can_mac.specs.declared.phase.Role.{Role}
+use Rattle.can_mac.specs.declared.phase.Role.TheVariants.{Sender}
+use Rattle.can_mac.specs.declared.phase.Phase.TheVariants.{StuffedPart, CrcDelimiter, AckSlot, AckDelimiter, EndOfFrame}
+use Rattle.can_mac.specs.State.{MacPhase}
+use Rattle.can_mac.specs.Moves.{reading_of, ends_part}
+use Rattle.can_gates.specs.Circuit.{value}
+use Rattle.can_gates.specs.Words.{number}
+use Rattle.can_gates_mac.specs.Nibbles.{nibble}
+use Rattle.can_gates_mac.specs.Numbers.{reading_in}
+use Rattle.can_gates_controller.specs.declared.heard.Heard.{Heard}
+use Rattle.can_gates_controller.specs.declared.following.Within.{Within}
+use Rattle.can_gates_controller.specs.Holding.{is_in_frame}
+
+-- the front behind a level, where one can follow
+abbrev pub next_front : MacPhase → Level → Option FrontParts
+next_front (StuffedPart front) x = Some (heard_level front x)
+next_front (CrcDelimiter r) x = None
+next_front (AckSlot r) x = None
+next_front (AckDelimiter r) x = None
+next_front (EndOfFrame r place) x = None
+next_front p x = Some first_front
+
+-- what the stuffed part has told behind a level
+abbrev pub next_reading : MacPhase → Level → Option Reading
+next_reading (StuffedPart front) x = Some (reading_of (heard_level front x).unstuffed)
+next_reading p x = reading_in p
+
+-- whose frame it is: within a frame its sender's, else the one that waits
+abbrev pub Owns : Bool → Role → Option Parts → Parts → Type 0
+Owns true role waiting f = role ≡ Sender f
+Owns false role waiting f = waiting ≡ Some f
+
+abbrev pub KeepsOwn : MacPhase → Role → Option Parts → Role → Type 0
+KeepsOwn p role waiting new = (f : Parts) → new ≡ Sender f → Owns (is_in_frame p) role waiting f
+
+-- who stays the sender has seen its own level, where no stuff bit was due
+abbrev pub SeesOwn : MacPhase → Level → Role → Type 0
+SeesOwn (StuffedPart front) x new = (f : Parts) → new ≡ Sender f → (front.run == 5) ≡ false → x ≡ sent_level f (length front.unstuffed)
+SeesOwn p x new = Unit {0}
+
+-- the stuffed part has ended with this level
+abbrev pub Ended : MacPhase → Level → Type 0
+Ended (StuffedPart front) x = ends_part (heard_level front x) ≡ true
+Ended p x = Unit {0}
+
+-- a phase that follows another one, with the role there
+abbrev pub IsNext : MacPhase → Role → Option Parts → Level → MacPhase → Role → Type 0
+IsNext p role waiting x (StuffedPart front) new = (next_front p x ≡ Some front) × (KeepsOwn p role waiting new × SeesOwn p x new)
+IsNext p role waiting x (CrcDelimiter r) new = (next_reading p x ≡ Some r) × (KeepsOwn p role waiting new × Ended p x)
+IsNext p role waiting x (AckSlot r) new = (next_reading p x ≡ Some r) × (KeepsOwn p role waiting new × Ended p x)
+IsNext p role waiting x (AckDelimiter r) new = (next_reading p x ≡ Some r) × (KeepsOwn p role waiting new × Ended p x)
+IsNext p role waiting x (EndOfFrame r place) new = (next_reading p x ≡ Some r) × (KeepsOwn p role waiting new × Ended p x)
+IsNext p role waiting x q new = Unit {0}
+
+-- the frame that is told is the sender's, or the one that was heard
+abbrev pub IsTold : MacPhase → Role → Option Event → Type 0
+IsTold p role (Some (Sent f)) = (is_in_frame p ≡ true) × (role ≡ Sender f)
+IsTold p role (Some (Received f)) = (r : Reading) × ((reading_in p ≡ Some r) × (f ≡ r.frame))
+IsTold p role e = Unit {0}
+
+-- what follows a phase, and is told
+pub record Follows (p : MacPhase) (role : Role) (waiting : Option Parts) (x : Level) (q : MacPhase) (new : Role) (e : Option Event) : Type 0 where
+  pub next : IsNext p role waiting x q new
+  pub told : IsTold p role e
+
+-- whether the stuffed part of a frame goes on
+abbrev pub is_part : MacPhase → Bool
+is_part (StuffedPart front) = true
+is_part p = false
+
+-- whether it has ended, and the frame hasn't
+abbrev pub is_behind_part : MacPhase → Bool
+is_behind_part (CrcDelimiter r) = true
+is_behind_part (AckSlot r) = true
+is_behind_part (AckDelimiter r) = true
+is_behind_part (EndOfFrame r place) = true
+is_behind_part p = false
+
+-- the literals tell where in a frame this phase is
+pub record IsWithin (v : ℕ → Bool) (k : Within) (p : MacPhase) : Type 0 where
+  pub part : value v k.part ≡ is_part p
+  pub end : value v k.end ≡ is_behind_part p
+
+-- the one front's registers, or the other's
+pub record IsEither (v : ℕ → Bool) (k : Heard) (test : Bool) (a b : Heard) : Type 0 where
+  pub levels : (p : ℕ) → p < 103 → value v (slice_index_or k.levels.items p (record { signal = 0; negated = false })) ≡ (if test then value v (slice_index_or a.levels.items p (record { signal = 0; negated = false })) else value v (slice_index_or b.levels.items p (record { signal = 0; negated = false })))
+  pub count : number v k.count.items ≡ (if test then number v a.count.items else number v b.count.items)
+  pub last : value v k.last ≡ (if test then value v a.last else value v b.last)
+  pub run : nibble v k.run ≡ (if test then nibble v a.run else nibble v b.run)

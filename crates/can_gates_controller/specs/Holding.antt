@@ -1,0 +1,54 @@
+-- A controller's frame in a circuit's registers.
+use Rattle.std.specs.Prelude.{ℕ, ◌≡◌, Bool, true, false, List, length, Option, Some}
+use Rattle.can_frame.specs.declared.level.Level.{Level}
+use Rattle.can_frame.specs.Levels.{is_recessive}
+use Rattle.can_frame.specs.Parts.{Parts}
+use Rattle.can_wire.specs.Layout.{frame_len}
+use Rattle.can_code.specs.Front.{FrontParts}
+use Rattle.can_mac.specs.declared.phase.Reading.{Reading}
+use Rattle.can_mac.specs.declared.phase.Phase.TheVariants.{Joining, Idle, StuffedPart, CrcDelimiter, AckSlot, AckDelimiter, EndOfFrame, ErrorFlag, PassiveFlag, OverloadFlag, AfterFlag, Delimiter, Intermission, Suspend, BusOff}
+use Rattle.can_mac.specs.State.{MacPhase, MacState}
+use Rattle.can_mac.specs.Moves.{reading_of}
+use Rattle.can_gates.specs.Circuit.{value}
+use Rattle.can_gates_mac.specs.Numbers.{reading_in, is_waiting}
+use Rattle.can_gates_mac.specs.Inputs.{TellsReading}
+use Rattle.can_gates_controller.specs.declared.heard.Heard.{Heard}
+use Rattle.can_gates_controller.specs.declared.seen.Seen.{Seen}
+use Rattle.can_gates_controller.specs.Fronts.{HoldsLevels, HoldsFront, TellsSender}
+
+-- whether a frame is on the bus that isn't over or broken off: its stuffed part, or what stands behind that
+abbrev pub is_in_frame : MacPhase → Bool
+is_in_frame (StuffedPart front) = true
+is_in_frame (CrcDelimiter r) = true
+is_in_frame (AckSlot r) = true
+is_in_frame (AckDelimiter r) = true
+is_in_frame (EndOfFrame r place) = true
+is_in_frame Idle = false
+is_in_frame (Joining row) = false
+is_in_frame (ErrorFlag place) = false
+is_in_frame (PassiveFlag last run unacknowledged) = false
+is_in_frame (OverloadFlag place) = false
+is_in_frame (AfterFlag first dominant) = false
+is_in_frame (Delimiter place) = false
+is_in_frame (Intermission place) = false
+is_in_frame (Suspend place) = false
+is_in_frame BusOff = false
+
+-- the registers have the levels of a stuffed part that has told this
+pub record HoldsTold (v : ℕ → Bool) (k : Heard) (r : Reading) : Type 0 where
+  pub unstuffed : List Level
+  pub whole : length unstuffed ≡ frame_len unstuffed
+  pub told : r ≡ reading_of unstuffed
+  pub levels : HoldsLevels v k.levels.items unstuffed
+
+-- in a frame the registers hold what is heard of it: its front, and behind the stuffed part what that has told
+pub record HoldsHeard (v : ℕ → Bool) (k : Heard) (p : MacPhase) : Type 0 where
+  pub front : (front : FrontParts) → p ≡ StuffedPart front → HoldsFront v k front
+  pub told : (r : Reading) → reading_in p ≡ Some r → HoldsTold v k r
+
+-- what a controller reads besides its registers, where this frame waits and this level is seen
+pub record IsSeen (v : ℕ → Bool) (k : Seen) (m : MacState) (waiting : Option Parts) (x : Level) : Type 0 where
+  pub waits : value v k.waits ≡ is_waiting waiting
+  pub seen : value v k.seen ≡ is_recessive x
+  pub agrees : TellsReading m.phase (value v k.agrees)
+  pub sender : (front : FrontParts) → m.phase ≡ StuffedPart front → TellsSender v k.sent k.extended m.role front
