@@ -1,3 +1,4 @@
+//! A frame: how long it keeps the bus.
 ghost use Rattle.std.specs.Prelude.{◌≡◌, ◌≤◌, ◌+◌, length};
 ghost use Rattle.can_wire.specs.Wire.{wire};
 

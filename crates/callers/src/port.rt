@@ -1,0 +1,21 @@
+//! A port: two of them on a wire, bit time by bit time.
+use can_bus::wired;
+use can_mac::Event;
+use can_node::{PackedNode, Port};
+
+/// Runs two ports on a wire until the second has received a frame, for so many bit times at most: in which bit time it
+/// has, counted from 0. The frame is the last in its log.
+pub fn received_within(
+    bits: u32,
+    sender: &mut PackedNode,
+    receiver: &mut PackedNode,
+) -> Option<u32> {
+    for time in 0..bits {
+        let level = wired(&[sender.drive(), receiver.drive()]);
+        let _ = sender.sample(level);
+        if let Some(Event::Received(_)) = receiver.sample(level) {
+            return Some(time);
+        }
+    }
+    None
+}

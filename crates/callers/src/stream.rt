@@ -1,0 +1,18 @@
+//! A stream: what is found in a trace.
+ghost use Rattle.std.specs.Prelude.{IfOk};
+ghost use Rattle.can_decode.specs.Decoded.{DecodesAll};
+
+use can_decode::decode_stream;
+use can_stream::{FromRead, ToWrite, TraceFault};
+use std::alloc::Global;
+
+/// The lines of the frames and faults in a trace, `0` and `1` for its levels. A trace in a file, or one that still
+/// comes, is read the same way: any `Read` of std can be wrapped, and any `Write`.
+pub fn found_in(alloc: Global, trace: &[u8]) -> Result<Vec<u8>, TraceFault>
+    ensures { IfOk result (λ lines. DecodesAll trace.now lines.items) }
+{
+    let mut reader = FromRead::new(trace);
+    let mut writer = ToWrite::new(Vec::new(alloc));
+    decode_stream(&mut reader, &mut writer)?;
+    Ok(writer.into_inner())
+}
