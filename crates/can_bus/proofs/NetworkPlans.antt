@@ -86,7 +86,6 @@ module _ (offers : List Offer) (hits : List Hit) (plans : List PlannedPort) (is 
 
 -- ---- a frame that comes back
 
-
 -- all offers are of one frame
 abbrev AreOfFrame : Parts → List TimedParts → Type 0
 AreOfFrame f left = (x : TimedParts) → Lists left x → x.frame ≡ f
