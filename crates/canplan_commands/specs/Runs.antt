@@ -1,17 +1,14 @@
 -- What a run of `canplan` has written for what it read, for each outcome. (docs/PLANNING.md, "`canplan`")
-use Rattle.std.specs.Prelude.{ℕ, ◌≡◌, ◌⊎◌, ◌<◌, List, [], ◌++◌, Result, Ok, Err}
+use Rattle.std.specs.Prelude.{ℕ, ◌≡◌, ◌⊎◌, ◌<◌, List, Result, Ok, Err}
 use Rattle.can_plan_text.specs.declared.answer.Form.{Form}
 use Rattle.can_plan_text.specs.declared.field.PlanField.{PlanField}
 use Rattle.can_plan_text.specs.Plans.{IsWrongPlanField}
 use Rattle.can_plan_text.specs.Details.{IsAnswerIn}
 use Rattle.can_plan_worst.specs.Timelines.{IsTimeline, IsUnending, IsUnknown}
+use Rattle.can_program.specs.Written.{WritesBeginning, WritesNothing}
 use Rattle.can_stream.specs.declared.fault.TraceFault.TheVariants.{Read, Write, Memory}
 use Rattle.canplan_commands.specs.declared.fault.CanplanFault.{CanplanFault}
 use Rattle.canplan_commands.specs.declared.fault.CanplanFault.TheVariants.{Field, MessageUnknown, TimelineTooLong, DeadlinesMissed, Stream}
-
--- nothing is written
-abbrev pub WritesNothing : List ℕ → List ℕ → Type 0
-WritesNothing input output = output ≡ []
 
 -- the document is refused for this field, and nothing is written
 abbrev pub Refuses : PlanField → List ℕ → List ℕ → Type 0
@@ -25,17 +22,13 @@ IsFieldOrMemory fault = ((wrong : PlanField) × (fault ≡ Field wrong)) ⊎ (fa
 abbrev pub Answers : Form → ℕ → List ℕ → List ℕ → Type 0
 Answers form late input output = IsAnswerIn form input output late
 
--- some may be
+-- it is, however many may be late
+abbrev pub AnswersWhole : Form → List ℕ → List ℕ → Type 0
+AnswersWhole form input output = (late : ℕ) × Answers form late input output
+
+-- it is, and some may be late
 abbrev pub AnswersLate : Form → List ℕ → List ℕ → Type 0
 AnswersLate form input output = (late : ℕ) × (0 < late) × Answers form late input output
-
--- a beginning of the answer is written
-pub record BeginsAnswer (form : Form) (input output : List ℕ) : Type 0 where
-  pub answer : List ℕ
-  pub late : ℕ
-  pub is : IsAnswerIn form input answer late
-  pub rest : List ℕ
-  pub all : answer ≡ output ++ rest
 
 -- what is written where the run ends so
 abbrev pub Does : Form → Result (Unit {0}) CanplanFault → List ℕ → List ℕ → Type 0
@@ -45,7 +38,7 @@ Does form (Err MessageUnknown) = λ input output. ⊥
 Does form (Err TimelineTooLong) = λ input output. ⊥
 Does form (Err DeadlinesMissed) = AnswersLate form
 Does form (Err (Stream Read)) = WritesNothing
-Does form (Err (Stream Write)) = BeginsAnswer form
+Does form (Err (Stream Write)) = WritesBeginning (AnswersWhole form)
 Does form (Err (Stream Memory)) = WritesNothing
 Does form (Err (Stream _)) = λ input output. ⊥
 
@@ -63,13 +56,6 @@ RefusesName message input output = IsUnknown input message × WritesNothing inpu
 abbrev pub RefusesLength : List ℕ → List ℕ → List ℕ → Type 0
 RefusesLength message input output = IsUnending input message × WritesNothing input output
 
--- a beginning of it is written
-pub record BeginsTimeline (message input output : List ℕ) : Type 0 where
-  pub scenario : List ℕ
-  pub is : IsTimeline input message scenario
-  pub rest : List ℕ
-  pub all : scenario ≡ output ++ rest
-
 -- what is written where the run ends so
 abbrev pub DoesTimeline : List ℕ → Result (Unit {0}) CanplanFault → List ℕ → List ℕ → Type 0
 DoesTimeline message (Ok done) = Draws message
@@ -78,7 +64,7 @@ DoesTimeline message (Err MessageUnknown) = RefusesName message
 DoesTimeline message (Err TimelineTooLong) = RefusesLength message
 DoesTimeline message (Err DeadlinesMissed) = λ input output. ⊥
 DoesTimeline message (Err (Stream Read)) = WritesNothing
-DoesTimeline message (Err (Stream Write)) = BeginsTimeline message
+DoesTimeline message (Err (Stream Write)) = WritesBeginning (Draws message)
 DoesTimeline message (Err (Stream Memory)) = WritesNothing
 DoesTimeline message (Err (Stream _)) = λ input output. ⊥
 

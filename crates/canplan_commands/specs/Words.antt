@@ -1,21 +1,16 @@
 -- What the words of a command line ask for. (docs/PLANNING.md, "`canplan`")
-use Rattle.std.specs.Prelude.{ℕ, ◌||◌, if◌then◌else◌, List, [], ◌∷◌, Option, Some, None, codes, map, string_bytes}
+use Rattle.std.specs.Prelude.{ℕ, if◌then◌else◌, List, [], ◌∷◌, Option, Some, None, codes}
 use Rattle.std.specs.Str.{bytes_eq}
-use Rattle.std.specs.declared.alloc.Global.{Global}
-use Rattle.std.specs.declared.string.String.{String}
+use Rattle.can_program.specs.Words.{is_help_word, is_version_word}
 use Rattle.canplan_commands.specs.declared.words.Asked.{Asked}
 use Rattle.canplan_commands.specs.declared.words.Asked.TheVariants.{Answer, Details, Help, Timeline, Version}
-
--- the words as texts
-abbrev pub texts_of : List (String Global) → List (List ℕ)
-texts_of words = map string_bytes words
 
 -- what one word asks for: help, the version, or the answer with details
 abbrev pub asked_word : List ℕ → Option Asked
 asked_word word =
-    if bytes_eq word (codes "help") || (bytes_eq word (codes "--help") || bytes_eq word (codes "-h")) then Some Help
-    else (if bytes_eq word (codes "--version") || bytes_eq word (codes "-V") then Some Version
-    else (if bytes_eq word (codes "--details") then Some Details else None))
+    if is_help_word word then Some Help
+    else if is_version_word word then Some Version
+    else (if bytes_eq word (codes "--details") then Some Details else None)
 
 -- what one with the name of a message behind it asks for: the scenario of its worst case
 abbrev pub asked_of_message : List ℕ → Option Asked

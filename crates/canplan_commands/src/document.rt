@@ -2,7 +2,8 @@
 ghost use Rattle.std.specs.Prelude.{◌≡◌, ◌⊎◌, ◌↔◌, false, IfErr, IfOk, IsErrOf, IsTrue};
 ghost use Rattle.can_stream.specs.Told.{Told};
 ghost use Rattle.can_plan_text.specs.declared.field.PlanField.{PlanField as Wrong};
-ghost use Rattle.canplan_commands.specs.Runs.{Answers, BeginsAnswer, IsFieldOrMemory, Refuses, WritesNothing};
+ghost use Rattle.can_program.specs.Written.{WritesBeginning, WritesNothing};
+ghost use Rattle.canplan_commands.specs.Runs.{Answers, AnswersWhole, IsFieldOrMemory, Refuses};
 
 use crate::fault::CanplanFault;
 use can_plan_text::{Form, answered_in};
@@ -26,7 +27,7 @@ pub fn answer_document<R: Source, W: Sink>(
     ensures field { (wrong : Wrong) → IsErrOf result (CanplanFault.Field wrong) →
         Told R.remaining r.old r.new W.contents w.old w.new (Refuses wrong) }
     ensures read { IsErrOf result (CanplanFault.Stream TraceFault.Read) → Told R.remaining r.old r.new W.contents w.old w.new WritesNothing }
-    ensures write { IsErrOf result (CanplanFault.Stream TraceFault.Write) → Told R.remaining r.old r.new W.contents w.old w.new (BeginsAnswer form) }
+    ensures write { IsErrOf result (CanplanFault.Stream TraceFault.Write) → Told R.remaining r.old r.new W.contents w.old w.new (WritesBeginning (AnswersWhole form)) }
     ensures memory { IsErrOf result (CanplanFault.Stream TraceFault.Memory) → Told R.remaining r.old r.new W.contents w.old w.new WritesNothing }
     ensures other { IfErr result (λ fault. IsFieldOrMemory fault ⊎ (fault ≡ CanplanFault.Stream TraceFault.Read) ⊎ (fault ≡ CanplanFault.Stream TraceFault.Write)) }
 

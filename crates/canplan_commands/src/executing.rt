@@ -1,11 +1,12 @@
 //! What the program does, over any streams.
-ghost use Rattle.std.specs.Prelude.{◌≡◌, ◌≢◌, ◌⊎◌, ◌<◌, false, Option, Result, IsTrue};
+ghost use Rattle.std.specs.Prelude.{◌≡◌, ◌⊎◌, ◌<◌, false, Option, Result, IsTrue};
 ghost use Rattle.std.specs.Io.KnownBytes.{Appends};
 ghost use Rattle.can_stream.specs.Told.{Told};
-ghost use Rattle.can_program.specs.Status.{exit_status};
+ghost use Rattle.can_program.specs.Status.{exit_status, TellsStreams};
+ghost use Rattle.can_program.specs.Words.{texts_of};
 ghost use Rattle.canplan_commands.specs.Runs.{Does, DoesTimeline};
 ghost use Rattle.canplan_commands.specs.Status.{fault_status};
-ghost use Rattle.canplan_commands.specs.Words.{asked_by, message_in, texts_of};
+ghost use Rattle.canplan_commands.specs.Words.{asked_by, message_in};
 
 use crate::document::answer_document;
 use crate::fault::CanplanFault;
@@ -101,10 +102,7 @@ fn answer<R: Source, W: Sink>(
     requires reader_unended { R.has_ended r.old ≡ false }
     requires writer_unfailed { W.has_failed w.old ≡ false }
     ensures told { Told R.remaining r.old r.new W.contents w.old w.new (Does form result) }
-    ensures stream_failed { exit_status fault_status result ≡ 3 → IsTrue (R.has_failed r.new) ⊎ IsTrue (W.has_failed w.new) }
-    ensures write_told { IsTrue (W.has_failed w.new) → exit_status fault_status result ≡ 3 }
-    ensures read_told { IsTrue (R.has_failed r.new) → exit_status fault_status result ≡ 3 }
-    ensures no_misuse { exit_status fault_status result ≢ 2 }
+    ensures streams { TellsStreams (R.has_failed r.new) (W.has_failed w.new) (exit_status fault_status result) }
 {
     match answer_document(alloc, form, r, w)? {
         0 => Ok(()),
@@ -123,10 +121,7 @@ fn draw<R: Source, W: Sink>(
     requires reader_unended { R.has_ended r.old ≡ false }
     requires writer_unfailed { W.has_failed w.old ≡ false }
     ensures told { Told R.remaining r.old r.new W.contents w.old w.new (DoesTimeline message.now result) }
-    ensures stream_failed { exit_status fault_status result ≡ 3 → IsTrue (R.has_failed r.new) ⊎ IsTrue (W.has_failed w.new) }
-    ensures write_told { IsTrue (W.has_failed w.new) → exit_status fault_status result ≡ 3 }
-    ensures read_told { IsTrue (R.has_failed r.new) → exit_status fault_status result ≡ 3 }
-    ensures no_misuse { exit_status fault_status result ≢ 2 }
+    ensures streams { TellsStreams (R.has_failed r.new) (W.has_failed w.new) (exit_status fault_status result) }
 {
     write_timeline(alloc, message, r, w)?;
     Ok(())

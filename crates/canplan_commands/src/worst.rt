@@ -2,7 +2,8 @@
 ghost use Rattle.std.specs.Prelude.{◌≡◌, ◌⊎◌, ◌↔◌, false, IfErr, IsErrOf, IsTrue, OnOk};
 ghost use Rattle.can_stream.specs.Told.{Told};
 ghost use Rattle.can_plan_text.specs.declared.field.PlanField.{PlanField as Wrong};
-ghost use Rattle.canplan_commands.specs.Runs.{BeginsTimeline, Draws, IsTimelineFault, Refuses, RefusesLength, RefusesName, WritesNothing};
+ghost use Rattle.can_program.specs.Written.{WritesBeginning, WritesNothing};
+ghost use Rattle.canplan_commands.specs.Runs.{Draws, IsTimelineFault, Refuses, RefusesLength, RefusesName};
 
 use crate::fault::CanplanFault;
 use can_plan_worst::timeline;
@@ -29,7 +30,7 @@ pub fn write_timeline<R: Source, W: Sink>(
     ensures unknown { IsErrOf result CanplanFault.MessageUnknown → Told R.remaining r.old r.new W.contents w.old w.new (RefusesName message.now) }
     ensures too_long { IsErrOf result CanplanFault.TimelineTooLong → Told R.remaining r.old r.new W.contents w.old w.new (RefusesLength message.now) }
     ensures read { IsErrOf result (CanplanFault.Stream TraceFault.Read) → Told R.remaining r.old r.new W.contents w.old w.new WritesNothing }
-    ensures write { IsErrOf result (CanplanFault.Stream TraceFault.Write) → Told R.remaining r.old r.new W.contents w.old w.new (BeginsTimeline message.now) }
+    ensures write { IsErrOf result (CanplanFault.Stream TraceFault.Write) → Told R.remaining r.old r.new W.contents w.old w.new (WritesBeginning (Draws message.now)) }
     ensures memory { IsErrOf result (CanplanFault.Stream TraceFault.Memory) → Told R.remaining r.old r.new W.contents w.old w.new WritesNothing }
     ensures other { IfErr result (λ fault. IsTimelineFault fault ⊎ (fault ≡ CanplanFault.Stream TraceFault.Read) ⊎ (fault ≡ CanplanFault.Stream TraceFault.Write)) }
 
