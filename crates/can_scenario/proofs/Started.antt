@@ -5,11 +5,7 @@ use Rattle.std.proofs.lemmas.List.{nil_from_length, get_or-take, length-map, map
 use Rattle.std.proofs.lemmas.Option.{slice_get-get_or, get_or_from_slice_get}
 use Rattle.can_frame.specs.declared.level.Level.{Level}
 use Rattle.can_frame.specs.declared.level.Level.TheVariants.{Recessive}
-use Rattle.can_wire.specs.declared.checked_bits.CheckedBits.{CheckedBits}
-use Rattle.can_wire.specs.contracts.checked_bits.CheckedBitsFrameBits.TheImpl as checked_bits
-use Rattle.can_node.specs.declared.node.Node.{Node}
 use Rattle.can_node.specs.Ports.{PortState}
-use Rattle.can_node.specs.Tournament.{frames_in}
 use Rattle.can_hit.specs.declared.hit.Hit.{Hit}
 use Rattle.can_bus.specs.declared.offer.Offer.{Offer}
 use Rattle.can_bus.specs.Offers.{played, played_level}
@@ -18,10 +14,6 @@ use Rattle.can_scenario.specs.Report.{ended_bus, ended_by, level_by, levels_unti
 use Rattle.can_scenario.specs.ScenarioOffers.{scenario_offers}
 use Rattle.can_scenario_text.specs.declared.scenario.PortPlan.{PortPlan}
 use Rattle.can_scenario_text.specs.declared.scenario.Scenario.{Scenario}
-
--- what a contract sees of a port with memory of its own
-abbrev pub node_port : Node CheckedBits checked_bits.ghosts → PortState
-node_port n = record { mac = n.mac; queue = frames_in n.queue.slots.items; queue_room = n.queue.room; log = n.log.entries.items; log_room = n.log.room; missed = n.log.missed }
 
 -- one port more is made
 pub made-next : {N : Type 0} (port : N → PortState) (nodes : List N) (plans : List PortPlan) (n : ℕ) (node : N) (plan : PortPlan) → n < length plans →

@@ -1,7 +1,7 @@
 use Rattle.std.proofs.Common.{◌≡◌, ◌++◌, drop}
 use Rattle.can_bus.specs.Walks.{IsReached}
 use Rattle.can_port_times.specs.PortTimes.{told_from}
-use Rattle.can_scenario.proofs.Started.{node_port}
+use Rattle.can_node.proofs.NodePort.{node_port}
 use Rattle.can_port_times.proofs.port_times.replay.Given as goal
 
 -- with what is told from here on, this is all

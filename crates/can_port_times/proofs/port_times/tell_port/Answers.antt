@@ -1,7 +1,7 @@
 use Rattle.std.proofs.Common.{◌≡◌, List, Some, length, slice_get, refl, ap, subst, arith, ◌∙◌}
 use Rattle.std.proofs.lemmas.Option.{slice_get_read}
 use Rattle.can_port_times.specs.PortTimes.{AreSeen, first_port, offers_meanwhile, told_from}
-use Rattle.can_scenario.proofs.Started.{node_port}
+use Rattle.can_node.proofs.NodePort.{node_port}
 use Rattle.can_port_times.specs.declared.port_times.PortTime.{PortTime}
 use Rattle.can_port_times.proofs.ToldTimes.{if-told, length-told, length-recorded, meanwhile-offered, seen-known, told-known}
 use Rattle.can_port_times.proofs.port_times.tell_port.Goals as goal

@@ -3,7 +3,8 @@ use Rattle.std.proofs.lemmas.List.{take_at}
 use Rattle.can_hit.specs.Hits.{AreTaken}
 use Rattle.can_bus.specs.State.{state_of}
 use Rattle.can_scenario.specs.Report.{waiting_port}
-use Rattle.can_scenario.proofs.Started.{bus-is, disturbed-ends, disturbed-known, node_port, same-size}
+use Rattle.can_node.proofs.NodePort.{node_port}
+use Rattle.can_scenario.proofs.Started.{bus-is, disturbed-ends, disturbed-known, same-size}
 use Rattle.can_scenario.proofs.run.disturb.Goals as goal
 
 pub offer_waiting-requires : goal.offer_waiting-requires

@@ -1,5 +1,6 @@
 use Rattle.std.proofs.Common.{ap, map, ◌∙◌}
-use Rattle.can_scenario.proofs.Started.{node_port, made-all, made-next}
+use Rattle.can_node.proofs.NodePort.{node_port}
+use Rattle.can_scenario.proofs.Started.{made-all, made-next}
 use Rattle.can_scenario.proofs.run.made_ports.Goals as goal
 
 pub loop-plan-preserved : goal.loop-plan-preserved

@@ -1,6 +1,6 @@
 use Rattle.std.proofs.Common.{◌≡◌, map, take}
 use Rattle.can_scenario.specs.Report.{made_port}
-use Rattle.can_scenario.proofs.Started.{node_port}
+use Rattle.can_node.proofs.NodePort.{node_port}
 use Rattle.can_scenario.proofs.run.made_ports.Given as goal
 
 abbrev pub invariant-loop-plan : goal.invariant-loop-plan

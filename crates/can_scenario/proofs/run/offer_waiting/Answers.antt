@@ -3,7 +3,8 @@ use Rattle.can_node.specs.Ports.{PortState, all_offered}
 use Rattle.can_scenario_text.specs.declared.scenario.PortPlan.{PortPlan}
 use Rattle.can_scenario_text.specs.declared.scenario.TimedFrame.{TimedFrame}
 use Rattle.can_scenario.specs.Report.{made_port, waiting_port}
-use Rattle.can_scenario.proofs.Started.{made-size, node_port, waits-next, waits-not}
+use Rattle.can_node.proofs.NodePort.{node_port}
+use Rattle.can_scenario.proofs.Started.{made-size, waits-next, waits-not}
 use Rattle.can_scenario.proofs.run.offer_waiting.Goals.{After-deref}
 use Rattle.can_scenario.proofs.run.offer_waiting.Goals as goal
 

@@ -5,7 +5,8 @@ use Rattle.can_bus.specs.State.{state_of}
 use Rattle.can_scenario.specs.Report.{ended_bus, made_port, recorded_levels}
 use Rattle.can_scenario.specs.ScenarioOffers.{scenario_offers}
 use Rattle.can_scenario.proofs.OpenReports.{offered, scheduled-told}
-use Rattle.can_scenario.proofs.Started.{bus-is, made-size, node_port, played-ends, played-known}
+use Rattle.can_node.proofs.NodePort.{node_port}
+use Rattle.can_scenario.proofs.Started.{bus-is, made-size, played-ends, played-known}
 use Rattle.can_scenario.proofs.run.play.Goals.{After-drop-offers-2}
 use Rattle.can_scenario.proofs.run.play.Goals as goal
 
