@@ -86,7 +86,10 @@ fn run_bus(rt: &HostRuntime, frame: Frame) -> io::Result<()> {
         Ok(ports) => {
             for port in &ports {
                 let (transmit, receive) = port.counters();
-                println!(rt; "bus: tec {transmit} rec {receive}, {} in its log", port.log().len())?;
+                println!(rt;
+                    "bus: tec {transmit} rec {receive}, {} in its log",
+                    port.log().len()
+                )?;
             }
             Ok(())
         }

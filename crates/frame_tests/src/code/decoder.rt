@@ -66,11 +66,7 @@ fn is_heard(frame: &str, parts: &[u8; 5], stuffed_part: &str, behind: &str) -> b
     let Some(frame) = frame_of(frame) else {
         return false;
     };
-    let (srr, r1, r0) = (
-        level_of(parts[0]),
-        level_of(parts[1]),
-        level_of(parts[2]),
-    );
+    let (srr, r1, r0) = (level_of(parts[0]), level_of(parts[1]), level_of(parts[2]));
     match Heard::new(frame, srr, r1, r0, parts[3] == b'0', level_of(parts[4])) {
         Some(heard) => is_told(stuffed_part, behind, Ok(heard)),
         None => false,
@@ -80,10 +76,7 @@ fn is_heard(frame: &str, parts: &[u8; 5], stuffed_part: &str, behind: &str) -> b
 #[test]
 fn whole_frames(rt: HostRuntime) {
     for (frame, _, stuffed_part) in KNOWN {
-        assert!(rt;
-            is_heard(*frame, b"10001", *stuffed_part, TAIL),
-            "{frame}"
-        );
+        assert!(rt; is_heard(*frame, b"10001", *stuffed_part, TAIL), "{frame}");
     }
     for (stuffed_part, behind, frame, parts) in HEARD {
         assert!(rt;
@@ -100,10 +93,7 @@ fn faults(rt: HostRuntime) -> Result<(), Fail> {
             kind: *kind,
             place: *place,
         };
-        assert!(rt;
-            is_told(*stuffed_part, *behind, Err(fault)),
-            "{text}"
-        );
+        assert!(rt; is_told(*stuffed_part, *behind, Err(fault)), "{text}");
         assert_eq!(rt; format!(in rt.alloc(); "{fault}")?.as_str(), *text);
     }
     Ok(())

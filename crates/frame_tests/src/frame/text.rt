@@ -11,7 +11,10 @@ const TEXTS: &[(&str, Parts)] = &[
     ("S 123 D 1 7f", (0x123, false, false, 1, &[0x7f])),
     ("S 123 D 2 aabb", (0x123, false, false, 2, &[0xaa, 0xbb])),
     ("S 000 D 8 0000000000000000", (0, false, false, 8, &[0; 8])),
-    ("S 000 D 12 0000000000000000", (0, false, false, 12, &[0; 8])),
+    (
+        "S 000 D 12 0000000000000000",
+        (0, false, false, 12, &[0; 8]),
+    ),
     ("S 7ff R 0", (0x7ff, false, true, 0, &[])),
     ("S 123 R 1", (0x123, false, true, 1, &[])),
     ("S 123 R 10", (0x123, false, true, 10, &[])),

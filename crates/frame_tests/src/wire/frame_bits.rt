@@ -30,7 +30,9 @@ fn holds<B: FrameBits>(unstuffed: &str, base: u64, crc: u16) -> bool {
 /// The levels of `E 12345678 D 8 00ff8001aa55fe7f` behind its start of frame: those before the data, the data, and the
 /// check sequence.
 const HEADER: u64 = 0b10_0100_0110_1110_0010_1011_0011_1100_0000_1000;
+
 const DATA: u64 = 0x00ff_8001_aa55_fe7f;
+
 const CHECK: u64 = 0x799d;
 
 /// Whether this form tells the levels of that frame, 118 as of the longest, that come as numbers.

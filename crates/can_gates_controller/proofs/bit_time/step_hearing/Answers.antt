@@ -23,10 +23,10 @@ returns c = (
                     (read.1 m.role front x (hears.front front is) going.front.short (is_short front going) sees.seen (sees.sender front is)).1;
               }),
               behind.1 m.phase _ m.role _ waiting x (within.1 m.phase held.phase) hears
-              (λ front is.
-              let going = is_going m.phase front is is_mac.phase in
-              (read.1 m.role front x (hears.front front is) going.front.short (is_short front going) sees.seen (sees.sender front is)).0)
-              follows.next,
+                  (λ front is.
+                  let going = is_going m.phase front is is_mac.phase in
+                  (read.1 m.role front x (hears.front front is) going.front.short (is_short front going) sees.seen (sees.sender front is)).0)
+                  follows.next,
             ),
       ),
 )
