@@ -60,7 +60,8 @@ class Walk(unittest.TestCase):
         self.shown(self.last_line(MISTAKE, *mine[1:]))
         self.assertIn("passed", self.last_line(*block_of("conformance/run --show --only rx-identifiers")))
         fault = block_of("fail suspend-behind-error at 253")
-        self.assertIn("\n".join(fault), self.printed("conformance/run --show --expect conformance/transcripts -- COMMAND"))
+        told = self.printed("conformance/run --show --expect conformance/transcripts -- COMMAND")
+        self.assertIn("\n".join(fault), told)
 
         further = block_of("cc -std=c99 -O2 -o /tmp/reference")
         self.printed(*further[:2])
