@@ -6,6 +6,7 @@ use Rattle.std.proofs.lemmas.List.{get_or_past, get_or_append_left, get_or_push}
 use Rattle.can_frame.specs.declared.level.Level.{Level}
 use Rattle.can_frame.specs.declared.level.Level.TheVariants.{Dominant}
 use Rattle.can_frame.specs.Levels.{is_recessive, same}
+use Rattle.can_wire.specs.Crc.{crc_of}
 use Rattle.can_wire.specs.Layout.{level_at}
 use Rattle.can_wire.specs.Stuffing.{run_after}
 use Rattle.can_wire.proofs.LayoutPlaces.{level_at-append, level_at-behind}
@@ -60,6 +61,16 @@ heard_count front x true at h =
 heard_count front x false at h =
     let more : min (length front.unstuffed + 1) 127 ≡ length (front.unstuffed ++ x ∷ []) = omega (arith, h, length-append front.unstuffed (x ∷ [])) in
     more ∙ ap (λ (f : FrontParts). length f.unstuffed) (sym (cond-false (eqb front.run 5) (due front x) (plain front x) at))
+
+-- a place of the one check sequence, or of the other
+pub chosen_check : (b : Bool) (more old : List Level) (p : ℕ) (new was : Bool) → new ≡ is_recessive (level_at (crc_of more) p) → was ≡ is_recessive (level_at (crc_of old) p) → cond b new was ≡ is_recessive (level_at (crc_of (cond b more old)) p)
+chosen_check true more old p new was e f = e
+chosen_check false more old p new was e f = f
+
+-- the unstuffed levels behind a level
+pub heard_unstuffed : (front : FrontParts) (x : Level) (b : Bool) → eqb front.run 5 ≡ b → cond (not b) (front.unstuffed ++ x ∷ []) front.unstuffed ≡ (heard_level front x).unstuffed
+heard_unstuffed front x true at = ap (λ (f : FrontParts). f.unstuffed) (sym (cond-true (eqb front.run 5) (due front x) (plain front x) at))
+heard_unstuffed front x false at = ap (λ (f : FrontParts). f.unstuffed) (sym (cond-false (eqb front.run 5) (due front x) (plain front x) at))
 
 -- a place more of a list that is written
 pub written_place : (v : ℕ → Bool) (f : ℕ → Bool) (all more : List Literal) (l : Literal) (i p : ℕ) → more ≡ all ++ l ∷ [] → length all ≡ i → value v l ≡ f i → ((q : ℕ) → q < i → value v (get_or all q never) ≡ f q) → p < i + 1 → value v (get_or more p never) ≡ f p

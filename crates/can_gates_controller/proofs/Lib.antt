@@ -1,6 +1,14 @@
 -- For this crate: the front of a frame
 pub mod FrontPlaces
 pub mod Lengths
+-- the check sequence
+pub mod Checks
 -- what a bit time makes of a frame, by the phase
 pub mod Follows
 pub mod Phases
+-- a sender's frame
+pub mod Own
+pub mod Owned
+-- runs
+pub mod RunsOf
+pub mod ListedLemmas

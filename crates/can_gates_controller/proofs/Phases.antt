@@ -6,7 +6,9 @@ use Rattle.can_frame.specs.declared.level.Level.{Level}
 use Rattle.can_frame.specs.declared.level.Level.TheVariants.{Dominant}
 use Rattle.can_frame.specs.Levels.{is_recessive}
 use Rattle.can_frame.specs.Parts.{Parts}
+use Rattle.can_wire.specs.Crc.{crc_of}
 use Rattle.can_wire.specs.Layout.{level_at, frame_len}
+use Rattle.can_wire.proofs.LayoutPlaces.{level_at-dominant}
 use Rattle.can_wire.proofs.LayoutLengths.{frame_len_le}
 use Rattle.can_code.specs.Front.{FrontParts, first_front, has_check, heard_level}
 use Rattle.can_mac.specs.declared.phase.Reading.{Reading}
@@ -38,24 +40,28 @@ pub first_level : (v : ℕ → Bool) → v 0 ≡ false → (p : ℕ) → value v
 first_level v zero_is zero = value-never v zero_is
 first_level v zero_is (suc p) = value-never v zero_is
 
+pub first_check : (v : ℕ → Bool) → v 0 ≡ false → (p : ℕ) → value v (get_or [] p never) ≡ is_recessive (level_at (crc_of (Dominant ∷ [])) p)
+unfolding crc_of
+first_check v zero_is p = value-never v zero_is ∙ ap is_recessive (sym (level_at-dominant [] 15 p))
+
 -- registers that are chosen
 
 module _ (v : ℕ → Bool) (k a b : Heard) where
   first_front_is : (t : Bool) (front : FrontParts) → t ≡ true → IsEither v k t a b → HoldsFront v a front → HoldsFront v k front
-  first_front_is true front e is held = record { levels = λ p h. is.levels p h ∙ held.levels p h; count = is.count ∙ held.count; run = record { last = is.last ∙ held.run.last; run = is.run ∙ held.run.run } }
+  first_front_is true front e is held = record { levels = λ p h. is.levels p h ∙ held.levels p h; count = is.count ∙ held.count; run = record { last = is.last ∙ held.run.last; run = is.run ∙ held.run.run }; check = λ p h. is.check p h ∙ held.check p h }
   first_front_is false front e is held = cc e
 
   other_front_is : (t : Bool) (front : FrontParts) → t ≡ false → IsEither v k t a b → HoldsFront v b front → HoldsFront v k front
   other_front_is true front e is held = cc e
-  other_front_is false front e is held = record { levels = λ p h. is.levels p h ∙ held.levels p h; count = is.count ∙ held.count; run = record { last = is.last ∙ held.run.last; run = is.run ∙ held.run.run } }
+  other_front_is false front e is held = record { levels = λ p h. is.levels p h ∙ held.levels p h; count = is.count ∙ held.count; run = record { last = is.last ∙ held.run.last; run = is.run ∙ held.run.run }; check = λ p h. is.check p h ∙ held.check p h }
 
   first_told_is : (t : Bool) (r : Reading) → t ≡ true → IsEither v k t a b → HoldsTold v a r → HoldsTold v k r
-  first_told_is true r e is held = record { unstuffed = held.unstuffed; whole = held.whole; told = held.told; levels = λ p h. is.levels p h ∙ held.levels p h }
+  first_told_is true r e is held = record { unstuffed = held.unstuffed; whole = held.whole; told = held.told; levels = λ p h. is.levels p h ∙ held.levels p h; check = λ p h. is.check p h ∙ held.check p h }
   first_told_is false r e is held = cc e
 
   other_told_is : (t : Bool) (r : Reading) → t ≡ false → IsEither v k t a b → HoldsTold v b r → HoldsTold v k r
   other_told_is true r e is held = cc e
-  other_told_is false r e is held = record { unstuffed = held.unstuffed; whole = held.whole; told = held.told; levels = λ p h. is.levels p h ∙ held.levels p h }
+  other_told_is false r e is held = record { unstuffed = held.unstuffed; whole = held.whole; told = held.told; levels = λ p h. is.levels p h ∙ held.levels p h; check = λ p h. is.check p h ∙ held.check p h }
 
 abbrev reading_or : Reading → Option Reading → Reading
 reading_or d None = d
@@ -80,7 +86,7 @@ ended_whole front e = sym (eqb-true (frame_len front.unstuffed) (length front.un
     first_of_and false b e = e
 
 told_of : (v : ℕ → Bool) (k : Heard) (front : FrontParts) (r : Reading) → HoldsFront v k front → ends_part front ≡ true → Some (reading_of front.unstuffed) ≡ Some r → HoldsTold v k r
-told_of v k front r held end e = record { unstuffed = front.unstuffed; whole = ended_whole front end; told = sym (same_reading (reading_of front.unstuffed) r e); levels = held.levels }
+told_of v k front r held end e = record { unstuffed = front.unstuffed; whole = ended_whole front end; told = sym (same_reading (reading_of front.unstuffed) r e); levels = held.levels; check = held.check }
 
 -- what a next phase says of the front and of the reading before
 

@@ -96,3 +96,4 @@ pub record IsEither (v : ℕ → Bool) (k : Heard) (test : Bool) (a b : Heard) :
   pub count : number v k.count.items ≡ (if test then number v a.count.items else number v b.count.items)
   pub last : value v k.last ≡ (if test then value v a.last else value v b.last)
   pub run : nibble v k.run ≡ (if test then nibble v a.run else nibble v b.run)
+  pub check : (p : ℕ) → p < 15 → value v (slice_index_or k.check.items p (record { signal = 0; negated = false })) ≡ (if test then value v (slice_index_or a.check.items p (record { signal = 0; negated = false })) else value v (slice_index_or b.check.items p (record { signal = 0; negated = false })))

@@ -2,6 +2,7 @@
 use Rattle.std.specs.Prelude.{ℕ, ◌≡◌, ◌<◌, ◌==◌, Bool, false, List, length, slice_index_or}
 use Rattle.can_frame.specs.declared.level.Level.{Level}
 use Rattle.can_frame.specs.Levels.{is_recessive, same}
+use Rattle.can_wire.specs.Crc.{crc_of}
 use Rattle.can_wire.specs.Layout.{level_at}
 use Rattle.can_frame.specs.Parts.{Parts}
 use Rattle.can_code.specs.Front.{FrontParts, heard_level}
@@ -19,10 +20,15 @@ use Rattle.can_gates_mac.specs.Driving.{HoldsRun}
 abbrev pub HoldsLevels : (ℕ → Bool) → List Literal → List Level → Type 0
 HoldsLevels v levels u = (p : ℕ) → p < 103 → value v (slice_index_or levels p (record { signal = 0; negated = false })) ≡ is_recessive (level_at u p)
 
+-- the registers are the check sequence of these levels
+abbrev pub HoldsCheck : (ℕ → Bool) → List Literal → List Level → Type 0
+HoldsCheck v check u = (p : ℕ) → p < 15 → value v (slice_index_or check p (record { signal = 0; negated = false })) ≡ is_recessive (level_at (crc_of u) p)
+
 pub record HoldsFront (v : ℕ → Bool) (k : Heard) (front : FrontParts) : Type 0 where
   pub levels : HoldsLevels v k.levels.items front.unstuffed
   pub count : number v k.count.items ≡ length front.unstuffed
   pub run : HoldsRun v k.last k.run front
+  pub check : HoldsCheck v k.check.items front.unstuffed
 
 -- the front with one more level, whether that is a stuff bit, and whether it repeats the last one
 pub record HearsFront (v : ℕ → Bool) (k : Heard) (s : StuffPlace) (front : FrontParts) (x : Level) : Type 0 where

@@ -14,7 +14,7 @@ use Rattle.can_gates_mac.specs.Numbers.{reading_in, is_waiting}
 use Rattle.can_gates_mac.specs.Inputs.{TellsReading}
 use Rattle.can_gates_controller.specs.declared.heard.Heard.{Heard}
 use Rattle.can_gates_controller.specs.declared.seen.Seen.{Seen}
-use Rattle.can_gates_controller.specs.Fronts.{HoldsLevels, HoldsFront, TellsSender}
+use Rattle.can_gates_controller.specs.Fronts.{HoldsLevels, HoldsCheck, HoldsFront, TellsSender}
 
 -- whether a frame is on the bus that isn't over or broken off: its stuffed part, or what stands behind that
 abbrev pub is_in_frame : MacPhase → Bool
@@ -34,12 +34,13 @@ is_in_frame (Intermission place) = false
 is_in_frame (Suspend place) = false
 is_in_frame BusOff = false
 
--- the registers have the levels of a stuffed part that has told this
+-- the registers have the levels of a stuffed part that has told this, and their check sequence
 pub record HoldsTold (v : ℕ → Bool) (k : Heard) (r : Reading) : Type 0 where
   pub unstuffed : List Level
   pub whole : length unstuffed ≡ frame_len unstuffed
   pub told : r ≡ reading_of unstuffed
   pub levels : HoldsLevels v k.levels.items unstuffed
+  pub check : HoldsCheck v k.check.items unstuffed
 
 -- in a frame the registers hold what is heard of it: its front, and behind the stuffed part what that has told
 pub record HoldsHeard (v : ℕ → Bool) (k : Heard) (p : MacPhase) : Type 0 where

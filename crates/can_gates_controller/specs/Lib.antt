@@ -1,5 +1,8 @@
 -- To believe: what public calls promise is said in these words
 pub mod Fronts
 pub mod Holding
+pub mod Whole
+pub mod Runs
 -- For private calls
 pub mod Following
+pub mod Listed

@@ -12,6 +12,7 @@ ghost use Rattle.can_gates.specs.Words.{number};
 ghost use Rattle.can_gates_controller.specs.Fronts.{HoldsLevels, HoldsFront, HearsFront, TellsSender};
 ghost use Rattle.can_gates_mac.specs.Inputs.{IsPart};
 
+use crate::check::next_check;
 use crate::heard::Heard;
 use can_gates::{Circuit, FALSE, Literal, constant, literal_at};
 use can_gates_mac::{Part, StuffPlace, arbitrates, stuffing};
@@ -40,11 +41,13 @@ pub fn hear(
     let level = circuit.and(plain, seen)?;
     let levels = written(circuit, alloc, &heard.levels, &heard.count, level)?;
     let count = circuit.raised(alloc, &heard.count, &[plain])?;
+    let check = next_check(circuit, alloc, &heard.check, plain, seen)?;
     let next = Heard {
         levels,
         count,
         last: stuffing.last,
         run: stuffing.run,
+        check,
     };
     Ok((next, stuffing))
 }
@@ -107,7 +110,7 @@ pub fn ends(circuit: &mut Circuit, alloc: Global, heard: &Heard) -> Result<Liter
 }
 
 /// How many unstuffed levels the frame has that begins with these.
-fn frame_length(
+pub(crate) fn frame_length(
     circuit: &mut Circuit,
     alloc: Global,
     levels: &[Literal],

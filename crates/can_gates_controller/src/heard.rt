@@ -15,5 +15,7 @@ pub struct Heard {
     pub last: Literal,
     /// How many levels in a row, up to it, equal it.
     pub run: Nibble,
+    /// The check sequence of the unstuffed levels, its first level first. Behind a whole frame that agrees nothing is left of it.
+    pub check: Vec<Literal>,
     ghost width: { vec_len count ≡ 7 },
 }

@@ -1,26 +1,47 @@
-//! A controller with the frame on the bus, as a circuit: can_gates_mac's bit time, and the registers of the frame that it reads.
+//! A controller with the frame on the bus, as a circuit: can_gates_mac's bit time, and the registers of frames that it reads.
 //!
-//! [`Heard`] has the registers of what is heard of a frame: one for each of the first 103 unstuffed levels, their count, and
-//! the run that they end in. [`step_hearing`] makes the gates from these and a controller's to what both take. What is read of
-//! the sender's frame, and whether the check sequence agrees, comes in by [`Seen`].
+//! [`Registers`] hold a controller, what it has heard of a frame, and the frame that it sends: a register for each of the
+//! first 103 unstuffed levels of both, the count of those heard, the run that they end in, and their running check sequence.
+//! [`bit_time`] makes the gates from these registers, the frame that waits and the level that is seen to what the registers
+//! take and to what is driven: in each assignment that keeps the circuit, whatever controller the registers hold, that is
+//! can_mac's `mac_step` and `mac_drives`, with the frame that is told. [`controller_circuit`] makes all of it in a circuit of its own, whose
+//! runs from reset are can_mac's, bit time by bit time.
+//!
+//! A frame comes in, and is told, by its levels up to the end of its data, a literal for each.
 //!
 //! | File | What it has | Defined in |
 //! |---|---|---|
+//! | `registers.rt` | [`Registers`], [`Offered`], [`BitTime`] | `specs/Whole.antt` |
+//! | `whole.rt` | [`bit_time`], a bit time | `specs/Whole.antt` |
+//! | `design.rt`, `making.rt` | [`Design`], [`controller_circuit`]: a circuit of its own | `specs/Runs.antt` |
 //! | `heard.rt`, `front.rt` | [`Heard`], the registers of a front; [`hear`], one more level; [`ends`], whether its stuffed part ends; [`read`], what the move reads | `specs/Fronts.antt` |
-//! | `seen.rt`, `bit_time.rt` | [`Seen`], what a bit time brings; [`step_hearing`], a bit time | `specs/Holding.antt` |
+//! | `check.rt` | the running check sequence, and whether it agrees | `specs/Fronts.antt` |
+//! | `sending.rt` | what a sender sends next | `specs/Whole.antt` |
+//! | `seen.rt`, `hearing.rt` | [`Seen`], what is read of the wire, of what waits and of the sender's frame; [`step_hearing`], a bit time but for that frame | `specs/Holding.antt` |
 //! | `following.rt`, `next_front.rt` | which front follows, by the phase | `specs/Following.antt` |
 //! | `levels.rt` | choices between levels | |
 #![tactic(auto)]
 
-mod bit_time;
+mod check;
+mod design;
 mod following;
 mod front;
 mod heard;
+mod hearing;
 mod levels;
+mod listing;
+mod making;
 mod next_front;
+mod registers;
 mod seen;
+mod sending;
+mod whole;
 
-pub use bit_time::step_hearing;
+pub use design::Design;
 pub use front::{ends, hear, read};
 pub use heard::Heard;
+pub use hearing::step_hearing;
+pub use making::controller_circuit;
+pub use registers::{BitTime, Offered, Registers};
 pub use seen::Seen;
+pub use whole::bit_time;

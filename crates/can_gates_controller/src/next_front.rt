@@ -13,6 +13,7 @@ ghost use Rattle.can_gates_controller.specs.Fronts.{HoldsFront};
 ghost use Rattle.can_gates_controller.specs.Holding.{HoldsHeard};
 ghost use Rattle.can_gates_controller.specs.Following.{IsWithin, IsEither, IsNext};
 
+use crate::check;
 use crate::following::Within;
 use crate::heard::Heard;
 use crate::levels::choose_levels;
@@ -48,11 +49,13 @@ fn first_heard(alloc: Global) -> Result<Heard, AllocError>
 {
     let count = constant(alloc, 1, 7)?;
     let levels = Vec::new(alloc);
+    let check = Vec::new(alloc);
     Ok(Heard {
         levels,
         count,
         last: FALSE,
         run: Nibble::of(1),
+        check,
     })
 }
 
@@ -70,11 +73,13 @@ fn choose_heard(
     let count = circuit.choose(alloc, test, &a.count, &b.count)?;
     let last = circuit.ite(test, a.last, b.last)?;
     let run = Nibble::choose(circuit, test, a.run, b.run)?;
+    let check = choose_levels(circuit, alloc, check::PLACES, test, &a.check, &b.check)?;
     Ok(Heard {
         levels,
         count,
         last,
         run,
+        check,
     })
 }
 

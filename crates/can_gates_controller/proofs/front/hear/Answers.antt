@@ -1,13 +1,17 @@
-use Rattle.std.proofs.Common.{◌≡◌, ◌∙◌, length, not, refl, ap, arith}
+use Rattle.std.proofs.Common.{◌≡◌, ◌∙◌, length, not, get_or, refl, subst, ap, arith}
 use Rattle.std.proofs.Math.Dec.{eqb}
-use Rattle.can_gates_controller.proofs.FrontPlaces.{heard_place, heard_count}
+use Rattle.can_gates.specs.Circuit.{value}
+use Rattle.can_gates.proofs.Constants.{never}
+use Rattle.can_gates_controller.specs.Fronts.{HoldsCheck}
+use Rattle.can_gates_controller.proofs.FrontPlaces.{heard_place, heard_count, heard_unstuffed}
 use Rattle.can_gates_controller.proofs.front.hear.Goals as goal
 
 pub returns : goal.returns
 returns c = (
-  c.in_ok-count.ensures.1.0 ∙ c.in_ok-levels.ensures.0 ∙ c.in_ok-level.ensures.made.0 ∙ c.in_ok-stuffing.ensures.0,
+  c.in_ok-check.ensures.0 ∙ c.in_ok-count.ensures.1.0 ∙ c.in_ok-levels.ensures.0 ∙ c.in_ok-level.ensures.made.0 ∙ c.in_ok-stuffing.ensures.0,
   λ v keeps.
-      let count = c.in_ok-count.ensures.1.1 v keeps in
+      let check = c.in_ok-check.ensures.1 v keeps in
+      let count = c.in_ok-count.ensures.1.1 v check.0 in
       let levels = c.in_ok-levels.ensures.1 v count.0 in
       let level = c.in_ok-level.ensures.made.1 v levels.0 in
       let stuffing = c.in_ok-stuffing.ensures.1 v level.0 in (
@@ -23,6 +27,7 @@ returns c = (
                 levels = λ p h. levels.1 p h ∙ rw (c.deref.ensures.value, c.deref-2.ensures.value, held.levels p h, held.count, is_level) (heard_place front x (eqb front.run 5) p refl);
                 count = count.1 ∙ rw (long, c.deref-3.ensures.value, held.count, plain) (heard_count front x (eqb front.run 5) refl short);
                 run = stuff.1.1;
+                check = subst (λ u. HoldsCheck v c.in_ok-check.check.items u) (rw plain (heard_unstuffed front x (eqb front.run 5) refl)) (check.1 front.unstuffed x (λ p h. ap (λ items. value v (get_or items p never)) c.deref-4.ensures.value ∙ held.check p h) seen);
               };
               due = stuff.0;
               repeats = stuff.1.0;

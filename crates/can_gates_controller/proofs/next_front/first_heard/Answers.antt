@@ -1,7 +1,7 @@
 use Rattle.std.proofs.Common.{◌∙◌, get_or, ap}
 use Rattle.can_gates.specs.Circuit.{value}
 use Rattle.can_gates.proofs.Constants.{never, value-never}
-use Rattle.can_gates_controller.proofs.Phases.{first_level}
+use Rattle.can_gates_controller.proofs.Phases.{first_level, first_check}
 use Rattle.can_gates_controller.proofs.next_front.first_heard.Goals as goal
 
 pub returns : goal.returns
@@ -9,4 +9,5 @@ returns c = λ v zero_is. record {
   levels = λ p h. ap (λ items. value v (get_or items p never)) c.new-levels.ensures.items ∙ first_level v zero_is p;
   count = c.in_ok-count.ensures.1 v zero_is;
   run = record { last = value-never v zero_is; run = c.of.ensures v zero_is };
+  check = λ p h. ap (λ items. value v (get_or items p never)) c.new-check.ensures.items ∙ first_check v zero_is p;
 }

@@ -1,7 +1,7 @@
 use Rattle.std.proofs.Common.{◌∙◌}
 use Rattle.can_gates_controller.proofs.Follows.{bit_time_follows}
 use Rattle.can_gates_controller.proofs.Phases.{is_going, is_short}
-use Rattle.can_gates_controller.proofs.bit_time.step_hearing.Goals as goal
+use Rattle.can_gates_controller.proofs.hearing.step_hearing.Goals as goal
 
 pub returns : goal.returns
 returns c = (

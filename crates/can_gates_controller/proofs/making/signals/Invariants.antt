@@ -1,0 +1,7 @@
+use Rattle.std.specs.Prelude.{◌≡◌, length}
+use Rattle.can_gates_controller.specs.Listed.{AreSignals}
+use Rattle.can_gates_controller.proofs.making.signals.Given as goal
+
+-- the signals so far
+abbrev pub invariant-loop-place : goal.invariant-loop-place
+invariant-loop-place l = (length l.word.items ≡ l.place) × AreSignals l.first l.place l.word.items

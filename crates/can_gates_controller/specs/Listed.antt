@@ -1,0 +1,42 @@
+-- The registers of a controller in one list, as a file has them.
+use Rattle.std.specs.Prelude.{ℕ, zero, suc, ◌≡◌, ◌+◌, ◌<◌, Bool, false, List, [], ◌∷◌, ◌++◌, slice_index_or}
+use Rattle.can_gates.specs.declared.literal.Literal.{Literal}
+use Rattle.can_gates.specs.declared.aiger.Register.{Register}
+use Rattle.can_gates.specs.Circuit.{value}
+use Rattle.can_gates_mac.specs.declared.nibble.Nibble.{Nibble}
+use Rattle.can_gates_mac.specs.declared.wires.Wires.{Wires}
+use Rattle.can_gates_mac.specs.declared.registers.Counters.{Counters}
+use Rattle.can_gates_controller.specs.declared.heard.Heard.{Heard}
+use Rattle.can_gates_controller.specs.declared.registers.Registers.{Registers}
+
+-- the first n literals of a word; past its end stands what is never true
+abbrev pub placed : ℕ → List Literal → List Literal
+placed zero word = []
+placed (suc n) [] = record { signal = 0; negated = false } ∷ placed n []
+placed (suc n) (l ∷ word) = l ∷ placed n word
+
+-- the lowest place of a number goes first
+abbrev pub nibble_before : Nibble → List Literal → List Literal
+nibble_before n rest = n.ones ∷ n.twos ∷ n.fours ∷ n.eights ∷ rest
+
+abbrev pub wires_list : Wires → List Literal
+wires_list w = nibble_before w.phase (nibble_before w.place (w.last ∷ w.unacknowledged ∷ w.first ∷ w.sender ∷ nibble_before w.pending (nibble_before w.used [])))
+
+abbrev pub counters_list : Counters → List Literal
+counters_list k = (placed 9 k.tec.items ++ placed 8 k.rec.items) ++ placed 7 k.occurrences.items
+
+abbrev pub heard_list : Heard → List Literal
+heard_list k = (placed 103 k.levels.items ++ placed 7 k.count.items) ++ (k.last ∷ nibble_before k.run (placed 15 k.check.items))
+
+-- the controller, its counters, what is heard, and the sender's frame
+abbrev pub register_list : Registers → List Literal
+register_list k = ((wires_list k.controller.wires ++ counters_list k.controller.counters) ++ heard_list k.heard) ++ placed 103 k.own.items
+
+-- a register that takes this literal, and starts with this value
+pub record IsRegister (r : Register) (l : Literal) (b : Bool) : Type 0 where
+  pub next : r.next ≡ l
+  pub starts : r.starts ≡ b
+
+-- so many literals are the signals from this one on
+abbrev pub AreSignals : ℕ → ℕ → List Literal → Type 0
+AreSignals first n l = (v : ℕ → Bool) (p : ℕ) → p < n → value v (slice_index_or l p (record { signal = 0; negated = false })) ≡ v (first + p)

@@ -1,0 +1,55 @@
+-- A controller with the frame on the bus in a circuit's registers, and what a bit time makes of it.
+use Rattle.std.specs.Prelude.{ℕ, ◌≡◌, Bool, true, List, Option, Some, length, take}
+use Rattle.can_frame.specs.declared.level.Level.{Level}
+use Rattle.can_frame.specs.Levels.{is_recessive}
+use Rattle.can_frame.specs.Parts.{Parts}
+use Rattle.can_wire.specs.Layout.{frame_of}
+use Rattle.can_wire.specs.Wire.{head, unstuffed}
+use Rattle.can_code.specs.Front.{FrontParts}
+use Rattle.can_mac.specs.declared.event.Event.{Event}
+use Rattle.can_mac.specs.declared.event.Event.TheVariants.{Sent, Received}
+use Rattle.can_mac.specs.declared.phase.Role.{Role}
+use Rattle.can_mac.specs.declared.phase.Role.TheVariants.{Sender}
+use Rattle.can_mac.specs.declared.phase.Phase.TheVariants.{StuffedPart}
+use Rattle.can_mac.specs.State.{MacPhase, MacState, IsMac, IsFrameOrNone}
+use Rattle.can_mac.specs.Machine.{mac_step, mac_drives}
+use Rattle.can_gates.specs.declared.literal.Literal.{Literal}
+use Rattle.can_gates.specs.Circuit.{value}
+use Rattle.can_gates_mac.specs.Nibbles.{nibble}
+use Rattle.can_gates_mac.specs.Numbers.{is_waiting, event_number}
+use Rattle.can_gates_mac.specs.Stepping.{Holds}
+use Rattle.can_gates_controller.specs.declared.registers.Registers.{Registers}
+use Rattle.can_gates_controller.specs.declared.registers.Offered.{Offered}
+use Rattle.can_gates_controller.specs.declared.registers.BitTime.{BitTime}
+use Rattle.can_gates_controller.specs.Fronts.{HoldsLevels}
+use Rattle.can_gates_controller.specs.Holding.{is_in_frame, HoldsHeard}
+
+-- within a frame its sender's registers hold it up to the end of its data, and what the sender has heard is what it sent
+pub record HoldsOwn (v : ℕ → Bool) (own : List Literal) (p : MacPhase) (role : Role) : Type 0 where
+  pub levels : (f : Parts) → is_in_frame p ≡ true → role ≡ Sender f → HoldsLevels v own (head f)
+  pub sent : (f : Parts) (front : FrontParts) → p ≡ StuffedPart front → role ≡ Sender f → front.unstuffed ≡ take (length front.unstuffed) (unstuffed f)
+
+-- the registers hold this controller, and the frame on the bus
+pub record HoldsAll (v : ℕ → Bool) (k : Registers) (m : MacState) : Type 0 where
+  pub is : IsMac m
+  pub controller : Holds v k.controller m
+  pub heard : HoldsHeard v k.heard m.phase
+  pub own : HoldsOwn v k.own.items m.phase m.role
+
+-- this frame waits, where one does
+pub record Offers (v : ℕ → Bool) (k : Offered) (waiting : Option Parts) : Type 0 where
+  pub frame : IsFrameOrNone waiting
+  pub waits : value v k.waits ≡ is_waiting waiting
+  pub levels : (f : Parts) → waiting ≡ Some f → HoldsLevels v k.levels.items (head f)
+
+-- the frame that is told is the one that registers hold: its sender's, or what was heard
+pub record TellsFrame (v : ℕ → Bool) (k : Registers) (told : Option Event) : Type 0 where
+  pub sent : (f : Parts) → told ≡ Some (Sent f) → HoldsLevels v k.own.items (head f)
+  pub received : (f : Parts) → told ≡ Some (Received f) → (u : List Level) × ((f ≡ frame_of u) × HoldsLevels v k.heard.levels.items u)
+
+-- what a controller in these registers makes of a bit time in which this frame waits and this level is seen
+pub record IsBitTime (v : ℕ → Bool) (k : BitTime) (held : Registers) (m : MacState) (waiting : Option Parts) (x : Level) : Type 0 where
+  pub next : HoldsAll v k.next (mac_step m waiting x).0
+  pub drives : value v k.recessive ≡ is_recessive (mac_drives m waiting)
+  pub event : nibble v k.next.controller.wires.event ≡ event_number (mac_step m waiting x).1
+  pub frame : TellsFrame v held (mac_step m waiting x).1

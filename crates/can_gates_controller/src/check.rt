@@ -1,0 +1,104 @@
+//! The running check sequence: that of the levels heard so far. (Bosch CAN 2.0 part B, section 3.2.1)
+ghost use Rattle.std.specs.Prelude.{◌≡◌, ◌+◌, ◌<◌, ◌≤◌, ◌&&◌, ◌++◌, ◌∷◌, [], ℕ, Bool, false, if◌then◌else◌, List, IfOk, length};
+ghost use Rattle.can_frame.specs.declared.level.Level.{Level};
+ghost use Rattle.can_frame.specs.Levels.{is_recessive};
+ghost use Rattle.can_wire.specs.Crc.{lower_terms, crc_of};
+ghost use Rattle.can_wire.specs.Layout.{level_at};
+ghost use Rattle.can_mac.specs.Moves.{agrees as check_agrees};
+ghost use Rattle.can_gates.specs.Circuit.{value, Makes, differ};
+ghost use Rattle.can_gates_controller.specs.Fronts.{HoldsCheck};
+
+use crate::levels::choose_levels;
+use can_gates::{Circuit, FALSE, Literal, literal_at};
+use std::alloc::{AllocError, Global};
+
+/// How many places a check sequence has.
+pub(crate) const PLACES: usize = 15;
+
+/// Whether the generator has each of its terms below the highest, from that of x^14 on.
+const TERMS: [bool; 15] = [
+    true, false, false, false, true, false, true, true, false, false, true, true, false, false,
+    true,
+];
+
+/// The check sequence of the same levels and one more.
+fn divide(
+    circuit: &mut Circuit,
+    alloc: Global,
+    check: &[Literal],
+    level: Literal,
+) -> Result<Vec<Literal>, AllocError>
+    ensures { IfOk result (λ r. Makes circuit.old circuit.new (λ v. (u : List Level) (x : Level) → HoldsCheck v check.now u → value v level ≡ is_recessive x → HoldsCheck v r.items (u ++ x ∷ []))) }
+{
+    let fed = circuit.xor(literal_at(check, 0), level)?;
+    let made = divided(circuit, alloc, check, fed)?;
+    Ok(made)
+}
+
+/// The same, or where the level isn't one of the unstuffed ones what it was.
+pub(crate) fn next_check(
+    circuit: &mut Circuit,
+    alloc: Global,
+    check: &[Literal],
+    plain: Literal,
+    level: Literal,
+) -> Result<Vec<Literal>, AllocError>
+    ensures { IfOk result (λ r. Makes circuit.old circuit.new (λ v. (u : List Level) (x : Level) → HoldsCheck v check.now u → value v level ≡ is_recessive x → HoldsCheck v r.items (if value v plain then u ++ x ∷ [] else u))) }
+{
+    let more = divide(circuit, alloc, check, level)?;
+    let made = choose_levels(circuit, alloc, PLACES, plain, &more, check)?;
+    Ok(made)
+}
+
+/// The check sequence of the same levels and one more, where the level and the highest place differ or are equal.
+fn divided(
+    circuit: &mut Circuit,
+    alloc: Global,
+    check: &[Literal],
+    fed: Literal,
+) -> Result<Vec<Literal>, AllocError>
+    ensures { IfOk result (λ r. Makes circuit.old circuit.new (λ v. (u : List Level) (x : Level) → HoldsCheck v check.now u → value v fed ≡ differ (is_recessive (level_at (crc_of u) 0)) (is_recessive x) → HoldsCheck v r.items (u ++ x ∷ []))) }
+{
+    let mut all = Vec::new(alloc);
+    for place in 0..PLACES {
+        let moved = next_place(check, place);
+        let term = term_of(fed, place);
+        let level = circuit.xor(moved, term)?;
+        all.push(level)?;
+    }
+    Ok(all)
+}
+
+/// The place below, which past the lowest one is dominant.
+fn next_place(check: &[Literal], place: usize) -> Literal
+    requires { place < 15 }
+    ensures { (v : ℕ → Bool) (u : List Level) → v 0 ≡ false → HoldsCheck v check.now u → value v result ≡ is_recessive (level_at (crc_of u) (place + 1)) }
+{
+    if place == 14 {
+        return FALSE;
+    }
+    literal_at(check, place + 1)
+}
+
+/// What is added at a place.
+fn term_of(fed: Literal, place: usize) -> Literal
+    requires { place < 15 }
+    ensures { (v : ℕ → Bool) → v 0 ≡ false → value v result ≡ (value v fed && is_recessive (level_at lower_terms place)) }
+{
+    if TERMS[place] {
+        return fed;
+    }
+    FALSE
+}
+
+/// Whether levels that have their whole check sequence agree with it: nothing is left of them.
+pub(crate) fn agrees(circuit: &mut Circuit, check: &[Literal]) -> Result<Literal, AllocError>
+    ensures { IfOk result (λ r. Makes circuit.old circuit.new (λ v. (u : List Level) → 15 ≤ length u → HoldsCheck v check.now u → value v r ≡ check_agrees u)) }
+{
+    let mut some = FALSE;
+    for place in 0..PLACES {
+        let level = literal_at(check, place);
+        some = circuit.or(some, level)?;
+    }
+    Ok(some.opposite())
+}

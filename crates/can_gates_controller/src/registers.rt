@@ -1,0 +1,33 @@
+//! All that registers hold of a controller, and what a bit time brings and makes.
+use crate::heard::Heard;
+use can_gates::Literal;
+use can_gates_mac::Controller;
+
+/// A controller with the frame on the bus.
+#[derive(Drop)]
+pub struct Registers {
+    /// The controller but for its frames, with what a bit time has counted and told.
+    pub controller: Controller,
+    /// What is heard of a frame.
+    pub heard: Heard,
+    /// Whether each level of the sender's frame is recessive, up to the end of its data.
+    pub own: Vec<Literal>,
+}
+
+/// A frame that waits.
+#[derive(Drop)]
+pub struct Offered {
+    /// Whether one waits.
+    pub waits: Literal,
+    /// Whether each of its levels is recessive, up to the end of its data.
+    pub levels: Vec<Literal>,
+}
+
+/// What a bit time makes.
+#[derive(Drop)]
+pub struct BitTime {
+    /// What the registers take.
+    pub next: Registers,
+    /// Whether the controller drives recessive.
+    pub recessive: Literal,
+}

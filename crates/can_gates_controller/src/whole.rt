@@ -1,0 +1,96 @@
+//! A bit time of a controller with the frame on the bus.
+ghost use Rattle.std.specs.Prelude.{◌≡◌, ◌<◌, ℕ, Bool, Option, if◌then◌else◌, IfOk, slice_index_or};
+ghost use Rattle.can_frame.specs.declared.level.Level.{Level};
+ghost use Rattle.can_frame.specs.Levels.{is_recessive};
+ghost use Rattle.can_frame.specs.Parts.{Parts};
+ghost use Rattle.can_mac.specs.State.{MacPhase, MacState};
+ghost use Rattle.can_gates.specs.Circuit.{value, Makes};
+ghost use Rattle.can_gates_mac.specs.Driving.{DrivesIn};
+ghost use Rattle.can_gates_mac.specs.Numbers.{is_waiting};
+ghost use Rattle.can_gates_controller.specs.Holding.{is_in_frame};
+ghost use Rattle.can_gates_controller.specs.Following.{IsWithin};
+ghost use Rattle.can_gates_controller.specs.Whole.{HoldsAll, Offers, IsBitTime};
+
+use crate::check::agrees;
+use crate::following::Within;
+use crate::hearing::step_hearing;
+use crate::levels::choose_levels;
+use crate::next_front::within;
+use crate::registers::{BitTime, Offered, Registers};
+use crate::seen::Seen;
+use crate::sending::{is_extended, next_sent};
+use can_gates::{Circuit, FALSE, Literal};
+use can_gates_mac::{Sends, drive};
+use std::alloc::{AllocError, Global};
+
+/// How many places of a sender's frame have a register.
+const PLACES: usize = 103;
+
+/// A bit time of a controller with the frame on the bus: what its registers take, what it drives, and what it tells.
+pub fn bit_time(
+    circuit: &mut Circuit,
+    alloc: Global,
+    held: &Registers,
+    offered: &Offered,
+    seen: Literal,
+) -> Result<BitTime, AllocError>
+    ensures { IfOk result (λ r. Makes circuit.old circuit.new (λ v. (m : MacState) (waiting : Option Parts) (x : Level) → HoldsAll v held.now m → Offers v offered.now waiting → value v seen ≡ is_recessive x → IsBitTime v r held.now m waiting x)) }
+{
+    let sends = reads(circuit, alloc, held, offered.waits)?;
+    let recessive = drive(circuit, alloc, &held.controller, &sends)?;
+    let sees = Seen {
+        waits: offered.waits,
+        seen,
+        agrees: sends.agrees,
+        sent: sends.sent,
+        extended: is_extended(&held.own),
+    };
+    let (controller, heard) = step_hearing(circuit, alloc, &held.controller, &held.heard, &sees)?;
+    let within = within(circuit, alloc, held.controller.wires.phase)?;
+    let own = next_own(circuit, alloc, within, &held.own, &offered.levels)?;
+    Ok(BitTime {
+        next: Registers {
+            controller,
+            heard,
+            own,
+        },
+        recessive,
+    })
+}
+
+/// What is read of registers to drive a level.
+fn reads(
+    circuit: &mut Circuit,
+    alloc: Global,
+    held: &Registers,
+    waits: Literal,
+) -> Result<Sends, AllocError>
+    ensures { IfOk result (λ r. Makes circuit.old circuit.new (λ v. (m : MacState) (waiting : Option Parts) → HoldsAll v held.now m → value v waits ≡ is_waiting waiting → DrivesIn v r m waiting)) }
+{
+    let heard = &held.heard;
+    let agrees = agrees(circuit, &heard.check)?;
+    let due = circuit.and(heard.run.ones, heard.run.fours)?;
+    let sent = next_sent(circuit, alloc, heard, &held.own)?;
+    Ok(Sends {
+        waits,
+        agrees,
+        due,
+        last: heard.last,
+        sent,
+    })
+}
+
+/// The sender's frame behind a bit time: within a frame what it was, else the one that waits.
+fn next_own(
+    circuit: &mut Circuit,
+    alloc: Global,
+    within: Within,
+    own: &[Literal],
+    offered: &[Literal],
+) -> Result<Vec<Literal>, AllocError>
+    ensures { IfOk result (λ r. Makes circuit.old circuit.new (λ v. (p : MacPhase) (place : ℕ) → IsWithin v within p → place < 103 → value v (slice_index_or r.items place FALSE) ≡ (if is_in_frame p then value v (slice_index_or own.now place FALSE) else value v (slice_index_or offered.now place FALSE)))) }
+{
+    let busy = circuit.or(within.part, within.end)?;
+    let made = choose_levels(circuit, alloc, PLACES, busy, own, offered)?;
+    Ok(made)
+}
