@@ -470,22 +470,24 @@ static void bad_wires(void)
     { UINT64_MAX - 1, UINT64_MAX - 1, UINT64_MAX - 2, 11 },
   };
   const riddlesage_hit sound[] = { { 0, 0, 3, 0, RIDDLESAGE_HIT_IN }, { 2, 0, 0, 1, RIDDLESAGE_HIT_VIEW } };
-  riddlesage_wire wire = RIDDLESAGE_WIRE_INIT, fresh = RIDDLESAGE_WIRE_INIT, before;
+  static const riddlesage_wire fresh = RIDDLESAGE_WIRE_INIT;
+  riddlesage_wire wire;
   riddlesage_hit hits[2];
   uint8_t given[2] = { 1, 0 }, seen[2] = { 7, 7 }, unseen[2] = { 7, 7 }, bus = 7, unwritten = 7;
   size_t row;
 
+  memcpy(&wire, &fresh, sizeof wire);
   memcpy(hits, sound, sizeof hits);
   WANT(NULL_POINTER, riddlesage_wire_step(NULL, given, 2, hits, 2, &bus, seen));
   WANT(NULL_POINTER, riddlesage_wire_step(&wire, NULL, 2, hits, 2, &bus, seen));
   WANT(NULL_POINTER, riddlesage_wire_step(&wire, given, 2, NULL, 2, &bus, seen));
   WANT(NULL_POINTER, riddlesage_wire_step(&wire, given, 2, hits, 2, NULL, seen));
   for (row = 0; row < sizeof none / sizeof none[0]; row++) {
-    before = wire = none[row];
+    memcpy(&wire, &none[row], sizeof wire); /* what lies between its fields too */
     want(RIDDLESAGE_BAD_WIRE, riddlesage_wire_step(&wire, given, 2, hits, 2, &bus, seen), "no wire", (int)row);
-    WANT_SAME(before, wire);
+    WANT_SAME(none[row], wire);
   }
-  wire = fresh;
+  memcpy(&wire, &fresh, sizeof wire);
   for (row = 2; row <= UINT8_MAX; row++) {
     given[1] = (uint8_t)row;
     want(RIDDLESAGE_BAD_LEVEL, riddlesage_wire_step(&wire, given, 2, hits, 2, &bus, seen), "no level", (int)row);
