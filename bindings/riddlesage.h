@@ -34,7 +34,8 @@
  * - a riddlesage_port begins as RIDDLESAGE_PORT_INIT or all bytes 0, or is one of riddlesage_port_new(), and is written
  *   by these calls alone. One that was copied as a struct is refused (RIDDLESAGE_MOVED), as long as the original has
  *   not been written over; riddlesage_port_copy() makes a port that is what another one is;
- * - calls for one port don't run at the same time. Ports are independent of each other, and belong to no thread.
+ * - calls for one port, or one wire, don't run at the same time. They are independent of each other, and belong to no
+ *   thread.
  *
  * Only riddlesage_port_new(), riddlesage_port_idle(), riddlesage_port_joining(), riddlesage_port_copy(),
  * riddlesage_play(), riddlesage_run(), riddlesage_decode_trace() and riddlesage_decode_levels() take memory, by malloc.
