@@ -1,16 +1,16 @@
 -- The running check sequence, place by place: a level more, whether it agrees, and what a sender sends of it.
-use Rattle.std.proofs.Common.{◌≡◌, ℕ, zero, suc, ◌+◌, ◌-◌, ◌<◌, ◌≤◌, ◌⊎◌, inl, inr, Bool, true, false, not, ◌&&◌, ◌||◌, cond, List, [], ◌∷◌, ◌++◌, length, take, drop, get_or, replicate, ◌^◌, ◌↔◌, refl, sym, ◌∙◌, ap, subst, arith, length-append}
+use Rattle.std.proofs.Common.{◌≡◌, ℕ, zero, suc, ◌+◌, ◌-◌, ◌<◌, ◌≤◌, ◌⊎◌, inl, inr, Bool, true, false, not, ◌&&◌, ◌||◌, cond, List, [], ◌∷◌, ◌++◌, length, take, drop, get_or, ◌^◌, refl, sym, ◌∙◌, ap, subst, arith, length-append}
 use Rattle.std.specs.Prelude.{nat_lt, IsTrue, if◌then◌else◌}
-use Rattle.std.proofs.Math.Seq.{take-append-add, get_or-append_right}
-use Rattle.std.proofs.lemmas.Bool.{cases_lt, true≢false}
+use Rattle.std.proofs.Math.Seq.{take-append-add}
+use Rattle.std.proofs.lemmas.Bool.{cases_lt}
 use Rattle.std.proofs.lemmas.List.{append-nil, take_all, get_or-map, get_or_past, get_or-drop, take-append-drop, length-take-le, length-drop, length-replicate}
 use Rattle.can_frame.specs.declared.level.Level.{Level}
 use Rattle.can_frame.specs.declared.level.Level.TheVariants.{Dominant, Recessive}
 use Rattle.can_frame.specs.Levels.{is_recessive, bits_of, number_from}
-use Rattle.can_wire.specs.Crc.{plus, xor, lower_terms, scaled, reduced, crc_of, IsCrc}
+use Rattle.can_wire.specs.Crc.{plus, xor, lower_terms, scaled, crc_of, IsCrc}
 use Rattle.can_wire.specs.Layout.{level_at, head_of, check_of}
 use Rattle.can_wire.proofs.DivisionLemmas.{none, length-crc_of}
-use Rattle.can_wire.proofs.XorLemmas.{plus_zero, xor_self, xor_zeros, length-xor}
+use Rattle.can_wire.proofs.XorLemmas.{plus_zero, xor_self, xor_zeros}
 use Rattle.can_wire.proofs.Register.{register, crc_of-on, crc_of-behind_none, register-top}
 use Rattle.can_wire.proofs.LevelLemmas.{bits_of-none}
 use Rattle.can_wire.proofs.LayoutNumbers.{bits_of-number_from, number_from-lt}

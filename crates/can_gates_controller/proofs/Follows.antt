@@ -1,33 +1,32 @@
 -- What a bit time makes of a frame on the bus: of what is heard of it, of whose it is, and what is told.
 use Rattle.std.proofs.Common.{◌≡◌, ℕ, ◌+◌, ◌-◌, Bool, true, false, cond, Option, Some, None, refl, sym, ◌∙◌, ap, length}
-use Rattle.std.specs.Prelude.{nat_lt, nat_le, ◌&&◌}
+use Rattle.std.specs.Prelude.{◌&&◌}
 use Rattle.std.proofs.Math.Dec.{eqb, ltb}
-use Rattle.std.proofs.lemmas.Bool.{cond_both, true≢false}
+use Rattle.std.proofs.lemmas.Bool.{cond_both}
 use Rattle.can_frame.specs.declared.level.Level.{Level}
 use Rattle.can_frame.specs.declared.level.Level.TheVariants.{Dominant, Recessive}
 use Rattle.can_frame.specs.Levels.{same, is_recessive}
 use Rattle.can_frame.specs.Parts.{Parts}
 use Rattle.can_wire.specs.Stuffing.{run_after}
-use Rattle.can_code.specs.Front.{FrontParts, first_front, heard_level}
+use Rattle.can_code.specs.Front.{FrontParts, heard_level}
 use Rattle.can_code.specs.Sending.{sent_level}
 use Rattle.can_fault.specs.declared.cause.Cause.{Cause}
 use Rattle.can_fault.specs.declared.cause.Cause.TheVariants.{FrameSent, FrameReceived}
 use Rattle.can_fault.specs.Counters.{ConfineParts, counted, is_bus_off}
 use Rattle.can_fault.specs.Recovery.{ends_bus_off, recovered}
 use Rattle.can_mac.specs.declared.event.Event.{Event}
-use Rattle.can_mac.specs.declared.event.Event.TheVariants.{Sent, Received, Lost, Error, Overload, WentOff, Recovered}
+use Rattle.can_mac.specs.declared.event.Event.TheVariants.{Sent, Received, Lost, WentOff, Recovered}
 use Rattle.can_mac.specs.declared.event.ErrorKind.{ErrorKind}
 use Rattle.can_mac.specs.declared.event.ErrorKind.TheVariants.{Bit as bit_error, Crc, Form, Stuff, Ack}
 use Rattle.can_mac.specs.declared.moves.Stance.{Stance}
-use Rattle.can_mac.specs.declared.phase.Overloads.{Overloads}
 use Rattle.can_mac.specs.declared.phase.Reading.{Reading}
 use Rattle.can_mac.specs.declared.phase.Role.{Role}
 use Rattle.can_mac.specs.declared.phase.Role.TheVariants.{Receiver, Sender}
 use Rattle.can_mac.specs.declared.phase.Phase.TheVariants.{Joining, Idle, StuffedPart, CrcDelimiter, AckSlot, AckDelimiter, EndOfFrame, ErrorFlag, PassiveFlag, OverloadFlag, AfterFlag, Delimiter, Intermission, Suspend, BusOff}
 use Rattle.can_mac.specs.State.{MacPhase, MacState, is_off_phase}
-use Rattle.can_mac.specs.Moves.{MacMove, error_cause, form_kind, goes, tells, overload, begins_frame, flag, errs_by, errs, errs_in_flag, joining_move, idle_move, reading_of, ends_part, part_phase, hears, in_arbitration, is_uncounted, stuff_error_move, stuff_bit_move, sent_bit_move, bit_move, stuffed_part_move, crc_delimiter_move, ack_slot_move, refuses, ack_delimiter_move, enters_intermission, sender_end_move, receiver_end_move, end_of_frame_move, error_flag_move, overload_flag_move, passive_flag_move, after_flag_move, delimiter_move, is_held_back, next_role, intermission_move, suspend_move, move}
-use Rattle.can_mac.specs.Machine.{stance, state_after_move, step_or_bus_off, step_counting, on_step, off_step, mac_step}
-use Rattle.can_gates_controller.specs.Following.{next_front, next_reading, KeepsOwn, SeesOwn, IsNext, Follows}
+use Rattle.can_mac.specs.Moves.{MacMove, error_cause, form_kind, goes, tells, overload, begins_frame, flag, errs_by, errs, errs_in_flag, joining_move, idle_move, reading_of, ends_part, part_phase, hears, in_arbitration, is_uncounted, stuff_error_move, stuff_bit_move, sent_bit_move, bit_move, stuffed_part_move, crc_delimiter_move, ack_slot_move, refuses, ack_delimiter_move, enters_intermission, end_of_frame_move, error_flag_move, overload_flag_move, passive_flag_move, after_flag_move, delimiter_move, is_held_back, next_role, intermission_move, suspend_move, move}
+use Rattle.can_mac.specs.Machine.{stance, state_after_move, step_counting, on_step, off_step, mac_step}
+use Rattle.can_gates_controller.specs.Following.{KeepsOwn, SeesOwn, IsNext, Follows}
 
 abbrev own_frame : Parts → Role → Parts
 own_frame d Receiver = d

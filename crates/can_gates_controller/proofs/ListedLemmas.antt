@@ -1,5 +1,5 @@
 -- What a list of registers says of each of them.
-use Rattle.std.proofs.Common.{◌≡◌, ℕ, zero, suc, ◌+◌, ◌*◌, ◌-◌, ◌<◌, ◌≤◌, ◌⊎◌, inl, inr, Bool, true, false, ◌&&◌, cond, List, [], ◌∷◌, ◌++◌, length, get_or, refl, sym, ◌∙◌, ap, arith, length-append}
+use Rattle.std.proofs.Common.{◌≡◌, ℕ, zero, suc, ◌+◌, ◌-◌, ◌<◌, ◌≤◌, ◌⊎◌, inl, inr, Bool, true, false, ◌&&◌, cond, List, [], ◌∷◌, ◌++◌, length, get_or, refl, sym, ◌∙◌, ap, arith, length-append}
 use Rattle.std.proofs.Math.Seq.{get_or-append_right}
 use Rattle.std.proofs.Math.Dec.{eqb}
 use Rattle.std.proofs.lemmas.Bool.{cases_lt, cases_eq, ne_eqb}
@@ -7,7 +7,7 @@ use Rattle.std.proofs.lemmas.List.{get_or_append_left, get_or_push}
 use Rattle.can_gates.specs.declared.literal.Literal.{Literal}
 use Rattle.can_gates.specs.declared.aiger.Register.{Register}
 use Rattle.can_gates.specs.Circuit.{value, CircuitParts}
-use Rattle.can_gates.specs.Words.{number, bit}
+use Rattle.can_gates.specs.Words.{number}
 use Rattle.can_gates.proofs.Constants.{never}
 use Rattle.can_gates_mac.specs.declared.nibble.Nibble.{Nibble}
 use Rattle.can_gates_mac.specs.declared.wires.Wires.{Wires}

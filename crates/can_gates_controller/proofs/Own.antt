@@ -1,9 +1,9 @@
 -- The frame of a sender: how long it is, and what it has heard of it.
-use Rattle.std.proofs.Common.{◌≡◌, ◌≢◌, ℕ, ◌+◌, ◌-◌, ◌<◌, ◌≤◌, ◌⊎◌, inl, inr, Bool, true, false, cond, List, [], ◌∷◌, ◌++◌, length, take, replicate, refl, sym, ◌∙◌, ap, subst, arith, length-append}
+use Rattle.std.proofs.Common.{◌≡◌, ℕ, ◌+◌, ◌<◌, ◌≤◌, ◌⊎◌, inl, inr, Bool, true, false, cond, List, [], ◌∷◌, ◌++◌, length, take, refl, sym, ◌∙◌, ap, arith, length-append}
 use Rattle.std.specs.Prelude.{nat_lt}
 use Rattle.std.proofs.Math.Dec.{eqb}
 use Rattle.std.proofs.lemmas.Bool.{cases_lt, cond_both, ltb-true, eqb-false, eq-eqb, true≢false}
-use Rattle.std.proofs.lemmas.List.{take_all, take_more, length-replicate}
+use Rattle.std.proofs.lemmas.List.{take_all, take_more}
 use Rattle.can_frame.specs.declared.level.Level.{Level}
 use Rattle.can_frame.specs.declared.level.Level.TheVariants.{Dominant}
 use Rattle.can_frame.specs.Levels.{is_recessive}
@@ -13,7 +13,7 @@ use Rattle.can_wire.specs.Crc.{crc_of}
 use Rattle.can_wire.specs.Stuffing.{run_after}
 use Rattle.can_wire.specs.Wire.{head, unstuffed}
 use Rattle.can_wire.specs.Layout.{level_at, frame_len, frame_of}
-use Rattle.can_wire.proofs.DivisionLemmas.{none, length-crc_of}
+use Rattle.can_wire.proofs.DivisionLemmas.{none}
 use Rattle.can_wire.proofs.LayoutPlaces.{level_at-dominant}
 use Rattle.can_wire.proofs.LayoutLengths.{frame_len-dominant, frame_len_le}
 use Rattle.can_wire.proofs.LayoutRead.{frame_of-head, head-complete}

@@ -1,11 +1,10 @@
 -- A sender's frame behind a bit time, and the frame that is told.
-use Rattle.std.proofs.Common.{◌≡◌, ℕ, ◌<◌, Bool, true, false, ◌||◌, cond, Option, Some, None, List, length, take, get_or, refl, sym, subst, ◌∙◌, ap}
+use Rattle.std.proofs.Common.{◌≡◌, ℕ, ◌<◌, Bool, true, false, ◌||◌, cond, Option, Some, List, length, take, get_or, refl, subst, ◌∙◌, ap}
 use Rattle.can_frame.specs.declared.level.Level.{Level}
 use Rattle.can_frame.specs.Parts.{Parts}
 use Rattle.can_wire.specs.Wire.{head, unstuffed}
 use Rattle.can_code.specs.Front.{FrontParts, first_front, heard_level}
 use Rattle.can_mac.specs.declared.event.Event.{Event}
-use Rattle.can_mac.specs.declared.event.Event.TheVariants.{Sent, Received}
 use Rattle.can_mac.specs.declared.phase.Role.{Role}
 use Rattle.can_mac.specs.declared.phase.Role.TheVariants.{Sender}
 use Rattle.can_mac.specs.declared.phase.Phase.TheVariants.{StuffedPart, CrcDelimiter, AckSlot, AckDelimiter, EndOfFrame}

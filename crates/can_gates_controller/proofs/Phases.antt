@@ -1,5 +1,5 @@
 -- What follows by the phase.
-use Rattle.std.proofs.Common.{◌≡◌, ℕ, zero, suc, ◌<◌, Bool, true, false, not, ◌&&◌, cond, length, Option, Some, None, List, [], ◌∷◌, get_or, refl, sym, subst, ◌∙◌, ap, arith}
+use Rattle.std.proofs.Common.{◌≡◌, ℕ, zero, suc, ◌<◌, Bool, true, false, not, ◌&&◌, length, Option, Some, None, [], ◌∷◌, get_or, refl, sym, subst, ◌∙◌, ap, arith}
 use Rattle.std.proofs.Math.Dec.{eqb}
 use Rattle.std.proofs.lemmas.Bool.{eqb-true}
 use Rattle.can_frame.specs.declared.level.Level.{Level}
@@ -13,7 +13,7 @@ use Rattle.can_wire.proofs.LayoutLengths.{frame_len_le}
 use Rattle.can_code.specs.Front.{FrontParts, first_front, has_check, heard_level}
 use Rattle.can_mac.specs.declared.phase.Reading.{Reading}
 use Rattle.can_mac.specs.declared.phase.Role.{Role}
-use Rattle.can_mac.specs.declared.phase.Phase.TheVariants.{Joining, Idle, StuffedPart, CrcDelimiter, AckSlot, AckDelimiter, EndOfFrame, ErrorFlag, PassiveFlag, OverloadFlag, AfterFlag, Delimiter, Intermission, Suspend, BusOff}
+use Rattle.can_mac.specs.declared.phase.Phase.TheVariants.{StuffedPart, CrcDelimiter, AckSlot, AckDelimiter, EndOfFrame}
 use Rattle.can_mac.specs.State.{MacPhase, IsOpen, IsPhase}
 use Rattle.can_mac.specs.Moves.{reading_of, ends_part}
 use Rattle.can_gates.specs.Circuit.{value}

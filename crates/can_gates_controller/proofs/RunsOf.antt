@@ -1,5 +1,5 @@
 -- From one bit time to the next, and from reset to any.
-use Rattle.std.proofs.Common.{◌≡◌, ℕ, zero, suc, ◌<◌, Bool, true, false, cond, Option, None, List, length, refl, sym, ◌∙◌, ap, arith}
+use Rattle.std.proofs.Common.{◌≡◌, ℕ, zero, suc, ◌<◌, Bool, true, false, Option, List, length, ◌∙◌, ap, arith}
 use Rattle.can_frame.specs.declared.level.Level.{Level}
 use Rattle.can_frame.specs.Parts.{Parts}
 use Rattle.can_wire.specs.Layout.{level_at}
@@ -7,11 +7,10 @@ use Rattle.std.specs.Prelude.{if◌then◌else◌}
 use Rattle.can_mac.specs.State.{MacState, idle, joining}
 use Rattle.can_mac.specs.Frames.{state_after}
 use Rattle.can_mac.proofs.Kept.{IsMac-idle, IsMac-joining}
-use Rattle.can_gates.specs.Words.{number}
 use Rattle.can_gates_mac.specs.declared.registers.Controller.{Controller}
 use Rattle.can_gates_mac.specs.Numbers.{Numbers}
 use Rattle.can_gates_mac.specs.Shown.{shown}
-use Rattle.can_gates_mac.specs.Stepping.{Holds, reset_numbers}
+use Rattle.can_gates_mac.specs.Stepping.{Holds}
 use Rattle.can_gates_controller.specs.declared.registers.Registers.{Registers}
 use Rattle.can_gates_controller.specs.declared.design.Design.{Design}
 use Rattle.can_gates_controller.specs.Whole.{HoldsAll, IsBitTime}

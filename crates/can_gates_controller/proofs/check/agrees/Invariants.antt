@@ -1,4 +1,4 @@
-use Rattle.std.specs.Prelude.{◌≡◌, ℕ, get_or}
+use Rattle.std.specs.Prelude.{◌≡◌, get_or}
 use Rattle.can_gates.specs.Circuit.{value, Makes}
 use Rattle.can_gates.proofs.Constants.{never}
 use Rattle.can_gates_controller.proofs.Checks.{any_of}

@@ -1,4 +1,4 @@
-use Rattle.std.proofs.Common.{◌≡◌, ◌<◌, ◌∙◌, ◌++◌, ◌∷◌, [], sym, refl, rules, arith}
+use Rattle.std.proofs.Common.{◌≡◌, ◌∙◌, ◌++◌, ◌∷◌, [], sym, rules, arith}
 use Rattle.can_frame.specs.Levels.{is_recessive}
 use Rattle.can_wire.specs.Crc.{crc_of}
 use Rattle.can_wire.specs.Layout.{level_at}

@@ -1,6 +1,5 @@
-use Rattle.std.proofs.Common.{◌≡◌, ◌∙◌, ◌++◌, ◌∷◌, [], get_or, sym, ap, arith, add-one, append_assoc}
+use Rattle.std.proofs.Common.{◌≡◌, ◌∙◌, ◌++◌, ◌∷◌, [], sym, ap, arith, add-one, append_assoc}
 use Rattle.std.proofs.lemmas.List.{append-nil}
-use Rattle.can_gates.proofs.Constants.{never}
 use Rattle.can_gates_controller.specs.Listed.{placed}
 use Rattle.can_gates_controller.proofs.ListedLemmas.{placed_more}
 use Rattle.can_gates_controller.proofs.listing.push_places.Goals as goal

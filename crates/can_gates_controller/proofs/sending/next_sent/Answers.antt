@@ -1,6 +1,5 @@
-use Rattle.std.proofs.Common.{◌≡◌, ◌∙◌, ◌-◌, ◌+◌, get_or, length, sym, refl, ap, arith}
-use Rattle.can_wire.specs.Wire.{head, unstuffed}
-use Rattle.can_wire.specs.Layout.{frame_len}
+use Rattle.std.proofs.Common.{◌≡◌, ◌∙◌, ◌-◌, get_or, length, refl, ap, arith}
+use Rattle.can_wire.specs.Wire.{head}
 use Rattle.can_gates.specs.Circuit.{value}
 use Rattle.can_gates.specs.Words.{number}
 use Rattle.can_gates.proofs.Constants.{never, zero-kept}

@@ -1,4 +1,4 @@
-use Rattle.std.proofs.Common.{◌≡◌, ◌∙◌, get_or, subst, ap}
+use Rattle.std.proofs.Common.{◌∙◌, get_or, subst, ap}
 use Rattle.can_mac.specs.State.{IsRole}
 use Rattle.can_mac.proofs.Kept.{step_kept}
 use Rattle.can_gates.specs.Circuit.{value}

@@ -1,4 +1,4 @@
-use Rattle.std.proofs.Common.{◌≡◌, ◌≤◌, ◌∙◌, get_or, length, sym, subst, ap, arith}
+use Rattle.std.proofs.Common.{◌≤◌, ◌∙◌, get_or, length, sym, subst, ap, arith}
 use Rattle.can_wire.proofs.LayoutLengths.{frame_len_ge}
 use Rattle.can_mac.specs.State.{IsRole}
 use Rattle.can_gates.specs.Circuit.{value}
