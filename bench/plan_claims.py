@@ -98,3 +98,17 @@ def bound(messages: list[Message], place: int, rate: HitRate, limit: int) -> int
     """The least bound for the message at this place, by numbers up to a limit."""
     found = frames(messages, place, rate, limit)
     return None if found is None else max(end for _, end in found)
+
+
+def first_late(messages: list[Message], deadlines: list[int], rate: HitRate, limit: int) -> int | None:
+    """The place of the first message whose bound is above its deadline, or has none; each deadline at its message's."""
+    for place, deadline in enumerate(deadlines):
+        most = bound(messages, place, rate, limit)
+        if most is None or most > deadline:
+            return place
+    return None
+
+
+def shorter(message: Message, percent: int) -> Message:
+    """The same with a period that is shorter by so many per cent."""
+    return message._replace(period=max(1, message.period * (100 - percent) // 100))

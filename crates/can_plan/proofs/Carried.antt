@@ -29,7 +29,7 @@ module _ (f : Message → ℕ) where
   greatest-start a [] = omega arith
   greatest-start a (m ∷ ms) = let one = greatest-start (max a (f m)) ms in let none = greatest-start (max 0 (f m)) ms in omega arith
 
-  greatest-cons : (m : Message) (ms : List Message) → greatest f (m ∷ ms) ≡ max (f m) (greatest f ms)
+  pub greatest-cons : (m : Message) (ms : List Message) → greatest f (m ∷ ms) ≡ max (f m) (greatest f ms)
   greatest-cons m ms = let e = greatest-start (max 0 (f m)) ms in omega arith
 
   greatest-snoc : (m : Message) (ms : List Message) → greatest f (ms ++ m ∷ []) ≡ max (greatest f ms) (f m)

@@ -15,6 +15,8 @@ pub mod Carried
 pub mod Places
 -- and which frame is as late, and why
 pub mod LatestFrames
+-- a network that is asked for less meets the same deadlines
+pub mod Margins
 -- the definitions on numbers worked out by hand
 pub mod Rows
 -- the bus: its levels, its logs, and hits that its ports bear

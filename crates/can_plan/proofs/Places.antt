@@ -14,9 +14,14 @@ split-at (x ∷ ms) (suc k) m e =
     let next : suc k + 1 ≡ suc (k + 1) = omega arith in
     ap (λ l. x ∷ l) (split-at ms k m e) ∙ ap (λ n. x ∷ (take k ms ++ m ∷ drop n (x ∷ ms))) (sym next)
 
+-- a bound holds
+pub holds-at : (most : ℕ → ℕ) (limit : ℕ) (ms : List Message) (k : ℕ) (m : Message) → slice_get ms k ≡ Some m → IsMessageSet ms → (bound : ℕ) →
+    IsBound most limit (ranking_at ms k m) bound → EndAlways most ms m bound
+holds-at most limit ms k m at is bound found =
+    let whole = split-at ms k m at in
+    subst (λ l. EndAlways most l m bound) (sym whole) (ends-always (ranking_at ms k m) most limit bound (subst IsMessageSet whole is) found)
+
 pub some-holds : (most : ℕ → ℕ) (limit : ℕ) (ms : List Message) (k : ℕ) (m : Message) → slice_get ms k ≡ Some m → IsMessageSet ms → (result : Option ℕ) →
     MatchOption result ((other : ℕ) → IsBound most limit (ranking_at ms k m) other → ⊥) (λ b. IsLeastBound most limit (ranking_at ms k m) b) → IfSome result (λ b. EndAlways most ms m b)
 some-holds most limit ms k m at is None found = tt
-some-holds most limit ms k m at is (Some bound) found =
-    let whole = split-at ms k m at in
-    subst (λ l. EndAlways most l m bound) (sym whole) (ends-always (ranking_at ms k m) most limit bound (subst IsMessageSet whole is) found.is)
+some-holds most limit ms k m at is (Some bound) found = holds-at most limit ms k m at is bound found.is

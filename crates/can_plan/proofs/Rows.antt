@@ -1,8 +1,9 @@
 -- The definitions, computed on numbers worked out by hand.
-use Rattle.std.proofs.Common.{◌≡◌, ℕ, [], ◌∷◌, refl, arith}
+use Rattle.std.proofs.Common.{◌≡◌, ℕ, [], ◌∷◌, map, refl, arith}
 use Rattle.can_plan.specs.declared.message.Message.{Message}
 use Rattle.can_plan.specs.Analysis.{Ranking, delayed}
 use Rattle.can_plan.specs.Latest.{end_of, sum_of_parts}
+use Rattle.can_plan.specs.Margins.{shorter}
 
 -- ---- The third message of examples/networks/davis.toml: 122 bit times in each 427, behind one of 122 in each 303 and
 -- one of 121 in each 427. Nothing blocks it, and nothing is hit.
@@ -34,3 +35,20 @@ second-end = refl
 -- 122 of its own, 366 + 242 of the others, and its wire of 119; less 427
 second-parts : sum_of_parts third (record { number = 1; delay = 730; end = 422; earlier = 122; later = 427; hits = 0; hits_cost = 0; short = omega arith }) ≡ 422
 second-parts = refl
+
+-- ---- Periods that are shorter by 2 per cent: 303 · 98 / 100 = 296.94, and 427 · 98 / 100 = 418.46
+
+-- 99 per cent of 50 bit times leave half a one: a whole one
+shorter-most : (shorter 99 (message-of 122 50)).period ≡ 1
+shorter-most = refl
+
+abbrev sooner : Ranking
+sooner = record { higher = map (shorter 2) third.higher; message = shorter 2 third.message; lower = [] }
+
+-- the second frame of the third message waits as long, and is released 418 behind the first: it ends 431 behind its
+-- release, and is late for 427
+sooner-delay : delayed (λ long. 0) sooner 1 730 ≡ 730
+sooner-delay = refl
+
+sooner-end : end_of sooner.message 1 730 ≡ 431
+sooner-end = refl

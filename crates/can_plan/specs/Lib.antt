@@ -8,5 +8,6 @@ pub mod Borne
 pub mod Analysis
 pub mod Carried
 pub mod Latest
+pub mod Margins
 -- For private calls alone
 pub mod Steps

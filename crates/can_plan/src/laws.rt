@@ -6,10 +6,13 @@ ghost use Rattle.can_bus.specs.Course.{Transmission, hits_made};
 ghost use Rattle.can_bus.specs.Network.{AllCountAtMost, CourseIsBorne};
 ghost use Rattle.can_bus.specs.Offers.{call_after, call_level};
 ghost use Rattle.can_bus.specs.Quiet.{AtEachNode};
+ghost use Rattle.can_plan.specs.declared.margin.Strain.{Strain};
+ghost use Rattle.can_plan.specs.declared.message.HitRate.{HitRate};
 ghost use Rattle.can_plan.specs.declared.message.Message.{Message as Sent};
 ghost use Rattle.can_plan.specs.Borne.{AreHitBefore};
 ghost use Rattle.can_plan.specs.Ends.{EndAlways};
-ghost use Rattle.can_plan.specs.Messages.{AreHitAtMost};
+ghost use Rattle.can_plan.specs.Margins.{EndInTime, MeetDeadlines, messages_under};
+ghost use Rattle.can_plan.specs.Messages.{AreHitAtMost, IsMessageSet};
 ghost use Rattle.can_plan.specs.OnBus.{LogNames, OnPlannedCall, StandsWithin};
 
 /// A bound that holds on every course holds on every bus: of each frame of the message the whole wire is recorded, and
@@ -21,6 +24,14 @@ pub fn frames_end_in_time_on_the_bus()
     ensures logs { (most : ℕ → ℕ) (messages : List Sent) (message : Sent) (bound : ℕ) → EndAlways most messages message bound →
         OnPlannedCall most messages message (λ releases place r offers hits bus. (bits : ℕ) → r.released + bound ≤ bits →
         AtEachNode (LogNames offers releases place r) bus.ports (call_after offers hits bits bus).bus.ports) }
+{}
+
+/// Where the analysis gives each deadline as a bound, each frame of each message ends within its deadline on every course
+/// of the bus. A message set stays one as its periods are shorter.
+pub fn deadlines_are_kept()
+    ensures kept { (rate : HitRate) (limit : ℕ) (messages : List Sent) (deadlines : List ℕ) → IsMessageSet messages →
+        MeetDeadlines rate limit messages deadlines → EndInTime rate messages deadlines }
+    ensures strained { (strain : Strain) (more : ℕ) (messages : List Sent) → IsMessageSet messages → IsMessageSet (messages_under strain more messages) }
 {}
 
 /// Fifteen errors in all, those that were counted before included, leave every port error active, wherever they fall.

@@ -11,12 +11,13 @@
 //! | `demand.rt` | what keeps the bus in a stretch of bit times: [`arrivals`] of a message; [`blocking`] by the messages behind one | `specs/Analysis.antt` |
 //! | `response.rt` | [`response_bound`], the least bound that the analysis gives; [`response_after`], one message after another | `specs/Analysis.antt`, `specs/Ends.antt`, `specs/Carried.antt` |
 //! | `parts.rt` | [`latest_frame`], which frame is as late as a bound says, and why: [`Latest`], of `latest.rt` | `specs/Latest.antt` |
+//! | `margin.rt` | [`margin_of`], how much is left until a message misses its deadline: a [`Margin`] of a [`Strain`]; [`first_late`], which one does | `specs/Margins.antt` |
 //! | `borne.rt` | [`borne_for`], for how long a rate of hits is borne wherever they fall | `specs/Borne.antt` |
-//! | `laws.rt` | what a bound says of the levels and logs of a bus; that fifteen hits are borne | `specs/OnBus.antt`, `specs/Borne.antt` |
+//! | `laws.rt` | what a bound says of the levels and logs of a bus; that fifteen hits are borne; that deadlines are kept | `specs/OnBus.antt`, `specs/Borne.antt`, `specs/Margins.antt` |
 //!
 //! The proof goes forward along the course, with a window (`proofs/Windows.antt`): since when the bus has had no older
 //! frame to send of the message and of those before it, and what it has sent since. What each attempt makes of a window
-//! stands in `proofs/Moves.antt`. No call takes memory.
+//! stands in `proofs/Moves.antt`. No call but [`margin_of`] takes memory.
 #![tactic(auto)]
 
 mod borne;
@@ -24,6 +25,7 @@ mod demand;
 mod latest;
 mod laws;
 mod longest;
+mod margin;
 mod message;
 mod parts;
 mod response;
@@ -31,8 +33,9 @@ mod response;
 pub use borne::{Borne, borne_for};
 pub use demand::{arrivals, blocking, own_load};
 pub use latest::Latest;
-pub use laws::{few_hits_are_borne, frames_end_in_time_on_the_bus};
+pub use laws::{deadlines_are_kept, few_hits_are_borne, frames_end_in_time_on_the_bus};
 pub use longest::longest_busy;
+pub use margin::{Margin, Strain, first_late, margin_of};
 pub use message::{HitRate, Message};
 pub use parts::latest_frame;
 pub use response::{Response, response_after, response_bound};

@@ -8,11 +8,12 @@ use Rattle.can_plan.specs.declared.message.HitRate.{HitRate}
 use Rattle.can_plan.specs.declared.message.Message.{Message}
 use Rattle.can_plan.specs.Analysis.{IsBound, IsLeastBound, blocking, ranking_at}
 use Rattle.can_plan.specs.Ends.{EndAlways}
+use Rattle.can_plan.specs.Margins.{is_above}
 use Rattle.can_plan.specs.Messages.{ArePeriodic, IsMessageSet, most_hits}
 use Rattle.can_plan_text.specs.declared.plan.Plan.{Plan}
 use Rattle.can_plan_text.specs.declared.plan.Planned.{Planned}
 use Rattle.can_plan_text.specs.declared.verdict.Verdict.{Verdict}
-use Rattle.can_plan_text.specs.Answers.{AreVerdicts, IsPlanVerdict, Keeps, hit_rate_of, is_above, is_late, limit}
+use Rattle.can_plan_text.specs.Answers.{AreVerdicts, IsPlanVerdict, Keeps, hit_rate_of, is_late, limit}
 use Rattle.can_plan_text.specs.Plans.{messages_of}
 use Rattle.can_plan_text.proofs.InOrder.{message-at}
 

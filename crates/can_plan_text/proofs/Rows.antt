@@ -3,7 +3,7 @@ use Rattle.std.proofs.Common.{◌≡◌, ◌<◌, ℕ, true, false, [], ◌∷�
 use Rattle.std.specs.List.{list_all}
 use Rattle.std.specs.Prelude.{codes}
 use Rattle.toml.specs.Data.{integer}
-use Rattle.can_plan_text.specs.Answers.{is_above}
+use Rattle.can_plan.specs.Margins.{is_above}
 use Rattle.can_plan_text.specs.Names.{IsName, is_name_byte}
 use Rattle.can_plan_text.specs.Plans.{IsPeriod, IsSpacing}
 use Rattle.can_plan_text.specs.Report.{end_text, outcome_text, quoted_text}

@@ -1,11 +1,12 @@
 -- What is answered of each message of a network. (docs/PLANNING.md, "`canplan`")
-use Rattle.std.specs.Prelude.{ℕ, ◌≡◌, ◌↔◌, ◌≤◌, nat_lt, Bool, true, false, List, map, Option, Some, None, MatchOption, unwrap_or, length, slice_get, take}
+use Rattle.std.specs.Prelude.{ℕ, ◌≡◌, ◌↔◌, ◌≤◌, Bool, false, List, map, Option, Some, None, MatchOption, unwrap_or, length, slice_get, take}
 use Rattle.std.specs.List.{count_by}
 use Rattle.can_plan.specs.declared.borne.Borne.{Borne}
 use Rattle.can_plan.specs.declared.message.HitRate.{HitRate}
 use Rattle.can_plan.specs.Analysis.{IsBound, IsLeastBound, Ranking, blocking, ranking_at}
 use Rattle.can_plan.specs.Borne.{Allows}
 use Rattle.can_plan.specs.Ends.{EndAlways}
+use Rattle.can_plan.specs.Margins.{is_above}
 use Rattle.can_plan.specs.Messages.{IsMessageSet, most_hits}
 use Rattle.can_plan_text.specs.declared.verdict.Analysis.{Analysis}
 use Rattle.can_plan_text.specs.declared.verdict.Verdict.{Verdict}
@@ -24,10 +25,6 @@ abbrev pub most_of : Plan → ℕ → ℕ
 most_of plan = most_hits (hit_rate_of plan.errors)
 
 -- no bound was found, or one above the deadline
-abbrev pub is_above : ℕ → Option ℕ → Bool
-is_above deadline None = true
-is_above deadline (Some bound) = nat_lt deadline bound
-
 abbrev pub is_late : Verdict → Bool
 is_late v = is_above v.planned.deadline v.bound
 

@@ -1,17 +1,23 @@
--- What makes the bounds of a network, and the answer that tells it. (docs/PLANNING.md, "What makes a bound")
-use Rattle.std.specs.Prelude.{ℕ, ◌≡◌, ◌+◌, ◌-◌, ◌*◌, ◌==◌, nat_lt, if◌then◌else◌, List, [], ◌++◌, length, take, slice_get, codes, decimal, Option, Some, None}
+-- What makes the bounds of a network, how much is left, and the answer that tells it. (docs/PLANNING.md, "What makes a
+-- bound", "What is left")
+use Rattle.std.specs.Prelude.{ℕ, ◌≡◌, ◌+◌, ◌-◌, ◌*◌, ◌==◌, nat_lt, if◌then◌else◌, List, [], ◌++◌, length, map, take, slice_get, codes, decimal, Option, Some, None, MatchOption}
 use Rattle.std.specs.List.{flat_map}
 use Rattle.can_plan.specs.declared.latest.Latest.{Latest}
+use Rattle.can_plan.specs.declared.margin.Margin.{Margin}
+use Rattle.can_plan.specs.declared.margin.Strain.{Strain}
+use Rattle.can_plan.specs.declared.margin.Strain.TheVariants.{MoreHits, ShorterPeriods}
 use Rattle.can_plan.specs.Analysis.{Ranking, arrivals, ranking_at}
 use Rattle.can_plan.specs.Latest.{IsLatest, sum_of_parts}
+use Rattle.can_plan.specs.Margins.{IsMargin, MeetDeadlines}
 use Rattle.can_plan_text.specs.declared.answer.Form.{Form}
 use Rattle.can_plan_text.specs.declared.answer.Form.TheVariants.{Brief, Detailed}
 use Rattle.can_plan_text.specs.declared.detail.Detail.{Detail}
+use Rattle.can_plan_text.specs.declared.left.Left.{Left}
 use Rattle.can_plan_text.specs.declared.plan.Plan.{Plan}
 use Rattle.can_plan_text.specs.declared.plan.Planned.{Planned}
 use Rattle.can_plan_text.specs.declared.verdict.Analysis.{Analysis}
 use Rattle.can_plan_text.specs.declared.verdict.Verdict.{Verdict}
-use Rattle.can_plan_text.specs.Answers.{IsAnalysis, Keeps, late_in, most_of}
+use Rattle.can_plan_text.specs.Answers.{IsAnalysis, Keeps, hit_rate_of, late_in, limit, most_of}
 use Rattle.can_plan_text.specs.Plans.{IsPlanText, messages_of}
 use Rattle.can_plan_text.specs.Report.{IsAnswer, borne_line, end_text, first_line, head_text, last_line, message_line, slack_text}
 use Rattle.can_plan_text.specs.Times.{time_down, time_up}
@@ -35,6 +41,20 @@ pub record IsDetail (plan : Plan) (at : ℕ) (v : Verdict) (d : Detail) : Type 0
 abbrev pub AreDetails : Plan → List Verdict → List Detail → Type 0
 AreDetails plan verdicts details = (length details ≡ length verdicts)
     × ((n : ℕ) (v : Verdict) (d : Detail) → slice_get verdicts n ≡ Some v → slice_get details n ≡ Some d → IsDetail plan n v d)
+
+-- ---- how much is left
+
+abbrev pub deadlines_of : List Planned → List ℕ
+deadlines_of planned = map (λ p. p.deadline) planned
+
+-- how much more of this the network bears; nothing is told where a message may be late as it is
+abbrev pub IsMarginOf : Plan → Strain → Option Margin → Type 0
+IsMarginOf plan strain margin = MatchOption margin (¬ MeetDeadlines (hit_rate_of plan.errors) limit (messages_of plan.messages.items) (deadlines_of plan.messages.items))
+    (IsMargin strain (hit_rate_of plan.errors) limit (messages_of plan.messages.items) (deadlines_of plan.messages.items))
+
+pub record IsLeft (plan : Plan) (left : Left) : Type 0 where
+  pub periods : IsMarginOf plan ShorterPeriods left.periods
+  pub hits : IsMarginOf plan MoreHits left.hits
 
 -- ---- lines
 
@@ -91,13 +111,36 @@ latest_lines rate higher v (Some l) = time_lines rate v.planned.deadline l.end +
 abbrev pub detail_lines : Plan → Detail → List ℕ
 detail_lines plan d = message_line d.verdict ++ latest_lines plan.rate (take d.place plan.messages.items) d.verdict d.latest
 
--- the whole answer
-abbrev pub details_text : Plan → Analysis → List Detail → List ℕ
-details_text plan analysis details =
-    first_line plan.rate analysis.verdicts.items ++ (flat_map (detail_lines plan) details ++
-    (last_line analysis.verdicts.items ++ borne_line analysis.borne))
+-- the message at a place, if one is told
+abbrev pub told_at : List Planned → Option ℕ → Option Planned
+told_at planned None = None
+told_at planned (Some place) = slice_get planned place
 
--- The answer to a document with details: as the answer without, with what makes each bound below its message's line.
+-- ` 2 per cent late S 300 D 7`, and its name: with so much the first message that may be late
+abbrev pub late_text : List ℕ → ℕ → Option Planned → List ℕ
+late_text unit more None = codes "\n"
+late_text unit more (Some p) = codes " " ++ (decimal more ++ (unit ++ (codes " late " ++ (head_text p ++ end_text p.name))))
+
+-- `shorter periods 1 per cent ok`, and the first message that may be late with one more
+unfoldable pub margin_line : List ℕ → List ℕ → List Planned → Margin → List ℕ
+margin_line word unit planned m = word ++ (decimal m.most ++ (unit ++ (codes " ok" ++ late_text unit (m.most + 1) (told_at planned m.late))))
+
+-- where all are in time as they are
+abbrev pub margin_lines : List ℕ → List ℕ → List Planned → Option Margin → List ℕ
+margin_lines word unit planned None = []
+margin_lines word unit planned (Some m) = margin_line word unit planned m
+
+abbrev pub left_lines : List Planned → Left → List ℕ
+left_lines planned left = margin_lines (codes "shorter periods ") (codes " per cent") planned left.periods ++ margin_lines (codes "more hits ") [] planned left.hits
+
+-- the whole answer
+abbrev pub details_text : Plan → Analysis → List Detail → Left → List ℕ
+details_text plan analysis details left =
+    first_line plan.rate analysis.verdicts.items ++ (flat_map (detail_lines plan) details ++
+    (last_line analysis.verdicts.items ++ (borne_line analysis.borne ++ left_lines plan.messages.items left)))
+
+-- The answer to a document with details: as the answer without, with what makes each bound below its message's line, and
+-- with how much is left behind the last.
 pub record IsDetailedAnswer (input output : List ℕ) (late : ℕ) : Type 0 where
   pub plan : Plan
   pub said : IsPlanText input plan
@@ -105,7 +148,9 @@ pub record IsDetailedAnswer (input output : List ℕ) (late : ℕ) : Type 0 wher
   pub answered : IsAnalysis plan analysis
   pub details : List Detail
   pub detailed : AreDetails plan analysis.verdicts.items details
-  pub written : output ≡ details_text plan analysis details
+  pub left : Left
+  pub leaves : IsLeft plan left
+  pub written : output ≡ details_text plan analysis details left
   pub counted : late ≡ late_in analysis.verdicts.items
   pub kept : (place : ℕ) (v : Verdict) → slice_get analysis.verdicts.items place ≡ Some v → Keeps plan v
 

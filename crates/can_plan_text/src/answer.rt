@@ -9,6 +9,7 @@ use crate::analysis::analysed;
 use crate::details::push_details;
 use crate::fault::PlanFault;
 use crate::latest::details_of;
+use crate::left::left_of;
 use crate::plan::Plan;
 use crate::report::push_report;
 use std::alloc::Global;
@@ -43,7 +44,7 @@ pub fn answered(alloc: Global, text: &[u8]) -> Result<Answer, PlanFault>
 pub enum Form {
     /// A line for each message.
     Brief,
-    /// Below each of these, what makes its bound.
+    /// Below each of these what makes its bound, and last how much is left until a message is late.
     Detailed,
 }
 
@@ -66,8 +67,9 @@ fn detailed(alloc: Global, text: &[u8]) -> Result<Answer, PlanFault>
     let plan = Plan::from_text(alloc, text)?;
     let analysis = analysed(alloc, &plan)?;
     let details = details_of(alloc, &plan, &analysis)?;
+    let left = left_of(alloc, &plan)?;
     let mut bytes = Vec::new(alloc);
-    push_details(&mut bytes, &plan, &analysis, &details)?;
+    push_details(&mut bytes, &plan, &analysis, &details, &left)?;
     Ok(Answer {
         late: analysis.late(),
         bytes,

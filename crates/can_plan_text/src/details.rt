@@ -4,6 +4,8 @@ ghost use Rattle.std.specs.List.{flat_map};
 ghost use Rattle.can_plan_text.specs.Details.{before_line, bits_line, detail_lines, details_text, last_lines, latest_line, latest_lines, number_line, own_lines, part_lines, time_line, time_lines, time_outcome};
 
 use crate::detail::Detail;
+use crate::left::Left;
+use crate::left_text::push_left;
 use crate::plan::{Plan, Planned};
 use crate::report::{
     push_borne, push_end, push_ended, push_first, push_head, push_last, push_message, push_named,
@@ -19,19 +21,21 @@ use std::alloc::AllocError;
 const INTERMISSION: u64 = 3;
 
 /// Appends the answer to a network with details: as it is without, and below the line of each message that has a bound
-/// lines that tell the parts of it.
+/// lines that tell the parts of it; and last how much is left.
 pub(crate) fn push_details(
     out: &mut Vec<u8>,
     plan: &Plan,
     analysis: &Analysis,
     details: &[Detail],
+    left: &Left,
 ) -> Result<(), AllocError>
-    ensures { OnOk result (out.new.items ≡ out.old.items ++ details_text plan.now analysis.now details.now) }
+    ensures { OnOk result (out.new.items ≡ out.old.items ++ details_text plan.now analysis.now details.now left.now) }
 {
     push_first(out, u64::from(plan.rate), analysis)?;
     push_messages(out, plan, details)?;
     push_last(out, analysis)?;
-    push_borne(out, analysis.borne)
+    push_borne(out, analysis.borne)?;
+    push_left(out, &plan.messages, left)
 }
 
 /// Appends the lines of each message.

@@ -13,9 +13,10 @@
 //! | `verdict.rt` | [`Analysis`], what is answered of a network, a [`Verdict`] for each message | `specs/Answers.antt` |
 //! | `analysis.rt` | [`analysed`], which answers it by can_plan | `specs/Answers.antt` |
 //! | `latest.rt` | which frame of each message is the latest, and makes its bound: a `Detail`, of `detail.rt` | `specs/Details.antt` |
+//! | `left.rt` | how much is left of a network: `Left` | `specs/Details.antt` |
 //! | `answer.rt` | [`answered`] and [`answered_in`], a document in, the answer to it out | `specs/Report.antt`, `specs/Details.antt` |
 //! | `report.rt` | [`push_report`], the answer as text | `specs/Report.antt` |
-//! | `details.rt` | the answer with details, as text | `specs/Details.antt` |
+//! | `details.rt`, `left_text.rt` | the answer with details, as text | `specs/Details.antt` |
 //! | `laws.rt` | [`one_plan_field`]: of bytes at most one field is told | `specs/Plans.antt` |
 //! | `fault.rt` | [`PlanFault`], why a document is not read | |
 //! | `field.rt` | [`PlanField`], what is wrong in one | |
@@ -30,6 +31,8 @@ mod fault;
 mod field;
 mod latest;
 mod laws;
+mod left;
+mod left_text;
 mod messages;
 mod name;
 mod names;

@@ -50,6 +50,10 @@ latest, counted from 0, and the parts of its bound:
     hits 0 bits 0
     wire 119
     less periods 1 bits 427
+Where none is late the last two tell by how much all periods may be shorter, and
+how many more hits may come at once, until one is:
+  shorter periods 1 per cent ok 2 per cent late S 300 D 7
+  more hits 0 ok 1 late S 100 D 7
 
 With --timeline it writes a scenario for canbit run instead, in which MESSAGE,
 as 'S 300 D', comes as late as can be where nothing is hit: all before it are

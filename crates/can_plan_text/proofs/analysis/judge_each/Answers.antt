@@ -1,9 +1,10 @@
 use Rattle.std.proofs.Common.{◌≡◌, ℕ, ◌<◌, false, List, length, get_or, Option, MatchOption, ap, subst, sym, arith, rules, ◌∙◌}
 use Rattle.can_plan.specs.declared.message.Message.{Message}
 use Rattle.can_plan.specs.Analysis.{IsBound, IsLeastBound, ranking_at}
+use Rattle.can_plan.specs.Margins.{is_above}
 use Rattle.can_plan.specs.Messages.{ArePeriodic, most_hits}
 use Rattle.can_plan_text.specs.declared.plan.Planned.{Planned}
-use Rattle.can_plan_text.specs.Answers.{is_above, limit}
+use Rattle.can_plan_text.specs.Answers.{limit}
 use Rattle.can_plan_text.proofs.Kept.{kept-by, message-here, periodic, verdicts-more}
 use Rattle.can_plan_text.proofs.analysis.judge_each.Goals as goal
 

@@ -1,0 +1,197 @@
+//! How much is left of a network until a message is late.
+ghost use Rattle.std.specs.Prelude.{◌≡◌, ◌-◌, ◌<◌, ◌≤◌, ℕ, IfOk, MatchOption, map};
+ghost use Rattle.can_plan.specs.Margins.{IsFirstLate, IsFirstUnder, IsMargin, MeetDeadlines, MeetUnder, MeetsDeadline, MeetsUnder, is_above as is_above_of, most_strain as most_strain_of, shorter as shorter_of};
+ghost use Rattle.can_plan.specs.Messages.{ArePeriodic};
+
+use crate::message::{HitRate, Message};
+use crate::response::{are_periodic, response_after};
+use std::alloc::{AllocError, Global};
+
+/// The most per cent by which periods may be asked to be shorter.
+const MOST_PER_CENT: u16 = 99;
+
+/// What a network may be asked to bear beyond what its messages and its rate of hits say.
+#[derive(Clone, Copy, Debug, PartialEq, Eq)]
+pub enum Strain {
+    /// All periods shorter by so many per cent, 99 at most: rounded down to whole bit times, and one at least.
+    ShorterPeriods,
+    /// So many hits more at once, with which the burst is 65,535 at most.
+    MoreHits,
+}
+
+/// How much of it a network bears.
+#[derive(Clone, Copy, Debug)]
+pub struct Margin {
+    /// With so much, and with less, each message meets its deadline.
+    pub most: u16,
+    /// The place of the first message that may be late with one more; none where no more may be asked.
+    pub late: Option<usize>,
+}
+
+/// The place of the first message for which the analysis, with numbers up to the limit, doesn't give its deadline as a
+/// bound; none where there is no such message. Each deadline stands at the place of its message.
+pub fn first_late(
+    messages: &[Message],
+    deadlines: &[u32],
+    rate: &HitRate,
+    limit: u32,
+) -> Option<usize>
+    ensures { ArePeriodic messages.now → MatchOption result (MeetDeadlines rate.now limit messages.now deadlines.now) (IsFirstLate rate.now limit messages.now deadlines.now) }
+{
+    first_late_from(0, messages, deadlines, rate, limit)
+}
+
+/// The same, where each message before this place meets its deadline.
+fn first_late_from(
+    from: usize,
+    messages: &[Message],
+    deadlines: &[u32],
+    rate: &HitRate,
+    limit: u32,
+) -> Option<usize>
+    requires { (k : ℕ) → k < from → MeetsDeadline rate.now limit messages.now deadlines.now k }
+    ensures { ArePeriodic messages.now → MatchOption result (MeetDeadlines rate.now limit messages.now deadlines.now) (IsFirstLate rate.now limit messages.now deadlines.now) }
+{
+    let mut busy = 0;
+    for place in from..messages.len().min(deadlines.len()) {
+        let response = response_after(busy, messages, place, rate, limit);
+        if is_above(u64::from(deadlines[place]), response.bound) {
+            return Some(place);
+        }
+        busy = response.busy;
+    }
+    None
+}
+
+/// Whether there is no bound, or one above the deadline.
+fn is_above(deadline: u64, bound: Option<u64>) -> bool
+    ensures { result ≡ is_above_of deadline bound }
+{
+    match bound {
+        Some(bound) => deadline < bound,
+        None => true,
+    }
+}
+
+/// How much of a strain a network bears until the analysis, with numbers up to the limit, doesn't give each message's
+/// deadline, at its place, as a bound; none where it doesn't as the network is, and where a period is 0. It takes memory for
+/// the messages.
+///
+/// It is found by halves, up to seventeen networks. Before the message that is late with so much none is with less, so each
+/// is looked at from there on.
+pub fn margin_of(
+    alloc: Global,
+    strain: Strain,
+    messages: &[Message],
+    deadlines: &[u32],
+    rate: &HitRate,
+    limit: u32,
+) -> Result<Option<Margin>, AllocError>
+    ensures { ArePeriodic messages.now → IfOk result (λ margin. MatchOption margin (¬ MeetDeadlines rate.now limit messages.now deadlines.now) (IsMargin strain rate.now limit messages.now deadlines.now)) }
+{
+    if !are_periodic(messages) || first_late(messages, deadlines, rate, limit).is_some() {
+        return Ok(None);
+    }
+    Ok(Some(greatest_strain(alloc, strain, messages, deadlines, rate, limit)?))
+}
+
+/// The margin of a network whose messages meet their deadlines.
+fn greatest_strain(
+    alloc: Global,
+    strain: Strain,
+    messages: &[Message],
+    deadlines: &[u32],
+    rate: &HitRate,
+    limit: u32,
+) -> Result<Margin, AllocError>
+    requires periodic { ArePeriodic messages.now }
+    requires met { MeetUnder strain rate.now limit messages.now deadlines.now 0 }
+    ensures { IfOk result (IsMargin strain rate.now limit messages.now deadlines.now) }
+{
+    let mut margin = Margin {
+        most: 0,
+        late: None,
+    };
+    let mut last = most_strain(strain, rate);
+    while margin.most < last {
+        let more = last - (last - margin.most) / 2;
+        let from = margin.late.unwrap_or(0);
+        match first_under(alloc, strain, more, from, messages, deadlines, rate, limit)? {
+            None => margin.most = more,
+            Some(place) => {
+                margin.late = Some(place);
+                last = more - 1;
+            }
+        }
+    }
+    Ok(margin)
+}
+
+/// How much more may be asked at most.
+fn most_strain(strain: Strain, rate: &HitRate) -> u16
+    ensures { result ≡ most_strain_of strain rate.now }
+{
+    match strain {
+        Strain::ShorterPeriods => MOST_PER_CENT,
+        Strain::MoreHits => u16::MAX - rate.burst,
+    }
+}
+
+/// The first message that may be late with so much more, where none before this place is.
+fn first_under(
+    alloc: Global,
+    strain: Strain,
+    more: u16,
+    from: usize,
+    messages: &[Message],
+    deadlines: &[u32],
+    rate: &HitRate,
+    limit: u32,
+) -> Result<Option<usize>, AllocError>
+    requires periodic { ArePeriodic messages.now }
+    requires within { more ≤ most_strain_of strain rate.now }
+    requires met { (k : ℕ) → k < from → MeetsUnder strain rate.now limit messages.now deadlines.now more k }
+    ensures { IfOk result (λ late. MatchOption late (MeetUnder strain rate.now limit messages.now deadlines.now more) (IsFirstUnder strain rate.now limit messages.now deadlines.now more)) }
+{
+    match strain {
+        Strain::ShorterPeriods => {
+            let shorter = all_shorter(alloc, more, messages)?;
+            Ok(first_late_from(from, &shorter, deadlines, rate, limit))
+        }
+        Strain::MoreHits => {
+            let rate = HitRate {
+                burst: rate.burst + more,
+                spacing: rate.spacing,
+            };
+            Ok(first_late_from(from, messages, deadlines, &rate, limit))
+        }
+    }
+}
+
+/// These messages, with periods that are shorter by so many per cent.
+fn all_shorter(
+    alloc: Global,
+    percent: u16,
+    messages: &[Message],
+) -> Result<Vec<Message>, AllocError>
+    requires { percent ≤ 99 }
+    ensures { IfOk result (λ shorter. shorter.items ≡ map (shorter_of percent) messages.now) }
+{
+    let mut all = Vec::new(alloc);
+    for message in messages {
+        all.push(shorter(percent, message))?;
+    }
+    Ok(all)
+}
+
+/// A message with a period that is shorter by so many per cent.
+fn shorter(percent: u16, message: &Message) -> Message
+    requires { percent ≤ 99 }
+    ensures { result ≡ shorter_of percent message.now }
+{
+    let period = u64::from(message.period) * u64::from(100 - percent) / 100;
+    Message {
+        period: period.max(1) as u32,
+        ..*message
+    }
+}
