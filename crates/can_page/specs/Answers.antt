@@ -46,6 +46,10 @@ bad_scenario = answer_code BadScenario
 abbrev pub no_port : ℕ
 no_port = answer_code NoPort
 
+-- memory ran out
+abbrev pub no_memory : ℕ
+no_memory = answer_code NoMemory
+
 -- the document says no network
 abbrev pub bad_plan : ℕ
 bad_plan = answer_code BadPlan

@@ -1,5 +1,5 @@
-ghost use Rattle.std.specs.Prelude.{◌≡◌, [], false, true, IfSome, Some};
-ghost use Rattle.can_page.specs.Answers.{answer_code, bad_plan, done};
+ghost use Rattle.std.specs.Prelude.{◌≡◌, ◌⊎◌, [], false, true, IfSome, Some};
+ghost use Rattle.can_page.specs.Answers.{bad_plan, done, no_memory, no_room};
 ghost use Rattle.can_page.specs.Codes.{form_of};
 ghost use Rattle.can_page.specs.Lines.{is_full, lines_of};
 ghost use Rattle.can_page.specs.Plain.{wrong_in_plan};
@@ -27,7 +27,8 @@ pub extern "C" fn page_plan(
 ) -> u8
     ensures answer { result ≡ done → IsAnswerIn (form_of details) text.now (lines_of out.new) late.new }
     ensures wrong { result ≡ bad_plan → (field : Wrong) × (IsWrongPlanField field text.now × (wrong.new ≡ wrong_in_plan field)) }
-    ensures room { result ≡ answer_code Answer.NoRoom → is_full out.new ≡ true }
+    ensures answers { (result ≡ done) ⊎ (result ≡ bad_plan) ⊎ (result ≡ no_room) ⊎ (result ≡ no_memory) }
+    ensures room { result ≡ no_room → is_full out.new ≡ true }
 {
     out.clear();
     plan_onto(alloc, form(details), text, out, late, wrong).code()
@@ -53,6 +54,7 @@ pub(crate) fn plan_onto<W: Sink>(
     requires empty { W.contents out.old ≡ Some [] }
     ensures answer { result ≡ Answer.Done → IfSome (W.contents out.new) (λ bytes. IsAnswerIn form text.now bytes late.new) }
     ensures wrong { result ≡ Answer.BadPlan → (field : Wrong) × (IsWrongPlanField field text.now × (wrong.new ≡ wrong_in_plan field)) }
+    ensures answers { (result ≡ Answer.Done) ⊎ (result ≡ Answer.BadPlan) ⊎ (result ≡ Answer.NoRoom) ⊎ (result ≡ Answer.NoMemory) }
     ensures room { result ≡ Answer.NoRoom → W.has_failed out.new ≡ true }
 {
     match answered_in(alloc, form, text) {

@@ -1,5 +1,5 @@
-ghost use Rattle.std.specs.Prelude.{◌≡◌, [], false, true, IfSome, Some};
-ghost use Rattle.can_page.specs.Answers.{answer_code, bad_plan, done, no_message, too_long};
+ghost use Rattle.std.specs.Prelude.{◌≡◌, ◌⊎◌, [], false, true, IfSome, Some};
+ghost use Rattle.can_page.specs.Answers.{bad_plan, done, no_memory, no_message, no_room, too_long};
 ghost use Rattle.can_page.specs.Lines.{is_full, lines_of};
 ghost use Rattle.can_page.specs.Plain.{wrong_in_plan};
 ghost use Rattle.can_plan_text.specs.Plans.{IsWrongPlanField};
@@ -28,7 +28,8 @@ pub extern "C" fn page_worst_case(
     ensures wrong { result ≡ bad_plan → (field : Wrong) × (IsWrongPlanField field text.now × (wrong.new ≡ wrong_in_plan field)) }
     ensures unknown { result ≡ no_message → IsUnknown text.now name.now }
     ensures unending { result ≡ too_long → IsUnending text.now name.now }
-    ensures room { result ≡ answer_code Answer.NoRoom → is_full out.new ≡ true }
+    ensures answers { (result ≡ done) ⊎ (result ≡ bad_plan) ⊎ (result ≡ no_message) ⊎ (result ≡ too_long) ⊎ (result ≡ no_room) ⊎ (result ≡ no_memory) }
+    ensures room { result ≡ no_room → is_full out.new ≡ true }
 {
     out.clear();
     worst_case_onto(alloc, text, name, out, wrong).code()
@@ -48,6 +49,7 @@ fn worst_case_onto<W: Sink>(
     ensures wrong { result ≡ Answer.BadPlan → (field : Wrong) × (IsWrongPlanField field text.now × (wrong.new ≡ wrong_in_plan field)) }
     ensures unknown { result ≡ Answer.NoMessage → IsUnknown text.now name.now }
     ensures unending { result ≡ Answer.TooLong → IsUnending text.now name.now }
+    ensures answers { (result ≡ Answer.Done) ⊎ (result ≡ Answer.BadPlan) ⊎ (result ≡ Answer.NoMessage) ⊎ (result ≡ Answer.TooLong) ⊎ (result ≡ Answer.NoRoom) ⊎ (result ≡ Answer.NoMemory) }
     ensures room { result ≡ Answer.NoRoom → W.has_failed out.new ≡ true }
 {
     match timeline(alloc, text, name) {
