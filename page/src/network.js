@@ -4,7 +4,8 @@ import { makingsOf } from './bound_parts.js';
 import { makingsView } from './bound_view.js';
 import { ANSWER } from './core.js';
 import { DocumentView } from './document_view.js';
-import { byId, copyText, download } from './draw.js';
+import { byId, copyText, download, html } from './draw.js';
+import { leftItems } from './left_view.js';
 import { answerOf } from './network_answer.js';
 import { BoundsView } from './network_bounds.js';
 import { networkFault } from './network_fault.js';
@@ -55,7 +56,10 @@ export class NetworkView extends DocumentView {
     if (!told || !(await this.isFilled())) return;
     if (told.answer === ANSWER.badPlan) this.refuseField(told.wrong);
     else if (told.answer !== ANSWER.done) this.refuseForMemory();
-    else this.show(answerOf(told.lines), told.late, took);
+    else {
+      this.show(answerOf(told.lines), told.late, took);
+      if (told.late === 0) await this.showLeft(bytes);
+    }
   }
 
   /**
@@ -70,10 +74,21 @@ export class NetworkView extends DocumentView {
     const deadlines = late === 0 ? 'all deadlines are met' : `${late.toLocaleString('en')} of ${counted(verdicts.length, 'message')} late: deadlines missed`;
     byId('network-told').textContent = `Load ${load}, ${deadlines}. Answered in ${Math.ceil(took)} ms.`;
     byId('network-borne').textContent = borneWords(borne);
+    byId('network-left').replaceChildren();
     byId('network-answer').textContent = text;
     byId('network-shown').hidden = false;
     this.bounds.show(verdicts);
     this.enter('shown');
+  }
+
+  /** Shows how much is left of a network that is shown, until a message is late. @param {Uint8Array} bytes the network */
+  async showLeft(bytes) {
+    try {
+      const told = await this.runs.left(bytes);
+      if (told?.answer === ANSWER.done) byId('network-left').replaceChildren(...leftItems(told.margins, Number(formOf(this.document.text)?.burst ?? 0)));
+    } catch (error) {
+      byId('network-left').replaceChildren(html('li', {}, [`This browser could not tell what is left (${error.message}). The program canplan can.`]));
+    }
   }
 
   /**

@@ -81,6 +81,13 @@ export class Runs {
   makings(text, frame) { return this.newest({ ask: 'makings', text, frame }); }
 
   /**
+   * How much is left of a network until a message is late; none where another text came meanwhile.
+   * @param {Uint8Array} text
+   * @returns {Promise<{answer: number, margins: import('./left.js').Margin[]} | null>}
+   */
+  left(text) { return this.newest({ ask: 'left', text }); }
+
+  /**
    * The worst case of a message in a network, as a scenario; none where another text came meanwhile.
    * @param {Uint8Array} text
    * @param {Uint8Array} name of the message

@@ -2,6 +2,7 @@
 import { linesBelow } from './bound_parts.js';
 import { ANSWER, Core, TIME_BYTES } from './core.js';
 import { indexOf } from './bus_times.js';
+import { marginsOf } from './left.js';
 import { indexReport } from './report.js';
 
 /** @type {Promise<Core> | null} */
@@ -28,6 +29,10 @@ const ANSWERS = Object.freeze({
   makings: (code, { text, frame }) => {
     const { answer, lines } = code.plan(text, true);
     return { told: { answer, lines: linesBelow(new TextDecoder().decode(lines), frame) }, handed: [] };
+  },
+  left: (code, { text }) => {
+    const { answer, lines } = code.plan(text, true);
+    return { told: { answer, margins: marginsOf(new TextDecoder().decode(lines)) }, handed: [] };
   },
   worstCase: (code, { text, name }) => {
     const told = code.worstCase(text, name);

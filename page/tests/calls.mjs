@@ -38,7 +38,7 @@ load 0.971 late 1 of 3
 
 /** A message alone, of the frame of WIRE, which keeps the bus for 53 bit times; and its worst case: no other is offered, and the bus is free behind it. */
 const LONE = 'version = 1\n[[message]]\nframe = "S 000 D"\ndlc = 0\nperiod = 53\n';
-/** What makes its bound: its wire alone. */
+/** What makes its bound: its wire alone; and what is left: nothing. */
 const DETAILS = `network messages 1 load 1.000 rate 0
 S 000 D 0 longest 53 blocking 0 bound 50 deadline 53 slack 3 ok
   latest frame 0 start 0
@@ -49,6 +49,8 @@ S 000 D 0 longest 53 blocking 0 bound 50 deadline 53 slack 3 ok
   wire 50
   less periods 0 bits 0
 load 1.000 late 0 of 1
+shorter periods 0 per cent ok 1 per cent late S 000 D 0
+more hits 0 ok 1 late S 000 D 0
 `;
 const WORST = `version = 2
 bits = 54

@@ -4,6 +4,7 @@ import { pathToFileURL } from 'node:url';
 import { Browser } from './browser.mjs';
 import { accessTests } from './access.mjs';
 import { boundPartsTests } from './bound_parts.mjs';
+import { leftTests } from './left.mjs';
 import { busTests } from './bus.mjs';
 import { busFaultTests } from './bus_faults.mjs';
 import { busSpeedTests } from './bus_speed.mjs';
@@ -28,7 +29,7 @@ const only = new RegExp(process.env.PAGE_TEST ?? '');
 let passed = 0;
 let failed = 0;
 
-for (const [name, test] of [...moduleTests, ...pageTests, ...taskTests, ...callTests, ...encodeTests, ...decodeTests, ...busTests, ...busViewTests, ...busFaultTests, ...busSpeedTests, ...networkTests, ...networkFaultTests, ...boundPartsTests, ...worstCaseTests, ...linkTests, ...accessTests].filter(([name]) => only.test(name))) {
+for (const [name, test] of [...moduleTests, ...pageTests, ...taskTests, ...callTests, ...encodeTests, ...decodeTests, ...busTests, ...busViewTests, ...busFaultTests, ...busSpeedTests, ...networkTests, ...networkFaultTests, ...boundPartsTests, ...leftTests, ...worstCaseTests, ...linkTests, ...accessTests].filter(([name]) => only.test(name))) {
   const pages = [];
   const open = async (how) => {
     const page = await browser.open(place.address, how);
