@@ -2,6 +2,7 @@
 import { ANSWER, MOST_TIMES } from './core.js';
 
 /** @typedef {import('./core.js').WrongField} WrongField */
+/** @typedef {import('./left.js').Margin} Margin */
 
 /** No more workers than these, each of which takes as much memory as the page. */
 const MOST_WORKERS = 4;
@@ -83,7 +84,7 @@ export class Runs {
   /**
    * How much is left of a network until a message is late; none where another text came meanwhile.
    * @param {Uint8Array} text
-   * @returns {Promise<{answer: number, margins: import('./left.js').Margin[]} | null>}
+   * @returns {Promise<{answer: number, margins: Margin[]} | null>}
    */
   left(text) { return this.newest({ ask: 'left', text }); }
 
