@@ -1,5 +1,5 @@
-//! Tests of can_fault, can_mac, can_c_handle and can_conform over their public items alone: of each in a module of its name.
-//! These crates are proved once, and their tests beside their edits.
+//! Tests of can_fault, can_mac, can_node, can_c_handle and can_conform over their public items alone: of each in a module of
+//! its name. These crates are proved once, and their tests beside their edits.
 #![tactic(auto)]
 
 #[cfg(test)]
@@ -10,3 +10,5 @@ mod fault;
 mod handle;
 #[cfg(test)]
 mod mac;
+#[cfg(test)]
+mod node;

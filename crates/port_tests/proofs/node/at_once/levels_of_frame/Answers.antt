@@ -2,7 +2,7 @@ use Rattle.std.proofs.Common.{◌++◌, ◌∷◌, [], ap, ◌∙◌}
 use Rattle.can_frame.specs.declared.level.Level.TheVariants.{Recessive}
 use Rattle.can_wire.specs.Heard.{spelling}
 use Rattle.can_wire.proofs.SpellingLemmas.{spelling-sent}
-use Rattle.can_node_tests.proofs.tests.at_once.levels_of_frame.Goals as goal
+use Rattle.port_tests.proofs.node.at_once.levels_of_frame.Goals as goal
 
 pub returns : goal.returns
 returns c =

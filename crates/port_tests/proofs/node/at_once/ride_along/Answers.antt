@@ -4,8 +4,8 @@ use Rattle.can_wire.specs.Wire.{stuffed_part}
 use Rattle.can_mac.specs.Frames.{with_intermission}
 use Rattle.can_mac.proofs.FrameParts.{length-with_intermission}
 use Rattle.can_node.specs.Passing.{LetsPass}
-use Rattle.can_node_tests.proofs.Leaders.{leader_hears}
-use Rattle.can_node_tests.proofs.tests.at_once.ride_along.Goals as goal
+use Rattle.port_tests.proofs.Leaders.{leader_hears}
+use Rattle.port_tests.proofs.node.at_once.ride_along.Goals as goal
 
 pub ride-requires-clause-leader : goal.ride-requires-clause-leader
 ride-requires-clause-leader g c =
