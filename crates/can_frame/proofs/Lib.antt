@@ -19,6 +19,8 @@ pub mod OneText
 -- For this crate.
 -- keys
 pub mod KeyLemmas
+-- the arbitration field of a frame of each kind
+pub mod FieldRows
 pub mod LayoutLemmas
 -- the text of a frame
 pub mod TextRows

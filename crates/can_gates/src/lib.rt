@@ -20,7 +20,7 @@
 //! signals, 2^32. Behind it a circuit may have gates that nothing names.
 //!
 //! A gate that would be made again is found by its sides in a map. What the map tells is looked at before it is used, so the
-//! laws need nothing of it; that equal gates are made once is tested (can_gates_tests).
+//! laws need nothing of it; that equal gates are made once is tested (tests/rows).
 #![tactic(auto)]
 
 mod aiger;

@@ -1,2 +1,0 @@
--- a port that has led through the first levels of a frame
-mod Leaders

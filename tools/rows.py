@@ -1,0 +1,29 @@
+"""The crates of tests/rows, put among the crates of a copy of the repository."""
+
+from __future__ import annotations
+
+import os
+import shutil
+
+# files of Rattle outside of crates/, where rt ci lets none end in .rt
+SUFFIX = ".rattle"
+
+
+def crates_of(root: str) -> dict[str, str]:
+    """The lines of tests/rows/crates.txt, by crate."""
+    with open(f"{root}/tests/rows/crates.txt", encoding="utf-8") as it:
+        return {line.partition(":")[0]: line for line in it if line.strip() and not line.startswith("#")}
+
+
+def put_rows(root: str, to: str) -> None:
+    """Puts the crates of tests/rows of a repository among those of a copy of it."""
+    lines = crates_of(root)
+    for crate in lines:
+        source = f"{root}/tests/rows/{crate}"
+        for folder, _, files in os.walk(source):
+            made = f"{to}/crates/{crate}/src/{os.path.relpath(folder, source)}"
+            os.makedirs(made, exist_ok=True)
+            for it in files:
+                shutil.copyfile(f"{folder}/{it}", f"{made}/{it.removesuffix(SUFFIX)}.rt")
+    with open(f"{to}/crates.txt", "a", encoding="utf-8") as out:
+        out.writelines(lines.values())
