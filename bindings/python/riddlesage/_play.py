@@ -43,18 +43,9 @@ def play(
     on; before it the wire counts as recessive. The ports go on from where they stand, and stand where they are behind
     it. What is refused changes none of them.
     """
-    for port in ports:
-        if not isinstance(port, Port):
-            raise TypeError(f"a Port is wanted, and not {type(port).__name__}")
-    if len({id(port) for port in ports}) < len(ports):
-        raise Refused(Status.BAD_BUS)
-    given = [PlainOffer(count_in(time), _place(place), plain_of(frame)) for time, place, frame in offers]
-    given.sort(key=lambda offer: int(offer.time))
-    hits = [PlainHit(time=time, kind=HitKind.AT) for time in sorted({count_in(time) for time in hit_at})]
-    inside = sorted({(count_in(attempt), count_in(offset)) for attempt, offset in hit_in})
-    hits += [PlainHit(attempt=attempt, offset=offset, kind=HitKind.IN) for attempt, offset in inside]
-    seen = sorted({(count_in(time), _place(place)) for time, place in view})
-    hits += [PlainHit(time=time, port=place, kind=HitKind.VIEW) for time, place in seen]
+    _demand_bus(ports)
+    given = _plain_offers(offers)
+    hits = _plain_hits(hit_at, hit_in, view)
     length, refused = count_in(bits), ctypes.c_size_t()
     levels = Room(length)
     with contextlib.ExitStack() as held:
@@ -76,6 +67,32 @@ def play(
         raise MemoryError
     demand(status)
     return Played(levels.filled(), refused.value)
+
+
+def _demand_bus(ports: Sequence[Port]) -> None:
+    """Refuses what is no port, and a bus on which a port stands twice."""
+    for port in ports:
+        if not isinstance(port, Port):
+            raise TypeError(f"a Port is wanted, and not {type(port).__name__}")
+    if len({id(port) for port in ports}) < len(ports):
+        raise Refused(Status.BAD_BUS)
+
+
+def _plain_offers(offers: Iterable[tuple[int, int, Frame]]) -> list[PlainOffer]:
+    """The offers in the order of their times; those of one time as they came."""
+    given = [PlainOffer(count_in(time), _place(place), plain_of(frame)) for time, place, frame in offers]
+    return sorted(given, key=lambda offer: int(offer.time))
+
+
+def _plain_hits(
+    hit_at: Iterable[int], hit_in: Iterable[tuple[int, int]], view: Iterable[tuple[int, int]]
+) -> list[PlainHit]:
+    """The three lists of hits behind each other, each in order and without what stands in it twice."""
+    hits = [PlainHit(time=time, kind=HitKind.AT) for time in sorted({count_in(time) for time in hit_at})]
+    inside = sorted({(count_in(attempt), count_in(offset)) for attempt, offset in hit_in})
+    hits += [PlainHit(attempt=attempt, offset=offset, kind=HitKind.IN) for attempt, offset in inside]
+    seen = sorted({(count_in(time), _place(place)) for time, place in view})
+    return hits + [PlainHit(time=time, port=place, kind=HitKind.VIEW) for time, place in seen]
 
 
 def count_in(value: int) -> int:
