@@ -1,5 +1,5 @@
 -- The bytes of a number, moved up to stand first among eight.
-use Rattle.std.proofs.Common.{◌≡◌, ℕ, zero, suc, ◌+◌, ◌-◌, ◌*◌, ◌/◌, ◌%◌, ◌^◌, ◌<◌, ◌≤◌, ◌∷◌, ◌++◌, length, take, drop, replicate, refl, sym, ◌∙◌, ap, arith}
+use Rattle.std.proofs.Common.{◌≡◌, ℕ, zero, suc, ◌+◌, ◌-◌, ◌*◌, ◌/◌, ◌%◌, ◌^◌, ◌<◌, ◌≤◌, List, [], ◌∷◌, ◌++◌, length, take, drop, get_or, replicate, refl, sym, ◌∙◌, ap, arith}
 use Rattle.std.specs.Int.{byte_at, bytes_high_first, to_be_bytes, w64}
 use Rattle.std.proofs.Math.Nat.{div-div-eq-div-mul, mul-div_cancel}
 use Rattle.std.proofs.lemmas.List.{drop_at, take_at}
@@ -7,7 +7,7 @@ use Rattle.std.proofs.lemmas.Nat.{pow-add, pow_pos, shl_below, shl_whole}
 
 -- ---- powers
 
-power-256 : (k : ℕ) → 256 ^ k ≡ 2 ^ (8 * k)
+pub power-256 : (k : ℕ) → 256 ^ k ≡ 2 ^ (8 * k)
 power-256 zero = refl
 power-256 (suc k) =
     let last : 256 ^ suc k ≡ 256 ^ k * 256 ^ 1 = ap (λ m. 256 ^ m) (let e : suc k ≡ k + 1 = omega arith in e) ∙ pow-add 256 k 1 in
@@ -21,6 +21,14 @@ power-positive k = omega (arith, power-256 k, pow_pos (8 * k))
 byte_at-quotient : (i n : ℕ) → byte_at i n ≡ n / 256 ^ i % 256
 byte_at-quotient zero n = ap (λ m. m % 256) (let e : n ≡ n / 256 ^ 0 = omega arith in e)
 byte_at-quotient (suc i) n = refl
+
+-- zeros behind bytes are bytes
+pub filled-small : (bytes : List ℕ) (filling i : ℕ) → ((k : ℕ) → get_or bytes k 0 < 256) → get_or (bytes ++ replicate filling 0) i 0 < 256
+filled-small [] zero i small = omega arith
+filled-small [] (suc filling) zero small = omega arith
+filled-small [] (suc filling) (suc i) small = filled-small [] filling i small
+filled-small (b ∷ bytes) filling zero small = small 0
+filled-small (b ∷ bytes) filling (suc i) small = filled-small bytes filling i (λ k. small (suc k))
 
 -- a byte moves up with its number
 byte_at-up : (i k n : ℕ) → byte_at (i + k) (n * 256 ^ k) ≡ byte_at i n

@@ -33,6 +33,14 @@ hex_digits-one_mod n =
     hex_digits-one n ∙ ap (λ m. get_or lower_digits m 0 ∷ []) (let e : n % 16 ≡ n % 16 % 16 = omega arith in e)
     ∙ sym (hex_digits-one (n % 16))
 
+-- two digits tell of the lowest byte
+pub two_of_byte : (n : ℕ) → hex_digits 2 n ≡ hex_digits 2 (n % 256)
+unfolding hex_digits
+two_of_byte n =
+    let high : n / 16 ^ 1 % 16 ≡ n % 256 / 16 ^ 1 % 16 = omega arith in
+    let low : n / 16 ^ 0 % 16 ≡ n % 256 / 16 ^ 0 % 16 = omega arith in
+    λ i. get_or lower_digits (high i) 0 ∷ get_or lower_digits (low i) 0 ∷ []
+
 -- one more digit at the end
 pub hex_digits-push : (k n d : ℕ) → d < 16 → hex_digits (k + 1) (16 * n + d) ≡ hex_digits k n ++ hex_digits 1 d
 hex_digits-push k n d small =

@@ -9,10 +9,6 @@ use Rattle.can_frame.specs.declared.level.Level.TheVariants.{Dominant, Recessive
 use Rattle.can_frame.specs.Levels.{level_of, bits_of, number_from}
 pub use Rattle.can_frame.specs.LevelNumbers.{bit_cases, length-bits_of, number_from-bits_of, number_from-whole}
 
-pub bits_of-none : (x : ℕ) → bits_of 0 x ≡ []
-unfolding bits_of
-bits_of-none x = refl
-
 -- the levels depend on the bits alone
 pub bits_of-same : (n x y : ℕ) → ((i : ℕ) → i < n → bit_at x i ≡ bit_at y i) → bits_of n x ≡ bits_of n y
 unfolding bits_of

@@ -3,7 +3,7 @@ use Rattle.std.proofs.Common.{◌≡◌, ◌≢◌, ℕ, zero, suc, true, false,
 use Rattle.std.specs.Bool.{Decides}
 use Rattle.can_frame.specs.declared.level.Level.{Level}
 use Rattle.can_frame.specs.declared.level.Level.TheVariants.{Dominant, Recessive}
-use Rattle.can_frame.specs.Levels.{is_recessive, level_from, level_of, same}
+use Rattle.can_frame.specs.Levels.{is_recessive, level_from, level_of, opposite, same}
 
 pub level_told : (x : Level) → level_from (is_recessive x) ≡ x
 level_told Dominant = refl
@@ -16,6 +16,10 @@ level_dominant Recessive h = cc
 pub level_recessive : (x : Level) → is_recessive x ≡ true → x ≡ Recessive
 level_recessive Dominant h = cc
 level_recessive Recessive h = refl
+
+pub opposite-twice : (x : Level) → opposite (opposite x) ≡ x
+opposite-twice Dominant = refl
+opposite-twice Recessive = refl
 
 pub recessive_above : (code : ℕ) → code ≢ 0 → Recessive ≡ level_of code
 recessive_above zero h = absurd (h refl)

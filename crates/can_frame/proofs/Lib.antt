@@ -2,6 +2,8 @@
 -- the levels of a number, and the number of levels
 pub mod LevelLemmas
 pub mod LevelTests
+-- levels with the same digits
+pub mod LevelDigits
 -- which of two lists is before the other
 pub mod BeforeLemmas
 -- arbitration fields: how two are ranked, that none begins another, and what one tells

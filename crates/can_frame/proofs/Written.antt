@@ -4,23 +4,15 @@ use Rattle.std.specs.Int.{byte_at, bytes_high_first}
 use Rattle.std.proofs.lemmas.List.{append-nil, take_more}
 use Rattle.std.proofs.lemmas.Nat.{pow-add, mul-pow}
 use Rattle.std.proofs.Math.Nat.{pow-suc}
-use Rattle.hex.specs.Hex.{encode_lower, lower_digits}
+use Rattle.hex.specs.Hex.{encode_lower}
 use Rattle.can_frame.specs.Ident.{Ident}
 use Rattle.can_frame.specs.Parts.{Parts}
 use Rattle.can_frame.specs.Text.{frame_text, letter_part, direction_part, hex_digits, decimal_digits, blank_before}
 use Rattle.can_frame.specs.TextParts.{letter_spelling, identifier_spelling}
 use Rattle.can_frame.proofs.PartsTold.{letter_part_is, direction_part_is}
-use Rattle.can_frame.proofs.HexDigits.{hex_digits-add, encode_lower-append, encode_lower-cons, encode_lower-nil}
+use Rattle.can_frame.proofs.HexDigits.{hex_digits-add, encode_lower-append, encode_lower-cons, encode_lower-nil, two_of_byte}
 
 -- ---- the digits of a number's bytes
-
--- two digits tell of the lowest byte
-two_of_byte : (n : ℕ) → hex_digits 2 n ≡ hex_digits 2 (n % 256)
-unfolding hex_digits
-two_of_byte n =
-    let high : n / 16 ^ 1 % 16 ≡ n % 256 / 16 ^ 1 % 16 = omega arith in
-    let low : n / 16 ^ 0 % 16 ≡ n % 256 / 16 ^ 0 % 16 = omega arith in
-    λ i. get_or lower_digits (high i) 0 ∷ get_or lower_digits (low i) 0 ∷ []
 
 power_is : (k : ℕ) → 256 ^ k ≡ 16 ^ (2 * k)
 power_is k = mul-pow 16 16 k ∙ sym (pow-add 16 k k) ∙ ap (λ m. 16 ^ m) (omega arith)
