@@ -1,13 +1,12 @@
 -- The check sequence of a number's levels by its bytes.
-use Rattle.std.proofs.Common.{◌≡◌, ℕ, zero, suc, ◌+◌, ◌*◌, ◌/◌, ◌%◌, ◌^◌, ◌<◌, ◌≤◌, List, ◌++◌, length, get_or, refl, sym, ◌∙◌, ap, arith, length-append}
+use Rattle.std.proofs.Common.{◌≡◌, ℕ, zero, suc, ◌+◌, ◌*◌, ◌/◌, ◌%◌, ◌^◌, ◌<◌, ◌≤◌, List, ◌++◌, length, get_or, sym, ◌∙◌, ap, arith, length-append}
 use Rattle.std.specs.Prelude.{bit_xor}
 use Rattle.std.specs.Int.{byte_at, bytes_low_first, to_le_bytes, w128}
-use Rattle.std.proofs.Math.Nat.{pow-suc}
-use Rattle.std.proofs.Math.Pow.{pow-add}
 use Rattle.std.proofs.lemmas.List.{length-replicate, replicate-append-replicate}
 use Rattle.can_frame.specs.declared.level.Level.{Level}
 use Rattle.can_frame.specs.declared.level.Level.TheVariants.{Dominant}
 use Rattle.can_frame.specs.Levels.{bits_of}
+use Rattle.can_frame.proofs.DataNumber.{power-256}
 use Rattle.can_wire.specs.Crc.{xor, reduced, crc_of}
 use Rattle.can_wire.specs.declared.crc_table.TheConstants.{CRC_OF_PLACES}
 use Rattle.can_wire.proofs.LevelLemmas.{length-bits_of, bits_of-append, bits_of-mod, bits_of-xor}
@@ -57,15 +56,9 @@ crc_of-byte_more place number check byte within is so_far =
 
 -- ---- the bytes of a number
 
-bytes_pow : (i : ℕ) → 256 ^ i ≡ 2 ^ (8 * i)
-bytes_pow zero = refl
-bytes_pow (suc i) =
-    let more : 8 * i + 8 ≡ 8 * suc i = omega arith in
-    pow-suc 256 i ∙ ap (λ t. t * 256) (bytes_pow i) ∙ sym (pow-add 2 (8 * i) 8) ∙ ap (λ e. 2 ^ e) more
-
 pub byte_at-place : (i n : ℕ) → byte_at i n ≡ n / 2 ^ (8 * i) % 256
 byte_at-place zero n = omega arith
-byte_at-place (suc i) n = ap (λ t. n / t % 256) (bytes_pow (suc i))
+byte_at-place (suc i) n = ap (λ t. n / t % 256) (power-256 (suc i))
 
 bytes_from : (first count i n : ℕ) → i < count → get_or (bytes_low_first first count n) i 0 ≡ byte_at (first + i) n
 bytes_from first zero i n h = absurd (omega arith)

@@ -2,7 +2,7 @@
 use Rattle.std.proofs.Common.{◌≡◌, ℕ, zero, suc, replicate, ◌+◌, ◌-◌, ◌*◌, ◌/◌, ◌%◌, ◌^◌, ◌<◌, ◌≤◌, List, [], ◌∷◌, ◌++◌, length, take, drop, map, get_or, refl, sym, ◌∙◌, ap, arith, append_assoc, length-append}
 use Rattle.std.specs.List.{range_with_len}
 use Rattle.std.specs.Prelude.{slice_range}
-use Rattle.std.proofs.lemmas.List.{append-nil, drop_at, take_at, take-take}
+use Rattle.std.proofs.lemmas.List.{append-nil, drop_at, length-map, map-append, take_at, take-take}
 use Rattle.std.proofs.Math.Seq.{take-append-add}
 use Rattle.std.proofs.lemmas.Nat.{one_shl, shr-shr}
 use Rattle.std.proofs.lemmas.List.FromFn.{get_or-map-range_with_len}
@@ -19,19 +19,6 @@ use Rattle.can_wire.proofs.LevelLemmas.{bits_of-append, bits_of-mod, length-bits
 use Rattle.can_wire.proofs.PackedLemmas.{bits_of-moved}
 use Rattle.can_wire.proofs.StuffingLemmas.{length-stuffed}
 use Rattle.can_wire.proofs.StuffSteps.{bounds_behind, some_run, stuffed_from-append}
-
-pub digits-append : (xs ys : List Level) → map digit_of (xs ++ ys) ≡ map digit_of xs ++ map digit_of ys
-digits-append [] ys = refl
-digits-append (x ∷ xs) ys = ap (λ t. digit_of x ∷ t) (digits-append xs ys)
-
-pub digits-length : (xs : List Level) → length (map digit_of xs) ≡ length xs
-digits-length [] = refl
-digits-length (x ∷ xs) = ap suc (digits-length xs)
-
-pub digits-take : (n : ℕ) (xs : List Level) → map digit_of (take n xs) ≡ take n (map digit_of xs)
-digits-take zero xs = refl
-digits-take (suc n) [] = refl
-digits-take (suc n) (x ∷ xs) = ap (λ t. digit_of x ∷ t) (digits-take n xs)
 
 -- ---- the tables
 
@@ -52,7 +39,7 @@ pair_at number d h = ap (λ t. get_or t number d) pairs_are ∙ get_or-map-range
 -- the digits of ten bits
 pub ten_digits : (number : ℕ) → map digit_of (bits_of 8 (number / 4)) ++ map digit_of (bits_of 2 (number % 4)) ≡ map digit_of (bits_of 10 number)
 ten_digits number =
-    sym (digits-append (bits_of 8 (number / 4)) (bits_of 2 (number % 4)))
+    sym (map-append digit_of (bits_of 8 (number / 4)) (bits_of 2 (number % 4)))
     ∙ ap (map digit_of) (ap (λ l. bits_of 8 (number / 4) ++ l) (bits_of-mod 2 2 number (omega arith)) ∙ sym (bits_of-append 8 2 number))
 
 -- ---- digits that have been put
@@ -80,7 +67,7 @@ HasDigits-more old new s t u xs is small digits len last run =
           ∙ ap (λ e. (take s.len old ++ own) ++ map digit_of (stuffed_from e (run_of t.row) rest)) last
           ∙ ap (λ n. (take s.len old ++ own) ++ map digit_of (stuffed_from (last_behind l r xs) n rest)) run
           ∙ append_assoc (take s.len old) own (map digit_of (stuffed_from (last_behind l r xs) (run_behind l r xs) rest))
-          ∙ ap (λ k. take s.len old ++ k) (sym (digits-append (stuffed_from l r xs) (stuffed_from (last_behind l r xs) (run_behind l r xs) rest)))
+          ∙ ap (λ k. take s.len old ++ k) (sym (map-append digit_of (stuffed_from l r xs) (stuffed_from (last_behind l r xs) (run_behind l r xs) rest)))
           ∙ ap (λ k. take s.len old ++ map digit_of k) (sym (stuffed_from-append xs rest l r))
           ∙ is.completes (xs ++ rest)
           ∙ ap (λ k. map digit_of (stuffed_from Recessive 1 k)) (sym (append_assoc u xs rest));
@@ -164,14 +151,14 @@ module _ (f : Parts) (count number : ℕ) (levels : bits_of count number ≡ uns
   module _ (put : List ℕ) (end : ℕ) (digits : take end put ≡ map digit_of (stuffed_from Recessive 1 (bits_of (8 * ((fill + count) / 8)) code))) (size : length (take end put) ≡ end) where
     digits_are : take end put ≡ map digit_of front ++ map digit_of (stuffed_part f)
     digits_are =
-        digits ∙ ap (λ u. map digit_of (stuffed_from Recessive 1 u)) code_bits ∙ ap (map digit_of) (filled_frame f fill (omega arith)) ∙ digits-append front (stuffed_part f)
+        digits ∙ ap (λ u. map digit_of (stuffed_from Recessive 1 u)) code_bits ∙ ap (map digit_of) (filled_frame f fill (omega arith)) ∙ map-append digit_of front (stuffed_part f)
 
     front_size : length (map digit_of front) ≡ fill
-    front_size = digits-length front ∙ length-bits_of fill 0x55
+    front_size = length-map front digit_of ∙ length-bits_of fill 0x55
 
     pub driven_few : end + 10 ≤ fill + 157
     driven_few =
-        omega (arith, size, ap length digits_are, length-append (map digit_of front) (map digit_of (stuffed_part f)), front_size, digits-length (stuffed_part f), length-stuffed_part, few)
+        omega (arith, size, ap length digits_are, length-append (map digit_of front) (map digit_of (stuffed_part f)), front_size, length-map (stuffed_part f) digit_of, length-stuffed_part, few)
 
     pub driven_range : (ten behind : List ℕ) → ten ≡ replicate 10 49 → slice_range (take end put ++ (ten ++ behind)) fill (end + 10) ≡ map digit_of (driven f)
     driven_range ten behind ten_are =
@@ -182,4 +169,4 @@ module _ (f : Parts) (count number : ℕ) (levels : bits_of count number ≡ uns
         ap (λ t. take (end + 10 - fill) (drop fill t)) all ∙ ap (take (end + 10 - fill)) (drop_at (map digit_of front) (own ++ (ten ++ behind)) fill front_size)
         ∙ ap (λ t. take (end + 10 - fill) t) (sym (append_assoc own ten behind))
         ∙ take_at (own ++ ten) behind (end + 10 - fill) (omega (arith, length-append own ten, ten_size, length_is))
-        ∙ ap (λ t. own ++ t) ten_are ∙ sym (digits-append (stuffed_part f) (tail Recessive Recessive))
+        ∙ ap (λ t. own ++ t) ten_are ∙ sym (map-append digit_of (stuffed_part f) (tail Recessive Recessive))

@@ -14,6 +14,7 @@ use Rattle.can_frame.specs.Ident.{Ident, IsIdent, ident_count}
 use Rattle.can_frame.specs.Parts.{Parts, IsFrame}
 use Rattle.can_frame.specs.Stored.{byte_count_le}
 use Rattle.can_frame.specs.Arbitration.{arbitration_field}
+use Rattle.can_frame.proofs.DataNumber.{filled-small}
 use Rattle.can_wire.specs.Crc.{crc_of}
 use Rattle.can_wire.specs.Wire.{head, unstuffed}
 use Rattle.can_wire.specs.FrameNumber.{control_of, header_of}
@@ -113,13 +114,6 @@ high_first (suc k) n =
     let more : 8 + 8 * k ≡ 8 * suc k = omega arith in
     ap (λ b. bits_of 8 b ++ flat_map (bits_of 8) (bytes_high_first k n)) (byte_at-place k n) ∙ ap (λ t. bits_of 8 (n / 2 ^ (8 * k) % 256) ++ t) (high_first k n)
     ∙ ap (λ t. t ++ bits_of (8 * k) n) (bits_of-mod 8 8 (n / 2 ^ (8 * k)) (omega arith)) ∙ sym (bits_of-append 8 (8 * k) n) ∙ ap (λ m. bits_of m n) more
-
-filled-small : (bytes : List ℕ) (filling i : ℕ) → ((k : ℕ) → get_or bytes k 0 < 256) → get_or (bytes ++ replicate filling 0) i 0 < 256
-filled-small [] zero i small = omega arith
-filled-small [] (suc filling) zero small = omega arith
-filled-small [] (suc filling) (suc i) small = filled-small [] filling i small
-filled-small (b ∷ bytes) filling zero small = small 0
-filled-small (b ∷ bytes) filling (suc i) small = filled-small bytes filling i (λ k. small (suc k))
 
 -- a frame's bytes in the highest of eight
 module _ (f : Parts) (is : IsFrame f) (octets : List ℕ) (n : ℕ) (filled : octets ≡ f.bytes ++ replicate (8 - length f.bytes) 0) (n_is : n ≡ from_be_bytes w64 octets) where

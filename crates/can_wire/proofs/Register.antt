@@ -65,10 +65,11 @@ register-top top low b h k =
 pub crc_of-on : (a b : List Level) → crc_of (a ++ b) ≡ register (crc_of a) b
 crc_of-on a b = sym (register-crc_of (a ++ b)) ∙ register-append (none 15) a b ∙ ap (λ r. register r b) (register-crc_of a)
 
--- dominant levels in front add nothing
-pub crc_of-behind_none : (k : ℕ) (b : List Level) → crc_of (none k ++ b) ≡ crc_of b
+-- the check sequence of dominant levels
+pub crc_of-none : (k : ℕ) → crc_of (none k) ≡ none 15
 unfolding crc_of
-crc_of-behind_none k b =
-    let nothing : crc_of (none k) ≡ none 15 =
-    ap (λ n. reduced n (none k ++ none 15)) (length-replicate k Dominant) ∙ reduced_none_front k (none 15) (omega arith) in
-    crc_of-on (none k) b ∙ ap (λ r. register r b) nothing ∙ register-crc_of b
+crc_of-none k = ap (λ n. reduced n (none k ++ none 15)) (length-replicate k Dominant) ∙ reduced_none_front k (none 15) (omega arith)
+
+-- in front they add nothing
+pub crc_of-behind_none : (k : ℕ) (b : List Level) → crc_of (none k ++ b) ≡ crc_of b
+crc_of-behind_none k b = crc_of-on (none k) b ∙ ap (λ r. register r b) (crc_of-none k) ∙ register-crc_of b

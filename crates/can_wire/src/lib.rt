@@ -19,6 +19,7 @@
 //! | `checked_bits.rt` | [`CheckedBits`], these levels in a register, with their running CRC sequence | |
 //! | `layout.rt` | the head and the CRC sequence of what is heard, unstuffed | `specs/Heard.antt` |
 //! | `spelling.rt` | [`respell`], the levels that spell what is heard | `specs/Heard.antt` |
+//! | `codes.rt` | [`front_of_codes`] and [`write_codes`], levels as numbers | |
 //! | `encoding.rt` | [`encode`] and [`encode_into`], the levels that the sender of a frame drives | `specs/Wire.antt` |
 //! | `frame_number.rt` | the unstuffed levels of a frame as it is sent, as the bits of a number | `specs/FrameNumber.antt` |
 //! | `digits.rt`, `digits/` | [`driven_digits`], the digits of what the sender of a frame drives | `specs/StuffSteps.antt` |
@@ -39,12 +40,13 @@
 //! definition (`stuffed_from`). [`encode_into`] leaves the levels in an array that the caller keeps, so that none
 //! is copied. [`driven_digits`] goes from the bits of a number to digits, with the same table, and makes no levels: levels
 //! in front of the start of frame, of which no two neighbours are equal, fill them up to whole bytes. [`stuff`] takes one
-//! level after another; a test holds one against the other.
+//! level after another, and gives the same list.
 //!
 //! Crates above find lemmas in `proofs/`, which `proofs/Lib.antt` lists with what each file has.
 #![tactic(auto)]
 
 mod checked_bits;
+mod codes;
 mod crc;
 mod crc_places;
 mod crc_run;
@@ -65,6 +67,7 @@ mod stuffing;
 mod two_words;
 
 pub use checked_bits::CheckedBits;
+pub use codes::{front_of_codes, write_codes};
 pub use crc::crc15;
 pub use crc_run::CrcRun;
 pub use digits::{DIGITS_ROOM, driven_digits};

@@ -1,10 +1,10 @@
 use Rattle.std.proofs.Common.{◌≡◌, ◌≤◌, ◌+◌, ◌/◌, ◌%◌, ◌++◌, map, take, ap, ◌∙◌, arith, append_assoc, length, length-append, ◌-◌}
-use Rattle.std.proofs.lemmas.List.{length-take, length-take-le}
+use Rattle.std.proofs.lemmas.List.{length-map, length-take, length-take-le}
 use Rattle.std.proofs.lemmas.Slice.{take-put_mid}
 use borrow.Rule.Slice.PartMut.{put_mid}
 use Rattle.can_frame.specs.Levels.{bits_of, digit_of}
 use Rattle.can_wire.proofs.LevelLemmas.{length-bits_of}
-use Rattle.can_wire.proofs.DrivenDigits.{digits-length, ten_digits}
+use Rattle.can_wire.proofs.DrivenDigits.{ten_digits}
 use Rattle.can_wire.proofs.digits.put_ten.Goals as goal
 
 pub returns : goal.returns
@@ -17,8 +17,8 @@ returns c =
     let pair = map digit_of (bits_of 2 (number % 4)) in
     let first : one ≡ eight = c.copy_from_slice.ensures.after ∙ c.octet_digits-first.ensures in
     let second : two ≡ pair = c.copy_from_slice-2.ensures.after ∙ c.pair_digits-second.ensures in
-    let one_size : length one ≡ 8 = ap length first ∙ digits-length (bits_of 8 (number / 4)) ∙ length-bits_of 8 (number / 4) in
-    let two_size : length two ≡ 2 = ap length second ∙ digits-length (bits_of 2 (number % 4)) ∙ length-bits_of 2 (number % 4) in
+    let one_size : length one ≡ 8 = ap length first ∙ length-map (bits_of 8 (number / 4)) digit_of ∙ length-bits_of 8 (number / 4) in
+    let two_size : length two ≡ 2 = ap length second ∙ length-map (bits_of 2 (number % 4)) digit_of ∙ length-bits_of 2 (number % 4) in
     let old = c.args.digits.now in
     let within : place ≤ length old = omega (arith, c.told-digits, c.requires.room) in
     let begun = take-put_mid place (place + 8 - place) old one (place + 8) (omega (arith, one_size)) within in
