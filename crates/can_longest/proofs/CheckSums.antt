@@ -1,11 +1,11 @@
 -- A check sequence is the sum of what its levels add.
-use Rattle.std.proofs.Common.{◌≡◌, ℕ, suc, List, [], ◌++◌, length, sym, ◌∙◌, ap, arith, length-append}
-use Rattle.std.proofs.lemmas.List.{append-nil, length-replicate}
+use Rattle.std.proofs.Common.{◌≡◌, ℕ, suc, List, ◌++◌, length, sym, ◌∙◌, ap, arith, length-append}
+use Rattle.std.proofs.lemmas.List.{length-replicate}
 use Rattle.can_frame.specs.declared.level.Level.{Level}
 use Rattle.can_frame.specs.declared.level.Level.TheVariants.{Dominant}
 use Rattle.can_wire.specs.Crc.{xor, reduced, crc_of}
 use Rattle.can_wire.proofs.DivisionLemmas.{none, length-crc_of, reduced-xor}
-use Rattle.can_wire.proofs.Register.{crc_of-behind_none}
+use Rattle.can_wire.proofs.Register.{crc_of-behind_none, crc_of-none}
 use Rattle.can_wire.proofs.XorLemmas.{length-xor, xor-append, xor_comm, xor_zeros}
 use Rattle.can_longest.specs.ToCome.{next_check}
 
@@ -28,11 +28,6 @@ crc_of-parts a d =
     let sum : xor (a ++ none n) (front ++ d) ≡ a ++ d =
     xor-append a front (none n) d fronts ∙ ap (λ t. t ++ xor (none n) d) (xor_zeros a (length a) (omega arith)) ∙ ap (λ t. a ++ t) (xor_comm (none n) d ∙ xor_zeros d n (omega arith)) in
     ap crc_of (sym sum) ∙ crc_of-xor (a ++ none n) (front ++ d) same ∙ ap (xor (crc_of (a ++ none n))) (crc_of-behind_none (length a) d)
-
--- dominant levels add nothing
-pub crc_of-none : (k : ℕ) → crc_of (none k) ≡ none 15
-unfolding crc_of
-crc_of-none k = ap crc_of (sym (append-nil (none k))) ∙ crc_of-behind_none k []
 
 pub next_check-dominant : (k : ℕ) (check : List Level) → length check ≡ 15 → next_check k check Dominant ≡ check
 next_check-dominant k check size = ap (xor check) (crc_of-none (suc k)) ∙ xor_zeros check 15 (omega arith)

@@ -7,9 +7,10 @@ use Rattle.can_wire.specs.Crc.{xor, crc_of}
 use Rattle.can_wire.specs.Stuffing.{stuffed_from}
 use Rattle.can_wire.proofs.DivisionLemmas.{none}
 use Rattle.can_wire.proofs.XorLemmas.{xor_assoc, xor_zeros}
+use Rattle.can_wire.proofs.Register.{crc_of-none}
 use Rattle.can_longest.specs.ToCome.{wire_of, next_last, next_run, next_check, to_come, most, most_with}
 use Rattle.can_longest.proofs.Steps.{length-stuffed_from, length-stuffed_from-le}
-use Rattle.can_longest.proofs.CheckSums.{crc_of-parts, crc_of-none, length-added}
+use Rattle.can_longest.proofs.CheckSums.{crc_of-parts, length-added}
 
 -- nothing but the check sequence
 pub to_come-none : (last : Level) (run : ℕ) (check : List Level) → length check ≡ 15 → to_come last run check [] ≡ length (stuffed_from last run check)

@@ -4,6 +4,7 @@ use Rattle.std.proofs.Math.Dec.{eqb}
 use Rattle.can_frame.specs.declared.level.Level.{Level}
 use Rattle.can_frame.specs.declared.level.Level.TheVariants.{Dominant, Recessive}
 use Rattle.can_frame.specs.Levels.{opposite}
+use Rattle.can_frame.proofs.LevelTests.{opposite-twice}
 use Rattle.can_wire.specs.Crc.{plus, xor, crc_of}
 use Rattle.can_wire.specs.Stuffing.{run_after, stuffed_from}
 use Rattle.can_wire.proofs.DivisionLemmas.{none, length-crc_of}
@@ -12,10 +13,6 @@ use Rattle.can_longest.specs.ToCome.{wire_of, next_last, next_run, next_check, m
 use Rattle.can_longest.proofs.Greatest.{most-suc}
 use Rattle.can_longest.proofs.Steps.{length-stuffed_from}
 use Rattle.can_longest.proofs.CheckSums.{length-added, next_check-dominant}
-
-opposite_twice : (x : Level) → opposite (opposite x) ≡ x
-opposite_twice Dominant = refl
-opposite_twice Recessive = refl
 
 plus_recessive : (x : Level) → plus x Recessive ≡ opposite x
 plus_recessive Dominant = refl
@@ -37,8 +34,8 @@ next_last-opposite : (last : Level) (run : ℕ) (x : Level) → next_last (oppos
 next_last-opposite last run x = ap (λ n. cond (eqb n 5) (opposite x) x) (run_after-opposite last run x) ∙ by (eqb (run_after last run (opposite x)) 5)
   where
     by : (b : Bool) → cond b (opposite x) x ≡ opposite (cond b (opposite (opposite x)) (opposite x))
-    by true = sym (opposite_twice (opposite x))
-    by false = sym (opposite_twice x)
+    by true = sym (opposite-twice (opposite x))
+    by false = sym (opposite-twice x)
 
 length-stuffed-opposite : (xs : List Level) (last : Level) (run : ℕ) → length (stuffed_from (opposite last) run xs) ≡ length (stuffed_from last run (xor xs (replicate (length xs) Recessive)))
 length-stuffed-opposite [] last run = refl
