@@ -1,15 +1,12 @@
 -- Levels that are made anew from numbers of them.
-use Rattle.std.proofs.Common.{◌≡◌, ℕ, ◌+◌, ◌<◌, ◌^◌, List, [], ◌∷◌, ◌++◌, length, take, drop, refl, sym, ap, subst, ◌∙◌, arith, append_assoc, append-nil}
+use Rattle.std.proofs.Common.{◌≡◌, ℕ, ◌+◌, ◌<◌, List, [], ◌∷◌, ◌++◌, length, take, drop, refl, sym, ap, ◌∙◌, arith, append_assoc, append-nil}
 use Rattle.std.proofs.lemmas.List.{take-append-drop}
 use Rattle.can_frame.specs.declared.level.Level.{Level}
 use Rattle.can_frame.specs.declared.level.Level.TheVariants.{Dominant}
 use Rattle.can_frame.specs.Levels.{bits_of, number_from}
-use Rattle.can_frame.proofs.LevelLemmas.{bits_of-number_from, number_from-lt}
+use Rattle.can_frame.proofs.LevelLemmas.{bits_of-number_from}
 use Rattle.can_wire.specs.Layout.{levels_at}
 use Rattle.can_wire.proofs.LayoutPlaces.{length-filled, next_levels}
-
-pub part-small : (u : List Level) (p n : ℕ) → number_from 0 (levels_at u p n) < 2 ^ n
-part-small u p n = subst (λ k. number_from 0 (levels_at u p n) < 2 ^ k) (length-filled n (drop p u)) (number_from-lt (levels_at u p n))
 
 pub part-back : (u : List Level) (p n : ℕ) → bits_of n (number_from 0 (levels_at u p n)) ≡ levels_at u p n
 part-back u p n = ap (λ k. bits_of k (number_from 0 (levels_at u p n))) (sym (length-filled n (drop p u))) ∙ bits_of-number_from 0 (levels_at u p n)

@@ -1,7 +1,7 @@
 -- A front stays one with each level that is heard, and its levels tell how long it gets.
 use Rattle.std.proofs.Common.{◌≡◌, ◌≢◌, ℕ, ◌+◌, ◌<◌, ◌≤◌, Bool, true, false, Option, Some, None, List, [], ◌∷◌, ◌++◌, length, take, refl, sym, ◌∙◌, ap, arith, length-append, cond, ◌⊎◌, inl, inr}
 use Rattle.std.proofs.Math.Dec.{eqb}
-use Rattle.std.proofs.lemmas.Bool.{cases_lt, cond-true, eq-eqb, ne_eqb, eqb-true, eqb-false, cond-false}
+use Rattle.std.proofs.lemmas.Bool.{cases_lt, cond-true, cond_both, eq-eqb, ne_eqb, eqb-true, eqb-false, cond-false}
 use Rattle.std.specs.Option.{is_some, option_eq}
 use Rattle.can_frame.specs.declared.level.Level.{Level}
 use Rattle.can_frame.specs.declared.level.Level.TheVariants.{Dominant}
@@ -10,11 +10,17 @@ use Rattle.can_code.specs.declared.front.Place.TheVariants.{StuffBit, Bit, CrcDe
 use Rattle.can_wire.specs.Stuffing.{run_after}
 use Rattle.can_wire.specs.Layout.{level_at, extended_of, data_place, frame_len, IsComplete}
 use Rattle.can_code.specs.Reading.{TellsLength}
-use Rattle.can_code.specs.Front.{FrontParts, first_front, has_check, next_place, IsFront}
+use Rattle.can_code.specs.Front.{FrontParts, first_front, has_check, heard_level, next_place, IsFront}
 use Rattle.can_wire.proofs.LayoutPlaces.{level_at-append}
 use Rattle.can_wire.proofs.LayoutLengths.{frame_len_le, frame_len_ge, frame_len-grows, frame_len-append, frame_len_least}
 use Rattle.can_code.proofs.ReadingLemmas.{data_behind_ide}
 use Rattle.can_wire.proofs.Runs.{run_after-le, run_after-ge}
+
+-- no level takes unstuffed levels away
+pub heard_level-longer : (f : FrontParts) (x : Level) → length f.unstuffed ≤ length (heard_level f x).unstuffed
+heard_level-longer f x =
+    cond_both {A = FrontParts} (eqb f.run 5) _ _ (λ g. length f.unstuffed ≤ length g.unstuffed) (λ e. omega arith)
+    (λ e. let more = length-append f.unstuffed (x ∷ []) in omega (arith, more))
 
 -- the length that levels tell decides whether they have their whole check sequence
 pub has_check-told : (u : List Level) (told : Option ℕ) → TellsLength u told → has_check u ≡ option_eq eqb told (Some (length u))

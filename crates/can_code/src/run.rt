@@ -11,7 +11,7 @@ const RUNS: u8 = 5;
 
 /// A level, and how many levels up to it, in a row, equal it: one to five. It is kept as a row of the table of steps,
 /// since nearly all of what is asked of it is the place of the next step.
-#[derive(Clone, Copy, Debug)]
+#[derive(Clone, Copy)]
 pub(crate) struct Run {
     row: u8,
 }

@@ -3,14 +3,15 @@ use Rattle.can_frame.specs.declared.level.Level.TheVariants.{Dominant}
 use Rattle.can_frame.specs.Levels.{bits_of}
 use Rattle.can_frame.proofs.LevelLemmas.{length-bits_of}
 use Rattle.can_wire.specs.Layout.{levels_at}
-use Rattle.can_code.proofs.CopiedLevels.{in-parts, some-start, part-back, part-small}
+use Rattle.can_code.proofs.CopiedLevels.{in-parts, some-start, part-back}
+use Rattle.can_code.proofs.ReadingLemmas.{levels_at-lt}
 use Rattle.can_code.proofs.front.levels_copied.Goals as goal
 
 pub append-requires-clause-small : goal.append-requires-clause-small
-append-requires-clause-small g c = search (part-small, c.number_at.ensures)
+append-requires-clause-small g c = search (levels_at-lt, c.number_at.ensures)
 
 pub append-requires-2-clause-small : goal.append-requires-2-clause-small
-append-requires-2-clause-small g c = search (part-small, c.number_at-2.ensures)
+append-requires-2-clause-small g c = search (levels_at-lt, c.number_at-2.ensures)
 
 pub append-requires-2-clause-room : goal.append-requires-2-clause-room
 append-requires-2-clause-room g c =
