@@ -1,5 +1,5 @@
 -- What one level more makes of a front that is heard as far as it goes, and of the marks behind it.
-use Rattle.std.proofs.Common.{◌≡◌, ◌≢◌, suc, ◌+◌, ◌-◌, ◌<◌, ◌≤◌, Bool, true, false, Option, Some, None, List, [], ◌∷◌, ◌++◌, ◌&&◌, length, take, refl, ◌∙◌, ap, subst, arith, cond, length-append}
+use Rattle.std.proofs.Common.{◌≡◌, ◌≢◌, suc, ◌-◌, ◌<◌, ◌≤◌, Bool, true, false, Option, Some, None, List, [], ◌∷◌, ◌&&◌, length, take, refl, ◌∙◌, ap, subst, arith, cond}
 use Rattle.std.specs.Option.{unwrap_or, option_map}
 use Rattle.std.proofs.Math.Dec.{eqb}
 use Rattle.std.proofs.lemmas.Bool.{eqb-false}
@@ -9,9 +9,8 @@ use Rattle.can_frame.specs.Levels.{same}
 use Rattle.can_code.specs.declared.front.Place.{Place}
 use Rattle.can_code.specs.contracts.front.Place.{the_type}
 use Rattle.can_code.specs.declared.front.Place.TheVariants.{StuffBit, Bit, CrcDelimiter}
-use Rattle.can_wire.specs.Stuffing.{run_after}
 use Rattle.can_code.specs.Front.{FrontParts, IsFront, has_check, hear_at, heard_level, is_stuff_error, next_place}
-use Rattle.can_code.proofs.FrontLemmas.{IsFront-room}
+use Rattle.can_code.proofs.FrontLemmas.{IsFront-room, heard_level-longer}
 use Rattle.can_code.proofs.HeardLevels.{hear_at-going}
 use Rattle.can_fields.specs.Fields.{field_at}
 use Rattle.can_fields.specs.Marks.{bit_of, stuff_bit_of, heard_to, marks_at, marks_behind, tail_marks}
@@ -53,15 +52,6 @@ room_at_bit f h at = by_tests (eqb f.run 5) (has_check f.unstuffed) refl refl at
     by_tests true whole d w e = cc
     by_tests false true d w e = cc
     by_tests false false d w e = IsFront-room f h (eqb-false f.run 5 d) w
-
--- no level takes unstuffed levels away
-heard_level-longer : (f : FrontParts) (x : Level) → length f.unstuffed ≤ length (heard_level f x).unstuffed
-heard_level-longer f x = by_test (eqb f.run 5)
-  where
-    by_test : (due : Bool) → length f.unstuffed
-        ≤ length (cond {A = FrontParts} due (record { unstuffed = f.unstuffed; last = x; run = 1 }) (record { unstuffed = f.unstuffed ++ x ∷ []; last = x; run = run_after f.last f.run x })).unstuffed
-    by_test true = omega arith
-    by_test false = omega (arith, length-append f.unstuffed (x ∷ []))
 
 hear_at-longer : (f g : FrontParts) (x : Level) (p : Place) → hear_at p f x ≡ Some g → length f.unstuffed ≤ length g.unstuffed
 hear_at-longer f g x StuffBit h = by_test (is_stuff_error f x) h

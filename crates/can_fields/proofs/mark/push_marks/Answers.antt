@@ -1,20 +1,16 @@
-use Rattle.std.proofs.Common.{◌≡◌, ◌≢◌, ◌+◌, ◌-◌, ◌≤◌, [], ◌∷◌, ◌++◌, suc, false, true, length, take, drop, get_or, sym, ◌∙◌, ap, subst, arith, is_err, OnOk, Result, Ok, Err}
+use Rattle.std.proofs.Common.{◌≡◌, ◌≢◌, ◌+◌, ◌-◌, ◌≤◌, [], ◌∷◌, ◌++◌, suc, false, length, take, drop, get_or, sym, ◌∙◌, ap, subst, arith, is_err}
 use Rattle.std.proofs.lemmas.Bool.{both_ways, false_from_ne_true}
 use Rattle.std.proofs.lemmas.List.{drop_more, length-drop}
 use Rattle.can_frame.specs.declared.level.Level.TheVariants.{Dominant}
 use Rattle.can_code.specs.declared.front.Place.TheVariants.{StuffBit, Bit, CrcDelimiter}
 use Rattle.can_code.specs.Front.{first_front, heard_level, is_stuff_error, next_place}
+use Rattle.can_code.proofs.HeardLevels.{at_ok}
 use Rattle.can_fields.specs.Fields.{field_at}
 use Rattle.can_fields.specs.Marks.{bit_of, stuff_bit_of, heard_to, marks_behind, tail_marks}
 use Rattle.can_fields.proofs.MarkLemmas.{heard_to-going, heard_to-longer}
 use Rattle.can_fields.proofs.MarkSteps.{marked_bit, marked_ended, marked_stuff}
 use Rattle.can_fields.proofs.mark.push_marks.Goals as goal
 use Rattle.can_fields.proofs.mark.push_marks.Goals.{in-StuffBit, in-Bit}
-
--- what holds of an `Ok`, where it is one
-at_ok : {T E P : Type 0} (r : Result T E) → is_err r ≡ false → OnOk r P → P
-at_ok (Ok x) e p = p
-at_ok (Err x) e p = cc
 
 pub returns-in-CrcDelimiter : goal.returns-in-CrcDelimiter
 returns-in-CrcDelimiter c =
