@@ -1,15 +1,13 @@
 -- Behind its arbitration a frame is heard alike by all that receive it.
-use Rattle.std.proofs.Common.{◌≡◌, ℕ, zero, suc, ◌+◌, ◌-◌, ◌<◌, ◌≤◌, Option, Some, [], ◌∷◌, length, sym, ◌∙◌, ap, subst, arith, inl, inr}
+use Rattle.std.proofs.Common.{◌≡◌, ℕ, zero, suc, ◌+◌, ◌-◌, ◌<◌, ◌≤◌, Option, Some, length, sym, ◌∙◌, ap, subst, arith, inl, inr}
 use Rattle.std.specs.Prelude.{unwrap_or}
-use Rattle.std.proofs.Math.Dec.{eqb}
-use Rattle.std.proofs.lemmas.Bool.{cases_lt, cond_both, leb-true}
-use Rattle.std.proofs.lemmas.List.{length-append}
-use Rattle.can_frame.specs.declared.level.Level.{Level}
+use Rattle.std.proofs.lemmas.Bool.{cases_lt, leb-true}
 use Rattle.can_frame.specs.Arbitration.{arbitration_field, Before}
 use Rattle.can_frame.specs.Parts.{Parts, IsFrame}
 use Rattle.can_wire.specs.Wire.{stuffed_part}
 use Rattle.can_wire.specs.Layout.{level_at, rtr_place}
-use Rattle.can_code.specs.Front.{FrontParts, first_front, heard_level}
+use Rattle.can_code.specs.Front.{first_front}
+use Rattle.can_code.proofs.FrontLemmas.{heard_level-longer}
 use Rattle.can_code.proofs.WireFronts.{front_at, front_at-heard, front_at-next}
 use Rattle.can_fault.specs.Counters.{ConfineParts}
 use Rattle.can_mac.specs.declared.phase.Role.TheVariants.{Receiver}
@@ -18,19 +16,13 @@ use Rattle.can_mac.proofs.FrameParts.{part_state}
 use Rattle.can_mac.proofs.FrameRoles.{parting, role-parted}
 use Rattle.can_mac.proofs.FrameSteps.{state-early}
 
--- a level more makes no fewer
-heard-grows : (v : FrontParts) (x : Level) → length v.unstuffed ≤ length (heard_level v x).unstuffed
-heard-grows v x =
-    cond_both {A = FrontParts} (eqb v.run 5) _ _ (λ w. length v.unstuffed ≤ length w.unstuffed) (λ e. omega arith)
-    (λ e. let more = length-append v.unstuffed (x ∷ []) in omega (arith, more))
-
 front-grows : (f : Parts) → IsFrame f → (a k : ℕ) → 0 < a → a + k ≤ length (stuffed_part f) → length (front_at f a).unstuffed ≤ length (front_at f (a + k)).unstuffed
 front-grows f is a zero some within = subst (λ n. length (front_at f a).unstuffed ≤ length (front_at f n).unstuffed) (let e : a ≡ a + zero = omega arith in e) (omega arith)
 front-grows f is a (suc k) some within =
     let at : (a + k) + 1 ≡ a + suc k = omega arith in
     let next = front_at-next f is (a + k) (omega (arith, some)) (omega (arith, within)) in
     let before = front-grows f is a k some (omega (arith, within)) in
-    let more = heard-grows (front_at f (a + k)) (level_at (stuffed_part f) (a + k)) in
+    let more = heard_level-longer (front_at f (a + k)) (level_at (stuffed_part f) (a + k)) in
     subst (λ n. length (front_at f a).unstuffed ≤ length (front_at f n).unstuffed) at
     (subst (λ v. length (front_at f a).unstuffed ≤ length v.unstuffed) (sym next) (omega (arith, before, more)))
 

@@ -2,7 +2,7 @@
 use Rattle.std.proofs.Common.{◌≡◌, ◌≢◌, ℕ, ◌+◌, ◌-◌, [], ◌∷◌, ◌++◌, ◌<◌, ◌≤◌, Bool, true, false, Option, Some, None, length, refl, arith, cond}
 use Rattle.std.specs.Prelude.{◌&&◌}
 use Rattle.std.proofs.Math.Dec.{eqb, ltb}
-use Rattle.std.proofs.lemmas.Bool.{cond_both, ltb-true, ltb-false, eqb-true, eqb-false}
+use Rattle.std.proofs.lemmas.Bool.{and_parts, cond_both, ltb-true, ltb-false, eqb-true, eqb-false}
 use Rattle.can_frame.specs.declared.level.Level.{Level}
 use Rattle.can_frame.specs.declared.level.Level.TheVariants.{Dominant, Recessive}
 use Rattle.can_frame.specs.Levels.{same, is_recessive}
@@ -44,10 +44,6 @@ both b v w first other = cond_both b v w IsKept first other
 -- below a bound, or not
 below : (n k : ℕ) (v w : MacMove) → (n < k → IsKept v) → (k ≤ n → IsKept w) → IsKept (cond (ltb n k) v w)
 below n k v w first other = both (ltb n k) v w (λ h. first (ltb-true n k h)) (λ h. other (ltb-false n k h))
-
-second : (a b : Bool) → (a && b) ≡ true → b ≡ true
-second true b h = h
-second false b h = cc
 
 -- The front of a frame.
 
@@ -161,7 +157,7 @@ module _ (s : Stance) (role : IsRole s.role) (pending : s.overloads.pending ≤ 
       let more : Overloads = record { pending = s.overloads.pending - 1; used = s.overloads.used + 1 } in
       let wants = ltb 0 s.overloads.pending && ltb s.overloads.used 2 in
       both wants (record (overload s) { overloads = more }) (goes s (Intermission 0))
-      (λ h. let few : s.overloads.used < 2 = ltb-true s.overloads.used 2 (second (ltb 0 s.overloads.pending) (ltb s.overloads.used 2) h) in
+      (λ h. let few : s.overloads.used < 2 = ltb-true s.overloads.used 2 (and_parts (ltb 0 s.overloads.pending) (ltb s.overloads.used 2) h).1 in
       record { phase = omega arith; on = refl; role = role; pending = omega arith; used = omega arith })
       (λ h. goes_kept (Intermission 0) (omega arith) refl)
 

@@ -3,3 +3,4 @@ pub mod State
 pub mod Moves
 pub mod Machine
 pub mod Frames
+pub mod Codes

@@ -101,6 +101,11 @@ abbrev pub IsRole : Role → Type 0
 IsRole Receiver = Unit {0}
 IsRole (Sender f) = IsFrame f
 
+-- whether it is the sender of the frame on the bus
+abbrev pub is_sender : Role → Bool
+is_sender Receiver = false
+is_sender (Sender f) = true
+
 -- a frame that waits is one
 abbrev pub IsFrameOrNone : Option Parts → Type 0
 IsFrameOrNone None = Unit {0}

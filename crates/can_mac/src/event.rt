@@ -1,3 +1,6 @@
+ghost use Rattle.std.specs.Prelude.{◌≡◌};
+ghost use Rattle.can_mac.specs.Codes.{kind_code};
+
 use can_frame::Frame;
 
 /// What kind of error a controller detects. (Bosch CAN 2.0 part B, section 7.1)
@@ -13,6 +16,21 @@ pub enum ErrorKind {
     Form,
     /// No receiver acknowledges.
     Ack,
+}
+
+impl ErrorKind {
+    /// Its number, for callers that aren't Rust.
+    pub fn code(self) -> u8
+        ensures { result ≡ kind_code self }
+    {
+        match self {
+            ErrorKind::Bit => 4,
+            ErrorKind::Stuff => 5,
+            ErrorKind::Crc => 6,
+            ErrorKind::Form => 7,
+            ErrorKind::Ack => 8,
+        }
+    }
 }
 
 /// What a bit time brings to a controller. There is at most one event in a bit time.

@@ -8,7 +8,7 @@
 //!
 //! | File | What it has | Defined in |
 //! |---|---|---|
-//! | `event.rt` | [`Event`], what a bit time brings, [`ErrorKind`] | |
+//! | `event.rt` | [`Event`], what a bit time brings, [`ErrorKind`] | `specs/Codes.antt` |
 //! | `phase.rt` | [`Phase`], [`Role`], [`Overloads`], the parts of a controller's state | `specs/State.antt` |
 //! | `machine.rt` | [`MediumAccess`], a controller, bit by bit | `specs/Machine.antt` |
 //! | `poised.rt` | [`Poised`], how a frame that begins finds a controller | `specs/Frames.antt` |

@@ -26,7 +26,7 @@ use std::marker::Model;
 use stuffed_part::stuffed_part;
 
 /// A frame of which the start of frame alone has been heard.
-#[derive(Debug, Drop)]
+#[derive(Drop)]
 pub struct NewFrame;
 
 impl Model for NewFrame {
@@ -38,7 +38,7 @@ impl Model for NewFrame {
 }
 
 /// What a phase reads of the rest of a controller.
-#[derive(Clone, Copy, Debug)]
+#[derive(Clone, Copy)]
 pub struct Stance {
     /// Whether the controller is error passive.
     pub passive: bool,
@@ -49,7 +49,7 @@ pub struct Stance {
 }
 
 /// What a level makes of a controller.
-#[derive(Debug, Drop)]
+#[derive(Drop)]
 pub struct Move<P> {
     /// The next phase.
     pub phase: P,

@@ -294,7 +294,7 @@ fn pass_delimiter<B: FrameBits>(phase: &mut Phase<Front<B>>)
 }
 
 /// What a move that is made in place counts and tells.
-#[derive(Debug, Drop)]
+#[derive(Drop)]
 pub(crate) struct Outcome {
     pub(crate) cause: Option<Cause>,
     pub(crate) event: Option<Event>,
