@@ -18,9 +18,7 @@ use Rattle.can_mac.specs.Moves.{MacMove, goes, errs, errs_by, reading_of, ends_p
 use Rattle.can_gates.specs.Circuit.{differ}
 use Rattle.can_gates_mac.specs.Numbers.{Numbers, numbers, is_sender}
 use Rattle.can_gates_mac.specs.Sensed.{going}
-
-abbrev stance : Bool → Role → Overloads → Stance
-stance passive role overloads = record { passive = passive; role = role; overloads = overloads }
+use Rattle.can_gates_mac.proofs.PhaseMoves.{stance}
 
 -- the machine's move, over what it reads of the front h behind this level
 abbrev hears : Stance → FrontParts → Bool → MacMove

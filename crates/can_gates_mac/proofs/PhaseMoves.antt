@@ -1,5 +1,6 @@
 -- Each phase's rows are the machine's move.
 use Rattle.std.specs.Prelude.{ℕ, ◌≡◌, ◌+◌, ◌-◌, nat_lt, Bool, true, false, not, ◌&&◌, if◌then◌else◌, Option, Some, None, refl}
+use Rattle.std.proofs.lemmas.Bool.{and_parts}
 use Rattle.can_frame.specs.declared.level.Level.{Level}
 use Rattle.can_frame.specs.declared.level.Level.TheVariants.{Dominant, Recessive}
 use Rattle.can_frame.specs.Levels.{is_recessive}
@@ -28,17 +29,12 @@ row_where : (b : Bool) (w rest : Numbers) (p q : MacMove) → (b ≡ true → w 
 row_where true w rest p q e f = e refl
 row_where false w rest p q e f = f
 
-both : (a b : Bool) → (a && b) ≡ true → b ≡ true
-both true b h = h
-both false true h = refl
-both false false h = h
-
 -- an overload frame of its own
 abbrev own : Stance → MacMove
 own s = record (overload s) { overloads = record { pending = s.overloads.pending - 1; used = s.overloads.used + 1 } }
 
 enters : (s : Stance) (w rest : Numbers) → (nat_lt s.overloads.used 2 ≡ true → w ≡ numbers (own s)) → rest ≡ going s 12 0 0 0 → (if nat_lt 0 s.overloads.pending && nat_lt s.overloads.used 2 then w else rest) ≡ numbers (enters_intermission s Receiver)
-enters s w rest e f = row_where (nat_lt 0 s.overloads.pending && nat_lt s.overloads.used 2) _ _ _ _ (λ h. e (both (nat_lt 0 s.overloads.pending) (nat_lt s.overloads.used 2) h)) f
+enters s w rest e f = row_where (nat_lt 0 s.overloads.pending && nat_lt s.overloads.used 2) _ _ _ _ (λ h. e (and_parts (nat_lt 0 s.overloads.pending) (nat_lt s.overloads.used 2) h).1) f
 
 pub joining_rows : (s : Stance) (n : ℕ) (x : Level) (w1 w2 w3 : Numbers) → w1 ≡ going s 1 0 0 0 → w2 ≡ going s 1 (n + 1) 0 0 → w3 ≡ going s 0 0 0 0 → (if true && not (is_recessive x) then w1 else if true && nat_lt n 10 then w2 else w3) ≡ numbers (joining_move s n x)
 joining_rows s n Dominant w1 w2 w3 e1 e2 e3 = e1
@@ -54,7 +50,7 @@ pub crc_delimiter_rows : (s : Stance) (r : Reading) (x : Level) (w1 w2 : Numbers
 crc_delimiter_rows s r Recessive w1 w2 e1 e2 = e1
 crc_delimiter_rows s r Dominant w1 w2 e1 e2 = e2
 
-abbrev stance : Bool → Role → Overloads → Stance
+abbrev pub stance : Bool → Role → Overloads → Stance
 stance passive role overloads = record { passive = passive; role = role; overloads = overloads }
 
 pub ack_slot_rows : (passive : Bool) (role : Role) (overloads : Overloads) (r : Reading) (x : Level) (w1 w2 w3 w4 w5 w6 : Numbers) → w1 ≡ going (stance passive role overloads) 5 0 0 0 → w2 ≡ record (going (stance passive role overloads) 8 0 0 8) { last = true; unacknowledged = true } → w3 ≡ numbers (errs (stance passive role overloads) Ack) → w4 ≡ going (stance passive role overloads) 5 0 5 0 → w5 ≡ numbers (errs (stance passive role overloads) Bit) → w6 ≡ going (stance passive role overloads) 5 0 0 0 → (if is_sender role && not (is_recessive x) then w1 else if is_sender role && passive then w2 else if true && is_sender role then w3 else if not (is_recessive x) && r.agrees then w4 else if is_recessive x && r.agrees then w5 else w6) ≡ numbers (ack_slot_move (stance passive role overloads) role r x)

@@ -10,9 +10,10 @@ use Rattle.can_mac.specs.declared.event.Event.{Event}
 use Rattle.can_mac.specs.declared.event.Event.TheVariants.{Recovered}
 use Rattle.can_mac.specs.declared.phase.Role.{Role}
 use Rattle.can_mac.specs.declared.phase.Overloads.{Overloads}
-use Rattle.can_mac.specs.declared.phase.Phase.TheVariants.{Joining, Idle, StuffedPart, CrcDelimiter, AckSlot, AckDelimiter, EndOfFrame, ErrorFlag, PassiveFlag, OverloadFlag, AfterFlag, Delimiter, Intermission, Suspend, BusOff}
+use Rattle.can_mac.specs.declared.phase.Phase.TheVariants.{Idle, BusOff}
 use Rattle.can_mac.specs.State.{MacPhase, MacState, IsMac, is_off_phase}
 use Rattle.can_mac.specs.Machine.{off_step}
+use Rattle.can_mac.proofs.TurnEnds.{off_is}
 use Rattle.can_gates.specs.Words.{number}
 use Rattle.can_gates_mac.specs.declared.registers.Controller.{Controller}
 use Rattle.can_gates_mac.specs.Numbers.{Numbers, is_sender}
@@ -59,23 +60,6 @@ rested v k role o c x false row off end state is_row tec rec occurrences =
     let keeps = after_keeps c x in
     let P : MacState × Option Event → Type 0 = λ p. IsStep v k p in
     subst P (sym (cond-false (ends_bus_off x c) (ended_mac role o (recovered x c)) (waiting_mac role o (recovered x c)) end)) (record { state = state ∙ rw is_row refl; counters = record { tec = tec ∙ sym (ap (λ n. n.tec) new ∙ keeps.0); rec = rec ∙ sym (ap (λ n. n.rec) new ∙ keeps.1); occurrences = occurrences } })
-
-off_is : (p : MacPhase) → is_off_phase p ≡ true → p ≡ BusOff
-off_is BusOff e = refl
-off_is (Joining row) e = cc e
-off_is Idle e = cc e
-off_is (StuffedPart front) e = cc e
-off_is (CrcDelimiter r) e = cc e
-off_is (AckSlot r) e = cc e
-off_is (AckDelimiter r) e = cc e
-off_is (EndOfFrame r place) e = cc e
-off_is (ErrorFlag place) e = cc e
-off_is (PassiveFlag last run u) e = cc e
-off_is (OverloadFlag place) e = cc e
-off_is (AfterFlag first dominant) e = cc e
-off_is (Delimiter place) e = cc e
-off_is (Intermission place) e = cc e
-off_is (Suspend place) e = cc e
 
 -- the same, whichever phase it is
 pub rests : (v : ℕ → Bool) (k : Controller) (p : MacPhase) (role : Role) (o : Overloads) (c : ConfineParts) (x : Level) (b : Bool) (row : ℕ) → is_off_phase p ≡ true → is_bus_off c ≡ true → b ≡ ends_bus_off x c → uncaused (shown v k.wires) ≡ resting_numbers b row role o → row ≡ (recovered x c).row → number v k.counters.tec.items ≡ cond b 0 c.tec → number v k.counters.rec.items ≡ cond b 0 c.rec → number v k.counters.occurrences.items ≡ (recovered x c).occurrences → IsStep v k (off_step (record { phase = p; role = role; overloads = o; counters = c }) x)

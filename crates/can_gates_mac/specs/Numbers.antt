@@ -10,10 +10,9 @@ use Rattle.can_mac.specs.declared.event.Event.TheVariants.{Sent, Received, Lost,
 use Rattle.can_mac.specs.declared.event.ErrorKind.{ErrorKind}
 use Rattle.can_mac.specs.declared.event.ErrorKind.TheVariants.{Bit, Stuff, Crc, Form, Ack}
 use Rattle.can_mac.specs.declared.phase.Reading.{Reading}
-use Rattle.can_mac.specs.declared.phase.Role.{Role}
-use Rattle.can_mac.specs.declared.phase.Role.TheVariants.{Receiver, Sender}
 use Rattle.can_mac.specs.declared.phase.Phase.TheVariants.{Joining, Idle, StuffedPart, CrcDelimiter, AckSlot, AckDelimiter, EndOfFrame, ErrorFlag, PassiveFlag, OverloadFlag, AfterFlag, Delimiter, Intermission, Suspend, BusOff}
 use Rattle.can_mac.specs.State.{MacPhase}
+pub use Rattle.can_mac.specs.State.{is_sender}
 use Rattle.can_mac.specs.Moves.{MacMove}
 
 -- Phases.
@@ -79,10 +78,6 @@ reading_in (Delimiter place) = None
 reading_in (Intermission place) = None
 reading_in (Suspend place) = None
 reading_in BusOff = None
-
-abbrev pub is_sender : Role → Bool
-is_sender Receiver = false
-is_sender (Sender f) = true
 
 abbrev pub is_waiting : Option Parts → Bool
 is_waiting None = false

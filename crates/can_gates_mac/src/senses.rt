@@ -3,7 +3,7 @@ use crate::nibble::Nibble;
 use can_gates::Literal;
 
 /// What all moves read, made once.
-#[derive(Clone, Copy, Debug)]
+#[derive(Clone, Copy)]
 pub(crate) struct Senses {
     /// Whether the controller is error passive.
     pub(crate) passive: Literal,
@@ -58,7 +58,7 @@ pub(crate) struct Senses {
 }
 
 /// How a place compares with the ends of phases, and the next one.
-#[derive(Clone, Copy, Debug)]
+#[derive(Clone, Copy)]
 pub(crate) struct Places {
     /// Whether it is before the last place of intermission.
     pub(crate) below_2: Literal,

@@ -29,11 +29,11 @@ pub struct Wires {
 }
 
 /// Wires that hold where two literals are true.
-#[derive(Clone, Copy, Debug)]
+#[derive(Clone, Copy)]
 pub(crate) struct Row(pub(crate) Literal, pub(crate) Literal, pub(crate) Wires);
 
 /// A controller's registers but for its counters and frames, and what comes in a bit time.
-#[derive(Clone, Copy, Debug)]
+#[derive(Clone, Copy)]
 pub(crate) struct Now {
     /// The number of the phase.
     pub(crate) phase: Nibble,
