@@ -1,14 +1,10 @@
 -- A port's run is its controller's, with the frames that wait in each bit time.
-use Rattle.std.proofs.Common.{◌≡◌, Option, Some, None, List, [], ◌∷◌, refl, ◌∙◌, ap}
-use Rattle.std.specs.Prelude.{length, nat_lt}
-use Rattle.std.proofs.lemmas.Bool.{cond_both}
+use Rattle.std.proofs.Common.{◌≡◌, List, [], ◌∷◌, refl, ◌∙◌, ap}
 use Rattle.can_frame.specs.declared.level.Level.{Level}
-use Rattle.can_mac.specs.declared.event.Event.{Event}
-use Rattle.can_mac.specs.declared.event.Event.TheVariants.{Sent, Received, Lost, Error, Overload, WentOff, Recovered}
 use Rattle.can_mac.specs.Machine.{mac_step}
 use Rattle.can_mac.proofs.Turns.{Turn, levels_of, turn_events}
-use Rattle.can_node.specs.declared.entry.Entry.{Entry}
-use Rattle.can_node.specs.Ports.{PortState, waiting, port_logging, port_noting, port_event, port_step, port_events}
+use Rattle.can_node.proofs.OneFrame.{noted-mac}
+use Rattle.can_node.specs.Ports.{PortState, waiting, port_event, port_step, port_events}
 
 -- the bit times in which a port sees these levels
 abbrev pub port_turns : PortState → List Level → List Turn
@@ -20,25 +16,10 @@ pub levels_of-port_turns : (p : PortState) (levels : List Level) → levels_of (
 levels_of-port_turns p [] = refl
 levels_of-port_turns p (x ∷ levels) = ap (λ l. x ∷ l) (levels_of-port_turns (port_step p x) levels)
 
--- queue and log change nothing at the controller
-port_logging-mac : (entry : Entry) (p : PortState) → (port_logging entry p).mac ≡ p.mac
-port_logging-mac entry p = cond_both {A = PortState} (nat_lt (length p.log) p.log_room) _ _ (λ q. q.mac ≡ p.mac) (λ e. refl) (λ e. refl)
-
--- nor does any event
-port_noting-mac : (event : Option Event) (p : PortState) → (port_noting event p).mac ≡ p.mac
-port_noting-mac (Some (Sent f)) p = port_logging-mac _ _
-port_noting-mac (Some (Received f)) p = port_logging-mac _ _
-port_noting-mac (Some Lost) p = refl
-port_noting-mac (Some (Error kind)) p = refl
-port_noting-mac (Some Overload) p = refl
-port_noting-mac (Some WentOff) p = refl
-port_noting-mac (Some Recovered) p = refl
-port_noting-mac None p = refl
-
--- so a port's step is its controller's
+-- a port's step is its controller's: queue and log change nothing at it
 pub port_step-mac : (p : PortState) (x : Level) → (port_step p x).mac ≡ (mac_step p.mac (waiting p.queue) x).0
 unfolding port_step
-port_step-mac p x = port_noting-mac (port_event p x) _
+port_step-mac p x = noted-mac (port_event p x) _
 
 -- and so are the events of its run
 pub port_events-turns : (p : PortState) (levels : List Level) → port_events p levels ≡ turn_events p.mac (port_turns p levels)

@@ -25,7 +25,8 @@ use Rattle.can_mac.proofs.FrameSteps.{Awake, event-early, state-late, step-next}
 use Rattle.can_node.specs.declared.entry.Entry.{Entry}
 use Rattle.can_node.specs.Ports.{PortState, waiting, port_drives, port_event, port_logging, port_noting, port_offered, port_run, port_step, same_field, with_offer, without}
 use Rattle.can_node.proofs.Arrivals.{gains, port_logging-gains, without-behind}
-use Rattle.can_node.proofs.OneFrame.{at_mac, port_noting-at_mac, step-port_noting}
+use Rattle.can_node.proofs.OneFrame.{at_mac, step-port_noting}
+pub use Rattle.can_node.proofs.OneFrame.{noted-mac}
 use Rattle.can_node.proofs.FrameLeaves.{ComesBehind, receiver-late, sent-once}
 use Rattle.can_node.proofs.Passing.{Enters, keeps-own, runs-early}
 use Rattle.can_node.proofs.WaitingLaws.{waiting-IsWaiting}
@@ -38,10 +39,6 @@ pub record Rides (f : Parts) (o : ℕ) (q : PortState) : Type 0 where
   pub behind : GoesBehind f waits
   pub on_bus : is_bus_off counters ≡ false
   pub mac : q.mac ≡ frame_state f waits 0 counters o
-
--- what is noted keeps the controller
-pub noted-mac : (event : Option Event) (p : PortState) → (port_noting event p).mac ≡ p.mac
-noted-mac event p = ap (λ (q : PortState). q.mac) (port_noting-at_mac event p.mac p)
 
 -- ---- events that leave the queue as it is
 
@@ -176,7 +173,7 @@ offered-kept f o g q kept early = let at = kept early in (at.0, stands-on q.queu
     stands-on (h ∷ queue) (suc n) stands = stands-on queue n stands
 
 -- a level never makes a queue longer
-shorter-without : (f : Parts) (queue : List Parts) → length (without f queue) ≤ length queue
+pub shorter-without : (f : Parts) (queue : List Parts) → length (without f queue) ≤ length queue
 unfolding without
 shorter-without f [] = omega arith
 shorter-without f (g ∷ queue) =
