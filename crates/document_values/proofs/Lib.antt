@@ -3,3 +3,4 @@ pub mod ReadLists
 pub mod ReadValues
 pub mod Pairs
 pub mod OneReading
+pub mod OneRefusal

@@ -1,5 +1,5 @@
 -- Reading the elements of an array one after another.
-use Rattle.std.proofs.Common.{◌≡◌, ℕ, ◌+◌, ◌<◌, ◌≤◌, List, [], ◌∷◌, ◌++◌, length, get_or, drop, map, ap, sym, ◌∙◌, append_assoc, append-nil}
+use Rattle.std.proofs.Common.{◌≡◌, ℕ, suc, ◌+◌, ◌<◌, ◌≤◌, List, [], ◌∷◌, ◌++◌, length, get_or, drop, map, refl, ap, sym, ◌∙◌, append_assoc, append-nil}
 use Rattle.std.proofs.lemmas.List.{drop_more, drop_all}
 use Rattle.toml.specs.Data.{Data}
 use Rattle.toml.specs.View.{view}
@@ -49,3 +49,10 @@ met-all one Says values place read past all = all.met (rw (drop_all place values
 pub said-all : {F B : Type 0} (one : ℕ → Data → Demands F) (Says : Data → B → Type 0) (values : List Value) (place : ℕ) (read : List B)
     → length values ≤ place → IsRead one Says values place read → ArePaired Says (map view values) read
 said-all one Says values place read past all = rw append-nil at (all.said [] (rw (drop_all place values past) tt))
+
+-- lists that are read pair by pair are equally long
+pub length-paired : {A B : Type 0} (R : A → B → Type 0) (xs : List A) (ys : List B) → ArePaired R xs ys → length xs ≡ length ys
+length-paired R [] [] p = refl
+length-paired R [] (y ∷ ys) p = absurd p
+length-paired R (x ∷ xs) [] p = absurd p
+length-paired R (x ∷ xs) (y ∷ ys) p = ap suc (length-paired R xs ys p.1)
