@@ -8,28 +8,14 @@ use Rattle.std.proofs.lemmas.Fmt.{decimal_injective}
 use Rattle.can_frame.specs.declared.level.Level.{Level}
 use Rattle.can_frame.specs.declared.level.Level.TheVariants.{Dominant, Recessive}
 use Rattle.can_frame.specs.Levels.{digit_of}
+use Rattle.can_frame.proofs.LevelDigits.{one-digit, one-digits}
 use Rattle.kit_words.specs.LevelTexts.{IsRun, SaysPiece, SayPieces, SaysLevels, AddsLevels, longest_run, pieces_of}
 
 -- ---- digits
 
-pub one-level : (x y : Level) → digit_of x ≡ digit_of y → x ≡ y
-one-level Dominant Dominant e = refl
-one-level Dominant Recessive e = absurd (omega (arith, e))
-one-level Recessive Dominant e = absurd (omega (arith, e))
-one-level Recessive Recessive e = refl
-
 no-star : (x : Level) → digit_of x ≢ 42
 no-star Dominant e = omega (arith, e)
 no-star Recessive e = omega (arith, e)
-
-one-literal : (xs ys : List Level) → map digit_of xs ≡ map digit_of ys → xs ≡ ys
-one-literal [] [] e = refl
-one-literal [] (y ∷ ys) e = absurd (cc)
-one-literal (x ∷ xs) [] e = absurd (cc)
-one-literal (x ∷ xs) (y ∷ ys) e =
-    let heads : digit_of x ≡ digit_of y = cc in
-    let tails : map digit_of xs ≡ map digit_of ys = cc in
-    ap (λ l. l ∷ xs) (one-level x y heads) ∙ ap (λ l. y ∷ l) (one-literal xs ys tails)
 
 -- levels one by one are no run
 no-run : (digit : ℕ) (rest : List ℕ) (xs : List Level) → map digit_of xs ≡ digit ∷ 42 ∷ rest → ⊥
@@ -45,12 +31,12 @@ one-run piece xs ys a b =
     let digits : digit_of a.level ≡ digit_of b.level = cc in
     let numbers : decimal a.count ≡ decimal b.count = cc in
     let counts : a.count ≡ b.count = decimal_injective a.count b.count (omega (arith, a.few)) (omega (arith, b.few)) numbers in
-    let levels : a.level ≡ b.level = one-level a.level b.level digits in
+    let levels : a.level ≡ b.level = one-digit a.level b.level digits in
     a.all ∙ ap (λ n. replicate n a.level) counts ∙ ap (λ x. replicate b.count x) levels ∙ sym b.all
 
 -- a piece says levels in one way
 pub one-piece : (piece : List ℕ) (xs ys : List Level) → SaysPiece piece xs → SaysPiece piece ys → xs ≡ ys
-one-piece piece xs ys (inl a) (inl b) = one-literal xs ys (sym a ∙ b)
+one-piece piece xs ys (inl a) (inl b) = one-digits xs ys (sym a ∙ b)
 one-piece piece xs ys (inl a) (inr b) = absurd (no-run (digit_of b.level) (decimal b.count) xs (sym a ∙ b.text))
 one-piece piece xs ys (inr a) (inl b) = absurd (no-run (digit_of a.level) (decimal a.count) ys (sym b ∙ a.text))
 one-piece piece xs ys (inr a) (inr b) = one-run piece xs ys a b

@@ -10,7 +10,7 @@ use std::alloc::AllocError;
 const LONG_RUN: usize = 8;
 
 /// What stands before a run.
-#[derive(Clone, Copy, Debug, PartialEq, Eq)]
+#[derive(Clone, Copy)]
 pub(crate) enum Before {
     Nothing,
     /// Levels one by one.

@@ -25,6 +25,14 @@ pub fn push_number(out: &mut Vec<u8>, number: u64) -> Result<(), AllocError>
     push_text(out, buffer.format(number).as_bytes())
 }
 
+/// Appends a word, and a number in decimal behind it.
+pub fn push_named(out: &mut Vec<u8>, word: &[u8], number: u64) -> Result<(), AllocError>
+    ensures { OnOk result (out.new.items ≡ out.old.items ++ (word.now ++ decimal number)) }
+{
+    push_text(out, word)?;
+    push_number(out, number)
+}
+
 /// Appends an event, as `received S 123 D 1 c3` or `error stuff`.
 pub fn push_event(out: &mut Vec<u8>, event: &Event) -> Result<(), AllocError>
     ensures { OnOk result (out.new.items ≡ out.old.items ++ event_text event.now) }
