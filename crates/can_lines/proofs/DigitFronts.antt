@@ -1,33 +1,15 @@
 -- The common front of digits is that of their levels.
-use Rattle.std.proofs.Common.{◌≡◌, ℕ, ◌+◌, ◌<◌, ◌≤◌, List, [], ◌∷◌, ◌++◌, length, get_or, take, map, refl, sym, ap, ◌∙◌, arith}
-use Rattle.std.proofs.lemmas.List.{length-append, length-map, length-take, take-map, take_more}
+use Rattle.std.proofs.Common.{◌≡◌, ℕ, ◌+◌, ◌<◌, ◌≤◌, List, [], ◌∷◌, ◌++◌, length, get_or, take, map, sym, ap, ◌∙◌, arith}
+use Rattle.std.proofs.lemmas.List.{length-append, length-map, length-take, map-append, take-map, take_more}
 use Rattle.can_frame.specs.declared.level.Level.{Level}
-use Rattle.can_frame.specs.declared.level.Level.TheVariants.{Dominant, Recessive}
 use Rattle.can_frame.specs.Levels.{digit_of}
+use Rattle.can_frame.proofs.LevelDigits.{one-digits}
 use Rattle.can_lines.specs.Checked.{IsCommonFront}
-
-same_level : (x y : Level) → digit_of x ≡ digit_of y → x ≡ y
-same_level Dominant Dominant same = refl
-same_level Recessive Recessive same = refl
-same_level Dominant Recessive same = absurd (omega (arith, same))
-same_level Recessive Dominant same = absurd (omega (arith, same))
-
--- digits tell their levels
-pub same_levels : (xs ys : List Level) → map digit_of xs ≡ map digit_of ys → xs ≡ ys
-same_levels [] [] same = refl
-same_levels [] (y ∷ ys) same = cc
-same_levels (x ∷ xs) [] same = cc
-same_levels (x ∷ xs) (y ∷ ys) same =
-    let first : digit_of x ≡ digit_of y = cc in
-    let rest : map digit_of xs ≡ map digit_of ys = cc in
-    let head = same_level x y first in
-    let others = same_levels xs ys rest in
-    λ i. head i ∷ others i
 
 pub IsCommonFront-levels : (levels own : List Level) (digits driven : List ℕ) (n : ℕ) → digits ≡ map digit_of levels → driven ≡ map digit_of own → IsCommonFront digits driven n → IsCommonFront levels own n
 IsCommonFront-levels levels own digits driven n digits_are driven_are is = record {
   within = (omega (arith, is.within.0, ap length digits_are, length-map levels digit_of), omega (arith, is.within.1, ap length driven_are, length-map own digit_of));
-  same = same_levels (take n levels) (take n own)
+  same = one-digits (take n levels) (take n own)
       (sym (take-map digit_of n levels) ∙ ap (take n) (sym digits_are) ∙ is.same ∙ ap (take n) driven_are ∙ take-map digit_of n own);
   longest = λ m more short other same.
       is.longest m more (omega (arith, short, ap length digits_are, length-map levels digit_of)) (omega (arith, other, ap length driven_are, length-map own digit_of))
@@ -40,13 +22,9 @@ pub record HasLevels (digits : List ℕ) (place : ℕ) : Type 0 where
   pub so_far : map digit_of levels ≡ take place digits
   pub within : length levels ≤ 157
 
-digits-append : (xs : List Level) (y : Level) → map digit_of (xs ++ y ∷ []) ≡ map digit_of xs ++ digit_of y ∷ []
-digits-append [] y = refl
-digits-append (x ∷ xs) y = ap (λ t. digit_of x ∷ t) (digits-append xs y)
-
 pub HasLevels-more : (digits : List ℕ) (place : ℕ) (level : Level) → HasLevels digits place → place < length digits → place < 157 → digit_of level ≡ get_or digits place 0 → HasLevels digits (place + 1)
 HasLevels-more digits place level has more few digit = record {
   levels = has.levels ++ level ∷ [];
-  so_far = digits-append has.levels level ∙ ap (λ t. t ++ digit_of level ∷ []) has.so_far ∙ ap (λ x. take place digits ++ x ∷ []) digit ∙ sym (take_more digits place 0 more);
+  so_far = map-append digit_of has.levels (level ∷ []) ∙ ap (λ t. t ++ digit_of level ∷ []) has.so_far ∙ ap (λ x. take place digits ++ x ∷ []) digit ∙ sym (take_more digits place 0 more);
   within = omega (arith, length-append has.levels (level ∷ []), ap length has.so_far, length-map has.levels digit_of, length-take place digits, few);
 }

@@ -1,27 +1,17 @@
 -- Lines of vectors have one answer.
-use Rattle.std.proofs.Common.{◌≡◌, ℕ, inl, inr, List, [], ◌∷◌, get_or, drop, map, refl, sym, ap, subst, ◌∙◌, arith}
+use Rattle.std.proofs.Common.{◌≡◌, ℕ, inl, inr, List, [], ◌∷◌, map, refl, sym, ap, subst, ◌∙◌}
 use Rattle.std.proofs.lemmas.Bool.{cases_order}
 use Rattle.std.specs.List.{flat_map}
 use Rattle.can_frame.specs.declared.level.Level.{Level}
-use Rattle.can_frame.specs.declared.level.Level.TheVariants.{Dominant, Recessive}
 use Rattle.can_frame.specs.Parts.{Parts, IsFrame}
 use Rattle.can_frame.specs.Text.{frame_text}
+use Rattle.can_frame.proofs.LevelDigits.{one-digits}
 use Rattle.can_wire.specs.Wire.{driven}
 use Rattle.can_frame.specs.Levels.{digit_of}
 use Rattle.can_lines.specs.Checked.{Checks, Compares, IsCommonFront, IsVectorVerdict, Judged, passes, verdict_line}
 use Rattle.can_lines.specs.declared.vector.Verdict.{Verdict}
 use Rattle.can_lines.specs.declared.vector.Verdict.TheVariants.{Agrees, DiffersAt}
 use Rattle.can_lines.proofs.MarkLemmas.{marked-text, marked-others}
-
--- digits tell their levels
-digits-once : (a b : List Level) → map digit_of a ≡ map digit_of b → a ≡ b
-digits-once [] [] same = refl
-digits-once [] (y ∷ b) same = cc
-digits-once (x ∷ a) [] same = cc
-digits-once (Dominant ∷ a) (Dominant ∷ b) same = let others : map digit_of a ≡ map digit_of b = ap (drop 1) same in ap (λ l. Dominant ∷ l) (digits-once a b others)
-digits-once (Dominant ∷ a) (Recessive ∷ b) same = absurd (omega (arith, ap (λ l. get_or l 0 0) same))
-digits-once (Recessive ∷ a) (Dominant ∷ b) same = absurd (omega (arith, ap (λ l. get_or l 0 0) same))
-digits-once (Recessive ∷ a) (Recessive ∷ b) same = let others : map digit_of a ≡ map digit_of b = ap (drop 1) same in ap (λ l. Recessive ∷ l) (digits-once a b others)
 
 -- there is one longest common front
 IsCommonFront-only : (xs ys : List Level) (m n : ℕ) → IsCommonFront xs ys m → IsCommonFront xs ys n → m ≡ n
@@ -46,7 +36,7 @@ module _ (one : (f g : Parts) → IsFrame f → IsFrame g → frame_text f ≡ f
       let frames : h.frame ≡ k.frame = one h.frame k.frame p.is_frame q.is_frame (marked-text line h.frame k.frame h.vector.digits k.vector.digits p q) in
       let digits : map digit_of h.levels ≡ map digit_of k.levels =
       sym h.vector.are_levels.digits_are ∙ marked-others line h.frame k.frame h.vector.digits k.vector.digits p q ∙ k.vector.are_levels.digits_are in
-      let levels = digits-once h.levels k.levels digits in
+      let levels = one-digits h.levels k.levels digits in
       Compares-only h.levels (driven h.frame) v w h.compares
       (subst (λ l. Compares l (driven h.frame) w) (sym levels) (subst (λ f. Compares k.levels (driven f) w) (sym frames) k.compares))
 

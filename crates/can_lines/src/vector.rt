@@ -14,7 +14,7 @@ use memchr::memchr;
 const MOST_LEVELS: usize = LONGEST_WIRE;
 
 /// What a line of a frame's text and levels comes to.
-#[derive(Clone, Copy, Debug, PartialEq, Eq)]
+#[derive(Clone, Copy)]
 pub(crate) enum Verdict {
     /// The levels are those that the frame's sender drives.
     Agrees,
@@ -35,7 +35,7 @@ impl Verdict {
 }
 
 /// Why a line has no verdict.
-#[derive(Clone, Copy, Debug, PartialEq, Eq)]
+#[derive(Clone, Copy)]
 pub(crate) enum BadLine {
     /// It doesn't begin with a frame text and ` = `.
     Frame(TextFault),
