@@ -81,10 +81,6 @@ IsTraceText-digits [] = tt
 IsTraceText-digits (Dominant ∷ levels) = (refl, IsTraceText-digits levels)
 IsTraceText-digits (Recessive ∷ levels) = (refl, IsTraceText-digits levels)
 
-pub length-digits : (levels : List Level) → length (map digit_of levels) ≡ length levels
-length-digits [] = refl
-length-digits (x ∷ levels) = ap suc (length-digits levels)
-
 -- levels of which nothing is told, one part behind the other
 pub Untold-then : (a b c : Trace) (bytes : List ℕ) (n k : ℕ) → IsTraceText (take n bytes) → Hears a b (levels_in (take n bytes)) []
     → IsTraceText (take k (drop n bytes)) → Hears b c (levels_in (take k (drop n bytes))) [] → IsTraceText (take (n + k) bytes) × Hears a c (levels_in (take (n + k) bytes)) []

@@ -1,5 +1,5 @@
 -- The text of a frame by its parts, and the table of its hexadecimal digits.
-use Rattle.std.proofs.Common.{◌≡◌, ℕ, zero, suc, ◌+◌, ◌-◌, ◌*◌, ◌/◌, ◌%◌, ◌^◌, ◌<◌, ◌≤◌, Bool, true, false, cond, List, [], ◌∷◌, ◌++◌, length, map, get_or, take, replicate, codes, refl, sym, ◌∙◌, ap, subst, arith, append_assoc, length-append}
+use Rattle.std.proofs.Common.{◌≡◌, ℕ, ◌+◌, ◌-◌, ◌*◌, ◌/◌, ◌%◌, ◌^◌, ◌<◌, ◌≤◌, Bool, true, false, cond, List, [], ◌∷◌, ◌++◌, length, map, get_or, take, replicate, codes, refl, sym, ◌∙◌, ap, subst, arith, append_assoc, length-append}
 use Rattle.std.specs.Int.{from_be_bytes, to_le_bytes, w16, w64}
 use Rattle.std.specs.List.{range_with_len}
 use Rattle.std.proofs.lemmas.List.{get_or-map, length-replicate, take_at}
@@ -10,7 +10,8 @@ use Rattle.hex.proofs.HexLemmas.{length-encode_with}
 use Rattle.can_frame.specs.Parts.{Parts, IsFrame}
 use Rattle.can_frame.specs.Stored.{byte_count_le}
 use Rattle.can_frame.specs.Text.{dlc_part, direction_part, frame_text, hex_digits, identifier_digits, identifier_part, letter_part}
-use Rattle.can_frame.proofs.HexDigits.{hex_digits-add, encode_lower-append}
+use Rattle.can_frame.proofs.DataNumber.{filled-small}
+use Rattle.can_frame.proofs.HexDigits.{hex_digits-add, encode_lower-append, two_of_byte}
 use Rattle.can_frame.proofs.Written.{bytes_digits}
 use Rattle.can_decode.specs.declared.text.TheConstants.{PAIRS}
 
@@ -28,14 +29,6 @@ pair_is : (byte : ℕ) → byte < 256 → to_le_bytes w16 (get_or PAIRS byte 0) 
 pair_is byte h =
     sym (get_or-map (to_le_bytes w16) PAIRS byte 0 [] (omega (arith, table_size))) ∙ ap (λ t. get_or t byte []) table_is
     ∙ get_or-map-range_with_len (hex_digits 2) 0 256 byte byte [] h (omega arith)
-
--- two digits tell of the lowest byte
-two_of_byte : (n : ℕ) → hex_digits 2 n ≡ hex_digits 2 (n % 256)
-unfolding hex_digits
-two_of_byte n =
-    let high : n / 16 ^ 1 % 16 ≡ n % 256 / 16 ^ 1 % 16 = omega arith in
-    let low : n / 16 ^ 0 % 16 ≡ n % 256 / 16 ^ 0 % 16 = omega arith in
-    λ i. get_or lower_digits (high i) 0 ∷ get_or lower_digits (low i) 0 ∷ []
 
 pub pair_digits : (n : ℕ) → to_le_bytes w16 (get_or PAIRS (n % 256) 0) ≡ hex_digits 2 n
 pair_digits n = pair_is (n % 256) (omega arith) ∙ sym (two_of_byte n)
@@ -76,13 +69,6 @@ octets_digits : (octets : List ℕ) (n : ℕ) → length octets ≡ 8 → ((i : 
 octets_digits octets n eight small is =
     sym (hex_digits-add 8 8 n) ∙ sym (bytes_digits 8 n) ∙ ap encode_lower (be_bytes_8 octets n eight small is)
 
-filled-bytes : (bytes : List ℕ) (filling i : ℕ) → ((k : ℕ) → get_or bytes k 0 < 256) → get_or (bytes ++ replicate filling 0) i 0 < 256
-filled-bytes [] zero i small = omega arith
-filled-bytes [] (suc filling) zero small = omega arith
-filled-bytes [] (suc filling) (suc i) small = filled-bytes [] filling i small
-filled-bytes (b ∷ bytes) filling zero small = small 0
-filled-bytes (b ∷ bytes) filling (suc i) small = filled-bytes bytes filling i (λ k. small (suc k))
-
 -- and those of a frame's bytes alone
 pub data_written : (f : Parts) → IsFrame f → (old octets : List ℕ) (n end : ℕ) → octets ≡ f.bytes ++ replicate (8 - length f.bytes) 0
     → n ≡ from_be_bytes w64 octets → end ≡ length old + 2 * length f.bytes
@@ -93,7 +79,7 @@ data_written f is old octets n end filled n_is end_is =
     let few : length bytes ≤ 8 = omega (arith, is.count, byte_count_le f.remote f.dlc) in
     let eight : length octets ≡ 8 =
     ap length filled ∙ length-append bytes (replicate filling 0) ∙ ap (λ k. length bytes + k) (length-replicate filling 0) ∙ (let e : length bytes + filling ≡ 8 = omega arith in e) in
-    let small : (i : ℕ) → get_or octets i 0 < 256 = λ i. subst (λ t. get_or t i 0 < 256) (sym filled) (filled-bytes bytes filling i is.small) in
+    let small : (i : ℕ) → get_or octets i 0 < 256 = λ i. subst (λ t. get_or t i 0 < 256) (sym filled) (filled-small bytes filling i is.small) in
     let digits : (old ++ hex_digits 8 (n / 2 ^ 32)) ++ hex_digits 8 n ≡ (old ++ encode_lower bytes) ++ encode_lower (replicate filling 0) =
     append_assoc old (hex_digits 8 (n / 2 ^ 32)) (hex_digits 8 n) ∙ ap (λ t. old ++ t) (octets_digits octets n eight small n_is ∙ ap encode_lower filled ∙ encode_lower-append bytes (replicate filling 0))
     ∙ sym (append_assoc old (encode_lower bytes) (encode_lower (replicate filling 0))) in

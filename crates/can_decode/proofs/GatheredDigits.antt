@@ -2,7 +2,7 @@
 use Rattle.std.proofs.Common.{◌≡◌, ℕ, ◌+◌, ◌≤◌, ◌<◌, ◌||◌, eqb, cond, ◌⊎◌, inl, inr, Bool, true, false, List, [], ◌∷◌, ◌++◌, length, map, zero, suc, take, drop, get_or, Option, refl, sym, ap, subst, ◌∙◌, append_assoc, arith}
 use Rattle.std.proofs.Math.Seq.{take-add}
 use Rattle.std.proofs.lemmas.Bool.{eqb-true, false≢true}
-use Rattle.std.proofs.lemmas.List.{append-nil, drop_more, length-take-le, take-append-drop}
+use Rattle.std.proofs.lemmas.List.{append-nil, drop_more, length-map, length-take-le, map-append, take-append-drop}
 use Rattle.std.proofs.lemmas.Grind.{flat_map-append}
 use Rattle.std.specs.List.{flat_map}
 use Rattle.can_frame.specs.declared.level.Level.{Level}
@@ -19,17 +19,13 @@ use Rattle.can_stream.specs.declared.fault.TraceFault.TheVariants.{BadByte, Writ
 use Rattle.can_decode.specs.declared.gathered.Gathered.{Gathered}
 use Rattle.can_decode.specs.declared.finding.Finding.{Finding}
 use Rattle.can_decode.specs.declared.trace.Trace.{Trace}
-use Rattle.can_decode.proofs.DecodeSteps.{MeetsBadByte-here, Hears-then, HearsText-then, IsTraceText-digits, HearsText-next, StopsHearing-next, TakesFront-then, levels_in-append, levels_in-digits, length-digits, length-levels_in}
+use Rattle.can_decode.proofs.DecodeSteps.{MeetsBadByte-here, Hears-then, HearsText-then, IsTraceText-digits, HearsText-next, StopsHearing-next, TakesFront-then, levels_in-append, levels_in-digits, length-levels_in}
 
 abbrev digits_in : List ℕ → List ℕ
 digits_in text = map digit_of (levels_in text)
 
-map-both : (xs ys : List Level) → map digit_of (xs ++ ys) ≡ map digit_of xs ++ map digit_of ys
-map-both [] ys = refl
-map-both (x ∷ xs) ys = ap (λ t. digit_of x ∷ t) (map-both xs ys)
-
 pub digits_in-append : (xs ys : List ℕ) → digits_in (xs ++ ys) ≡ digits_in xs ++ digits_in ys
-digits_in-append xs ys = ap (map digit_of) (levels_in-append xs ys) ∙ map-both (levels_in xs) (levels_in ys)
+digits_in-append xs ys = ap (map digit_of) (levels_in-append xs ys) ∙ map-append digit_of (levels_in xs) (levels_in ys)
 
 -- ---- one byte
 
@@ -80,7 +76,7 @@ module _ (bytes buffer : List ℕ) (g : Gathered) (is : Gathers bytes g buffer) 
 
   pub gathered_few : g.count ≤ g.taken
   gathered_few =
-      omega (arith, ap length is.digits_are, length-digits (levels_in (take g.taken bytes)), length-levels_in (take g.taken bytes), length-take-le g.taken bytes is.within, length-take-le g.count buffer is.room)
+      omega (arith, ap length is.digits_are, length-map (levels_in (take g.taken bytes)) digit_of, length-levels_in (take g.taken bytes), length-take-le g.taken bytes is.within, length-take-le g.count buffer is.room)
 
 -- the front of trace text that has the first of its levels
 pub record FrontOf (text : List ℕ) (levels : List Level) : Type 0 where
@@ -164,7 +160,7 @@ digit_is Recessive = (refl, refl)
 pub digit_at : (bytes : List ℕ) (i : ℕ) → AreDigits bytes → i < length bytes → (level : Level) × (digit_of level ≡ get_or bytes i 0)
 digit_at bytes i are within =
     let levels = levels_in bytes in
-    let r = at levels i (omega (arith, within, ap length are, length-digits levels)) in
+    let r = at levels i (omega (arith, within, ap length are, length-map levels digit_of)) in
     (r.0, r.1 ∙ ap (λ t. get_or t i 0) (sym are))
   where
     at : (levels : List Level) (k : ℕ) → k < length levels → (level : Level) × (digit_of level ≡ get_or (map digit_of levels) k 0)

@@ -10,7 +10,7 @@ use can_stream::line::{LINE, Line, push, push_number};
 use can_stream::{Outbox, Sink, TraceFault};
 
 /// What is told of a place in a trace.
-#[derive(Clone, Copy, Debug, PartialEq, Eq)]
+#[derive(Clone, Copy)]
 pub(crate) enum Finding {
     /// A frame begins there.
     Frame {

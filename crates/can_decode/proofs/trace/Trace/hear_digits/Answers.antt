@@ -1,10 +1,11 @@
 use Rattle.std.proofs.Common.{◌≡◌, ◌+◌, [], length, take, subst, sym, ap, refl, ◌∙◌}
-use Rattle.std.proofs.lemmas.List.{length-take-le}
+use Rattle.std.proofs.lemmas.List.{length-map, length-take-le}
+use Rattle.can_frame.specs.Levels.{digit_of}
 use Rattle.can_decode.specs.TraceText.{IsTraceText, levels_in}
 use Rattle.can_decode.specs.Decoding.{Hears}
 use Rattle.can_decode.specs.declared.trace.State.TheVariants.{InFrame, Lost}
 use Rattle.can_decode.specs.declared.trace.Trace.{Trace}
-use Rattle.can_decode.proofs.DecodeSteps.{levels_in-digits, IsTraceText-digits, length-digits}
+use Rattle.can_decode.proofs.DecodeSteps.{levels_in-digits, IsTraceText-digits}
 use Rattle.can_decode.proofs.TraceSteps.{Hearing-run, Hearing-row, Hearing-search}
 use Rattle.can_decode.proofs.trace.Trace.hear_digits.Goals.{in-Idle, in-InFrame, in-Lost}
 use Rattle.can_decode.proofs.trace.Trace.hear_digits.Goals as goal
@@ -24,7 +25,7 @@ returns-clause-hears c = elim c.match-self.branch [
       let run = w.hear_run-heard.ensures.heard in
       let count = w.hear_run-heard.result in
       let size : length run.levels ≡ count =
-      sym (length-digits run.levels) ∙ ap length (sym run.digits_are) ∙ length-take-le count c.args.digits.now w.hear_run-heard.ensures.within in
+      sym (length-map run.levels digit_of) ∙ ap length (sym run.digits_are) ∙ length-take-le count c.args.digits.now w.hear_run-heard.ensures.within in
       let new : Trace = record { state = InFrame w.in-InFrame.start w.hear_run-heard.new.self; place = c.args.self.now.place + count } in
       rw (w.self-is, w.heard-is)
       (subst (λ l. Hears c.args.self.now new l []) (sym (ap levels_in run.digits_are ∙ levels_in-digits run.levels))
