@@ -6,13 +6,9 @@ use Rattle.can_wire.specs.declared.checked_bits.CheckedBits.{CheckedBits}
 use Rattle.can_wire.specs.contracts.checked_bits.CheckedBitsFrameBits.TheImpl as checked_bits
 use Rattle.can_node.specs.declared.node.Node.{Node}
 use Rattle.can_node.specs.Ports.{PortState}
-use Rattle.can_node.specs.Tournament.{frames_in}
+use Rattle.can_node.proofs.NodePort.{node_port}
 use Rattle.can_c_handle.specs.declared.handle.Handle.{Handle}
 use Rattle.can_c.specs.Play.{held_by, held_in, lacks_port, ports_held}
-
--- what a contract sees of a port with memory of its own
-abbrev pub node_port : Node CheckedBits checked_bits.ghosts → PortState
-node_port n = record { mac = n.mac; queue = frames_in n.queue.slots.items; queue_room = n.queue.room; log = n.log.entries.items; log_room = n.log.room; missed = n.log.missed }
 
 -- what ports are that are the same
 pub same-ports : (n m : Node CheckedBits checked_bits.ghosts) → n ≡ m → Some (node_port n) ≡ Some (node_port m)

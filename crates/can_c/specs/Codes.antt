@@ -3,17 +3,9 @@
 use Rattle.std.specs.Prelude.{ℕ, Option, Some, None}
 use Rattle.can_fault.specs.declared.state.State.{State}
 use Rattle.can_fault.specs.declared.state.State.TheVariants.{Active, Passive, BusOff}
-use Rattle.can_mac.specs.declared.event.ErrorKind.{ErrorKind}
-use Rattle.can_mac.specs.declared.event.ErrorKind.TheVariants.{Bit, Stuff, Crc, Form, Ack}
+use Rattle.can_mac.specs.Codes.{kind_code}
 use Rattle.can_mac.specs.declared.event.Event.{Event}
 use Rattle.can_mac.specs.declared.event.Event.TheVariants.{Sent, Received, Lost, Error, Overload, WentOff, Recovered}
-
-abbrev pub kind_code : ErrorKind → ℕ
-kind_code Bit = 4
-kind_code Stuff = 5
-kind_code Crc = 6
-kind_code Form = 7
-kind_code Ack = 8
 
 abbrev pub event_code : Option Event → ℕ
 event_code None = 0

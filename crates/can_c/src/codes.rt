@@ -1,9 +1,9 @@
 //! The numbers by which C knows events and states.
 ghost use Rattle.std.specs.Prelude.{◌≡◌};
-ghost use Rattle.can_c.specs.Codes.{event_code as event_code_of, kind_code as kind_code_of, state_code as state_code_of};
+ghost use Rattle.can_c.specs.Codes.{event_code as event_code_of, state_code as state_code_of};
 
 use can_fault::State;
-use can_mac::{ErrorKind, Event};
+use can_mac::Event;
 
 /// The number of what a bit time brought, 0 where it brought nothing.
 pub fn event_code(event: &Option<Event>) -> u8
@@ -14,23 +14,10 @@ pub fn event_code(event: &Option<Event>) -> u8
         Some(Event::Sent(_)) => 1,
         Some(Event::Received(_)) => 2,
         Some(Event::Lost) => 3,
-        Some(Event::Error(kind)) => kind_code(*kind),
+        Some(Event::Error(kind)) => kind.code(),
         Some(Event::Overload) => 9,
         Some(Event::WentOff) => 10,
         Some(Event::Recovered) => 11,
-    }
-}
-
-/// The number of an error of this kind.
-fn kind_code(kind: ErrorKind) -> u8
-    ensures { result ≡ kind_code_of kind }
-{
-    match kind {
-        ErrorKind::Bit => 4,
-        ErrorKind::Stuff => 5,
-        ErrorKind::Crc => 6,
-        ErrorKind::Form => 7,
-        ErrorKind::Ack => 8,
     }
 }
 

@@ -6,17 +6,13 @@ ghost use Rattle.can_wire.specs.Heard.{HeardParts, Spells};
 ghost use Rattle.can_wire.specs.Wire.{driven};
 ghost use Rattle.can_c.specs.Calls.{encode_status};
 ghost use Rattle.can_frame.specs.Levels.{are_level_codes, level_code, levels_of_codes};
-ghost use Rattle.can_c.specs.PlainFrames.{frame_in, plain_heard, refusal};
+ghost use Rattle.can_c.specs.PlainFrames.{frame_in, plain_heard};
 ghost use Rattle.can_c.specs.Statuses.{done, fault_status, status_code};
 
 use crate::plain::{PlainFrame, PlainHeard};
 use crate::status::Status;
-use arrayvec::ArrayVec;
 use can_code::{decode, encode};
-use can_frame::Level;
-
-/// No frame has more levels than an extended one of eight bytes with all stuff bits.
-const MOST_LEVELS: usize = 157;
+use can_wire::{front_of_codes, write_codes};
 
 /// Writes the levels of the frame as its sender drives them, one for each bit time, from the start of frame to the
 /// end of frame, and how many there are. What stands behind them stays.
@@ -36,21 +32,10 @@ pub extern "C" fn can_c_encode(frame: &PlainFrame, levels: &mut [u8], count: &mu
             if levels.len() < wire.len() {
                 return Status::NoRoom.code();
             }
-            write(wire.as_slice(), levels);
+            write_codes(wire.as_slice(), levels);
             *count = wire.len();
             Status::Done.code()
         }
-    }
-}
-
-/// Writes the levels' numbers in front of what stands there.
-pub(crate) fn write(wire: &[Level], levels: &mut [u8])
-    requires { length wire.now ≤ length levels.old }
-    ensures front { take (length wire.now) levels.new ≡ map level_code wire.now }
-    ensures behind { drop (length wire.now) levels.new ≡ drop (length wire.now) levels.old }
-{
-    for place in 0..wire.len() {
-        levels[place] = wire[place].code();
     }
 }
 
@@ -69,11 +54,10 @@ pub extern "C" fn can_c_decode(levels: &[u8], heard: &mut PlainHeard, place: &mu
     ensures unheard { result ≢ done → heard.new ≡ heard.old }
     ensures unplaced { are_level_codes (take 157 levels.now) ≡ false → place.new ≡ place.old }
 {
-    let front = front_of(levels);
-    if !Level::are_codes(front) {
+    let Some(front) = front_of_codes(levels) else {
         return Status::BadLevel.code();
-    }
-    match decode(levels_in(front).as_slice()) {
+    };
+    match decode(front.as_slice()) {
         Ok((found, count)) => {
             *heard = PlainHeard::of(&found);
             *place = count;
@@ -84,28 +68,4 @@ pub extern "C" fn can_c_decode(levels: &[u8], heard: &mut PlainHeard, place: &mu
             Status::of_fault(fault.kind).code()
         }
     }
-}
-
-/// The first 157 levels, or all where there are no more.
-fn front_of(levels: &[u8]) -> &[u8]
-    ensures front { result.now ≡ take 157 levels.now }
-    ensures within { length result.now ≤ 157 }
-{
-    if levels.len() > MOST_LEVELS {
-        &levels[..MOST_LEVELS]
-    } else {
-        levels
-    }
-}
-
-/// The levels of at most 157 numbers.
-fn levels_in(codes: &[u8]) -> ArrayVec<Level, 157>
-    requires { length codes.now ≤ 157 }
-    ensures { result.items ≡ levels_of_codes codes.now }
-{
-    let mut levels = ArrayVec::new();
-    for code in codes {
-        levels.push(Level::from_code(*code));
-    }
-    levels
 }

@@ -11,13 +11,13 @@ ghost use Rattle.can_c.specs.Play.{AreCodesOf, IsNetworkRun, IsPlayFault, IsPlay
 ghost use Rattle.can_c.specs.PlainInputs.{hits_in, offers_in};
 ghost use Rattle.can_c.specs.Statuses.{bus_status, done, status_code};
 
-use crate::coding::write;
 use crate::inputs::{PlainHit, PlainOffer, read_hits, read_offers};
 use crate::status::Status;
 use can_bus::{Bus, BusFault, Hit, Offer};
 use can_c_handle::Handle;
 use can_frame::Level;
 use can_node::{PackedNode, Port};
+use can_wire::write_codes;
 use std::alloc::{AllocError, Global};
 
 /// How many ports a bus may have.
@@ -80,7 +80,7 @@ fn play_ports(
     let hits = read_hits(alloc, hits)?;
     let mut recorded = Vec::from_elem(alloc, Level::Recessive, levels.len())?;
     let count = run(alloc, handles, &offers, &hits, &mut recorded)?;
-    write(&recorded, levels);
+    write_codes(&recorded, levels);
     Ok(count)
 }
 

@@ -1,8 +1,9 @@
 use Rattle.std.specs.Prelude.{is_some}
 use Rattle.std.proofs.Common.{◌<◌, length, sym, ap, ◌∙◌, arith}
 use Rattle.can_c_handle.specs.declared.handle.Handle.{Handle}
+use Rattle.can_node.proofs.NodePort.{node_port}
 use Rattle.can_c.specs.Play.{held_by}
-use Rattle.can_c.proofs.HandleLists.{exchange-held, exchange-next, exchange-none, exchanged-handles, exchanged-nodes, node_port, same-ports}
+use Rattle.can_c.proofs.HandleLists.{exchange-held, exchange-next, exchange-none, exchanged-handles, exchanged-nodes, same-ports}
 use Rattle.can_c.proofs.play.exchange_all.Goals as goal
 
 pub loop-place-init : goal.loop-place-init

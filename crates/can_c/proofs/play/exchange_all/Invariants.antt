@@ -1,4 +1,5 @@
-use Rattle.can_c.proofs.HandleLists.{IsExchanged, node_port}
+use Rattle.can_node.proofs.NodePort.{node_port}
+use Rattle.can_c.proofs.HandleLists.{IsExchanged}
 use Rattle.can_c.proofs.play.exchange_all.Given as goal
 
 abbrev pub invariant-loop-place : goal.invariant-loop-place

@@ -35,20 +35,20 @@ pub returns-clause-levels : goal.returns-clause-levels
 returns-clause-levels c =
     let all : length c.run.new.recorded ≡ c.in_ok-recorded.recorded.len = omega arith in
     let levels : c.deref-3.result.now ≡ c.run.new.recorded = c.deref-3.ensures.value ∙ take_at c.run.new.recorded _ _ all in
-    let long : length c.write.new.levels ≤ length c.deref-3.result.now = omega (arith, ap length levels, c.in_ok-recorded.ensures.len) in
-    let codes : c.write.new.levels ≡ map level_code c.run.new.recorded =
-    sym (take_all (length c.deref-3.result.now) c.write.new.levels long) ∙ c.write.ensures.front ∙ ap (map level_code) levels in
+    let long : length c.write_codes.new.codes ≤ length c.deref-3.result.now = omega (arith, ap length levels, c.in_ok-recorded.ensures.len) in
+    let codes : c.write_codes.new.codes ≡ map level_code c.run.new.recorded =
+    sym (take_all (length c.deref-3.result.now) c.write_codes.new.codes long) ∙ c.write_codes.ensures.front ∙ ap (map level_code) levels in
     played-levels c.args.handles.now c.check_ports.new.handles c.args.offers.now c.args.hits.now c.deref.result.now c.deref-2.result.now c.in_ok-check_ports.ensures.unchanged
-    (c.deref.ensures.value ∙ c.in_ok-offers.ensures.offers) (c.deref-2.ensures.value ∙ c.in_ok-hits.ensures.hits) c.run.new.recorded c.write.new.levels codes c.in_ok-count.ensures.levels
+    (c.deref.ensures.value ∙ c.in_ok-offers.ensures.offers) (c.deref-2.ensures.value ∙ c.in_ok-hits.ensures.hits) c.run.new.recorded c.write_codes.new.codes codes c.in_ok-count.ensures.levels
 
 pub returns-clause-network : goal.returns-clause-network
 returns-clause-network c =
     let all : length c.run.new.recorded ≡ c.in_ok-recorded.recorded.len = omega arith in
     let levels : c.deref-3.result.now ≡ c.run.new.recorded = c.deref-3.ensures.value ∙ take_at c.run.new.recorded _ _ all in
-    let long : length c.write.new.levels ≤ length c.deref-3.result.now = omega (arith, ap length levels, c.in_ok-recorded.ensures.len) in
-    let codes : c.write.new.levels ≡ map level_code c.run.new.recorded =
-    sym (take_all (length c.deref-3.result.now) c.write.new.levels long) ∙ c.write.ensures.front ∙ ap (map level_code) levels in
-    network-same (offers_in c.args.offers.now) (hits_in c.args.hits.now) (bus_held (held_in c.check_ports.new.handles)) (bus_held (held_in c.args.handles.now)) c.run.new.recorded (levels_of_codes c.write.new.levels)
-    (ports_held (held_in c.run.new.handles)) (ports_held (held_in c.run.new.handles)) (ap bus_held c.in_ok-check_ports.ensures.unchanged) (levels-of c.run.new.recorded c.write.new.levels codes) refl
+    let long : length c.write_codes.new.codes ≤ length c.deref-3.result.now = omega (arith, ap length levels, c.in_ok-recorded.ensures.len) in
+    let codes : c.write_codes.new.codes ≡ map level_code c.run.new.recorded =
+    sym (take_all (length c.deref-3.result.now) c.write_codes.new.codes long) ∙ c.write_codes.ensures.front ∙ ap (map level_code) levels in
+    network-same (offers_in c.args.offers.now) (hits_in c.args.hits.now) (bus_held (held_in c.check_ports.new.handles)) (bus_held (held_in c.args.handles.now)) c.run.new.recorded (levels_of_codes c.write_codes.new.codes)
+    (ports_held (held_in c.run.new.handles)) (ports_held (held_in c.run.new.handles)) (ap bus_held c.in_ok-check_ports.ensures.unchanged) (levels-of c.run.new.recorded c.write_codes.new.codes codes) refl
     (network-given c.deref.result.now (offers_in c.args.offers.now) c.deref-2.result.now (hits_in c.args.hits.now) (bus_held (held_in c.check_ports.new.handles)) c.run.new.recorded (ports_held (held_in c.run.new.handles))
     (c.deref.ensures.value ∙ c.in_ok-offers.ensures.offers) (c.deref-2.ensures.value ∙ c.in_ok-hits.ensures.hits) c.in_ok-count.ensures.network)

@@ -4,8 +4,9 @@ use Rattle.can_hit.specs.Hits.{AreTaken}
 use Rattle.can_bus.specs.Network.{OnNetworkCall}
 use Rattle.can_bus.specs.Offers.{call_after, call_level, call_refused, AreOffered}
 use Rattle.can_bus.specs.Run.{AreLevelsOf}
+use Rattle.can_node.proofs.NodePort.{node_port}
 use Rattle.can_c.specs.Play.{IsNetworkRun, IsPlayFault, bus_held, bus_of, held_in, lacks_port, ports_held}
-use Rattle.can_c.proofs.HandleLists.{lacks-none, node_port, ports-held}
+use Rattle.can_c.proofs.HandleLists.{lacks-none, ports-held}
 use Rattle.can_c.proofs.PlayLemmas.{back-count, back-levels, back-ports, bus-held, fits-parts, network-same}
 use Rattle.can_c.proofs.play.run.Goals as goal
 

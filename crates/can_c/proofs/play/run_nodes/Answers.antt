@@ -6,8 +6,8 @@ use Rattle.can_bus.specs.Offers.{call_level, call_refused, AreOffered}
 use Rattle.can_bus.specs.Run.{AreLevelsOf, BusState}
 use Rattle.can_bus.specs.State.{port_count, port_states, state_of}
 use Rattle.can_hit.specs.Hits.{AreTaken}
+use Rattle.can_node.proofs.NodePort.{node_port}
 use Rattle.can_c.specs.Play.{IsPlayFault, bus_of}
-use Rattle.can_c.proofs.HandleLists.{node_port}
 use Rattle.can_c.proofs.PlayLemmas.{begun, both-ways, network-same, run-ports, run-size}
 use Rattle.can_c.proofs.play.run_nodes.Goals as goal
 
