@@ -1,11 +1,10 @@
 -- A wire that is driven as a list says has the levels that a disturbed run records.
-use Rattle.std.specs.Prelude.{nat_le, ◌&&◌, not, min, ◌↔◌, slice_get}
+use Rattle.std.specs.Prelude.{min, ◌↔◌, slice_get}
 use Rattle.std.specs.List.{Any, list_any}
 use Rattle.std.proofs.Common.{◌≡◌, ℕ, zero, suc, ◌+◌, ◌<◌, ◌≤◌, true, List, [], Some, length, get_or, refl, ap, sym, ◌∙◌, subst, arith, add-one}
 use Rattle.std.proofs.lemmas.Option.{slice_get-get_or, get_or_from_slice_get, slice_get_within}
 use Rattle.can_frame.specs.declared.level.Level.{Level}
 use Rattle.can_frame.specs.declared.level.Level.TheVariants.{Recessive}
-use Rattle.can_frame.specs.Levels.{is_recessive}
 use Rattle.can_hit.specs.declared.hit.Hit.{Hit}
 use Rattle.can_bus.specs.declared.offer.Offer.{Offer}
 use Rattle.can_bus.specs.Disturbed.{FallsOnWire, begins_at, level_then, rest_before}
