@@ -1,5 +1,5 @@
 -- A network with no shorter periods and no more hits meets the same deadlines.
-use Rattle.std.proofs.Common.{◌≡◌, ℕ, zero, suc, ◌+◌, ◌-◌, ◌*◌, ◌/◌, ◌<◌, ◌≤◌, max, Bool, true, false, Option, None, Some, MatchOption, List, [], ◌∷◌, length, map, take, drop, refl, sym, ◌∙◌, ap, subst, inl, inr, arith}
+use Rattle.std.proofs.Common.{◌≡◌, ℕ, zero, suc, ◌+◌, ◌-◌, ◌*◌, ◌/◌, ◌<◌, ◌≤◌, true, false, Option, None, Some, MatchOption, List, [], ◌∷◌, length, map, take, drop, refl, sym, ◌∙◌, ap, subst, inl, inr, arith}
 use Rattle.std.specs.Prelude.{is_some, slice_get, unwrap_or}
 use Rattle.std.proofs.Math.Nat.{lt-div-mul-add, mul-div_left}
 use Rattle.std.proofs.lemmas.Bool.{cases_lt, ltb-false, ltb-true}
@@ -242,6 +242,11 @@ at-place : (ms : List Message) (k : ℕ) → k < length ms → (m : Message) × 
 at-place [] k within = absurd (omega (arith, within))
 at-place (m ∷ ms) zero within = (m, refl)
 at-place (m ∷ ms) (suc k) within = at-place ms k (omega (arith, within))
+
+-- a message without a bound may be late
+pub unbounded : (deadline : ℕ) (bound : Option ℕ) → is_some bound ≡ false → is_above deadline bound ≡ true
+unbounded deadline None none = refl
+unbounded deadline (Some b) none = cc
 
 -- what is answered of the message at a place, and its deadline
 module _ (rate : HitRate) (limit : ℕ) (ms : List Message) (deadlines : List ℕ) (place : ℕ) (bound : Option ℕ)

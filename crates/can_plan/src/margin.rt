@@ -1,5 +1,6 @@
 //! How much is left of a network until a message is late.
-ghost use Rattle.std.specs.Prelude.{◌≡◌, ◌-◌, ◌<◌, ◌≤◌, ℕ, IfOk, MatchOption, map};
+ghost use Rattle.std.specs.Prelude.{◌≡◌, ◌-◌, ◌<◌, ◌≤◌, ℕ, IfOk, IsFalse, IsNone, MatchOption, length, map, nat_lt};
+ghost use Rattle.std.specs.List.{list_all};
 ghost use Rattle.can_plan.specs.Margins.{IsFirstLate, IsFirstUnder, IsMargin, MeetDeadlines, MeetUnder, MeetsDeadline, MeetsUnder, is_above as is_above_of, most_strain as most_strain_of, shorter as shorter_of};
 ghost use Rattle.can_plan.specs.Messages.{ArePeriodic};
 
@@ -29,14 +30,16 @@ pub struct Margin {
 }
 
 /// The place of the first message for which the analysis, with numbers up to the limit, doesn't give its deadline as a
-/// bound; none where there is no such message. Each deadline stands at the place of its message.
+/// bound; none where there is no such message. Each deadline stands at the place of its message. Where a period is 0 none
+/// has a bound, so it is the first, if that has a deadline.
 pub fn first_late(
     messages: &[Message],
     deadlines: &[u32],
     rate: &HitRate,
     limit: u32,
 ) -> Option<usize>
-    ensures { ArePeriodic messages.now → MatchOption result (MeetDeadlines rate.now limit messages.now deadlines.now) (IsFirstLate rate.now limit messages.now deadlines.now) }
+    ensures first { ArePeriodic messages.now → MatchOption result (MeetDeadlines rate.now limit messages.now deadlines.now) (IsFirstLate rate.now limit messages.now deadlines.now) }
+    ensures aperiodic { IsFalse (list_all (λ m. nat_lt 0 m.period) messages.now) → MatchOption result (length deadlines.now ≡ 0) (λ place. (place ≡ 0) × (0 < length deadlines.now)) }
 {
     first_late_from(0, messages, deadlines, rate, limit)
 }
@@ -50,7 +53,8 @@ fn first_late_from(
     limit: u32,
 ) -> Option<usize>
     requires { (k : ℕ) → k < from → MeetsDeadline rate.now limit messages.now deadlines.now k }
-    ensures { ArePeriodic messages.now → MatchOption result (MeetDeadlines rate.now limit messages.now deadlines.now) (IsFirstLate rate.now limit messages.now deadlines.now) }
+    ensures first { ArePeriodic messages.now → MatchOption result (MeetDeadlines rate.now limit messages.now deadlines.now) (IsFirstLate rate.now limit messages.now deadlines.now) }
+    ensures aperiodic { IsFalse (list_all (λ m. nat_lt 0 m.period) messages.now) → from < length messages.now → MatchOption result (length deadlines.now ≤ from) (λ place. (place ≡ from) × (from < length deadlines.now)) }
 {
     let mut busy = 0;
     for place in from..messages.len().min(deadlines.len()) {
@@ -87,7 +91,8 @@ pub fn margin_of(
     rate: &HitRate,
     limit: u32,
 ) -> Result<Option<Margin>, AllocError>
-    ensures { ArePeriodic messages.now → IfOk result (λ margin. MatchOption margin (¬ MeetDeadlines rate.now limit messages.now deadlines.now) (IsMargin strain rate.now limit messages.now deadlines.now)) }
+    ensures margin { ArePeriodic messages.now → IfOk result (λ margin. MatchOption margin (¬ MeetDeadlines rate.now limit messages.now deadlines.now) (IsMargin strain rate.now limit messages.now deadlines.now)) }
+    ensures aperiodic { IsFalse (list_all (λ m. nat_lt 0 m.period) messages.now) → IfOk result (λ margin. IsNone margin) }
 {
     if !are_periodic(messages) || first_late(messages, deadlines, rate, limit).is_some() {
         return Ok(None);

@@ -2,14 +2,14 @@ use Rattle.std.proofs.Common.{◌≡◌, ℕ, ◌<◌, false, true, get_or, leng
 use Rattle.std.proofs.lemmas.Bool.{cases_lt}
 use Rattle.std.proofs.lemmas.Option.{slice_get-get_or, slice_get_within}
 use Rattle.can_plan.specs.Margins.{MeetsDeadline, is_above}
-use Rattle.can_plan.proofs.Margins.{first-here, met-here}
+use Rattle.can_plan.proofs.Margins.{first-here, met-here, unbounded}
 use Rattle.can_plan.proofs.margin.first_late_from.Goals as goal
 
 pub loop-place-init : goal.loop-place-init
-loop-place-init c = (λ periodic k less. c.requires k less, record { first = λ e. refl; next = λ k m n e at some h. omega arith })
+loop-place-init c = (λ periodic k less. c.requires k less, (record { first = λ e. refl; next = λ k m n e at some h. omega arith }, λ none. refl))
 
-pub returns-then-is_above : goal.returns-then-is_above
-returns-then-is_above c = λ periodic.
+pub returns-then-is_above-clause-first : goal.returns-then-is_above-clause-first
+returns-then-is_above-clause-first c = λ periodic.
     let bound = c.response_after-response.result.bound in
     let deadline : ℕ = get_or c.args.deadlines.now c.loop-place.place 0 in
     let due : c.loop-place.place < length c.args.deadlines.now = omega (arith, c.loop-place-test.true, c.min-place-end.ensures) in
@@ -17,6 +17,10 @@ returns-then-is_above c = λ periodic.
     let above : is_above deadline bound ≡ true = ap (λ d. is_above d bound) (sym c.from.ensures) ∙ sym c.is_above.ensures ∙ c.if-is_above.true in
     first-here c.args.rate.now c.args.limit c.args.messages.now c.args.deadlines.now c.loop-place.place bound c.response_after-response.ensures.least deadline
     (slice_get-get_or c.args.deadlines.now c.loop-place.place 0 due) here above periodic (c.loop-place.invariant.0 periodic)
+
+pub returns-then-is_above-clause-aperiodic : goal.returns-then-is_above-clause-aperiodic
+returns-then-is_above-clause-aperiodic c = λ none some.
+    let at = c.loop-place.invariant.1.1 none in (at, omega (arith, at, c.loop-place-test.true, c.min-place-end.ensures))
 
 pub loop-place-preserved : goal.loop-place-preserved
 loop-place-preserved c = (
@@ -32,11 +36,22 @@ loop-place-preserved c = (
         (met-here c.args.rate.now c.args.limit c.args.messages.now c.args.deadlines.now c.loop-place.place bound c.response_after-response.ensures.least deadline
         (slice_get-get_or c.args.deadlines.now c.loop-place.place 0 due) within periodic)
   ],
-  c.response_after-response.ensures.busy,
+  (
+    c.response_after-response.ensures.busy,
+    λ none.
+        let deadline : ℕ = get_or c.args.deadlines.now c.loop-place.place 0 in
+        let over : is_above deadline c.response_after-response.result.bound ≡ true = unbounded deadline c.response_after-response.result.bound (c.response_after-response.ensures.aperiodic none) in
+        let within : is_above deadline c.response_after-response.result.bound ≡ false =
+        ap (λ d. is_above d c.response_after-response.result.bound) (sym c.from.ensures) ∙ sym c.is_above.ensures ∙ c.if-is_above.false in
+        absurd (let h : true ≡ false = sym over ∙ within in cc),
+  ),
 )
 
-pub returns : goal.returns
-returns c = λ periodic place m deadline here due.
+pub returns-clause-aperiodic : goal.returns-clause-aperiodic
+returns-clause-aperiodic c = λ none some. omega (arith, some, c.loop-place.invariant.1.1 none, c.loop-place-test.false, c.min-place-end.ensures)
+
+pub returns-clause-first : goal.returns-clause-first
+returns-clause-first c = λ periodic place m deadline here due.
     let first = slice_get_within c.args.messages.now place m here in
     let second = slice_get_within c.args.deadlines.now place deadline due in
     c.loop-place.invariant.0 periodic place (omega (arith, first, second, c.loop-place-test.false, c.min-place-end.ensures)) m deadline here due

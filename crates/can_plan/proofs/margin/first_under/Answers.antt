@@ -13,7 +13,7 @@ returns-in_ok-shorter-in-ShorterPeriods c =
     let all : c.deref.result.now ≡ map (shorter c.args.more) messages = c.deref.ensures.value ∙ c.in_ok-shorter-in-ShorterPeriods.ensures in
     let Told : List Message → Type 0 = λ ms.
     MatchOption c.first_late_from.result (MeetDeadlines c.args.rate.now c.args.limit ms c.args.deadlines.now) (IsFirstLate c.args.rate.now c.args.limit ms c.args.deadlines.now) in
-    let told = subst (λ (ms : List Message). ArePeriodic ms → Told ms) all c.first_late_from.ensures in
+    let told = subst (λ (ms : List Message). ArePeriodic ms → Told ms) all c.first_late_from.ensures.first in
     subst (λ (s : Strain). MatchOption c.first_late_from.result (MeetUnder s c.args.rate.now c.args.limit messages c.args.deadlines.now c.args.more)
     (IsFirstUnder s c.args.rate.now c.args.limit messages c.args.deadlines.now c.args.more)) (sym c.in-ShorterPeriods.is)
     (told (periodic-under ShorterPeriods c.args.more messages c.requires.periodic))
