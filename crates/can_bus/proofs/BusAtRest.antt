@@ -18,7 +18,7 @@ use Rattle.can_bus.specs.Run.{BusState, CallState, wired_level, begins_attempt, 
 use Rattle.can_bus.specs.Wired.{wired}
 use Rattle.can_bus.specs.Walks.{AreBelow, AreRising, IsPassed, IsCall, in_next, is_hit, aged_by, never, rested, until_at, until_in, until_view}
 use Rattle.can_bus.proofs.CursorLemmas.{reach_none, reach_past, wire_found, attempt_found, view_found}
-use Rattle.can_bus.proofs.StepLemmas.{at_next, view_next, view_later, within_next}
+use Rattle.can_bus.proofs.StepLemmas.{call_of, same_call, at_next, view_next, view_later, within_next}
 
 -- ---- what lies behind a bit time lies behind the later ones
 
@@ -176,11 +176,8 @@ step_rests : (hits : List Hit) (c : CallState) → IsResting c.bus → list_any 
     bus_step hits c ≡ record { bus = c.bus; time = c.time + 1; latest = aged c.latest }
 unfolding bus_step
 step_rests hits c h wire view =
-    ap (λ x. let d : CallState = record { bus = record { ports = all_sampled hits c.time x 0 c.bus.ports; rest = rest_after c.bus.rest x }; time = c.time + 1; latest = attempt_now c } in d) (level_rests hits c h wire)
-    ∙ ap (λ ps. let d : CallState = record { bus = record { ports = ps; rest = rest_after c.bus.rest Recessive }; time = c.time + 1; latest = attempt_now c } in d)
-    (sampled_rest hits c.time 0 c.bus.ports view h.still)
-    ∙ ap (λ r. let d : CallState = record { bus = record { ports = c.bus.ports; rest = r }; time = c.time + 1; latest = attempt_now c } in d) full
-    ∙ ap (λ l. let d : CallState = record { bus = c.bus; time = c.time + 1; latest = l } in d) (attempt_rests c h.wired)
+    ap (λ x. call_of (all_sampled hits c.time x 0 c.bus.ports) (rest_after c.bus.rest x) (c.time + 1) (attempt_now c)) (level_rests hits c h wire)
+    ∙ same_call (sampled_rest hits c.time 0 c.bus.ports view h.still) full refl (attempt_rests c h.wired)
   where
     full : rest_after c.bus.rest Recessive ≡ c.bus.rest
     full = ap (λ r. min (r + 1) idle_row) h.rest ∙ sym h.rest
@@ -192,9 +189,7 @@ pub record IsFree (hits : List Hit) (c : CallState) (n : ℕ) : Type 0 where
 
 pub rested_none : (hits : List Hit) (c : CallState) → bus_after hits 0 c ≡ rested 0 c
 unfolding bus_after
-rested_none hits c =
-    ap (λ l. let d : CallState = record { bus = c.bus; time = c.time; latest = l } in d) (aged_none c.latest)
-    ∙ ap (λ t. let d : CallState = record { bus = c.bus; time = t; latest = aged_by 0 c.latest } in d) (let e : c.time ≡ c.time + 0 = omega arith in e)
+rested_none hits c = same_call {p = c.bus.ports} {rest = c.bus.rest} refl refl (let e : c.time ≡ c.time + 0 = omega arith in e) (aged_none c.latest)
 
 -- so many bit times later nothing but the time has changed
 pub rests_on : (hits : List Hit) (c : CallState) (n k : ℕ) → IsResting c.bus → IsFree hits c n → k ≤ n → bus_after hits k c ≡ rested k c
@@ -203,9 +198,8 @@ rests_on hits c n zero h free within = rested_none hits c
 rests_on hits c n (suc k) h free within =
     ap (bus_step hits) (rests_on hits c n k h free (omega arith))
     ∙ step_rests hits (rested k c) h (ap (λ l. list_any (hits_wire (c.time + k) l) hits) (aged_more k c.latest) ∙ free.wire k (omega arith)) (λ node. free.view k node (omega arith))
-    ∙ ap (λ l. let d : CallState = record { bus = c.bus; time = (c.time + k) + 1; latest = l } in d) (aged_more k c.latest)
-    ∙ ap (λ j. let d : CallState = record { bus = c.bus; time = j; latest = aged_by (k + 1) c.latest } in d) (let e : (c.time + k) + 1 ≡ c.time + suc k = omega arith in e)
-    ∙ ap (λ j. let d : CallState = record { bus = c.bus; time = c.time + suc k; latest = aged_by j c.latest } in d) (let e : k + 1 ≡ suc k = omega arith in e)
+    ∙ same_call {p = c.bus.ports} {rest = c.bus.rest} refl refl (let e : (c.time + k) + 1 ≡ c.time + suc k = omega arith in e)
+    (aged_more k c.latest ∙ ap (λ j. aged_by j c.latest) (let e : k + 1 ≡ suc k = omega arith in e))
 
 -- and a recessive level is recorded in each
 pub rest_recorded : (hits : List Hit) (c : CallState) (n k : ℕ) → IsResting c.bus → IsFree hits c n → k < n → recorded hits (bus_after hits k c) ≡ Recessive

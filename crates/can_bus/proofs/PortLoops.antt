@@ -1,10 +1,18 @@
 -- The loops over the ports.
 use Rattle.std.specs.List.{list_any}
-use Rattle.std.proofs.Common.{◌≡◌, ℕ, zero, suc, ◌+◌, ◌<◌, ◌≤◌, List, [], ◌∷◌, length, map, get_or, set, refl, ap, sym, ◌∙◌, arith, add-one, zero-add}
+use Rattle.std.proofs.Common.{◌≡◌, ℕ, zero, suc, ◌+◌, ◌<◌, ◌≤◌, List, [], ◌∷◌, ◌++◌, length, map, take, drop, get_or, set, refl, ap, sym, ◌∙◌, arith, add-one, zero-add}
+use Rattle.std.proofs.lemmas.List.{take_at}
 use Rattle.can_frame.specs.declared.level.Level.{Level}
 use Rattle.can_node.specs.Ports.{PortState, port_step}
 use Rattle.can_hit.specs.declared.hit.Hit.{Hit}
 use Rattle.can_bus.specs.Run.{hits_view, inverted_if, all_sampled}
+
+-- what is lent and comes back as long is in its place
+pub all_back : {X A : Type 0} (S : X → A) (new items : List X) (len : ℕ) → length new ≡ len → map S (take len (new ++ drop (length new) items)) ≡ map S new
+all_back S new items len e = ap (map S) (take_at new (drop (length new) items) len e)
+
+pub length_back : {X : Type 0} (new items : List X) (len : ℕ) → length new ≡ len → length (take len (new ++ drop (length new) items)) ≡ length new
+length_back new items len e = ap length (take_at new (drop (length new) items) len e)
 
 -- the first i elements, changed each by its number, of which the first is k
 abbrev pub front_at : {A : Type 0} → (ℕ → A → A) → ℕ → ℕ → List A → List A

@@ -1,7 +1,7 @@
 -- One bit time of a call.
 use Rattle.std.specs.Prelude.{if◌then◌else◌}
 use Rattle.std.specs.List.{list_any}
-use Rattle.std.proofs.Common.{◌≡◌, ℕ, ◌+◌, ◌<◌, Bool, true, false, List, Option, Some, None, map, ap, ◌∙◌, arith}
+use Rattle.std.proofs.Common.{◌≡◌, ℕ, ◌+◌, ◌<◌, Bool, true, false, List, Option, Some, None, map, refl, ap, ◌∙◌, arith}
 use Rattle.std.proofs.lemmas.Bool.{lt-ltb}
 use Rattle.std.proofs.lemmas.Bool.Decides.{nat_tests}
 use Rattle.can_frame.specs.declared.level.Level.{Level}
@@ -14,6 +14,14 @@ use Rattle.can_bus.specs.Wired.{wired}
 use Rattle.can_bus.specs.Run.{CallState, begins_attempt, following, aged, hits_wire, inverted_if, all_sampled, rest_after, recorded, bus_step}
 use Rattle.can_bus.specs.Walks.{AreBelow, IsPassed, IsCall, first_call, in_now, in_next}
 use Rattle.can_bus.proofs.CursorLemmas.{below_none, below_above}
+
+-- a call, by what it has
+abbrev pub call_of : List PortState → ℕ → ℕ → Option Attempt → CallState
+call_of ports rest time latest = record { bus = record { ports = ports; rest = rest }; time = time; latest = latest }
+
+pub same_call : {p q : List PortState} {rest last time later : ℕ} {a b : Option Attempt} → p ≡ q → rest ≡ last → time ≡ later → a ≡ b → call_of p rest time a ≡ call_of q last later b
+same_call {p} {q} {rest} {last} {time} {later} {a} {b} ports rests times attempts =
+    ap (λ ps. call_of ps rest time a) ports ∙ ap (λ r. call_of q r time a) rests ∙ ap (λ t. call_of q last t a) times ∙ ap (call_of q last later) attempts
 
 pair_later : (a b : ℕ) → is_pair_above (a + 1) 0 a b ≡ true
 pair_later a b = grind (arith, nat_tests)
@@ -51,21 +59,14 @@ passed_more false (Some a) time passed = let h : a.number + (a.offset + 1) < tim
 pub step_is : (hits : List Hit) (ports next : List PortState) (rest time : ℕ) (latest now : Option Attempt) (w x : Level) →
     w ≡ wired (map port_drives ports) → now ≡ (if begins_attempt rest w then Some (following latest) else aged latest) →
     x ≡ inverted_if (list_any (hits_wire time now) hits) w → next ≡ all_sampled hits time x 0 ports →
-    (x ≡ recorded hits (record { bus = record { ports = ports; rest = rest }; time = time; latest = latest })) ×
-    (record { bus = record { ports = next; rest = rest_after rest x }; time = time + 1; latest = now }
-    ≡ bus_step hits (record { bus = record { ports = ports; rest = rest }; time = time; latest = latest }))
+    (x ≡ recorded hits (call_of ports rest time latest)) × (call_of next (rest_after rest x) (time + 1) now ≡ bus_step hits (call_of ports rest time latest))
 unfolding recorded bus_step
 step_is hits ports next rest time latest now w x a b d e =
-    let c : CallState = record { bus = record { ports = ports; rest = rest }; time = time; latest = latest } in
     let n : now ≡ (if begins_attempt rest (wired (map port_drives ports)) then Some (following latest) else aged latest) =
     b ∙ ap (λ v. if begins_attempt rest v then Some (following latest) else aged latest) a in
-    let r : x ≡ recorded hits c = d ∙ ap (λ m. inverted_if (list_any (hits_wire time m) hits) w) n
-    ∙ ap (λ v. inverted_if (list_any (hits_wire time (if begins_attempt rest (wired (map port_drives ports)) then Some (following latest) else aged latest)) hits) v) a in (
-      r,
-      ap (λ ps. record { bus = record { ports = ps; rest = rest_after rest x }; time = time + 1; latest = now }) e
-          ∙ ap (λ v. record { bus = record { ports = all_sampled hits time v 0 ports; rest = rest_after rest v }; time = time + 1; latest = now }) r
-          ∙ ap (λ m. record { bus = record { ports = all_sampled hits time (recorded hits c) 0 ports; rest = rest_after rest (recorded hits c) }; time = time + 1; latest = m }) n,
-    )
+    let r : x ≡ recorded hits (call_of ports rest time latest) = d ∙ ap (λ m. inverted_if (list_any (hits_wire time m) hits) w) n
+    ∙ ap (λ v. inverted_if (list_any (hits_wire time (if begins_attempt rest (wired (map port_drives ports)) then Some (following latest) else aged latest)) hits) v) a in
+    (r, same_call (e ∙ ap (λ v. all_sampled hits time v 0 ports) r) (ap (rest_after rest) r) refl n)
 
 -- a call begins
 pub first_ready : (hits : List Hit) → IsCall hits first_call

@@ -203,6 +203,7 @@ impl<P: Port> Bus<P> {
         requires reached { IsReached offers.now progress.old.place (begun + 1) }
         requires refused { progress.old.refused ≤ progress.old.place }
         ensures ports { port_states P.port self.new ≡ made_behind offers.now begun (end - begun - 1) (port_states P.port self.old) }
+        ensures size { port_count self.new ≡ port_count self.old }
         ensures rest { rest_of self.new ≡ rest_of self.old }
         ensures count { progress.new.refused ≡ progress.old.refused + refused_behind offers.now begun (end - begun - 1) (port_states P.port self.old) }
         ensures reached { IsReached offers.now progress.new.place end }

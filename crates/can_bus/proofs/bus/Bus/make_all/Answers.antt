@@ -6,6 +6,7 @@ use Rattle.std.proofs.lemmas.Option.{slice_get_read, slice_get_within, get_or_fr
 use Rattle.can_bus.specs.declared.bus.play_disturbed.Progress.{Progress}
 use Rattle.can_bus.specs.declared.offer.Offer.{Offer}
 use Rattle.can_bus.specs.Offers.{all_made, is_full, made, refused_at}
+use Rattle.can_bus.specs.Walks.{IsReached}
 use Rattle.can_bus.proofs.OfferLemmas.{IsWithin, within-first, within-more, within-last, front_none, next_made, rest_none, length-made, one_refused, none_refused, one_at_most}
 use Rattle.can_bus.proofs.bus.Bus.make_all.Goals as goal
 use Rattle.can_bus.proofs.bus.Bus.make_all.Goals.{then-not-make, else-not-make}
@@ -75,28 +76,26 @@ loop-progress-preserved g c =
       refused = omega arith;
     }
 
-pub returns-else-offers-progress-clause-reached : goal.returns-else-offers-progress-clause-reached
-returns-else-offers-progress-clause-reached g c =
-    within-last (length c.args.self.now.ports.items) c.args.offers.now c.loop-progress.progress.place c.args.time c.requires.offered c.loop-progress.invariant.within
-    (λ offer there now. c.if-offers-progress.false
-    (ap (λ (o : Offer). o.time) (get_or_from_slice_get c.args.offers.now c.loop-progress.progress.place offer c.index-offers-progress.result there) ∙ now))
-
-pub returns-else-offers-progress-clause-ports : goal.returns-else-offers-progress-clause-ports
-returns-else-offers-progress-clause-ports g c =
-    let reached = returns-else-offers-progress-clause-reached g c in
-    let none = rest_none c.args.offers.now c.loop-progress.progress.place c.args.time (map g.P.Port.port c.loop-progress.self.ports.items)
-    (λ n o behind at. let h : c.args.time + 1 ≤ o.time = reached.ahead n o behind at in omega arith) in
-    sym none.0 ∙ c.loop-progress.invariant.ports
-
-pub returns-else-offers-progress-clause-count : goal.returns-else-offers-progress-clause-count
-returns-else-offers-progress-clause-count g c =
-    let reached = returns-else-offers-progress-clause-reached g c in
-    let none = rest_none c.args.offers.now c.loop-progress.progress.place c.args.time (map g.P.Port.port c.loop-progress.self.ports.items)
-    (λ n o behind at. let h : c.args.time + 1 ≤ o.time = reached.ahead n o behind at in omega arith) in
-    let left : refused_at (drop c.loop-progress.progress.place c.args.offers.now) c.args.time (map g.P.Port.port c.loop-progress.self.ports.items) ≡ 0 = none.1 in
-    let all : c.loop-progress.progress.refused + refused_at (drop c.loop-progress.progress.place c.args.offers.now) c.args.time (map g.P.Port.port c.loop-progress.self.ports.items)
-    ≡ c.args.progress.now.refused + refused_at c.args.offers.now c.args.time (map g.P.Port.port c.args.self.now.ports.items) = c.loop-progress.invariant.count in
-    omega arith
+pub returns-else-offers-progress : goal.returns-else-offers-progress
+returns-else-offers-progress g c =
+    let offers = c.args.offers.now in
+    let place = c.loop-progress.progress.place in
+    let ports = map g.P.Port.port c.loop-progress.self.ports.items in
+    let reached : IsReached c.args.offers.now c.loop-progress.progress.place (c.args.time + 1) =
+    within-last (length c.args.self.now.ports.items) offers place c.args.time c.requires.offered c.loop-progress.invariant.within
+    (λ offer there now. c.if-offers-progress.false (ap (λ (o : Offer). o.time) (get_or_from_slice_get offers place offer c.index-offers-progress.result there) ∙ now)) in
+    let none = rest_none offers place c.args.time ports (λ n o behind at. let h : c.args.time + 1 ≤ o.time = reached.ahead n o behind at in omega arith) in
+    let left : refused_at (drop place offers) c.args.time ports ≡ 0 = none.1 in
+    let all : c.loop-progress.progress.refused + refused_at (drop place offers) c.args.time ports ≡ c.args.progress.now.refused + refused_at offers c.args.time (map g.P.Port.port c.args.self.now.ports.items) =
+    c.loop-progress.invariant.count in
+    record {
+      ports = sym none.0 ∙ c.loop-progress.invariant.ports;
+      size = c.loop-progress.invariant.size;
+      rest = c.loop-progress.invariant.rest;
+      count = omega (arith, all, left);
+      reached = reached;
+      refused = c.loop-progress.invariant.refused;
+    }
 
 pub returns-after-loop-progress-clause-reached : goal.returns-after-loop-progress-clause-reached
 returns-after-loop-progress-clause-reached g c =

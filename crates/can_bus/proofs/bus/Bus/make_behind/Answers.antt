@@ -1,11 +1,10 @@
 use Rattle.std.proofs.Common.{◌≡◌, ◌≤◌, ◌<◌, ◌+◌, ◌-◌, length, map, refl, sym, subst, ap, arith, inl, inr, ◌∙◌}
 use Rattle.std.proofs.lemmas.Bool.{cases_lt}
-use Rattle.std.proofs.lemmas.List.{length-map}
 use Rattle.std.proofs.lemmas.Option.{slice_get_within}
 use Rattle.can_bus.specs.Offers.{AreOffered, all_made, refused_at}
 use Rattle.can_bus.specs.Passing.{made_behind, refused_behind}
 use Rattle.can_bus.specs.Walks.{IsReached}
-use Rattle.can_bus.proofs.OfferLemmas.{length-all_made, reached-last, reached-next}
+use Rattle.can_bus.proofs.OfferLemmas.{reached-last, reached-next}
 use Rattle.can_bus.proofs.OpenFrames.{behind-end, behind-next}
 use Rattle.can_bus.proofs.bus.Bus.make_behind.Goals as goal
 
@@ -70,34 +69,22 @@ loop-time-preserved g c =
       ports = c.make_all.ensures.ports ∙ ap (all_made offers c.in-Some.time) c.loop-time.invariant.ports ∙ sym goes.0;
       count = omega (arith, made, now, count, sum);
       refused = c.make_all.ensures.refused;
-      size = sym (length-map c.make_all.new.self.ports.items g.P.Port.port) ∙ ap length c.make_all.ensures.ports
-          ∙ length-all_made offers c.in-Some.time (map g.P.Port.port c.loop-time.self.ports.items) ∙ length-map c.loop-time.self.ports.items g.P.Port.port ∙ c.loop-time.invariant.size;
+      size = c.make_all.ensures.size ∙ c.loop-time.invariant.size;
       rest = c.make_all.ensures.rest ∙ c.loop-time.invariant.rest;
     }
 
-pub returns-clause-reached : goal.returns-clause-reached
-returns-clause-reached g c =
-    reached-last (length c.args.self.now.ports.items) c.args.offers.now c.loop-time.progress.place c.loop-time.made c.args.end c.requires.offered c.loop-time.invariant.reached c.loop-time.invariant.early
-    (λ offer there. c.in_default.ensures.none refl offer there)
-
--- what is made up to the end
-all-made : (g : _) (c : goal.In_default g) →
-    (made_behind c.args.offers.now c.args.begun (c.args.end - c.args.begun - 1) (map g.P.Port.port c.args.self.now.ports.items)
-    ≡ made_behind c.args.offers.now c.args.begun (c.loop-time.made - c.args.begun) (map g.P.Port.port c.args.self.now.ports.items))
-    × (refused_behind c.args.offers.now c.args.begun (c.args.end - c.args.begun - 1) (map g.P.Port.port c.args.self.now.ports.items)
-    ≡ refused_behind c.args.offers.now c.args.begun (c.loop-time.made - c.args.begun) (map g.P.Port.port c.args.self.now.ports.items))
-all-made g c =
-    behind-end c.args.offers.now c.loop-time.progress.place c.args.begun c.loop-time.made c.args.end (map g.P.Port.port c.args.self.now.ports.items)
-    c.loop-time.invariant.begun c.loop-time.invariant.early c.loop-time.invariant.reached (returns-clause-reached g c)
-
-pub returns-clause-ports : goal.returns-clause-ports
-returns-clause-ports g c = c.loop-time.invariant.ports ∙ sym (all-made g c).0
-
-pub returns-clause-rest : goal.returns-clause-rest
-returns-clause-rest g c = c.loop-time.invariant.rest
-
-pub returns-clause-count : goal.returns-clause-count
-returns-clause-count g c = c.loop-time.invariant.count ∙ ap (λ n. c.args.progress.now.refused + n) (sym (all-made g c).1)
-
-pub returns-clause-refused : goal.returns-clause-refused
-returns-clause-refused g c = c.loop-time.invariant.refused
+pub returns : goal.returns
+returns g c =
+    let offers = c.args.offers.now in
+    let first = map g.P.Port.port c.args.self.now.ports.items in
+    let reached : IsReached c.args.offers.now c.loop-time.progress.place c.args.end =
+    reached-last (length c.args.self.now.ports.items) offers c.loop-time.progress.place c.loop-time.made c.args.end c.requires.offered c.loop-time.invariant.reached c.loop-time.invariant.early (λ offer there. c.in_default.ensures.none refl offer there) in
+    let made = behind-end offers c.loop-time.progress.place c.args.begun c.loop-time.made c.args.end first c.loop-time.invariant.begun c.loop-time.invariant.early c.loop-time.invariant.reached reached in
+    record {
+      ports = c.loop-time.invariant.ports ∙ sym made.0;
+      size = c.loop-time.invariant.size;
+      rest = c.loop-time.invariant.rest;
+      count = c.loop-time.invariant.count ∙ ap (λ n. c.args.progress.now.refused + n) (sym made.1);
+      reached = reached;
+      refused = c.loop-time.invariant.refused;
+    }

@@ -1,5 +1,4 @@
 use Rattle.std.proofs.Common.{◌≡◌, ◌≤◌, ◌++◌, List, drop, length, map, take, arith, rules, ap, subst, ◌∙◌}
-use Rattle.std.proofs.lemmas.List.{take_at}
 use Rattle.can_node.specs.Ports.{PortState, port_run}
 use Rattle.can_bus.specs.Passing.{IsReceived, PassesBus}
 use Rattle.can_bus.specs.State.{state_of}
@@ -7,6 +6,7 @@ use Rattle.can_bus.specs.Walks.{call_on}
 use Rattle.can_bus.proofs.BusAtRest.{after_none}
 use Rattle.can_bus.proofs.NetworkCalls.{valid-ports}
 use Rattle.can_bus.proofs.PassedFrames.{line-passed, line-recorded}
+use Rattle.can_bus.proofs.PortLoops.{all_back}
 use Rattle.can_bus.proofs.bus.Bus.pass_frame.Goals as goal
 
 pub returns-then-is_recessive-clause-after : goal.returns-then-is_recessive-clause-after
@@ -33,12 +33,10 @@ returns g c =
     let valid = valid-ports S (λ x. g.met.P.Port.valid x) items in
     let within : c.lay_out-count.result ≤ length c.lay_out-count.new.rec = omega (arith, c.lay_out-count.ensures.most, c.lay_out-count.ensures.len) in
     let are = c.lay_out-count.ensures.levels c.if-count-eq0.false in
-    let len : length c.pass_all.new.ports ≡ c.args.self.now.ports.len = omega (arith, c.pass_all.auto.ports, c.as_mut_slice.ensures.len) in
-    let back : take c.args.self.now.ports.len (c.pass_all.new.ports ++ drop (length c.pass_all.new.ports) c.args.self.now.ports.items) ≡ c.pass_all.new.ports =
-    take_at c.pass_all.new.ports _ c.args.self.now.ports.len len in
+    let back = all_back S c.pass_all.new.ports items c.args.self.now.ports.len (omega (arith, c.pass_all.auto.ports, c.as_mut_slice.ensures.len)) in
     let next : List PortState = map S (take c.args.self.now.ports.len (c.pass_all.new.ports ++ drop (length c.pass_all.new.ports) c.args.self.now.ports.items)) in
     let goes : next ≡ map (λ p. port_run p (take c.lay_out-count.result c.lay_out-count.new.rec)) (map S items) =
-    ap (map S) back ∙ c.pass_all.ensures ∙ ap (λ ys. map (λ p. port_run p (take c.lay_out-count.result c.lay_out-count.new.rec)) (map S ys)) c.as_mut_slice.ensures.value in
+    back ∙ c.pass_all.ensures ∙ ap (λ ys. map (λ p. port_run p (take c.lay_out-count.result c.lay_out-count.new.rec)) (map S ys)) c.as_mut_slice.ensures.value in
     record {
       most = first_of (search rules, omega arith);
       levels = line-recorded c.args.hits.now f c.in-Some.ensures.whole (map S items) c.args.self.now.rest call.time call.latest rested got valid passes

@@ -2,13 +2,13 @@ use Rattle.std.specs.Prelude.{Ok}
 use Rattle.std.proofs.Common.{◌≡◌, ◌+◌, ◌-◌, true, false, Some, length, map, get_or, drop, inl, inr, arith, rules, refl, sym, ap, subst, ◌∙◌}
 use Rattle.std.proofs.lemmas.Bool.{cases_lt}
 use Rattle.std.proofs.lemmas.Grind.{elements}
-use Rattle.std.proofs.lemmas.List.{length-drop, length-map}
+use Rattle.std.proofs.lemmas.List.{length-drop}
 use Rattle.std.proofs.lemmas.Option.{slice_get-get_or}
 use Rattle.can_frame.specs.declared.level.Level.TheVariants.{Recessive}
 use Rattle.can_bus.specs.DisturbedPlay.{WasPlayed}
 use Rattle.can_bus.specs.declared.call.Call.{Call}
 use Rattle.can_hit.specs.Hits.{AreTaken}
-use Rattle.can_bus.specs.Offers.{call_after, call_level, call_refused, offered_now, AreOffered, all_made, refused_at}
+use Rattle.can_bus.specs.Offers.{call_after, call_level, call_refused, offered_now, AreOffered, refused_at}
 use Rattle.can_bus.specs.Run.{AreLevelsOf, CallState}
 use Rattle.can_bus.specs.State.{state_of}
 use Rattle.can_bus.specs.Walks.{IsCall, IsReached, call_on}
@@ -16,8 +16,8 @@ use Rattle.can_bus.proofs.DisturbedPlays.{call-played}
 use Rattle.can_bus.proofs.CallLemmas.{call-none, refused-none, refused-several}
 use Rattle.can_bus.proofs.HitOrder.{taken-rising}
 use Rattle.can_bus.proofs.NetworkCalls.{network-active, network-counts, network-has, network-logs, network-missed, network-refused, network-rests, network-tally, network-track, network-whole, unoffered, untaken, valid-ports}
-use Rattle.can_bus.proofs.OfferLemmas.{reached-first, length-all_made}
-use Rattle.can_bus.proofs.StepLemmas.{first_ready}
+use Rattle.can_bus.proofs.OfferLemmas.{reached-first}
+use Rattle.can_bus.proofs.StepLemmas.{first_ready, same_call}
 use Rattle.can_bus.proofs.bus.Bus.play_disturbed.Goals as goal
 
 pub returns-in_err-check-clause-taken : goal.returns-in_err-check-clause-taken
@@ -106,12 +106,8 @@ make_all-requires-clause-offered g c =
 
 pub go_ahead-place-requires-clause-offered : goal.go_ahead-place-requires-clause-offered
 go_ahead-place-requires-clause-offered g c =
-    let S = g.P.Port.port in
     let size : c.len.result ≡ length c.args.self.now.ports.items = search rules in
-    let made : length c.make_all.new.self.ports.items ≡ length c.args.self.now.ports.items =
-    sym (length-map c.make_all.new.self.ports.items S) ∙ ap length c.make_all.ensures.ports ∙ length-all_made c.args.offers.now _ (map S c.loop-place.self.ports.items)
-    ∙ length-map c.loop-place.self.ports.items S ∙ c.loop-place.invariant.size in
-    subst (λ n. AreOffered n c.args.offers.now) (size ∙ sym made) (c.in_ok-check.ensures.taken.0 (refl {a = true}))
+    subst (λ n. AreOffered n c.args.offers.now) (size ∙ sym (c.make_all.ensures.size ∙ c.loop-place.invariant.size)) (c.in_ok-check.ensures.taken.0 (refl {a = true}))
 
 pub go_ahead-place-requires-clause-rising : goal.go_ahead-place-requires-clause-rising
 go_ahead-place-requires-clause-rising g c = taken-rising c.len-2.result c.args.hits.now (c.in_ok-check-2.ensures.taken.0 (refl {a = true}))
@@ -128,9 +124,7 @@ loop-place-preserved g c =
     let left : length (drop c.loop-place.place c.loop-place.rec) + c.loop-place.place ≡ length c.loop-place.rec = omega (arith, length-drop c.loop-place.place c.loop-place.rec) in
     let state-is : call_on (state_of g.P.Port.port c.loop-place.self) c.loop-place.call ≡ call_after offers hits c.loop-place.place bus = c.loop-place.invariant.state in
     let made : start ≡ offered_now offers (call_after offers hits c.loop-place.place bus) =
-    ap (λ ps. let k : CallState = record { bus = record { ports = ps; rest = c.make_all.new.self.rest }; time = c.loop-place.call.time; latest = c.loop-place.call.latest } in k) c.make_all.ensures.ports
-    ∙ ap (λ r. let k : CallState = record { bus = record { ports = all_made offers c.loop-place.call.time (map S c.loop-place.self.ports.items); rest = r }; time = c.loop-place.call.time; latest = c.loop-place.call.latest } in k) c.make_all.ensures.rest
-    ∙ ap (offered_now offers) state-is in
+    same_call {time = c.loop-place.call.time} {a = c.loop-place.call.latest} c.make_all.ensures.ports c.make_all.ensures.rest refl refl ∙ ap (offered_now offers) state-is in
     let begun : start ≡ offered_now offers (call_after offers hits c.loop-place.call.time bus) = made ∙ ap (λ t. offered_now offers (call_after offers hits t bus)) (sym time) in
     let one = refused-several offers hits bus c.loop-place.place 1 start made (λ t ports after before. absurd (omega (arith, after, before))) 1 (omega arith) (omega arith) in
     let first : c.make_all.new.progress.refused ≡ call_refused offers hits (c.loop-place.call.time + 1) bus =
@@ -153,8 +147,7 @@ loop-place-preserved g c =
       count = c.go_ahead-place.ensures.count bus begun first ∙ ap (λ t. call_refused offers hits (t + c.go_ahead-place.result) bus) time;
       reached = subst (λ t. IsReached offers c.go_ahead-place.new.progress.place (t + c.go_ahead-place.result)) time c.go_ahead-place.ensures.reached;
       refused = c.go_ahead-place.ensures.refused;
-      size = c.go_ahead-place.ensures.ports ∙ sym (length-map c.make_all.new.self.ports.items S) ∙ ap length c.make_all.ensures.ports
-          ∙ length-all_made offers _ (map S c.loop-place.self.ports.items) ∙ length-map c.loop-place.self.ports.items S ∙ c.loop-place.invariant.size;
+      size = c.go_ahead-place.ensures.ports ∙ c.make_all.ensures.size ∙ c.loop-place.invariant.size;
       call = c.go_ahead-place.ensures.call;
       time = omega (arith, c.go_ahead-place.ensures.time, time);
       long = first_of (omega arith, grind (arith, elements), search rules);

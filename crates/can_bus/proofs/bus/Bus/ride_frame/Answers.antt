@@ -1,5 +1,4 @@
 use Rattle.std.proofs.Common.{◌≡◌, ◌≢◌, ◌-◌, ◌≤◌, ◌++◌, List, drop, length, map, take, arith, rules, ap, ◌∙◌}
-use Rattle.std.proofs.lemmas.List.{take_at}
 use Rattle.can_mac.specs.Frames.{with_intermission}
 use Rattle.can_node.specs.Ports.{PortState, port_run}
 use Rattle.can_bus.specs.Passing.{rest_run}
@@ -8,6 +7,7 @@ use Rattle.can_bus.specs.Walks.{call_on}
 use Rattle.can_bus.proofs.BusAtRest.{after_none}
 use Rattle.can_bus.proofs.NetworkCalls.{valid-ports}
 use Rattle.can_bus.proofs.PassedFrames.{ridden-passed, ridden-recorded}
+use Rattle.can_bus.proofs.PortLoops.{all_back}
 use Rattle.can_bus.proofs.bus.Bus.ride_frame.Goals as goal
 
 pub returns-then-most-lt-SHORTEST_RIDE-clause-after : goal.returns-then-most-lt-SHORTEST_RIDE-clause-after
@@ -35,11 +35,9 @@ returns g c =
     let valid = valid-ports S (λ x. g.met.P.Port.valid x) items in
     let are = ap (take (later.time - call.time)) c.requires.levels in
     let front = take (later.time - call.time) rec in
-    let len : length c.ride_all.new.ports ≡ c.args.self.now.ports.len = omega (arith, c.ride_all.auto.ports, c.as_mut_slice.ensures.len) in
-    let back : take c.args.self.now.ports.len (c.ride_all.new.ports ++ drop (length c.ride_all.new.ports) c.args.self.now.ports.items) ≡ c.ride_all.new.ports =
-    take_at c.ride_all.new.ports _ c.args.self.now.ports.len len in
+    let back = all_back S c.ride_all.new.ports items c.args.self.now.ports.len (omega (arith, c.ride_all.auto.ports, c.as_mut_slice.ensures.len)) in
     let next : List PortState = map S (take c.args.self.now.ports.len (c.ride_all.new.ports ++ drop (length c.ride_all.new.ports) c.args.self.now.ports.items)) in
-    let goes : next ≡ map (λ p. port_run p front) (map S items) = ap (map S) back ∙ c.ride_all.ensures ∙ ap (λ ys. map (λ p. port_run p front) (map S ys)) c.as_mut_slice.ensures.value in
+    let goes : next ≡ map (λ p. port_run p front) (map S items) = back ∙ c.ride_all.ensures ∙ ap (λ ys. map (λ p. port_run p front) (map S ys)) c.as_mut_slice.ensures.value in
     record {
       most = first_of (search rules, omega arith);
       levels = ridden-recorded c.args.hits.now f c.requires.whole (map S items) c.args.self.now.rest call.time call.latest c.requires.rested c.requires.received valid c.requires.passes

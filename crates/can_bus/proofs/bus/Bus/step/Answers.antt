@@ -1,9 +1,9 @@
 use Rattle.std.proofs.Common.{◌≡◌, ◌+◌, ◌++◌, refl, List, length, map, take, drop, arith, sym, ap, subst, ◌∙◌}
-use Rattle.std.proofs.lemmas.List.{take_at}
 use Rattle.can_node.specs.Ports.{PortState}
-use Rattle.can_bus.specs.Run.{CallState, begins_attempt, inverted_if, all_sampled, rest_after}
+use Rattle.can_bus.specs.Run.{begins_attempt, inverted_if, all_sampled}
 use Rattle.can_bus.specs.Walks.{AreBelow, IsPassed, in_now}
-use Rattle.can_bus.proofs.StepLemmas.{within_now, within_next, at_next, passed_more, step_is}
+use Rattle.can_bus.proofs.PortLoops.{all_back}
+use Rattle.can_bus.proofs.StepLemmas.{same_call, within_now, within_next, at_next, passed_more, step_is}
 use Rattle.can_bus.proofs.bus.Bus.step.Goals as goal
 
 pub hits_wire-hit-requires-clause-within : goal.hits_wire-hit-requires-clause-within
@@ -28,12 +28,9 @@ returns-clause-after g c =
     let S = g.P.Port.port in
     let xs = c.args.self.now.ports in
     let level = c.inverted_if-level.result in
-    let len : length c.sample_all.new.ports ≡ c.args.self.now.ports.len = omega (arith, c.sample_all.auto.ports, c.as_mut_slice.ensures.len) in
-    let back : take c.args.self.now.ports.len (c.sample_all.new.ports ++ drop (length c.sample_all.new.ports) c.args.self.now.ports.items) ≡ c.sample_all.new.ports =
-    take_at c.sample_all.new.ports _ c.args.self.now.ports.len len in
     let next : List PortState = map S (take c.args.self.now.ports.len (c.sample_all.new.ports ++ drop (length c.sample_all.new.ports) c.args.self.now.ports.items)) in
     let sampled : next ≡ all_sampled c.args.hits.now c.args.call.now.time level 0 (map S xs.items) =
-    ap (map S) back ∙ c.sample_all.ensures.ports
+    all_back S c.sample_all.new.ports xs.items xs.len (omega (arith, c.sample_all.auto.ports, c.as_mut_slice.ensures.len)) ∙ c.sample_all.ensures.ports
     ∙ ap (λ t. all_sampled c.args.hits.now t level 0 (map S c.as_mut_slice.result.now)) c.hits_wire-hit.ensures.time
     ∙ ap (λ ys. all_sampled c.args.hits.now c.args.call.now.time level 0 (map S ys)) c.as_mut_slice.ensures.value in
     let both = step_is c.args.hits.now (map S xs.items) next c.args.self.now.rest c.args.call.now.time c.args.call.now.latest
@@ -42,10 +39,7 @@ returns-clause-after g c =
     c.attempt_now-call.ensures
     (c.inverted_if-level.ensures ∙ ap (λ b. inverted_if b c.args.driven.now) c.hits_wire-hit.ensures.result)
     sampled in
-    ap (λ r. let after : CallState = record { bus = record { ports = next; rest = r }; time = c.hits_wire-hit.new.self.time + 1; latest = c.hits_wire-hit.new.self.latest } in after) c.rest_after-self.ensures
-    ∙ ap (λ t. let after : CallState = record { bus = record { ports = next; rest = rest_after c.args.self.now.rest level }; time = t + 1; latest = c.hits_wire-hit.new.self.latest } in after) c.hits_wire-hit.ensures.time
-    ∙ ap (λ l. let after : CallState = record { bus = record { ports = next; rest = rest_after c.args.self.now.rest level }; time = c.args.call.now.time + 1; latest = l } in after) c.hits_wire-hit.ensures.latest
-    ∙ both.1
+    same_call {p = next} refl c.rest_after-self.ensures (ap (λ t. t + 1) c.hits_wire-hit.ensures.time) c.hits_wire-hit.ensures.latest ∙ both.1
 
 pub returns-clause-call : goal.returns-clause-call
 returns-clause-call g c =

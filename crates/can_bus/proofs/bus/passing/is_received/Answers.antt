@@ -1,7 +1,7 @@
 use Rattle.std.proofs.Common.{◌≡◌, true, get_or, sym, subst, ◌∙◌}
 use Rattle.can_frame.specs.Arbitration.{arbitration_field}
 use Rattle.can_bus.specs.Passing.{PassesBy, Receives}
-use Rattle.can_bus.proofs.PassedFrames.{passes-more, received-here, received-more}
+use Rattle.can_bus.proofs.PassingPorts.{passes-more, received-here, received-more}
 use Rattle.can_bus.proofs.bus.passing.is_received.Goals as goal
 use Rattle.can_bus.proofs.bus.passing.is_received.Goals.{then-branch, else-branch}
 

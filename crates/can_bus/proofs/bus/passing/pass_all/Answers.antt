@@ -1,8 +1,7 @@
 use Rattle.std.proofs.Common.{map, arith, ◌∙◌}
 use Rattle.std.proofs.lemmas.List.{length-map}
 use Rattle.can_node.specs.Ports.{port_run}
-use Rattle.can_bus.specs.Passing.{MayPass}
-use Rattle.can_bus.proofs.PassedFrames.{bus-lets, holds-next}
+use Rattle.can_bus.proofs.PassingPorts.{bus-may, may-next}
 use Rattle.can_bus.proofs.PortLoops.{front_at_more, front_at_each}
 use Rattle.can_bus.proofs.bus.passing.pass_all.Goals as goal
 
@@ -10,8 +9,8 @@ pub pass_one-requires-clause-passes : goal.pass_one-requires-clause-passes
 pass_one-requires-clause-passes g c =
     let f = c.args.frame.now in
     let S = g.P.Port.port in
-    holds-next (MayPass f) S (λ n p. port_run p c.args.levels.now) 0 c.loop-port.port-index c.loop-port.ports (map S c.args.ports.now) c.port-item.result
-    (bus-lets f (map S c.args.ports.now) c.requires.passes) c.loop-port.invariant (omega arith)
+    may-next S f (λ n p. port_run p c.args.levels.now) 0 c.loop-port.port-index c.loop-port.ports (map S c.args.ports.now) c.port-item.result
+    (bus-may f (map S c.args.ports.now) c.requires.passes) c.loop-port.invariant (omega arith)
 
 pub loop-port-preserved : goal.loop-port-preserved
 loop-port-preserved g c =

@@ -1,0 +1,302 @@
+-- Ports that a frame passes at once: what they drive in its bit times, and which they are among others.
+use Rattle.std.proofs.Common.{◌≡◌, ℕ, zero, suc, ◌+◌, ◌-◌, ◌++◌, ◌<◌, ◌≤◌, ◌⊎◌, Some, List, [], ◌∷◌, length, map, take, drop, get_or, add-one, refl, sym, ap, subst, ◌∙◌, arith, inl, inr}
+use Rattle.std.proofs.lemmas.List.{map-id}
+use Rattle.can_frame.specs.declared.level.Level.{Level}
+use Rattle.can_frame.specs.declared.level.Level.TheVariants.{Dominant, Recessive}
+use Rattle.can_frame.specs.Parts.{Parts, IsFrame}
+use Rattle.can_wire.specs.Layout.{level_at}
+use Rattle.can_wire.specs.Wire.{stuffed_part}
+use Rattle.can_mac.specs.Frames.{driven_with_intermission, role_drives, with_intermission}
+use Rattle.can_mac.specs.State.{MacState}
+use Rattle.can_mac.proofs.FrameParts.{length-with_intermission}
+use Rattle.can_mac.proofs.FrameRoles.{role-own}
+use Rattle.can_node.specs.Passing.{HasHeard, IsAside}
+use Rattle.can_node.specs.Ports.{PortState, IsPort, port_drives, port_run}
+use Rattle.can_node.proofs.FrameLeaves.{goes-behind}
+use Rattle.can_node.proofs.FramesWaiting.{AreFrames-from, IsWaiting-waiting}
+use Rattle.can_node.proofs.Passing.{Enters, begins-kept, comes-behind, run-drives}
+use Rattle.can_node.proofs.Riding.{run-rides}
+use Rattle.can_bus.specs.Passing.{IsReceived, MayPass, MayPassAll, PassesAt, PassesBus, PassesBy, PassesByAll, PassesFrom, Receives}
+use Rattle.can_bus.specs.Wired.{over, wired}
+use Rattle.can_bus.proofs.Members.{none-taken}
+use Rattle.can_bus.proofs.AsidePorts.{apart-drives, aside-apart}
+use Rattle.can_bus.proofs.Contests.{AllPorts}
+use Rattle.can_bus.proofs.FrameOnBus.{receiver-joins}
+use Rattle.can_bus.proofs.HitRuns.{sees}
+use Rattle.can_bus.proofs.PortLoops.{front_at}
+use Rattle.can_bus.proofs.Reduction.{join_alone, join_more, maps-alike, over_wire}
+use Rattle.can_bus.proofs.WireRuns.{all_after}
+
+-- ---- what they drive
+
+-- f begins at these ports
+pub enters-from : (f : Parts) → IsFrame f → (p : PortState) → PassesFrom f p → Enters f p (Some f)
+enters-from f is p own = record { frame = is; poised = own; kept = is; behind = inl refl }
+
+pub enters-by : (f : Parts) → IsFrame f → (p : PortState) → IsPort p → (by : Receives f p) → Enters f p by.0
+enters-by f is p valid by = record {
+  frame = is;
+  poised = by.1.0;
+  kept = begins-kept p by.0 by.1.0 (IsWaiting-waiting p.queue (AreFrames-from p.queue valid.queued));
+  behind = goes-behind f by.0 (comes-behind f by.0 by.1.1);
+}
+
+-- what the ports drive in bit time o of f
+module _ (f : Parts) (is : IsFrame f) (o : ℕ) (within : o < length (with_intermission f)) where
+  abbrev x : Level
+  x = level_at (driven_with_intermission f) o
+
+  abbrev l : Level
+  l = level_at (with_intermission f) o
+
+  abbrev drive : PortState → Level
+  drive p = port_drives (port_run p (take o (with_intermission f)))
+
+  -- the sender, a receiver, and a port that takes no part
+  sender : (p : PortState) → PassesFrom f p → drive p ≡ x
+  sender p own = run-drives f p (Some f) (enters-from f is p own) o within ∙ ap (λ r. role_drives f r o) (role-own f o)
+
+  receiver : (p : PortState) → IsPort p → Receives f p → over x (drive p) ≡ l
+  receiver p valid by =
+      let enters = enters-by f is p valid by in
+      ap (over x) (run-drives f p by.0 enters o within) ∙ receiver-joins f by.0 is enters.kept (comes-behind f by.0 by.1.1) enters.behind o within
+
+  nobody : (p : PortState) → IsPort p → IsAside p → drive p ≡ Recessive
+  nobody p valid aside = apart-drives (port_run p (take o (with_intermission f))) l (aside-apart f is p valid aside o within)
+
+  -- together
+  abbrev wire : List PortState → Level
+  wire ports = wired (map drive ports)
+
+  by-all-drive : (ports : List PortState) → AllPorts IsPort ports → PassesByAll f ports → (over x (wire ports) ≡ l) ⊎ (wire ports ≡ Recessive)
+  unfolding wired
+  by-all-drive [] valid by = inr refl
+  by-all-drive (p ∷ ports) valid by =
+      let rest = by-all-drive ports valid.1 by.1 in
+      elim by.0 [
+        | inl aside ↦
+            let e = ap (λ d. over d (wire ports)) (nobody p valid.0 aside) in
+            elim rest [
+              | inl h ↦ inl (ap (over x) e ∙ h)
+              | inr h ↦ inr (e ∙ h)
+            ]
+        | inr receives ↦
+            let r = receiver p valid.0 receives in
+            elim rest [
+              | inl h ↦ inl (join_more x (drive p) (wire ports) l r h)
+              | inr h ↦ inl (ap (λ w. over x (over (drive p) w)) h ∙ join_alone x (drive p) l r)
+            ]
+      ]
+
+  received-drive : (ports : List PortState) → AllPorts IsPort ports → PassesByAll f ports → IsReceived f ports → over x (wire ports) ≡ l
+  unfolding wired
+  received-drive [] valid by got = absurd got
+  received-drive (p ∷ ports) valid by (inl here) =
+      let r = receiver p valid.0 here in
+      elim (by-all-drive ports valid.1 by.1) [
+        | inl h ↦ join_more x (drive p) (wire ports) l r h
+        | inr h ↦ ap (λ w. over x (over (drive p) w)) h ∙ join_alone x (drive p) l r
+      ]
+  received-drive (p ∷ ports) valid by (inr there) =
+      let h = received-drive ports valid.1 by.1 there in
+      elim by.0 [
+        | inl aside ↦ ap (λ d. over x (over d (wire ports))) (nobody p valid.0 aside) ∙ h
+        | inr receives ↦ join_more x (drive p) (wire ports) l (receiver p valid.0 receives) h
+      ]
+
+  over-self : (y : Level) → over y y ≡ y
+  over-self Dominant = refl
+  over-self Recessive = refl
+
+  over-alone : (y : Level) → over y Recessive ≡ y
+  over-alone Dominant = refl
+  over-alone Recessive = refl
+
+  over-flip : (y z : Level) → over y z ≡ over z y
+  over-flip Dominant Dominant = refl
+  over-flip Dominant Recessive = refl
+  over-flip Recessive Dominant = refl
+  over-flip Recessive Recessive = refl
+
+  -- a receiver on a wire that has the sender's level, or that of the frame
+  over-receiver : (d w : Level) → over x d ≡ l → (w ≡ l) ⊎ (w ≡ x) → over d w ≡ l
+  over-receiver d w r (inl h) = ap (over d) h ∙ over_wire x d l r
+  over-receiver d w r (inr h) = ap (over d) h ∙ over-flip d x ∙ r
+
+  sent-drive : (ports : List PortState) → AllPorts IsPort ports → PassesBus f ports → (wire ports ≡ l) ⊎ (wire ports ≡ x)
+  unfolding wired
+  sent-drive [] valid passes = absurd passes
+  sent-drive (p ∷ ports) valid (inl one) =
+      let e = ap (λ d. over d (wire ports)) (sender p one.0) in
+      elim (by-all-drive ports valid.1 one.1) [
+        | inl h ↦ inl (e ∙ h)
+        | inr h ↦ inr (e ∙ ap (over x) h ∙ over-alone x)
+      ]
+  sent-drive (p ∷ ports) valid (inr one) =
+      let rest = sent-drive ports valid.1 one.1 in
+      elim one.0 [
+        | inl aside ↦
+            let e = ap (λ d. over d (wire ports)) (nobody p valid.0 aside) in
+            elim rest [
+              | inl h ↦ inl (e ∙ h)
+              | inr h ↦ inr (e ∙ h)
+            ]
+        | inr receives ↦ inl (over-receiver (drive p) (wire ports) (receiver p valid.0 receives) rest)
+      ]
+
+  -- the wire has the level of the frame
+  pub bus-drives : (ports : List PortState) → AllPorts IsPort ports → PassesBus f ports → IsReceived f ports → wired (map (λ p. port_drives (port_run p (take o (with_intermission f)))) ports) ≡ level_at (with_intermission f) o
+  unfolding wired
+  bus-drives [] valid passes got = absurd passes
+  bus-drives (p ∷ ports) valid (inl one) (inl here) =
+      let same : x ≡ l = sym (over-self x) ∙ ap (over x) (sym (sender p one.0)) ∙ receiver p valid.0 here in
+      elim (sent-drive (p ∷ ports) valid (inl one)) [
+        | inl h ↦ h
+        | inr h ↦ h ∙ same
+      ]
+  bus-drives (p ∷ ports) valid (inl one) (inr there) =
+      ap (λ d. over d (wire ports)) (sender p one.0) ∙ received-drive ports valid.1 one.1 there
+  bus-drives (p ∷ ports) valid (inr one) (inl here) =
+      over-receiver (drive p) (wire ports) (receiver p valid.0 here) (sent-drive ports valid.1 one.1)
+  bus-drives (p ∷ ports) valid (inr one) (inr there) =
+      let h = bus-drives ports valid.1 one.1 there in
+      elim one.0 [
+        | inl aside ↦ ap (λ d. over d (wire ports)) (nobody p valid.0 aside) ∙ h
+        | inr receives ↦ over-receiver (drive p) (wire ports) (receiver p valid.0 receives) (inl h)
+      ]
+
+pub all_after-run : (levels : List Level) (ports : List PortState) → all_after sees levels ports ≡ map (λ p. port_run p levels) ports
+unfolding port_run
+all_after-run [] ports = sym (map-id ports)
+all_after-run (x ∷ levels) ports = all_after-run levels (map (sees x) ports) ∙ maps-alike (sees x) (λ p. port_run p levels) (λ p. port_run p (x ∷ levels)) (λ p. refl) ports
+
+-- in each bit time the wire has the level of a frame that passes
+pub frame-wires : (f : Parts) → IsFrame f → (ports : List PortState) → AllPorts IsPort ports → PassesBus f ports → IsReceived f ports → (o : ℕ) → o < length (with_intermission f) →
+    wired (map port_drives (all_after sees (take o (with_intermission f)) ports)) ≡ level_at (with_intermission f) o
+frame-wires f is ports valid passes got o within =
+    ap (λ ps. wired (map port_drives ps)) (all_after-run (take o (with_intermission f)) ports)
+    ∙ ap wired (maps-alike (λ p. port_run p (take o (with_intermission f))) port_drives (λ p. port_drives (port_run p (take o (with_intermission f)))) (λ p. refl) ports)
+    ∙ bus-drives f is o within ports valid passes got
+
+-- ---- one port after another
+
+pub taken-again : {A : Type 0} (m n : ℕ) (xs : List A) → m ≤ n → take m (take n xs) ≡ take m xs
+taken-again zero n xs h = none-taken (take n xs) ∙ sym (none-taken xs)
+taken-again (suc m) zero xs h = absurd (omega (arith, h))
+taken-again (suc m) (suc n) [] h = refl
+taken-again (suc m) (suc n) (x ∷ xs) h = ap (λ ys. x ∷ ys) (taken-again m n xs (omega (arith, h)))
+
+-- a frame that passes by so many passes by one more
+passes-step : {X : Type 0} (S : X → PortState) (f : Parts) (xs : List X) (i : ℕ) (d : X) → i < length xs → PassesByAll f (map S (take i xs)) → PassesBy f (S (get_or xs i d)) → PassesByAll f (map S (take (suc i) xs))
+passes-step S f [] i d within before here = absurd (omega (arith, within))
+passes-step S f (x ∷ []) zero d within before here = (here, tt)
+passes-step S f (x ∷ (y ∷ xs)) zero d within before here = (here, tt)
+passes-step S f (x ∷ xs) (suc i) d within before here = (before.0, passes-step S f xs i d (omega (arith, within)) before.1 here)
+
+pub passes-more : {X : Type 0} (S : X → PortState) (f : Parts) (xs : List X) (i : ℕ) (d : X) → i < length xs → PassesByAll f (map S (take i xs)) → PassesBy f (S (get_or xs i d)) → PassesByAll f (map S (take (i + 1) xs))
+passes-more S f xs i d within before here = rw add-one (passes-step S f xs i d within before here)
+
+-- one port among others
+passes-one : {X : Type 0} (S : X → PortState) (f : Parts) (xs : List X) (i : ℕ) (d : X) → i < length xs → PassesByAll f (map S (take i xs)) → PassesFrom f (S (get_or xs i d)) → PassesByAll f (map S (drop (suc i) xs)) →
+    PassesBus f (map S xs)
+passes-one S f [] i d within before own behind = absurd (omega (arith, within))
+passes-one S f (x ∷ xs) zero d within before own behind = inl (own, behind)
+passes-one S f (x ∷ xs) (suc i) d within before own behind = inr (before.0, passes-one S f xs i d (omega (arith, within)) before.1 own behind)
+
+pub passes-at : {X : Type 0} (S : X → PortState) (f : Parts) (xs : List X) (i : ℕ) (d : X) → i < length xs → PassesByAll f (map S (take i xs)) → PassesFrom f (S (get_or xs i d)) → PassesByAll f (map S (drop (i + 1) xs)) →
+    PassesBus f (map S xs)
+passes-at S f xs i d within before own behind = passes-one S f xs i d within before own (subst (λ n. PassesByAll f (map S (drop n xs))) (add-one i) behind)
+
+by-all : (f : Parts) (s k : ℕ) (ports : List PortState) → PassesByAll f ports → PassesAt f s k ports
+by-all f s k [] by = tt
+by-all f s k (p ∷ ports) by = (inr by.0, by-all f s (k + 1) ports by.1)
+
+sender-from : {X : Type 0} (S : X → PortState) (f : Parts) (xs : List X) (i k : ℕ) (d : X) → i < length xs → PassesByAll f (map S (take i xs)) → PassesFrom f (S (get_or xs i d)) → PassesByAll f (map S (drop (suc i) xs)) →
+    PassesAt f (k + i) k (map S xs)
+sender-from S f [] i k d within before own behind = absurd (omega (arith, within))
+sender-from S f (x ∷ xs) zero k d within before own behind = (inl ((let e : k ≡ k + 0 = omega arith in e), own), by-all f (k + 0) (k + 1) (map S xs) behind)
+sender-from S f (x ∷ xs) (suc i) k d within before own behind =
+    (inr before.0, subst (λ s. PassesAt f s (k + 1) (map S xs)) (let e : (k + 1) + i ≡ k + suc i = omega arith in e) (sender-from S f xs i (k + 1) d (omega (arith, within)) before.1 own behind))
+
+pub sender-at : {X : Type 0} (S : X → PortState) (f : Parts) (xs : List X) (i : ℕ) (d : X) → i < length xs → PassesByAll f (map S (take i xs)) → PassesFrom f (S (get_or xs i d)) → PassesByAll f (map S (drop (i + 1) xs)) →
+    PassesAt f i 0 (map S xs)
+sender-at S f xs i d within before own behind =
+    subst (λ s. PassesAt f s 0 (map S xs)) (let e : 0 + i ≡ i = omega arith in e) (sender-from S f xs i 0 d within before own (subst (λ n. PassesByAll f (map S (drop n xs))) (add-one i) behind))
+
+-- each port is off the bus, or lets the frame pass
+lets-by : (f : Parts) (p : PortState) → PassesBy f p → MayPass f p
+lets-by f p (inl aside) = inl aside
+lets-by f p (inr by) = inr (by.0, (by.1.0, goes-behind f by.0 (comes-behind f by.0 by.1.1)))
+
+all-may : (f : Parts) (ports : List PortState) → PassesByAll f ports → MayPassAll f ports
+all-may f [] by = tt
+all-may f (p ∷ ports) by = (lets-by f p by.0, all-may f ports by.1)
+
+pub bus-may : (f : Parts) (ports : List PortState) → PassesBus f ports → MayPassAll f ports
+bus-may f [] passes = tt
+bus-may f (p ∷ ports) (inl one) = (inr (Some f, (one.0, inl refl)), all-may f ports one.1)
+bus-may f (p ∷ ports) (inr one) = (lets-by f p one.0, bus-may f ports one.1)
+
+-- f may pass all ports of two lists, one behind the other
+may-parts : {X : Type 0} (S : X → PortState) (f : Parts) (xs ys : List X) → MayPassAll f (map S (xs ++ ys)) → MayPassAll f (map S xs) × MayPassAll f (map S ys)
+may-parts S f [] ys may = (tt, may)
+may-parts S f (x ∷ xs) ys may = let more = may-parts S f xs ys may.1 in ((may.0, more.0), more.1)
+
+-- a port that has sampled the first levels of f
+rides-to : (f : Parts) → IsFrame f → (p : PortState) → IsPort p → MayPass f p → (o : ℕ) → 0 < o → o < length (with_intermission f) → HasHeard f o (port_run p (take o (with_intermission f))).mac.phase
+rides-to f is p valid may zero some within = absurd (omega (arith, some))
+rides-to f is p valid (inl aside) (suc o) some within = λ front part. absurd ((aside-apart f is p valid aside (suc o) within).elsewhere front part)
+rides-to f is p valid (inr lets) (suc o) some within = λ front part.
+    let enters : Enters f p lets.0 = record { frame = is; poised = lets.1.0; kept = begins-kept p lets.0 lets.1.0 (IsWaiting-waiting p.queue (AreFrames-from p.queue valid.queued)); behind = lets.1.1 } in
+    ap (λ (m : MacState). m.phase) (run-rides f p lets.0 enters o within)
+
+-- the same, where these are the levels
+rides-front : (f : Parts) → IsFrame f → (p q : PortState) → IsPort p → MayPass f p → (front : List Level) → front ≡ take (length front) (with_intermission f) → 0 < length front → length front < length (stuffed_part f) →
+    q ≡ port_run p front → HasHeard f (length front) q.mac.phase
+rides-front f is p q valid may front of some within runs =
+    subst (λ (state : PortState). HasHeard f (length front) state.mac.phase) (sym (runs ∙ ap (port_run p) of)) (rides-to f is p valid may (length front) some (omega (arith, within, length-with_intermission f)))
+
+-- the ports before and behind the sender, and what it has heard
+pub rides-others : {X : Type 0} (S : X → PortState) (f : Parts) → IsFrame f → (sender : X) → IsPort (S sender) → (xs before behind : List X) → xs ≡ before ++ sender ∷ behind → PassesBus f (map S xs) →
+    (front : List Level) → front ≡ take (length front) (with_intermission f) → 0 < length front → length front < length (stuffed_part f) → (q : PortState) → q ≡ port_run (S sender) front →
+    MayPassAll f (map S before) × MayPassAll f (map S behind) × HasHeard f (length front) q.mac.phase
+rides-others S f is sender valid xs before behind cut passes front of some within q runs =
+    let may = may-parts S f before (sender ∷ behind) (subst (λ ys. MayPassAll f (map S ys)) cut (bus-may f (map S xs) passes)) in
+    (may.0, may.1.1, rides-front f is (S sender) q valid may.1.0 front of some within runs)
+
+-- a port that receives the frame, among the first of some, or behind them
+pub received-first : {X : Type 0} (S : X → PortState) (f : Parts) (xs : List X) (n : ℕ) → IsReceived f (map S (take n xs)) → IsReceived f (map S xs)
+received-first S f [] zero got = absurd got
+received-first S f [] (suc n) got = absurd got
+received-first S f (x ∷ xs) zero got = absurd got
+received-first S f (x ∷ xs) (suc n) (inl here) = inl here
+received-first S f (x ∷ xs) (suc n) (inr there) = inr (received-first S f xs n there)
+
+pub received-behind : {X : Type 0} (S : X → PortState) (f : Parts) (xs : List X) (n : ℕ) → IsReceived f (map S (drop n xs)) → IsReceived f (map S xs)
+received-behind S f [] zero got = absurd got
+received-behind S f [] (suc n) got = absurd got
+received-behind S f (x ∷ xs) zero got = got
+received-behind S f (x ∷ xs) (suc n) got = inr (received-behind S f xs n got)
+
+pub received-more : {X : Type 0} (S : X → PortState) (f : Parts) (xs : List X) (n : ℕ) → IsReceived f (map S (take n xs)) → IsReceived f (map S (take (n + 1) xs))
+received-more S f xs n got = received-first S f (take (n + 1) xs) n (subst (λ ys. IsReceived f (map S ys)) (sym (taken-again n (n + 1) xs (omega arith))) got)
+
+received-at : {X : Type 0} (S : X → PortState) (f : Parts) (xs : List X) (n : ℕ) (d : X) → n < length xs → Receives f (S (get_or xs n d)) → IsReceived f (map S (take (suc n) xs))
+received-at S f [] n d within here = absurd (omega (arith, within))
+received-at S f (x ∷ xs) zero d within here = inl here
+received-at S f (x ∷ xs) (suc n) d within here = inr (received-at S f xs n d (omega (arith, within)) here)
+
+pub received-here : {X : Type 0} (S : X → PortState) (f : Parts) (xs : List X) (n : ℕ) (d : X) → n < length xs → Receives f (S (get_or xs n d)) → IsReceived f (map S (take (n + 1) xs))
+received-here S f xs n d within here = rw add-one (received-at S f xs n d within here)
+
+-- what may pass all ports may pass the next one, where those before it have changed
+pub may-next : {X : Type 0} (S : X → PortState) (f : Parts) (F : ℕ → PortState → PortState) (k i : ℕ) (xs : List X) (ps : List PortState) (d : X) → MayPassAll f ps → map S xs ≡ front_at F k i ps → i < length xs →
+    MayPass f (S (get_or xs i d))
+may-next S f F k i [] ps d may e within = absurd (omega (arith, within))
+may-next S f F k i (x ∷ xs) [] d may e within = absurd (nothing i e)
+  where
+    nothing : (i : ℕ) → map S (x ∷ xs) ≡ front_at F k i [] → ⊥
+    nothing zero e = let n : length (S x ∷ map S xs) ≡ 0 = ap length e in omega (arith, n)
+    nothing (suc i) e = let n : length (S x ∷ map S xs) ≡ 0 = ap length e in omega (arith, n)
+may-next S f F k zero (x ∷ xs) (p ∷ ps) d may e within = let h : S x ≡ p = cc in subst (MayPass f) (sym h) may.0
+may-next S f F k (suc i) (x ∷ xs) (p ∷ ps) d may e within = let t : map S xs ≡ front_at F (k + 1) i ps = cc in may-next S f F (k + 1) i xs ps d may.1 t (omega (arith, within))
