@@ -65,39 +65,32 @@ goes-heard v w e none =
     let going = phase-going v w e in
     hear_at-going v Dominant (next_place v) going.0 (subst (λ u. is_stuff_error u Dominant ≡ false) (sym going.1) none)
 
+pub some-errs : {j : ℕ} {phase : MacPhase} → ErrsIn j phase → 1 ≤ j
+some-errs (stuffed w error) = omega arith
+some-errs (ended r) = omega arith
+some-errs (goes_on w j none next) = omega arith
+
 -- so many dominant levels, up to its error
-errs-refused : {j : ℕ} {phase : MacPhase} → ErrsIn j phase → (v : FrontParts) → part_phase v ≡ phase → (most : ℕ) → j ≤ most → until_refused most (Some v) ≡ j
-errs-refused (stuffed w error) v e zero few = absurd (omega (arith, few))
-errs-refused (stuffed w error) v e (suc most) few =
+errs-refused : {j : ℕ} {phase : MacPhase} → ErrsIn j phase → (v : FrontParts) → part_phase v ≡ phase → (most : ℕ) → j ≤ suc most → until_refused (suc most) (Some v) ≡ j
+errs-refused (stuffed w error) v e most few =
     ap (λ r. suc (until_refused most r)) (stuff-refused v Dominant (subst (λ u. is_stuff_error u Dominant ≡ true) (sym (phase-going v w e).1) error))
-errs-refused (ended r) v e zero few = absurd (omega (arith, few))
-errs-refused (ended r) v e (suc most) few = ap (λ u. suc (until_refused most u)) (end-refused v Dominant (phase-ended v r e))
-errs-refused (goes_on w j none next) v e zero few = absurd (omega (arith, few))
+errs-refused (ended r) v e most few = ap (λ u. suc (until_refused most u)) (end-refused v Dominant (phase-ended v r e))
+errs-refused (goes_on w j none next) v e zero few = absurd (omega (arith, few, some-errs next))
 errs-refused (goes_on w j none next) v e (suc most) few =
-    ap (λ r. suc (until_refused most r)) (goes-heard v w e none)
+    ap (λ r. suc (until_refused (suc most) r)) (goes-heard v w e none)
     ∙ ap suc (errs-refused next (heard_level v Dominant) (ap (λ u. part_phase (heard_level u Dominant)) (phase-going v w e).1) most (omega (arith, few)))
 
 -- with as many the levels are refused, and with fewer they aren't
-pub errs-none : {j : ℕ} {phase : MacPhase} → ErrsIn j phase → (v : FrontParts) → part_phase v ≡ phase → (k : ℕ) → j ≤ k → heard_levels v (replicate k Dominant) ≡ None
-errs-none (stuffed w error) v e zero enough = absurd (omega (arith, enough))
-errs-none (stuffed w error) v e (suc k) enough =
-    ap (option_and_then (λ u. heard_levels u (replicate k Dominant))) (stuff-refused v Dominant (subst (λ u. is_stuff_error u Dominant ≡ true) (sym (phase-going v w e).1) error))
-errs-none (ended r) v e zero enough = absurd (omega (arith, enough))
-errs-none (ended r) v e (suc k) enough = ap (option_and_then (λ u. heard_levels u (replicate k Dominant))) (end-refused v Dominant (phase-ended v r e))
-errs-none (goes_on w j none next) v e zero enough = absurd (omega (arith, enough))
-errs-none (goes_on w j none next) v e (suc k) enough =
-    ap (option_and_then (λ u. heard_levels u (replicate k Dominant))) (goes-heard v w e none)
-    ∙ errs-none next (heard_level v Dominant) (ap (λ u. part_phase (heard_level u Dominant)) (phase-going v w e).1) k (omega (arith, enough))
+abbrev heard-behind : Option FrontParts → ℕ → Option FrontParts
+heard-behind v k = option_and_then (λ u. heard_levels u (replicate k Dominant)) v
 
-pub errs-some : {j : ℕ} {phase : MacPhase} → ErrsIn j phase → (v : FrontParts) → part_phase v ≡ phase → (k : ℕ) → k < j → heard_levels v (replicate k Dominant) ≡ None → ⊥
-errs-some (stuffed w error) v e zero less none = cc
-errs-some (stuffed w error) v e (suc k) less none = absurd (omega (arith, less))
-errs-some (ended r) v e zero less none = cc
-errs-some (ended r) v e (suc k) less none = absurd (omega (arith, less))
-errs-some (goes_on w j no_error next) v e zero less none = cc
-errs-some (goes_on w j no_error next) v e (suc k) less none =
-    errs-some next (heard_level v Dominant) (ap (λ u. part_phase (heard_level u Dominant)) (phase-going v w e).1) k (omega (arith, less))
-    (sym (ap (option_and_then (λ u. heard_levels u (replicate k Dominant))) (goes-heard v w e no_error)) ∙ none)
+refused-by : (most k : ℕ) (v : Option FrontParts) → until_refused (suc most) v ≤ most → (heard-behind v k ≡ None) ↔ (until_refused (suc most) v ≤ k)
+refused-by most k None few = (λ e. omega arith, λ enough. refl)
+refused-by most zero (Some v) few = (λ e. (let h : Some v ≡ None = e in cc), λ enough. absurd (omega (arith, enough)))
+refused-by zero (suc k) (Some v) few = absurd (omega (arith, few))
+refused-by (suc most) (suc k) (Some v) few =
+    let next = refused-by most k (hear_at (next_place v) v Dominant) (omega (arith, few)) in
+    (λ e. omega (arith, next.0 e), λ enough. next.1 (omega (arith, enough)))
 
 -- ---- The levels of a frame that is hit.
 
@@ -183,7 +176,7 @@ module _ (f : Parts) (is : IsFrame f) (o : ℕ) (some : 0 < o) where
 
   pub late-bit : {j : ℕ} → o < n → v.run ≢ 5 → ErrsIn j (part_phase (heard_level v other)) → j ≤ 6 → lateness f o ≡ j
   unfolding lateness
-  late-bit more free errs few = ap (until_refused 6) (struck-bit 0 more free) ∙ errs-refused errs (heard_level v other) refl 6 few
+  late-bit more free errs few = ap (until_refused 6) (struck-bit 0 more free) ∙ errs-refused errs (heard_level v other) refl 5 few
 
   -- and no later than this
   pub soon-bit : o < n → v.run ≢ 5 → (j : ℕ) × ((j ≤ 6) × ErrsIn j (part_phase (heard_level v other)))
@@ -208,15 +201,10 @@ refused-exactly f o k is some = elim (cases_lt o (length (stuffed_part f))) [
         let u = heard_level (front_at f o) (other f is o some) in
         let first = soon-bit f is o some more free in
         let late : lateness f o ≡ first.0 = late-bit f is o some more free first.1.1 first.1.0 in
-        let heard = struck-bit f is o some k more free in (
-          λ none. elim (cases_lt k first.0) [ inl less ↦ absurd (errs-some first.1.1 u refl k less (sym heard ∙ none)) | inr enough ↦ omega (arith, late, enough) ],
-          λ few. heard ∙ errs-none first.1.1 u refl k (omega (arith, late, few)),
-        )
-
-some-errs : {j : ℕ} {phase : MacPhase} → ErrsIn j phase → 1 ≤ j
-some-errs (stuffed w error) = omega arith
-some-errs (ended r) = omega arith
-some-errs (goes_on w j none next) = omega arith
+        let heard = struck-bit f is o some k more free in
+        let seven = errs-refused first.1.1 u refl 6 (omega (arith, first.1.0)) in
+        let by = refused-by 6 k (Some u) (omega (arith, seven, first.1.0)) in
+        (λ none. omega (arith, late, seven, by.0 (sym heard ∙ none)), λ few. heard ∙ by.1 (omega (arith, late, seven, few)))
 
 -- they are late but where a stuff bit is hit, or a level behind the stuffed part
 pub late-at_once : (f : Parts) (o : ℕ) → IsFrame f → 0 < o → (lateness f o ≡ 0) ↔ ((is_stuff_place (stuffed_part f) o ≡ true) ⊎ (length (stuffed_part f) ≤ o))

@@ -25,7 +25,7 @@ use Rattle.can_mac.specs.Moves.{agrees, part_phase}
 use Rattle.can_mac.proofs.PartEnds.{agrees-Decides}
 use Rattle.can_mac.proofs.BrokenFrames.{ErrsIn, stuffed, ended, goes_on}
 use Rattle.can_bus.specs.RepairedLine.{struck, lateness, refused_place}
-use Rattle.can_bus.proofs.Lateness.{phase-going, phase-ended, other, again, taken, late-behind, late-stuff_bit, late-bit, soon-bit}
+use Rattle.can_bus.proofs.Lateness.{some-errs, phase-going, phase-ended, other, again, taken, late-behind, late-stuff_bit, late-bit, soon-bit}
 
 -- these levels have a fault, and the level that is refused for it is the one of this number
 abbrev pub IsRefusedAt : List Level → ℕ → Type 0
@@ -55,21 +55,19 @@ module _ (u b : List Level) (part : IsPart u b) (t : List Level) where
       by_test false e = refused-crc (λ is. (let yes : agrees u ≡ true = (agrees-Decides u).1 is in cc))
 
 -- so many dominant levels, up to the one that is refused
-refused-in : {j : ℕ} {phase : MacPhase} → ErrsIn j phase → (b : List Level) (v : FrontParts) → IsFrontOf b v → part_phase v ≡ phase → (m : ℕ) → j ≤ m → (place : ℕ) → place + 1 ≡ length b + j →
-    IsRefusedAt (b ++ replicate m Dominant) place
-refused-in (stuffed w error) b v r e zero enough place at = absurd (omega (arith, enough))
-refused-in (stuffed w error) b v r e (suc m) enough place at =
+refused-in : {j : ℕ} {phase : MacPhase} → ErrsIn j phase → (b : List Level) (v : FrontParts) → IsFrontOf b v → part_phase v ≡ phase → (m : ℕ) → j ≤ suc m → (place : ℕ) → place + 1 ≡ length b + j →
+    IsRefusedAt (b ++ replicate (suc m) Dominant) place
+refused-in (stuffed w error) b v r e m enough place at =
     subst (IsRefusedAt (b ++ Dominant ∷ replicate m Dominant)) (let same_place : length b ≡ place = omega (arith, at) in same_place)
     (refused-stuff b v Dominant (replicate m Dominant) r (subst (λ u. is_stuff_error u Dominant ≡ true) (sym (phase-going v w e).1) error))
-refused-in (ended reading) b v r e zero enough place at = absurd (omega (arith, enough))
-refused-in (ended reading) b v r e (suc m) enough place at =
+refused-in (ended reading) b v r e m enough place at =
     subst (IsRefusedAt (b ++ Dominant ∷ replicate m Dominant)) (let same_place : length b ≡ place = omega (arith, at) in same_place)
     (refused-delimiter v.unstuffed b (IsFrontOf-part b v r (phase-ended v reading e)) (replicate m Dominant))
-refused-in (goes_on w j none next) b v r e zero enough place at = absurd (omega (arith, enough))
+refused-in (goes_on w j none next) b v r e zero enough place at = absurd (omega (arith, enough, some-errs next))
 refused-in (goes_on w j none next) b v r e (suc m) enough place at =
     let going = phase-going v w e in
     let more = IsFrontOf-heard_level b v r Dominant going.0 (subst (λ u. is_stuff_error u Dominant ≡ false) (sym going.1) none) in
-    subst (λ ls. IsRefusedAt ls place) (append_assoc b (Dominant ∷ []) (replicate m Dominant))
+    subst (λ ls. IsRefusedAt ls place) (append_assoc b (Dominant ∷ []) (replicate (suc m) Dominant))
     (refused-in next (b ++ Dominant ∷ []) (heard_level v Dominant) more (ap (λ u. part_phase (heard_level u Dominant)) going.1) m (omega (arith, enough)) place (omega (arith, at, length-append b (Dominant ∷ []))))
 
 module _ (f : Parts) (is : IsFrame f) (o : ℕ) (some : 0 < o) where
@@ -112,7 +110,7 @@ module _ (f : Parts) (is : IsFrame f) (o : ℕ) (some : 0 < o) where
       let first = soon-bit f is o some more free in
       let next = IsFrontOf-heard_level b v (front_at-front f is o some (omega (arith, more))) x (front_at-going f is o some more) (taken f is o some free) in
       subst (λ ls. IsRefusedAt ls (o + lateness f o)) (append_assoc b (x ∷ []) seven ∙ struck-early (omega (arith, more)))
-      (refused-in first.1.1 (b ++ x ∷ []) (heard_level v x) next refl 7 (omega (arith, first.1.0)) (o + lateness f o)
+      (refused-in first.1.1 (b ++ x ∷ []) (heard_level v x) next refl 6 (omega (arith, first.1.0)) (o + lateness f o)
       (omega (arith, late-bit f is o some more free first.1.1 first.1.0, length-append b (x ∷ []), size (omega (arith, more)))))
 
   -- the level that is refused is the one at which the receivers have their error
