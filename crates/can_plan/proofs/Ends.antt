@@ -19,7 +19,8 @@ use Rattle.can_plan.proofs.FieldTests.{field-tests, filter-map_length, filter-pl
 use Rattle.can_plan.proofs.Counts.{of-has, has-of}
 use Rattle.can_plan.proofs.Windows.{IsLeft, IsNextOf, IsRanked, Window, ready}
 use Rattle.can_plan.proofs.Moves.{left-among, sent_attempt, broken_attempt, sent-upper, broken-upper, sent-lower, broken-lower, ends-within}
-use Rattle.can_plan.proofs.Runs.{Runs, in-order, none, runs-of, struck, whole}
+use Rattle.can_bus.proofs.CourseDelays.{in-order}
+use Rattle.can_plan.proofs.Runs.{Runs, none, runs-of, struck, whole}
 use Rattle.can_plan.proofs.Sets.{left-keep, ranking-of}
 
 -- the releases of a message, and the attempts that send a frame of it

@@ -4,18 +4,17 @@ use Rattle.std.proofs.lemmas.Bool.{cond-true, cond-false, cases_Bool}
 use Rattle.can_frame.specs.Parts.{Parts, IsFrame}
 use Rattle.can_frame.specs.Arbitration.{arbitration_field, Before}
 use Rattle.can_node.specs.Ports.{same_field}
-use Rattle.can_node.proofs.WaitingLemmas.{Shares-same_field, same_field-Shares}
+use Rattle.can_node.proofs.WaitingLemmas.{Shares-same_field}
 use Rattle.can_hit.specs.declared.hit.Hit.{Hit}
 use Rattle.can_bus.specs.Course.{Transmission, IsNext, IsCourse, over, sent, broken, hit_time}
-use Rattle.can_bus.specs.CourseWaiting.{AreInTime, of_field}
+use Rattle.can_bus.specs.CourseWaiting.{of_field}
 use Rattle.can_bus.specs.Attempts.{IsInWindow}
 use Rattle.can_bus.specs.Quiet.{busy_time}
 use Rattle.can_bus.specs.Timed.{TimedParts, without_offer}
 use Rattle.can_bus.proofs.CourseDelays.{course-costs}
 use Rattle.can_bus.proofs.CourseWaits.{FieldsInOrder, fields-without, first-left, next-first}
 use Rattle.can_bus.proofs.Fields.{field-more, field-skip}
-use Rattle.can_bus.proofs.Members.{filter-stands, stands-none, stands-cases, stands-middle, stands-among, stands-map}
-use Rattle.can_bus.proofs.OfferTimes.{AreInOrder}
+use Rattle.can_bus.proofs.Members.{stands-none, stands-cases, stands-middle, stands-among, stands-map}
 use Rattle.can_plan.specs.Messages.{IsIn, Release, offer_of}
 use Rattle.can_plan.proofs.Windows.{IsNextOf}
 use Rattle.can_plan.proofs.Moves.{IsHitIn, sent_attempt, broken_attempt}
@@ -26,23 +25,6 @@ pub data Runs : ℕ → List Release → List Transmission → Type 0 where
       Runs (start + busy_time x.frame) (before ++ after) course → Runs free (before ++ x ∷ after) (sent_attempt start x.frame ∷ course)
   struck : (free start : ℕ) (x : Release) (before after : List Release) (offset : ℕ) (course : List Transmission) → IsNextOf free start x before after → IsHitIn x.frame offset →
       Runs (start + hit_time x.frame offset) (before ++ x ∷ after) course → Runs free (before ++ x ∷ after) (broken_attempt start x.frame offset ∷ course)
-
--- ---- offers of one field, in time
-
-pub in-order : (offers : List TimedParts) → AreInTime offers → FieldsInOrder offers
-in-order [] rise f = tt
-in-order (x ∷ offers) rise f =
-    let rest : AreInOrder (of_field f offers) = in-order offers (λ m n y z less a b. rise (suc m) (suc n) y z (omega (arith, less)) a b) f in
-    elim (cases_Bool (same_field f x.frame)) [
-      | inl same ↦
-          subst AreInOrder (sym (field-more f x offers same)) (
-            (λ y there.
-                let own = filter-stands (λ (z : TimedParts). same_field f z.frame) offers y there in
-                rise 0 (suc own.0.0) x y (omega arith) refl own.0.1 (sym (same_field-Shares f x.frame same) ∙ same_field-Shares f y.frame own.1)),
-            rest,
-          )
-      | inr other ↦ subst AreInOrder (sym (field-skip f x offers other)) rest
-    ]
 
 -- ---- the first release of a field
 
