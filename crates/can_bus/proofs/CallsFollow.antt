@@ -11,11 +11,10 @@ use Rattle.can_bus.specs.declared.offer.Offer.{Offer}
 use Rattle.can_bus.specs.Course.{IsCourse, Transmission, course_tally, frames_sent}
 use Rattle.can_bus.specs.Network.{IsFreeAgain, IsNetworkCall, IsNextCall, NetworkLogWhole, NetworkTally, RestsAgain, counters_of}
 use Rattle.can_bus.specs.Offers.{call_after, AreOffered, all_made, made}
-use Rattle.can_bus.specs.OpenBus.{all_offers, offered_first, offered_to, own_offers, timed}
 use Rattle.can_bus.specs.Quiet.{AtEachNode, marked, queued}
 use Rattle.can_bus.specs.Attempts.{IsLow}
 use Rattle.can_bus.specs.Run.{BusState, all_sampled, bus_step}
-use Rattle.can_bus.specs.Timed.{Lists, frames_of}
+use Rattle.can_bus.specs.Timed.{Lists, frames_of, all_offers, offered_first, offered_to, own_offers, timed}
 use Rattle.can_bus.proofs.PlayedRuns.{step-fits}
 
 -- ---- the rooms of a port

@@ -16,10 +16,9 @@ use Rattle.can_bus.specs.Course.{Transmission, IsCourse, over, sent, broken, IsM
 use Rattle.can_bus.specs.Schedule.{unhit}
 use Rattle.can_bus.specs.CourseWaiting.{AreInTime, IsSentBy, attempts_between, going_before, hit_attempts, keeping, kept_times, left_behind, left_on, of_field, sent_attempts, ahead_of, busy_times}
 use Rattle.can_bus.specs.Offers.{AreOffered}
-use Rattle.can_bus.specs.OpenBus.{all_offers, offered_first, timed}
 use Rattle.can_bus.specs.Quiet.{queued, busy_time, span}
 use Rattle.can_bus.specs.Attempts.{IsInWindow}
-use Rattle.can_bus.specs.Timed.{TimedParts, Lists, without_offer, frames_of}
+use Rattle.can_bus.specs.Timed.{TimedParts, Lists, without_offer, frames_of, all_offers, offered_first, timed}
 use Rattle.can_bus.proofs.CourseTracks.{course-free}
 use Rattle.can_bus.proofs.CourseWaits.{Awaits, FieldsInOrder, GoesFirst, IsOwn, awaits-listed, awaits-made, between-before, between-late, between-more, between-none, fields-without, first-left, hit-awaits, next-first, others-kept, sends-it, sent-cases, wait-exact, wait-first, wait-own}
 use Rattle.can_bus.proofs.Fields.{field-more, field-skip}

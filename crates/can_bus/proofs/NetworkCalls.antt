@@ -21,7 +21,7 @@ use Rattle.can_bus.specs.Quiet.{AtEachNode, AtEachPort, CountsNothing, MissesNot
 use Rattle.can_bus.specs.Run.{BusState}
 use Rattle.can_bus.proofs.Contests.{AllPorts}
 use Rattle.can_bus.proofs.FrameOnBus.{ports_of}
-use Rattle.can_bus.specs.OpenBus.{offered_to}
+use Rattle.can_bus.specs.Timed.{offered_to}
 use Rattle.can_bus.proofs.HitRuns.{AreWithin, falls}
 use Rattle.can_bus.proofs.OfferTimes.{AreInOrder}
 use Rattle.can_bus.proofs.HitWires.{HitWire}

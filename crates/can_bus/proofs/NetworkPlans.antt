@@ -14,10 +14,9 @@ use Rattle.can_bus.specs.Network.{AllCountAtMost, CourseIsBorne, FieldsAreOwned,
 use Rattle.can_bus.specs.Attempts.{AreInAttempts, AreApart, IsInWindow, hit_of}
 use Rattle.can_bus.specs.NetworkPlans.{AllInWindow, AreNoEarlier, IsNetworkPlan, network_course, offered_again, two_ports}
 use Rattle.can_bus.specs.Offers.{AreOffered, offer_names_port}
-use Rattle.can_bus.specs.OpenBus.{all_offers, offered_to, own_offers, timed}
 use Rattle.can_bus.specs.Plans.{PlannedPort, planned, ready_port}
 use Rattle.can_bus.specs.Quiet.{IsQuietPort, busy_time}
-use Rattle.can_bus.specs.Timed.{TimedParts, Lists, earliest, frames_of, offered_by, without_offer}
+use Rattle.can_bus.specs.Timed.{TimedParts, Lists, earliest, frames_of, offered_by, without_offer, all_offers, offered_to, own_offers, timed}
 use Rattle.can_bus.proofs.BorneHits.{few-course}
 use Rattle.can_bus.proofs.CourseLaws.{course-there, frame-there}
 use Rattle.can_bus.proofs.Fields.{without-listed}

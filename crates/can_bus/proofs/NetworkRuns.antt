@@ -8,7 +8,7 @@ use Rattle.can_bus.specs.declared.offer.Offer.{Offer}
 use Rattle.can_bus.specs.Wired.{wired}
 use Rattle.can_bus.specs.Run.{BusState, CallState, inverted_if, rest_after, attempt_now, recorded, bus_step}
 use Rattle.can_bus.specs.Offers.{all_made, offered_now, call_after, call_level, call_refused}
-use Rattle.can_bus.specs.OpenBus.{offered_to}
+use Rattle.can_bus.specs.Timed.{offered_to}
 use Rattle.can_bus.proofs.Reduction.{maps-alike}
 use Rattle.can_bus.proofs.FrameOnBus.{gaining_sees}
 use Rattle.can_bus.proofs.OfferTimes.{AreInOrder}

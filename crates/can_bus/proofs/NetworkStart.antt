@@ -15,10 +15,9 @@ use Rattle.can_bus.specs.Course.{Transmission, course_tally}
 use Rattle.can_bus.specs.Attempts.{AreInAttempts, AreApart, IsLow, Tally, tallied}
 use Rattle.can_bus.specs.Network.{CountsAtMost, AllCountAtMost, IsFit, IsNetworkCall, counters_of}
 use Rattle.can_bus.specs.Offers.{call_after, all_made}
-use Rattle.can_bus.specs.OpenBus.{all_offers, offered_first, offered_to, own_offers}
 use Rattle.can_bus.specs.Quiet.{holds}
 use Rattle.can_bus.specs.Run.{BusState}
-use Rattle.can_bus.specs.Timed.{TimedParts, Lists, frames_of, offered_by}
+use Rattle.can_bus.specs.Timed.{TimedParts, Lists, frames_of, offered_by, all_offers, offered_first, offered_to, own_offers}
 use Rattle.can_bus.proofs.Contests.{AllPorts, has-at}
 use Rattle.can_bus.proofs.Members.{none-taken, stands-map}
 use Rattle.can_bus.proofs.OfferLemmas.{offers-rise}

@@ -7,8 +7,7 @@ use Rattle.std.proofs.lemmas.List.{append-nil}
 use Rattle.can_frame.specs.Parts.{Parts}
 use Rattle.can_node.proofs.Arrivals.{arrived, later_by}
 use Rattle.can_node.proofs.GainingBreaks.{arrived-more}
-use Rattle.can_bus.specs.Timed.{TimedParts, Lists, frames_of, offered_by}
-use Rattle.can_bus.specs.OpenBus.{offered_first}
+use Rattle.can_bus.specs.Timed.{TimedParts, Lists, frames_of, offered_by, offered_first}
 use Rattle.can_bus.proofs.Members.{stands-here, stands-later}
 use Rattle.can_node.proofs.FramesWaiting.{AreFrames}
 

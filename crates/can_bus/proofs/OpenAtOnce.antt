@@ -9,11 +9,11 @@ use Rattle.can_frame.specs.Parts.{Parts}
 use Rattle.can_node.specs.Ports.{PortState}
 use Rattle.can_node.proofs.Arrivals.{gains}
 use Rattle.can_bus.specs.declared.offer.Offer.{Offer}
-use Rattle.can_bus.specs.OpenBus.{QueuesHaveRoom, IsOpenCall, WaitsAt, all_offers, offered_first, offered_to, own_offers, timed, with_first}
+use Rattle.can_bus.specs.OpenBus.{IsOpenCall, WaitsAt, with_first}
 use Rattle.can_bus.specs.Offers.{AreOffered, all_made, call_after, played, played_level}
 use Rattle.can_bus.specs.Quiet.{AreDifferent, IsAscending, IsQuiet, IsQuietCall, IsQuietPort, ascending, line_at, queued, AtEachNode}
 use Rattle.can_bus.specs.Run.{BusState, bus_level, bus_run}
-use Rattle.can_bus.specs.Timed.{AreAtOnce, TimedParts, frames_of}
+use Rattle.can_bus.specs.Timed.{AreAtOnce, TimedParts, frames_of, all_offers, offered_first, offered_to, own_offers, timed, QueuesHaveRoom}
 use Rattle.can_bus.specs.Schedule.{schedule, track_at}
 use Rattle.can_bus.proofs.CourseSchedules.{no-other-schedule, one-schedule}
 use Rattle.can_bus.proofs.Ascending.{ascending_permuted, ascending_there, different_permuted}

@@ -9,11 +9,11 @@ use Rattle.can_bus.specs.Course.{frames_sent}
 use Rattle.can_bus.specs.Schedule.{unhit, track_at}
 use Rattle.can_bus.specs.Network.{AllCountAtMost, IsNetworkCall, counters_of}
 use Rattle.can_bus.specs.Offers.{call_after, call_level, call_refused, offered_now, all_made, played, played_level, refused, refused_at}
-use Rattle.can_bus.specs.OpenBus.{AreOver, IsOpenCall, OpenLogBegins, OpenLogWhole, all_offers, own_offers}
+use Rattle.can_bus.specs.OpenBus.{AreOver, IsOpenCall, OpenLogBegins, OpenLogWhole}
 use Rattle.can_bus.specs.Quiet.{AtEachNode, AtEachPort, CountsNothing, IsPrefixOf, IsQuietPort, MissesNothing, marked}
 use Rattle.can_bus.specs.Attempts.{IsLow}
 use Rattle.can_bus.specs.Run.{BusState, recorded}
-use Rattle.can_bus.specs.Timed.{TimedParts, Lists, frames_of}
+use Rattle.can_bus.specs.Timed.{TimedParts, Lists, frames_of, all_offers, own_offers}
 use Rattle.can_bus.specs.Wired.{wired}
 use Rattle.can_bus.proofs.Ascending.{Other, different_permuted}
 use Rattle.can_bus.proofs.Contests.{AllPorts}

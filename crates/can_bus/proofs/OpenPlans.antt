@@ -6,11 +6,11 @@ use Rattle.std.proofs.lemmas.List.{length-append, length-map}
 use Rattle.std.proofs.lemmas.List.Elements.{All-tail}
 use Rattle.can_node.specs.Ports.{PortState}
 use Rattle.can_bus.specs.declared.offer.Offer.{Offer}
-use Rattle.can_bus.specs.OpenBus.{IsOpenCall, IsOpenPlan, all_offers, offered_first, offered_to, own_offers, timed}
+use Rattle.can_bus.specs.OpenBus.{IsOpenCall, IsOpenPlan}
 use Rattle.can_bus.specs.Offers.{AreOffered}
 use Rattle.can_bus.specs.Plans.{PlannedPort, planned, ready_port}
 use Rattle.can_bus.specs.Quiet.{AreDifferent, queued}
-use Rattle.can_bus.specs.Timed.{TimedParts, frames_of}
+use Rattle.can_bus.specs.Timed.{TimedParts, frames_of, all_offers, offered_first, offered_to, own_offers, timed}
 use Rattle.can_bus.specs.Schedule.{schedule}
 use Rattle.can_bus.proofs.CourseSchedules.{one-schedule}
 use Rattle.can_bus.proofs.OpenAtOnce.{first-frames}

@@ -8,8 +8,7 @@ use Rattle.can_frame.specs.Parts.{Parts, IsFrame}
 use Rattle.can_node.specs.Ports.{PortState}
 use Rattle.can_node.proofs.FramesWaiting.{AreFrames}
 use Rattle.can_bus.specs.declared.offer.Offer.{Offer}
-use Rattle.can_bus.specs.OpenBus.{QueuesHaveRoom, offered_first, offered_to, own_offers, timed}
-use Rattle.can_bus.specs.Timed.{TimedParts, frames_of, offered_by}
+use Rattle.can_bus.specs.Timed.{TimedParts, frames_of, offered_by, offered_first, offered_to, own_offers, timed, QueuesHaveRoom}
 use Rattle.can_bus.proofs.Members.{filter-stands, map-stands}
 use Rattle.can_bus.proofs.OfferTimes.{AreInOrder, at-first, length-offered_by}
 use Rattle.can_bus.proofs.PlayedRuns.{AreRoomy, HaveRoomNow, all_arrived, arriving, to-here, to-other}

@@ -13,9 +13,8 @@ use Rattle.can_bus.specs.CourseWaiting.{of_field}
 use Rattle.can_bus.specs.declared.offer.Offer.{Offer}
 use Rattle.can_bus.specs.Network.{FieldsAreOwned}
 use Rattle.can_bus.specs.Offers.{AreOffered}
-use Rattle.can_bus.specs.OpenBus.{all_offers, offered_first, offered_to, own_offers, timed}
 use Rattle.can_bus.specs.Quiet.{holds, queued}
-use Rattle.can_bus.specs.Timed.{TimedParts, Lists, frames_of}
+use Rattle.can_bus.specs.Timed.{TimedParts, Lists, frames_of, all_offers, offered_first, offered_to, own_offers, timed}
 use Rattle.can_bus.proofs.Ascending.{Other}
 use Rattle.can_bus.proofs.Contests.{at-has}
 use Rattle.can_bus.proofs.Fields.{field-skip}

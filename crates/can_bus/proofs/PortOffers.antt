@@ -7,10 +7,9 @@ use Rattle.std.proofs.lemmas.List.{append-nil, map-append}
 use Rattle.std.proofs.lemmas.List.Sorted.{IsPermutation-append_right, IsPermutation-cons, IsPermutation-middle, IsPermutation-refl, IsPermutation-sym, IsPermutation-trans}
 use Rattle.can_node.specs.Ports.{PortState}
 use Rattle.can_bus.specs.declared.offer.Offer.{Offer}
-use Rattle.can_bus.specs.OpenBus.{all_offers, offered_first, offered_to, own_offers, timed}
 use Rattle.can_bus.specs.Offers.{AreOffered}
 use Rattle.can_bus.specs.Quiet.{queued}
-use Rattle.can_bus.specs.Timed.{TimedParts}
+use Rattle.can_bus.specs.Timed.{TimedParts, all_offers, offered_first, offered_to, own_offers, timed}
 use Rattle.can_bus.proofs.PlayedRuns.{to-here, to-other}
 
 -- what these ports have to send, where the first has this number

@@ -8,12 +8,11 @@ use Rattle.can_hit.specs.declared.hit.Hit.{Hit}
 use Rattle.can_bus.specs.Course.{AllEnded, Transmission, course_at, course_tally, frames_sent}
 use Rattle.can_bus.specs.Network.{AllCountAtMost, IsNetworkCall, counters_of}
 use Rattle.can_bus.specs.Offers.{call_after}
-use Rattle.can_bus.specs.OpenBus.{all_offers, offered_first, own_offers}
 use Rattle.can_bus.specs.Quiet.{AreDifferent, AtEachPort, CountsNothing, IsAscending, IsPrefixOf, LogsBegin, LogsWhole, MissesNothing, marked, queued}
 use Rattle.can_bus.specs.Attempts.{IsLow, Tally}
 use Rattle.can_bus.specs.Repair.{AreBorne, CountsAs, CountsFew, IsRepairedCall, no_errors, repaired_course, repaired_line_at, repaired_span, tally}
 use Rattle.can_bus.specs.Run.{BusState, bus_level, bus_run}
-use Rattle.can_bus.specs.Timed.{TimedParts, Lists, frames_of}
+use Rattle.can_bus.specs.Timed.{TimedParts, Lists, frames_of, all_offers, offered_first, own_offers}
 use Rattle.can_bus.proofs.CallLemmas.{call_bus-run, call_level-run}
 use Rattle.can_bus.proofs.Contests.{AllPorts}
 use Rattle.can_bus.proofs.CoursePlans.{AreLeft, left-ascending, plan-course, plan-frames, plan-track}

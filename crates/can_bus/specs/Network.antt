@@ -12,11 +12,10 @@ use Rattle.can_bus.specs.declared.offer.Offer.{Offer}
 use Rattle.can_bus.specs.Course.{IsCourse, IsMade, Transmission, course_tally, ended_by, frames_sent}
 use Rattle.can_bus.specs.CourseWaiting.{keeping}
 use Rattle.can_bus.specs.Offers.{AreOffered}
-use Rattle.can_bus.specs.OpenBus.{QueuesHaveRoom, all_offers, offered_to, own_offers, timed}
 use Rattle.can_bus.specs.Quiet.{AtEachPort, IsPrefixOf, marked}
 use Rattle.can_bus.specs.Attempts.{AreApart, IsLow, Tally, AreInAttempts}
 use Rattle.can_bus.specs.Run.{BusState}
-use Rattle.can_bus.specs.Timed.{Lists, TimedParts, frames_of}
+use Rattle.can_bus.specs.Timed.{Lists, TimedParts, frames_of, all_offers, offered_to, own_offers, timed, QueuesHaveRoom}
 
 -- What is asked of it.
 

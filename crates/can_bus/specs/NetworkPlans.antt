@@ -9,7 +9,7 @@ use Rattle.can_bus.specs.Course.{HitInWindows, Transmission, course_of}
 use Rattle.can_bus.specs.Attempts.{AreInAttempts, AreApart, IsInWindow}
 use Rattle.can_bus.specs.Network.{CourseIsBorne, FieldsAreOwned}
 use Rattle.can_bus.specs.Offers.{AreOffered}
-use Rattle.can_bus.specs.OpenBus.{all_offers}
+use Rattle.can_bus.specs.Timed.{all_offers}
 use Rattle.can_bus.specs.Plans.{PlannedPort, planned, ready_port}
 
 -- the course of all frames at these ports, as it is computed

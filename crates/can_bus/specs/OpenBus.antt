@@ -1,40 +1,15 @@
 -- An open bus: a quiet bus to whose ports frames are offered while it goes on. Its frames go out by their schedule.
 -- (Bosch CAN 2.0 part B, sections 2 and 3.2.5)
-use Rattle.std.specs.Prelude.{ℕ, ◌≡◌, ◌+◌, ◌≤◌, ◌==◌, List, ◌++◌, All, length, map, filter, slice_get, Some}
-use Rattle.can_frame.specs.Parts.{Parts}
+use Rattle.std.specs.Prelude.{ℕ, ◌≡◌, ◌+◌, ◌≤◌, List, ◌++◌, All, length, map, slice_get, Some}
 use Rattle.can_wire.specs.Wire.{wire}
 use Rattle.can_node.specs.Ports.{PortState}
 use Rattle.can_bus.specs.declared.offer.Offer.{Offer}
 use Rattle.can_bus.specs.Offers.{AreOffered, all_made}
 use Rattle.can_bus.specs.Plans.{PlannedPort, planned}
-use Rattle.can_bus.specs.Quiet.{AreDifferent, IsPrefixOf, IsQuietPort, marked, queued}
+use Rattle.can_bus.specs.Quiet.{AreDifferent, IsPrefixOf, IsQuietPort, marked}
 use Rattle.can_bus.specs.Run.{BusState}
 use Rattle.can_bus.specs.Schedule.{IsScheduleOf}
-use Rattle.can_bus.specs.Timed.{Lists, TimedParts, frames_of}
-
--- frames that wait as the call begins: each counts as an offer at time 0
-abbrev pub offered_first : List Parts → List TimedParts
-offered_first queue = map (λ f. record { time = 0; frame = f }) queue
-
--- an offer, whatever its port
-abbrev pub timed : Offer → TimedParts
-timed offer = record { time = offer.time; frame = offer.frame }
-
--- what is offered to the port of this number
-abbrev pub offered_to : ℕ → List Offer → List TimedParts
-offered_to node offers = map timed (filter (λ offer. offer.node == node) offers)
-
--- what the port of this number has to send, in this order
-abbrev pub own_offers : List Offer → ℕ → PortState → List TimedParts
-own_offers offers node p = offered_first p.queue ++ offered_to node offers
-
--- all frames: those that wait at the ports as the call begins, and those that are offered
-abbrev pub all_offers : List Offer → List PortState → List TimedParts
-all_offers offers ports = offered_first (queued ports) ++ map timed offers
-
--- each queue has room for what it holds and what is offered to its port
-abbrev pub QueuesHaveRoom : List Offer → List PortState → Type 0
-QueuesHaveRoom offers ports = (n : ℕ) (p : PortState) → slice_get ports n ≡ Some p → length (own_offers offers n p) ≤ p.queue_room
+use Rattle.can_bus.specs.Timed.{Lists, QueuesHaveRoom, TimedParts, all_offers, frames_of, own_offers}
 
 -- What the theorem asks of a bus, of the frames that are offered to it, and of their schedule.
 pub record IsOpenCall (offers : List Offer) (ports : List PortState) (starts : List TimedParts) : Type 0 where

@@ -4,11 +4,11 @@ ghost use Rattle.can_frame.specs.Parts.{Parts};
 ghost use Rattle.can_node.specs.Ports.{PortState};
 ghost use Rattle.can_bus.specs.declared.offer.Offer.{Offer};
 ghost use Rattle.can_bus.specs.Offers.{AreOffered, all_made, played, played_level};
-ghost use Rattle.can_bus.specs.OpenBus.{QueuesHaveRoom, IsOpenCall, IsOpenPlan, WaitsAt, all_offers, timed, with_first};
+ghost use Rattle.can_bus.specs.OpenBus.{IsOpenCall, IsOpenPlan, WaitsAt, with_first};
 ghost use Rattle.can_bus.specs.Plans.{PlannedPort, ready_port};
 ghost use Rattle.can_bus.specs.Quiet.{IsQuietCall, line_at, AtEachNode};
 ghost use Rattle.can_bus.specs.Run.{BusState, bus_level, bus_run};
-ghost use Rattle.can_bus.specs.Timed.{AreAtOnce, TimedParts, frames_of};
+ghost use Rattle.can_bus.specs.Timed.{AreAtOnce, TimedParts, frames_of, all_offers, timed, QueuesHaveRoom};
 ghost use Rattle.can_bus.specs.Schedule.{schedule, track_at};
 
 /// Where all frames are offered at time 0, a bus to which frames are offered is a quiet bus at which they

@@ -10,10 +10,9 @@ use Rattle.can_bus.specs.declared.offer.Offer.{Offer}
 use Rattle.can_bus.specs.Course.{IsCourse, Transmission, ended_by, lasting}
 use Rattle.can_bus.specs.CourseWaiting.{AreInTime, IsSentBy}
 use Rattle.can_bus.specs.Offers.{call_after, call_level}
-use Rattle.can_bus.specs.OpenBus.{all_offers, offered_first, own_offers, timed}
 use Rattle.can_bus.specs.Quiet.{AtEachNode, holds, queued}
 use Rattle.can_bus.specs.Run.{BusState}
-use Rattle.can_bus.specs.Timed.{TimedParts, frames_of}
+use Rattle.can_bus.specs.Timed.{TimedParts, frames_of, all_offers, offered_first, own_offers, timed}
 use Rattle.can_bus.proofs.Contests.{AllPorts}
 use Rattle.can_bus.proofs.CourseDelays.{offers-in_time, own}
 use Rattle.can_bus.proofs.CourseWaits.{IsOwn, sends-made}

@@ -12,10 +12,9 @@ use Rattle.can_bus.specs.declared.offer.Offer.{Offer}
 use Rattle.can_bus.specs.Course.{Transmission}
 use Rattle.can_bus.specs.CourseWaiting.{of_field}
 use Rattle.can_bus.specs.Network.{IsNetworkCall}
-use Rattle.can_bus.specs.OpenBus.{all_offers, own_offers}
 use Rattle.can_bus.specs.Quiet.{holds}
 use Rattle.can_bus.specs.Run.{BusState}
-use Rattle.can_bus.specs.Timed.{frames_of}
+use Rattle.can_bus.specs.Timed.{frames_of, all_offers, own_offers}
 use Rattle.can_plan.specs.declared.message.Message.{Message}
 use Rattle.can_plan.specs.Messages.{AreHitAtMost, KeepTo, Release, offer_of}
 

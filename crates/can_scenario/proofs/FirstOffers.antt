@@ -4,7 +4,8 @@ use Rattle.std.proofs.Common.{◌≡◌, ℕ, zero, suc, ◌+◌, Some, List, []
 use Rattle.can_hit.specs.declared.hit.Hit.{Hit}
 use Rattle.can_bus.specs.declared.offer.Offer.{Offer}
 use Rattle.can_bus.specs.Offers.{all_made, call_after, played, played_level}
-use Rattle.can_bus.specs.OpenBus.{timed, with_first}
+use Rattle.can_bus.specs.OpenBus.{with_first}
+use Rattle.can_bus.specs.Timed.{timed}
 use Rattle.can_bus.specs.Run.{BusState, bus_after, bus_level, bus_run}
 use Rattle.can_bus.proofs.Members.{Stands, stands-here, stands-later}
 use Rattle.can_bus.proofs.OfferTimes.{at-now, offered_at}

@@ -10,8 +10,7 @@ use Rattle.can_fault.specs.declared.state.State.TheVariants.{Active}
 use Rattle.can_node.specs.declared.entry.Entry.{Entry}
 use Rattle.can_node.specs.Ports.{waiting}
 use Rattle.can_bus.specs.declared.offer.Offer.{Offer}
-use Rattle.can_bus.specs.OpenBus.{timed}
-use Rattle.can_bus.specs.Timed.{TimedParts, frames_of}
+use Rattle.can_bus.specs.Timed.{TimedParts, frames_of, timed}
 use Rattle.can_bus.specs.Course.{course_of}
 use Rattle.can_bus.specs.Schedule.{schedule}
 use Rattle.can_scenario.specs.OpenReport.{quiet_port}

@@ -14,11 +14,11 @@ use Rattle.can_node.specs.declared.entry.Entry.{Entry}
 use Rattle.can_node.specs.Ports.{PortState, IsPort, fresh_port, port_holding, same_field}
 use Rattle.can_bus.specs.declared.offer.Offer.{Offer}
 use Rattle.can_bus.specs.Offers.{AreOffered, call_after, played, played_level}
-use Rattle.can_bus.specs.OpenBus.{AreOver, IsOpenCall, OpenLogWhole, QueuesHaveRoom, all_offers, offered_to, own_offers, timed}
+use Rattle.can_bus.specs.OpenBus.{AreOver, IsOpenCall, OpenLogWhole}
 use Rattle.can_bus.specs.Quiet.{AreDifferent, AtEachPort, CountsNothing, IsQuietPort, MissesNothing, holds, marked, queued, AtEachNode}
 use Rattle.can_bus.specs.Run.{BusState}
 use Rattle.can_bus.specs.Schedule.{IsScheduleOf, track_at}
-use Rattle.can_bus.specs.Timed.{TimedParts, frames_of}
+use Rattle.can_bus.specs.Timed.{TimedParts, frames_of, all_offers, offered_to, own_offers, timed, QueuesHaveRoom}
 use Rattle.can_bus.proofs.CallCases.{played-next}
 use Rattle.can_bus.proofs.CourseSchedules.{one-schedule}
 use Rattle.can_bus.proofs.Ascending.{different_permuted}

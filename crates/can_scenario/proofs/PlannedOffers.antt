@@ -9,8 +9,7 @@ use Rattle.std.proofs.lemmas.List.Elements.{filter-append}
 use Rattle.std.proofs.lemmas.List.Sorted.{IsPermutation-map, length_permutation}
 use Rattle.can_frame.specs.Parts.{Parts}
 use Rattle.can_bus.specs.declared.offer.Offer.{Offer}
-use Rattle.can_bus.specs.OpenBus.{offered_to, timed}
-use Rattle.can_bus.specs.Timed.{TimedParts, frames_of}
+use Rattle.can_bus.specs.Timed.{TimedParts, frames_of, offered_to, timed}
 use Rattle.can_bus.proofs.Members.{Stands, map-stands, stands-either, stands-here, stands-later, stands-none}
 use Rattle.can_scenario_text.specs.declared.scenario.PortPlan.{PortPlan}
 use Rattle.can_scenario_text.specs.declared.scenario.TimedFrame.{TimedFrame}

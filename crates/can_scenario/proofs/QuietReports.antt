@@ -10,9 +10,9 @@ use Rattle.can_frame.specs.Parts.{Parts}
 use Rattle.can_wire.specs.Wire.{wire}
 use Rattle.can_bus.specs.declared.offer.Offer.{Offer}
 use Rattle.can_bus.specs.Course.{IsCourse, IsMade, Transmission, broken, frames_sent, over, sent}
-use Rattle.can_bus.specs.OpenBus.{AreOver, timed}
+use Rattle.can_bus.specs.OpenBus.{AreOver}
 use Rattle.can_bus.specs.Quiet.{AreDifferent, ascending, line_at, span}
-use Rattle.can_bus.specs.Timed.{AreAtOnce, TimedParts, frames_of}
+use Rattle.can_bus.specs.Timed.{AreAtOnce, TimedParts, frames_of, timed}
 use Rattle.can_bus.specs.Schedule.{track_at}
 use Rattle.can_bus.proofs.CourseSchedules.{one-schedule, one_unhit, schedule-frames, unhit-frames, unhit-made}
 use Rattle.can_bus.proofs.Fields.{without-listed}

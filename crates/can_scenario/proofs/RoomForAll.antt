@@ -3,7 +3,7 @@ use Rattle.std.proofs.Common.{◌≡◌, ℕ, List, [], length, map, refl, sym, 
 use Rattle.can_node.proofs.Arrivals.{GainingPort}
 use Rattle.can_bus.specs.declared.offer.Offer.{Offer}
 use Rattle.can_bus.specs.Offers.{call_after, offered_now, all_made, refused}
-use Rattle.can_bus.specs.OpenBus.{offered_to}
+use Rattle.can_bus.specs.Timed.{offered_to}
 use Rattle.can_bus.specs.Run.{call_begun}
 use Rattle.can_bus.proofs.HitWires.{HitWire}
 use Rattle.can_bus.proofs.NetworkRuns.{IsGoing, call-refused, open_wire}

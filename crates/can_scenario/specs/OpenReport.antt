@@ -4,9 +4,8 @@ use Rattle.std.specs.Prelude.{ℕ, ◌≡◌, ◌≤◌, false, List, [], length
 use Rattle.std.specs.List.{flat_map}
 use Rattle.can_frame.specs.Parts.{Parts}
 use Rattle.can_fault.specs.declared.state.State.TheVariants.{Active}
-use Rattle.can_bus.specs.OpenBus.{timed}
 use Rattle.can_bus.specs.Quiet.{AreDifferent, marked}
-use Rattle.can_bus.specs.Timed.{TimedParts, frames_of}
+use Rattle.can_bus.specs.Timed.{TimedParts, frames_of, timed}
 use Rattle.can_bus.specs.Schedule.{schedule, track_at}
 use Rattle.can_scenario_text.specs.declared.scenario.Scenario.{Scenario}
 use Rattle.can_scenario_text.specs.declared.scenario.PortPlan.{PortPlan}
