@@ -1,22 +1,24 @@
 -- A call, bit time by bit time, is a disturbed play over whole lists of levels, and there is one.
-use Rattle.std.specs.Prelude.{nat_le, ◌&&◌, not, min, ◌↔◌, slice_get, All}
-use Rattle.std.specs.List.{Any, list_any, range_with_len}
-use Rattle.std.proofs.Common.{◌≡◌, ℕ, zero, suc, ◌+◌, ◌<◌, ◌≤◌, true, List, [], ◌∷◌, ◌++◌, Some, length, map, get_or, take, refl, ap, sym, ◌∙◌, subst, arith, add-one}
+use Rattle.std.specs.Prelude.{slice_get, All}
+use Rattle.std.specs.List.{list_any, range_with_len}
+use Rattle.std.proofs.Common.{◌≡◌, ℕ, zero, suc, ◌+◌, ◌<◌, ◌≤◌, List, [], ◌∷◌, ◌++◌, Some, length, map, get_or, take, refl, ap, sym, ◌∙◌, arith, add-one}
 use Rattle.std.proofs.lemmas.List.{ext_get_or, length-take-le, take_more}
 use Rattle.std.proofs.lemmas.List.FromFn.{length-map-range_with_len, get_or-map-range_with_len}
 use Rattle.std.proofs.lemmas.Option.{slice_get-get_or, get_or_from_slice_get, slice_get_within}
 use Rattle.can_frame.specs.declared.level.Level.{Level}
 use Rattle.can_frame.specs.declared.level.Level.TheVariants.{Recessive}
-use Rattle.can_frame.specs.Levels.{is_recessive}
 use Rattle.can_node.specs.Ports.{PortState, port_drives, port_step}
 use Rattle.can_hit.specs.declared.hit.Hit.{Hit}
 use Rattle.can_bus.specs.declared.offer.Offer.{Offer}
-use Rattle.can_bus.specs.Disturbed.{level_then, rest_before, begins_at, FallsOnWire}
+use Rattle.can_bus.specs.Disturbed.{level_then}
 use Rattle.can_bus.specs.DisturbedPlay.{IsDisturbedPlay, WasPlayed, all_given, given, played_then, port_played, refusals}
 use Rattle.can_bus.specs.Offers.{call_after, call_level, call_refused, offered_now, all_made}
-use Rattle.can_bus.specs.Run.{BusState, CallState, all_sampled, attempt_now, begins_attempt, bus_step, call_begun, hits_view, hits_wire, inverted_if, recorded as recorded_by, rest_after, wired_level}
+use Rattle.can_bus.specs.Run.{AreLevelsOf, BusState, CallState, all_sampled, bus_step, hits_view, inverted_if, recorded as recorded_by, wired_level}
 use Rattle.can_bus.specs.Wired.{wired as wired_of}
-use Rattle.can_bus.proofs.DisturbedTimes.{LatestIs, latest-none, latest-more, rest_before-none, rest_before-more, rest_after-capped, begins_attempt-capped, inverted-tells, inverted-told, view-decided, wire-decided}
+use Rattle.can_bus.specs.WireSteps.{WireState, wire_after, wire_begun, wire_level, wire_of, wire_step, wire_then}
+use Rattle.can_bus.proofs.CallLemmas.{call-none, call-time}
+use Rattle.can_bus.proofs.WirePlays.{bus-after, bus-level, levels-recorded, recorded-levels, rest-behind, wire-next, wire-none}
+use Rattle.can_bus.proofs.DisturbedTimes.{inverted-tells, inverted-told, view-decided}
 use Rattle.can_bus.proofs.GivenPorts.{call-refusals, made-given}
 
 -- Ports that have seen so many levels.
@@ -66,22 +68,27 @@ abbrev view_of : List Hit → ℕ → CallState → ℕ → Level
 view_of hits t c port = inverted_if (list_any (hits_view t port) hits) (recorded_by hits c)
 
 module _ (offers : List Offer) (hits : List Hit) (before : BusState) (wired recorded : List Level) (seen : List (List Level)) where
-  -- with the offers of its bit time made
-  abbrev now : CallState → CallState
-  now c = offered_now offers c
+  -- the call in bit time t, and with the offers of that made
+  abbrev call_at : ℕ → CallState
+  call_at t = call_after offers hits t before
 
-  -- a run has come to time t over these lists
-  record Stands (t : ℕ) (c : CallState) : Type 0 where
-    ports : c.bus.ports ≡ played_then offers t 0 before.ports seen
-    rest : c.bus.rest ≡ min (rest_before before.rest recorded t) 11
-    time : c.time ≡ t
-    latest : LatestIs before.rest wired recorded t c.latest
+  abbrev now_at : ℕ → CallState
+  now_at t = offered_now offers (call_at t)
+
+  -- its wire
+  abbrev wire_at : ℕ → WireState
+  wire_at t = wire_after hits wired t (wire_begun before.rest)
+
+  -- it has come to time t over these lists
+  record Stands (t : ℕ) : Type 0 where
+    ports : (call_at t).bus.ports ≡ played_then offers t 0 before.ports seen
+    wire : wire_of (call_at t) ≡ wire_at t
 
   -- the lists have the levels of this bit time
-  record Agrees (t : ℕ) (c : CallState) : Type 0 where
-    wires : level_then wired t ≡ wired_level (now c)
-    records : level_then recorded t ≡ recorded_by hits (now c)
-    views : (port : ℕ) (levels : List Level) → slice_get seen port ≡ Some levels → level_then levels t ≡ view_of hits t (now c) port
+  record Agrees (t : ℕ) : Type 0 where
+    wires : level_then wired t ≡ wired_level (now_at t)
+    records : level_then recorded t ≡ recorded_by hits (now_at t)
+    views : (port : ℕ) (levels : List Level) → slice_get seen port ≡ Some levels → level_then levels t ≡ view_of hits t (now_at t) port
 
   record Fits : Type 0 where
     long : length wired ≡ length recorded
@@ -96,134 +103,101 @@ module _ (offers : List Offer) (hits : List Hit) (before : BusState) (wired reco
       let long : length (get_or seen port []) ≡ length recorded = fits.seen_long port [] inside in
       omega (arith, within, long, ap (λ own. length own) same)
 
-  stands-none : Fits → Stands 0 (call_begun before)
+  -- the ports, with the offers made
+  given_at : (t : ℕ) → Stands t → (now_at t).bus.ports ≡ all_given offers t 0 (played_then offers t 0 before.ports seen)
+  given_at t stands =
+      ap (λ time. all_made offers time (call_at t).bus.ports) (call-time offers hits before t) ∙ ap (all_made offers t) stands.ports ∙ made-given offers t (played_then offers t 0 before.ports seen)
+
+  -- what is recorded is the level of the wire
+  record_at : (t : ℕ) → Stands t → level_then wired t ≡ wired_level (now_at t) → recorded_by hits (now_at t) ≡ wire_then hits wired t (wire_begun before.rest)
+  record_at t stands here =
+      bus-level hits (now_at t) ∙ ap (λ w. wire_level hits w (wired_level (now_at t))) stands.wire ∙ ap (wire_level hits (wire_at t)) (sym here)
+
+  stands-none : Fits → Stands 0
   stands-none fits = record {
-    ports = played_then-none offers 0 before.ports seen fits.each_port;
-    rest = omega (arith, fits.rest, rest_before-none before.rest recorded);
-    time = refl;
-    latest = latest-none before.rest wired recorded;
+    ports = ap (λ (c : CallState). c.bus.ports) (call-none offers hits before) ∙ played_then-none offers 0 before.ports seen fits.each_port;
+    wire = ap wire_of (call-none offers hits before) ∙ wire-none hits before.rest wired recorded;
   }
 
-  -- an attempt begins in this bit time or not
-  begun_at : (t : ℕ) (c : CallState) → Stands t c → level_then wired t ≡ wired_level (now c) → begins_at before.rest wired recorded t ≡ begins_attempt c.bus.rest (wired_level (now c))
-  unfolding begins_at
-  begun_at t c stands here =
-      ap (λ x. not (is_recessive x) && nat_le 11 (rest_before before.rest recorded t)) here
-      ∙ sym (begins_attempt-capped (rest_before before.rest recorded t) (wired_level (now c))) ∙ ap (λ rest. begins_attempt rest (wired_level (now c))) (sym stands.rest)
-
-  latest_at : (t : ℕ) (c : CallState) → Stands t c → level_then wired t ≡ wired_level (now c) → LatestIs before.rest wired recorded (t + 1) (attempt_now (now c))
-  latest_at t c stands here =
-      latest-more before.rest wired recorded t (begins_attempt c.bus.rest (wired_level (now c))) c.latest (begun_at t c stands here) stands.latest
-
-  stands-more : Fits → (t : ℕ) (c : CallState) → t < length recorded → Stands t c → Agrees t c → Stands (t + 1) (bus_step hits (now c))
-  unfolding bus_step
-  stands-more fits t c within stands agrees =
-      let x : Level = recorded_by hits (now c) in
-      record {
-        ports = ap (λ ports. all_sampled hits c.time x 0 (all_made offers c.time ports)) stands.ports
-            ∙ ap (λ time. all_sampled hits time x 0 (all_made offers time (played_then offers t 0 before.ports seen))) stands.time
-            ∙ ap (all_sampled hits t x 0) (made-given offers t (played_then offers t 0 before.ports seen))
-            ∙ played_then-more offers hits t x 0 before.ports seen (λ port levels own. long_at fits t port levels within own)
-            (λ port number levels e own. agrees.views port levels own ∙ ap (λ n. view_of hits t (now c) n) (let same : port ≡ number = omega (arith, e) in same));
-        rest = ap (λ rest. rest_after rest x) stands.rest ∙ ap (rest_after (min (rest_before before.rest recorded t) 11)) (sym agrees.records)
-            ∙ sym (rest_after-capped (rest_before before.rest recorded t) (level_then recorded t))
-            ∙ ap (λ n. min n 11) (sym (rest_before-more before.rest recorded t within));
-        time = ap (λ n. n + 1) stands.time;
-        latest = latest_at t c stands agrees.wires;
-      }
-
-  -- what the ports drive at this time
-  driven_at : (t : ℕ) (c : CallState) → Stands t c → wired_level (now c) ≡ wired_of (map port_drives (all_given offers t 0 (played_then offers t 0 before.ports seen)))
-  driven_at t c stands =
-      ap (λ ports. wired_of (map port_drives ports))
-      (ap (all_made offers c.time) stands.ports ∙ ap (λ time. all_made offers time (played_then offers t 0 before.ports seen)) stands.time
-      ∙ made-given offers t (played_then offers t 0 before.ports seen))
-
-  -- whether a hit falls on the wire at this time
-  hit_at : (t : ℕ) (c : CallState) → Stands t c → level_then wired t ≡ wired_level (now c) →
-      (list_any (hits_wire c.time (attempt_now (now c))) hits ≡ true) ↔ Any (λ hit. FallsOnWire before.rest wired recorded hit t) hits
-  hit_at t c stands here =
-      subst (λ time. (list_any (hits_wire time (attempt_now (now c))) hits ≡ true) ↔ Any (λ hit. FallsOnWire before.rest wired recorded hit t) hits) (sym stands.time)
-      (wire-decided before.rest wired recorded t (attempt_now (now c)) hits (latest_at t c stands here))
-
-  record_at : (c : CallState) → recorded_by hits (now c) ≡ inverted_if (list_any (hits_wire c.time (attempt_now (now c))) hits) (wired_level (now c))
-  unfolding recorded_by
-  record_at c = refl
-
-  -- the state of the call, where the lists have its levels
-  abbrev call_at : ℕ → CallState
-  call_at t = call_after offers hits t before
-
-  next_at : (t : ℕ) → bus_step hits (now (call_at t)) ≡ call_at (suc t)
+  next_at : (t : ℕ) → call_at (suc t) ≡ bus_step hits (now_at t)
   unfolding call_after
   next_at t = refl
 
-  start_at : call_begun before ≡ call_at 0
-  unfolding call_after
-  start_at = refl
+  sampled_at : (t : ℕ) → (bus_step hits (now_at t)).bus.ports ≡ all_sampled hits (call_at t).time (recorded_by hits (now_at t)) 0 (now_at t).bus.ports
+  unfolding bus_step
+  sampled_at t = refl
 
-  stands_all : Fits → ((t : ℕ) → t < length recorded → Stands t (call_at t) → Agrees t (call_at t)) → (t : ℕ) → t ≤ length recorded → Stands t (call_at t)
-  stands_all fits agrees zero h = subst (Stands 0) start_at (stands-none fits)
-  stands_all fits agrees (suc t) h =
-      let last : Stands t (call_at t) = stands_all fits agrees t (omega (arith, h)) in
-      let within : t < length recorded = omega (arith, h) in
-      subst (λ k. Stands k (call_at (suc t))) (add-one t) (subst (Stands (t + 1)) (next_at t) (stands-more fits t (call_at t) within last (agrees t within last)))
-
-  -- a disturbed run has the levels of the run
-  fits_of : (after : BusState) (refused : ℕ) → before.rest ≤ 11 → IsDisturbedPlay offers hits before wired recorded seen after refused → Fits
-  fits_of after refused rested run = record { long = run.long; seen_long = run.seen_long; each_port = run.each_port; rest = rested }
-
-  agrees_of : (after : BusState) (refused : ℕ) → IsDisturbedPlay offers hits before wired recorded seen after refused →
-      (t : ℕ) → t < length recorded → Stands t (call_at t) → Agrees t (call_at t)
-  agrees_of after refused run t within stands =
-      let c = call_at t in
-      let here : level_then wired t ≡ wired_level (now c) = run.drives t within ∙ sym (driven_at t c stands) in
-      let told : level_then recorded t ≡ recorded_by hits (now c) =
-      inverted-told (list_any (hits_wire c.time (attempt_now (now c))) hits) (level_then wired t) (level_then recorded t) (hit_at t c stands here) (run.records t within)
-      ∙ ap (inverted_if (list_any (hits_wire c.time (attempt_now (now c))) hits)) here ∙ sym (record_at c) in
+  stands-more : Fits → (t : ℕ) → t < length recorded → Stands t → Agrees t → Stands (suc t)
+  stands-more fits t within stands agrees =
+      let x : Level = recorded_by hits (now_at t) in
       record {
-        wires = here;
-        records = told;
-        views = λ port levels own.
-            inverted-told (list_any (hits_view t port) hits) (level_then recorded t) (level_then levels t) (view-decided t port hits) (run.sees port t levels own within)
-            ∙ ap (inverted_if (list_any (hits_view t port) hits)) told;
+        ports = ap (λ (c : CallState). c.bus.ports) (next_at t) ∙ sampled_at t
+            ∙ ap (λ time. all_sampled hits time x 0 (now_at t).bus.ports) (call-time offers hits before t) ∙ ap (all_sampled hits t x 0) (given_at t stands)
+            ∙ played_then-more offers hits t x 0 before.ports seen (λ port levels own. long_at fits t port levels within own)
+            (λ port number levels e own. agrees.views port levels own ∙ ap (λ n. view_of hits t (now_at t) n) (let same : port ≡ number = omega (arith, e) in same))
+            ∙ ap (λ k. played_then offers k 0 before.ports seen) (add-one t);
+        wire = ap wire_of (next_at t) ∙ bus-after hits (now_at t) ∙ ap (λ w. wire_step hits w (wired_level (now_at t))) stands.wire
+            ∙ ap (wire_step hits (wire_at t)) (sym agrees.wires) ∙ wire-next hits before.rest wired recorded t;
       }
 
+  stands_all : Fits → ((t : ℕ) → t < length recorded → Stands t → Agrees t) → (t : ℕ) → t ≤ length recorded → Stands t
+  stands_all fits agrees zero h = stands-none fits
+  stands_all fits agrees (suc t) h =
+      let last : Stands t = stands_all fits agrees t (omega (arith, h)) in
+      let within : t < length recorded = omega (arith, h) in
+      stands-more fits t within last (agrees t within last)
+
+  -- a disturbed run has the levels of the run
+  module _ (after : BusState) (refused : ℕ) (rested : before.rest ≤ 11) (run : IsDisturbedPlay offers hits before wired recorded seen after refused) where
+    own_levels : AreLevelsOf (λ t. wire_then hits wired t (wire_begun before.rest)) recorded
+    own_levels = recorded-levels hits before.rest wired recorded rested run.records
+
+    agrees_of : (t : ℕ) → t < length recorded → Stands t → Agrees t
+    agrees_of t within stands =
+        let here : level_then wired t ≡ wired_level (now_at t) = run.drives t within ∙ sym (ap (λ ports. wired_of (map port_drives ports)) (given_at t stands)) in
+        let told : level_then recorded t ≡ recorded_by hits (now_at t) =
+        get_or_from_slice_get recorded t (wire_then hits wired t (wire_begun before.rest)) Recessive (own_levels t within) ∙ sym (record_at t stands here) in
+        record {
+          wires = here;
+          records = told;
+          views = λ port levels own.
+              inverted-told (list_any (hits_view t port) hits) (level_then recorded t) (level_then levels t) (view-decided t port hits) (run.sees port t levels own within)
+              ∙ ap (inverted_if (list_any (hits_view t port) hits)) told;
+        }
+
+    stands_at : (t : ℕ) → t ≤ length recorded → Stands t
+    stands_at t within = stands_all (record { long = run.long; seen_long = run.seen_long; each_port = run.each_port; rest = rested }) agrees_of t within
+
+    agrees_at : (t : ℕ) → t < length recorded → Agrees t
+    agrees_at t within = agrees_of t within (stands_at t (omega (arith, within)))
+
+    rest_at : after.rest ≡ (call_at (length recorded)).bus.rest
+    rest_at = run.keeps_rest ∙ sym (rest-behind hits before.rest wired recorded rested own_levels) ∙ sym (ap (λ (w : WireState). w.rest) (stands_at (length recorded) (omega arith)).wire)
+
   -- as many offers are refused
-  refused_as : ((t : ℕ) → t ≤ length recorded → (call_at t).bus.ports ≡ played_then offers t 0 before.ports seen) →
-      call_refused offers hits (length recorded) before ≡ refusals offers before.ports seen (length recorded) [] offers
-  refused_as same = call-refusals offers hits before seen (length recorded) (λ t within. same t (omega (arith, within)))
+  refused_as : ((t : ℕ) → t ≤ length recorded → Stands t) → call_refused offers hits (length recorded) before ≡ refusals offers before.ports seen (length recorded) [] offers
+  refused_as stands = call-refusals offers hits before seen (length recorded) (λ t within. (stands t (omega (arith, within))).ports)
 
   -- lists that have the levels of the run are a disturbed run
-  run_of : Fits → ((t : ℕ) → t < length recorded → Agrees t (call_at t)) → IsDisturbedPlay offers hits before wired recorded seen (call_at (length recorded)).bus (call_refused offers hits (length recorded) before)
+  run_of : Fits → ((t : ℕ) → t < length recorded → Agrees t) → IsDisturbedPlay offers hits before wired recorded seen (call_at (length recorded)).bus (call_refused offers hits (length recorded) before)
   run_of fits agrees =
       let stands = λ (t : ℕ) (within : t ≤ length recorded). stands_all fits (λ u inside _. agrees u inside) t within in
-      let whole : Stands (length recorded) (call_at (length recorded)) = stands (length recorded) (omega arith) in
+      let whole : Stands (length recorded) = stands (length recorded) (omega arith) in
+      let own : AreLevelsOf (λ t. wire_then hits wired t (wire_begun before.rest)) recorded =
+      λ t within. slice_get-get_or recorded t Recessive within ∙ ap Some ((agrees t within).records ∙ record_at t (stands t (omega (arith, within))) (agrees t within).wires) in
       record {
         long = fits.long;
         seen_long = fits.seen_long;
         each_port = fits.each_port;
-        drives = λ t within. (agrees t within).wires ∙ driven_at t (call_at t) (stands t (omega (arith, within)));
-        records = λ t within.
-            let c = call_at t in
-            let here = (agrees t within).wires in
-            inverted-tells (list_any (hits_wire c.time (attempt_now (now c))) hits) (level_then wired t) (level_then recorded t)
-            (hit_at t c (stands t (omega (arith, within))) here)
-            ((agrees t within).records ∙ record_at c ∙ ap (inverted_if (list_any (hits_wire c.time (attempt_now (now c))) hits)) (sym here));
+        drives = λ t within. (agrees t within).wires ∙ ap (λ ports. wired_of (map port_drives ports)) (given_at t (stands t (omega (arith, within))));
+        records = levels-recorded hits before.rest wired recorded fits.rest own;
         sees = λ port t levels own within.
             inverted-tells (list_any (hits_view t port) hits) (level_then recorded t) (level_then levels t) (view-decided t port hits)
             ((agrees t within).views port levels own ∙ ap (inverted_if (list_any (hits_view t port) hits)) (sym (agrees t within).records));
         leads = whole.ports;
-        keeps_rest = whole.rest;
-        refuses = refused_as (λ t within. (stands t within).ports);
+        keeps_rest = ap (λ (w : WireState). w.rest) whole.wire ∙ rest-behind hits before.rest wired recorded fits.rest own;
+        refuses = refused_as stands;
       }
-
-  -- each bit time of a disturbed run
-  stands_at : (after : BusState) (refused : ℕ) → before.rest ≤ 11 → IsDisturbedPlay offers hits before wired recorded seen after refused → (t : ℕ) → t ≤ length recorded → Stands t (call_at t)
-  stands_at after refused rested run t within = stands_all (fits_of after refused rested run) (agrees_of after refused run) t within
-
-  agrees_all : (after : BusState) (refused : ℕ) → before.rest ≤ 11 → IsDisturbedPlay offers hits before wired recorded seen after refused → (t : ℕ) → t < length recorded → Agrees t (call_at t)
-  agrees_all after refused rested run t within = agrees_of after refused run t within (stands_at after refused rested run t (omega (arith, within)))
 
 -- The levels of a call.
 
@@ -287,7 +261,7 @@ pub played-levels : (offers : List Offer) (hits : List Hit) (before after : BusS
     (t : ℕ) → t < length recorded → slice_get recorded t ≡ Some (call_level offers hits t before)
 unfolding call_level
 played-levels offers hits before after recorded refused rested run t within =
-    let agrees : Agrees offers hits before run.0 recorded run.1 t (call_after offers hits t before) = agrees_all offers hits before run.0 recorded run.1 after refused rested run.2 t within in
+    let agrees : Agrees offers hits before run.0 recorded run.1 t = agrees_at offers hits before run.0 recorded run.1 after refused rested run.2 t within in
     slice_get-get_or recorded t Recessive within ∙ ap Some agrees.records
 
 same_bus : (a b : BusState) → a.ports ≡ b.ports → a.rest ≡ b.rest → a ≡ b
@@ -299,21 +273,21 @@ pub played-end : (offers : List Offer) (hits : List Hit) (before after : BusStat
     after ≡ (call_after offers hits (length recorded) before).bus
 played-end offers hits before after recorded refused rested run =
     let stands = stands_at offers hits before run.0 recorded run.1 after refused rested run.2 (length recorded) (omega arith) in
-    same_bus after (call_after offers hits (length recorded) before).bus (run.2.leads ∙ sym stands.ports) (run.2.keeps_rest ∙ sym stands.rest)
+    same_bus after (call_after offers hits (length recorded) before).bus (run.2.leads ∙ sym stands.ports) (rest_at offers hits before run.0 recorded run.1 after refused rested run.2)
 
 -- and refuses as many offers
 pub played-refused : (offers : List Offer) (hits : List Hit) (before after : BusState) (recorded : List Level) (refused : ℕ) → before.rest ≤ 11 → WasPlayed offers hits before recorded after refused →
     refused ≡ call_refused offers hits (length recorded) before
 played-refused offers hits before after recorded refused rested run =
-    run.2.refuses ∙ sym (refused_as offers hits before run.0 recorded run.1 (λ t within. (stands_at offers hits before run.0 recorded run.1 after refused rested run.2 t within).ports))
+    run.2.refuses ∙ sym (refused_as offers hits before run.0 recorded run.1 (stands_at offers hits before run.0 recorded run.1 after refused rested run.2))
 
 -- two disturbed plays of as many bit times are one
 pub played-one : (offers : List Offer) (hits : List Hit) (before one other : BusState) (wired wires recorded records : List Level) (seen views : List (List Level)) (few many : ℕ) → before.rest ≤ 11 →
     IsDisturbedPlay offers hits before wired recorded seen one few → IsDisturbedPlay offers hits before wires records views other many → length recorded ≡ length records →
     (recorded ≡ records) × (one ≡ other) × (wired ≡ wires) × (seen ≡ views) × (few ≡ many)
 played-one offers hits before one other wired wires recorded records seen views few many rested first second long =
-    let agrees = λ (t : ℕ) (within : t < length recorded). agrees_all offers hits before wired recorded seen one few rested first t within in
-    let agree = λ (t : ℕ) (within : t < length recorded). agrees_all offers hits before wires records views other many rested second t (omega (arith, within, long)) in (
+    let agrees = λ (t : ℕ) (within : t < length recorded). agrees_at offers hits before wired recorded seen one few rested first t within in
+    let agree = λ (t : ℕ) (within : t < length recorded). agrees_at offers hits before wires records views other many rested second t (omega (arith, within, long)) in (
       ext_get_or Recessive recorded records long (λ t within. (agrees t within).records ∙ sym (agree t within).records),
       played-end offers hits before one recorded few rested (wired, seen, first)
           ∙ ap (λ n. (call_after offers hits n before).bus) long ∙ sym (played-end offers hits before other records many rested (wires, views, second)),

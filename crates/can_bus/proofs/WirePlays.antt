@@ -71,9 +71,13 @@ module _ (hits : List Hit) (before : ℕ) (wired recorded : List Level) where
       subst (λ time. (list_any (hits_wire time (wire_attempt w (level_then wired t))) hits ≡ true) ↔ Any (λ hit. FallsOnWire before wired recorded hit t) hits)
       (sym stands.time) (wire-decided before wired recorded t (wire_attempt w (level_then wired t)) hits (latest_at t w stands))
 
-  next_at : (t : ℕ) → wire_step hits (wire_at t) (level_then wired t) ≡ wire_at (suc t)
+  pub wire-none : wire_begun before ≡ wire_after hits wired 0 (wire_begun before)
   unfolding wire_after
-  next_at t = refl
+  wire-none = refl
+
+  pub wire-next : (t : ℕ) → wire_step hits (wire_after hits wired t (wire_begun before)) (level_then wired t) ≡ wire_after hits wired (suc t) (wire_begun before)
+  unfolding wire_after
+  wire-next t = refl
 
   stands_all : before ≤ 11 → ((t : ℕ) → t < length recorded → Stands t (wire_at t) → Agrees t (wire_at t)) → (t : ℕ) → t ≤ length recorded → Stands t (wire_at t)
   stands_all rested agrees zero h = stands-none rested
@@ -81,7 +85,7 @@ module _ (hits : List Hit) (before : ℕ) (wired recorded : List Level) where
       let last : Stands t (wire_at t) = stands_all rested agrees t (omega (arith, h)) in
       let within : t < length recorded = omega (arith, h) in
       subst (λ k. Stands k (wire_at (suc t))) (add-one t)
-      (subst (Stands (t + 1)) (next_at t) (stands-more t (wire_at t) within last (agrees t within last)))
+      (subst (Stands (t + 1)) (wire-next t) (stands-more t (wire_at t) within last (agrees t within last)))
 
   -- levels that are recorded are its own
   pub recorded-levels : before ≤ 11 → AreRecorded hits before wired recorded → AreLevelsOf (λ t. wire_then hits wired t (wire_begun before)) recorded
@@ -92,17 +96,21 @@ module _ (hits : List Hit) (before : ℕ) (wired recorded : List Level) where
       agrees t within stands =
           inverted-told (is_struck hits (wire_at t) (level_then wired t)) (level_then wired t) (level_then recorded t) (struck_at t (wire_at t) stands) (told t within)
 
-  -- and its own are recorded
-  pub levels-recorded : before ≤ 11 → AreLevelsOf (λ t. wire_then hits wired t (wire_begun before)) recorded → AreRecorded hits before wired recorded
-  levels-recorded rested own t within =
-      inverted-tells (is_struck hits (wire_at t) (level_then wired t)) (level_then wired t) (level_then recorded t)
-      (struck_at t (wire_at t) (stands_all rested agrees t (omega (arith, within)))) (told t within)
-    where
-      told : (t : ℕ) → t < length recorded → Agrees t (wire_at t)
-      told t within = get_or_from_slice_get recorded t (wire_then hits wired t (wire_begun before)) Recessive (own t within)
+  module _ (rested : before ≤ 11) (own : AreLevelsOf (λ t. wire_then hits wired t (wire_begun before)) recorded) where
+    owns : (t : ℕ) → t < length recorded → Agrees t (wire_at t)
+    owns t within = get_or_from_slice_get recorded t (wire_then hits wired t (wire_begun before)) Recessive (own t within)
 
-      agrees : (t : ℕ) → t < length recorded → Stands t (wire_at t) → Agrees t (wire_at t)
-      agrees t within stands = told t within
+    stands-own : (t : ℕ) → t ≤ length recorded → Stands t (wire_at t)
+    stands-own t within = stands_all rested (λ u inside stands. owns u inside) t within
+
+    -- and its own are recorded
+    pub levels-recorded : AreRecorded hits before wired recorded
+    levels-recorded t within =
+        inverted-tells (is_struck hits (wire_at t) (level_then wired t)) (level_then wired t) (level_then recorded t) (struck_at t (wire_at t) (stands-own t (omega (arith, within)))) (owns t within)
+
+    -- how long it has rested behind them
+    pub rest-behind : (wire_after hits wired (length recorded) (wire_begun before)).rest ≡ min (rest_before before recorded (length recorded)) 11
+    rest-behind = (stands-own (length recorded) (omega arith)).rest
 
 -- a disturbed play has the levels of a wire, and each port sees what the wire has it see
 
