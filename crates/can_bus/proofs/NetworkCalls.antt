@@ -219,11 +219,7 @@ module _ (offers : List Offer) (hits : List Hit) (course : List Transmission) (b
 
 -- ---- offers and hits that are not taken meet no premises
 
-pub unoffered : {X : Type 0} (state : X → PortState) (xs : List X) (size rest : ℕ) (offers : List Offer) (hits : List Hit) → size ≡ length xs → ((false ≡ true) ↔ AreOffered size offers) →
+pub untaken : {X : Type 0} (state : X → PortState) (xs : List X) (size rest : ℕ) (offers : List Offer) (hits : List Hit) → size ≡ length xs → ((false ≡ true) ↔ (AreOffered size offers × AreTaken size hits)) →
     (Claim : List Transmission → Type 0) → OnNetworkCall offers hits (record { ports = map state xs; rest = rest }) Claim
-unoffered state xs size rest offers hits same taken Claim course call =
-    absurd (let e : false ≡ true = taken.1 (subst (λ n. AreOffered n offers) (length-map xs state ∙ sym same) call.offered) in cc)
-
-pub untaken : {X : Type 0} (state : X → PortState) (xs : List X) (size rest : ℕ) (offers : List Offer) (hits : List Hit) → ((false ≡ true) ↔ AreTaken size hits) →
-    (Claim : List Transmission → Type 0) → OnNetworkCall offers hits (record { ports = map state xs; rest = rest }) Claim
-untaken state xs size rest offers hits taken Claim course call = absurd (let e : false ≡ true = taken.1 (taken-attempts size hits call.within call.apart) in cc)
+untaken state xs size rest offers hits same taken Claim course call =
+    absurd (let e : false ≡ true = taken.1 (subst (λ n. AreOffered n offers) (length-map xs state ∙ sym same) call.offered, taken-attempts size hits call.within call.apart) in cc)

@@ -1,16 +1,17 @@
-ghost use Rattle.std.specs.Prelude.{ℕ, Bool, ⊤, ◌≡◌, ◌↔◌, ◌<◌, IsOk, IsTrue, IfErr, Some, length, slice_get};
+ghost use Rattle.std.specs.Prelude.{ℕ, Bool, ⊤, ◌≡◌, ◌↔◌, ◌⊎◌, ◌<◌, IsOk, IsTrue, IfErr, Some, length, slice_get};
 ghost use Rattle.can_frame.specs.Parts.{IsFrame};
-ghost use Rattle.can_hit.specs.Hits.{hit_names_port, is_above};
+ghost use Rattle.can_hit.specs.Hits.{AreTaken, hit_names_port, is_above};
 ghost use Rattle.can_hit.specs.Sound.{AreSound, FollowsLast};
-ghost use Rattle.can_bus.specs.Inputs.{IsFirstWrong};
-ghost use Rattle.can_bus.specs.Offers.{is_no_earlier, offer_names_port};
+ghost use Rattle.can_bus.specs.declared.offer.Offer.{Offer as Asked};
+ghost use Rattle.can_bus.specs.Inputs.{IsFirstHitFault, IsFirstWrong};
+ghost use Rattle.can_bus.specs.Offers.{AreOffered, IsFirstOfferFault, is_no_earlier, offer_names_port};
 
 use crate::fault::BusFault;
 use crate::offer::Offer;
 use can_hit::Hit;
 
 /// What a call of a bus takes in a list.
-pub(crate) trait Input: Copy {
+trait Input: Copy {
     /// Which may stand behind which.
     ghost follows: { Self → Self → Bool };
 
@@ -76,7 +77,7 @@ fn follows_last<I: Input>(inputs: &[I], place: usize) -> bool
 }
 
 /// Checks the order of the inputs, and that each names one of so many ports, if it names any.
-pub(crate) fn check<I: Input>(inputs: &[I], ports: usize) -> Result<(), BusFault>
+fn check<I: Input>(inputs: &[I], ports: usize) -> Result<(), BusFault>
     ensures taken { IsOk result ↔ AreSound I.follows I.names ports inputs.now }
     ensures fault { IfErr result (λ fault. IsFirstWrong I.follows I.names ports inputs.now fault) }
     ensures known { IsOk result → (n : ℕ) (input : I) → slice_get inputs.now n ≡ Some input → I.IsKnown input }
@@ -89,5 +90,16 @@ pub(crate) fn check<I: Input>(inputs: &[I], ports: usize) -> Result<(), BusFault
             return Err(BusFault::NoSuchPort);
         }
     }
+    Ok(())
+}
+
+/// Checks the offers of a call, and then its hits.
+pub(crate) fn check_call(offers: &[Offer], hits: &[Hit], ports: usize) -> Result<(), BusFault>
+    ensures taken { IsOk result ↔ (AreOffered ports offers.now × AreTaken ports hits.now) }
+    ensures fault { IfErr result (λ fault. IsFirstOfferFault ports offers.now fault ⊎ (AreOffered ports offers.now × IsFirstHitFault ports hits.now fault)) }
+    ensures known { IsOk result → (n : ℕ) (offer : Asked) → slice_get offers.now n ≡ Some offer → IsFrame offer.frame }
+{
+    check(offers, ports)?;
+    check(hits, ports)?;
     Ok(())
 }

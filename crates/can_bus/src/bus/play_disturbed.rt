@@ -16,7 +16,7 @@ ghost use Rattle.can_bus.specs.Walks.{AreRising, IsCall, IsReached, call_on};
 
 use crate::bus::Bus;
 use crate::call::Call;
-use crate::check::check;
+use crate::check::check_call;
 use crate::fault::BusFault;
 use crate::offer::Offer;
 use crate::wire::wired_level;
@@ -170,8 +170,7 @@ impl<P: Port> Bus<P> {
         ensures unchanged { OnErr result (self.new ≡ self.old) }
         ensures unrecorded { OnErr result (rec.new ≡ rec.old) }
     {
-        check(offers, self.ports.len())?;
-        check(hits, self.ports.len())?;
+        check_call(offers, hits, self.ports.len())?;
         let mut call = Call::new();
         let mut progress = Progress {
             place: 0,

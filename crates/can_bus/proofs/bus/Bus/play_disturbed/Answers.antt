@@ -1,4 +1,4 @@
-use Rattle.std.specs.Prelude.{Ok}
+use Rattle.std.specs.Prelude.{◌⊎◌, IfErr, Ok}
 use Rattle.std.proofs.Common.{◌≡◌, ◌+◌, ◌-◌, true, false, Some, length, map, get_or, drop, inl, inr, arith, rules, refl, sym, ap, subst, ◌∙◌}
 use Rattle.std.proofs.lemmas.Bool.{cases_lt}
 use Rattle.std.proofs.lemmas.Grind.{elements}
@@ -8,79 +8,51 @@ use Rattle.can_frame.specs.declared.level.Level.TheVariants.{Recessive}
 use Rattle.can_bus.specs.DisturbedPlay.{WasPlayed}
 use Rattle.can_bus.specs.declared.call.Call.{Call}
 use Rattle.can_hit.specs.Hits.{AreTaken}
-use Rattle.can_bus.specs.Offers.{call_after, call_level, call_refused, offered_now, AreOffered, refused_at}
+use Rattle.can_bus.specs.Inputs.{IsFirstHitFault}
+use Rattle.can_bus.specs.Offers.{IsFirstOfferFault, call_after, call_level, call_refused, offered_now, AreOffered, refused_at}
 use Rattle.can_bus.specs.Run.{AreLevelsOf, CallState}
 use Rattle.can_bus.specs.State.{state_of}
 use Rattle.can_bus.specs.Walks.{IsCall, IsReached, call_on}
 use Rattle.can_bus.proofs.DisturbedPlays.{call-played}
 use Rattle.can_bus.proofs.CallLemmas.{call-none, refused-none, refused-several}
 use Rattle.can_bus.proofs.HitOrder.{taken-rising}
-use Rattle.can_bus.proofs.NetworkCalls.{network-active, network-counts, network-has, network-logs, network-missed, network-refused, network-rests, network-tally, network-track, network-whole, unoffered, untaken, valid-ports}
+use Rattle.can_bus.proofs.NetworkCalls.{network-active, network-counts, network-has, network-logs, network-missed, network-refused, network-rests, network-tally, network-track, network-whole, untaken, valid-ports}
 use Rattle.can_bus.proofs.OfferLemmas.{reached-first}
 use Rattle.can_bus.proofs.StepLemmas.{first_ready, same_call}
 use Rattle.can_bus.proofs.bus.Bus.play_disturbed.Goals as goal
 
-pub returns-in_err-check-clause-taken : goal.returns-in_err-check-clause-taken
-returns-in_err-check-clause-taken g c =
+pub returns-in_err-check_call-clause-taken : goal.returns-in_err-check_call-clause-taken
+returns-in_err-check_call-clause-taken g c =
     let size : c.len.result ≡ length c.args.self.now.ports.items = search rules in
-    let untaken : AreOffered (length c.args.self.now.ports.items) c.args.offers.now → ⊥ =
-    λ offered. let e : false ≡ true = c.in_err-check.ensures.taken.1 (subst (λ n. AreOffered n c.args.offers.now) (sym size) offered) in cc in
-    (search rules, λ both. absurd (untaken both.0))
+    let not_taken : AreOffered (length c.args.self.now.ports.items) c.args.offers.now × AreTaken (length c.args.self.now.ports.items) c.args.hits.now → ⊥ =
+    λ both. let e : false ≡ true = c.in_err-check_call.ensures.taken.1 (subst (λ n. AreOffered n c.args.offers.now × AreTaken n c.args.hits.now) (sym size) both) in cc in
+    (search rules, λ both. absurd (not_taken both))
 
-pub returns-in_err-check-clause-answer : goal.returns-in_err-check-clause-answer
-returns-in_err-check-clause-answer g c = unoffered g.P.Port.port c.args.self.now.ports.items c.len.result _ c.args.offers.now c.args.hits.now (search rules) c.in_err-check.ensures.taken _
-
-pub returns-in_err-check-clause-course : goal.returns-in_err-check-clause-course
-returns-in_err-check-clause-course g c = unoffered g.P.Port.port c.args.self.now.ports.items c.len.result _ c.args.offers.now c.args.hits.now (search rules) c.in_err-check.ensures.taken _
-
-pub returns-in_err-check-clause-network_has : goal.returns-in_err-check-clause-network_has
-returns-in_err-check-clause-network_has g c = unoffered g.P.Port.port c.args.self.now.ports.items c.len.result _ c.args.offers.now c.args.hits.now (search rules) c.in_err-check.ensures.taken _
-
-pub returns-in_err-check-clause-network_whole : goal.returns-in_err-check-clause-network_whole
-returns-in_err-check-clause-network_whole g c = unoffered g.P.Port.port c.args.self.now.ports.items c.len.result _ c.args.offers.now c.args.hits.now (search rules) c.in_err-check.ensures.taken _
-
-pub returns-in_err-check-clause-network_tally : goal.returns-in_err-check-clause-network_tally
-returns-in_err-check-clause-network_tally g c = unoffered g.P.Port.port c.args.self.now.ports.items c.len.result _ c.args.offers.now c.args.hits.now (search rules) c.in_err-check.ensures.taken _
-
-pub returns-in_err-check-clause-network_rests : goal.returns-in_err-check-clause-network_rests
-returns-in_err-check-clause-network_rests g c = unoffered g.P.Port.port c.args.self.now.ports.items c.len.result _ c.args.offers.now c.args.hits.now (search rules) c.in_err-check.ensures.taken _
-
-pub returns-in_err-check-clause-network_active : goal.returns-in_err-check-clause-network_active
-returns-in_err-check-clause-network_active g c = unoffered g.P.Port.port c.args.self.now.ports.items c.len.result _ c.args.offers.now c.args.hits.now (search rules) c.in_err-check.ensures.taken _
-
-pub returns-in_err-check-2-clause-taken : goal.returns-in_err-check-2-clause-taken
-returns-in_err-check-2-clause-taken g c =
-    let size : c.len-2.result ≡ length c.args.self.now.ports.items = search rules in
-    let untaken : AreTaken (length c.args.self.now.ports.items) c.args.hits.now → ⊥ =
-    λ taken. let e : false ≡ true = c.in_err-check-2.ensures.taken.1 (subst (λ n. AreTaken n c.args.hits.now) (sym size) taken) in cc in
-    (search rules, λ both. absurd (untaken both.1))
-
-pub returns-in_err-check-2-clause-fault : goal.returns-in_err-check-2-clause-fault
-returns-in_err-check-2-clause-fault g c =
+pub returns-in_err-check_call-clause-fault : goal.returns-in_err-check_call-clause-fault
+returns-in_err-check_call-clause-fault g c =
     let size : c.len.result ≡ length c.args.self.now.ports.items = search rules in
-    let offered : AreOffered (length c.args.self.now.ports.items) c.args.offers.now = subst (λ n. AreOffered n c.args.offers.now) size (c.in_ok-check.ensures.taken.0 (refl {a = true})) in
-    search rules
+    subst (λ n. IfErr c.from_residual.result (λ fault. IsFirstOfferFault n c.args.offers.now fault ⊎ (AreOffered n c.args.offers.now × IsFirstHitFault n c.args.hits.now fault))) size (search rules)
 
-pub returns-in_err-check-2-clause-answer : goal.returns-in_err-check-2-clause-answer
-returns-in_err-check-2-clause-answer g c = untaken g.P.Port.port c.args.self.now.ports.items c.len-2.result _ c.args.offers.now c.args.hits.now c.in_err-check-2.ensures.taken _
+pub returns-in_err-check_call-clause-answer : goal.returns-in_err-check_call-clause-answer
+returns-in_err-check_call-clause-answer g c = untaken g.P.Port.port c.args.self.now.ports.items c.len.result _ c.args.offers.now c.args.hits.now (search rules) c.in_err-check_call.ensures.taken _
 
-pub returns-in_err-check-2-clause-course : goal.returns-in_err-check-2-clause-course
-returns-in_err-check-2-clause-course g c = untaken g.P.Port.port c.args.self.now.ports.items c.len-2.result _ c.args.offers.now c.args.hits.now c.in_err-check-2.ensures.taken _
+pub returns-in_err-check_call-clause-course : goal.returns-in_err-check_call-clause-course
+returns-in_err-check_call-clause-course g c = untaken g.P.Port.port c.args.self.now.ports.items c.len.result _ c.args.offers.now c.args.hits.now (search rules) c.in_err-check_call.ensures.taken _
 
-pub returns-in_err-check-2-clause-network_has : goal.returns-in_err-check-2-clause-network_has
-returns-in_err-check-2-clause-network_has g c = untaken g.P.Port.port c.args.self.now.ports.items c.len-2.result _ c.args.offers.now c.args.hits.now c.in_err-check-2.ensures.taken _
+pub returns-in_err-check_call-clause-network_has : goal.returns-in_err-check_call-clause-network_has
+returns-in_err-check_call-clause-network_has g c = untaken g.P.Port.port c.args.self.now.ports.items c.len.result _ c.args.offers.now c.args.hits.now (search rules) c.in_err-check_call.ensures.taken _
 
-pub returns-in_err-check-2-clause-network_whole : goal.returns-in_err-check-2-clause-network_whole
-returns-in_err-check-2-clause-network_whole g c = untaken g.P.Port.port c.args.self.now.ports.items c.len-2.result _ c.args.offers.now c.args.hits.now c.in_err-check-2.ensures.taken _
+pub returns-in_err-check_call-clause-network_whole : goal.returns-in_err-check_call-clause-network_whole
+returns-in_err-check_call-clause-network_whole g c = untaken g.P.Port.port c.args.self.now.ports.items c.len.result _ c.args.offers.now c.args.hits.now (search rules) c.in_err-check_call.ensures.taken _
 
-pub returns-in_err-check-2-clause-network_tally : goal.returns-in_err-check-2-clause-network_tally
-returns-in_err-check-2-clause-network_tally g c = untaken g.P.Port.port c.args.self.now.ports.items c.len-2.result _ c.args.offers.now c.args.hits.now c.in_err-check-2.ensures.taken _
+pub returns-in_err-check_call-clause-network_tally : goal.returns-in_err-check_call-clause-network_tally
+returns-in_err-check_call-clause-network_tally g c = untaken g.P.Port.port c.args.self.now.ports.items c.len.result _ c.args.offers.now c.args.hits.now (search rules) c.in_err-check_call.ensures.taken _
 
-pub returns-in_err-check-2-clause-network_rests : goal.returns-in_err-check-2-clause-network_rests
-returns-in_err-check-2-clause-network_rests g c = untaken g.P.Port.port c.args.self.now.ports.items c.len-2.result _ c.args.offers.now c.args.hits.now c.in_err-check-2.ensures.taken _
+pub returns-in_err-check_call-clause-network_rests : goal.returns-in_err-check_call-clause-network_rests
+returns-in_err-check_call-clause-network_rests g c = untaken g.P.Port.port c.args.self.now.ports.items c.len.result _ c.args.offers.now c.args.hits.now (search rules) c.in_err-check_call.ensures.taken _
 
-pub returns-in_err-check-2-clause-network_active : goal.returns-in_err-check-2-clause-network_active
-returns-in_err-check-2-clause-network_active g c = untaken g.P.Port.port c.args.self.now.ports.items c.len-2.result _ c.args.offers.now c.args.hits.now c.in_err-check-2.ensures.taken _
+pub returns-in_err-check_call-clause-network_active : goal.returns-in_err-check_call-clause-network_active
+returns-in_err-check_call-clause-network_active g c = untaken g.P.Port.port c.args.self.now.ports.items c.len.result _ c.args.offers.now c.args.hits.now (search rules) c.in_err-check_call.ensures.taken _
 
 pub loop-place-init : goal.loop-place-init
 loop-place-init g c =
@@ -102,15 +74,15 @@ loop-place-init g c =
 pub make_all-requires-clause-offered : goal.make_all-requires-clause-offered
 make_all-requires-clause-offered g c =
     let size : c.len.result ≡ length c.args.self.now.ports.items = search rules in
-    subst (λ n. AreOffered n c.args.offers.now) (size ∙ sym c.loop-place.invariant.size) (c.in_ok-check.ensures.taken.0 (refl {a = true}))
+    subst (λ n. AreOffered n c.args.offers.now) (size ∙ sym c.loop-place.invariant.size) (c.in_ok-check_call.ensures.taken.0 (refl {a = true})).0
 
 pub go_ahead-place-requires-clause-offered : goal.go_ahead-place-requires-clause-offered
 go_ahead-place-requires-clause-offered g c =
     let size : c.len.result ≡ length c.args.self.now.ports.items = search rules in
-    subst (λ n. AreOffered n c.args.offers.now) (size ∙ sym (c.make_all.ensures.size ∙ c.loop-place.invariant.size)) (c.in_ok-check.ensures.taken.0 (refl {a = true}))
+    subst (λ n. AreOffered n c.args.offers.now) (size ∙ sym (c.make_all.ensures.size ∙ c.loop-place.invariant.size)) (c.in_ok-check_call.ensures.taken.0 (refl {a = true})).0
 
 pub go_ahead-place-requires-clause-rising : goal.go_ahead-place-requires-clause-rising
-go_ahead-place-requires-clause-rising g c = taken-rising c.len-2.result c.args.hits.now (c.in_ok-check-2.ensures.taken.0 (refl {a = true}))
+go_ahead-place-requires-clause-rising g c = taken-rising c.len.result c.args.hits.now (c.in_ok-check_call.ensures.taken.0 (refl {a = true})).1
 
 pub loop-place-preserved : goal.loop-place-preserved
 loop-place-preserved g c =
@@ -162,9 +134,8 @@ returns g c =
     let hits = c.args.hits.now in
     let bus = state_of S c.args.self.now in
     let size : c.len.result ≡ length c.args.self.now.ports.items = search rules in
-    let size_again : c.len-2.result ≡ length c.args.self.now.ports.items = search rules in
     let valid = valid-ports S (λ x. g.met.P.Port.valid x) items in
-    let known = c.in_ok-check.ensures.known (refl {a = true}) in
+    let known = c.in_ok-check_call.ensures.known (refl {a = true}) in
     let end : c.loop-place.place ≡ length c.loop-place.rec = omega arith in
     let ran : state_of S c.loop-place.self ≡ (call_after offers hits (length c.loop-place.rec) bus).bus =
     ap (λ (k : CallState). k.bus) c.loop-place.invariant.state ∙ ap (λ n. (call_after offers hits n bus).bus) end in
@@ -172,13 +143,7 @@ returns g c =
     λ t h. slice_get-get_or c.loop-place.rec t Recessive h ∙ ap Some (c.loop-place.invariant.levels t Recessive (omega (arith, h, end))) in
     let counted : c.loop-place.progress.refused ≡ call_refused offers hits (length c.loop-place.rec) bus = c.loop-place.invariant.count ∙ ap (λ n. call_refused offers hits n bus) end in
     record {
-      taken = (
-        λ e. (
-          subst (λ n. AreOffered n offers) size (c.in_ok-check.ensures.taken.0 (refl {a = true})),
-          subst (λ n. AreTaken n hits) size_again (c.in_ok-check-2.ensures.taken.0 (refl {a = true})),
-        ),
-        λ both. refl {a = true},
-      );
+      taken = (λ e. subst (λ n. AreOffered n offers × AreTaken n hits) size (c.in_ok-check_call.ensures.taken.0 (refl {a = true})), λ both. refl {a = true});
       fault = search rules;
       bus = ran;
       levels = recorded;
@@ -186,7 +151,7 @@ returns g c =
           subst (λ after. WasPlayed offers hits bus c.loop-place.rec after c.loop-place.progress.refused) (sym ran)
           (subst (λ count. WasPlayed offers hits bus c.loop-place.rec (call_after offers hits (length c.loop-place.rec) bus).bus count) (sym counted) (call-played offers hits bus c.loop-place.rec rested recorded));
       count = counted;
-      known = c.in_ok-check.ensures.known;
+      known = c.in_ok-check_call.ensures.known;
       answer = λ course call. ap Ok (c.loop-place.invariant.count ∙ network-refused offers hits course bus valid known call c.loop-place.place);
       course = λ course call t within. recorded t within ∙ ap Some (network-track offers hits course bus valid known call t);
       network_logs = λ course call. network-logs offers hits course bus valid known call _ _ ran;
