@@ -31,6 +31,12 @@ use Rattle.can_bus.specs.Run.{rest_after}
 use Rattle.can_bus.proofs.RestInFrames.{rest-low, rest-within, rest_at-next}
 use Rattle.can_bus.proofs.WireRuns.{rest_run}
 
+-- before the first level
+run-none : (p : PortState) (levels : List Level) → port_run p (take 0 levels) ≡ p
+unfolding port_run
+run-none p [] = refl
+run-none p (x ∷ levels) = refl
+
 -- what it drives
 silent : (phase : MacPhase) (role : Role) (w : Option Parts) → is_off_phase phase ≡ true → phase_drives phase role w ≡ Recessive
 silent (Joining row) role w e = refl
@@ -156,12 +162,7 @@ module _ (f : Parts) (is : IsFrame f) (p : PortState) (valid : IsPort p) (aside 
   begins = valid.mac.off ∙ aside
 
   unrun : ridden 0 ≡ p
-  unfolding port_run
-  unrun = none (with_intermission f)
-    where
-      none : (levels : List Level) → port_run p (take 0 levels) ≡ p
-      none [] = refl
-      none (x ∷ levels) = refl
+  unrun = run-none p (with_intermission f)
 
   stays-by : (o : ℕ) → o < length (with_intermission f) → (q : PortState) → ridden o ≡ q → (x : Level) → level_at (with_intermission f) o ≡ x → (next : PortState) → port_step q x ≡ next → ridden (suc o) ≡ next
   stays-by o within q was x level next step = port_run-taken (with_intermission f) p o within ∙ ap (λ r. port_step r (level_at (with_intermission f) o)) was ∙ ap (port_step q) level ∙ step
@@ -272,12 +273,7 @@ module _ (f : Parts) (is : IsFrame f) (p : PortState) (aside : IsOutOfStep p.mac
   }
 
   unmoved : trail 0 ≡ p
-  unfolding port_run
-  unmoved = none (with_intermission f)
-    where
-      none : (levels : List Level) → port_run p (take 0 levels) ≡ p
-      none [] = refl
-      none (x ∷ levels) = refl
+  unmoved = run-none p (with_intermission f)
 
   -- behind so many of its levels
   outs : (o : ℕ) → suc o < length (with_intermission f) → Out (stood (suc o)) (trail (suc o))

@@ -75,6 +75,12 @@ pub length-weigh : (timed : List TimedParts) → sum_by (λ (x : TimedParts). 1)
 length-weigh [] = refl
 length-weigh (x ∷ timed) = omega (arith, sum_by-cons (λ (y : TimedParts). 1) x timed, length-weigh timed)
 
+-- an attempt that starts no earlier than a time, and those behind it
+none-earlier : {hits : List Hit} {number free : ℕ} {left : List TimedParts} {course : List Transmission} → IsCourse hits number free left course → (a : Transmission) → a.time ≤ free → (from : ℕ) → from ≤ a.time →
+    (z : Transmission) → IsMade (a ∷ course) z → from ≤ z.time
+none-earlier rest a early from within z (inl e) = let same : a.time ≡ z.time = ap (λ (w : Transmission). w.time) e in omega (arith, within, same)
+none-earlier rest a early from within z (inr behind) = omega (arith, within, early, course-free rest z behind)
+
 -- ---- what an attempt takes from the offers
 
 module _ (weight : Parts → ℕ) where
@@ -169,10 +175,7 @@ module _ (weight : Parts → ℕ) where
       let head = first-left free left time f is order in
       let ends : (other : a ≡ s) → sent_weight (a ∷ course) x s ≤ ahead_weight left before x s = λ same.
       let at : time ≡ s.time = ap (λ (z : Transmission). z.time) same in
-      let none = sent-none (a ∷ course) x s (λ z made. elim made [
-        | inl e ↦ let k : time ≡ z.time = ap (λ (w : Transmission). w.time) e in omega arith
-        | inr behind ↦ let k = course-free rest z behind in omega (arith, k, at)
-      ]) in omega (arith, none) in
+      let none = sent-none (a ∷ course) x s (none-earlier rest a (omega arith) s.time (omega (arith, at))) in omega (arith, none) in
       elim (sent-cases free time f left course is order x s before waits) [
         | inl sends ↦ ends sends.same
         | inr later ↦
@@ -222,10 +225,7 @@ module _ (weight : Parts → ℕ) where
       let a : Transmission = record { time = time; frame = f; hit = None } in
       elim (cases_lt time x.time) [
         | inr from ↦
-            let all : (z : Transmission) → IsMade (a ∷ course) z → x.time ≤ z.time = λ z made. elim made [
-              | inl e ↦ let k : time ≡ z.time = ap (λ (w : Transmission). w.time) e in omega arith
-              | inr behind ↦ let k = course-free rest z behind in omega (arith, k, from)
-            ] in
+            let all = none-earlier rest a (omega arith) x.time from in
             late-going left before (a ∷ course) x s all (late-weigh (sent number free time f left course is unhit rest) order x s before waits all)
         | inl early ↦ elim (sent-cases free time f left course is order x s before waits) [
           | inl sends ↦ absurd (let t = sends.in_time in omega (arith, t, early))
@@ -240,10 +240,7 @@ module _ (weight : Parts → ℕ) where
       let a : Transmission = record { time = time; frame = f; hit = Some offset } in
       elim (cases_lt time x.time) [
         | inr from ↦
-            let all : (z : Transmission) → IsMade (a ∷ course) z → x.time ≤ z.time = λ z made. elim made [
-              | inl e ↦ let k : time ≡ z.time = ap (λ (w : Transmission). w.time) e in omega arith
-              | inr behind ↦ let k = course-free rest z behind in omega (arith, k, from)
-            ] in
+            let all = none-earlier rest a (omega arith) x.time from in
             late-going left before (a ∷ course) x s all (late-weigh (broken number free time f offset left course is struck window rest) order x s before waits all)
         | inl early ↦
             let behind = weigh-going rest order x s before (hit-awaits free time f left course is order x s before offset waits) in

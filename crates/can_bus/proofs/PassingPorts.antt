@@ -24,7 +24,7 @@ use Rattle.can_bus.proofs.Contests.{AllPorts}
 use Rattle.can_bus.proofs.FrameOnBus.{receiver-joins}
 use Rattle.can_bus.proofs.HitRuns.{sees}
 use Rattle.can_bus.proofs.PortLoops.{front_at}
-use Rattle.can_bus.proofs.Reduction.{join_alone, join_more, maps-alike, over_wire}
+use Rattle.can_bus.proofs.Reduction.{maps-alike}
 use Rattle.can_bus.proofs.WireRuns.{all_after}
 
 -- ---- what they drive
@@ -40,6 +40,37 @@ enters-by f is p valid by = record {
   kept = begins-kept p by.0 by.1.0 (IsWaiting-waiting p.queue (AreFrames-from p.queue valid.queued));
   behind = goes-behind f by.0 (comes-behind f by.0 by.1.1);
 }
+
+over_alone : (y : Level) → over y Recessive ≡ y
+over_alone Dominant = refl
+over_alone Recessive = refl
+
+over_self : (y : Level) → over y y ≡ y
+over_self Dominant = refl
+over_self Recessive = refl
+
+over_twice : (y w : Level) → over y (over y w) ≡ over y w
+over_twice Dominant w = refl
+over_twice Recessive w = refl
+
+over_swap : (y d w : Level) → over y (over d w) ≡ over d (over y w)
+over_swap Dominant Dominant w = refl
+over_swap Dominant Recessive w = refl
+over_swap Recessive Dominant w = refl
+over_swap Recessive Recessive w = refl
+
+-- one level that comes to z over y, and others that come to z or to y
+one_more : (y z d w : Level) → over y d ≡ z → (over y w ≡ y) ⊎ (over y w ≡ z) → over y (over d w) ≡ z
+one_more Dominant z d w e h = e
+one_more Recessive z Dominant w e h = e
+one_more Recessive z Recessive w e (inl h) = h ∙ e
+one_more Recessive z Recessive w e (inr h) = h
+
+rest_more : (y z d w : Level) → (over y d ≡ y) ⊎ (over y d ≡ z) → over y w ≡ z → over y (over d w) ≡ z
+rest_more Dominant z d w h e = e
+rest_more Recessive z Dominant w (inl h) e = absurd (let k : Dominant ≡ Recessive = h in cc)
+rest_more Recessive z Dominant w (inr h) e = h
+rest_more Recessive z Recessive w h e = e
 
 -- what the ports drive in bit time o of f
 module _ (f : Parts) (is : IsFrame f) (o : ℕ) (within : o < length (with_intermission f)) where
@@ -68,102 +99,50 @@ module _ (f : Parts) (is : IsFrame f) (o : ℕ) (within : o < length (with_inter
   abbrev wire : List PortState → Level
   wire ports = wired (map drive ports)
 
-  by-all-drive : (ports : List PortState) → AllPorts IsPort ports → PassesByAll f ports → (over x (wire ports) ≡ l) ⊎ (wire ports ≡ Recessive)
+  -- over the level of the sender this one comes to the same, or to the level of the frame
+  abbrev Adds : Level → Type 0
+  Adds d = (over x d ≡ x) ⊎ (over x d ≡ l)
+
+  by-adds : (p : PortState) → IsPort p → PassesBy f p → Adds (drive p)
+  by-adds p valid (inl aside) = inl (ap (over x) (nobody p valid aside) ∙ over_alone x)
+  by-adds p valid (inr receives) = inr (receiver p valid receives)
+
+  by-all-add : (ports : List PortState) → AllPorts IsPort ports → PassesByAll f ports → AllPorts (λ p. Adds (drive p)) ports
+  by-all-add [] valid by = tt
+  by-all-add (p ∷ ports) valid by = (by-adds p valid.0 by.0, by-all-add ports valid.1 by.1)
+
+  bus-adds : (ports : List PortState) → AllPorts IsPort ports → PassesBus f ports → AllPorts (λ p. Adds (drive p)) ports
+  bus-adds [] valid passes = absurd passes
+  bus-adds (p ∷ ports) valid (inl one) = (inl (ap (over x) (sender p one.0) ∙ over_self x), by-all-add ports valid.1 one.1)
+  bus-adds (p ∷ ports) valid (inr one) = (by-adds p valid.0 one.0, bus-adds ports valid.1 one.1)
+
+  more-adds : (d w : Level) → Adds d → Adds w → Adds (over d w)
+  more-adds d w (inl h) (inl k) = inl (rest_more x x d w (inl h) k)
+  more-adds d w (inl h) (inr k) = inr (rest_more x l d w (inl h) k)
+  more-adds d w (inr h) k = inr (one_more x l d w h k)
+
+  wire-adds : (ports : List PortState) → AllPorts (λ p. Adds (drive p)) ports → Adds (wire ports)
   unfolding wired
-  by-all-drive [] valid by = inr refl
-  by-all-drive (p ∷ ports) valid by =
-      let rest = by-all-drive ports valid.1 by.1 in
-      elim by.0 [
-        | inl aside ↦
-            let e = ap (λ d. over d (wire ports)) (nobody p valid.0 aside) in
-            elim rest [
-              | inl h ↦ inl (ap (over x) e ∙ h)
-              | inr h ↦ inr (e ∙ h)
-            ]
-        | inr receives ↦
-            let r = receiver p valid.0 receives in
-            elim rest [
-              | inl h ↦ inl (join_more x (drive p) (wire ports) l r h)
-              | inr h ↦ inl (ap (λ w. over x (over (drive p) w)) h ∙ join_alone x (drive p) l r)
-            ]
-      ]
+  wire-adds [] add = inl (over_alone x)
+  wire-adds (p ∷ ports) add = more-adds (drive p) (wire ports) add.0 (wire-adds ports add.1)
 
-  received-drive : (ports : List PortState) → AllPorts IsPort ports → PassesByAll f ports → IsReceived f ports → over x (wire ports) ≡ l
+  -- with a receiver it comes to that of the frame
+  received : (ports : List PortState) → AllPorts IsPort ports → AllPorts (λ p. Adds (drive p)) ports → IsReceived f ports → over x (wire ports) ≡ l
   unfolding wired
-  received-drive [] valid by got = absurd got
-  received-drive (p ∷ ports) valid by (inl here) =
-      let r = receiver p valid.0 here in
-      elim (by-all-drive ports valid.1 by.1) [
-        | inl h ↦ join_more x (drive p) (wire ports) l r h
-        | inr h ↦ ap (λ w. over x (over (drive p) w)) h ∙ join_alone x (drive p) l r
-      ]
-  received-drive (p ∷ ports) valid by (inr there) =
-      let h = received-drive ports valid.1 by.1 there in
-      elim by.0 [
-        | inl aside ↦ ap (λ d. over x (over d (wire ports))) (nobody p valid.0 aside) ∙ h
-        | inr receives ↦ join_more x (drive p) (wire ports) l (receiver p valid.0 receives) h
-      ]
+  received [] valid add got = absurd got
+  received (p ∷ ports) valid add (inl here) = one_more x l (drive p) (wire ports) (receiver p valid.0 here) (wire-adds ports add.1)
+  received (p ∷ ports) valid add (inr there) = rest_more x l (drive p) (wire ports) add.0 (received ports valid.1 add.1 there)
 
-  over-self : (y : Level) → over y y ≡ y
-  over-self Dominant = refl
-  over-self Recessive = refl
-
-  over-alone : (y : Level) → over y Recessive ≡ y
-  over-alone Dominant = refl
-  over-alone Recessive = refl
-
-  over-flip : (y z : Level) → over y z ≡ over z y
-  over-flip Dominant Dominant = refl
-  over-flip Dominant Recessive = refl
-  over-flip Recessive Dominant = refl
-  over-flip Recessive Recessive = refl
-
-  -- a receiver on a wire that has the sender's level, or that of the frame
-  over-receiver : (d w : Level) → over x d ≡ l → (w ≡ l) ⊎ (w ≡ x) → over d w ≡ l
-  over-receiver d w r (inl h) = ap (over d) h ∙ over_wire x d l r
-  over-receiver d w r (inr h) = ap (over d) h ∙ over-flip d x ∙ r
-
-  sent-drive : (ports : List PortState) → AllPorts IsPort ports → PassesBus f ports → (wire ports ≡ l) ⊎ (wire ports ≡ x)
+  -- and the sender's is in it
+  sent : (ports : List PortState) → PassesBus f ports → over x (wire ports) ≡ wire ports
   unfolding wired
-  sent-drive [] valid passes = absurd passes
-  sent-drive (p ∷ ports) valid (inl one) =
-      let e = ap (λ d. over d (wire ports)) (sender p one.0) in
-      elim (by-all-drive ports valid.1 one.1) [
-        | inl h ↦ inl (e ∙ h)
-        | inr h ↦ inr (e ∙ ap (over x) h ∙ over-alone x)
-      ]
-  sent-drive (p ∷ ports) valid (inr one) =
-      let rest = sent-drive ports valid.1 one.1 in
-      elim one.0 [
-        | inl aside ↦
-            let e = ap (λ d. over d (wire ports)) (nobody p valid.0 aside) in
-            elim rest [
-              | inl h ↦ inl (e ∙ h)
-              | inr h ↦ inr (e ∙ h)
-            ]
-        | inr receives ↦ inl (over-receiver (drive p) (wire ports) (receiver p valid.0 receives) rest)
-      ]
+  sent [] passes = absurd passes
+  sent (p ∷ ports) (inl one) = subst (λ d. over x (over d (wire ports)) ≡ over d (wire ports)) (sym (sender p one.0)) (over_twice x (wire ports))
+  sent (p ∷ ports) (inr one) = over_swap x (drive p) (wire ports) ∙ ap (over (drive p)) (sent ports one.1)
 
-  -- the wire has the level of the frame
+  -- so the wire has the level of the frame
   pub bus-drives : (ports : List PortState) → AllPorts IsPort ports → PassesBus f ports → IsReceived f ports → wired (map (λ p. port_drives (port_run p (take o (with_intermission f)))) ports) ≡ level_at (with_intermission f) o
-  unfolding wired
-  bus-drives [] valid passes got = absurd passes
-  bus-drives (p ∷ ports) valid (inl one) (inl here) =
-      let same : x ≡ l = sym (over-self x) ∙ ap (over x) (sym (sender p one.0)) ∙ receiver p valid.0 here in
-      elim (sent-drive (p ∷ ports) valid (inl one)) [
-        | inl h ↦ h
-        | inr h ↦ h ∙ same
-      ]
-  bus-drives (p ∷ ports) valid (inl one) (inr there) =
-      ap (λ d. over d (wire ports)) (sender p one.0) ∙ received-drive ports valid.1 one.1 there
-  bus-drives (p ∷ ports) valid (inr one) (inl here) =
-      over-receiver (drive p) (wire ports) (receiver p valid.0 here) (sent-drive ports valid.1 one.1)
-  bus-drives (p ∷ ports) valid (inr one) (inr there) =
-      let h = bus-drives ports valid.1 one.1 there in
-      elim one.0 [
-        | inl aside ↦ ap (λ d. over d (wire ports)) (nobody p valid.0 aside) ∙ h
-        | inr receives ↦ over-receiver (drive p) (wire ports) (receiver p valid.0 receives) (inl h)
-      ]
+  bus-drives ports valid passes got = sym (sent ports passes) ∙ received ports valid (bus-adds ports valid passes) got
 
 pub all_after-run : (levels : List Level) (ports : List PortState) → all_after sees levels ports ≡ map (λ p. port_run p levels) ports
 unfolding port_run

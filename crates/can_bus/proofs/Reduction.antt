@@ -31,12 +31,12 @@ abbrev pub OneLeads : {M : Type 0} → (M → Level) → (Level → M → M) →
 OneLeads drive step ls xs [] = ⊥
 OneLeads drive step ls xs (m ∷ ms) = (Leads drive step ls xs m × AllJoin drive step ls xs ms) ⊎ (Joins drive step ls xs m × OneLeads drive step ls xs ms)
 
-pub join_more : (x d w l : Level) → over x d ≡ l → over x w ≡ l → over x (over d w) ≡ l
+join_more : (x d w l : Level) → over x d ≡ l → over x w ≡ l → over x (over d w) ≡ l
 join_more Dominant d w l e f = e
 join_more Recessive Dominant w l e f = e
 join_more Recessive Recessive w l e f = f
 
-pub join_alone : (x d l : Level) → over x d ≡ l → over x (over d Recessive) ≡ l
+join_alone : (x d l : Level) → over x d ≡ l → over x (over d Recessive) ≡ l
 join_alone Dominant d l e = e
 join_alone Recessive Dominant l e = e
 join_alone Recessive Recessive l e = e
@@ -47,7 +47,7 @@ lead_alone Dominant Recessive l e = e
 lead_alone Recessive Dominant l e = e
 lead_alone Recessive Recessive l e = e
 
-pub over_wire : (x d l : Level) → over x d ≡ l → over d l ≡ l
+over_wire : (x d l : Level) → over x d ≡ l → over d l ≡ l
 over_wire x Dominant Dominant e = refl
 over_wire Dominant Dominant Recessive e = absurd (let h : Dominant ≡ Recessive = e in cc)
 over_wire Recessive Dominant Recessive e = absurd (let h : Dominant ≡ Recessive = e in cc)
