@@ -22,7 +22,7 @@ use Rattle.can_bus.proofs.CourseLaws.{course-there, frame-there}
 use Rattle.can_bus.proofs.Fields.{without-listed}
 use Rattle.can_bus.proofs.Members.{stands-none}
 use Rattle.can_bus.proofs.LeftOffers.{offered-stands}
-use Rattle.can_bus.proofs.OpenNetworks.{quiet-low}
+use Rattle.can_bus.proofs.OpenNetworks.{quiet-counts, quiet-fit}
 use Rattle.can_bus.proofs.OpenPlans.{all-size, own-room}
 use Rattle.can_bus.proofs.PlayedRuns.{to-other}
 use Rattle.can_bus.proofs.QuietPlans.{quiet-each}
@@ -54,9 +54,6 @@ module _ (offers : List Offer) (hits : List Hit) (plans : List PlannedPort) (is 
   quiet : (n : ℕ) (p : PortState) → slice_get ports n ≡ Some p → IsQuietPort (length all) p
   quiet = quiet-each (length all) plans (subst (λ k. All (λ plan. k ≤ plan.log_room) plans) (sym (all-size offers plans)) is.logs)
 
-  none-counted : AllCountAtMost 0 ports
-  none-counted n p at = let still = quiet n p at in record { tec = omega (arith, still.tec); rec = omega (arith, still.rec) }
-
   course-made : IsCourse hits 0 0 all (network_course offers hits ports)
   course-made = course-there hits all is.windows
 
@@ -66,19 +63,14 @@ module _ (offers : List Offer) (hits : List Hit) (plans : List PlannedPort) (is 
     most = omega (arith, is.most, length-map plans ready_port);
     rest = refl;
     offered = subst (λ n. AreOffered n offers) (sym (length-map plans ready_port)) is.offered;
-    fit = λ n p at. let still = quiet n p at in record {
-      idle = still.idle;
-      low = quiet-low (length all) p still;
-      unasked = still.unasked;
-      room = omega (arith, ap length still.empty, still.room);
-    };
+    fit = λ n p at. quiet-fit (length all) p (quiet n p at);
     room = λ n p there. own-room offers (length (planned plans)) plans (omega arith) is.queues n n p there;
     owned = is.owned;
     within = is.within;
     apart = is.apart;
     is_course = course-made;
     borne = elim is.borne [
-      | inl few ↦ fifteen-borne offers ports (network_course offers hits ports) 0 none-counted (omega (arith, hits-few course-made, few))
+      | inl few ↦ fifteen-borne offers ports (network_course offers hits ports) 0 (quiet-counts (length all) ports quiet) (omega (arith, hits-few course-made, few))
       | inr borne ↦ borne
     ];
   }

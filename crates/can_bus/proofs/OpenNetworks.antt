@@ -7,7 +7,7 @@ use Rattle.can_node.specs.Ports.{PortState, IsPort, port_drives}
 use Rattle.can_bus.specs.declared.offer.Offer.{Offer}
 use Rattle.can_bus.specs.Course.{frames_sent}
 use Rattle.can_bus.specs.Schedule.{unhit, track_at}
-use Rattle.can_bus.specs.Network.{AllCountAtMost, IsNetworkCall, counters_of}
+use Rattle.can_bus.specs.Network.{AllCountAtMost, IsFit, IsNetworkCall, counters_of}
 use Rattle.can_bus.specs.Offers.{call_after, call_level, call_refused, offered_now, all_made, played, played_level, refused, refused_at}
 use Rattle.can_bus.specs.OpenBus.{AreOver, IsOpenCall, OpenLogBegins, OpenLogWhole}
 use Rattle.can_bus.specs.Quiet.{AtEachNode, AtEachPort, CountsNothing, IsPrefixOf, IsQuietPort, MissesNothing, marked}
@@ -89,6 +89,12 @@ at_rest ports = record { ports = ports; rest = 11 }
 pub quiet-low : (n : ℕ) (p : PortState) → IsQuietPort n p → IsLow (counters_of p)
 quiet-low n p quiet = record { tec = omega (arith, quiet.tec); rec = omega (arith, quiet.rec) }
 
+pub quiet-fit : (entries : ℕ) (p : PortState) → IsQuietPort entries p → IsFit entries p
+quiet-fit entries p quiet = record { idle = quiet.idle; low = quiet-low entries p quiet; unasked = quiet.unasked; room = omega (arith, ap length quiet.empty, quiet.room) }
+
+pub quiet-counts : (entries : ℕ) (ports : List PortState) → ((n : ℕ) (p : PortState) → slice_get ports n ≡ Some p → IsQuietPort entries p) → AllCountAtMost 0 ports
+quiet-counts entries ports quiet n p at = let still = quiet n p at in record { tec = omega (arith, still.tec); rec = omega (arith, still.rec) }
+
 module _ (offers : List Offer) (starts : List TimedParts) (ports : List PortState) (call : IsOpenCall offers ports starts) where
   abbrev all : List TimedParts
   all = all_offers offers ports
@@ -104,12 +110,7 @@ module _ (offers : List Offer) (starts : List TimedParts) (ports : List PortStat
         most = call.most;
         rest = refl;
         offered = call.offered;
-        fit = λ n p at. let quiet = call.quiet n p at in record {
-          idle = quiet.idle;
-          low = quiet-low (length all) p quiet;
-          unasked = quiet.unasked;
-          room = omega (arith, ap length quiet.empty, quiet.room);
-        };
+        fit = λ n p at. quiet-fit (length all) p (call.quiet n p at);
         room = call.room;
         owned = λ m n p q less at there x y a b.
             differ-owned offers 0 ports apart m n p q less at there x y
@@ -162,8 +163,7 @@ module _ (offers : List Offer) (starts : List TimedParts) (bus : BusState) (vali
 
     pub open-counters : AtEachPort CountsNothing bus.ports after.ports
     open-counters node p q before now =
-        let none : AllCountAtMost 0 bus.ports = λ m r at. let still = call.quiet m r at in record { tec = omega (arith, still.tec); rec = omega (arith, still.rec) } in
-        network-unmoved offers [] (unhit starts) (at_rest bus.ports) valid framed net n end refl none (unhit-none starts) node p q before (now-at node q now)
+        network-unmoved offers [] (unhit starts) (at_rest bus.ports) valid framed net n end refl (quiet-counts (length (all_offers offers bus.ports)) bus.ports call.quiet) (unhit-none starts) node p q before (now-at node q now)
 
     pub open-missed : AtEachPort MissesNothing bus.ports after.ports
     open-missed node p q before now = network-missed offers [] (unhit starts) (at_rest bus.ports) valid framed net n end refl node p q before (now-at node q now)

@@ -6,11 +6,11 @@ use Rattle.can_frame.specs.Parts.{Parts}
 use Rattle.can_node.specs.Ports.{PortState, IsPort}
 use Rattle.can_hit.specs.declared.hit.Hit.{Hit}
 use Rattle.can_bus.specs.Course.{AllEnded, Transmission, course_at, course_tally, frames_sent}
-use Rattle.can_bus.specs.Network.{AllCountAtMost, IsNetworkCall, counters_of}
+use Rattle.can_bus.specs.Network.{AllCountAtMost, IsFit, IsNetworkCall, counters_of}
 use Rattle.can_bus.specs.Offers.{call_after}
 use Rattle.can_bus.specs.Quiet.{AreDifferent, AtEachPort, CountsNothing, IsAscending, IsPrefixOf, LogsBegin, LogsWhole, MissesNothing, marked, queued}
 use Rattle.can_bus.specs.Attempts.{IsLow, Tally}
-use Rattle.can_bus.specs.Repair.{AreBorne, CountsAs, CountsFew, IsRepairedCall, no_errors, repaired_course, repaired_line_at, repaired_span, tally}
+use Rattle.can_bus.specs.Repair.{AreBorne, CountsAs, CountsFew, IsRepairedCall, no_errors, repaired_course, repaired_line_at, repaired_span}
 use Rattle.can_bus.specs.Run.{BusState, bus_level, bus_run}
 use Rattle.can_bus.specs.Timed.{TimedParts, Lists, frames_of, all_offers, offered_first, own_offers}
 use Rattle.can_bus.proofs.CallLemmas.{call_bus-run, call_level-run}
@@ -20,7 +20,7 @@ use Rattle.can_bus.proofs.Members.{map-stands}
 use Rattle.can_bus.proofs.NetworkCalls.{port-at, network-active, network-counts, network-logs, network-missed, network-tally, network-track, network-unmoved, network-whole}
 use Rattle.can_bus.proofs.LeftOffers.{AllDiffer}
 use Rattle.can_bus.proofs.OpenAtOnce.{first-frames}
-use Rattle.can_bus.proofs.OpenNetworks.{differ-owned, quiet-low}
+use Rattle.can_bus.proofs.OpenNetworks.{differ-owned, quiet-counts, quiet-fit}
 use Rattle.can_bus.proofs.OpenStart.{OfFrames}
 use Rattle.can_bus.proofs.PortOffers.{no-offers}
 use Rattle.can_bus.proofs.RepairCounts.{plan-ended}
@@ -66,6 +66,9 @@ module _ (hits : List Hit) (bus : BusState) (valid : AllPorts IsPort bus.ports) 
       let quiet = call.quiet.quiet node p at in
       ap (λ t. let u : Tally = record { tec = t; rec = p.mac.counters.rec } in u) quiet.tec ∙ ap (λ r. let u : Tally = record { tec = 0; rec = r } in u) quiet.rec
 
+  none-counted : AllCountAtMost 0 bus.ports
+  none-counted = quiet-counts (length (queued bus.ports)) bus.ports call.quiet.quiet
+
   is-borne : AreBorne frames hits bus.ports
   is-borne = elim call.borne [ inl few ↦ fifteen-borne frames hits bus.ports few | inr low ↦ low ]
 
@@ -75,12 +78,7 @@ module _ (hits : List Hit) (bus : BusState) (valid : AllPorts IsPort bus.ports) 
     most = call.quiet.most;
     rest = call.rest;
     offered = λ place offer at. absurd (let h : None ≡ Some offer = at in cc);
-    fit = λ n p at. let quiet = call.quiet.quiet n p at in record {
-      idle = quiet.idle;
-      low = quiet-low (length (queued bus.ports)) p quiet;
-      unasked = quiet.unasked;
-      room = omega (arith, ap length quiet.empty, quiet.room, length-all bus.ports);
-    };
+    fit = λ n p at. subst (λ entries. IsFit entries p) (sym (length-all bus.ports)) (quiet-fit (length (queued bus.ports)) p (call.quiet.quiet n p at));
     room = λ n p at. let port = port-at IsPort bus.ports n p valid at in
         omega (arith, port.queue_fits, sym (length-map (own_offers [] n p) (λ (x : TimedParts). x.frame)) ∙ ap length (own-queue n p));
     owned = λ m n p q less at there x y a b.
@@ -120,19 +118,13 @@ module _ (hits : List Hit) (bus : BusState) (valid : AllPorts IsPort bus.ports) 
 
     pub repaired-few : AtEachPort (CountsFew (length hits)) bus.ports after.ports
     repaired-few node p q before now =
-        let none : AllCountAtMost 0 bus.ports = λ m r at. let quiet = call.quiet.quiet m r at in record { tec = omega (arith, quiet.tec); rec = omega (arith, quiet.rec) } in
-        let few = network-counts [] hits course bus valid no-framed repaired-network n after is-call 0 none node p q before now in
+        let few = network-counts [] hits course bus valid no-framed repaired-network n after is-call 0 none-counted node p q before now in
         let made = few-made hits frames in
-        record {
-          active = network-active [] hits course bus valid no-framed repaired-network n after is-call node p q before now;
-          tec = omega (arith, few.tec, made);
-          rec = omega (arith, few.rec, made);
-        }
+        (network-active [] hits course bus valid no-framed repaired-network n after is-call node p q before now, record { tec = omega (arith, few.tec, made); rec = omega (arith, few.rec, made) })
 
     pub repaired-unmoved : hits ≡ [] → AtEachPort CountsNothing bus.ports after.ports
     repaired-unmoved unhit node p q before now =
-        let none : AllCountAtMost 0 bus.ports = λ m r at. let quiet = call.quiet.quiet m r at in record { tec = omega (arith, quiet.tec); rec = omega (arith, quiet.rec) } in
-        network-unmoved [] hits course bus valid no-framed repaired-network n after is-call none (omega (arith, few-made hits frames, ap length unhit)) node p q before now
+        network-unmoved [] hits course bus valid no-framed repaired-network n after is-call none-counted (omega (arith, few-made hits frames, ap length unhit)) node p q before now
 
     pub repaired-missed : AtEachPort MissesNothing bus.ports after.ports
     repaired-missed node p q before now = network-missed [] hits course bus valid no-framed repaired-network n after is-call node p q before now
@@ -147,8 +139,5 @@ module _ (hits : List Hit) (bus : BusState) (valid : AllPorts IsPort bus.ports) 
 
       pub repaired-tally : AtEachPort (CountsAs frames hits) bus.ports after.ports
       repaired-tally node p q before now =
-          let same : counters_of q ≡ tally p.queue frames hits =
           network-tally [] hits course bus valid no-framed repaired-network n after is-call ended node p q before now
-          ∙ ap (λ queue. course_tally queue course (counters_of p)) (own-queue node p)
-          ∙ ap (course_tally p.queue course) (start-tally node p before) in
-          (ap (λ (t : Tally). t.tec) same, ap (λ (t : Tally). t.rec) same)
+          ∙ ap (λ queue. course_tally queue course (counters_of p)) (own-queue node p) ∙ ap (course_tally p.queue course) (start-tally node p before)

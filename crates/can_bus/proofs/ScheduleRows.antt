@@ -15,8 +15,7 @@ use Rattle.can_node.specs.Ports.{waiting}
 use Rattle.can_bus.specs.Course.{course_at, course_of}
 use Rattle.can_bus.specs.Quiet.{span}
 use Rattle.can_bus.specs.Timed.{TimedParts}
-use Rattle.can_bus.specs.Schedule.{StartsAt, schedule, track_at}
-use Rattle.can_bus.specs.Waiting.{left_at, starts_between, FindsFree}
+use Rattle.can_bus.specs.Schedule.{StartsAt, schedule, track_at, left_at, starts_between, FindsFree}
 use Rattle.can_bus.specs.CourseWaiting.{ahead_of, busy_times}
 use Rattle.can_bus.proofs.Members.{stands-none, stands-cases}
 use Rattle.can_bus.proofs.RepairRows.{levels_of, frame_000, frame_001, frame_123, wire_000, wire_001, ones}

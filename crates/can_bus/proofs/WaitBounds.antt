@@ -12,8 +12,7 @@ use Rattle.can_node.specs.Ports.{goes_before, same_field}
 use Rattle.can_node.proofs.WaitingLemmas.{Shares-same_field}
 use Rattle.can_bus.specs.Quiet.{AreDifferent, busy_time, span}
 use Rattle.can_bus.specs.Timed.{TimedParts, Lists, frames_of, without_offer}
-use Rattle.can_bus.specs.Schedule.{IsScheduleOf, StartsAt, unhit}
-use Rattle.can_bus.specs.Waiting.{left_at, starts_between, FindsFree}
+use Rattle.can_bus.specs.Schedule.{IsScheduleOf, StartsAt, unhit, left_at, starts_between, FindsFree}
 use Rattle.can_bus.specs.CourseWaiting.{ahead_of, busy_times, AreInTime, IsSentBy, attempts_between, going_before, hit_attempts, keeping, kept_times, left_behind, left_by, of_field, sends_of, sent_attempts}
 use Rattle.can_bus.proofs.Members.{stands-none, stands-here, stands-later, stands-cases, filter-stands, stands-filter}
 use Rattle.can_bus.proofs.LeftOffers.{AllDiffer, differ-from, one-of-field}

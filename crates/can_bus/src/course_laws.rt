@@ -6,13 +6,12 @@ ghost use Rattle.can_node.specs.Ports.{PortState};
 ghost use Rattle.can_hit.specs.declared.hit.Hit.{Hit as Disturbance};
 ghost use Rattle.can_bus.specs.declared.offer.Offer.{Offer};
 ghost use Rattle.can_bus.specs.Course.{HitInWindows, IsCourse, IsMade, Transmission, course_of};
-ghost use Rattle.can_bus.specs.Schedule.{unhit, schedule};
+ghost use Rattle.can_bus.specs.Schedule.{unhit, schedule, starts_between};
 ghost use Rattle.can_bus.specs.CourseWaiting.{AreInTime, IsSentBy, OnWait, attempts_between, going_before, hit_attempts, keeping, kept_times, left_on, sent_attempts, ahead_of, busy_times};
 ghost use Rattle.can_bus.specs.Offers.{AreOffered};
 ghost use Rattle.can_bus.specs.Quiet.{AreDifferent, ascending, busy_time};
 ghost use Rattle.can_bus.specs.Repair.{FallInWindows, repaired_course};
 ghost use Rattle.can_bus.specs.Timed.{AreAtOnce, TimedParts, frames_of, all_offers};
-ghost use Rattle.can_bus.specs.Waiting.{starts_between};
 
 /// Offers and hits have one course at most. It is the one that is computed, if in that one each attempt that is hit
 /// is so in the window of its frame.

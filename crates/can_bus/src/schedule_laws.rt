@@ -7,8 +7,7 @@ ghost use Rattle.can_frame.specs.Parts.{IsFrame};
 ghost use Rattle.can_wire.specs.Wire.{wire};
 ghost use Rattle.can_bus.specs.Quiet.{AreDifferent, ascending, line_at, busy_time};
 ghost use Rattle.can_bus.specs.Timed.{AreAtOnce, Lists, TimedParts, frames_of};
-ghost use Rattle.can_bus.specs.Schedule.{IsScheduleOf, StartsAt, schedule, track_at};
-ghost use Rattle.can_bus.specs.Waiting.{FindsFree, left_at, starts_between};
+ghost use Rattle.can_bus.specs.Schedule.{IsScheduleOf, StartsAt, schedule, track_at, FindsFree, left_at, starts_between};
 ghost use Rattle.can_bus.specs.CourseWaiting.{ahead_of, busy_times};
 
 /// Offers of which no two have one arbitration field have exactly one schedule. It starts each frame
