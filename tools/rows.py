@@ -10,8 +10,8 @@ SUFFIX = ".rattle"
 
 
 def crates_of(root: str) -> dict[str, str]:
-    """The lines of tests/rows/crates.txt, by crate."""
-    with open(f"{root}/tests/rows/crates.txt", encoding="utf-8") as it:
+    """The lines of tests/rows/libraries.txt, by crate."""
+    with open(f"{root}/tests/rows/libraries.txt", encoding="utf-8") as it:
         return {line.partition(":")[0]: line for line in it if line.strip() and not line.startswith("#")}
 
 
