@@ -10,7 +10,5 @@ pub mod LatestFrames
 pub mod Heads
 -- the parts of a document, read one after another
 pub mod PlanParts
--- that at most one field is told
-pub mod OneField
 -- the definitions on numbers worked out by hand
 pub mod Rows

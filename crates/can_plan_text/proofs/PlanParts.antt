@@ -10,6 +10,7 @@ use Rattle.can_frame.proofs.OneText.{same_frame}
 use Rattle.document_values.specs.Demands.{Demands, demands_on_each, followed, AllMet, IsFirstUnmet}
 use Rattle.document_values.specs.Values.{named, ArePaired, IsRequired}
 use Rattle.document_values.proofs.DemandLemmas.{met-followed, unmet-first, unmet-later}
+use Rattle.document_values.proofs.ReadLists.{length-paired}
 use Rattle.can_plan_text.specs.declared.field.PlanField.{PlanField}
 use Rattle.can_plan_text.specs.declared.plan.Planned.{Planned}
 use Rattle.can_plan_text.specs.Names.{HasName, SaysName}
@@ -18,12 +19,6 @@ use Rattle.can_plan_text.specs.Plans.{IsNew, IsNewName, NamesHead, SaysHead, Say
 use Rattle.can_plan_text.proofs.OwnNames.{one-name-from, one-name-to}
 
 -- ---- pairs
-
-pub length-paired : {A B : Type 0} (R : A → B → Type 0) (xs : List A) (ys : List B) → ArePaired R xs ys → length xs ≡ length ys
-length-paired R [] [] p = refl
-length-paired R [] (y ∷ ys) p = absurd p
-length-paired R (x ∷ xs) [] p = absurd p
-length-paired R (x ∷ xs) (y ∷ ys) p = ap suc (length-paired R xs ys p.1)
 
 paired-at : {A B : Type 0} (R : A → B → Type 0) (xs : List A) (ys : List B) (n : ℕ) (x : A) → ArePaired R xs ys → slice_get xs n ≡ Some x → (y : B) × (slice_get ys n ≡ Some y) × R x y
 paired-at R [] ys n x p is = absurd (cc)

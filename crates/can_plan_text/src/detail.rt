@@ -4,7 +4,7 @@ use crate::verdict::Verdict;
 use can_plan::Latest;
 
 /// What the analysis answers of a message, and which of its frames is the latest.
-#[derive(Clone, Copy, Debug)]
+#[derive(Clone, Copy)]
 pub struct Detail {
     pub verdict: Verdict,
     /// Its place in the order of arbitration, counted from 0.

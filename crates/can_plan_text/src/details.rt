@@ -8,13 +8,12 @@ use crate::left::Left;
 use crate::left_text::push_left;
 use crate::plan::{Plan, Planned};
 use crate::report::{
-    push_borne, push_end, push_ended, push_first, push_head, push_last, push_message, push_named,
-    push_slack,
+    push_borne, push_end, push_ended, push_first, push_head, push_last, push_message, push_slack,
 };
 use crate::times::{time_down, time_up};
 use crate::verdict::{Analysis, Verdict};
 use can_plan::{Latest, arrivals, own_load};
-use kit_words::push_text;
+use kit_words::{push_named, push_text};
 use std::alloc::AllocError;
 
 /// How many bit times of intermission a message's longest time on the bus has, and its wire has not.

@@ -9,7 +9,7 @@ use can_plan::{Margin, Message, Strain, margin_of};
 use std::alloc::{AllocError, Global};
 
 /// How much more a network bears until a message may be late; none where one may be as it is.
-#[derive(Clone, Copy, Debug)]
+#[derive(Clone, Copy)]
 pub struct Left {
     /// By how many per cent all periods may be shorter.
     pub periods: Option<Margin>,

@@ -4,9 +4,9 @@ ghost use Rattle.can_plan_text.specs.Details.{late_text, left_lines, margin_line
 
 use crate::left::Left;
 use crate::plan::Planned;
-use crate::report::{push_end, push_head, push_named};
+use crate::report::{push_end, push_head};
 use can_plan::Margin;
-use kit_words::push_text;
+use kit_words::{push_named, push_text};
 use std::alloc::AllocError;
 
 /// Appends how much is left: by how many per cent all periods may be shorter, and how many more hits may come.

@@ -5,7 +5,7 @@
 //! |---|---|---|
 //! | `plan.rt` | [`Plan`], a network that was read: its messages in the order of arbitration | `specs/Plans.antt` |
 //! | `document.rt` | the document, and its fields at the top | `specs/Plans.antt` |
-//! | `messages.rt` | its messages, one after another | `specs/Plans.antt` |
+//! | `messages.rt` | its messages, one after another; [`head_of`], a frame's text without its DLC | `specs/Plans.antt` |
 //! | `name.rt` | [`Name`], the name of a message | `specs/Names.antt` |
 //! | `names.rt` | names in documents, of which no two are one | `specs/Names.antt` |
 //! | `times.rt` | microseconds as whole bit times, and back | `specs/Times.antt` |
@@ -47,6 +47,7 @@ pub use answer::{Answer, Form, answered, answered_in};
 pub use fault::PlanFault;
 pub use field::{MessageField, PlanField};
 pub use laws::one_plan_field;
+pub use messages::head_of;
 pub use name::{LONGEST_NAME, Name};
 pub use plan::{Plan, Planned};
 pub use report::push_report;

@@ -125,16 +125,16 @@ fn head(fields: &Table) -> Option<Frame>
     ensures met { OnSome result (IsRequired IsHead (named (codes "frame") (table (table_view fields.now)))) }
     ensures unmet { IfNone result (¬ IsRequired IsHead (named (codes "frame") (table (table_view fields.now)))) }
 {
-    head_of(field(fields, "frame")?.as_str()?)
+    head_of(field(fields, "frame")?.as_str()?.as_bytes())
 }
 
 /// The frame of whose text this is all but the DLC, which is 0.
-fn head_of(text: &str) -> Option<Frame>
+pub fn head_of(text: &[u8]) -> Option<Frame>
     ensures said { IfSome result (IsHeadText text.now) }
     ensures unmet { IfNone result (¬ ((f : Parts) × IsHeadText text.now f)) }
 {
     let mut whole = ArrayVec::<u8, LONGEST_TEXT>::new();
-    whole.try_extend_from_slice(text.as_bytes()).ok()?;
+    whole.try_extend_from_slice(text).ok()?;
     whole.try_extend_from_slice(b" 0").ok()?;
     Frame::from_text(&whole).ok()
 }

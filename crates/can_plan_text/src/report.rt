@@ -6,7 +6,7 @@ ghost use Rattle.can_plan_text.specs.Report.{borne_line, bound_text, end_text, f
 use crate::plan::Planned;
 use crate::verdict::{Analysis, Verdict};
 use can_plan::Borne;
-use kit_words::{push_number, push_text};
+use kit_words::{push_named, push_number, push_text};
 use std::alloc::AllocError;
 
 /// How many billionths a whole has.
@@ -183,14 +183,6 @@ fn share(verdict: &Verdict) -> u64
     let message = &verdict.planned.message;
     let period = u64::from(message.period);
     (u64::from(message.longest) * BILLION + period - 1) / period
-}
-
-/// Appends a word, and a number in decimal behind it.
-pub(crate) fn push_named(out: &mut Vec<u8>, word: &[u8], number: u64) -> Result<(), AllocError>
-    ensures { OnOk result (out.new.items ≡ out.old.items ++ (word.now ++ decimal number)) }
-{
-    push_text(out, word)?;
-    push_number(out, number)
 }
 
 /// Appends a word, a number in decimal behind it, and the end of the line.

@@ -7,7 +7,6 @@ use Rattle.can_plan.specs.Margins.{IsMargin, MeetDeadlines}
 use Rattle.can_plan.specs.Messages.{ArePeriodic}
 use Rattle.can_plan_text.specs.Answers.{hit_rate_of, limit}
 use Rattle.can_plan_text.specs.Details.{deadlines_of}
-use Rattle.can_plan_text.specs.Plans.{messages_of}
 use Rattle.can_plan_text.proofs.Kept.{periodic}
 use Rattle.can_plan_text.proofs.left.margin_in.Goals as goal
 

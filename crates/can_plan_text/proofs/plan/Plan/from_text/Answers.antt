@@ -6,7 +6,8 @@ use Rattle.document_values.specs.Demands.{IsFirstUnmet}
 use Rattle.document_values.specs.Values.{named, ArePaired}
 use Rattle.can_plan_text.specs.Order.{IsNamedAgain, IsRepeated}
 use Rattle.can_plan_text.specs.Plans.{SaysErrors, SaysMessage, messages_in, rate_in, top_demands}
-use Rattle.can_plan_text.proofs.PlanParts.{length-paired, listed-unmet, named-again-unmet, plan-met, repeated-unmet, top-unmet}
+use Rattle.document_values.proofs.ReadLists.{length-paired}
+use Rattle.can_plan_text.proofs.PlanParts.{listed-unmet, named-again-unmet, plan-met, repeated-unmet, top-unmet}
 use Rattle.can_plan_text.proofs.plan.Plan.from_text.Goals as goal
 
 pub returns-in_err-top-clause-wrong : goal.returns-in_err-top-clause-wrong
