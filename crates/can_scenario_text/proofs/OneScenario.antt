@@ -1,6 +1,6 @@
--- Bytes say one scenario, or have one field that is told.
+-- Bytes say one scenario.
 use Rattle.std.specs.Prelude.{codes}
-use Rattle.std.proofs.Common.{◌≡◌, ℕ, pos, Some, List, ◌++◌, sym, ap, ◌∙◌, subst, inl, inr}
+use Rattle.std.proofs.Common.{◌≡◌, ℕ, pos, Some, List, ◌++◌, sym, ap, ◌∙◌, subst}
 use Rattle.toml.specs.Data.{Data, integer, array, item, no_items}
 use Rattle.can_frame.specs.Parts.{Parts}
 use Rattle.can_hit.specs.declared.hit.Hit.{Hit}
@@ -9,13 +9,10 @@ use Rattle.can_scenario_text.specs.declared.scenario.PortPlan.{PortPlan}
 use Rattle.can_scenario_text.specs.declared.scenario.TimedFrame.{TimedFrame}
 use Rattle.can_scenario_text.specs.declared.scenario.version.Version.{Version}
 use Rattle.can_scenario_text.specs.declared.scenario.version.Version.TheVariants.{One, Two}
-use Rattle.can_stream.specs.declared.field.Field.{Field}
 use Rattle.can_stream.specs.declared.field.HitList.{HitList}
 use Rattle.can_stream.specs.declared.field.HitList.TheVariants.{At, In, View}
-use Rattle.document_values.specs.Demands.{IsFirstUnmet}
 use Rattle.document_values.specs.Values.{SaysFrame, elements_in, named}
-use Rattle.can_scenario_text.specs.Scenarios.{SaysTimedFrame, SaysQueueElement, version_of, SaysHit, SaysPort, SaysHits, SaysScenario, IsScenarioText, IsWrongScenarioField, AreSamePorts, AreSameScenarios, ports_in, scenario_demands}
-use Rattle.document_values.proofs.DemandLemmas.{met-unmet, one-unmet}
+use Rattle.can_scenario_text.specs.Scenarios.{SaysTimedFrame, SaysQueueElement, version_of, SaysHit, SaysPort, SaysHits, SaysScenario, IsScenarioText, AreSamePorts, AreSameScenarios, ports_in}
 use Rattle.document_values.proofs.OneReading.{one-document, required-number, said-number, said-whether, said-frame, paired-each, one-list}
 
 -- ---- values
@@ -72,16 +69,3 @@ says-one document s t a b = record {
 
 pub one-scenario : (bytes : List ℕ) (s t : Scenario) → IsScenarioText bytes s → IsScenarioText bytes t → AreSameScenarios s t
 one-scenario bytes s t a b = says-one a.0 s t a.2 (subst (λ d. SaysScenario d t) (one-document bytes b.0 a.0 b.1 a.1) b.2)
-
--- bytes that say a scenario have no field that is told
-pub no-wrong : (bytes : List ℕ) (s : Scenario) (wrong : Field) → IsScenarioText bytes s → IsWrongScenarioField wrong bytes → ⊥
-no-wrong bytes s wrong a (inl none) = none.1 (a.0, a.1)
-no-wrong bytes s wrong a (inr b) = met-unmet wrong (scenario_demands a.0) a.2.met (subst (λ d. IsFirstUnmet wrong (scenario_demands d)) (one-document bytes b.0 a.0 b.1 a.1) b.2)
-
--- others have one
-pub one-wrong : (bytes : List ℕ) (wrong other : Field) → IsWrongScenarioField wrong bytes → IsWrongScenarioField other bytes → wrong ≡ other
-one-wrong bytes wrong other (inl a) (inl b) = a.0 ∙ sym b.0
-one-wrong bytes wrong other (inl a) (inr b) = absurd (a.1 (b.0, b.1))
-one-wrong bytes wrong other (inr a) (inl b) = absurd (b.1 (a.0, a.1))
-one-wrong bytes wrong other (inr a) (inr b) =
-    one-unmet wrong other (scenario_demands a.0) a.2 (subst (λ d. IsFirstUnmet other (scenario_demands d)) (one-document bytes b.0 a.0 b.1 a.1) b.2)

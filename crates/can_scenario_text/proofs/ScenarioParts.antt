@@ -1,5 +1,5 @@
 -- The parts of a document, read one after another.
-use Rattle.std.proofs.Common.{◌≡◌, ℕ, suc, ◌≤◌, true, List, [], ◌∷◌, length, Option, Some, None, codes, Result, Ok, Err, IfOk, OnOk, refl, ap, sym, subst, ◌∙◌, inr}
+use Rattle.std.proofs.Common.{◌≡◌, ℕ, ◌≤◌, true, List, length, Option, Some, None, codes, Result, Ok, Err, IfOk, OnOk, refl, ap, sym, subst, ◌∙◌, inr}
 use Rattle.toml.specs.Data.{Data, Members, table}
 use Rattle.can_stream.specs.declared.fault.TraceFault.{TraceFault}
 use Rattle.can_scenario_text.specs.declared.scenario.PortPlan.{PortPlan}
@@ -64,13 +64,6 @@ scenario-met document ds ports are count top met hits =
     let P : ℕ → Type 0 = λ n. AllMet (hits_demands n document) in
     met-followed (top_demands document) _ top
     (met-followed (ports_demands (version_of document) 0 (ports_in document)) _ (rw are at met) (subst P (sym count ∙ ap length are) hits))
-
--- pairs are as many as their parts
-pub length-paired : {A B : Type 0} (R : A → B → Type 0) (xs : List A) (ys : List B) → ArePaired R xs ys → length xs ≡ length ys
-length-paired R [] [] p = refl
-length-paired R [] (y ∷ ys) p = absurd p
-length-paired R (x ∷ xs) [] p = absurd p
-length-paired R (x ∷ xs) (y ∷ ys) p = ap suc (length-paired R xs ys p.1)
 
 -- how many elements an array of ports has
 pub port-count : (o : Option Data) → IsRequired IsPortArray o → (1 ≤ length (elements_in o)) × (length (elements_in o) ≤ 64)

@@ -1,5 +1,5 @@
 /// The version of a scenario's format.
-#[derive(Clone, Copy, Debug, PartialEq, Eq)]
+#[derive(Clone, Copy)]
 pub(crate) enum Version {
     /// Frames that wait as the run begins, and disturbances.
     One,

@@ -6,7 +6,8 @@ use Rattle.can_scenario_text.specs.declared.scenario.version.Version.{Version}
 use Rattle.document_values.specs.Demands.{AllMet, IsFirstUnmet}
 use Rattle.document_values.specs.Values.{named, ArePaired, IsNumber, IsRequired}
 use Rattle.can_scenario_text.specs.Scenarios.{hits_demands, ports_demands, ports_in, top_demands, version_of, SaysPort}
-use Rattle.can_scenario_text.proofs.ScenarioParts.{ports-unmet, hits-unmet, scenario-met, length-paired, port-count}
+use Rattle.document_values.proofs.ReadLists.{length-paired}
+use Rattle.can_scenario_text.proofs.ScenarioParts.{ports-unmet, hits-unmet, scenario-met, port-count}
 use Rattle.can_scenario_text.proofs.scenario.Scenario.from_text.Goals as goal
 
 pub returns-in_err-ports-clause-wrong : goal.returns-in_err-ports-clause-wrong
