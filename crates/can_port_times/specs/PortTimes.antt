@@ -1,13 +1,11 @@
 -- What a port does in each bit time of a scenario's run. (docs/FORMATS.md, "`canbit run`"; docs/BUS.md, "A bit time")
-use Rattle.std.specs.Prelude.{ℕ, ◌≡◌, ◌<◌, ◌==◌, ◌+◌, ◌*◌, Bool, true, false, ◌&&◌, if◌then◌else◌, List, [], ◌∷◌, drop, get_or, length, take, Option, Some, None, slice_get}
+use Rattle.std.specs.Prelude.{ℕ, ◌≡◌, ◌<◌, ◌==◌, ◌+◌, ◌*◌, ◌&&◌, if◌then◌else◌, List, [], ◌∷◌, drop, get_or, length, take, Option, Some, None, slice_get}
 use Rattle.std.specs.List.{list_any}
 use Rattle.can_frame.specs.declared.level.Level.{Level}
 use Rattle.can_mac.specs.declared.event.Event.{Event}
 use Rattle.can_mac.specs.declared.event.Event.TheVariants as event
 use Rattle.can_mac.specs.declared.phase.Phase.TheVariants.{Joining, Idle, StuffedPart, CrcDelimiter, AckSlot, AckDelimiter, EndOfFrame, ErrorFlag, PassiveFlag, OverloadFlag, AfterFlag, Delimiter, Intermission, Suspend, BusOff}
-use Rattle.can_mac.specs.declared.phase.Role.{Role}
-use Rattle.can_mac.specs.declared.phase.Role.TheVariants.{Receiver, Sender}
-use Rattle.can_mac.specs.State.{MacPhase}
+use Rattle.can_mac.specs.State.{MacPhase, is_sender}
 use Rattle.can_node.specs.Ports.{PortState, port_drives, port_event, port_step, with_offer}
 use Rattle.can_hit.specs.declared.hit.Hit.{Hit}
 use Rattle.can_bus.specs.declared.offer.Offer.{Offer}
@@ -41,10 +39,6 @@ stage_of (Delimiter place) = stage.Delimiter
 stage_of (Intermission place) = stage.Intermission
 stage_of (Suspend place) = stage.Suspend
 stage_of BusOff = stage.BusOff
-
-abbrev pub is_sender : Role → Bool
-is_sender Receiver = false
-is_sender (Sender f) = true
 
 -- an event without its frame
 abbrev pub brought : Option Event → Brought

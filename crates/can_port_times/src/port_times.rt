@@ -7,7 +7,8 @@ ghost use Rattle.can_frame.specs.Levels.{opposite};
 ghost use Rattle.can_node.specs.Ports.{port_step};
 ghost use Rattle.can_scenario.specs.Report.{recorded_levels};
 ghost use Rattle.can_port_times.specs.declared.port_times.PortTime.{PortTime as Told};
-ghost use Rattle.can_port_times.specs.PortTimes.{AreAllTold, AreSeen, AreTold, brought, first_port, is_sender as is_sender_of, offers_meanwhile, own_made, stage_of, port_time, told_from};
+ghost use Rattle.can_mac.specs.State.{is_sender as is_sender_of};
+ghost use Rattle.can_port_times.specs.PortTimes.{AreAllTold, AreSeen, AreTold, brought, first_port, offers_meanwhile, own_made, stage_of, port_time, told_from};
 
 use can_bus::{Hit, Offer};
 use can_code::{FrameBits, Front};
