@@ -1,7 +1,6 @@
 -- The plain fields by which the page knows what a port does in a bit time, and what is wrong in a scenario or a network.
 use Rattle.std.specs.Prelude.{ℕ, List, map}
-use Rattle.can_mac.specs.declared.event.ErrorKind.{ErrorKind}
-use Rattle.can_mac.specs.declared.event.ErrorKind.TheVariants.{Bit, Stuff, Crc, Form, Ack}
+use Rattle.can_mac.specs.Codes.{kind_code}
 use Rattle.can_plan_text.specs.declared.field.MessageField.{MessageField}
 use Rattle.can_plan_text.specs.declared.field.MessageField.TheVariants as of_message
 use Rattle.can_plan_text.specs.declared.field.PlanField.{PlanField}
@@ -40,13 +39,6 @@ stage_code stage.Delimiter = 11
 stage_code stage.Intermission = 12
 stage_code stage.Suspend = 13
 stage_code stage.BusOff = 14
-
-abbrev pub kind_code : ErrorKind → ℕ
-kind_code Bit = 4
-kind_code Stuff = 5
-kind_code Crc = 6
-kind_code Form = 7
-kind_code Ack = 8
 
 abbrev pub brought_code : Brought → ℕ
 brought_code bring.Nothing = 0

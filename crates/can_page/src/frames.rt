@@ -10,10 +10,9 @@ ghost use Rattle.can_page.specs.Codes.{level_codes};
 
 use crate::answer::Answer;
 use can_code::encode;
-use can_frame::{Frame, Id, Level};
-
-/// No frame has more levels.
-const MOST_LEVELS: usize = 157;
+use can_fields::MOST_LEVELS;
+use can_frame::{Frame, Id};
+use can_wire::write_codes;
 
 /// Writes the levels that the sender of a frame drives, one byte each, by the frame's text, and how many they are. Where
 /// the bytes are no frame text, the answer tells the part in which the fault lies, and `place` where.
@@ -35,7 +34,7 @@ pub extern "C" fn page_encode(
     match Frame::from_text(text) {
         Ok(frame) => {
             let wire = encode(&frame);
-            write_levels(wire.as_slice(), levels);
+            write_codes(wire.as_slice(), levels);
             *count = wire.len();
             Answer::Done.code()
         }
@@ -43,16 +42,6 @@ pub extern "C" fn page_encode(
             *place = fault.place;
             Answer::of_text(fault.kind).code()
         }
-    }
-}
-
-/// Writes the levels' numbers in front of what stands there.
-fn write_levels(wire: &[Level], levels: &mut [u8])
-    requires { length wire.now ≤ length levels.old }
-    ensures { take (length wire.now) levels.new ≡ level_codes wire.now }
-{
-    for place in 0..wire.len() {
-        levels[place] = wire[place].code();
     }
 }
 

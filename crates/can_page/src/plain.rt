@@ -1,8 +1,7 @@
 //! What a port does in a bit time, and what is wrong in a scenario or a network, as plain fields.
 ghost use Rattle.std.specs.Prelude.{◌≡◌};
-ghost use Rattle.can_page.specs.Plain.{brought_code as brought_code_of, kind_code as kind_code_of, plain_time, stage_code as stage_code_of, wrong_at, wrong_field, wrong_hit, wrong_in_message, wrong_in_plan, wrong_in_port, wrong_list};
+ghost use Rattle.can_page.specs.Plain.{brought_code as brought_code_of, plain_time, stage_code as stage_code_of, wrong_at, wrong_field, wrong_hit, wrong_in_message, wrong_in_plan, wrong_in_port, wrong_list};
 
-use can_mac::ErrorKind;
 use can_plan_text::{MessageField, PlanField};
 use can_port_times::{Brought, PortTime, Stage};
 use can_scenario::{Field, HitList, PortField};
@@ -195,22 +194,9 @@ fn brought_code(brought: Brought) -> u8
         Brought::Sent => 1,
         Brought::Received => 2,
         Brought::Lost => 3,
-        Brought::Error(kind) => kind_code(kind),
+        Brought::Error(kind) => kind.code(),
         Brought::Overload => 9,
         Brought::WentOff => 10,
         Brought::Recovered => 11,
-    }
-}
-
-/// The number of an error of this kind.
-fn kind_code(kind: ErrorKind) -> u8
-    ensures { result ≡ kind_code_of kind }
-{
-    match kind {
-        ErrorKind::Bit => 4,
-        ErrorKind::Stuff => 5,
-        ErrorKind::Crc => 6,
-        ErrorKind::Form => 7,
-        ErrorKind::Ack => 8,
     }
 }

@@ -1,11 +1,11 @@
-ghost use Rattle.std.specs.Prelude.{◌≡◌, ◌≢◌, ◌<◌, ◌≤◌, ◌⊎◌, [], false, true, length, take, IfErr, IfOk, IfSome, IsErrOf, List, Some};
+ghost use Rattle.std.specs.Prelude.{◌≡◌, ◌<◌, ◌≤◌, ◌⊎◌, [], false, true, length, take, IfErr, IfOk, IfSome, IsErrOf, List, Some};
 ghost use Rattle.can_port_times.specs.PortTimes.{AreAllTold, AreTold};
 ghost use Rattle.can_scenario.specs.Report.{report};
 ghost use Rattle.can_scenario_text.specs.Scenarios.{IsWrongScenarioField, IsScenarioText};
 ghost use Rattle.can_port_times.specs.declared.port_times.PortTime.{PortTime as Told};
 ghost use Rattle.can_scenario_text.specs.declared.scenario.Scenario.{Scenario as Planned};
 ghost use Rattle.can_stream.specs.declared.field.Field.{Field as Wrong};
-ghost use Rattle.can_page.specs.Answers.{answer_code, bad_scenario, done, no_port, no_room};
+ghost use Rattle.can_page.specs.Answers.{bad_scenario, done, no_memory, no_port, no_room};
 ghost use Rattle.can_page.specs.Lines.{is_full, lines_of};
 ghost use Rattle.can_page.specs.Plain.{plain_times, wrong_field};
 
@@ -28,7 +28,8 @@ pub extern "C" fn page_run(
 ) -> u8
     ensures report { result ≡ done → (s : Planned) × (IsScenarioText text.now s × (lines_of out.new ≡ report s)) }
     ensures wrong { result ≡ bad_scenario → (field : Wrong) × (IsWrongScenarioField field text.now × (wrong.new ≡ wrong_field field)) }
-    ensures room { result ≡ answer_code Answer.NoRoom → is_full out.new ≡ true }
+    ensures answers { (result ≡ done) ⊎ (result ≡ bad_scenario) ⊎ (result ≡ no_room) ⊎ (result ≡ no_memory) }
+    ensures room { result ≡ no_room → is_full out.new ≡ true }
 {
     out.clear();
     run_onto(alloc, text, out, wrong).code()
@@ -45,6 +46,7 @@ pub(crate) fn run_onto<W: Sink>(
     requires empty { W.contents out.old ≡ Some [] }
     ensures report { result ≡ Answer.Done → IfSome (W.contents out.new) (λ bytes. (s : Planned) × (IsScenarioText text.now s × (bytes ≡ report s))) }
     ensures wrong { result ≡ Answer.BadScenario → (field : Wrong) × (IsWrongScenarioField field text.now × (wrong.new ≡ wrong_field field)) }
+    ensures answers { (result ≡ Answer.Done) ⊎ (result ≡ Answer.BadScenario) ⊎ (result ≡ Answer.NoRoom) ⊎ (result ≡ Answer.NoMemory) }
     ensures room { result ≡ Answer.NoRoom → W.has_failed out.new ≡ true }
 {
     match read(alloc, text, wrong) {
@@ -70,6 +72,7 @@ pub extern "C" fn page_port_times(
     ensures times { result ≡ done → (s : Planned) × (told : List Told) × (IsScenarioText text.now s × (node < length s.ports.items) × AreTold s node told
         × (take count.new times.new ≡ plain_times told) × (count.new ≡ length told)) }
     ensures wrong { result ≡ bad_scenario → (field : Wrong) × IsWrongScenarioField field text.now }
+    ensures answers { (result ≡ done) ⊎ (result ≡ bad_scenario) ⊎ (result ≡ no_port) ⊎ (result ≡ no_room) ⊎ (result ≡ no_memory) }
     ensures port { result ≡ no_port → (s : Planned) × (IsScenarioText text.now s × (length s.ports.items ≤ node)) }
     ensures room { result ≡ no_room → (s : Planned) × (told : List Told) × (IsScenarioText text.now s × (node < length s.ports.items) × AreTold s node told
         × (length times.old < length told)) }
@@ -88,6 +91,7 @@ fn tell_port_times(
     ensures times { result ≡ Answer.Done → (s : Planned) × (told : List Told) × (IsScenarioText text.now s × (node < length s.ports.items) × AreTold s node told
         × (take count.new times.new ≡ plain_times told) × (count.new ≡ length told)) }
     ensures wrong { result ≡ Answer.BadScenario → (field : Wrong) × IsWrongScenarioField field text.now }
+    ensures answers { (result ≡ Answer.Done) ⊎ (result ≡ Answer.BadScenario) ⊎ (result ≡ Answer.NoPort) ⊎ (result ≡ Answer.NoRoom) ⊎ (result ≡ Answer.NoMemory) }
     ensures port { result ≡ Answer.NoPort → (s : Planned) × (IsScenarioText text.now s × (length s.ports.items ≤ node)) }
     ensures room { result ≡ Answer.NoRoom → (s : Planned) × (told : List Told) × (IsScenarioText text.now s × (node < length s.ports.items) × AreTold s node told
         × (length times.old < length told)) }
@@ -119,6 +123,7 @@ pub extern "C" fn page_all_port_times(
     ensures times { result ≡ done → (s : Planned) × (told : List Told) × (IsScenarioText text.now s × AreAllTold s told
         × (take count.new times.new ≡ plain_times told) × (count.new ≡ length told)) }
     ensures wrong { result ≡ bad_scenario → (field : Wrong) × IsWrongScenarioField field text.now }
+    ensures answers { (result ≡ done) ⊎ (result ≡ bad_scenario) ⊎ (result ≡ no_room) ⊎ (result ≡ no_memory) }
     ensures room { result ≡ no_room → (s : Planned) × (told : List Told) × (IsScenarioText text.now s × AreAllTold s told × (length times.old < length told)) }
 {
     tell_all_port_times(alloc, text, times, count).code()
@@ -134,6 +139,7 @@ fn tell_all_port_times(
     ensures times { result ≡ Answer.Done → (s : Planned) × (told : List Told) × (IsScenarioText text.now s × AreAllTold s told
         × (take count.new times.new ≡ plain_times told) × (count.new ≡ length told)) }
     ensures wrong { result ≡ Answer.BadScenario → (field : Wrong) × IsWrongScenarioField field text.now }
+    ensures answers { (result ≡ Answer.Done) ⊎ (result ≡ Answer.BadScenario) ⊎ (result ≡ Answer.NoRoom) ⊎ (result ≡ Answer.NoMemory) }
     ensures room { result ≡ Answer.NoRoom → (s : Planned) × (told : List Told) × (IsScenarioText text.now s × AreAllTold s told × (length times.old < length told)) }
 {
     let mut wrong = WrongField::none();
@@ -152,7 +158,7 @@ fn tell_all_port_times(
 fn hand_over(told: &[PortTime], times: &mut [PlainTime], count: &mut usize) -> Answer
     ensures times { result ≡ Answer.Done → (take count.new times.new ≡ plain_times told.now) × (count.new ≡ length told.now) }
     ensures room { result ≡ Answer.NoRoom → length times.old < length told.now }
-    ensures no_other { result ≢ Answer.Done → result ≡ Answer.NoRoom }
+    ensures answers { (result ≡ Answer.Done) ⊎ (result ≡ Answer.NoRoom) }
 {
     if times.len() < told.len() {
         return Answer::NoRoom;

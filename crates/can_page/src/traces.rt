@@ -103,7 +103,7 @@ pub extern "C" fn page_levels(
 }
 
 /// A byte that may not stand in trace text.
-#[derive(Clone, Copy, Debug, PartialEq, Eq)]
+#[derive(Drop)]
 struct BadByte;
 
 /// The level of a byte of trace text, where it is a digit: a blank and a line end have none.

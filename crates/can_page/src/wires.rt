@@ -6,9 +6,8 @@ ghost use Rattle.can_page.specs.Codes.{field_codes, stuff_codes};
 
 use crate::answer::Answer;
 use crate::codes::field_code;
-use arrayvec::ArrayVec;
 use can_fields::{MOST_LEVELS, Mark, marks};
-use can_frame::Level;
+use can_wire::front_of_codes;
 
 /// Tells of each of the first 157 levels, as no frame has more, the number of the field in which it stands and whether
 /// it is a stuff bit, and of how many it tells.
@@ -28,39 +27,14 @@ pub extern "C" fn page_marks(
     if fields.len() < MOST_LEVELS || stuffed.len() < MOST_LEVELS {
         return Answer::NoRoom.code();
     }
-    let front = front_of(levels);
-    if !Level::are_codes(front) {
+    let Some(front) = front_of_codes(levels) else {
         return Answer::BadLevel.code();
-    }
-    let found = marks(&levels_in(front));
+    };
+    let found = marks(&front);
     write_fields(&found, fields);
     write_stuffed(&found, stuffed);
     *count = found.len();
     Answer::Done.code()
-}
-
-/// The first 157 levels, or all where there are no more.
-fn front_of(levels: &[u8]) -> &[u8]
-    ensures front { result.now ≡ take 157 levels.now }
-    ensures within { length result.now ≤ 157 }
-{
-    if levels.len() > MOST_LEVELS {
-        &levels[..MOST_LEVELS]
-    } else {
-        levels
-    }
-}
-
-/// The levels of at most 157 numbers.
-fn levels_in(codes: &[u8]) -> ArrayVec<Level, 157>
-    requires { length codes.now ≤ 157 }
-    ensures { result.items ≡ levels_of_codes codes.now }
-{
-    let mut levels = ArrayVec::new();
-    for code in codes {
-        levels.push(Level::from_code(*code));
-    }
-    levels
 }
 
 /// Writes the numbers of the fields in front of what stands there.

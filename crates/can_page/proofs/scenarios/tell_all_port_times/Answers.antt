@@ -1,6 +1,5 @@
-use Rattle.std.proofs.Common.{◌≡◌, ◌<◌, length, ap, sym, arith, ◌∙◌}
+use Rattle.std.proofs.Common.{◌≡◌, ◌<◌, length, ap, arith, ◌∙◌}
 use Rattle.can_page.specs.Plain.{plain_times}
-use Rattle.can_page.specs.declared.answer.Answer.TheVariants.{Done, NoRoom, BadScenario}
 use Rattle.can_page.proofs.scenarios.tell_all_port_times.Goals as goal
 
 pub returns-in-Ok-all_told_times-clause-times : goal.returns-in-Ok-all_told_times-clause-times
@@ -14,8 +13,3 @@ returns-in-Ok-all_told_times-clause-room c = λ is.
     let are : c.deref.result.now ≡ c.in-Ok-all_told_times.told.items = c.deref.ensures.value in
     let few : length c.args.times.now < length c.in-Ok-all_told_times.told.items = omega (arith, c.hand_over.ensures.room is, ap length are) in
     (c.in-Ok.scenario, c.in-Ok-all_told_times.told.items, (c.in-Ok.ensures.found, c.in-Ok-all_told_times.ensures, few))
-
-pub returns-in-Ok-all_told_times-clause-wrong : goal.returns-in-Ok-all_told_times-clause-wrong
-returns-in-Ok-all_told_times-clause-wrong c = λ is.
-    let room : c.hand_over.result ≡ NoRoom = c.hand_over.ensures.no_other (λ done. let e : BadScenario ≡ Done = sym is ∙ done in cc) in
-    absurd (let e : BadScenario ≡ NoRoom = sym is ∙ room in cc)

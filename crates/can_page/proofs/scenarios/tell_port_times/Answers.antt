@@ -1,6 +1,5 @@
-use Rattle.std.proofs.Common.{◌≡◌, ◌<◌, ◌≤◌, length, ap, sym, arith, ◌∙◌}
+use Rattle.std.proofs.Common.{◌≡◌, ◌<◌, ◌≤◌, length, ap, arith, ◌∙◌}
 use Rattle.can_page.specs.Plain.{plain_times}
-use Rattle.can_page.specs.declared.answer.Answer.TheVariants.{Done, NoRoom, BadScenario, NoPort}
 use Rattle.can_page.proofs.scenarios.tell_port_times.Goals as goal
 
 pub returns-in-Ok-told_times-clause-times : goal.returns-in-Ok-told_times-clause-times
@@ -16,16 +15,6 @@ returns-in-Ok-told_times-clause-room c = λ is.
     let are : c.deref.result.now ≡ c.in-Ok-told_times.told.items = c.deref.ensures.value in
     let few : length c.args.times.now < length c.in-Ok-told_times.told.items = omega (arith, c.hand_over.ensures.room is, ap length are) in
     (c.in-Ok.scenario, c.in-Ok-told_times.told.items, (c.in-Ok.ensures.found, named, c.in-Ok-told_times.ensures, few))
-
-pub returns-in-Ok-told_times-clause-wrong : goal.returns-in-Ok-told_times-clause-wrong
-returns-in-Ok-told_times-clause-wrong c = λ is.
-    let room : c.hand_over.result ≡ NoRoom = c.hand_over.ensures.no_other (λ done. let e : BadScenario ≡ Done = sym is ∙ done in cc) in
-    absurd (let e : BadScenario ≡ NoRoom = sym is ∙ room in cc)
-
-pub returns-in-Ok-told_times-clause-port : goal.returns-in-Ok-told_times-clause-port
-returns-in-Ok-told_times-clause-port c = λ is.
-    let room : c.hand_over.result ≡ NoRoom = c.hand_over.ensures.no_other (λ done. let e : NoPort ≡ Done = sym is ∙ done in cc) in
-    absurd (let e : NoPort ≡ NoRoom = sym is ∙ room in cc)
 
 pub returns-then-node-port_count-clause-port : goal.returns-then-node-port_count-clause-port
 returns-then-node-port_count-clause-port c = λ _.
