@@ -15,7 +15,7 @@ value-alike v w l alike = ap (λ b. cond l.negated (not b) b) alike
 keeps-alike : (n highest : ℕ) (v w : ℕ → Bool) (gates : List Gate) → IsOrdered n highest gates → ((s : ℕ) → s ≤ highest → v s ≡ w s) → Keeps w gates → Keeps v gates
 keeps-alike n highest v w [] ordered alike keeps = alike 0 (omega arith) ∙ keeps
 keeps-alike n highest v w (g ∷ gates) ordered alike keeps = (
-  alike g.signal ordered.0 ∙ keeps.0
+  alike g.signal (omega (arith, ordered.0)) ∙ keeps.0
       ∙ rw (value-alike v w g.left (alike g.left.signal (omega (arith, ordered.0, ordered.1)))) (rw (value-alike v w g.right (alike g.right.signal (omega (arith, ordered.0, ordered.2)))) refl),
   keeps-alike n ordered.3 v w gates ordered.5 (λ s h. alike s (omega (arith, h, ordered.0, ordered.4))) keeps.1,
 )
@@ -40,7 +40,7 @@ run-keeps n highest (g ∷ gates) inputs ordered zero_is =
 
 -- the inputs are below all gates
 inputs-le : (n highest : ℕ) (gates : List Gate) → IsOrdered n highest gates → n ≤ highest
-inputs-le n highest [] ordered = ordered
+inputs-le n highest [] ordered = omega (arith, ordered)
 inputs-le n highest (g ∷ gates) ordered = omega (arith, inputs-le n ordered.3 gates ordered.5, ordered.0, ordered.4)
 
 -- an input is as it was

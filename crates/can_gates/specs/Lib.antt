@@ -4,5 +4,4 @@ pub mod Words
 pub mod Runs
 pub mod Aiger
 pub mod AigerNumbers
--- For the model only
 pub mod Ordered

@@ -102,7 +102,7 @@ fn push_gates(out: &mut Vec<u8>, gates: &[Gate]) -> Result<(), AllocError>
 }
 
 /// Appends a line of numbers.
-fn push_line(out: &mut Vec<u8>, first: u64, others: &[u64]) -> Result<(), AllocError>
+pub fn push_line(out: &mut Vec<u8>, first: u64, others: &[u64]) -> Result<(), AllocError>
     ensures { OnOk result (out.new.items ≡ out.old.items ++ (decimal first ++ numbers_behind others.now)) }
 {
     push_number(out, first)?;
@@ -114,7 +114,7 @@ fn push_line(out: &mut Vec<u8>, first: u64, others: &[u64]) -> Result<(), AllocE
 }
 
 /// Appends a number in decimal.
-fn push_number(out: &mut Vec<u8>, number: u64) -> Result<(), AllocError>
+pub fn push_number(out: &mut Vec<u8>, number: u64) -> Result<(), AllocError>
     ensures { OnOk result (out.new.items ≡ out.old.items ++ decimal number) }
 {
     let mut buffer = Buffer::new();

@@ -1,6 +1,8 @@
 //! Circuits, and the and of two literals.
-ghost use Rattle.std.specs.Prelude.{◌≡◌, ◌≤◌, ◌&&◌, [], ℕ, Bool, false, IfOk, IfSome, OnErr, reverse};
+ghost use Rattle.std.specs.Prelude.{◌≡◌, ◌≤◌, ◌<◌, ◌^◌, ◌&&◌, [], ℕ, Bool, false, IfOk, IfSome, OnErr, reverse};
+ghost use Rattle.can_gates.specs.Aiger.{code_of};
 ghost use Rattle.can_gates.specs.Circuit.{value, Keeps, Makes};
+ghost use Rattle.can_gates.specs.Ordered.{IsOrdered};
 ghost use Rattle.can_gates.specs.Runs.{run};
 
 use crate::literal::{Literal, folded};
@@ -11,7 +13,7 @@ use std::marker::Model;
 /// A gate: its signal is the and of two literals.
 #[derive(Clone, Copy, Debug)]
 pub struct Gate {
-    /// The signal that it makes, a higher one than those of its sides.
+    /// The signal that it makes, the next one behind the inputs and the gates before it.
     pub signal: u32,
     /// The side of the greater number, if a circuit made it.
     pub left: Literal,
@@ -87,6 +89,16 @@ impl Circuit {
         let _gates = &self.gates;
     }
 
+    /// Its gates make the signals behind the inputs in their order, each of earlier signals, as AIGER's binary format has
+    /// them. It does nothing.
+    pub fn is_in_order(&self)
+        ensures order { IsOrdered self.now.inputs self.now.highest self.now.gates }
+        ensures fits { self.now.highest < 2 ^ 32 }
+    {
+        let _gates = &self.gates;
+        let _highest = self.highest;
+    }
+
     /// Both. It needs no gate where one is constant, where both are of one signal, or where there is a gate of these two.
     pub fn and(&mut self, a: Literal, b: Literal) -> Result<Literal, AllocError>
         ensures made { IfOk result (λ r. Makes self.old self.new (λ v. value v r ≡ (value v a && value v b))) }
@@ -121,11 +133,14 @@ impl Circuit {
 
     /// A gate more, of these sides.
     fn gate(&mut self, sides: Sides) -> Result<Literal, AllocError>
+        requires { code_of sides.right ≤ code_of sides.left }
         ensures made { IfOk result (λ r. Makes self.old self.new (λ v. value v r ≡ (value v sides.left && value v sides.right))) }
         ensures unchanged { OnErr result (self.new ≡ self.old) }
     {
-        let highest = sides.highest().max(self.highest);
-        let signal = highest.checked_add(1).ok_or(AllocError)?;
+        if self.highest < sides.highest() {
+            return Err(AllocError);
+        }
+        let signal = self.highest.checked_add(1).ok_or(AllocError)?;
         let place = self.gates.len();
         self.places.insert(sides.key(), place)?;
         self.gates.push(Gate {
@@ -159,7 +174,8 @@ struct Sides {
 impl Sides {
     /// Two literals, of which that of the greater number goes first.
     fn new(a: Literal, b: Literal) -> Sides
-        ensures { (v : ℕ → Bool) → (value v result.left && value v result.right) ≡ (value v a && value v b) }
+        ensures value { (v : ℕ → Bool) → (value v result.left && value v result.right) ≡ (value v a && value v b) }
+        ensures order { code_of result.right ≤ code_of result.left }
     {
         if a.code() < b.code() {
             Sides { left: b, right: a }

@@ -3,21 +3,22 @@
 //! A [`Circuit`] is a list of gates, each the and of two [`Literal`]s, as an AIGER file has them. An assignment, which gives
 //! each signal a value, keeps the circuit if signal 0 is false and each gate's signal is the and of its two sides. Whatever
 //! makes gates says what holds of its result in each assignment that keeps the circuit with them, as an equation over
-//! Booleans and numbers. Nothing is required of a literal: a signal that no gate makes is free, as an input is.
+//! Booleans and numbers. Nothing is required of a literal: where
+//! none of a circuit's signals is its, an `Err` refuses it.
 //!
 //! | File | What it has | Defined in |
 //! |---|---|---|
 //! | `literal.rt` | [`Literal`], a signal or its negation, [`FALSE`] and [`TRUE`] | `specs/Circuit.antt` |
-//! | `circuit.rt` | [`Circuit`], its [`Gate`]s, and the and of two literals, which has a gate only where it needs one | `specs/Circuit.antt`, `specs/Runs.antt` |
+//! | `circuit.rt` | [`Circuit`], its [`Gate`]s, and the and of two literals, which has a gate only where it needs one | `specs/Circuit.antt`, `specs/Runs.antt`, `specs/Ordered.antt` |
 //! | `choices.rt` | or, exclusive or, and a choice between two literals | `specs/Circuit.antt` |
 //! | `words.rt` | numbers as lists of literals, the lowest place first: constants, choices, complements | `specs/Words.antt` |
 //! | `sums.rt` | [`Sum`], sums and differences, with a carry or up to the least and the greatest number | `specs/Words.antt` |
 //! | `orders.rt` | which of two numbers is less, and whether they are equal | `specs/Words.antt` |
 //! | `select.rt` | the literal at a place that a number tells | `specs/Words.antt` |
-//! | `aiger.rt` | [`Register`], and the text of a circuit with registers and outputs in AIGER's ascii format | `specs/Aiger.antt` |
+//! | `aiger.rt` | [`Register`], and the text of a circuit with registers and outputs in AIGER's ascii format; lines of numbers | `specs/Aiger.antt` |
 //!
-//! Words may be of any two lengths: past its end a word has [`FALSE`]. An `Err` says that memory ran out, or the numbers of
-//! signals, 2^32. Behind it a circuit may have gates that nothing names.
+//! Words may be of any two lengths: past its end a word has [`FALSE`]. An `Err` says that memory ran out, or the
+//! numbers of signals, 2^32, or that a literal is of a higher signal than the circuit has. Behind it a circuit may have gates that nothing names.
 //!
 //! A gate that would be made again is found by its sides in a map. What the map tells is looked at before it is used, so the
 //! laws need nothing of it; that equal gates are made once is tested (tests/rows).
@@ -32,7 +33,7 @@ mod select;
 mod sums;
 mod words;
 
-pub use aiger::{Register, lines_are_read_back, push_aiger};
+pub use aiger::{Register, lines_are_read_back, push_aiger, push_line, push_number};
 pub use circuit::{Circuit, Gate};
 pub use literal::{FALSE, Literal, TRUE};
 pub use sums::Sum;
