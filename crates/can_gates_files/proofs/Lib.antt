@@ -1,0 +1,4 @@
+mod Reading
+mod Groups
+mod Joined
+mod Rows

@@ -1,0 +1,6 @@
+-- To believe: what public calls and laws promise is said in these words
+pub mod Names
+pub mod Statements
+pub mod Verilog
+pub mod Named
+pub mod Binary

@@ -1,0 +1,69 @@
+-- Statements of Verilog-2001, a line each, in three forms: a wire that is a name or the and of two literals, what an output is
+-- assigned, and what a register takes. To believe is that Verilog means this by them: ~ turns a value, & is both, the names of
+-- signals are n0, n1 and so on.
+use Rattle.std.specs.Prelude.{ℕ, ◌^◌, ◌<◌, ◌≢◌, ◌==◌, if◌then◌else◌, true, false, List, [], ◌∷◌, ◌++◌, drop, Option, Some, None, codes, decimal}
+use Rattle.std.specs.Str.{bytes_eq}
+use Rattle.std.specs.Str.Parse.{digits_value}
+use Rattle.can_gates.specs.declared.literal.Literal.{Literal}
+use Rattle.can_gates.specs.declared.circuit.Gate.{Gate}
+
+pub data Statement : Type 0 where
+  Wire : (signal : ℕ) (name : List ℕ) → Statement
+  And : (gate : Gate) → Statement
+  Assign : (name : List ℕ) (literal : Literal) → Statement
+  Take : (name : List ℕ) (literal : Literal) → Statement
+
+-- ---- their texts
+
+abbrev pub literal_text : Literal → List ℕ
+literal_text l = (if l.negated then codes "~n" else codes "n") ++ decimal l.signal
+
+abbrev pub statement_text : Statement → List ℕ
+statement_text (Wire s name) = codes "wire n" ++ (decimal s ++ (codes " = " ++ (name ++ codes ";\n")))
+statement_text (And g) = codes "wire n" ++ (decimal g.signal ++ (codes " = " ++ (literal_text g.left ++ (codes " & " ++ (literal_text g.right ++ codes ";\n")))))
+statement_text (Assign name l) = codes "assign " ++ (name ++ (codes " = " ++ (literal_text l ++ codes ";\n")))
+statement_text (Take name l) = name ++ (codes " <= " ++ (literal_text l ++ codes ";\n"))
+
+-- ---- a reader of such texts
+
+-- the lines that a text has, each a list of words, behind these words of its first line and this beginning of a word: a newline
+-- ends a line, a blank a word, and a semicolon is passed over
+abbrev pub lines_in : List (List ℕ) → List ℕ → List ℕ → List (List (List ℕ))
+lines_in words word [] = []
+lines_in words word (c ∷ text) =
+    if c == 10 then (words ++ word ∷ []) ∷ lines_in [] [] text
+    else if c == 32 then lines_in (words ++ word ∷ []) [] text
+    else (if c == 59 then lines_in words word text else lines_in words (word ++ c ∷ []) text)
+
+-- a signal's number, of its name
+abbrev pub signal_in : List ℕ → ℕ
+signal_in word = digits_value 10 (drop 1 word)
+
+-- with a sign before its name a literal is negated
+abbrev pub literal_in : List ℕ → Literal
+literal_in [] = record { signal = 0; negated = false }
+literal_in (c ∷ word) = if c == 126 then record { signal = signal_in word; negated = true } else record { signal = signal_in (c ∷ word); negated = false }
+
+-- the statement of a line, by how many words it has
+abbrev pub statement_in : List (List ℕ) → Option Statement
+statement_in (name ∷ becomes ∷ literal ∷ []) = Some (Take name (literal_in literal))
+statement_in (kind ∷ name ∷ equals ∷ other ∷ []) = Some (if bytes_eq kind (codes "assign") then Assign name (literal_in other) else Wire (signal_in name) other)
+statement_in (kind ∷ name ∷ equals ∷ left ∷ and ∷ right ∷ []) = Some (And (record { signal = signal_in name; left = literal_in left; right = literal_in right }))
+statement_in words = None
+
+-- ---- what is read back
+
+-- no byte of a name is a newline, a blank or a semicolon
+abbrev pub IsName : List ℕ → Type 0
+IsName [] = Unit {0}
+IsName (c ∷ name) = (c ≢ 10) × (c ≢ 32) × (c ≢ 59) × IsName name
+
+abbrev pub IsProper : Statement → Type 0
+IsProper (Wire s name) = (s < 2 ^ 64) × IsName name
+IsProper (And g) = (g.signal < 2 ^ 64) × (g.left.signal < 2 ^ 64) × (g.right.signal < 2 ^ 64)
+IsProper (Assign name l) = IsName name × (l.signal < 2 ^ 64)
+IsProper (Take name l) = IsName name × (l.signal < 2 ^ 64)
+
+abbrev pub AreProper : List Statement → Type 0
+AreProper [] = Unit {0}
+AreProper (s ∷ statements) = IsProper s × AreProper statements
