@@ -137,7 +137,7 @@ module _ (s : Stance) (waiting : Option Parts) (x : Level) where
   end_of_frame_next Receiver r place Dominant is = either (EndOfFrame r place) (ltb place 6) (errs s Form) (overload s) (error_next (EndOfFrame r place) Form) (record { next = tt; told = tt })
   end_of_frame_next Receiver r place Recessive is =
       either (EndOfFrame r place) (ltb place 5) (goes s (EndOfFrame r (place + 1))) (cond (ltb place 6) (tells s (EndOfFrame r 6) (Received r.frame)) (enters_intermission s s.role)) (record { next = (refl, ((λ f e. e), tt)); told = tt })
-      (either (EndOfFrame r place) (ltb place 6) (tells s (EndOfFrame r 6) (Received r.frame)) (enters_intermission s s.role) (record { next = (refl, ((λ f e. e), tt)); told = (r, (refl, refl)) }) (enters_next (EndOfFrame r place) s.role))
+      (either (EndOfFrame r place) (ltb place 6) (tells s (EndOfFrame r 6) (Received r.frame)) (enters_intermission s s.role) (record { next = (refl, ((λ f e. e), tt)); told = (is, (r, (refl, refl))) }) (enters_next (EndOfFrame r place) s.role))
 
   -- flags
 

@@ -12,3 +12,10 @@ pub mod Owned
 -- runs
 pub mod RunsOf
 pub mod ListedLemmas
+-- a frame by its fields
+pub mod WordParts
+pub mod TurnedLevels
+pub mod Cleared
+pub mod Laid
+pub mod Told
+pub mod FieldRows

@@ -79,7 +79,7 @@ pub told_frame : (v : ℕ → Bool) (k : Registers) (m : MacState) (e : Option E
 told_frame v k m e held told = record {
   sent = λ f is. let t = subst (λ e. IsTold m.phase m.role e) is told in held.own.levels f t.0 t.1;
   received = λ f is.
-      let t = subst (λ e. IsTold m.phase m.role e) is told in
+      let t = (subst (λ e. IsTold m.phase m.role e) is told).1 in
       let here = held.heard.told t.0 t.1.0 in
       (here.unstuffed, (t.1.1 ∙ ap (λ q. q.frame) here.told, here.levels));
 }

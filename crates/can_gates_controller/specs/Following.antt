@@ -8,7 +8,7 @@ use Rattle.can_mac.specs.declared.event.Event.{Event}
 use Rattle.can_mac.specs.declared.event.Event.TheVariants.{Sent, Received}
 use Rattle.can_mac.specs.declared.phase.Reading.{Reading}
 use Rattle.can_mac.specs.declared.phase.Role.{Role}
-use Rattle.can_mac.specs.declared.phase.Role.TheVariants.{Sender}
+use Rattle.can_mac.specs.declared.phase.Role.TheVariants.{Receiver, Sender}
 use Rattle.can_mac.specs.declared.phase.Phase.TheVariants.{StuffedPart, CrcDelimiter, AckSlot, AckDelimiter, EndOfFrame}
 use Rattle.can_mac.specs.State.{MacPhase}
 use Rattle.can_mac.specs.Moves.{reading_of, ends_part}
@@ -61,10 +61,10 @@ IsNext p role waiting x (AckDelimiter r) new = (next_reading p x ≡ Some r) × 
 IsNext p role waiting x (EndOfFrame r place) new = (next_reading p x ≡ Some r) × (KeepsOwn p role waiting new × Ended p x)
 IsNext p role waiting x q new = Unit {0}
 
--- the frame that is told is the sender's, or the one that was heard
+-- the frame that is told is the sender's, or the one that a receiver has heard
 abbrev pub IsTold : MacPhase → Role → Option Event → Type 0
 IsTold p role (Some (Sent f)) = (is_in_frame p ≡ true) × (role ≡ Sender f)
-IsTold p role (Some (Received f)) = (r : Reading) × ((reading_in p ≡ Some r) × (f ≡ r.frame))
+IsTold p role (Some (Received f)) = (role ≡ Receiver) × ((r : Reading) × ((reading_in p ≡ Some r) × (f ≡ r.frame)))
 IsTold p role e = Unit {0}
 
 -- what follows a phase, and is told

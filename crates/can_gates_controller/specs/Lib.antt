@@ -2,7 +2,9 @@
 pub mod Fronts
 pub mod Holding
 pub mod Whole
+pub mod Fields
 pub mod Runs
 -- For private calls
 pub mod Following
+pub mod Laying
 pub mod Listed

@@ -7,7 +7,8 @@
 //! can_mac's `mac_step` and `mac_drives`, with the frame that is told. [`controller_circuit`] makes all of it in a circuit of its own, whose
 //! runs from reset are can_mac's, bit time by bit time.
 //!
-//! A frame comes in, and is told, by its levels up to the end of its data, a literal for each.
+//! A frame comes in, and is told, by its levels up to the end of its data, a literal for each. [`levels_of`] makes these of its
+//! [`Fields`], and [`fields_of`] the fields of them.
 //!
 //! | File | What it has | Defined in |
 //! |---|---|---|
@@ -19,15 +20,20 @@
 //! | `sending.rt` | what a sender sends next | `specs/Whole.antt` |
 //! | `seen.rt`, `hearing.rt` | [`Seen`], what is read of the wire, of what waits and of the sender's frame; [`step_hearing`], a bit time but for that frame | `specs/Holding.antt` |
 //! | `following.rt`, `next_front.rt` | which front follows, by the phase | `specs/Following.antt` |
-//! | `levels.rt` | choices between levels | |
+//! | `fields.rt` | [`Fields`], a frame by its fields | `specs/Fields.antt` |
+//! | `laying.rt` | [`levels_of`], the levels of a frame from its fields | `specs/Fields.antt` |
+//! | `telling.rt` | [`fields_of`], the fields of a frame from its levels; [`told_frame`], those of the frame that is told | `specs/Fields.antt` |
+//! | `levels.rt`, `turning.rt` | choices between levels, and literals in the other order | `specs/Laying.antt` |
 #![tactic(auto)]
 
 mod check;
 mod design;
+mod fields;
 mod following;
 mod front;
 mod heard;
 mod hearing;
+mod laying;
 mod levels;
 mod listing;
 mod making;
@@ -35,13 +41,18 @@ mod next_front;
 mod registers;
 mod seen;
 mod sending;
+mod telling;
+mod turning;
 mod whole;
 
 pub use design::Design;
+pub use fields::Fields;
 pub use front::{ends, hear, read};
 pub use heard::Heard;
 pub use hearing::step_hearing;
+pub use laying::levels_of;
 pub use making::controller_circuit;
 pub use registers::{BitTime, Offered, Registers};
 pub use seen::Seen;
+pub use telling::{fields_of, told_frame};
 pub use whole::bit_time;
