@@ -66,7 +66,7 @@ fn rec_received(
 }
 
 /// Whether a counter is at least 128.
-pub(crate) fn is_passive(
+pub fn is_passive(
     circuit: &mut Circuit,
     tec: &[Literal],
     rec: &[Literal],

@@ -40,6 +40,7 @@ mod sensing;
 mod wires;
 
 pub use bit_time::step;
+pub use counters::is_passive;
 pub use driving::{Sends, StuffPlace, arbitrates, drive, stuffing};
 pub use laws::{a_step_is_the_next_state, asking};
 pub use nibble::Nibble;

@@ -56,7 +56,7 @@ impl Nibble {
     }
 
     /// Whether it is less than a bound.
-    pub(crate) fn less(self, circuit: &mut Circuit, bound: u8) -> Result<Literal, AllocError>
+    pub fn less(self, circuit: &mut Circuit, bound: u8) -> Result<Literal, AllocError>
         requires { bound < 16 }
         ensures { IfOk result (λ r. Makes circuit.old circuit.new (λ v. value v r ≡ nat_lt (nibble v self) bound)) }
     {
