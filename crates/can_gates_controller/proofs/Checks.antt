@@ -157,10 +157,10 @@ top_is_next h j = by (cases_lt j 15)
         let all : take j (crc_of h) ≡ take 15 (crc_of h) = take_all j (crc_of h) (omega (arith, l, length-crc_of h)) ∙ sym (take_all 15 (crc_of h) (omega (arith, length-crc_of h))) in
         ap (λ t. level_at (crc_of (h ++ t)) 0) all ∙ at 15 (omega arith) ∙ crc_past h 15 (omega arith) ∙ sym (crc_past h j l)
 
-below_is : (n k : ℕ) → n < k → nat_lt n k ≡ true
+pub below_is : (n k : ℕ) → n < k → nat_lt n k ≡ true
 below_is n k h = grind (arith, h)
 
-above_is : (n k : ℕ) → k ≤ n → nat_lt n k ≡ false
+pub above_is : (n k : ℕ) → k ≤ n → nat_lt n k ≡ false
 above_is n k h = grind (arith, h)
 
 -- what follows the first n levels of a list with its check sequence, of which the register is that of these

@@ -9,9 +9,6 @@ pub mod Phases
 -- a sender's frame
 pub mod Own
 pub mod Owned
--- runs
-pub mod RunsOf
-pub mod ListedLemmas
 -- a frame by its fields
 pub mod WordParts
 pub mod TurnedLevels
@@ -19,3 +16,13 @@ pub mod Cleared
 pub mod Laid
 pub mod Told
 pub mod FieldRows
+-- what is so in each state
+pub mod Settled
+pub mod LegalStates
+-- steps and runs
+pub mod Taking
+pub mod StepsTaken
+pub mod RunsOf
+pub mod ListedLemmas
+-- known values
+mod Rows

@@ -18,8 +18,10 @@ use Rattle.can_gates_mac.specs.Shown.{shown}
 use Rattle.can_gates_mac.specs.Stepping.{reset_numbers}
 use Rattle.can_gates_controller.specs.declared.heard.Heard.{Heard}
 use Rattle.can_gates_controller.specs.declared.registers.Registers.{Registers}
-use Rattle.can_gates_controller.specs.Listed.{AreSignals, IsRegister, placed, nibble_before, wires_list, counters_list, heard_list, register_list}
-use Rattle.can_gates_controller.specs.Runs.{held_numbers, TakesLevels, TakesCounters, TakesHeard, Takes, IsReset, StartsRegisters, StepsRegisters}
+use Rattle.can_gates_controller.specs.Listed.{AreSignals, placed, nibble_before, wires_list, counters_list, heard_list, register_list}
+use Rattle.can_gates_controller.specs.Stepped.{IsRegister, TakesLevels}
+use Rattle.can_gates_controller.specs.Runs.{StartsRegisters, StepsRegisters}
+use Rattle.can_gates_controller.proofs.Taking.{held_numbers, TakesCounters, TakesHeard, Takes, IsReset}
 
 pub length-placed : (n : ℕ) (word : List Literal) → length (placed n word) ≡ n
 length-placed zero word = refl
@@ -83,18 +85,18 @@ signals_4 s a b c d e1 e2 e3 e4 = by
     by v (suc (suc (suc zero))) h = e4 v
     by v (suc (suc (suc (suc p)))) h = absurd (omega (arith, h))
 
-signals_of_wires : (phase place pending used : Nibble) (last unacknowledged first sender : Literal) → AreSignals 106 4 (nibble_before phase []) → AreSignals 110 4 (nibble_before place []) → AreSignals 114 4 (last ∷ unacknowledged ∷ first ∷ sender ∷ []) → AreSignals 118 4 (nibble_before pending []) → AreSignals 122 4 (nibble_before used []) → AreSignals 106 20 (nibble_before phase (nibble_before place (last ∷ unacknowledged ∷ first ∷ sender ∷ nibble_before pending (nibble_before used []))))
+signals_of_wires : (phase place pending used : Nibble) (last unacknowledged first sender : Literal) → AreSignals 108 4 (nibble_before phase []) → AreSignals 112 4 (nibble_before place []) → AreSignals 116 4 (last ∷ unacknowledged ∷ first ∷ sender ∷ []) → AreSignals 120 4 (nibble_before pending []) → AreSignals 124 4 (nibble_before used []) → AreSignals 108 20 (nibble_before phase (nibble_before place (last ∷ unacknowledged ∷ first ∷ sender ∷ nibble_before pending (nibble_before used []))))
 signals_of_wires phase place pending used last unacknowledged first sender e1 e2 e3 e4 e5 =
-    signals_joined 106 4 16 (nibble_before phase []) (nibble_before place (last ∷ unacknowledged ∷ first ∷ sender ∷ nibble_before pending (nibble_before used []))) refl e1
-    (signals_joined 110 4 12 (nibble_before place []) (last ∷ unacknowledged ∷ first ∷ sender ∷ nibble_before pending (nibble_before used [])) refl e2
-    (signals_joined 114 4 8 (last ∷ unacknowledged ∷ first ∷ sender ∷ []) (nibble_before pending (nibble_before used [])) refl e3
-    (signals_joined 118 4 4 (nibble_before pending []) (nibble_before used []) refl e4 e5)))
+    signals_joined 108 4 16 (nibble_before phase []) (nibble_before place (last ∷ unacknowledged ∷ first ∷ sender ∷ nibble_before pending (nibble_before used []))) refl e1
+    (signals_joined 112 4 12 (nibble_before place []) (last ∷ unacknowledged ∷ first ∷ sender ∷ nibble_before pending (nibble_before used [])) refl e2
+    (signals_joined 116 4 8 (last ∷ unacknowledged ∷ first ∷ sender ∷ []) (nibble_before pending (nibble_before used [])) refl e3
+    (signals_joined 120 4 4 (nibble_before pending []) (nibble_before used []) refl e4 e5)))
 
-pub signals_of_counters : (k : Counters) → AreSignals 126 9 k.tec.items → AreSignals 135 8 k.rec.items → AreSignals 143 7 k.occurrences.items → AreSignals 126 24 (counters_list k)
+pub signals_of_counters : (k : Counters) → AreSignals 128 9 k.tec.items → AreSignals 137 8 k.rec.items → AreSignals 145 7 k.occurrences.items → AreSignals 128 24 (counters_list k)
 signals_of_counters k tec rec occurrences =
-    signals_joined 126 17 7 (placed 9 k.tec.items ++ placed 8 k.rec.items) (placed 7 k.occurrences.items) (omega (arith, length-append (placed 9 k.tec.items) (placed 8 k.rec.items), length-placed 9 k.tec.items, length-placed 8 k.rec.items))
-    (signals_joined 126 9 8 (placed 9 k.tec.items) (placed 8 k.rec.items) (length-placed 9 k.tec.items) (signals_placed 126 9 k.tec.items tec) (signals_placed 135 8 k.rec.items rec))
-    (signals_placed 143 7 k.occurrences.items occurrences)
+    signals_joined 128 17 7 (placed 9 k.tec.items ++ placed 8 k.rec.items) (placed 7 k.occurrences.items) (omega (arith, length-append (placed 9 k.tec.items) (placed 8 k.rec.items), length-placed 9 k.tec.items, length-placed 8 k.rec.items))
+    (signals_joined 128 9 8 (placed 9 k.tec.items) (placed 8 k.rec.items) (length-placed 9 k.tec.items) (signals_placed 128 9 k.tec.items tec) (signals_placed 137 8 k.rec.items rec))
+    (signals_placed 145 7 k.occurrences.items occurrences)
 
 one_signal : (s : ℕ) (l : Literal) → ((v : ℕ → Bool) → value v l ≡ v s) → AreSignals s 1 (l ∷ [])
 one_signal s l e = by
@@ -103,22 +105,32 @@ one_signal s l e = by
     by v zero h = let f : s + 0 ≡ s = omega arith in rw f (e v)
     by v (suc p) h = absurd (omega (arith, h))
 
-pub signals_of_heard : (levels count check : List Literal) (last : Literal) (run : Nibble) → AreSignals 150 103 levels → AreSignals 253 7 count → ((v : ℕ → Bool) → value v last ≡ v 260) → AreSignals 261 4 (nibble_before run []) → AreSignals 265 15 check → AreSignals 150 130 ((placed 103 levels ++ placed 7 count) ++ (last ∷ nibble_before run (placed 15 check)))
+pub signals_of_heard : (levels count check : List Literal) (last : Literal) (run : Nibble) → AreSignals 152 103 levels → AreSignals 255 7 count → ((v : ℕ → Bool) → value v last ≡ v 262) → AreSignals 263 4 (nibble_before run []) → AreSignals 267 15 check → AreSignals 152 130 ((placed 103 levels ++ placed 7 count) ++ (last ∷ nibble_before run (placed 15 check)))
 signals_of_heard levels count check last run e1 e2 e3 e4 e5 =
-    signals_joined 150 110 20 (placed 103 levels ++ placed 7 count) (last ∷ nibble_before run (placed 15 check)) (omega (arith, length-append (placed 103 levels) (placed 7 count), length-placed 103 levels, length-placed 7 count))
-    (signals_joined 150 103 7 (placed 103 levels) (placed 7 count) (length-placed 103 levels) (signals_placed 150 103 levels e1) (signals_placed 253 7 count e2))
-    (signals_joined 260 1 19 (last ∷ []) (nibble_before run (placed 15 check)) refl (one_signal 260 last e3)
-    (signals_joined 261 4 15 (nibble_before run []) (placed 15 check) refl e4 (signals_placed 265 15 check e5)))
+    signals_joined 152 110 20 (placed 103 levels ++ placed 7 count) (last ∷ nibble_before run (placed 15 check)) (omega (arith, length-append (placed 103 levels) (placed 7 count), length-placed 103 levels, length-placed 7 count))
+    (signals_joined 152 103 7 (placed 103 levels) (placed 7 count) (length-placed 103 levels) (signals_placed 152 103 levels e1) (signals_placed 255 7 count e2))
+    (signals_joined 262 1 19 (last ∷ []) (nibble_before run (placed 15 check)) refl (one_signal 262 last e3)
+    (signals_joined 263 4 15 (nibble_before run []) (placed 15 check) refl e4 (signals_placed 267 15 check e5)))
 
-signals_of_all : (a b h own : List Literal) → length a ≡ 20 → length b ≡ 24 → length h ≡ 130 → AreSignals 106 20 a → AreSignals 126 24 b → AreSignals 150 130 h → AreSignals 280 103 own → AreSignals 106 277 (((a ++ b) ++ h) ++ placed 103 own)
+signals_of_all : (a b h own : List Literal) → length a ≡ 20 → length b ≡ 24 → length h ≡ 130 → AreSignals 108 20 a → AreSignals 128 24 b → AreSignals 152 130 h → AreSignals 282 103 own → AreSignals 108 277 (((a ++ b) ++ h) ++ placed 103 own)
 signals_of_all a b h own la lb lh e1 e2 e3 e4 =
     let two : length (a ++ b) ≡ 44 = omega (arith, length-append a b, la, lb) in
     let three : length ((a ++ b) ++ h) ≡ 174 = omega (arith, length-append (a ++ b) h, two, lh) in
-    signals_joined 106 174 103 ((a ++ b) ++ h) (placed 103 own) three (signals_joined 106 44 130 (a ++ b) h two (signals_joined 106 20 24 a b la e1 e2) e3) (signals_placed 280 103 own e4)
+    signals_joined 108 174 103 ((a ++ b) ++ h) (placed 103 own) three (signals_joined 108 44 130 (a ++ b) h two (signals_joined 108 20 24 a b la e1 e2) e3) (signals_placed 282 103 own e4)
 
-pub signals_of_parts : (phase place pending used : Nibble) (last unacknowledged first sender : Literal) (k : Counters) (h : Heard) (own : List Literal) → AreSignals 106 4 (nibble_before phase []) → AreSignals 110 4 (nibble_before place []) → AreSignals 114 4 (last ∷ unacknowledged ∷ first ∷ sender ∷ []) → AreSignals 118 4 (nibble_before pending []) → AreSignals 122 4 (nibble_before used []) → AreSignals 126 24 (counters_list k) → AreSignals 150 130 (heard_list h) → AreSignals 280 103 own → AreSignals 106 277 (((nibble_before phase (nibble_before place (last ∷ unacknowledged ∷ first ∷ sender ∷ nibble_before pending (nibble_before used []))) ++ counters_list k) ++ heard_list h) ++ placed 103 own)
+pub signals_of_parts : (phase place pending used : Nibble) (last unacknowledged first sender : Literal) (k : Counters) (h : Heard) (own : List Literal) → AreSignals 108 4 (nibble_before phase []) → AreSignals 112 4 (nibble_before place []) → AreSignals 116 4 (last ∷ unacknowledged ∷ first ∷ sender ∷ []) → AreSignals 120 4 (nibble_before pending []) → AreSignals 124 4 (nibble_before used []) → AreSignals 128 24 (counters_list k) → AreSignals 152 130 (heard_list h) → AreSignals 282 103 own → AreSignals 108 277 (((nibble_before phase (nibble_before place (last ∷ unacknowledged ∷ first ∷ sender ∷ nibble_before pending (nibble_before used []))) ++ counters_list k) ++ heard_list h) ++ placed 103 own)
 signals_of_parts phase place pending used last unacknowledged first sender k h own e1 e2 e3 e4 e5 e6 e7 e8 =
     signals_of_all (nibble_before phase (nibble_before place (last ∷ unacknowledged ∷ first ∷ sender ∷ nibble_before pending (nibble_before used [])))) (counters_list k) (heard_list h) own refl (length-counters k) (length-heard h) (signals_of_wires phase place pending used last unacknowledged first sender e1 e2 e3 e4 e5) e6 e7 e8
+
+pub signals_of_fields : (extended remote : Literal) (identifier bytes : List Literal) (dlc : Nibble) → ((v : ℕ → Bool) → value v extended ≡ v 9) → ((v : ℕ → Bool) → value v remote ≡ v 10) → AreSignals 11 29 identifier → AreSignals 40 4 (nibble_before dlc []) → AreSignals 44 64 bytes → AreSignals 9 99 (extended ∷ remote ∷ (placed 29 identifier ++ nibble_before dlc (placed 64 bytes)))
+signals_of_fields extended remote identifier bytes dlc e1 e2 e3 e4 e5 =
+    signals_joined 9 1 98 (extended ∷ []) (remote ∷ (placed 29 identifier ++ nibble_before dlc (placed 64 bytes))) refl (one_signal 9 extended e1)
+    (signals_joined 10 1 97 (remote ∷ []) (placed 29 identifier ++ nibble_before dlc (placed 64 bytes)) refl (one_signal 10 remote e2)
+    (signals_joined 11 29 68 (placed 29 identifier) (nibble_before dlc (placed 64 bytes)) (length-placed 29 identifier) (signals_placed 11 29 identifier e3)
+    (signals_joined 40 4 64 (nibble_before dlc []) (placed 64 bytes) refl e4 (signals_placed 44 64 bytes e5))))
+
+pub signals_of_inputs : (a b c d e f g h : Literal) (rest : List Literal) → AreSignals 1 4 (a ∷ b ∷ c ∷ d ∷ []) → AreSignals 5 4 (e ∷ f ∷ g ∷ h ∷ []) → AreSignals 9 99 rest → AreSignals 1 107 (a ∷ b ∷ c ∷ d ∷ e ∷ f ∷ g ∷ h ∷ rest)
+signals_of_inputs a b c d e f g h rest e1 e2 e3 = signals_joined 1 4 103 (a ∷ b ∷ c ∷ d ∷ []) (e ∷ f ∷ g ∷ h ∷ rest) refl e1 (signals_joined 5 4 99 (e ∷ f ∷ g ∷ h ∷ []) rest refl e2 e3)
 
 pub length-registers : (k : Registers) → length (register_list k) ≡ 277
 length-registers k =
@@ -271,15 +283,12 @@ module _ (v : ℕ → Bool) where
       }
 
 -- What a circuit's registers do, of these.
-module _ (registers : List Register) (c : CircuitParts) (literals : List Literal) (held next : Registers) (joins : Bool) (many : length registers ≡ 277) (inputs : c.inputs ≡ 382) (signals : AreSignals 106 277 (register_list held)) (is : literals ≡ register_list next) (each : (i : ℕ) → i < length literals → IsRegister (get_or registers i (record { next = never; starts = false })) (get_or literals i never) (eqb i 0 && joins)) where
-  place_of : (i : ℕ) → c.inputs - length registers + i + 1 ≡ 106 + i
+module _ (registers : List Register) (c : CircuitParts) (literals : List Literal) (held : Registers) (many : length registers ≡ 277) (inputs : c.inputs ≡ 384) (signals : AreSignals 108 277 (register_list held)) (long : length literals ≡ 277) (each : (i : ℕ) → i < length literals → IsRegister (get_or registers i (record { next = never; starts = false })) (get_or literals i never)) where
+  place_of : (i : ℕ) → c.inputs - length registers + i + 1 ≡ 108 + i
   place_of i = omega (arith, many, inputs)
 
-  within : (i : ℕ) → i < 277 → i < length literals
-  within i h = rw is (omega (arith, h, length-registers next))
+  pub starts_are : (v : ℕ → Bool) → StartsRegisters c registers v → (p : ℕ) → p < 277 → value v (get_or (register_list held) p never) ≡ false
+  starts_are v starts p h = signals v p h ∙ ap v (sym (place_of p)) ∙ starts p (omega (arith, h, many)) ∙ (each p (omega (arith, h, long))).starts
 
-  pub starts_are : (v : ℕ → Bool) → StartsRegisters c registers v → (p : ℕ) → p < 277 → value v (get_or (register_list held) p never) ≡ (eqb p 0 && joins)
-  starts_are v starts p h = signals v p h ∙ ap v (sym (place_of p)) ∙ starts p (omega (arith, h, many)) ∙ (each p (within p h)).starts
-
-  pub steps_are : (before now : ℕ → Bool) → StepsRegisters c registers before now → TakesLevels before now 277 (register_list held) (register_list next)
-  steps_are before now steps = λ p h. signals now p h ∙ ap now (sym (place_of p)) ∙ steps p (omega (arith, h, many)) ∙ ap (value before) ((each p (within p h)).next ∙ ap (λ l. get_or l p never) is)
+  pub steps_are : (before now : ℕ → Bool) → StepsRegisters c registers before now → TakesLevels before now 277 (register_list held) literals
+  steps_are before now steps = λ p h. signals now p h ∙ ap now (sym (place_of p)) ∙ steps p (omega (arith, h, many)) ∙ ap (value before) (each p (omega (arith, h, long))).next

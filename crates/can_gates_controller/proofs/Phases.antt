@@ -56,12 +56,12 @@ module _ (v : ℕ → Bool) (k a b : Heard) where
   other_front_is false front e is held = record { levels = λ p h. is.levels p h ∙ held.levels p h; count = is.count ∙ held.count; run = record { last = is.last ∙ held.run.last; run = is.run ∙ held.run.run }; check = λ p h. is.check p h ∙ held.check p h }
 
   first_told_is : (t : Bool) (r : Reading) → t ≡ true → IsEither v k t a b → HoldsTold v a r → HoldsTold v k r
-  first_told_is true r e is held = record { unstuffed = held.unstuffed; whole = held.whole; told = held.told; levels = λ p h. is.levels p h ∙ held.levels p h; check = λ p h. is.check p h ∙ held.check p h }
+  first_told_is true r e is held = record { unstuffed = held.unstuffed; whole = held.whole; told = held.told; levels = λ p h. is.levels p h ∙ held.levels p h; count = is.count ∙ held.count; check = λ p h. is.check p h ∙ held.check p h }
   first_told_is false r e is held = cc e
 
   other_told_is : (t : Bool) (r : Reading) → t ≡ false → IsEither v k t a b → HoldsTold v b r → HoldsTold v k r
   other_told_is true r e is held = cc e
-  other_told_is false r e is held = record { unstuffed = held.unstuffed; whole = held.whole; told = held.told; levels = λ p h. is.levels p h ∙ held.levels p h; check = λ p h. is.check p h ∙ held.check p h }
+  other_told_is false r e is held = record { unstuffed = held.unstuffed; whole = held.whole; told = held.told; levels = λ p h. is.levels p h ∙ held.levels p h; count = is.count ∙ held.count; check = λ p h. is.check p h ∙ held.check p h }
 
 abbrev reading_or : Reading → Option Reading → Reading
 reading_or d None = d
@@ -86,7 +86,7 @@ ended_whole front e = sym (eqb-true (frame_len front.unstuffed) (length front.un
     first_of_and false b e = e
 
 told_of : (v : ℕ → Bool) (k : Heard) (front : FrontParts) (r : Reading) → HoldsFront v k front → ends_part front ≡ true → Some (reading_of front.unstuffed) ≡ Some r → HoldsTold v k r
-told_of v k front r held end e = record { unstuffed = front.unstuffed; whole = ended_whole front end; told = sym (same_reading (reading_of front.unstuffed) r e); levels = held.levels; check = held.check }
+told_of v k front r held end e = record { unstuffed = front.unstuffed; whole = ended_whole front end; told = sym (same_reading (reading_of front.unstuffed) r e); levels = held.levels; count = held.count; check = held.check }
 
 -- what a next phase says of the front and of the reading before
 

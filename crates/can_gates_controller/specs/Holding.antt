@@ -10,6 +10,7 @@ use Rattle.can_mac.specs.declared.phase.Phase.TheVariants.{Joining, Idle, Stuffe
 use Rattle.can_mac.specs.State.{MacPhase, MacState}
 use Rattle.can_mac.specs.Moves.{reading_of}
 use Rattle.can_gates.specs.Circuit.{value}
+use Rattle.can_gates.specs.Words.{number}
 use Rattle.can_gates_mac.specs.Numbers.{reading_in, is_waiting}
 use Rattle.can_gates_mac.specs.Inputs.{TellsReading}
 use Rattle.can_gates_controller.specs.declared.heard.Heard.{Heard}
@@ -34,12 +35,13 @@ is_in_frame (Intermission place) = false
 is_in_frame (Suspend place) = false
 is_in_frame BusOff = false
 
--- the registers have the levels of a stuffed part that has told this, and their check sequence
+-- the registers have the levels of a stuffed part that has told this, their count and their check sequence
 pub record HoldsTold (v : ℕ → Bool) (k : Heard) (r : Reading) : Type 0 where
   pub unstuffed : List Level
   pub whole : length unstuffed ≡ frame_len unstuffed
   pub told : r ≡ reading_of unstuffed
   pub levels : HoldsLevels v k.levels.items unstuffed
+  pub count : number v k.count.items ≡ length unstuffed
   pub check : HoldsCheck v k.check.items unstuffed
 
 -- in a frame the registers hold what is heard of it: its front, and behind the stuffed part what that has told

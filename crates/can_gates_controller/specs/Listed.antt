@@ -1,13 +1,15 @@
--- The registers of a controller in one list, as a file has them.
+-- What a controller's circuit takes, holds and gives, each in one list, as a file has it.
 use Rattle.std.specs.Prelude.{ℕ, zero, suc, ◌≡◌, ◌+◌, ◌<◌, Bool, false, List, [], ◌∷◌, ◌++◌, slice_index_or}
 use Rattle.can_gates.specs.declared.literal.Literal.{Literal}
-use Rattle.can_gates.specs.declared.aiger.Register.{Register}
 use Rattle.can_gates.specs.Circuit.{value}
 use Rattle.can_gates_mac.specs.declared.nibble.Nibble.{Nibble}
 use Rattle.can_gates_mac.specs.declared.wires.Wires.{Wires}
 use Rattle.can_gates_mac.specs.declared.registers.Counters.{Counters}
 use Rattle.can_gates_controller.specs.declared.heard.Heard.{Heard}
 use Rattle.can_gates_controller.specs.declared.registers.Registers.{Registers}
+use Rattle.can_gates_controller.specs.declared.fields.Fields.{Fields}
+use Rattle.can_gates_controller.specs.declared.ports.InputPorts.{InputPorts}
+use Rattle.can_gates_controller.specs.declared.ports.OutputPorts.{OutputPorts}
 
 -- the first n literals of a word; past its end stands what is never true
 abbrev pub placed : ℕ → List Literal → List Literal
@@ -32,10 +34,14 @@ heard_list k = (placed 103 k.levels.items ++ placed 7 k.count.items) ++ (k.last 
 abbrev pub register_list : Registers → List Literal
 register_list k = ((wires_list k.controller.wires ++ counters_list k.controller.counters) ++ heard_list k.heard) ++ placed 103 k.own.items
 
--- a register that takes this literal, and starts with this value
-pub record IsRegister (r : Register) (l : Literal) (b : Bool) : Type 0 where
-  pub next : r.next ≡ l
-  pub starts : r.starts ≡ b
+abbrev pub field_list : Fields → List Literal
+field_list k = k.extended ∷ k.remote ∷ (placed 29 k.identifier.items ++ nibble_before k.dlc (placed 64 k.bytes.items))
+
+abbrev pub input_list : InputPorts → List Literal
+input_list k = k.reset ∷ k.joins ∷ k.enable ∷ k.bus ∷ k.hold ∷ k.wish_ones ∷ k.wish_twos ∷ k.waits ∷ field_list k.frame
+
+abbrev pub output_list : OutputPorts → List Literal
+output_list k = ((((k.drive ∷ nibble_before k.told []) ++ field_list k.frame) ++ placed 9 k.tec.items) ++ placed 8 k.rec.items) ++ (k.passive ∷ k.off ∷ k.legal ∷ [])
 
 -- so many literals are the signals from this one on
 abbrev pub AreSignals : ℕ → ℕ → List Literal → Type 0

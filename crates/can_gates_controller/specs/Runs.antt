@@ -1,74 +1,45 @@
--- Runs of a controller in a circuit: one assignment for each bit time.
-use Rattle.std.specs.Prelude.{ℕ, suc, ◌≡◌, ◌+◌, ◌-◌, ◌<◌, Bool, false, if◌then◌else◌, List, Option, length, slice_index_or}
-use Rattle.can_frame.specs.declared.level.Level.{Level}
-use Rattle.can_frame.specs.Levels.{is_recessive}
+-- Runs of a controller in a circuit: one assignment for each step.
+use Rattle.std.specs.Prelude.{ℕ, suc, ◌≡◌, ◌+◌, ◌-◌, ◌<◌, Bool, true, false, if◌then◌else◌, List, [], ◌∷◌, Some, None, length, slice_index_or}
+use Rattle.can_frame.specs.Levels.{is_recessive, level_from}
 use Rattle.can_frame.specs.Parts.{Parts}
-use Rattle.can_wire.specs.Layout.{level_at}
-use Rattle.can_mac.specs.State.{MacState}
-use Rattle.can_mac.specs.Frames.{state_after}
-use Rattle.can_gates.specs.declared.literal.Literal.{Literal}
+use Rattle.can_fault.specs.Counters.{is_passive, is_bus_off}
+use Rattle.can_mac.specs.State.{MacState, idle, joining}
+use Rattle.can_mac.specs.Machine.{mac_drives}
 use Rattle.can_gates.specs.declared.aiger.Register.{Register}
 use Rattle.can_gates.specs.Circuit.{value, Keeps, CircuitParts}
 use Rattle.can_gates.specs.Words.{number}
-use Rattle.can_gates_mac.specs.declared.registers.Counters.{Counters}
 use Rattle.can_gates_mac.specs.Nibbles.{nibble}
-use Rattle.can_gates_mac.specs.Numbers.{Numbers}
-use Rattle.can_gates_mac.specs.Shown.{shown}
-use Rattle.can_gates_mac.specs.Stepping.{reset_numbers}
-use Rattle.can_gates_controller.specs.declared.heard.Heard.{Heard}
-use Rattle.can_gates_controller.specs.declared.registers.Registers.{Registers}
+use Rattle.can_gates_mac.specs.Numbers.{event_number}
+use Rattle.can_gates_controller.specs.declared.ports.InputPorts.{InputPorts}
+use Rattle.can_gates_controller.specs.declared.ports.OutputPorts.{OutputPorts}
 use Rattle.can_gates_controller.specs.declared.design.Design.{Design}
-use Rattle.can_gates_controller.specs.Whole.{HoldsAll, Offers, IsBitTime}
+use Rattle.can_gates_controller.specs.Whole.{HoldsAll}
+use Rattle.can_gates_controller.specs.Fields.{frame_in, HoldsFields, frame_told}
+use Rattle.can_gates_controller.specs.Listed.{AreSignals, register_list, input_list, output_list}
+use Rattle.can_gates_controller.specs.Steps.{Step, state_behind, told_in, state_before}
 
--- the numbers of registers: what a bit time has counted and told isn't held
-abbrev pub held_numbers : Numbers → Numbers
-held_numbers n = record n { cause = 0; event = 0 }
+-- the step that comes in
+abbrev pub step_in : (ℕ → Bool) → InputPorts → Step
+step_in v k = record {
+  reset = value v k.reset;
+  joins = value v k.joins;
+  enable = value v k.enable;
+  wish = if value v k.hold then Some (number v (k.wish_ones ∷ k.wish_twos ∷ [])) else None;
+  waiting = if value v k.waits then Some (frame_in v k.frame) else None;
+  level = level_from (value v k.bus);
+}
 
--- so many literals are now what others were before
-abbrev pub TakesLevels : (ℕ → Bool) → (ℕ → Bool) → ℕ → List Literal → List Literal → Type 0
-TakesLevels before now places held next = (p : ℕ) → p < places → value now (slice_index_or held p (record { signal = 0; negated = false })) ≡ value before (slice_index_or next p (record { signal = 0; negated = false }))
-
-pub record TakesCounters (before now : ℕ → Bool) (held next : Counters) : Type 0 where
-  pub tec : number now held.tec.items ≡ number before next.tec.items
-  pub rec : number now held.rec.items ≡ number before next.rec.items
-  pub occurrences : number now held.occurrences.items ≡ number before next.occurrences.items
-
-pub record TakesHeard (before now : ℕ → Bool) (held next : Heard) : Type 0 where
-  pub levels : TakesLevels before now 103 held.levels.items next.levels.items
-  pub count : number now held.count.items ≡ number before next.count.items
-  pub last : value now held.last ≡ value before next.last
-  pub run : nibble now held.run ≡ nibble before next.run
-  pub check : TakesLevels before now 15 held.check.items next.check.items
-
--- the registers are now what these literals were before
-pub record Takes (before now : ℕ → Bool) (held next : Registers) : Type 0 where
-  pub wires : held_numbers (shown now held.controller.wires) ≡ held_numbers (shown before next.controller.wires)
-  pub counters : TakesCounters before now held.controller.counters next.controller.counters
-  pub heard : TakesHeard before now held.heard next.heard
-  pub own : TakesLevels before now 103 held.own.items next.own.items
-
--- an assignment for each of these levels, in which it is seen and this frame waits: each keeps the circuit, and the registers
--- take what was made for them
-pub record IsRun (d : Design) (v : ℕ → ℕ → Bool) (waits : ℕ → Option Parts) (levels : List Level) : Type 0 where
-  pub keeps : (t : ℕ) → t < length levels → Keeps (v t) d.circuit.gates
-  pub offers : (t : ℕ) → t < length levels → Offers (v t) d.offered (waits t)
-  pub sees : (t : ℕ) → t < length levels → value (v t) d.seen ≡ is_recessive (level_at levels t)
-  pub takes : (t : ℕ) → suc t < length levels → Takes (v t) (v (suc t)) d.held d.made.next
-
--- all registers of the controller are 0, but for the lowest place of its phase where it joins; those of frames may be any
-pub record IsReset (v : ℕ → Bool) (k : Registers) (joins : Bool) : Type 0 where
-  pub wires : held_numbers (shown v k.controller.wires) ≡ reset_numbers (if joins then 1 else 0)
-  pub tec : number v k.controller.counters.tec.items ≡ 0
-  pub rec : number v k.controller.counters.rec.items ≡ 0
-  pub occurrences : number v k.controller.counters.occurrences.items ≡ 0
-
--- in each assignment that keeps the circuit it is a controller's bit time
-abbrev pub IsController : Design → Type 0
-IsController d = (v : ℕ → Bool) (m : MacState) (waiting : Option Parts) (x : Level) → Keeps v d.circuit.gates → HoldsAll v d.held m → Offers v d.offered waiting → value v d.seen ≡ is_recessive x → IsBitTime v d.made d.held m waiting x
-
--- in each run from a controller that the registers hold, each bit time is the one of the machine's own run
-abbrev pub RunsAlike : Design → Type 0
-RunsAlike d = (v : ℕ → ℕ → Bool) (m : MacState) (waits : ℕ → Option Parts) (levels : List Level) → IsRun d v waits levels → HoldsAll (v 0) d.held m → (t : ℕ) → t < length levels → IsBitTime (v t) d.made d.held (state_after m waits levels t) (waits t) (level_at levels t)
+-- what goes out is that of this controller, where this step comes in: the level that it drives, what it tells, its counters, and
+-- whether it is error passive and bus off
+pub record Shows (v : ℕ → Bool) (k : OutputPorts) (m : MacState) (s : Step) : Type 0 where
+  pub drive : value v k.drive ≡ is_recessive (mac_drives m s.waiting)
+  pub told : nibble v k.told ≡ event_number (told_in m s)
+  pub frame : (f : Parts) → frame_told (told_in m s) ≡ Some f → HoldsFields v k.frame f
+  pub tec : number v k.tec.items ≡ m.counters.tec
+  pub rec : number v k.rec.items ≡ m.counters.rec
+  pub passive : value v k.passive ≡ is_passive m.counters
+  pub off : value v k.off ≡ is_bus_off m.counters
+  pub legal : value v k.legal ≡ true
 
 -- a circuit's last inputs are what its registers hold: at first what they start with, and then what they took a step before
 
@@ -77,3 +48,38 @@ StartsRegisters c registers v = (i : ℕ) → i < length registers → v (c.inpu
 
 abbrev pub StepsRegisters : CircuitParts → List Register → (ℕ → Bool) → (ℕ → Bool) → Type 0
 StepsRegisters c registers before now = (i : ℕ) → i < length registers → now (c.inputs - length registers + i + 1) ≡ value before (slice_index_or registers i (record { next = record { signal = 0; negated = false }; starts = false })).next
+
+-- at first the registers hold an idle controller
+abbrev pub StartsIdle : Design → Type 0
+StartsIdle d = (v : ℕ → Bool) → StartsRegisters d.circuit d.registers.items v → HoldsAll v d.held idle
+
+-- behind a reset they hold an idle one, or one that joins, whatever they held
+abbrev pub Resets : Design → Type 0
+Resets d = (before now : ℕ → Bool) → Keeps before d.circuit.gates → value before d.inputs.reset ≡ true → StepsRegisters d.circuit d.registers.items before now → HoldsAll now d.held (if value before d.inputs.joins then joining else idle)
+
+-- in each assignment that keeps the circuit, whatever controller the registers hold and whatever comes in, what goes out is that
+-- of the machine, and a step later the registers hold its next state
+abbrev pub IsController : Design → Type 0
+IsController d = (before : ℕ → Bool) (m : MacState) → Keeps before d.circuit.gates → HoldsAll before d.held m → Shows before d.outputs m (step_in before d.inputs) × ((now : ℕ → Bool) → StepsRegisters d.circuit d.registers.items before now → HoldsAll now d.held (state_behind m (step_in before d.inputs)))
+
+-- an assignment for each of n steps: each keeps the circuit, and the registers hold what they took
+pub record IsRun (d : Design) (v : ℕ → ℕ → Bool) (n : ℕ) : Type 0 where
+  pub keeps : (t : ℕ) → t < n → Keeps (v t) d.circuit.gates
+  pub takes : (t : ℕ) → suc t < n → StepsRegisters d.circuit d.registers.items (v t) (v (suc t))
+
+-- the steps that come in
+abbrev pub steps_in : Design → (ℕ → ℕ → Bool) → ℕ → Step
+steps_in d v t = step_in (v t) d.inputs
+
+-- in each run, from whatever controller the registers hold, what goes out in each step is that of the machine's own run
+abbrev pub RunsAlike : Design → Type 0
+RunsAlike d = (v : ℕ → ℕ → Bool) (m : MacState) (n : ℕ) → IsRun d v n → HoldsAll (v 0) d.held m → (t : ℕ) → t < n → Shows (v t) d.outputs (state_before m (steps_in d v) t) (steps_in d v t)
+
+-- the circuit's first inputs are what comes in, and its last ones what the registers hold, each in the order of its list; what goes
+-- out is listed in the order of a file
+pub record HasPorts (d : Design) : Type 0 where
+  pub inputs : d.circuit.inputs ≡ 384
+  pub registers : length d.registers.items ≡ 277
+  pub comes : AreSignals 1 107 (input_list d.inputs)
+  pub held : AreSignals 108 277 (register_list d.held)
+  pub goes : d.listed.items ≡ output_list d.outputs

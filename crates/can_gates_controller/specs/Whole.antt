@@ -9,8 +9,8 @@ use Rattle.can_code.specs.Front.{FrontParts}
 use Rattle.can_mac.specs.declared.event.Event.{Event}
 use Rattle.can_mac.specs.declared.event.Event.TheVariants.{Sent, Received}
 use Rattle.can_mac.specs.declared.phase.Role.{Role}
-use Rattle.can_mac.specs.declared.phase.Role.TheVariants.{Sender}
-use Rattle.can_mac.specs.declared.phase.Phase.TheVariants.{StuffedPart}
+use Rattle.can_mac.specs.declared.phase.Role.TheVariants.{Receiver, Sender}
+use Rattle.can_mac.specs.declared.phase.Phase.TheVariants.{Joining, Idle, StuffedPart, AfterFlag, BusOff}
 use Rattle.can_mac.specs.State.{MacPhase, MacState, IsMac, IsFrameOrNone}
 use Rattle.can_mac.specs.Machine.{mac_step, mac_drives}
 use Rattle.can_gates.specs.declared.literal.Literal.{Literal}
@@ -29,9 +29,19 @@ pub record HoldsOwn (v : ℕ → Bool) (own : List Literal) (p : MacPhase) (role
   pub levels : (f : Parts) → is_in_frame p ≡ true → role ≡ Sender f → HoldsLevels v own (head f)
   pub sent : (f : Parts) (front : FrontParts) → p ≡ StuffedPart front → role ≡ Sender f → front.unstuffed ≡ take (length front.unstuffed) (unstuffed f)
 
+-- what each run keeps, besides IsMac: who is idle, joining or off the bus is no sender, and the first level behind an error flag has
+-- no dominant one before it
+abbrev pub IsSettled : MacPhase → Role → Type 0
+IsSettled Idle role = role ≡ Receiver
+IsSettled (Joining row) role = role ≡ Receiver
+IsSettled BusOff role = role ≡ Receiver
+IsSettled (AfterFlag first dominant) role = first ≡ true → dominant ≡ 0
+IsSettled p role = Unit {0}
+
 -- the registers hold this controller, and the frame on the bus
 pub record HoldsAll (v : ℕ → Bool) (k : Registers) (m : MacState) : Type 0 where
   pub is : IsMac m
+  pub settled : IsSettled m.phase m.role
   pub controller : Holds v k.controller m
   pub heard : HoldsHeard v k.heard m.phase
   pub own : HoldsOwn v k.own.items m.phase m.role

@@ -1,20 +1,21 @@
 //! A controller as a circuit of its own.
-use crate::registers::{BitTime, Offered, Registers};
+use crate::ports::{InputPorts, OutputPorts};
+use crate::registers::Registers;
 use can_gates::{Circuit, Literal, Register};
 
-/// A controller as a circuit: what comes in and what its registers hold, and what a bit time makes of it.
+/// A controller as a circuit: what comes in, what its registers hold, and what goes out.
 #[derive(Drop)]
 pub struct Design {
     /// The circuit.
     pub circuit: Circuit,
+    /// What comes in.
+    pub inputs: InputPorts,
     /// What the registers hold.
     pub held: Registers,
-    /// The frame that waits.
-    pub offered: Offered,
-    /// Whether the level that is seen is recessive.
-    pub seen: Literal,
-    /// What the registers take, and what is driven.
-    pub made: BitTime,
+    /// What goes out.
+    pub outputs: OutputPorts,
     /// The registers, the circuit's last inputs, as a file has them.
     pub registers: Vec<Register>,
+    /// What goes out, as a file has it.
+    pub listed: Vec<Literal>,
 }

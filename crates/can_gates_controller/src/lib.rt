@@ -4,17 +4,21 @@
 //! first 103 unstuffed levels of both, the count of those heard, the run that they end in, and their running check sequence.
 //! [`bit_time`] makes the gates from these registers, the frame that waits and the level that is seen to what the registers
 //! take and to what is driven: in each assignment that keeps the circuit, whatever controller the registers hold, that is
-//! can_mac's `mac_step` and `mac_drives`, with the frame that is told. [`controller_circuit`] makes all of it in a circuit of its own, whose
-//! runs from reset are can_mac's, bit time by bit time.
+//! can_mac's `mac_step` and `mac_drives`, with the frame that is told. [`controller_circuit`] makes all of it in a circuit of
+//! its own, with a reset, an enable and own overload frames, whose runs are can_mac's, step by step.
 //!
-//! A frame comes in, and is told, by its levels up to the end of its data, a literal for each. [`levels_of`] makes these of its
-//! [`Fields`], and [`fields_of`] the fields of them.
+//! A frame comes in and is told by its fields. Within, it is its levels up to the end of its data, a literal for each:
+//! [`levels_of`] makes these of its [`Fields`], and [`fields_of`] the fields of them.
 //!
 //! | File | What it has | Defined in |
 //! |---|---|---|
+//! | `design.rt`, `making.rt` | [`Design`], [`controller_circuit`]: a circuit of its own | `specs/Steps.antt`, `Runs.antt` |
+//! | `ports.rt` | [`InputPorts`], [`OutputPorts`]: what comes in and goes out | `specs/Runs.antt` |
+//! | `signals.rt`, `listing.rt` | which signals are inputs and registers, and the order in which a file has them | `specs/Listed.antt` |
+//! | `stepping.rt` | a step: a reset, a bit time, or nothing | `specs/Stepped.antt` |
+//! | `legal.rt` | what is so of the registers in each state that a run reaches | |
 //! | `registers.rt` | [`Registers`], [`Offered`], [`BitTime`] | `specs/Whole.antt` |
 //! | `whole.rt` | [`bit_time`], a bit time | `specs/Whole.antt` |
-//! | `design.rt`, `making.rt` | [`Design`], [`controller_circuit`]: a circuit of its own | `specs/Runs.antt` |
 //! | `heard.rt`, `front.rt` | [`Heard`], the registers of a front; [`hear`], one more level; [`ends`], whether its stuffed part ends; [`read`], what the move reads | `specs/Fronts.antt` |
 //! | `check.rt` | the running check sequence, and whether it agrees | `specs/Fronts.antt` |
 //! | `sending.rt` | what a sender sends next | `specs/Whole.antt` |
@@ -34,13 +38,17 @@ mod front;
 mod heard;
 mod hearing;
 mod laying;
+mod legal;
 mod levels;
 mod listing;
 mod making;
 mod next_front;
+mod ports;
 mod registers;
 mod seen;
 mod sending;
+mod signals;
+mod stepping;
 mod telling;
 mod turning;
 mod whole;
@@ -52,6 +60,7 @@ pub use heard::Heard;
 pub use hearing::step_hearing;
 pub use laying::levels_of;
 pub use making::controller_circuit;
+pub use ports::{InputPorts, OutputPorts};
 pub use registers::{BitTime, Offered, Registers};
 pub use seen::Seen;
 pub use telling::{fields_of, told_frame};

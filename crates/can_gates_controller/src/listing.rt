@@ -1,8 +1,11 @@
-//! All registers in one list, in the order of a file.
-ghost use Rattle.std.specs.Prelude.{◌≡◌, ◌<◌, ◌==◌, ◌&&◌, ◌++◌, ℕ, Bool, false, IfOk, OnOk, length, slice_index_or};
-ghost use Rattle.can_gates_controller.specs.Listed.{IsRegister, placed, wires_list, counters_list, heard_list, register_list};
+//! All registers in one list, and all that goes out, in the order of a file.
+ghost use Rattle.std.specs.Prelude.{◌≡◌, ◌<◌, ◌++◌, ℕ, false, IfOk, OnOk, length, slice_index_or};
+ghost use Rattle.can_gates_controller.specs.Listed.{placed, wires_list, counters_list, heard_list, register_list, field_list, output_list};
+ghost use Rattle.can_gates_controller.specs.Stepped.{IsRegister};
 
+use crate::fields::Fields;
 use crate::heard::Heard;
+use crate::ports::OutputPorts;
 use crate::registers::Registers;
 use can_gates::{FALSE, Literal, Register, literal_at};
 use can_gates_mac::{Counters, Wires};
@@ -77,6 +80,35 @@ fn list_heard(alloc: Global, k: &Heard) -> Result<Vec<Literal>, AllocError>
     Ok(all)
 }
 
+/// The literals of what goes out.
+pub(crate) fn list_outputs(alloc: Global, k: &OutputPorts) -> Result<Vec<Literal>, AllocError>
+    ensures { IfOk result (λ r. r.items ≡ output_list k.now) }
+{
+    let told = k.told;
+    let mut all = Vec::from_slice(
+        alloc,
+        &[k.drive, told.ones, told.twos, told.fours, told.eights],
+    )?;
+    let frame = list_fields(alloc, &k.frame)?;
+    all.extend_from_slice(&frame)?;
+    push_places(&mut all, &k.tec, 9)?;
+    push_places(&mut all, &k.rec, 8)?;
+    all.extend_from_slice(&[k.passive, k.off, k.legal])?;
+    Ok(all)
+}
+
+/// Those of a frame.
+fn list_fields(alloc: Global, k: &Fields) -> Result<Vec<Literal>, AllocError>
+    ensures { IfOk result (λ r. r.items ≡ field_list k.now) }
+{
+    let mut all = Vec::from_slice(alloc, &[k.extended, k.remote])?;
+    push_places(&mut all, &k.identifier, 29)?;
+    let dlc = k.dlc;
+    all.extend_from_slice(&[dlc.ones, dlc.twos, dlc.fours, dlc.eights])?;
+    push_places(&mut all, &k.bytes, 64)?;
+    Ok(all)
+}
+
 /// Appends the first literals of a word, so many.
 fn push_places(out: &mut Vec<Literal>, word: &[Literal], places: usize) -> Result<(), AllocError>
     ensures { OnOk result (out.new.items ≡ out.old.items ++ placed places word.now) }
@@ -87,28 +119,17 @@ fn push_places(out: &mut Vec<Literal>, word: &[Literal], places: usize) -> Resul
     Ok(())
 }
 
-/// The registers that take these literals: all start with 0, but the first one where the controller joins.
-pub(crate) fn starting(
-    alloc: Global,
-    next: &[Literal],
-    joins: bool,
-) -> Result<Vec<Register>, AllocError>
-    ensures { IfOk result (λ r. (length r.items ≡ length next.now) × ((i : ℕ) → i < length next.now → IsRegister (slice_index_or r.items i (record { next = FALSE; starts = false })) (slice_index_or next.now i FALSE) (i == 0 && joins))) }
+/// The registers that take these literals, and start with 0.
+pub(crate) fn starting(alloc: Global, next: &[Literal]) -> Result<Vec<Register>, AllocError>
+    ensures { IfOk result (λ r. (length r.items ≡ length next.now) × ((i : ℕ) → i < length next.now → IsRegister (slice_index_or r.items i (record { next = FALSE; starts = false })) (slice_index_or next.now i FALSE))) }
 {
     let mut all = Vec::new(alloc);
     for place in 0..next.len() {
         let register = Register {
             next: literal_at(next, place),
-            starts: starts_at(place, joins),
+            starts: false,
         };
         all.push(register)?;
     }
     Ok(all)
-}
-
-/// With what the register at a place starts.
-fn starts_at(place: usize, joins: bool) -> bool
-    ensures { result ≡ (place == 0 && joins) }
-{
-    place == 0 && joins
 }

@@ -1,7 +1,6 @@
-use Rattle.std.proofs.Common.{◌≡◌, ◌&&◌, get_or, length, rules, arith}
-use Rattle.std.specs.Prelude.{◌==◌}
+use Rattle.std.proofs.Common.{◌≡◌, get_or, length, refl, rules, arith}
 use Rattle.can_gates.proofs.Constants.{never}
-use Rattle.can_gates_controller.specs.Listed.{IsRegister}
+use Rattle.can_gates_controller.specs.Stepped.{IsRegister}
 use Rattle.can_gates_controller.proofs.ListedLemmas.{pushed_at}
 use Rattle.can_gates_controller.proofs.listing.starting.Goals as goal
 
@@ -10,7 +9,7 @@ loop-place-preserved c =
     let l = c.loop-place in
     let next = c.args.next.now in (
       search rules,
-      λ i h. pushed_at (λ q r. IsRegister r (get_or next q never) ((q == 0) && c.args.joins)) l.all.items c.push.new.self.items _ l.place i c.in_ok-push.ensures.items l.invariant.0 (record { next = c.literal_at.ensures; starts = c.starts_at.ensures }) l.invariant.1 h,
+      λ i h. pushed_at (λ q r. IsRegister r (get_or next q never)) l.all.items c.push.new.self.items _ l.place i c.in_ok-push.ensures.items l.invariant.0 (record { next = c.literal_at.ensures; starts = refl }) l.invariant.1 h,
     )
 
 pub returns : goal.returns

@@ -1,10 +1,10 @@
-use Rattle.std.specs.Prelude.{◌≡◌, ◌<◌, ◌==◌, ◌&&◌, ℕ, false, length, get_or}
+use Rattle.std.specs.Prelude.{◌≡◌, ◌<◌, ℕ, false, length, get_or}
 use Rattle.can_gates.proofs.Constants.{never}
-use Rattle.can_gates_controller.specs.Listed.{IsRegister}
+use Rattle.can_gates_controller.specs.Stepped.{IsRegister}
 use Rattle.can_gates_controller.proofs.listing.starting.Given as goal
 
 -- the registers so far
 abbrev pub invariant-loop-place : goal.invariant-loop-place
 invariant-loop-place l =
     (length l.all.items ≡ l.place)
-    × ((i : ℕ) → i < l.place → IsRegister (get_or l.all.items i (record { next = never; starts = false })) (get_or l.next i never) (i == 0 && l.fn.joins))
+    × ((i : ℕ) → i < l.place → IsRegister (get_or l.all.items i (record { next = never; starts = false })) (get_or l.next i never))

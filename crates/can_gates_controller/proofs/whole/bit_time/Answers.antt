@@ -6,6 +6,7 @@ use Rattle.can_gates.proofs.Constants.{never}
 use Rattle.can_gates_mac.proofs.Next.{next_holds}
 use Rattle.can_gates_controller.specs.Holding.{is_in_frame}
 use Rattle.can_gates_controller.proofs.Follows.{bit_time_follows}
+use Rattle.can_gates_controller.proofs.Settled.{step_settled}
 use Rattle.can_gates_controller.proofs.Owned.{own_follows, told_frame, event_is}
 use Rattle.can_gates_controller.proofs.whole.bit_time.Goals as goal
 
@@ -33,6 +34,7 @@ returns c = (
             let follows = bit_time_follows m waiting x in record {
               next = record {
                 is = step_kept m held.is waiting x offers.frame;
+                settled = step_settled m waiting x held.settled;
                 controller = next_holds v _ _ step.0;
                 heard = step.1;
                 own = own_follows v _ _ _ m waiting x _ _ held.is held.own offers.levels follows.next (λ place h. rw (c.deref-2.ensures.value, c.deref-3.ensures.value) at (own.1 m.phase place (within.1 m.phase held.controller.phase) h));

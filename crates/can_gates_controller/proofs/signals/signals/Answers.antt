@@ -1,6 +1,6 @@
 use Rattle.std.proofs.Common.{◌≡◌, ◌+◌, rules, arith}
 use Rattle.can_gates_controller.proofs.FrontPlaces.{written_place}
-use Rattle.can_gates_controller.proofs.making.signals.Goals as goal
+use Rattle.can_gates_controller.proofs.signals.signals.Goals as goal
 
 pub loop-place-preserved : goal.loop-place-preserved
 loop-place-preserved c =

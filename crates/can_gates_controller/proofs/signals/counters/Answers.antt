@@ -2,7 +2,7 @@ use Rattle.std.specs.Prelude.{◌≡◌, IfSome}
 use Rattle.std.proofs.Common.{subst}
 use Rattle.can_gates_mac.specs.declared.registers.Counters.{Counters}
 use Rattle.can_gates_controller.proofs.ListedLemmas.{signals_of_counters}
-use Rattle.can_gates_controller.proofs.making.counters.Goals as goal
+use Rattle.can_gates_controller.proofs.signals.counters.Goals as goal
 
 pub returns : goal.returns
 returns c =

@@ -1,6 +1,6 @@
 use Rattle.std.specs.Prelude.{◌≡◌, length}
 use Rattle.can_gates_controller.specs.Listed.{AreSignals}
-use Rattle.can_gates_controller.proofs.making.signals.Given as goal
+use Rattle.can_gates_controller.proofs.signals.signals.Given as goal
 
 -- the signals so far
 abbrev pub invariant-loop-place : goal.invariant-loop-place

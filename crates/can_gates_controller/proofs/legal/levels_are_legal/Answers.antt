@@ -1,0 +1,42 @@
+use Rattle.std.proofs.Common.{◌≡◌, ◌%◌, ◌^◌, ◌∙◌, refl, sym, arith}
+use Rattle.can_gates.specs.Words.{number}
+use Rattle.can_gates.proofs.Constants.{zero-kept, value-never, value-always}
+use Rattle.can_gates_controller.proofs.Checks.{above_is}
+use Rattle.can_gates_controller.proofs.LegalStates.{behind_more, dominant_behind}
+use Rattle.can_gates_controller.proofs.legal.levels_are_legal.Goals as goal
+
+pub loop-place-init : goal.loop-place-init
+loop-place-init c = (
+  refl,
+  λ v keeps.
+      let zero_is = zero-kept v c.args.circuit.now.gates keeps in
+      (keeps, (value-never v zero_is ∙ sym (above_is (number v c.args.heard.now.count.items) 0 (omega arith)), λ u levels count. value-always v zero_is)),
+)
+
+pub loop-place-preserved : goal.loop-place-preserved
+loop-place-preserved c =
+    let l = c.loop-place in
+    let heard = c.args.heard.now in (
+      c.in_ok-legal.ensures.made.0 ∙ c.in_ok-wrong.ensures.made.0 ∙ c.in_ok-behind.ensures.0 ∙ c.in_ok-here.ensures.0 ∙ l.invariant.0,
+      λ v keeps.
+          let legal = c.in_ok-legal.ensures.made.1 v keeps in
+          let wrong = c.in_ok-wrong.ensures.made.1 v legal.0 in
+          let behind = c.in_ok-behind.ensures.1 v wrong.0 in
+          let here = c.in_ok-here.ensures.1 v behind.0 in
+          let before = l.invariant.1 v here.0 in
+          let zero_is = zero-kept v c.args.circuit.now.gates before.0 in
+          let low : l.place % 2 ^ 7 ≡ l.place = omega (arith, c.loop-place-test.true) in
+          let past = behind.1 ∙ rw (before.1.0, here.1, c.deref.ensures.value, c.deref-in-loop-place.ensures.value, c.in_ok-number.ensures.1 v zero_is, low) (behind_more (number v heard.count.items) l.place) in (
+            before.0,
+            (past, λ u levels count. legal.1 ∙ rw (before.1.1 u levels count, c.opposite.ensures v, wrong.1, past, count, c.literal_at-level.ensures, c.deref-in-loop-place-2.ensures.value, levels l.place (omega (arith, c.loop-place-test.true))) (dominant_behind u l.place)),
+          ),
+    )
+
+pub returns : goal.returns
+returns c =
+    let l = c.loop-place in (
+      l.invariant.0,
+      λ v keeps.
+          let whole = l.invariant.1 v keeps in
+          (whole.0, λ u levels count. whole.1.1 u levels count),
+    )

@@ -1,0 +1,35 @@
+-- What registers take in a step, by the list of their literals.
+use Rattle.std.specs.Prelude.{ℕ, ◌≡◌, ◌<◌, ◌==◌, ◌&&◌, Bool, true, false, if◌then◌else◌, List, slice_index_or}
+use Rattle.can_mac.specs.State.{MacState, idle, joining}
+use Rattle.can_gates.specs.declared.literal.Literal.{Literal}
+use Rattle.can_gates.specs.declared.aiger.Register.{Register}
+use Rattle.can_gates.specs.Circuit.{value}
+use Rattle.can_gates_controller.specs.declared.registers.Registers.{Registers}
+use Rattle.can_gates_controller.specs.declared.ports.InputPorts.{InputPorts}
+use Rattle.can_gates_controller.specs.declared.ports.OutputPorts.{OutputPorts}
+use Rattle.can_gates_controller.specs.Whole.{HoldsAll}
+use Rattle.can_gates_controller.specs.Steps.{state_behind}
+use Rattle.can_gates_controller.specs.Runs.{step_in, Shows}
+use Rattle.can_gates_controller.specs.Listed.{register_list}
+
+-- a register that takes this literal, and starts with 0
+pub record IsRegister (r : Register) (l : Literal) : Type 0 where
+  pub next : r.next ≡ l
+  pub starts : r.starts ≡ false
+
+-- so many literals are now what others were before
+abbrev pub TakesLevels : (ℕ → Bool) → (ℕ → Bool) → ℕ → List Literal → List Literal → Type 0
+TakesLevels before now places held next = (p : ℕ) → p < places → value now (slice_index_or held p (record { signal = 0; negated = false })) ≡ value before (slice_index_or next p (record { signal = 0; negated = false }))
+
+-- what a register of this place takes: at a reset 0, but the first one whether the controller joins; else what a bit time makes,
+-- or where none passes what it holds
+abbrev pub taken_at : Bool → Bool → Bool → ℕ → Bool → Bool → Bool
+taken_at reset joins enable place next held = if reset then place == 0 && joins else (if enable then next else held)
+
+-- registers that take these literals at a reset hold an idle controller, or one that joins
+abbrev pub TakesReset : (ℕ → Bool) → InputPorts → Registers → List Literal → Type 0
+TakesReset before k held taken = (now : ℕ → Bool) → value before k.reset ≡ true → TakesLevels before now 277 (register_list held) taken → HoldsAll now held (if value before k.joins then joining else idle)
+
+-- registers that take these literals hold the next state, and what goes out is that of the machine
+abbrev pub TakesStep : (ℕ → Bool) → InputPorts → OutputPorts → Registers → List Literal → Type 0
+TakesStep before i o held taken = (m : MacState) → HoldsAll before held m → Shows before o m (step_in before i) × ((now : ℕ → Bool) → TakesLevels before now 277 (register_list held) taken → HoldsAll now held (state_behind m (step_in before i)))

@@ -1,0 +1,243 @@
+//! What is so of the registers in each state that a run reaches: what a solver may assume of them.
+ghost use Rattle.std.specs.Prelude.{◌≡◌, ◌<◌, ◌≤◌, ◌&&◌, ℕ, nat_lt, nat_le, Bool, true, false, List, IfOk, length};
+ghost use Rattle.can_frame.specs.declared.level.Level.{Level};
+ghost use Rattle.can_wire.specs.Layout.{frame_len};
+ghost use Rattle.can_code.specs.Front.{FrontParts};
+ghost use Rattle.can_mac.specs.State.{MacPhase, MacState, IsOpen, IsPhase, IsMac};
+ghost use Rattle.can_gates.specs.Circuit.{value, Makes};
+ghost use Rattle.can_gates.specs.Words.{number};
+ghost use Rattle.can_gates_mac.specs.Nibbles.{nibble};
+ghost use Rattle.can_gates_mac.specs.Stepping.{Holds};
+ghost use Rattle.can_gates_controller.specs.Fronts.{HoldsLevels, HoldsFront};
+ghost use Rattle.can_gates_controller.specs.Holding.{HoldsHeard};
+ghost use Rattle.can_gates_controller.specs.Following.{IsWithin};
+ghost use Rattle.can_gates_controller.specs.Whole.{HoldsAll, IsSettled};
+
+use crate::following::Within;
+use crate::front::frame_length;
+use crate::heard::Heard;
+use crate::next_front::within;
+use crate::registers::Registers;
+use can_gates::{Circuit, FALSE, Literal, TRUE, constant, literal_at};
+use can_gates_mac::{Controller, Counters, Nibble, Wires};
+use std::alloc::{AllocError, Global};
+
+/// How many places of a front have a register.
+const PLACES: u64 = 103;
+
+/// One more than the highest TEC.
+const ABOVE_TEC: u64 = 264;
+
+/// Whether the registers are within what a controller's can be.
+pub(crate) fn is_legal(
+    circuit: &mut Circuit,
+    alloc: Global,
+    held: &Registers,
+) -> Result<Literal, AllocError>
+    ensures { IfOk result (λ r. Makes circuit.old circuit.new (λ v. (m : MacState) → HoldsAll v held.now m → value v r ≡ true)) }
+{
+    let wires = held.controller.wires;
+    let within = within(circuit, alloc, wires.phase)?;
+    let place = place_is_legal(circuit, alloc, &held.controller)?;
+    let role = role_is_legal(circuit, alloc, &held.controller)?;
+    let wishes = wishes_are_legal(circuit, wires)?;
+    let counters = counters_are_legal(circuit, alloc, &held.controller)?;
+    let heard = heard_is_legal(circuit, alloc, within, &held.heard)?;
+    let phase = circuit.and(place, role)?;
+    let on = circuit.and(phase, wishes)?;
+    let counted = circuit.and(counters, heard)?;
+    let made = circuit.and(on, counted)?;
+    Ok(made)
+}
+
+/// Whether the place is one of the phase, and what other phases alone have is 0.
+fn place_is_legal(
+    circuit: &mut Circuit,
+    alloc: Global,
+    held: &Controller,
+) -> Result<Literal, AllocError>
+    ensures { IfOk result (λ r. Makes circuit.old circuit.new (λ v. (m : MacState) → IsMac m → Holds v held.now m → value v r ≡ true)) }
+{
+    let wires = held.wires;
+    let flag = circuit.and(wires.last.opposite(), wires.unacknowledged.opposite())?;
+    let plain = circuit.and(flag, wires.first.opposite())?;
+    let first = wires.place.less(circuit, 1)?;
+    let below_3 = below(circuit, wires.place, 3, plain)?;
+    let below_6 = below(circuit, wires.place, 6, plain)?;
+    let below_7 = below(circuit, wires.place, 7, plain)?;
+    let below_8 = below(circuit, wires.place, 8, plain)?;
+    let below_11 = below(circuit, wires.place, 11, plain)?;
+    let at_first = circuit.and(first, plain)?;
+    let behind_first = circuit.and(first.opposite(), below_8)?;
+    let passive_flag = below(circuit, wires.place, 6, wires.first.opposite())?;
+    let after_flag = below(circuit, wires.place, 8, flag)?;
+    // in the order of the phases' numbers
+    let items = [
+        at_first,
+        below_11,
+        at_first,
+        at_first,
+        at_first,
+        at_first,
+        below_7,
+        below_6,
+        passive_flag,
+        below_6,
+        after_flag,
+        behind_first,
+        below_3,
+        below_8,
+        below_11,
+    ];
+    let phase = wires.phase;
+    let place = [phase.ones, phase.twos, phase.fours, phase.eights];
+    let made = circuit.select(alloc, &items, &place)?;
+    Ok(made)
+}
+
+/// Whether no one is a sender who is idle, joining or off the bus, and no dominant level stands before the first one behind an error
+/// flag.
+fn role_is_legal(
+    circuit: &mut Circuit,
+    alloc: Global,
+    held: &Controller,
+) -> Result<Literal, AllocError>
+    ensures { IfOk result (λ r. Makes circuit.old circuit.new (λ v. (m : MacState) → IsSettled m.phase m.role → Holds v held.now m → value v r ≡ true)) }
+{
+    let wires = held.wires;
+    let receives = wires.sender.opposite();
+    let start = wires.place.less(circuit, 1)?;
+    let first = circuit.or(start, wires.first.opposite())?;
+    // in the order of the phases' numbers
+    let items = [
+        receives, receives, TRUE, TRUE, TRUE, TRUE, TRUE, TRUE, TRUE, TRUE, first, TRUE, TRUE,
+        TRUE, receives,
+    ];
+    let phase = wires.phase;
+    let place = [phase.ones, phase.twos, phase.fours, phase.eights];
+    let made = circuit.select(alloc, &items, &place)?;
+    Ok(made)
+}
+
+/// Whether a place is below a bound, and a literal is true.
+fn below(
+    circuit: &mut Circuit,
+    place: Nibble,
+    bound: u8,
+    also: Literal,
+) -> Result<Literal, AllocError>
+    requires { bound < 16 }
+    ensures { IfOk result (λ r. Makes circuit.old circuit.new (λ v. value v r ≡ (nat_lt (nibble v place) bound && value v also))) }
+{
+    let less = place.less(circuit, bound)?;
+    let made = circuit.and(less, also)?;
+    Ok(made)
+}
+
+/// Whether at most two own overload frames are asked for, and were used.
+fn wishes_are_legal(circuit: &mut Circuit, wires: Wires) -> Result<Literal, AllocError>
+    ensures { IfOk result (λ r. Makes circuit.old circuit.new (λ v. nibble v wires.pending ≤ 2 → nibble v wires.used ≤ 2 → value v r ≡ true)) }
+{
+    let pending = wires.pending.less(circuit, 3)?;
+    let used = wires.used.less(circuit, 3)?;
+    let made = circuit.and(pending, used)?;
+    Ok(made)
+}
+
+/// Whether TEC is in its range, is at least 256 exactly off the bus, and only there occurrences of eleven recessive levels
+/// are counted.
+fn counters_are_legal(
+    circuit: &mut Circuit,
+    alloc: Global,
+    held: &Controller,
+) -> Result<Literal, AllocError>
+    ensures { IfOk result (λ r. Makes circuit.old circuit.new (λ v. (m : MacState) → IsMac m → Holds v held.now m → value v r ≡ true)) }
+{
+    let phase = held.wires.phase;
+    let place = [phase.ones, phase.twos, phase.fours, phase.eights];
+    let items = [
+        FALSE, FALSE, FALSE, FALSE, FALSE, FALSE, FALSE, FALSE, FALSE, FALSE, FALSE, FALSE, FALSE,
+        FALSE, TRUE,
+    ];
+    let rests = circuit.select(alloc, &items, &place)?;
+    let off = is_off(&held.counters);
+    let most = constant(alloc, ABOVE_TEC, 9)?;
+    let small = circuit.less(&held.counters.tec, &most)?;
+    let differs = circuit.xor(off, rests)?;
+    let some = circuit.less(&[FALSE], &held.counters.occurrences)?;
+    let counts = circuit.or(off, some.opposite())?;
+    let fits = circuit.and(small, differs.opposite())?;
+    let made = circuit.and(fits, counts)?;
+    Ok(made)
+}
+
+/// Whether what is heard of a frame fits: in its stuffed part a front that goes on, behind that a whole one.
+fn heard_is_legal(
+    circuit: &mut Circuit,
+    alloc: Global,
+    within: Within,
+    heard: &Heard,
+) -> Result<Literal, AllocError>
+    ensures { IfOk result (λ r. Makes circuit.old circuit.new (λ v. (p : MacPhase) → IsPhase p → IsWithin v within p → HoldsHeard v heard.now p → value v r ≡ true)) }
+{
+    let length = frame_length(circuit, alloc, &heard.levels)?;
+    let whole = circuit.equals(&length, &heard.count)?;
+    let going = going_is_legal(circuit, heard, &length)?;
+    let levels = levels_are_legal(circuit, alloc, heard)?;
+    let part = circuit.and(going, levels)?;
+    let end = circuit.and(whole, levels)?;
+    let behind = circuit.ite(within.end, end, TRUE)?;
+    let made = circuit.ite(within.part, part, behind)?;
+    Ok(made)
+}
+
+/// Whether the front of a frame that has so many levels goes on: it has at least one level and at most these, a run of one to
+/// five, and its stuffed part hasn't ended.
+fn going_is_legal(
+    circuit: &mut Circuit,
+    heard: &Heard,
+    length: &[Literal],
+) -> Result<Literal, AllocError>
+    ensures { IfOk result (λ r. Makes circuit.old circuit.new (λ v. (front : FrontParts) → IsOpen front → HoldsFront v heard.now front → number v length.now ≡ frame_len front.unstuffed → value v r ≡ true)) }
+{
+    let some = circuit.less(&[FALSE], &heard.count)?;
+    let over = circuit.less(length, &heard.count)?;
+    let none = heard.run.less(circuit, 1)?;
+    let few = heard.run.less(circuit, 6)?;
+    let plain = heard.run.less(circuit, 5)?;
+    let whole = circuit.equals(length, &heard.count)?;
+    let ended = circuit.and(whole, plain)?;
+    let counted = circuit.and(some, over.opposite())?;
+    let runs = circuit.and(none.opposite(), few)?;
+    let fits = circuit.and(counted, runs)?;
+    let made = circuit.and(fits, ended.opposite())?;
+    Ok(made)
+}
+
+/// Whether no level is recessive that isn't heard yet.
+fn levels_are_legal(
+    circuit: &mut Circuit,
+    alloc: Global,
+    heard: &Heard,
+) -> Result<Literal, AllocError>
+    ensures { IfOk result (λ r. Makes circuit.old circuit.new (λ v. (u : List Level) → HoldsLevels v heard.now.levels.items u → number v heard.now.count.items ≡ length u → value v r ≡ true)) }
+{
+    let mut legal = TRUE;
+    let mut behind = FALSE;
+    for place in 0..PLACES {
+        let number = constant(alloc, place, 7)?;
+        let here = circuit.equals(&heard.count, &number)?;
+        behind = circuit.or(behind, here)?;
+        let level = literal_at(&heard.levels, place as usize);
+        let wrong = circuit.and(behind, level)?;
+        legal = circuit.and(legal, wrong.opposite())?;
+    }
+    Ok(legal)
+}
+
+/// Whether a controller with these counters is bus off.
+pub(crate) fn is_off(counters: &Counters) -> Literal
+    ensures { (v : ℕ → Bool) → v 0 ≡ false → value v result ≡ nat_le 256 (number v counters.now.tec.items) }
+{
+    literal_at(&counters.tec, 8)
+}

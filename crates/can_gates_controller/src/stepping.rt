@@ -1,0 +1,163 @@
+//! A step: a reset, a bit time, or nothing.
+ghost use Rattle.std.specs.Prelude.{◌≡◌, ◌<◌, ◌==◌, ◌&&◌, ◌||◌, ℕ, Bool, false, IfOk, length, slice_index_or};
+ghost use Rattle.can_mac.specs.State.{MacState};
+ghost use Rattle.can_gates.specs.Circuit.{value, Makes};
+ghost use Rattle.can_gates_controller.specs.declared.registers.Registers.{Registers as RegistersOf};
+ghost use Rattle.can_gates_controller.specs.Whole.{HoldsAll, IsBitTime};
+ghost use Rattle.can_gates_controller.specs.Steps.{Step, asked};
+ghost use Rattle.can_gates_controller.specs.Runs.{step_in, Shows};
+ghost use Rattle.can_gates_controller.specs.Listed.{AreSignals, register_list};
+ghost use Rattle.can_gates_controller.specs.Stepped.{TakesReset, TakesStep, taken_at};
+
+use crate::laying::levels_of;
+use crate::legal::{is_legal, is_off};
+use crate::listing::list;
+use crate::ports::{InputPorts, OutputPorts};
+use crate::registers::{BitTime, Offered, Registers};
+use crate::signals::registers;
+use crate::telling::told_frame;
+use crate::whole::bit_time;
+use can_gates::{Circuit, FALSE, Literal, literal_at};
+use can_gates_mac::{Nibble, asking, is_passive};
+use std::alloc::{AllocError, Global};
+
+/// One more than the most own overload frames that can be asked for.
+const ABOVE_WISHES: u8 = 3;
+
+/// A step: what the registers take, in their order, and what goes out.
+pub(crate) fn step(
+    circuit: &mut Circuit,
+    alloc: Global,
+    held: &Registers,
+    inputs: &InputPorts,
+) -> Result<(Vec<Literal>, OutputPorts), AllocError>
+    requires { AreSignals 108 277 (register_list held.now) }
+    ensures { IfOk result (λ r. (length r.0.items ≡ 277) × Makes circuit.old circuit.new (λ v. TakesReset v inputs.now held.now r.0.items × TakesStep v inputs.now r.1 held.now r.0.items)) }
+{
+    let levels = levels_of(circuit, alloc, &inputs.frame)?;
+    let offered = Offered {
+        waits: inputs.waits,
+        levels,
+    };
+    let wished = with_wish(circuit, alloc, inputs)?;
+    let made = bit_time(circuit, alloc, &wished, &offered, inputs.bus)?;
+    let outputs = show(circuit, alloc, held, inputs, &wished, &made)?;
+    let before = list(alloc, held)?;
+    let behind = list(alloc, &made.next)?;
+    let taken = take(circuit, alloc, inputs, &before, &behind)?;
+    Ok((taken, outputs))
+}
+
+/// The registers, with the own overload frames that are asked for.
+fn with_wish(
+    circuit: &mut Circuit,
+    alloc: Global,
+    inputs: &InputPorts,
+) -> Result<Registers, AllocError>
+    ensures { IfOk result (λ r. Makes circuit.old circuit.new (λ v. (held : RegistersOf) (m : MacState) → AreSignals 108 277 (register_list held) → HoldsAll v held m → HoldsAll v r (asked (step_in v inputs.now).wish m))) }
+{
+    let held = registers(alloc)?;
+    let wish = Nibble {
+        ones: inputs.wish_ones,
+        twos: inputs.wish_twos,
+        fours: FALSE,
+        eights: FALSE,
+    };
+    let few = wish.less(circuit, ABOVE_WISHES)?;
+    let asks = circuit.and(inputs.hold, few)?;
+    let pending = Nibble::choose(circuit, asks, wish, held.controller.wires.pending)?;
+    let Registers {
+        controller,
+        heard,
+        own,
+    } = held;
+    Ok(Registers {
+        controller: asking(controller, pending),
+        heard,
+        own,
+    })
+}
+
+/// What goes out, where these registers are held, and with own overload frames these; and this is the bit time, if one passes.
+fn show(
+    circuit: &mut Circuit,
+    alloc: Global,
+    held: &Registers,
+    inputs: &InputPorts,
+    wished: &Registers,
+    made: &BitTime,
+) -> Result<OutputPorts, AllocError>
+    ensures { IfOk result (λ r. Makes circuit.old circuit.new (λ v. (m : MacState) (s : Step) → s ≡ step_in v inputs.now → HoldsAll v held.now m → HoldsAll v wished.now (asked s.wish m) → IsBitTime v made.now wished.now (asked s.wish m) s.waiting s.level → Shows v r m s)) }
+{
+    let counters = &held.controller.counters;
+    let passes = circuit.and(inputs.enable, inputs.reset.opposite())?;
+    let event = made.next.controller.wires.event;
+    let told = Nibble::choose(circuit, passes, event, Nibble::of(0))?;
+    let frame = told_frame(circuit, alloc, wished)?;
+    let passive = is_passive(circuit, &counters.tec, &counters.rec)?;
+    let legal = is_legal(circuit, alloc, held)?;
+    let tec = Vec::from_slice(alloc, &counters.tec)?;
+    let rec = Vec::from_slice(alloc, &counters.rec)?;
+    Ok(OutputPorts {
+        drive: made.recessive,
+        told,
+        frame,
+        tec,
+        rec,
+        passive,
+        off: is_off(counters),
+        legal,
+    })
+}
+
+/// What the registers take: at a reset 0, but the first one whether the controller joins; else what a bit time makes, or where
+/// none passes what they hold.
+fn take(
+    circuit: &mut Circuit,
+    alloc: Global,
+    inputs: &InputPorts,
+    held: &[Literal],
+    next: &[Literal],
+) -> Result<Vec<Literal>, AllocError>
+    ensures { IfOk result (λ r. (length r.items ≡ length held.now) × Makes circuit.old circuit.new (λ v. (p : ℕ) → p < length held.now → value v (slice_index_or r.items p FALSE) ≡ taken_at (value v inputs.now.reset) (value v inputs.now.joins) (value v inputs.now.enable) p (value v (slice_index_or next.now p FALSE)) (value v (slice_index_or held.now p FALSE)))) }
+{
+    let passes = circuit.and(inputs.enable, inputs.reset.opposite())?;
+    let rests = circuit.and(inputs.enable.opposite(), inputs.reset.opposite())?;
+    let joins = circuit.and(inputs.reset, inputs.joins)?;
+    let taken = merge(circuit, alloc, passes, next, rests, held, joins)?;
+    Ok(taken)
+}
+
+/// The one level where a first test holds, the other one where a second does, at the first place a third, as many as the other
+/// ones.
+fn merge(
+    circuit: &mut Circuit,
+    alloc: Global,
+    passes: Literal,
+    next: &[Literal],
+    rests: Literal,
+    held: &[Literal],
+    joins: Literal,
+) -> Result<Vec<Literal>, AllocError>
+    ensures { IfOk result (λ r. (length r.items ≡ length held.now) × Makes circuit.old circuit.new (λ v. (p : ℕ) → p < length held.now → value v (slice_index_or r.items p FALSE) ≡ (((value v passes && value v (slice_index_or next.now p FALSE)) || (value v rests && value v (slice_index_or held.now p FALSE))) || (p == 0 && value v joins)))) }
+{
+    let mut all = Vec::new(alloc);
+    for place in 0..held.len() {
+        let new = circuit.and(passes, literal_at(next, place))?;
+        let old = circuit.and(rests, literal_at(held, place))?;
+        let either = circuit.or(new, old)?;
+        let taken = circuit.or(either, at_first(place, joins))?;
+        all.push(taken)?;
+    }
+    Ok(all)
+}
+
+/// A literal at the first place, and none at others.
+fn at_first(place: usize, literal: Literal) -> Literal
+    ensures { (v : ℕ → Bool) → v 0 ≡ false → value v result ≡ (place == 0 && value v literal) }
+{
+    if place == 0 {
+        return literal;
+    }
+    FALSE
+}
