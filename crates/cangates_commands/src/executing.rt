@@ -1,0 +1,73 @@
+//! What the program does, over any streams.
+ghost use Rattle.std.specs.Prelude.{◌≡◌, ◌⊎◌, ◌<◌, false, Option, Result, IsTrue};
+ghost use Rattle.std.specs.Io.KnownBytes.{Appends};
+ghost use Rattle.can_stream.specs.declared.fault.TraceFault.{TraceFault as Fault};
+ghost use Rattle.can_program.specs.Status.{exit_status, stream_status, TellsStreams};
+ghost use Rattle.can_program.specs.Words.{texts_of};
+ghost use Rattle.cangates_commands.specs.Files.{Does};
+ghost use Rattle.cangates_commands.specs.Words.{asked_by};
+
+use crate::file::file;
+use crate::help::{HELP, VERSION};
+use crate::words::{Asked, Form, read_words};
+use can_program::{WordsFault, conclude, refuse, write_help};
+use can_stream::{Sink, TraceFault, write_all};
+use std::alloc::Global;
+
+/// The program's name, before the line of a fault.
+pub const NAME: &str = "cangates";
+
+/// Does what the words ask, and answers the exit status. The first of the words is the program's name. The file, the text
+/// of help or the version goes to `w`, and the line of a fault to `e`.
+///
+/// | Status | Line | Why |
+/// |---|---|---|
+/// | 0 | none | all was done |
+/// | 2 | `cangates: usage` | the words are refused |
+/// | 3 | `cangates: P4 write` | `w` failed |
+/// | 4 | `cangates: P5 memory` | memory ran out |
+pub fn execute<W: Sink, E: Sink>(alloc: Global, words: &[String], w: &mut W, e: &mut E) -> u8
+    requires { W.has_failed w.old ≡ false }
+    ensures status { result < 5 }
+
+    // The file that is asked for is written.
+    ensures written { (form : Form) → asked_by (texts_of words.now) ≡ Option.Some (Asked.File form)
+        → (outcome : Result (Unit {0}) Fault) × (result ≡ exit_status stream_status outcome)
+        × Does form (W.contents w.old) (W.contents w.new) outcome }
+    ensures stream_failed { result ≡ 3 → IsTrue (W.has_failed w.new) }
+    ensures write_told { IsTrue (W.has_failed w.new) → result ≡ 3 }
+
+    // Help is written where the words ask for it, so is the version, and other words are refused.
+    ensures help_status { asked_by (texts_of words.now) ≡ Option.Some Asked.Help → (result ≡ 0) ⊎ (result ≡ 3) }
+    ensures helped { asked_by (texts_of words.now) ≡ Option.Some Asked.Help → result ≡ 0
+        → Appends (W.contents w.old) (W.contents w.new) HELP.now }
+    ensures version_status { asked_by (texts_of words.now) ≡ Option.Some Asked.Version → (result ≡ 0) ⊎ (result ≡ 3) }
+    ensures version_written { asked_by (texts_of words.now) ≡ Option.Some Asked.Version → result ≡ 0
+        → Appends (W.contents w.old) (W.contents w.new) VERSION.now }
+    ensures refused { asked_by (texts_of words.now) ≡ Option.None → result ≡ 2 }
+    ensures misuse { result ≡ 2 → asked_by (texts_of words.now) ≡ Option.None }
+
+    // Nothing else is written.
+    ensures untouched { result ≡ 2 → w.new ≡ w.old }
+    ensures no_fault_line { result ≡ 0 → e.new ≡ e.old }
+{
+    match read_words(words) {
+        Some(Asked::File(form)) => conclude(NAME, write_file(alloc, form, w), e),
+        Some(Asked::Help) => conclude(NAME, write_help(HELP, w), e),
+        Some(Asked::Version) => conclude(NAME, write_help(VERSION, w), e),
+        None => refuse(NAME, WordsFault::Usage, e),
+    }
+}
+
+/// Writes the file in this form.
+#[tactic(auto, using(crate::proofs::Written::written, crate::proofs::Written::unwritten))]
+fn write_file<W: Sink>(alloc: Global, form: Form, w: &mut W) -> Result<(), TraceFault>
+    requires { W.has_failed w.old ≡ false }
+    ensures does { Does form (W.contents w.old) (W.contents w.new) result }
+    ensures streams { TellsStreams false (W.has_failed w.new) (exit_status stream_status result) }
+{
+    match file(alloc, form) {
+        Ok(text) => write_all(w, text.as_slice()),
+        Err(_) => Err(TraceFault::Memory),
+    }
+}

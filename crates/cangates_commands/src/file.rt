@@ -1,0 +1,60 @@
+//! The files of the controller's circuit.
+ghost use Rattle.std.specs.Prelude.{◌≡◌, ◌≤◌, ◌++◌, [], length, IfOk, OnOk};
+ghost use Rattle.cangates_commands.specs.Files.{IsFile, text_in};
+
+use crate::names::NAMES;
+use crate::words::Form;
+use can_gates::{Circuit, Literal, Register};
+use can_gates_controller::controller_circuit;
+use can_gates_files::{push_ascii, push_binary, push_verilog};
+use std::alloc::{AllocError, Global};
+
+/// The text of the file in this form.
+pub(crate) fn file(alloc: Global, form: Form) -> Result<Vec<u8>, AllocError>
+    ensures { IfOk result (λ r. IsFile form r.items) }
+{
+    let design = controller_circuit(alloc)?;
+    let made = text(
+        alloc,
+        form,
+        &design.circuit,
+        &design.registers,
+        &design.listed,
+    )?;
+    Ok(made)
+}
+
+/// The text in this form of a circuit whose last inputs are what these registers hold.
+fn text(
+    alloc: Global,
+    form: Form,
+    circuit: &Circuit,
+    registers: &[Register],
+    outputs: &[Literal],
+) -> Result<Vec<u8>, AllocError>
+    requires { length registers.now ≤ circuit.now.inputs }
+    ensures { IfOk result (λ r. r.items ≡ text_in form circuit.now registers.now outputs.now) }
+{
+    let mut out = Vec::new(alloc);
+    push(alloc, &mut out, form, circuit, registers, outputs)?;
+    Ok(out)
+}
+
+/// Appends it.
+fn push(
+    alloc: Global,
+    out: &mut Vec<u8>,
+    form: Form,
+    circuit: &Circuit,
+    registers: &[Register],
+    outputs: &[Literal],
+) -> Result<(), AllocError>
+    requires { length registers.now ≤ circuit.now.inputs }
+    ensures { OnOk result (out.new.items ≡ out.old.items ++ text_in form circuit.now registers.now outputs.now) }
+{
+    match form {
+        Form::Verilog => push_verilog(alloc, out, &NAMES, circuit, registers, outputs),
+        Form::Ascii => push_ascii(alloc, out, &NAMES, circuit, registers, outputs),
+        Form::Binary => push_binary(alloc, out, &NAMES, circuit, registers, outputs),
+    }
+}

@@ -1,0 +1,62 @@
+//! What the words of a command line ask for.
+ghost use Rattle.std.specs.Prelude.{◌≡◌};
+ghost use Rattle.can_program.specs.Words.{texts_of};
+ghost use Rattle.cangates_commands.specs.Words.{asked_by, asked_word, asked_words};
+
+/// The form of a file.
+#[derive(Clone, Copy, Debug, PartialEq, Eq)]
+pub enum Form {
+    /// A module of Verilog-2001.
+    Verilog,
+    /// AIGER's ascii format.
+    Ascii,
+    /// AIGER's binary format.
+    Binary,
+}
+
+/// What is asked for.
+#[derive(Clone, Copy, Debug, PartialEq, Eq)]
+pub enum Asked {
+    /// The circuit, in this form.
+    File(Form),
+    /// The help text.
+    Help,
+    /// The program's name and its version.
+    Version,
+}
+
+/// What the words ask for, the first of which is the program's name: a file, the help text, also by an option behind a
+/// subcommand, or the version. Other words are no use of the program.
+pub fn read_words(words: &[String]) -> Option<Asked>
+    ensures { result ≡ asked_by (texts_of words.now) }
+{
+    match words {
+        [_, word] => read_word(word.as_str()),
+        [_, word, option] => read_option(word.as_str(), option.as_str()),
+        _ => None,
+    }
+}
+
+/// What one word asks for.
+fn read_word(word: &str) -> Option<Asked>
+    ensures { result ≡ asked_word word.now }
+{
+    match word {
+        "verilog" => Some(Asked::File(Form::Verilog)),
+        "aiger" => Some(Asked::File(Form::Ascii)),
+        "help" | "--help" | "-h" => Some(Asked::Help),
+        "--version" | "-V" => Some(Asked::Version),
+        _ => None,
+    }
+}
+
+/// What a subcommand and an option behind it ask for.
+fn read_option(word: &str, option: &str) -> Option<Asked>
+    ensures { result ≡ asked_words word.now option.now }
+{
+    match (word, option) {
+        ("aiger", "--binary") => Some(Asked::File(Form::Binary)),
+        ("verilog" | "aiger", "--help" | "-h") => Some(Asked::Help),
+        _ => None,
+    }
+}
