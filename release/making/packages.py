@@ -38,8 +38,9 @@ Suggests: python3-pytest, pkg-config, iverilog, verilator, ghdl
 Description: proved reference for classical CAN controllers
  canbit turns frames into levels, traces into frames and faults, and scenarios
  into what was on the bus; canhold judges controllers by a conformance kit;
- canplan tells how late the frames of a network can be. With
- a golden model for C, C++, Rust, Python, Verilog, SystemVerilog and VHDL.
+ canplan tells how late the frames of a network can be; cangates writes the
+ reference as a circuit, in Verilog and AIGER. With a golden model for C, C++,
+ Rust, Python, Verilog, SystemVerilog and VHDL.
 """
 
 

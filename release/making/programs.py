@@ -14,6 +14,7 @@ PROGRAMS = {
     "canbit": {"FORMATS": "the formats", "CODES": "every code that is printed"},
     "canhold": {"CONFORMANCE": "cases, transcripts and verdicts"},
     "canplan": {"PLANNING": "networks, their documents and answers", "CODES": "every code that is printed"},
+    "cangates": {"CIRCUIT": "the circuit, its files and what is proved of it", "CODES": "every code that is printed"},
 }
 _COMMAND = re.compile(r"  (\w[\w-]*) +(\S.*)")
 

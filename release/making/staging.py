@@ -6,6 +6,7 @@ import gzip
 import os
 import pathlib
 import shutil
+import subprocess
 from typing import NamedTuple
 
 from making import completions, links, man_pages
@@ -18,6 +19,8 @@ SONAME = f"libriddlesage.so.{VERSION.split('.')[0]}"
 BINDINGS = ("bindings/examples", "bindings/rust", "bindings/sv", "bindings/verilog", "bindings/vhdl")
 SHARED = ("conformance", "examples", *BINDINGS)
 OF_THE_REPOSITORY = ("check", "record", "mechanical", "mutants", "mistakes", "peers", "tests", ".clang-tidy")
+# The files of the controller's circuit, and the words by which cangates writes each.
+CIRCUIT = {"v": ["verilog"], "aag": ["aiger"], "aig": ["aiger", "--binary"]}
 LGPL = pathlib.Path("/usr/share/common-licenses/LGPL-2.1")
 DOCUMENTS = (":(glob)*.md", "docs", "bench/README.md", "bindings", "conformance", "examples", "page", "release")
 
@@ -66,6 +69,9 @@ def stage(root: pathlib.Path, layout: Layout, parts: Parts) -> None:
     for name in shared:
         copy(name, share / "riddlesage" / name)
     copy(PAGE, share / "riddlesage" / "riddlesage.html")
+    for end, words in CIRCUIT.items():
+        written = subprocess.run([parts.programs / "cangates", *words], check=True, stdout=subprocess.PIPE)
+        put(share / "riddlesage" / "circuit" / f"riddlesage_controller.{end}", written.stdout)
     documents = share / "doc" / "riddlesage"
     _documents(documents, set(shared))
     put(documents / "BUILT-FROM", parts.built_from)
