@@ -3,8 +3,7 @@
 //! A [`Circuit`] is a list of gates, each the and of two [`Literal`]s, as an AIGER file has them. An assignment, which gives
 //! each signal a value, keeps the circuit if signal 0 is false and each gate's signal is the and of its two sides. Whatever
 //! makes gates says what holds of its result in each assignment that keeps the circuit with them, as an equation over
-//! Booleans and numbers. Nothing is required of a literal: where
-//! none of a circuit's signals is its, an `Err` refuses it.
+//! Booleans and numbers. Nothing is required of a literal: one of a signal that a circuit doesn't have is refused by an `Err`.
 //!
 //! | File | What it has | Defined in |
 //! |---|---|---|
@@ -17,8 +16,8 @@
 //! | `select.rt` | the literal at a place that a number tells | `specs/Words.antt` |
 //! | `aiger.rt` | [`Register`], and the text of a circuit with registers and outputs in AIGER's ascii format; lines of numbers | `specs/Aiger.antt` |
 //!
-//! Words may be of any two lengths: past its end a word has [`FALSE`]. An `Err` says that memory ran out, or the
-//! numbers of signals, 2^32, or that a literal is of a higher signal than the circuit has. Behind it a circuit may have gates that nothing names.
+//! Words may be of any two lengths: past its end a word has [`FALSE`]. Any other `Err` says that memory ran out, or the numbers
+//! of signals, 2^32. Behind an `Err` a circuit may have gates that nothing names.
 //!
 //! A gate that would be made again is found by its sides in a map. What the map tells is looked at before it is used, so the
 //! laws need nothing of it; that equal gates are made once is tested (tests/rows).

@@ -1,5 +1,5 @@
 -- What a run of `cangates` writes: a file of a controller's circuit. (docs/CIRCUIT.md)
-use Rattle.std.specs.Prelude.{ℕ, ◌≡◌, List, Option, Result, Ok, Err}
+use Rattle.std.specs.Prelude.{ℕ, ◌≡◌, ◌≢◌, ◌<◌, Bool, IsTrue, List, Option, Result, Ok, Err}
 use Rattle.std.specs.Io.KnownBytes.{Appends, Keeps}
 use Rattle.can_gates.specs.declared.literal.Literal.{Literal}
 use Rattle.can_gates.specs.declared.aiger.Register.{Register}
@@ -38,3 +38,10 @@ Does form held holds (Ok done) = (text : List ℕ) × IsFile form text × Append
 Does form held holds (Err Write) = (text : List ℕ) × IsFile form text × TakesFront held holds text
 Does form held holds (Err Memory) = Keeps held holds
 Does form held holds (Err _) = ⊥
+
+-- the status tells a failure of the writer, and tells nothing else so; and it blames no words
+pub record TellsWriter (failed : Bool) (status : ℕ) : Type 0 where
+  pub write_failed : status ≡ 3 → IsTrue failed
+  pub write_told : IsTrue failed → status ≡ 3
+  pub no_misuse : status ≢ 2
+  pub known : status < 5

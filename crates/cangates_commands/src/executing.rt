@@ -2,9 +2,9 @@
 ghost use Rattle.std.specs.Prelude.{◌≡◌, ◌⊎◌, ◌<◌, false, Option, Result, IsTrue};
 ghost use Rattle.std.specs.Io.KnownBytes.{Appends};
 ghost use Rattle.can_stream.specs.declared.fault.TraceFault.{TraceFault as Fault};
-ghost use Rattle.can_program.specs.Status.{exit_status, stream_status, TellsStreams};
+ghost use Rattle.can_program.specs.Status.{exit_status, stream_status};
 ghost use Rattle.can_program.specs.Words.{texts_of};
-ghost use Rattle.cangates_commands.specs.Files.{Does};
+ghost use Rattle.cangates_commands.specs.Files.{Does, TellsWriter};
 ghost use Rattle.cangates_commands.specs.Words.{asked_by};
 
 use crate::file::file;
@@ -34,7 +34,7 @@ pub fn execute<W: Sink, E: Sink>(alloc: Global, words: &[String], w: &mut W, e: 
     ensures written { (form : Form) → asked_by (texts_of words.now) ≡ Option.Some (Asked.File form)
         → (outcome : Result (Unit {0}) Fault) × (result ≡ exit_status stream_status outcome)
         × Does form (W.contents w.old) (W.contents w.new) outcome }
-    ensures stream_failed { result ≡ 3 → IsTrue (W.has_failed w.new) }
+    ensures write_failed { result ≡ 3 → IsTrue (W.has_failed w.new) }
     ensures write_told { IsTrue (W.has_failed w.new) → result ≡ 3 }
 
     // Help is written where the words ask for it, so is the version, and other words are refused.
@@ -60,11 +60,11 @@ pub fn execute<W: Sink, E: Sink>(alloc: Global, words: &[String], w: &mut W, e: 
 }
 
 /// Writes the file in this form.
-#[tactic(auto, using(crate::proofs::Written::written, crate::proofs::Written::unwritten))]
+#[tactic(auto, using(crate::proofs::Written::written, crate::proofs::Written::unwritten, crate::proofs::Written::told, crate::proofs::Written::untold))]
 fn write_file<W: Sink>(alloc: Global, form: Form, w: &mut W) -> Result<(), TraceFault>
     requires { W.has_failed w.old ≡ false }
     ensures does { Does form (W.contents w.old) (W.contents w.new) result }
-    ensures streams { TellsStreams false (W.has_failed w.new) (exit_status stream_status result) }
+    ensures streams { TellsWriter (W.has_failed w.new) (exit_status stream_status result) }
 {
     match file(alloc, form) {
         Ok(text) => write_all(w, text.as_slice()),
