@@ -1,0 +1,97 @@
+"""The circuit that designs are held against, read from its Verilog: words, gates, outputs, and what registers take.
+
+Three forms of line say all of it: `wire n3 = n1 & ~n2;` (or a name in place of the gate), `assign told[0] = n7;`, and
+`phase[0] <= n9;`.
+"""
+
+from __future__ import annotations
+
+import re
+from dataclasses import dataclass, field
+
+from holding.faults import Fault
+
+MODULE = "riddlesage_controller"
+DECLARED = re.compile(r"\s*(input|output|reg)(?: \[(\d+):0\])? (\w+)[;,]?")
+GATE = re.compile(r"\s*wire n(\d+) = (~?)n(\d+) & (~?)n(\d+);")
+NAME = re.compile(r"\s*wire n(\d+) = (?:1'b(0)|(\w+)(?:\[(\d+)\])?);")
+OUTPUT = re.compile(r"\s*assign (\w+)(?:\[(\d+)\])? = (~?)n(\d+);")
+TAKES = re.compile(r"\s*(\w+)(?:\[(\d+)\])? <= (~?)n(\d+);")
+OTHER = re.compile(r"\s*(module \w+ \(|\);|always @\(posedge clock\) begin|end|endmodule|//.*)?")
+Bit = tuple[str, int]
+Literal = tuple[int, bool]
+
+
+@dataclass
+class Circuit:
+    """What the text says, by the numbers of signals."""
+
+    text: str
+    widths: dict[str, dict[str, int]] = field(default_factory=lambda: {"input": {}, "output": {}, "reg": {}})
+    gates: dict[int, tuple[Literal, Literal]] = field(default_factory=dict)
+    names: dict[int, Bit] = field(default_factory=dict)
+    outputs: dict[Bit, Literal] = field(default_factory=dict)
+    takes: dict[Bit, Literal] = field(default_factory=dict)
+
+    @property
+    def inputs(self) -> dict[str, int]:
+        """Its inputs' widths, the clock left out."""
+        return {name: width for name, width in self.widths["input"].items() if name != "clock"}
+
+    @property
+    def words(self) -> dict[str, int]:
+        """The widths of what a relation can name."""
+        return {**self.widths["reg"], **self.widths["output"], **self.inputs}
+
+    @property
+    def stub(self) -> str:
+        """Its head alone, for a tool that needs to know its ports."""
+        kinds = (("input", self.widths["input"]), ("output", self.widths["output"]))
+        ports = [f"{kind} [{width - 1}:0] {name}" for kind, words in kinds for name, width in words.items()]
+        return f"(* blackbox, keep *) module {MODULE} ({', '.join(ports)}); endmodule\n"
+
+
+def literal(sign: str, number: str) -> Literal:
+    """A literal by its sign and its signal."""
+    return int(number), sign == "~"
+
+
+def take_line(circuit: Circuit, line: str) -> bool:
+    """Takes a line, and tells whether it has one of the forms."""
+    if found := GATE.fullmatch(line):
+        circuit.gates[int(found[1])] = (literal(found[2], found[3]), literal(found[4], found[5]))
+    elif found := NAME.fullmatch(line):
+        if found[3]:
+            circuit.names[int(found[1])] = (found[3], int(found[4] or 0))
+    elif found := OUTPUT.fullmatch(line):
+        circuit.outputs[found[1], int(found[2] or 0)] = literal(found[3], found[4])
+    elif found := TAKES.fullmatch(line):
+        circuit.takes[found[1], int(found[2] or 0)] = literal(found[3], found[4])
+    elif found := DECLARED.fullmatch(line):
+        circuit.widths[found[1]][found[3]] = int(found[2] or 0) + 1
+    else:
+        return OTHER.fullmatch(line) is not None
+    return True
+
+
+def bits(words: dict[str, int]) -> set[Bit]:
+    """All places of some words."""
+    return {(name, place) for name, width in words.items() for place in range(width)}
+
+
+def read_circuit(text: str, path: str) -> Circuit:
+    """The circuit of a text. Raises Fault where a line has another form, or what it reads isn't there."""
+    circuit = Circuit(text)
+    for number, line in enumerate(text.splitlines(), 1):
+        if not take_line(circuit, line):
+            raise Fault(f"{path}: line {number} is none of the circuit's: {line.strip()}")
+    signals = {0, *circuit.names, *circuit.gates}
+    read = {side for sides in circuit.gates.values() for side in sides}
+    read |= {*circuit.outputs.values(), *circuit.takes.values()}
+    is_whole = {signal for signal, _ in read} <= signals
+    is_whole &= set(circuit.outputs) == bits(circuit.widths["output"])
+    is_whole &= set(circuit.takes) == bits(circuit.widths["reg"])
+    is_whole &= set(circuit.names.values()) == bits(circuit.inputs) | bits(circuit.widths["reg"])
+    if not is_whole or f"module {MODULE} (" not in text or "legal" not in circuit.widths["output"]:
+        raise Fault(f"{path}: this is no whole circuit of {MODULE}")
+    return circuit

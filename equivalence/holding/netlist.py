@@ -1,0 +1,211 @@
+"""Both controllers and their relation as one netlist of and gates and registers, and its bit times."""
+
+from __future__ import annotations
+
+from collections.abc import Callable, Iterable, Mapping
+from typing import Union
+
+from holding.circuit import MODULE, Circuit
+from holding.faults import Fault
+from holding.gates import FALSE, TRUE, Gates
+from holding.relation import Relation
+
+Key = Union[int, str]  # a bit of a netlist: yosys's number, or a name for one that yosys hasn't seen
+Side = tuple[Key, bool]  # with whether it is negated
+PLANTED = "planted"
+CLOCK = "clock"
+
+# what a cell makes of its pins S, A and B
+KINDS: dict[str, Callable[..., int]] = {
+    "$_BUF_": lambda gates, a: a,
+    "$_NOT_": lambda gates, a: a ^ 1,
+    "$_AND_": Gates.both,
+    "$_OR_": Gates.either,
+    "$_XOR_": Gates.differ,
+    "$_XNOR_": lambda gates, a, b: gates.differ(a, b) ^ 1,
+    "$_MUX_": lambda gates, test, a, b: gates.choose(test, b, a),
+}
+
+
+def hierarchical(name: str, net: dict) -> str | None:
+    """A net's name with its instances, parted by dots; None where it is none of the text's."""
+    if net.get("hide_name"):
+        return None
+    return net["attributes"].get("hdlname", name.replace(" ", "_")).replace(" ", ".")
+
+
+def design_words(module: dict) -> dict[str, dict]:
+    """The nets of the design's instance."""
+    nets = {hierarchical(name, net): net for name, net in module["netnames"].items() if "hdlname" in net["attributes"]}
+    return {name: net for name, net in nets.items() if name and name.startswith("dut.")}
+
+
+def declared_range(net: dict) -> str:
+    """A net's sign and range, as they are declared."""
+    low, width = net.get("offset", 0), len(net["bits"])
+    ends = (low, low + width - 1) if net.get("upto") else (low + width - 1, low)
+    return f"{'signed ' if net.get('signed') else ''}[{ends[0]}:{ends[1]}]"
+
+
+class Netlist:
+    """What drives each bit, what each register takes, and the names of bits."""
+
+    def __init__(self, module: dict, circuit: Circuit, relation: Relation) -> None:
+        self.drivers: dict[Key, tuple[str, list[Side]]] = {}  # a kind of KINDS, and what it reads
+        self.registers: dict[Key, Side] = {}
+        self.unknown = 0
+        self.circuit = circuit
+        ports = module["ports"]
+        self.inputs = {name: self.keys(it["bits"]) for name, it in ports.items() if it["direction"] == "input"}
+        self.parts = {name: self.keys(it["bits"]) for name, it in ports.items() if it["direction"] == "output"}
+        self.words = {f"gates.{name}": self.circuit_word(name, width) for name, width in circuit.words.items()}
+        self.words |= {name: self.keys(net["bits"]) for name, net in design_words(module).items()}
+        self.named: dict[Key, str] = {}  # bits of the words that the relation names, and of its own registers
+        for name, net in module["netnames"].items():
+            said = hierarchical(name, net)
+            if said in relation.names:
+                if "hdlname" not in net["attributes"]:
+                    self.join(net["bits"], self.words[said])
+                    self.named |= dict.fromkeys(net["bits"], said)
+            elif said and "hdlname" not in net["attributes"]:
+                self.words.setdefault(said, self.keys(net["bits"]))
+        self.take_circuit()
+        for name, cell in module["cells"].items():
+            self.take_cell(name, cell["type"], cell["connections"])
+        for name, keys in self.words.items():
+            if not name.startswith(("gates.", "dut.")):
+                self.named.update({key: name for key in keys if key in self.registers and key not in self.named})
+
+    def named_by(self, part: str) -> list[str]:
+        """The words that a part of the relation names, and the relation's own registers."""
+        seen: set[Key] = set()
+        waiting = list(self.parts[part])
+        while waiting:
+            key = waiting.pop()
+            if key not in seen and key not in self.named and key in self.drivers:
+                waiting += [side for side, _ in self.drivers[key][1]]
+            seen.add(key)
+        return sorted({self.named[key] for key in seen if key in self.named})
+
+    def left_out(self, outputs: Iterable[str]) -> list[str]:
+        """Those of the circuit's outputs that no part of the relation depends on."""
+        seen: set[Key] = set()
+        waiting = [key for keys in self.parts.values() for key in keys]
+        while waiting:
+            key = waiting.pop()
+            if key in seen:
+                continue
+            seen.add(key)
+            name = self.named.get(key, "")
+            if key in self.registers and not name.startswith(("gates.", "dut.")):
+                waiting.append(self.registers[key][0])
+            elif not name and key in self.drivers:
+                waiting += [side for side, _ in self.drivers[key][1]]
+        named = {self.named[key] for key in seen if key in self.named}
+        return [name for name in outputs if f"gates.{name}" not in named]
+
+    def keys(self, bits: Iterable[Key]) -> list[Key]:
+        """Bits as yosys writes them; each one that it doesn't know is another one."""
+        made: list[Key] = []
+        for bit in bits:
+            if bit in ("x", "z"):
+                self.unknown += 1
+                bit = f"x{self.unknown}"
+            made.append(bit)
+        return made
+
+    def join(self, bits: Iterable[Key], keys: Iterable[Key]) -> None:
+        """The first are the second."""
+        for bit, key in zip(bits, keys):
+            self.drivers[bit] = ("$_BUF_", [(key, False)])
+
+    def circuit_word(self, name: str, width: int) -> list[Key]:
+        """The keys of a word of the circuit."""
+        return [f"{name}[{place}]" for place in range(width)]
+
+    def take_circuit(self) -> None:
+        """The circuit's gates, its outputs and what its registers take."""
+
+        def key(side: tuple[int, bool]) -> Side:
+            if side[0] == 0:
+                return "0", side[1]
+            name = self.circuit.names.get(side[0])
+            return (f"{name[0]}[{name[1]}]" if name else f"n{side[0]}"), side[1]
+
+        for signal, (a, b) in self.circuit.gates.items():
+            self.drivers[f"n{signal}"] = ("$_AND_", [key(a), key(b)])
+        for (name, place), side in self.circuit.outputs.items():
+            self.drivers[f"{name}[{place}]"] = ("$_BUF_", [key(side)])
+        for (name, place), side in self.circuit.takes.items():
+            self.registers[f"{name}[{place}]"] = key(side)
+
+    def take_cell(self, name: str, kind: str, pins: dict[str, list[Key]]) -> None:
+        """One cell. Raises Fault for what a bit time can't be made of."""
+        if kind == MODULE:
+            self.take_instance(pins)
+        elif kind in KINDS:
+            read = [bit for pin in "SAB" for bit in self.keys(pins.get(pin, []))]
+            self.drivers[pins["Y"][0]] = (kind, [(key, False) for key in read])
+        elif kind == "$_DFF_P_":
+            if pins["C"] != self.inputs.get(CLOCK):
+                raise Fault(f"{name}: a register has another clock than the relation's input {CLOCK}")
+            (taken,) = self.keys(pins["D"])
+            self.registers[pins["Q"][0]] = (taken, False)
+        else:
+            raise Fault(f"{name}: {kind} is neither a gate nor a register with the rising edge of {CLOCK}")
+
+    def take_instance(self, pins: dict[str, list[Key]]) -> None:
+        """The circuit's connections."""
+        for name, width in self.circuit.inputs.items():
+            if len(pins.get(name, [])) != width:
+                raise Fault(f"the relation connects no {width} bits to gates.{name}")
+            self.join(self.circuit_word(name, width), self.keys(pins[name]))
+        if pins.get(CLOCK) != self.inputs.get(CLOCK):
+            raise Fault(f"the relation connects another clock to gates.{CLOCK} than its input {CLOCK}")
+        for name, width in self.circuit.widths["output"].items():
+            self.join(pins.get(name, []), self.circuit_word(name, width))
+
+
+class BitTime:
+    """One bit time: what its registers hold is given, or free; so are its inputs."""
+
+    def __init__(self, gates: Gates, netlist: Netlist, given: Mapping[Key, int]) -> None:
+        self.gates, self.netlist = gates, netlist
+        self.literals: dict[Key, int] = {"0": FALSE, "1": TRUE, **given}
+
+    def literal(self, key: Key) -> int:
+        """What a bit is. Raises Fault where it is driven by itself."""
+        waiting, open_keys = [key], set()
+        while waiting:
+            at = waiting[-1]
+            if at in self.literals:
+                waiting.pop()
+                continue
+            if at not in self.netlist.drivers:
+                self.literals[at] = self.gates.fresh()
+                continue
+            kind, sides = self.netlist.drivers[at]
+            missing = [side for side, _ in sides if side not in self.literals]
+            if not missing:
+                read = [self.literals[side] ^ negated for side, negated in sides]
+                self.literals[at] = KINDS[kind](self.gates, *read)
+            elif at in open_keys:
+                raise Fault("a bit is driven by itself: a loop without a register")
+            else:
+                open_keys.add(at)
+                waiting += missing
+        return self.literals[key]
+
+    def word(self, name: str) -> list[int]:
+        """The literals of a word."""
+        return [self.literal(key) for key in self.netlist.words[name]]
+
+    def all(self, prefix: str) -> int:
+        """Whether all parts with this prefix hold."""
+        parts = self.netlist.parts
+        return self.gates.all(*(self.literal(parts[name][0]) for name in parts if name.startswith(prefix)))
+
+    def next(self) -> BitTime:
+        """The bit time behind this one."""
+        taken = {held: self.literal(key) ^ negated for held, (key, negated) in self.netlist.registers.items()}
+        return BitTime(self.gates, self.netlist, taken)

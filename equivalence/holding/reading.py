@@ -1,0 +1,93 @@
+"""How yosys reads a design together with its relation, and plants a mistake in it."""
+
+from __future__ import annotations
+
+import pathlib
+from collections.abc import Sequence
+from dataclasses import dataclass
+
+from holding.circuit import Circuit
+from holding.faults import Fault
+from holding.netlist import PLANTED, Netlist, declared_range, design_words
+from holding.relation import Relation
+from holding.tools import ran_yosys, read_netlist
+
+MISTAKES = 7
+WIDEST = "[127:0]"  # any will do to find the names
+
+
+@dataclass
+class Design:
+    """The files of a design in Verilog, with what is defined for them."""
+
+    files: Sequence[str]
+    folders: Sequence[str]
+    defines: Sequence[str]
+
+    def reading(self, room: pathlib.Path) -> str:
+        """The command by which yosys reads them. It takes no blanks in the names of folders: these get links."""
+        words = ["-sv"] if any(it.endswith(".sv") for it in self.files) else []
+        for number, folder in enumerate(self.folders):
+            link = room / f"included-{number}"
+            if not link.is_symlink():
+                link.symlink_to(folder)
+            words.append(f"-I{link.name}")
+        words += [f"-D{define}" for define in self.defines]
+        return " ".join(["read_verilog", *words, *(f'"{it}"' for it in self.files)])
+
+
+def flattened(
+    design: Design, circuit: Circuit, relation: Relation, ranges: dict[str, str], room: pathlib.Path
+) -> list[str]:
+    """The commands that read all of it as one module."""
+    (room / "stub.v").write_text(circuit.stub)
+    (room / "relation.v").write_text(relation.declaring(ranges))
+    return [
+        f'read_verilog stub.v',
+        design.reading(room),
+        f'read_verilog relation.v',
+        f"hierarchy -check -top {relation.module}",
+        "proc",
+        "flatten",
+    ]
+
+
+def named_ranges(design: Design, circuit: Circuit, relation: Relation, room: pathlib.Path) -> dict[str, str]:
+    """The ranges of the words that a relation names. Raises Fault for one that isn't there."""
+    wide = dict.fromkeys(relation.names, WIDEST)
+    script = flattened(design, circuit, relation, wide, room)
+    ran_yosys([*script, "write_json names.json"], room)
+    nets = design_words(read_netlist(room / "names.json", relation.module))
+    ranges = {f"gates.{name}": f"[{width - 1}:0]" for name, width in circuit.words.items()}
+    ranges |= {name: declared_range(net) for name, net in nets.items()}
+    gone = [name for name in relation.names if name not in ranges]
+    if gone:
+        raise Fault(f"{relation.path}: it names what is not there: {' '.join(gone)}")
+    return {name: ranges[name] for name in relation.names}
+
+
+def read_both(
+    design: Design, circuit: Circuit, relation: Relation, room: pathlib.Path, smoke: bool = False
+) -> Netlist:
+    """All of it as a netlist; its input `planted` is the number of a mistake in the design, or 0."""
+    ranges = named_ranges(design, circuit, relation, room)
+    script = flattened(design, circuit, relation, ranges, room)
+    script += ["setattr -set keep 1 w:*", "async2sync", "memory", "dffunmap"]
+    script += planting(relation, smoke)
+    script += ["opt_expr", "opt_merge", "opt_clean", "techmap", "dffunmap", "opt_clean", "write_json netlist.json"]
+    ran_yosys(script, room)
+    return Netlist(read_netlist(room / "netlist.json", relation.module), circuit, relation)
+
+
+def planting(relation: Relation, smoke: bool) -> list[str]:
+    """The commands that plant mistakes: each inverts a bit that a register of the design takes.
+
+    Without `smoke` it is a register that the relation names, else one on which a named word depends.
+    """
+    nets = " ".join(f"a:hdlname={name.replace('.', '?')}" for name in relation.names if name.startswith("dut."))
+    behind = "%ci*" if smoke else "%ci1"
+    return [
+        f"select -set registers {nets or 'a:none'} {behind} t:$dff %i a:hdlname=dut* %ci1 t:$dff %i %i",
+        f"mutate -list {MISTAKES} -mode inv -port \\D -ctrl {PLANTED} {MISTAKES.bit_length()} 1 -o plant.ys @registers",
+        "script plant.ys",
+    ]

@@ -1,0 +1,54 @@
+"""Bit times as a VCD: ten units each, with the clock's rising edge at the beginning of each."""
+
+from __future__ import annotations
+
+import string
+from collections.abc import Iterator
+
+from holding.asking import Found
+from holding.netlist import CLOCK
+
+DIGITS = string.ascii_letters + string.digits
+
+
+def identifier(number: int) -> str:
+    """A short name for a variable."""
+    text = ""
+    while number or not text:
+        number, digit = divmod(number, len(DIGITS))
+        text += DIGITS[digit]
+    return text
+
+
+def scopes(words: dict[str, int]) -> Iterator[str]:
+    """The declarations of these words with their widths, in the scopes of their instances."""
+    within: list[str] = []
+    for number, name in enumerate(words):
+        *wanted, last = name.split(".")
+        while within != wanted[: len(within)]:
+            within.pop()
+            yield "$upscope $end"
+        for scope in wanted[len(within) :]:
+            within.append(scope)
+            yield f"$scope module {scope} $end"
+        yield f"$var wire {words[name]} {identifier(number)} {last} $end"
+    yield from ["$upscope $end"] * len(within)
+
+
+def waves(found: Found) -> str:
+    """The bit times of what was found."""
+    names = found.bit_times[0].netlist.words
+    words = {name: len(names[name]) for name in sorted(names, key=lambda name: name.split(".")) if name != CLOCK}
+    clock = identifier(len(words))
+    lines = ["$comment a unit is a tenth of a bit time $end", "$timescale 1 ns $end", "$scope module held $end"]
+    lines += [*scopes(words), f"$var wire 1 {clock} {CLOCK} $end", "$upscope $end", "$enddefinitions $end"]
+    before: dict[str, str] = {}
+    for at in range(len(found.bit_times)):
+        lines += [f"#{10 * at}", f"1{clock}"]
+        for number, (name, width) in enumerate(words.items()):
+            value = f"b{found.number(at, name):0{width}b} {identifier(number)}"
+            if before.get(name) != value:
+                lines.append(value)
+            before[name] = value
+        lines += [f"#{10 * at + 5}", f"0{clock}"]
+    return "\n".join([*lines, f"#{10 * len(found.bit_times)}", ""])
