@@ -25,6 +25,7 @@ KINDS: dict[str, Callable[..., int]] = {
     "$_XNOR_": lambda gates, a, b: gates.differ(a, b) ^ 1,
     "$_MUX_": lambda gates, test, a, b: gates.choose(test, b, a),
 }
+LATCHES = {"$_DLATCH_P_": False, "$_DLATCH_N_": True}  # with whether they are open at 0
 
 
 def hierarchical(name: str, net: dict) -> str | None:
@@ -146,6 +147,10 @@ class Netlist:
         elif kind in KINDS:
             read = [bit for pin in "SAB" for bit in self.keys(pins.get(pin, []))]
             self.drivers[pins["Y"][0]] = (kind, [(key, False) for key in read])
+        elif kind in LATCHES:
+            # what a latch holds counts as any level
+            sides = self.keys([pins["E"][0], "x", pins["D"][0]])
+            self.drivers[pins["Q"][0]] = ("$_MUX_", [(sides[0], LATCHES[kind]), (sides[1], False), (sides[2], False)])
         elif kind == "$_DFF_P_":
             if pins["C"] != self.inputs.get(CLOCK):
                 raise Fault(f"{name}: a register has another clock than the relation's input {CLOCK}")

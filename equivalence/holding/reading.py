@@ -13,6 +13,7 @@ from holding.relation import Relation
 from holding.tools import ran_yosys, read_netlist
 
 MISTAKES = 7
+FIELDS = pathlib.Path(__file__).resolve().parent.parent / "fields.v"
 WIDEST = "[127:0]"  # any will do to find the names
 
 
@@ -43,7 +44,7 @@ def flattened(
     (room / "stub.v").write_text(circuit.stub)
     (room / "relation.v").write_text(relation.declaring(ranges))
     return [
-        f'read_verilog stub.v',
+        f'read_verilog stub.v "{FIELDS}"',
         design.reading(room),
         f'read_verilog relation.v',
         f"hierarchy -check -top {relation.module}",
@@ -72,7 +73,7 @@ def read_both(
     """All of it as a netlist; its input `planted` is the number of a mistake in the design, or 0."""
     ranges = named_ranges(design, circuit, relation, room)
     script = flattened(design, circuit, relation, ranges, room)
-    script += ["setattr -set keep 1 w:*", "async2sync", "memory", "dffunmap"]
+    script += ["setattr -set keep 1 w:*", "async2sync t:* t:$dlatch %d", "memory", "dffunmap"]
     script += planting(relation, smoke)
     script += ["opt_expr", "opt_merge", "opt_clean", "techmap", "dffunmap", "opt_clean", "write_json netlist.json"]
     ran_yosys(script, room)
@@ -85,9 +86,11 @@ def planting(relation: Relation, smoke: bool) -> list[str]:
     Without `smoke` it is a register that the relation names, else one on which a named word depends.
     """
     nets = " ".join(f"a:hdlname={name.replace('.', '?')}" for name in relation.names if name.startswith("dut."))
-    behind = "%ci*" if smoke else "%ci1"
+    behind = "%ci*" if smoke else "%ci3"
     return [
-        f"select -set registers {nets or 'a:none'} {behind} t:$dff %i a:hdlname=dut* %ci1 t:$dff %i %i",
+        f"select -set named {nets or 'a:none'}",
+        "select -set words a:hdlname=dut*",
+        f"select -set registers @named {behind} @words %ci3 %i t:$dff %i",
         f"mutate -list {MISTAKES} -mode inv -port \\D -ctrl {PLANTED} {MISTAKES.bit_length()} 1 -o plant.ys @registers",
         "script plant.ys",
     ]
