@@ -12,12 +12,13 @@ from dataclasses import dataclass, field
 from holding.faults import Fault
 
 MODULE = "riddlesage_controller"
-DECLARED = re.compile(r"\s*(input|output|reg)(?: \[(\d+):0\])? (\w+)[;,]?")
-GATE = re.compile(r"\s*wire n(\d+) = (~?)n(\d+) & (~?)n(\d+);")
-NAME = re.compile(r"\s*wire n(\d+) = (?:1'b(0)|(\w+)(?:\[(\d+)\])?);")
-OUTPUT = re.compile(r"\s*assign (\w+)(?:\[(\d+)\])? = (~?)n(\d+);")
-TAKES = re.compile(r"\s*(\w+)(?:\[(\d+)\])? <= (~?)n(\d+);")
-OTHER = re.compile(r"\s*(module \w+ \(|\);|always @\(posedge clock\) begin|end|endmodule|//.*)?")
+COMMENT = re.compile(r"//.*")
+DECLARED = re.compile(r"(input|output|reg)(?: \[(\d+):0\])? (\w+);")
+GATE = re.compile(r"wire n(\d+) = (~?)n(\d+) & (~?)n(\d+);")
+NAME = re.compile(r"wire n(\d+) = (?:1'b(0)|(\w+)(?:\[(\d+)\])?);")
+OUTPUT = re.compile(r"assign (\w+)(?:\[(\d+)\])? = (~?)n(\d+);")
+TAKES = re.compile(r"(\w+)(?:\[(\d+)\])? <= (~?)n(\d+);")
+OTHER = re.compile(rf"(module {MODULE}\(\w+(, \w+)*\);|always @\(posedge clock\) begin|end|endmodule)?")
 Bit = tuple[str, int]
 Literal = tuple[int, bool]
 
@@ -26,7 +27,6 @@ Literal = tuple[int, bool]
 class Circuit:
     """What the text says, by the numbers of signals."""
 
-    text: str
     widths: dict[str, dict[str, int]] = field(default_factory=lambda: {"input": {}, "output": {}, "reg": {}})
     gates: dict[int, tuple[Literal, Literal]] = field(default_factory=dict)
     names: dict[int, Bit] = field(default_factory=dict)
@@ -81,9 +81,9 @@ def bits(words: dict[str, int]) -> set[Bit]:
 
 def read_circuit(text: str, path: str) -> Circuit:
     """The circuit of a text. Raises Fault where a line has another form, or what it reads isn't there."""
-    circuit = Circuit(text)
+    circuit = Circuit()
     for number, line in enumerate(text.splitlines(), 1):
-        if not take_line(circuit, line):
+        if not take_line(circuit, COMMENT.sub("", line).strip()):
             raise Fault(f"{path}: line {number} is none of the circuit's: {line.strip()}")
     signals = {0, *circuit.names, *circuit.gates}
     read = {side for sides in circuit.gates.values() for side in sides}
@@ -92,6 +92,6 @@ def read_circuit(text: str, path: str) -> Circuit:
     is_whole &= set(circuit.outputs) == bits(circuit.widths["output"])
     is_whole &= set(circuit.takes) == bits(circuit.widths["reg"])
     is_whole &= set(circuit.names.values()) == bits(circuit.inputs) | bits(circuit.widths["reg"])
-    if not is_whole or f"module {MODULE} (" not in text or "legal" not in circuit.widths["output"]:
+    if not is_whole or "clock" not in circuit.widths["input"] or "legal" not in circuit.widths["output"]:
         raise Fault(f"{path}: this is no whole circuit of {MODULE}")
     return circuit

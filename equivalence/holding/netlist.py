@@ -29,10 +29,14 @@ LATCHES = {"$_DLATCH_P_": False, "$_DLATCH_N_": True}  # with whether they are o
 
 
 def hierarchical(name: str, net: dict) -> str | None:
-    """A net's name with its instances, parted by dots; None where it is none of the text's."""
-    if net.get("hide_name"):
+    """A net's name with its instances, parted by dots; None where it is none of the text's.
+
+    A name with a dot of its own is what yosys makes of a hierarchical one, and is driven by nothing.
+    """
+    parts = net["attributes"].get("hdlname", name).split(" ")
+    if net.get("hide_name") or len(parts) > 1 and any("." in part for part in parts):
         return None
-    return net["attributes"].get("hdlname", name.replace(" ", "_")).replace(" ", ".")
+    return ".".join(parts)
 
 
 def design_words(module: dict) -> dict[str, dict]:
@@ -119,6 +123,11 @@ class Netlist:
         """The first are the second."""
         for bit, key in zip(bits, keys):
             self.drivers[bit] = ("$_BUF_", [(key, False)])
+
+    def fix(self, word: str, number: int) -> None:
+        """A word that nothing drives is this number from now on."""
+        for place, key in enumerate(self.words[word]):
+            self.drivers[key] = ("$_BUF_", [(str(number >> place & 1), False)])
 
     def circuit_word(self, name: str, width: int) -> list[Key]:
         """The keys of a word of the circuit."""

@@ -2,8 +2,7 @@
 
 from __future__ import annotations
 
-import textwrap
-from collections.abc import Iterator, Sequence
+from collections.abc import Iterator
 
 from peer.graph import Graph, Port
 
@@ -14,9 +13,9 @@ def bits(port: Port) -> list[str]:
 
 
 def declared(kind: str, port: Port) -> str:
-    """A word as it is declared."""
+    """A word as it is declared, with its meaning."""
     width = "" if len(port.word) == 1 else f" [{len(port.word) - 1}:0]"
-    return f"{kind}{width} {port.name}"
+    return f"{kind}{width} {port.name}; // {port.meaning}"
 
 
 def value(literal: int) -> str:
@@ -24,39 +23,30 @@ def value(literal: int) -> str:
     return f"{'~' if literal & 1 else ''}n{literal >> 1}"
 
 
-def meanings(ports: Sequence[Port]) -> list[str]:
-    """A line of comment for each word."""
-    return [f"//   {port.name}: {port.meaning}" for port in ports]
-
-
-def lines_of(graph: Graph) -> Iterator[str]:
-    """The lines of a module behind its head."""
-    yield "    wire n0 = 1'b0;"
+def statements(graph: Graph) -> Iterator[str]:
+    """The lines of a module behind its declarations."""
+    yield "wire n0 = 1'b0;"
     for port in [*graph.inputs, *graph.registers]:
         for name, literal in zip(bits(port), port.word):
-            yield f"    wire {value(literal)} = {name};"
+            yield f"wire {value(literal)} = {name};"
     for signal, (a, b) in graph.gates.items():
-        yield f"    wire n{signal} = {value(a)} & {value(b)};"
+        yield f"wire n{signal} = {value(a)} & {value(b)};"
     for port in graph.outputs:
         for name, literal in zip(bits(port), port.word):
-            yield f"    assign {name} = {value(literal)};"
-    yield "    always @(posedge clock) begin"
+            yield f"assign {name} = {value(literal)};"
+    yield "always @(posedge clock) begin"
     for port in graph.registers:
         for name, literal in zip(bits(port), port.word):
-            yield f"        {name} <= {value(graph.takes[literal])};"
-    yield "    end"
+            yield f"{name} <= {value(graph.takes[literal])};"
+    yield "end"
     yield "endmodule"
 
 
-def written(graph: Graph, module: str, head: str) -> str:
-    """A circuit as a module of Verilog, with what it is as its first comment."""
-    ports = ["    input clock"]
-    ports += [f"    {declared('input', port)}" for port in graph.inputs]
-    ports += [f"    {declared('output', port)}" for port in graph.outputs]
-    lines = [f"// {line}" for line in textwrap.wrap(head, 110)]
-    lines += ["//", "// Inputs:", *meanings(graph.inputs)]
-    lines += ["// Outputs:", *meanings(graph.outputs)]
-    lines += ["// Registers:", *meanings(graph.registers)]
-    lines += [f"module {module} (", ",\n".join(ports), ");"]
-    lines += [f"    {declared('reg', port)};" for port in graph.registers]
-    return "\n".join([*lines, *lines_of(graph)]) + "\n"
+def written(graph: Graph, module: str, meaning: str) -> str:
+    """A circuit as a module of Verilog, with what it is as its first line."""
+    names = ["clock", *(port.name for port in [*graph.inputs, *graph.outputs])]
+    lines = [f"// {meaning}", f"module {module}({', '.join(names)});"]
+    lines += ["input clock; // with each rising edge the registers take their next values"]
+    for kind, ports in (("input", graph.inputs), ("output", graph.outputs), ("reg", graph.registers)):
+        lines += [declared(kind, port) for port in ports]
+    return "\n".join([*lines, *statements(graph)]) + "\n"
