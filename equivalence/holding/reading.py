@@ -1,4 +1,4 @@
-"""How yosys reads a design together with its relation, and plants a mistake in it."""
+"""How yosys reads a design together with its relation, and plants mistakes in it."""
 
 from __future__ import annotations
 
@@ -10,7 +10,7 @@ from holding.circuit import Circuit
 from holding.faults import Fault
 from holding.netlist import PLANTED, Netlist, declared_range, design_words
 from holding.relation import Relation
-from holding.tools import ran_yosys, read_netlist
+from holding.tools import ran_yosys, read_netlist, synthesized
 
 MISTAKES = 7
 FIELDS = pathlib.Path(__file__).resolve().parent.parent / "fields.v"
@@ -19,11 +19,19 @@ WIDEST = "[127:0]"  # any will do to find the names
 
 @dataclass
 class Design:
-    """The files of a design in Verilog, with what is defined for them."""
+    """The files of a design, in Verilog or VHDL, with what is defined for the former."""
 
     files: Sequence[str]
     folders: Sequence[str]
     defines: Sequence[str]
+
+    def in_verilog(self, top: str, room: pathlib.Path) -> Design:
+        """The design with those of its files that are in VHDL synthesized."""
+        vhdl = [it for it in self.files if it.endswith((".vhd", ".vhdl"))]
+        if not vhdl:
+            return self
+        others = [it for it in self.files if it not in vhdl]
+        return Design([*others, str(synthesized(vhdl, top, room))], self.folders, self.defines)
 
     def reading(self, room: pathlib.Path) -> str:
         """The command by which yosys reads them. It takes no blanks in the names of folders: these get links."""
@@ -71,6 +79,7 @@ def read_both(
     design: Design, circuit: Circuit, relation: Relation, room: pathlib.Path, smoke: bool = False
 ) -> Netlist:
     """All of it as a netlist; its input `planted` is the number of a mistake in the design, or 0."""
+    design = design.in_verilog(relation.top, room)
     ranges = named_ranges(design, circuit, relation, room)
     script = flattened(design, circuit, relation, ranges, room)
     script += ["setattr -set keep 1 w:*", "async2sync t:* t:$dlatch %d", "memory", "dffunmap"]

@@ -13,6 +13,7 @@ from holding.faults import Fault
 
 COMMENT = re.compile(r'//[^\n]*|/\*.*?\*/|"(?:\\.|[^"\\])*"', re.S)
 NAMED = re.compile(r"(?<![\w$.\\])(gates|dut)((?:\s*\.\s*[A-Za-z_]\w*)+)")
+INSTANCE = re.compile(r"\b(\w+)\s*(?:#\s*\((?:[^()]|\([^()]*\))*\)\s*)?\b(gates|dut)\s*\(")
 HEAD = re.compile(r"\bmodule\s+(\w+)\b[^;]*;", re.S)
 
 
@@ -23,6 +24,7 @@ class Relation:
     path: str
     text: str
     module: str
+    top: str  # the design's
     names: list[str]
     head_end: int
 
@@ -43,8 +45,9 @@ def read_relation(text: str, path: str) -> Relation:
     heads = list(HEAD.finditer(code))
     if len(heads) != 1:
         raise Fault(f"{path}: {len(heads)} modules, where the relation is one")
-    for what, pattern in (("gates", rf"\b{MODULE}\s+gates\s*\("), ("dut", r"[\w)]\s+dut\s*\(|\)\s*dut\s*\(")):
-        if len(re.findall(pattern, code)) != 1:
-            raise Fault(f"{path}: there is no one instance {what} in it")
+    instances = [(found[2], found[1]) for found in INSTANCE.finditer(code)]
+    tops = [module for name, module in instances if name == "dut"]
+    if ("gates", MODULE) not in instances or len(tops) != 1 or len(instances) != 2:
+        raise Fault(f"{path}: it has not one instance `gates` of {MODULE}, and one `dut` of the design")
     names = {found[1] + re.sub(r"\s", "", found[2]): None for found in NAMED.finditer(code)}
-    return Relation(path, text, heads[0][1], list(names), heads[0].end())
+    return Relation(path, text, heads[0][1], tops[0], list(names), heads[0].end())

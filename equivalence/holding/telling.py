@@ -132,7 +132,7 @@ def check_related(asking: Asking) -> None:
     """Raises Fault where no state is related, or the planted mistakes aren't found."""
     some = asking.asks_some()
     if some.found is None:
-        raise Fault("no state of the circuit that a run reaches meets the relation with any of the design", NOTHING_HELD)
+        raise Fault("no state of the circuit that a run reaches meets the relation", NOTHING_HELD)
     planted = asking.asks_planted()
     if planted.found is None:
         raise Fault("a mistake that was planted in the design isn't found: the relation says too little", NOTHING_HELD)
@@ -166,7 +166,8 @@ def smoke(asking: Asking, count: int, vcd: str | None) -> int:
     """Asks the first bit times from reset, and gives the status."""
     for answer in asking.asks_first(count, planted=True):
         if answer.found:
-            tell([f"planted mistake: found, {answer.seconds:.1f} s: in {answer.question} {answer.found.fails[0]} fails"])
+            where = f"in {answer.question} {answer.found.fails[0]} fails"
+            tell([f"planted mistake: found, {answer.seconds:.1f} s: {where}"])
             break
     else:
         raise Fault(f"a mistake that was planted in the design isn't found in {count} bit times", NOTHING_HELD)

@@ -46,6 +46,19 @@ def ran_yosys(script: Sequence[str], room: pathlib.Path) -> None:
         raise Fault("yosys: " + "; ".join(errors))
 
 
+def synthesized(files: Sequence[str], top: str, room: pathlib.Path) -> pathlib.Path:
+    """A design in VHDL as Verilog, by GHDL. Raises Fault with what it says where it fails."""
+    made = room / "synthesized.v"
+    analysing = [needed("ghdl"), "-a", "--std=08", *files]
+    for command in (analysing, ["ghdl", "--synth", "--std=08", "--out=verilog", top]):
+        ran = subprocess.run(command, cwd=room, stdout=subprocess.PIPE, stderr=subprocess.PIPE, text=True)
+        if ran.returncode:
+            errors = [line for line in ran.stderr.splitlines() if "error" in line or "raised" in line]
+            raise Fault("ghdl: " + "; ".join(errors or [f"status {ran.returncode}"]))
+        made.write_text(ran.stdout)
+    return made
+
+
 def read_netlist(path: pathlib.Path, module: str) -> dict:
     """A module of what yosys wrote."""
     return json.loads(path.read_text())["modules"][module]

@@ -1,0 +1,209 @@
+"""Tests of `hold`: what is told of relations that say too little or too much, and what is refused."""
+
+from __future__ import annotations
+
+import os
+import pathlib
+import re
+import shutil
+import subprocess
+import sys
+import tempfile
+import unittest
+
+FOLDER = pathlib.Path(__file__).resolve().parent.parent
+COSIM = FOLDER.parent / "examples" / "cosim"
+sys.path.insert(0, str(FOLDER))
+
+from holding.circuit import MODULE, read_circuit
+from holding.faults import Fault
+from holding.gates import Gates, is_true
+from holding.relation import read_relation
+from holding.tools import SOLVERS, Solver
+from peer.controller import controller
+from peer.verilog import written
+
+# drives recessive, and has a register that a reset sets
+DESIGN = "module small(input clock, input reset, output drive, output reg [3:0] state); assign drive = 1'b1; \
+always @(posedge clock) state <= reset ? 4'd5 : state; endmodule"
+RELATION = """module relation(input clock, input reset, input bus, {outputs});
+    riddlesage_controller gates(.clock(clock), .reset(reset), .joins(1'b1), .enable(1'b1), .bus(bus), .hold(1'b0),
+        .hold_wish(2'd0), .waits(1'b0), .wait_extended(1'b0), .wait_remote(1'b0), .wait_identifier(29'd0),
+        .wait_dlc(4'd0), .wait_data(64'd0));
+    small dut(.clock(clock), .reset(reset));
+    {parts}
+endmodule
+"""
+SAME = {"same_drive": "gates.drive == dut.drive"}
+STATE = {"holds_state": "dut.state == 4'd5"}
+# a receiver that hears recessive levels alone
+JOINS = {"given_silence": "bus", "holds_phase": "gates.phase <= 4'd1 && !gates.sender"}
+
+
+def has_tools() -> bool:
+    return all(shutil.which(it) for it in ("yosys", "cadical"))
+
+
+class Files(unittest.TestCase):
+    def setUp(self) -> None:
+        self.folder = tempfile.TemporaryDirectory()
+        self.room = pathlib.Path(self.folder.name)
+
+    def tearDown(self) -> None:
+        self.folder.cleanup()
+
+    def put(self, name: str, text: str) -> str:
+        (self.room / name).write_text(text)
+        return str(self.room / name)
+
+    def run_hold(self, *words: str, path: str | None = None) -> subprocess.CompletedProcess[str]:
+        environment = dict(os.environ, PATH=path) if path is not None else None
+        command = [sys.executable, str(FOLDER / "hold"), *words]
+        return subprocess.run(command, capture_output=True, text=True, timeout=300, env=environment)
+
+    def hold(self, parts: dict[str, str], *words: str) -> subprocess.CompletedProcess[str]:
+        lines = "\n    ".join(f"assign {name} = {value};" for name, value in parts.items())
+        text = RELATION.format(outputs=", ".join(f"output {name}" for name in parts), parts=lines)
+        return self.run_hold(*words, self.put("relation.v", text), self.put("small.v", DESIGN))
+
+    def is_told(self, ran: subprocess.CompletedProcess[str], status: int, text: str) -> None:
+        self.assertEqual(ran.returncode, status, ran)
+        self.assertIn(text, ran.stdout + ran.stderr)
+        self.assertEqual(ran.stdout.rstrip().endswith("equal in every run"), status == 0, ran)
+
+
+@unittest.skipUnless(has_tools(), "yosys or cadical is not there")
+class Relations(Files):
+    def test_what_is_equal(self) -> None:
+        for solver in (name for name, command in SOLVERS.items() if shutil.which(command)):
+            ran = self.hold({**SAME, **STATE, **JOINS}, "--solver", solver)
+            self.is_told(ran, 0, "not compared: told frame_extended")
+            self.assertIn("assumed of inputs: given_silence\n", ran.stdout)
+
+    def test_a_word_that_is_gone(self) -> None:
+        ran = self.hold({**SAME, "holds_x": "dut.gone == gates.missing"})
+        self.is_told(ran, 1, "it names what is not there: dut.gone gates.missing")
+
+    def test_a_relation_that_no_state_meets(self) -> None:
+        self.is_told(self.hold({**SAME, **STATE, "holds_x": "gates.phase == 4'd15"}), 5, "no state of the circuit")
+        self.is_told(self.hold({**SAME, **STATE, "holds_x": "dut.state == 4'd6"}), 5, "no state of the circuit")
+        self.is_told(self.hold({**SAME, **STATE, "given_x": "1'b0"}), 5, "no state of the circuit")
+
+    def test_a_relation_that_a_reset_does_not_meet(self) -> None:
+        ran = self.hold({**SAME, **STATE, **JOINS, "holds_tec": "gates.tec_count == 9'd1"})
+        self.is_told(ran, 1, "the states behind a reset don't meet the relation")
+        self.assertIn("holds_tec fails: gates.tec_count", ran.stdout)
+
+    def test_a_relation_that_says_too_little(self) -> None:
+        self.is_told(self.hold({**SAME, "holds_phase": "gates.phase <= 4'd1"}), 5, "planted in the design isn't found")
+        self.is_told(self.hold(STATE), 5, "it has no output same_")
+        self.is_told(self.hold({"same_state": "dut.state == 4'd5", **STATE}), 5, "doesn't compare gates.drive")
+        self.is_told(self.hold({**SAME, **STATE, "same_x": "1'b1"}), 5, "same_x says nothing")
+
+    def test_what_is_no_part(self) -> None:
+        ran = self.hold({**SAME, "phase": "gates.phase == 4'd0"})
+        self.is_told(ran, 1, "the output phase of the relation is no part")
+
+    def test_a_difference(self) -> None:
+        ran = self.hold({**SAME, **STATE, "holds_phase": "!gates.sender"}, "--vcd", str(self.room / "waves.vcd"))
+        self.is_told(ran, 1, "outputs: differs")
+        self.assertRegex(ran.stdout, r"(?m)^  before: (active-flag|overload-flag|ack-slot) ?\d?, receiver; [A-Z][a-z]")
+        self.assertIn("same_drive fails: dut.drive 1, gates.drive 0", ran.stdout)
+        waves = (self.room / "waves.vcd").read_text()
+        self.assertRegex(waves, r"\$scope module gates \$end\n(\$var .*\n)*\$var wire 4 \w+ phase \$end")
+        self.assertEqual(re.findall(r"(?m)^#(\d+)", waves), ["0", "5", "10"])
+
+    def test_the_first_bit_times(self) -> None:
+        self.is_told(self.hold({**SAME, **STATE}, "--smoke", "1"), 5, "isn't found in 1 bit times")
+        same = {"same_both": "gates.drive == (dut.drive ^ (dut.state != 4'd5))"}
+        ran = self.hold(same, "--smoke", "3")
+        self.assertEqual((ran.returncode, ran.stdout.splitlines()[-1]), (0, "no difference in the first 3 bit times"))
+        late = {"same_both": "gates.drive == (dut.drive ^ (dut.state != 4'd5)) && gates.place < 4'd2"}
+        ran = self.hold(late, "--smoke", "5")
+        self.assertEqual(ran.returncode, 1, ran)
+        self.assertIn("bit time 2: the same", ran.stdout)
+        self.assertIn("bit time 3: differs", ran.stdout)
+
+    def test_a_design_that_yosys_does_not_read(self) -> None:
+        relation = self.put("relation.v", RELATION.format(outputs="output same_drive", parts=""))
+        self.is_told(self.run_hold(relation, self.put("small.v", "module small(")), 1, "hold: yosys: ")
+
+    def test_a_register_of_another_clock(self) -> None:
+        for edge, said in (("negedge clock", "$_DFF_N_"), ("posedge reset", "another clock")):
+            design = self.put("small.v", DESIGN.replace("posedge clock", edge))
+            outputs = "output same_drive, output holds_state"
+            parts = f"assign same_drive = {SAME['same_drive']}; assign holds_state = {STATE['holds_state']};"
+            relation = self.put("relation.v", RELATION.format(outputs=outputs, parts=parts))
+            self.is_told(self.run_hold(relation, design), 1, said)
+
+
+class Uses(Files):
+    def test_a_tool_that_is_not_there(self) -> None:
+        outputs, design = "output same_drive", self.put("small.v", DESIGN)
+        relation = self.put("relation.v", RELATION.format(outputs=outputs, parts=""))
+        ran = self.run_hold(relation, design, path=str(self.room))
+        self.is_told(ran, 3, "neither cadical nor berkeley-abc is there: apt-get install cadical")
+        ran = self.run_hold("--solver", "abc", relation, design, path=str(self.room))
+        self.is_told(ran, 3, "berkeley-abc is not there: apt-get install berkeley-abc")
+        (self.room / "cadical").symlink_to("/bin/true")
+        ran = self.run_hold(relation, design, path=str(self.room))
+        self.is_told(ran, 3, "yosys is not there: apt-get install yosys")
+
+    def test_a_file_that_is_not_there(self) -> None:
+        self.is_told(self.run_hold(str(self.room / "none.v"), str(self.room / "none.v")), 3, "none.v")
+
+    def test_a_wrong_use(self) -> None:
+        self.assertEqual(self.run_hold().returncode, 2)
+        self.assertEqual(self.run_hold("--smoke", "0", "relation.v", "small.v").returncode, 2)
+
+    def test_a_text_that_is_no_relation(self) -> None:
+        for text in ("", "module relation(input clock); endmodule", RELATION + RELATION):
+            with self.assertRaises(Fault):
+                read_relation(text, "relation.v")
+
+    def test_names_in_comments_are_none(self) -> None:
+        parts = "assign same_drive = /* dut.a */ gates . drive; // dut.b"
+        text = RELATION.format(outputs="output same_drive", parts=parts)
+        self.assertEqual(read_relation(text, "relation.v").names, ["gates.drive"])
+
+
+class Texts(unittest.TestCase):
+    text = written(controller(), MODULE, "")
+
+    def test_the_circuit_is_read(self) -> None:
+        circuit = read_circuit(self.text, "circuit.v")
+        self.assertEqual(sum(circuit.widths["reg"].values()), 277)
+        self.assertEqual(sum(circuit.inputs.values()), 107)
+        self.assertEqual(circuit.widths["output"]["legal"], 1)
+
+    def test_a_line_of_another_form_is_refused(self) -> None:
+        for old, new in (
+            ("wire n0 = 1'b0;", "wire n0 = 1'b1;"),
+            ("wire n1 = reset;", ""),
+            ("assign drive = ", "assign other = "),
+            ("\nend\n", "\nphase[0] <= n1 | n2;\nend\n"),
+            ("output legal;", "output lawful;"),
+        ):
+            self.assertIn(old, self.text)
+            with self.assertRaises(Fault, msg=new):
+                read_circuit(self.text.replace(old, new, 1), "circuit.v")
+
+
+class Solvers(unittest.TestCase):
+    def test_answers(self) -> None:
+        gates = Gates()
+        a, b, c = (gates.fresh() for _ in range(3))
+        parity = gates.differ(gates.differ(a, b), c)
+        for name, command in SOLVERS.items():
+            if shutil.which(command) is None:
+                continue
+            with tempfile.TemporaryDirectory() as room:
+                solver = Solver(name, pathlib.Path(room), None)
+                model = solver.ask(gates, gates.all(parity, a, b))
+                assert model is not None
+                self.assertTrue(is_true(gates.values(model), c))
+                self.assertIsNone(solver.ask(gates, gates.all(parity, a, b, c ^ 1)))
+
+
+if __name__ == "__main__":
+    unittest.main()
