@@ -408,13 +408,14 @@ class Controller:
         graph, front, is_in = self.graph, self.front, self.is_in
         stuff_bit = front.last ^ 1
         sent = graph.choose(front.is_stuff_due(graph), stuff_bit, front.next_sent(graph, self.own))
-        return graph.any(
+        dominant = graph.any(
             is_in[ERROR_FLAG],
             is_in[OVERLOAD_FLAG],
             graph.both(is_in[IDLE], self.waits),
             graph.all(is_in[ACK_SLOT], self.receiver, self.agrees),
             graph.all(is_in[STUFFED_PART], self.sender, sent ^ 1),
-        ) ^ 1
+        )
+        return dominant ^ 1
 
     def put_outputs(self, move: Move) -> None:
         """All outputs."""
