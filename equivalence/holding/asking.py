@@ -18,11 +18,11 @@ OUTPUT = "drive"  # what is compared at least
 
 @dataclass
 class Found:
-    """Bit times, one behind another, that answer a question; and which parts of the relation fail in the last one."""
+    """Bit times, one behind another, that answer a question; and which parts of the relation fail in which of them."""
 
-    question: str
     bit_times: list[BitTime]
     values: list[bool]
+    at: int
     fails: list[str]
 
     def is_true(self, literal: int) -> bool:
@@ -93,17 +93,20 @@ class Asking:
             made.literals[key] = literal if planted else FALSE
         return made
 
-    def ask(self, question: str, bit_times: list[BitTime], assumed: int, prefix: str | None) -> Answer:
-        """Asks for bit times in the last of which not all parts with a prefix hold; for any, where there is none."""
+    def ask(self, question: str, bit_times: list[BitTime], assumed: int, prefix: str | None, at: int = -1) -> Answer:
+        """Asks for bit times, the last of which, or that `at` a place, has a part with a prefix that doesn't hold.
+
+        Without a prefix any bit times will do.
+        """
         begun = time.monotonic()
-        last = bit_times[-1]
-        wanted = self.gates.both(assumed, last.all(prefix) ^ 1) if prefix else assumed
+        at %= len(bit_times)
+        wanted = self.gates.both(assumed, bit_times[at].all(prefix) ^ 1) if prefix else assumed
         model = self.solver.ask(self.gates, wanted)
         found = None
         if model is not None:
             names = [name for name in self.netlist.parts if prefix and name.startswith(prefix)]
-            parts = {name: last.literal(self.netlist.parts[name][0]) for name in names}
-            found = Found(question, bit_times, self.gates.values(model), [])
+            parts = {name: bit_times[at].literal(self.netlist.parts[name][0]) for name in names}
+            found = Found(bit_times, self.gates.values(model), at, [])
             found.fails = [name for name, part in parts.items() if not found.is_true(part)]
         return Answer(question, time.monotonic() - begun, found)
 
@@ -138,7 +141,7 @@ class Asking:
 
     def asks_outputs(self) -> Answer:
         """Whether outputs are the same in related states."""
-        return self.ask("outputs", self.bit_times[:1], self.assumed, SAME)
+        return self.ask("outputs", self.bit_times, self.assumed, SAME, at=0)
 
     def asks_step(self) -> Answer:
         """Whether a bit time leads from related states to related states."""

@@ -79,17 +79,16 @@ def inputs(found: Found, at: int) -> str:
 
 
 def valued(found: Found, name: str) -> str:
-    """A word in the last bit time, and in the one before it where that was another number."""
+    """A word in the bit time that was found, and in the one before it where that was another number."""
     width = len(found.bit_times[0].netlist.words[name])
-    numbers = [found.number(at, name) for at in range(len(found.bit_times))][-2:]
+    numbers = [found.number(at, name) for at in range(found.at + 1)][-2:]
     said = [f"{number:#x}" if width > 12 else str(number) for number in numbers]
     return f"{name} {' then '.join(dict.fromkeys(said))}"
 
 
 def report(found: Found) -> list[str]:
     """What is said of bit times that were found."""
-    last = len(found.bit_times) - 1
-    now = max(0, last - 1) if found.fails and found.fails[0].startswith(HOLDS) else last
+    now = found.at - 1 if found.fails[0].startswith(HOLDS) else found.at
     lines = []
     if found.number(now, "gates.reset"):
         lines.append("  before: any state; reset")
@@ -97,8 +96,8 @@ def report(found: Found) -> list[str]:
         lines += [f"  before: {standing(found, now)}", f"  {inputs(found, now)}"]
         drives, told = found.number(now, "gates.drive"), found.number(now, "gates.told")
         lines.append(f"  the circuit drives {LEVELS[drives]}, tells {EVENTS[told] if told < len(EVENTS) else told}")
-    if now < last:
-        lines.append(f"  behind: {standing(found, last)}")
+    if now < found.at:
+        lines.append(f"  behind: {standing(found, found.at)}")
     for part in found.fails[:MOST_PARTS]:
         named = found.bit_times[0].netlist.named_by(part)
         lines.append(f"  {part} fails: {', '.join(valued(found, name) for name in named)}")

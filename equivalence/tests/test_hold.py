@@ -111,7 +111,7 @@ class Relations(Files):
         self.assertIn("same_drive fails: dut.drive 1, gates.drive 0", ran.stdout)
         waves = (self.room / "waves.vcd").read_text()
         self.assertRegex(waves, r"\$scope module gates \$end\n(\$var .*\n)*\$var wire 4 \w+ phase \$end")
-        self.assertEqual(re.findall(r"(?m)^#(\d+)", waves), ["0", "5", "10"])
+        self.assertEqual(re.findall(r"(?m)^#(\d+)", waves), ["0", "5", "10", "15", "20"])
 
     def test_the_first_bit_times(self) -> None:
         self.is_told(self.hold({**SAME, **STATE}, "--smoke", "1"), 5, "isn't found in 1 bit times")
