@@ -13,6 +13,7 @@ from holding.tools import Solver
 
 RESET = "reset"
 HOLDS, SAME, GIVEN = "holds_", "same_", "given_"
+FIRST = "bit time"
 OUTPUT = "drive"  # what is compared at least
 
 
@@ -20,6 +21,7 @@ OUTPUT = "drive"  # what is compared at least
 class Found:
     """Bit times, one behind another, that answer a question; and which parts of the relation fail in which of them."""
 
+    question: str
     bit_times: list[BitTime]
     values: list[bool]
     at: int
@@ -106,7 +108,7 @@ class Asking:
         if model is not None:
             names = [name for name in self.netlist.parts if prefix and name.startswith(prefix)]
             parts = {name: bit_times[at].literal(self.netlist.parts[name][0]) for name in names}
-            found = Found(bit_times, self.gates.values(model), at, [])
+            found = Found(question, bit_times, self.gates.values(model), at, [])
             found.fails = [name for name, part in parts.items() if not found.is_true(part)]
         return Answer(question, time.monotonic() - begun, found)
 
@@ -154,4 +156,4 @@ class Asking:
         for at in range(1, count + 1):
             bit_times.append(self.bit_time(bit_times[-1], False, planted))
             assumed = self.gates.both(assumed, self.given(bit_times[-1]))
-            yield self.ask(f"bit time {at}", list(bit_times), assumed, SAME)
+            yield self.ask(f"{FIRST} {at}", list(bit_times), assumed, SAME)

@@ -75,6 +75,8 @@ class Netlist:
             elif said and "hdlname" not in net["attributes"]:
                 self.words.setdefault(said, self.keys(net["bits"]))
         self.take_circuit()
+        if set(self.named.values()) != set(relation.names):
+            raise Fault("yosys has lost a word that the relation names")
         for name, cell in module["cells"].items():
             self.take_cell(name, cell["type"], cell["connections"])
         for name, keys in self.words.items():

@@ -54,7 +54,7 @@ def flattened(
     return [
         f'read_verilog stub.v "{FIELDS}"',
         design.reading(room),
-        f'read_verilog relation.v',
+        "read_verilog relation.v",
         f"hierarchy -check -top {relation.module}",
         "proc",
         "flatten",

@@ -4,8 +4,9 @@ from __future__ import annotations
 
 import pathlib
 
-from holding.asking import GIVEN, HOLDS, Answer, Asking, Found
+from holding.asking import FIRST, GIVEN, HOLDS, Answer, Asking, Found
 from holding.faults import DIFFERS, NOTHING_HELD, Fault
+from holding.waves import waves
 
 # a phase by its number: its word, the register that tells how much of it has come, the rule of docs/ACCESS.md
 PHASES = [
@@ -98,6 +99,9 @@ def report(found: Found) -> list[str]:
         lines.append(f"  the circuit drives {LEVELS[drives]}, tells {EVENTS[told] if told < len(EVENTS) else told}")
     if now < found.at:
         lines.append(f"  behind: {standing(found, found.at)}")
+    if found.question.startswith(FIRST):
+        levels = [str(found.number(at, "gates.bus")) for at in range(1, found.at + 1)]
+        lines.append(f"  levels from reset: {''.join(levels)}")
     for part in found.fails[:MOST_PARTS]:
         named = found.bit_times[0].netlist.named_by(part)
         lines.append(f"  {part} fails: {', '.join(valued(found, name) for name in named)}")
@@ -116,8 +120,6 @@ def told(answer: Answer, well: str) -> list[str]:
 def write_waves(found: Found, path: str | None) -> None:
     """Writes waves, where they are asked for."""
     if path:
-        from holding.waves import waves
-
         pathlib.Path(path).write_text(waves(found), encoding="ascii")
         print(f"  waves: {path}")
 
@@ -138,6 +140,12 @@ def check_related(asking: Asking) -> None:
     tell([f"planted mistake: found, {planted.seconds:.1f} s: {planted.found.fails[0]} fails"])
 
 
+def assumption(asking: Asking, part: str) -> str:
+    """A part that is assumed, with the words of the controllers of which it is, where there are some."""
+    named = asking.netlist.named_by(part)
+    return f"{part} of {' '.join(named)}" if named else part
+
+
 def hold(asking: Asking, vcd: str | None) -> int:
     """Asks reset, outputs and step, and gives the status."""
     check_related(asking)
@@ -154,7 +162,7 @@ def hold(asking: Asking, vcd: str | None) -> int:
         return DIFFERS
     given = [name for name in asking.netlist.parts if name.startswith(GIVEN)]
     if given:
-        tell([f"assumed of inputs: {' '.join(given)}"])
+        tell([f"assumed: {', '.join(assumption(asking, name) for name in given)}"])
     if missing := asking.netlist.left_out(OUTPUTS):
         tell([f"not compared: {' '.join(missing)}"])
     tell(["equal in every run"])

@@ -51,7 +51,7 @@ def synthesized(files: Sequence[str], top: str, room: pathlib.Path) -> pathlib.P
     made = room / "synthesized.v"
     analysing = [needed("ghdl"), "-a", "--std=08", *files]
     for command in (analysing, ["ghdl", "--synth", "--std=08", "--out=verilog", top]):
-        ran = subprocess.run(command, cwd=room, stdout=subprocess.PIPE, stderr=subprocess.PIPE, text=True)
+        ran = subprocess.run(command, cwd=room, capture_output=True, text=True)
         if ran.returncode:
             errors = [line for line in ran.stderr.splitlines() if "error" in line or "raised" in line]
             raise Fault("ghdl: " + "; ".join(errors or [f"status {ran.returncode}"]))

@@ -78,7 +78,7 @@ class Relations(Files):
         for solver in (name for name, command in SOLVERS.items() if shutil.which(command)):
             ran = self.hold({**SAME, **STATE, **JOINS}, "--solver", solver)
             self.is_told(ran, 0, "not compared: told frame_extended")
-            self.assertIn("assumed of inputs: given_silence\n", ran.stdout)
+            self.assertIn("assumed: given_silence\n", ran.stdout)
 
     def test_a_word_that_is_gone(self) -> None:
         ran = self.hold({**SAME, "holds_x": "dut.gone == gates.missing"})
@@ -123,6 +123,7 @@ class Relations(Files):
         self.assertEqual(ran.returncode, 1, ran)
         self.assertIn("bit time 2: the same", ran.stdout)
         self.assertIn("bit time 3: differs", ran.stdout)
+        self.assertIn("  levels from reset: 11", ran.stdout)
 
     def test_a_design_that_yosys_does_not_read(self) -> None:
         relation = self.put("relation.v", RELATION.format(outputs="output same_drive", parts=""))
