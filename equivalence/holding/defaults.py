@@ -1,16 +1,30 @@
-"""Which circuit designs are held against where none is named."""
+"""Which circuit designs are held against."""
 
 from __future__ import annotations
 
 import pathlib
+import subprocess
 
 from holding.circuit import MODULE, Circuit, read_circuit
+from holding.faults import FAILED, Fault
 from peer.controller import controller
 from peer.verilog import written
 
+TOP = pathlib.Path(__file__).resolve().parent.parent.parent
+PROGRAM = "cangates"
 
-def circuit_of(path: str | None) -> Circuit:
-    """The circuit of a file, or the peer."""
-    if path is None:
-        return read_circuit(written(controller(), MODULE, "the peer"), "equivalence/peer")
-    return read_circuit(pathlib.Path(path).read_text(encoding="utf-8", errors="replace"), path)
+
+def circuit_of(path: str | None) -> tuple[Circuit, str]:
+    """The circuit of a file, and what is said of it.
+
+    Without a file it is the proved one, where the program that writes it has been built, else the peer.
+    """
+    if path is not None:
+        return read_circuit(pathlib.Path(path).read_text(encoding="utf-8", errors="replace"), path), path
+    if not (TOP / "out" / PROGRAM).exists():
+        return read_circuit(written(controller(), MODULE, "the peer"), "peer"), "equivalence/peer, which is not proved"
+    command = [str(TOP / PROGRAM), "verilog"]
+    ran = subprocess.run(command, stdout=subprocess.PIPE, text=True)
+    if ran.returncode:
+        raise Fault(f"{PROGRAM} ended with status {ran.returncode}", FAILED)
+    return read_circuit(ran.stdout, PROGRAM), f"./{PROGRAM} verilog"
