@@ -37,8 +37,9 @@ def scopes(words: dict[str, int]) -> Iterator[str]:
 
 def waves(found: Found) -> str:
     """The bit times of what was found."""
-    names = found.bit_times[0].netlist.words
-    words = {name: len(names[name]) for name in sorted(names, key=lambda name: name.split(".")) if name != CLOCK}
+    netlist = found.bit_times[0].netlist
+    names = sorted(netlist.words, key=lambda name: name.split("."))
+    words = {name: len(netlist.words[name]) for name in names if netlist.words[name] != netlist.inputs[CLOCK]}
     clock = identifier(len(words))
     lines = ["$comment a unit is a tenth of a bit time $end", "$timescale 1 ns $end", "$scope module held $end"]
     lines += [*scopes(words), f"$var wire 1 {clock} {CLOCK} $end", "$upscope $end", "$enddefinitions $end"]
@@ -46,7 +47,8 @@ def waves(found: Found) -> str:
     for at in range(len(found.bit_times)):
         lines += [f"#{10 * at}", f"1{clock}"]
         for number, (name, width) in enumerate(words.items()):
-            value = f"b{found.number(at, name):0{width}b} {identifier(number)}"
+            digits = f"{found.number(at, name):0{width}b}"
+            value = f"b{digits} {identifier(number)}" if width > 1 else f"{digits}{identifier(number)}"
             if before.get(name) != value:
                 lines.append(value)
             before[name] = value
