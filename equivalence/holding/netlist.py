@@ -65,7 +65,7 @@ class Netlist:
         self.parts = {name: self.keys(it["bits"]) for name, it in ports.items() if it["direction"] == "output"}
         self.words = {f"gates.{name}": self.circuit_word(name, width) for name, width in circuit.words.items()}
         self.words |= {name: self.keys(net["bits"]) for name, net in design_words(module).items()}
-        self.named: dict[Key, str] = {}  # bits of the words that the relation names, and of its own registers
+        self.named: dict[Key, str] = {}  # bits of words, first by what the relation calls them
         for name, net in module["netnames"].items():
             said = hierarchical(name, net)
             if said in relation.names:
@@ -79,12 +79,19 @@ class Netlist:
             raise Fault("yosys has lost a word that the relation names")
         for name, cell in module["cells"].items():
             self.take_cell(name, cell["type"], cell["connections"])
-        for name, keys in self.words.items():
-            if not name.startswith(("gates.", "dut.")):
-                self.named.update({key: name for key in keys if key in self.registers and key not in self.named})
+        self.name_others()
+
+    def name_others(self) -> None:
+        """Names the bits that are reached by ports and not by names, and the relation's own registers."""
+        inputs = {"0", "1", *(key for keys in self.inputs.values() for key in keys)}
+        for name in sorted(self.words, key=lambda name: name.count(".")):
+            is_own = not name.startswith(("gates.", "dut."))
+            for key in self.words[name]:
+                if key in self.registers if is_own else key not in inputs:
+                    self.named.setdefault(key, name)
 
     def named_by(self, part: str) -> list[str]:
-        """The words that a part of the relation names, and the relation's own registers."""
+        """The words of both controllers, and the relation's own registers, of which a part of the relation is."""
         seen: set[Key] = set()
         waiting = list(self.parts[part])
         while waiting:

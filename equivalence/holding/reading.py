@@ -92,12 +92,14 @@ def read_both(
 def planting(relation: Relation, smoke: bool) -> list[str]:
     """The commands that plant mistakes: each inverts a bit that a register of the design takes.
 
-    Without `smoke` it is a register that the relation names, else one on which a named word depends.
+    Without `smoke` it is a register that the relation names, else one on which a named word depends; any one where
+    the relation names none.
     """
-    nets = " ".join(f"a:hdlname={name.replace('.', '?')}" for name in relation.names if name.startswith("dut."))
+    names = [name for name in relation.names if name.startswith("dut.")]
+    nets = " ".join(f"a:hdlname={name.replace('.', '?')}" for name in names or ["dut.*"])
     behind = "%ci*" if smoke else "%ci3"
     return [
-        f"select -set named {nets or 'a:none'}",
+        f"select -set named {nets}",
         "select -set words a:hdlname=dut*",
         f"select -set registers @named {behind} @words %ci3 %i t:$dff %i",
         f"mutate -list {MISTAKES} -mode inv -port \\D -ctrl {PLANTED} {MISTAKES.bit_length()} 1 -o plant.ys @registers",

@@ -80,6 +80,16 @@ class Relations(Files):
             self.is_told(ran, 0, "not compared: told frame_extended")
             self.assertIn("assumed: given_silence\n", ran.stdout)
 
+    def test_a_relation_by_ports(self) -> None:
+        text = RELATION.replace(".bus(bus),", ".bus(bus), .drive(drive),").replace("dut(", "dut(.drive(other), ")
+        parts = "wire drive, other; assign same_drive = drive == other; assign holds_state = !dut.state[1];"
+        text = text.replace("wait_data(64'd0));", "wait_data(64'd0)); wire [3:0] state;")
+        text = text.replace("small dut(", "small dut(.state(state), ")
+        parts += " assign holds_more = state == 4'd5; assign holds_phase = gates.phase <= 4'd1 && !gates.sender;"
+        outputs = "output same_drive, output holds_state, output holds_more, output holds_phase, output given_bus"
+        relation = self.put("relation.v", text.format(outputs=outputs, parts=f"{parts} assign given_bus = bus;"))
+        self.is_told(self.run_hold(relation, self.put("small.v", DESIGN)), 0, "assumed: given_bus\n")
+
     def test_a_word_that_is_gone(self) -> None:
         ran = self.hold({**SAME, "holds_x": "dut.gone == gates.missing"})
         self.is_told(ran, 1, "it names what is not there: dut.gone gates.missing")
