@@ -81,7 +81,8 @@ class Controller:
         self.dominant = self.bus ^ 1
         self.receiver = self.sender ^ 1
         self.passive = graph.any(*self.tec[7:], self.rec[7])
-        self.wish = graph.select(self.hold, [*self.hold_wish, FALSE, FALSE], self.pending)
+        asks = graph.both(self.hold, graph.is_number(self.hold_wish, 3) ^ 1)
+        self.wish = graph.select(asks, [*self.hold_wish, FALSE, FALSE], self.pending)
         self.held_back = graph.both(self.sender, self.passive)
         self.is_in = [graph.is_number(self.phase, number) for number in range(15)]
         self.agrees = graph.is_number(self.front.check, 0)
@@ -98,7 +99,7 @@ class Controller:
         (self.enable,) = put("enable", 1, "a bit time passes; where it is 0 nothing changes")
         (self.bus,) = put("bus", 1, "the level that is sampled: 1 is recessive")
         (self.hold,) = put("hold", 1, "with `enable`: own overload frames are asked for, before the bit time")
-        self.hold_wish = put("hold_wish", 2, "how many")
+        self.hold_wish = put("hold_wish", 2, "how many, 0 to 2; 3 is refused, and changes nothing")
         (self.waits,) = put("waits", 1, "a frame waits to be sent")
         self.waiting = Frame(
             put("wait_extended", 1, "it has an extended identifier"),
@@ -447,7 +448,7 @@ class Controller:
         parts += [graph.implies(self.first, graph.both(is_in[BEHIND_FLAG], self.under(1)))]
         parts += [graph.is_under(self.phase, 15), graph.is_under(self.tec, 264)]
         parts += [graph.differ(is_in[BUS_OFF], self.tec[8]) ^ 1]
-        parts += [graph.is_under(self.pending, 4), graph.is_under(self.used, 3)]
+        parts += [graph.is_under(self.pending, 3), graph.is_under(self.used, 3)]
         parts += [graph.implies(is_in[BUS_OFF] ^ 1, graph.is_number(self.occurrences, 0))]
         parts += [graph.implies(graph.any(is_in[IDLE], is_in[JOINING], is_in[BUS_OFF]), self.receiver)]
         length = graph.sum(data_end(graph, heard_frame(graph, front.levels)), constant(15, 7))[0]
