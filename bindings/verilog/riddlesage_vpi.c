@@ -12,6 +12,7 @@
  *   tec = $riddlesage_tec(port); rec = $riddlesage_rec(port);
  *   phase = $riddlesage_phase(port);             in which it is, a riddlesage_phase
  *   $riddlesage_stands(port);                    writes where it stands: its phase, its part, and the rule there
+ *   $riddlesage_tell(told, frame);               writes an event, with the frame where one was sent or received
  *
  * The data of a frame are its lowest 64 bits, the first byte the highest. What the library refuses, a port that is
  * none, and an x or a z as a level or in a frame end the simulation with a message. Nothing here is proved, and nothing
@@ -215,29 +216,35 @@ static riddlesage_frame frame_of(const s_vpi_vecval *words)
   return frame;
 }
 
+/* Takes the next argument, a frame; NULL, or why it is none. */
+static const char *take_frame(struct arguments *of, riddlesage_frame *frame)
+{
+  vpiHandle argument = next(of);
+  s_vpi_value value;
+
+  memset(&value, 0, sizeof value);
+  value.format = vpiVectorVal;
+  if (argument == NULL || vpi_get(vpiSize, argument) < FRAME_BITS)
+    return "a frame has 99 bits";
+  vpi_get_value(argument, &value);
+  if (is_unknown(value.value.vector, FRAME_BITS))
+    return "a bit of a frame is neither 0 nor 1";
+  *frame = frame_of(value.value.vector);
+  return NULL;
+}
+
 static PLI_INT32 call_offer(PLI_BYTE8 *data)
 {
   struct arguments of = arguments();
   int port = port_of(&of);
-  vpiHandle argument = next(&of);
   riddlesage_frame frame;
-  s_vpi_value value;
+  const char *why = take_frame(&of, &frame);
 
   (void)data;
-  memset(&value, 0, sizeof value);
-  value.format = vpiVectorVal;
-  if (argument == NULL || vpi_get(vpiSize, argument) < FRAME_BITS) {
-    end("a frame has 99 bits");
-    done(&of);
-    return 0;
-  }
-  vpi_get_value(argument, &value);
-  if (is_unknown(value.value.vector, FRAME_BITS)) {
-    end("a bit of a frame is neither 0 nor 1");
-  } else {
-    frame = frame_of(value.value.vector);
+  if (why != NULL)
+    end(why);
+  else
     demand(riddlesage_port_offer(&ports[port], &frame));
-  }
   done(&of);
   return 0;
 }
@@ -347,6 +354,38 @@ static PLI_INT32 call_stands(PLI_BYTE8 *data)
   return 0;
 }
 
+/* As ` S 123 D 2 aa55`. */
+static void write_frame(const riddlesage_frame *frame)
+{
+  int place, bytes = frame->remote != 0 ? 0 : frame->dlc < DATA_BYTES ? frame->dlc : DATA_BYTES;
+
+  vpi_printf(frame->extended != 0 ? " E %08x" : " S %03x", (unsigned)frame->identifier);
+  vpi_printf(" %s %u%s", frame->remote != 0 ? "R" : "D", frame->dlc, bytes > 0 ? " " : "");
+  for (place = 0; place < bytes; place++)
+    vpi_printf("%02x", frame->data[place]);
+}
+
+static PLI_INT32 call_tell(PLI_BYTE8 *data)
+{
+  struct arguments of = arguments();
+  int told = number(&of);
+  const char *name = riddlesage_event_name((riddlesage_event)told);
+  const char *why;
+  riddlesage_frame frame;
+
+  (void)data;
+  vpi_printf("%s", name != NULL ? name : "no event");
+  if (told == RIDDLESAGE_SENT || told == RIDDLESAGE_RECEIVED) {
+    why = take_frame(&of, &frame);
+    if (why != NULL)
+      vpi_printf(" (%s)", why);
+    else
+      write_frame(&frame);
+  }
+  done(&of);
+  return 0;
+}
+
 static PLI_INT32 frame_size(PLI_BYTE8 *data)
 {
   (void)data;
@@ -379,6 +418,7 @@ static void announce_all(void)
   announce("$riddlesage_frame", call_frame, vpiSizedFunc, NULL);
   announce("$riddlesage_phase", call_phase, vpiIntFunc, NULL);
   announce("$riddlesage_stands", call_stands, 0, NULL);
+  announce("$riddlesage_tell", call_tell, 0, NULL);
   announce("$riddlesage_tec", call_counter, vpiIntFunc, transmit_counter);
   announce("$riddlesage_rec", call_counter, vpiIntFunc, receive_counter);
 }
