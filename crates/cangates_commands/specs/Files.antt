@@ -4,6 +4,7 @@ use Rattle.std.specs.Io.KnownBytes.{Appends, Keeps}
 use Rattle.can_gates.specs.declared.literal.Literal.{Literal}
 use Rattle.can_gates.specs.declared.aiger.Register.{Register}
 use Rattle.can_gates.specs.Circuit.{CircuitParts}
+use Rattle.can_gates_files.specs.declared.words.Names.{Names}
 use Rattle.can_gates_files.specs.Verilog.{verilog_text}
 use Rattle.can_gates_files.specs.Binary.{binary_text}
 use Rattle.can_gates_files.specs.Named.{ascii_text}
@@ -12,25 +13,26 @@ use Rattle.can_gates_controller.specs.Runs.{HasPorts, IsController, Resets, Runs
 use Rattle.can_stream.specs.Outbox.{TakesFront}
 use Rattle.can_stream.specs.declared.fault.TraceFault.{TraceFault}
 use Rattle.can_stream.specs.declared.fault.TraceFault.TheVariants.{Write, Memory}
-use Rattle.cangates_commands.specs.declared.names.TheConstants.{NAMES}
 use Rattle.cangates_commands.specs.declared.words.Form.{Form}
 use Rattle.cangates_commands.specs.declared.words.Form.TheVariants.{Verilog, Ascii, Binary}
 
 -- the text of a circuit in each form
-abbrev pub text_in : Form → CircuitParts → List Register → List Literal → List ℕ
-text_in Verilog c registers outputs = verilog_text NAMES c registers outputs
-text_in Ascii c registers outputs = ascii_text NAMES c registers outputs
-text_in Binary c registers outputs = binary_text NAMES c registers outputs
+abbrev pub text_in : Form → Names → CircuitParts → List Register → List Literal → List ℕ
+text_in Verilog n c registers outputs = verilog_text n c registers outputs
+text_in Ascii n c registers outputs = ascii_text n c registers outputs
+text_in Binary n c registers outputs = binary_text n c registers outputs
 
--- the text is that of a circuit that is can_mac's own controller: at first, behind a reset, in each step and in each run
+-- the text is that of a circuit that is can_mac's own controller: at first, behind a reset, in each step and in each run.
+-- It has some names for what comes in, is held and goes out
 pub record IsFile (form : Form) (text : List ℕ) : Type 0 where
+  pub names : Names
   pub design : Design
   pub starts : StartsIdle design
   pub resets : Resets design
   pub steps : IsController design
   pub runs : RunsAlike design
   pub ports : HasPorts design
-  pub is : text ≡ text_in form design.circuit design.registers.items design.listed.items
+  pub is : text ≡ text_in form names design.circuit design.registers.items design.listed.items
 
 -- what is written where the run ends so: what the writer held and holds
 abbrev pub Does : Form → Option (List ℕ) → Option (List ℕ) → Result (Unit {0}) TraceFault → Type 0

@@ -2,60 +2,226 @@
 use can_gates_files::{Names, Word};
 
 /// The names of the controller's ports and registers, in the order of its circuit.
-pub const NAMES: Names<'static> = Names {
-    circuit: "riddlesage_controller",
-    meaning: "A classical CAN controller, a bit time in each step, written by cangates 0.9.0",
-    inputs: INPUTS,
-    registers: REGISTERS,
-    outputs: OUTPUTS,
-};
+pub(crate) fn names() -> Names<'static> {
+    Names {
+        circuit: "riddlesage_controller",
+        meaning: "A classical CAN controller, a bit time in each step, written by cangates 0.9.0",
+        inputs: INPUTS,
+        registers: REGISTERS,
+        outputs: OUTPUTS,
+    }
+}
 
 const INPUTS: &[Word<'static>] = &[
-    Word { name: "reset", places: 1, meaning: "the registers take an idle controller, or one that joins, whatever enable is" },
-    Word { name: "joins", places: 1, meaning: "with reset: it waits for eleven recessive levels first" },
-    Word { name: "enable", places: 1, meaning: "a bit time passes; where it is 0 nothing changes" },
-    Word { name: "bus", places: 1, meaning: "the level that is sampled, 1 is recessive" },
-    Word { name: "hold", places: 1, meaning: "with enable: own overload frames are asked for, before the bit time" },
-    Word { name: "hold_wish", places: 2, meaning: "how many, 0 to 2; 3 changes nothing" },
-    Word { name: "waits", places: 1, meaning: "a frame waits" },
-    Word { name: "wait_extended", places: 1, meaning: "its identifier has 29 bits" },
-    Word { name: "wait_remote", places: 1, meaning: "it is a remote frame" },
-    Word { name: "wait_identifier", places: 29, meaning: "its identifier, a standard one in the lowest eleven places" },
-    Word { name: "wait_dlc", places: 4, meaning: "its data length code" },
-    Word { name: "wait_data", places: 64, meaning: "its data, byte k from place 8k on; bytes past its data length are not looked at" },
+    Word {
+        name: "reset",
+        places: 1,
+        meaning: "the registers take an idle controller, or one that joins, whatever enable is",
+    },
+    Word {
+        name: "joins",
+        places: 1,
+        meaning: "with reset: it waits for eleven recessive levels first",
+    },
+    Word {
+        name: "enable",
+        places: 1,
+        meaning: "a bit time passes; where it is 0 nothing changes",
+    },
+    Word {
+        name: "bus",
+        places: 1,
+        meaning: "the level that is sampled, 1 is recessive",
+    },
+    Word {
+        name: "hold",
+        places: 1,
+        meaning: "with enable: own overload frames are asked for, before the bit time",
+    },
+    Word {
+        name: "hold_wish",
+        places: 2,
+        meaning: "how many, 0 to 2; 3 changes nothing",
+    },
+    Word {
+        name: "waits",
+        places: 1,
+        meaning: "a frame waits",
+    },
+    Word {
+        name: "wait_extended",
+        places: 1,
+        meaning: "its identifier has 29 bits",
+    },
+    Word {
+        name: "wait_remote",
+        places: 1,
+        meaning: "it is a remote frame",
+    },
+    Word {
+        name: "wait_identifier",
+        places: 29,
+        meaning: "its identifier, a standard one in the lowest eleven places",
+    },
+    Word {
+        name: "wait_dlc",
+        places: 4,
+        meaning: "its data length code",
+    },
+    Word {
+        name: "wait_data",
+        places: 64,
+        meaning: "its data, byte k from place 8k on; bytes past its data length are not looked at",
+    },
 ];
 
 const OUTPUTS: &[Word<'static>] = &[
-    Word { name: "drive", places: 1, meaning: "the level that is driven in this bit time, 1 is recessive" },
-    Word { name: "told", places: 4, meaning: "what is told: 0 nothing, 1 sent, 2 received, 3 lost, errors 4 stuff 5 bit 6 form 7 CRC 8 ACK, 9 overload, 10 off, 11 recovered" },
-    Word { name: "frame_extended", places: 1, meaning: "the frame that is sent or received: its identifier has 29 bits; at other times any" },
-    Word { name: "frame_remote", places: 1, meaning: "it is a remote frame" },
-    Word { name: "frame_identifier", places: 29, meaning: "its identifier, a standard one in the lowest eleven places" },
-    Word { name: "frame_dlc", places: 4, meaning: "its data length code" },
-    Word { name: "frame_data", places: 64, meaning: "its data, byte k from place 8k on; bytes past its data length are 0" },
-    Word { name: "tec", places: 9, meaning: "the transmit error counter that is held" },
-    Word { name: "rec", places: 8, meaning: "the receive error counter that is held" },
-    Word { name: "passive", places: 1, meaning: "error passive" },
-    Word { name: "off", places: 1, meaning: "bus off" },
-    Word { name: "legal", places: 1, meaning: "1 in each state that a run from reset reaches" },
+    Word {
+        name: "drive",
+        places: 1,
+        meaning: "the level that is driven in this bit time, 1 is recessive",
+    },
+    Word {
+        name: "told",
+        places: 4,
+        meaning: "what is told: 0 nothing, 1 sent, 2 received, 3 lost, errors 4 stuff 5 bit 6 form 7 CRC 8 ACK, 9 overload, 10 off, 11 recovered",
+    },
+    Word {
+        name: "frame_extended",
+        places: 1,
+        meaning: "the frame that is sent or received: its identifier has 29 bits; at other times any",
+    },
+    Word {
+        name: "frame_remote",
+        places: 1,
+        meaning: "it is a remote frame",
+    },
+    Word {
+        name: "frame_identifier",
+        places: 29,
+        meaning: "its identifier, a standard one in the lowest eleven places",
+    },
+    Word {
+        name: "frame_dlc",
+        places: 4,
+        meaning: "its data length code",
+    },
+    Word {
+        name: "frame_data",
+        places: 64,
+        meaning: "its data, byte k from place 8k on; bytes past its data length are 0",
+    },
+    Word {
+        name: "tec",
+        places: 9,
+        meaning: "the transmit error counter that is held",
+    },
+    Word {
+        name: "rec",
+        places: 8,
+        meaning: "the receive error counter that is held",
+    },
+    Word {
+        name: "passive",
+        places: 1,
+        meaning: "error passive",
+    },
+    Word {
+        name: "off",
+        places: 1,
+        meaning: "bus off",
+    },
+    Word {
+        name: "legal",
+        places: 1,
+        meaning: "1 in each state that a run from reset reaches",
+    },
 ];
 
 const REGISTERS: &[Word<'static>] = &[
-    Word { name: "phase", places: 4, meaning: "0 idle, 1 joining, 2 stuffed part, 3 CRC delimiter, 4 ACK slot, 5 ACK delimiter, 6 end of frame, 7 error flag, 8 passive error flag, 9 overload flag, 10 behind a flag, 11 delimiter, 12 intermission, 13 suspend transmission, 14 bus off" },
-    Word { name: "place", places: 4, meaning: "the place in the phase, or how many levels in a row it has counted" },
-    Word { name: "last", places: 1, meaning: "in a passive error flag, its last level, 1 is recessive" },
-    Word { name: "unacknowledged", places: 1, meaning: "in a passive error flag, it is that of a sender without acknowledgement" },
-    Word { name: "first", places: 1, meaning: "behind an error flag, the next level is the first one" },
-    Word { name: "sender", places: 1, meaning: "the frame on the bus is its own" },
-    Word { name: "pending", places: 4, meaning: "how many own overload frames are asked for" },
-    Word { name: "used", places: 4, meaning: "how many of these it has used since the last frame" },
-    Word { name: "tec_count", places: 9, meaning: "the transmit error counter" },
-    Word { name: "rec_count", places: 8, meaning: "the receive error counter" },
-    Word { name: "occurrences", places: 7, meaning: "off the bus, how many times eleven recessive levels in a row were seen" },
-    Word { name: "heard", places: 103, meaning: "the unstuffed levels that were heard of a frame, start of frame first, 1 is recessive" },
-    Word { name: "heard_count", places: 7, meaning: "how many unstuffed levels were heard" },
-    Word { name: "heard_last", places: 1, meaning: "the last level that was heard, stuff bits too" },
-    Word { name: "heard_run", places: 4, meaning: "how many levels in a row, up to the last one, equal it" },
-    Word { name: "heard_check", places: 15, meaning: "the check sequence of the unstuffed levels, its first level first" },
-    Word { name: "own", places: 103, meaning: "the unstuffed levels of the sender's frame up to the end of its data, start of frame first" },
+    Word {
+        name: "phase",
+        places: 4,
+        meaning: "0 idle, 1 joining, 2 stuffed part, 3 CRC delimiter, 4 ACK slot, 5 ACK delimiter, 6 end of frame, 7 error flag, 8 passive error flag, 9 overload flag, 10 behind a flag, 11 delimiter, 12 intermission, 13 suspend transmission, 14 bus off",
+    },
+    Word {
+        name: "place",
+        places: 4,
+        meaning: "the place in the phase, or how many levels in a row it has counted",
+    },
+    Word {
+        name: "last",
+        places: 1,
+        meaning: "in a passive error flag, its last level, 1 is recessive",
+    },
+    Word {
+        name: "unacknowledged",
+        places: 1,
+        meaning: "in a passive error flag, it is that of a sender without acknowledgement",
+    },
+    Word {
+        name: "first",
+        places: 1,
+        meaning: "behind an error flag, the next level is the first one",
+    },
+    Word {
+        name: "sender",
+        places: 1,
+        meaning: "the frame on the bus is its own",
+    },
+    Word {
+        name: "pending",
+        places: 4,
+        meaning: "how many own overload frames are asked for",
+    },
+    Word {
+        name: "used",
+        places: 4,
+        meaning: "how many of these it has used since the last frame",
+    },
+    Word {
+        name: "tec_count",
+        places: 9,
+        meaning: "the transmit error counter",
+    },
+    Word {
+        name: "rec_count",
+        places: 8,
+        meaning: "the receive error counter",
+    },
+    Word {
+        name: "occurrences",
+        places: 7,
+        meaning: "off the bus, how many times eleven recessive levels in a row were seen",
+    },
+    Word {
+        name: "heard",
+        places: 103,
+        meaning: "the unstuffed levels that were heard of a frame, start of frame first, 1 is recessive",
+    },
+    Word {
+        name: "heard_count",
+        places: 7,
+        meaning: "how many unstuffed levels were heard",
+    },
+    Word {
+        name: "heard_last",
+        places: 1,
+        meaning: "the last level that was heard, stuff bits too",
+    },
+    Word {
+        name: "heard_run",
+        places: 4,
+        meaning: "how many levels in a row, up to the last one, equal it",
+    },
+    Word {
+        name: "heard_check",
+        places: 15,
+        meaning: "the check sequence of the unstuffed levels, its first level first",
+    },
+    Word {
+        name: "own",
+        places: 103,
+        meaning: "the unstuffed levels of the sender's frame up to the end of its data, start of frame first",
+    },
 ];

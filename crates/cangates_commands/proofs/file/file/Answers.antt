@@ -8,6 +8,7 @@ pub returns : goal.returns
 returns c =
     let made = c.in_ok-design.ensures in
     record {
+      names = c.names-chosen.result;
       design = c.in_ok-design.design;
       starts = made.starts;
       resets = made.resets;
