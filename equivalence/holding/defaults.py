@@ -12,13 +12,17 @@ from peer.verilog import written
 
 TOP = pathlib.Path(__file__).resolve().parent.parent.parent
 PROGRAM = "cangates"
+RELEASED = TOP / "circuit" / f"{MODULE}.v"  # where a release has the proved circuit
 
 
 def circuit_of(path: str | None) -> tuple[Circuit, str]:
     """The circuit of a file, and what is said of it.
 
-    Without a file it is the proved one, where the program that writes it has been built, else the peer.
+    Without a file it is the proved one, where a release has it or the program that writes it has been built, else the
+    peer.
     """
+    if path is None and RELEASED.exists():
+        path = str(RELEASED)
     if path is not None:
         return read_circuit(pathlib.Path(path).read_text(encoding="utf-8", errors="replace"), path), path
     if not (TOP / "out" / PROGRAM).exists():
