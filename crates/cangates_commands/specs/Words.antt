@@ -1,5 +1,5 @@
 -- What the words of a command line ask for. (docs/CIRCUIT.md, "`cangates`")
-use Rattle.std.specs.Prelude.{ℕ, Bool, if◌then◌else◌, ◌&&◌, ◌||◌, List, [], ◌∷◌, Option, Some, None, codes}
+use Rattle.std.specs.Prelude.{ℕ, if◌then◌else◌, ◌&&◌, ◌||◌, List, [], ◌∷◌, Option, Some, None, codes}
 use Rattle.std.specs.Str.{bytes_eq}
 use Rattle.can_program.specs.Words.{is_help_option, is_help_word, is_version_word}
 use Rattle.cangates_commands.specs.declared.words.Asked.{Asked}
