@@ -18,4 +18,4 @@ returns c =
     let are = subst (λ (m : List Message). ArePeriodic m) (sym c.requires.all) (periodic plan.messages.items) in
     subst (λ (m : List Message). Told m (deadlines_of plan.messages.items) (hit_rate_of plan.errors)) c.requires.all
     (subst (λ (d : List ℕ). Told c.args.messages.now d (hit_rate_of plan.errors)) c.requires.due
-    (subst (λ (r : HitRate). Told c.args.messages.now c.args.deadlines.now r) c.hit_rate.ensures (c.margin_of.ensures are)))
+    (subst (λ (r : HitRate). Told c.args.messages.now c.args.deadlines.now r) c.hit_rate.ensures (c.margin_of.ensures.margin are)))
