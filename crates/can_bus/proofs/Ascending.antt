@@ -1,20 +1,20 @@
 -- The ascending list of frames: it is there, it is one, and it is what `ascending` computes.
 use Rattle.std.specs.Prelude.{if◌then◌else◌, Contains}
-use Rattle.std.specs.List.{swap}
+use Rattle.std.specs.List.{sum_by}
 use Rattle.std.specs.List.Sorted.{IsPermutation}
-use Rattle.std.proofs.Common.{◌≡◌, ◌≢◌, ℕ, zero, suc, ◌<◌, ◌⊎◌, Bool, true, false, List, [], ◌∷◌, Some, None, length, get_or, set, All, refl, sym, ◌∙◌, ap, subst, inl, inr, arith, get_or-set_same, get_or-set_other, length-set}
-use Rattle.std.proofs.lemmas.Bool.{cases_eq, cases_order}
-use Rattle.std.proofs.lemmas.List.Edits.{swap_is}
+use Rattle.std.proofs.Common.{◌≡◌, ◌≢◌, ℕ, zero, suc, ◌+◌, ◌<◌, ◌≤◌, ◌⊎◌, Bool, true, false, cond, List, [], ◌∷◌, Some, None, length, get_or, All, refl, sym, ◌∙◌, ap, subst, inl, inr, arith}
+use Rattle.std.proofs.lemmas.Bool.{cases_Bool}
 use Rattle.std.proofs.lemmas.List.Elements.{All-cons, All-tail}
-use Rattle.std.proofs.lemmas.List.Sorted.{IsPermutation-refl, IsPermutation-sym, IsPermutation-trans, IsPermutation-cons, IsPermutation-middle, IsPermutation-keeps, All-permutation, Contains-permutation}
+use Rattle.std.proofs.lemmas.List.Sorted.{IsPermutation-refl, IsPermutation-sym, IsPermutation-trans, IsPermutation-cons, IsPermutation-middle, All-permutation, Contains-permutation, sum_by-IsPermutation}
+use Rattle.std.proofs.lemmas.List.Sums.{get_or-le-sum_by, sum_by-cons}
 use Rattle.std.proofs.lemmas.Option.{slice_get-get_or, get_or_from_slice_get, slice_get_within}
 use Rattle.can_frame.specs.Parts.{Parts}
 use Rattle.can_frame.specs.Arbitration.{arbitration_field, field_cmp, Before}
 use Rattle.can_frame.proofs.BeforeLemmas.{Before-trans, Before-differs, Before-one_way}
 use Rattle.can_frame.proofs.FieldLemmas.{fields_ranked, key_cmp-tells}
-use Rattle.can_node.specs.Ports.{is_less, goes_before}
+use Rattle.can_node.specs.Ports.{is_less, goes_before, same_field}
 use Rattle.can_bus.specs.Quiet.{IsRising, IsAscending, AreDifferent, inserted, ascending}
-use Rattle.can_node.proofs.WaitingLemmas.{is_less-Less}
+use Rattle.can_node.proofs.WaitingLemmas.{is_less-Less, Shares-same_field, same_field-Shares}
 
 abbrev pub Goes : Parts → Parts → Type 0
 Goes f g = Before (arbitration_field f) (arbitration_field g)
@@ -93,95 +93,50 @@ moved_inserted f (g ∷ frames) = moved_placed (goes_before g f) f g frames (mov
 
 -- ---- frames of which no two have one arbitration field
 
-abbrev Differ : List Parts → Type 0
-Differ frames = (m n : ℕ) (d : Parts) → m < length frames → n < length frames → m ≢ n → Other (get_or frames m d) (get_or frames n d)
+-- f counts itself, and each frame of its field
+abbrev likes : Parts → Parts → ℕ
+likes f g = cond (same_field f g) 1 0
 
-AreDifferent-Differ : (frames : List Parts) → AreDifferent frames → Differ frames
-AreDifferent-Differ frames different m n d a b apart same =
-    elim (cases_order m n) [
-      | inl e ↦ apart e
-      | inr order ↦ elim order [
-        | inl less ↦ different m n (get_or frames m d) (get_or frames n d) less (slice_get-get_or frames m d a) (slice_get-get_or frames n d b) same
-        | inr more ↦ different n m (get_or frames n d) (get_or frames m d) more (slice_get-get_or frames n d b) (slice_get-get_or frames m d a) (sym same)
-      ]
-    ]
+liked-more : (f g : Parts) (frames : List Parts) (b : Bool) → same_field f g ≡ b → sum_by (likes f) (g ∷ frames) ≡ cond b 1 0 + sum_by (likes f) frames
+liked-more f g frames b test = sum_by-cons (likes f) g frames ∙ ap (λ c. cond c 1 0 + sum_by (likes f) frames) test
 
-rising-Differ : (frames : List Parts) → IsRising frames → Differ frames
-rising-Differ frames rising =
-    AreDifferent-Differ frames (λ m n f g less a b. Before-differs (arbitration_field f) (arbitration_field g) (rising m n f g less a b))
+none-liked : (f : Parts) (frames : List Parts) → All (Other f) frames → sum_by (likes f) frames ≡ 0
+none-liked f [] other = refl
+none-liked f (g ∷ frames) other = elim (cases_Bool (same_field f g)) [
+  | inl same ↦ absurd (other 0 g (omega arith) (same_field-Shares f g same))
+  | inr apart ↦ omega (arith, liked-more f g frames false apart, none-liked f frames (All-tail (Other f) g frames other))
+]
 
-differ_head : (f : Parts) (frames : List Parts) → Differ (f ∷ frames) → All (Other f) frames
-differ_head f frames differ k d h = differ 0 (suc k) d (omega arith) (omega arith) (λ e. omega arith)
+different_head : (f : Parts) (frames : List Parts) → AreDifferent (f ∷ frames) → All (Other f) frames
+different_head f frames different k d h = different 0 (suc k) f (get_or frames k d) (omega arith) refl (slice_get-get_or frames k d h)
 
-differ_tail : (f : Parts) (frames : List Parts) → Differ (f ∷ frames) → Differ frames
-differ_tail f frames differ m n d a b apart = differ (suc m) (suc n) d (omega arith) (omega arith) (λ e. apart (omega arith))
+different_tail : (f : Parts) (frames : List Parts) → AreDifferent (f ∷ frames) → AreDifferent frames
+different_tail f frames different m n g h less a b = different (suc m) (suc n) g h (omega arith) a b
 
--- where the element at a place stood before two were exchanged
-abbrev IsSource : ℕ → ℕ → ℕ → ℕ → Type 0
-IsSource i j m k = ((m ≡ j) × (k ≡ i)) ⊎ (((m ≡ i) × (k ≡ j)) ⊎ ((m ≡ k) × (m ≢ i) × (m ≢ j)))
+-- each field counts once at most
+once : (f : Parts) (frames : List Parts) → AreDifferent frames → sum_by (likes f) frames ≤ 1
+once f [] different = omega arith
+once f (g ∷ frames) different = elim (cases_Bool (same_field f g)) [
+  | inl same ↦
+      let others : All (Other f) frames = λ k d h e. different_head g frames different k d h (sym (same_field-Shares f g same) ∙ e) in
+      omega (arith, liked-more f g frames true same, none-liked f frames others)
+  | inr apart ↦ omega (arith, liked-more f g frames false apart, once f frames (different_tail g frames different))
+]
 
-swap_source : {X : Type 0} (xs : List X) (i j m : ℕ) (d : X) → i < length xs → j < length xs → m < length xs →
-    (k : ℕ) × (k < length xs) × (get_or (swap xs i j) m d ≡ get_or xs k d) × IsSource i j m k
-swap_source xs i j m d a b h =
-    let is : get_or (swap xs i j) m d ≡ get_or (set (set xs i (get_or xs j d)) j (get_or xs i d)) m d = ap (λ ys. get_or ys m d) (sym (swap_is xs i j d a b)) in
-    let long : j < length (set xs i (get_or xs j d)) = omega (arith, length-set xs i (get_or xs j d)) in
-    elim (cases_eq m j) [
-      | inl e ↦ (
-        i,
-        a,
-        is ∙ ap (λ k. get_or (set (set xs i (get_or xs j d)) j (get_or xs i d)) k d) e ∙ get_or-set_same (set xs i (get_or xs j d)) j (get_or xs i d) d long,
-        inl (e, refl),
-      )
-      | inr last ↦ elim (cases_eq m i) [
-        | inl e ↦ (
-          j,
-          b,
-          is ∙ get_or-set_other (set xs i (get_or xs j d)) j m (get_or xs i d) d last
-              ∙ ap (λ k. get_or (set xs i (get_or xs j d)) k d) e ∙ get_or-set_same xs i (get_or xs j d) d a,
-          inr (inl (e, refl)),
-        )
-        | inr first ↦ (
-          m,
-          h,
-          is ∙ get_or-set_other (set xs i (get_or xs j d)) j m (get_or xs i d) d last ∙ get_or-set_other xs i m (get_or xs j d) d first,
-          inr (inr (refl, first, last)),
-        )
-      ]
-    ]
-
-sources_apart : (i j m n k l : ℕ) → IsSource i j m k → IsSource i j n l → k ≡ l → m ≡ n
-sources_apart i j m n k l (inl p) (inl q) e = omega arith
-sources_apart i j m n k l (inl p) (inr (inl q)) e = omega arith
-sources_apart i j m n k l (inl p) (inr (inr (q, first, last))) e = absurd (first (omega arith))
-sources_apart i j m n k l (inr (inl p)) (inl q) e = omega arith
-sources_apart i j m n k l (inr (inl p)) (inr (inl q)) e = omega arith
-sources_apart i j m n k l (inr (inl p)) (inr (inr (q, first, last))) e = absurd (last (omega arith))
-sources_apart i j m n k l (inr (inr (p, first, last))) (inl q) e = absurd (first (omega arith))
-sources_apart i j m n k l (inr (inr (p, first, last))) (inr (inl q)) e = absurd (last (omega arith))
-sources_apart i j m n k l (inr (inr (p, first, last))) (inr (inr (q, one, two))) e = omega arith
-
-length-swap : {X : Type 0} (xs : List X) (i j : ℕ) → length (swap xs i j) ≡ length xs
-length-swap [] i j = refl
-length-swap (x ∷ xs) i j =
-    length-set (set (x ∷ xs) i (get_or (x ∷ xs) j x)) j (get_or (x ∷ xs) i x) ∙ length-set (x ∷ xs) i (get_or (x ∷ xs) j x)
-
-differ_swap : (frames : List Parts) (i j : ℕ) → i < length frames → j < length frames → Differ frames → Differ (swap frames i j)
-differ_swap frames i j a b differ m n d c e apart same =
-    let long : length (swap frames i j) ≡ length frames = length-swap frames i j in
-    let p = swap_source frames i j m d a b (omega arith) in
-    let q = swap_source frames i j n d a b (omega arith) in
-    let far : p.0 ≢ q.0 = λ z. apart (sources_apart i j m n p.0 q.0 p.3 q.3 z) in
-    differ p.0 q.0 d p.1 q.1 far (sym (ap arbitration_field p.2) ∙ same ∙ ap arbitration_field q.2)
-
-differ_permuted : (a b : List Parts) → IsPermutation a b → Differ a → Differ b
-differ_permuted a b moved differ = IsPermutation-keeps a Differ differ differ_swap b moved
+-- of a sum two places are a part
+two-places : (weight : Parts → ℕ) (frames : List Parts) (m n : ℕ) (d : Parts) → m < n → n < length frames → weight (get_or frames m d) + weight (get_or frames n d) ≤ sum_by weight frames
+two-places weight [] m n d less within = absurd (omega (arith, within))
+two-places weight (f ∷ frames) m zero d less within = absurd (omega (arith, less))
+two-places weight (f ∷ frames) zero (suc n) d less within = omega (arith, sum_by-cons weight f frames, get_or-le-sum_by weight frames n d (omega (arith, within)))
+two-places weight (f ∷ frames) (suc m) (suc n) d less within =
+    omega (arith, sum_by-cons weight f frames, two-places weight frames m n d (omega (arith, less)) (omega (arith, within)))
 
 pub different_permuted : (a b : List Parts) → IsPermutation a b → AreDifferent a → AreDifferent b
 different_permuted a b moved different m n f g less at to same =
-    let first : get_or b m f ≡ f = get_or_from_slice_get b m f f at in
-    let second : get_or b n f ≡ g = get_or_from_slice_get b n g f to in
-    differ_permuted a b moved (AreDifferent-Differ a different) m n f (slice_get_within b m f at) (slice_get_within b n g to) (λ e. omega (arith, e, less))
-    (ap arbitration_field first ∙ same ∙ sym (ap arbitration_field second))
+    let two = two-places (likes f) b m n f less (slice_get_within b n g to) in
+    let first : likes f (get_or b m f) ≡ 1 = ap (likes f) (get_or_from_slice_get b m f f at) ∙ ap (λ c. cond c 1 0) (Shares-same_field f f refl) in
+    let second : likes f (get_or b n f) ≡ 1 = ap (likes f) (get_or_from_slice_get b n g f to) ∙ ap (λ c. cond c 1 0) (Shares-same_field f g same) in
+    absurd (omega (arith, two, first, second, once f a different, sum_by-IsPermutation (likes f) a b moved))
 
 -- ---- the ascending list
 
@@ -192,15 +147,12 @@ ascending_all (f ∷ frames) =
     IsPermutation-trans (f ∷ frames) (f ∷ ascending frames) (inserted f (ascending frames))
     (IsPermutation-cons f frames (ascending frames) (ascending_all frames)) (moved_inserted f (ascending frames))
 
-ascending_rising : (frames : List Parts) → Differ frames → IsRising (ascending frames)
+ascending_rising : (frames : List Parts) → AreDifferent frames → IsRising (ascending frames)
 unfolding ascending
-ascending_rising [] differ = rising_none
-ascending_rising (f ∷ frames) differ =
-    rising_inserted f (ascending frames) (ascending_rising frames (differ_tail f frames differ))
-    (All-permutation (Other f) frames (ascending frames) (ascending_all frames) (differ_head f frames differ))
-
-ascending_of : (frames : List Parts) → Differ frames → IsAscending frames (ascending frames)
-ascending_of frames differ = record { rising = ascending_rising frames differ; all = ascending_all frames }
+ascending_rising [] different = rising_none
+ascending_rising (f ∷ frames) different =
+    rising_inserted f (ascending frames) (ascending_rising frames (different_tail f frames different))
+    (All-permutation (Other f) frames (ascending frames) (ascending_all frames) (different_head f frames different))
 
 -- ---- two lists that rise and have the same elements
 
@@ -254,16 +206,16 @@ ascending_same v w a b moved p q =
 
 -- `ascending` gives an ascending list
 pub ascending_there : (waiting : List Parts) → AreDifferent waiting → IsAscending waiting (ascending waiting)
-ascending_there waiting different = ascending_of waiting (AreDifferent-Differ waiting different)
+ascending_there waiting different = record { rising = ascending_rising waiting different; all = ascending_all waiting }
 
 -- no other is ascending
 pub ascending_only : (waiting frames : List Parts) → IsAscending waiting frames → frames ≡ ascending waiting
 ascending_only waiting frames is =
-    let differ : Differ waiting = differ_permuted frames waiting (IsPermutation-sym waiting frames is.all) (rising-Differ frames is.rising) in
-    ascending_same waiting waiting frames (ascending waiting) (IsPermutation-refl waiting) is (ascending_of waiting differ)
+    let rising : AreDifferent frames = λ m n f g less a b. Before-differs (arbitration_field f) (arbitration_field g) (is.rising m n f g less a b) in
+    let different : AreDifferent waiting = different_permuted frames waiting (IsPermutation-sym waiting frames is.all) rising in
+    ascending_same waiting waiting frames (ascending waiting) (IsPermutation-refl waiting) is (ascending_there waiting different)
 
 -- in whatever order the frames are given
 pub ascending_permuted : (v w : List Parts) → IsPermutation v w → AreDifferent v → ascending v ≡ ascending w
 ascending_permuted v w moved different =
-    let differ : Differ v = AreDifferent-Differ v different in
-    ascending_same v w (ascending v) (ascending w) moved (ascending_of v differ) (ascending_of w (differ_permuted v w moved differ))
+    ascending_same v w (ascending v) (ascending w) moved (ascending_there v different) (ascending_there w (different_permuted v w moved different))

@@ -9,11 +9,11 @@ use Rattle.can_node.specs.Ports.{PortState}
 use Rattle.can_hit.specs.declared.hit.Hit.{Hit}
 use Rattle.can_hit.specs.declared.hit.Hit.TheVariants.{In}
 use Rattle.can_bus.specs.Attempts.{AreApart, IsLow, Tally, hit_of, tallied}
-use Rattle.can_bus.specs.Course.{Transmission, and_hit, course_tally, hit_time, hits_made}
-use Rattle.can_bus.specs.Quiet.{busy_time, holds}
+use Rattle.can_bus.specs.Course.{Transmission, and_hit, course_tally, hits_made, keeping}
+use Rattle.can_bus.specs.Quiet.{holds}
 use Rattle.can_bus.specs.Repair.{AreBorne, AreOfOnePort, HoldsAllOrNone, attempts_from, no_errors, repaired_course, tally}
 use Rattle.can_bus.proofs.Members.{none-taken}
-use Rattle.can_bus.proofs.RepairPlans.{few-made, from-again, from-whole, hit-cases, struck-there}
+use Rattle.can_bus.proofs.RepairPlans.{few-made, frames_left, hit-cases, struck-there}
 
 -- ---- Few hits.
 
@@ -149,17 +149,15 @@ module _ (hits : List Hit) (nine : AreApart 9 hits) where
   low-by true number t is = record { tec = omega (arith, is.most); rec = omega (arith, is.still) }
   low-by false number t is = record { tec = omega (arith, is.still); rec = omega (arith, is.most) }
 
-  restored-whole : (b : Bool) (number : ℕ) (f : Parts) (t : Tally) → hit_of hits number ≡ None → IsRestored b number t → IsRestored b (number + 1) (tallied b f None t)
-  restored-whole b number f t none is =
+  restored : (b : Bool) (number : ℕ) (f : Parts) (hit : Option ℕ) (t : Tally) → hit_of hits number ≡ hit → IsRestored b number t → IsRestored b (number + 1) (tallied b f hit t)
+  restored b number f None t none is =
       let left = ap (allowance hits) (let k : number + 1 ≡ suc number = omega arith in k) ∙ ap (λ w. allowed w (allowance hits number)) none in
       record {
         still = tallied-other b f None t ∙ is.still;
         most = omega (arith, tallied-fewer b f t, is.most);
         soon = omega (arith, tallied-fewer b f t, is.soon, left);
       }
-
-  restored-again : (b : Bool) (number : ℕ) (f : Parts) (o : ℕ) (t : Tally) → hit_of hits number ≡ Some o → IsRestored b number t → IsRestored b (number + 1) (tallied b f (Some o) t)
-  restored-again b number f o t some is =
+  restored b number f (Some o) t some is =
       let left = ap (allowance hits) (let k : number + 1 ≡ suc number = omega arith in k) ∙ ap (λ w. allowed w (allowance hits number)) some in
       let nothing = none-allowed number o some in
       record {
@@ -173,25 +171,20 @@ module _ (hits : List Hit) (nine : AreApart 9 hits) where
     abbrev AllHeld : List Parts → Type 0
     AllHeld frames = (n : ℕ) (f : Parts) → slice_get frames n ≡ Some f → holds queue f ≡ b
 
+    held-left : (f : Parts) (hit : Option ℕ) (frames : List Parts) → AllHeld (f ∷ frames) → AllHeld (frames_left f hit frames)
+    held-left f None frames each = λ n g at. each (suc n) g at
+    held-left f (Some o) frames each = each
+
     stays-low : (count number time : ℕ) (frames : List Parts) (t : Tally) → AllHeld frames → IsRestored b number t → (some : ℕ) → IsLow (course_tally queue (take some (attempts_from count hits number time frames)) t)
     stays-low count number time frames t each is zero = subst (λ none. IsLow (course_tally queue none t)) (sym (none-taken (attempts_from count hits number time frames))) (low-by b number t is)
     stays-low zero number time frames t each is (suc some) = low-by b number t is
     stays-low (suc count) number time [] t each is (suc some) = low-by b number t is
     stays-low (suc count) number time (f ∷ frames) t each is (suc some) =
-        let own_frame = each 0 f refl in
-        elim (hit-cases (hit_of hits number)) [
-          | inl none ↦
-              let behind = attempts_from count hits (number + 1) (time + busy_time f) frames in
-              subst (λ course. IsLow (course_tally queue (take (suc some) course) t)) (sym (from-whole hits count number time f frames none))
-              (subst (λ c. IsLow (course_tally queue (take some behind) (tallied c f None t))) (sym own_frame)
-              (stays-low count (number + 1) (time + busy_time f) frames (tallied b f None t) (λ n g at. each (suc n) g at) (restored-whole b number f t none is) some))
-          | inr hit ↦
-              let o = hit.0 in
-              let behind = attempts_from count hits (number + 1) (time + hit_time f o) (f ∷ frames) in
-              subst (λ course. IsLow (course_tally queue (take (suc some) course) t)) (sym (from-again hits count number time f frames o hit.1))
-              (subst (λ c. IsLow (course_tally queue (take some behind) (tallied c f (Some o) t))) (sym own_frame)
-              (stays-low count (number + 1) (time + hit_time f o) (f ∷ frames) (tallied b f (Some o) t) each (restored-again b number f o t hit.1 is) some))
-        ]
+        let hit : Option ℕ = hit_of hits number in
+        let rest : List Parts = frames_left f hit frames in
+        let behind : List Transmission = attempts_from count hits (number + 1) (time + keeping f hit) rest in
+        subst (λ c. IsLow (course_tally queue (take some behind) (tallied c f hit t))) (sym (each 0 f refl))
+        (stays-low count (number + 1) (time + keeping f hit) rest (tallied b f hit t) (held-left f hit frames each) (restored b number f hit t refl is) some)
 
   start : (b : Bool) → IsRestored b 0 no_errors
   start true = record { still = refl; most = omega arith; soon = omega arith }

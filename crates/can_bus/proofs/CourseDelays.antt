@@ -12,15 +12,14 @@ use Rattle.can_node.specs.Ports.{PortState, goes_before, same_field}
 use Rattle.can_node.proofs.WaitingLemmas.{Wins-goes_before, Shares-same_field, same_field-Shares}
 use Rattle.can_hit.specs.declared.hit.Hit.{Hit}
 use Rattle.can_bus.specs.declared.offer.Offer.{Offer}
-use Rattle.can_bus.specs.Course.{Transmission, IsCourse, over, sent, broken, IsMade, hit_time}
+use Rattle.can_bus.specs.Course.{FallsInWindow, Transmission, IsCourse, over, attempted, IsMade, keeping, left_by}
 use Rattle.can_bus.specs.Schedule.{unhit}
-use Rattle.can_bus.specs.CourseWaiting.{AreInTime, IsSentBy, attempts_between, going_before, hit_attempts, keeping, kept_times, left_behind, left_on, of_field, sent_attempts, ahead_of, busy_times}
+use Rattle.can_bus.specs.CourseWaiting.{AreInTime, IsSentBy, attempts_between, going_before, hit_attempts, kept_times, left_behind, left_on, of_field, sent_attempts, ahead_of, busy_times}
 use Rattle.can_bus.specs.Offers.{AreOffered}
 use Rattle.can_bus.specs.Quiet.{queued, busy_time, span}
-use Rattle.can_bus.specs.Attempts.{IsInWindow}
 use Rattle.can_bus.specs.Timed.{TimedParts, Lists, without_offer, frames_of, all_offers, offered_first, timed}
 use Rattle.can_bus.proofs.CourseTracks.{course-free}
-use Rattle.can_bus.proofs.CourseWaits.{Awaits, FieldsInOrder, GoesFirst, IsOwn, awaits-listed, awaits-made, between-before, between-late, between-more, between-none, fields-without, first-left, hit-awaits, next-first, others-kept, sends-it, sent-cases, wait-exact, wait-first, wait-own}
+use Rattle.can_bus.proofs.CourseWaits.{Awaits, FieldsInOrder, GoesFirst, IsOwn, awaits-listed, awaits-made, between-before, between-late, between-more, between-none, fields-left, fields-without, first-left, hit-awaits, next-first, others-kept, sends-it, sent-cases, wait-exact, wait-first, wait-own}
 use Rattle.can_bus.proofs.Fields.{field-more, field-skip}
 use Rattle.can_bus.proofs.Lateness.{late-behind, lateness-few}
 use Rattle.can_bus.proofs.Members.{filter-stands, stands-filter}
@@ -169,14 +168,14 @@ module _ (weight : Parts → ℕ) where
   late-weigh : {hits : List Hit} {number free : ℕ} {left : List TimedParts} {course : List Transmission} → IsCourse hits number free left course → FieldsInOrder left →
       (x : TimedParts) (s : Transmission) (before : List TimedParts) → Awaits left course x s before → ((z : Transmission) → IsMade course z → x.time ≤ z.time) → sent_weight course x s ≤ ahead_weight left before x s
   late-weigh (over number free) order x s before waits from = absurd (let h : None ≡ Some s = waits.turn in cc)
-  late-weigh (sent number free time f left course is unhit rest) order x s before waits from =
+  late-weigh (attempted number free time f None left course is unhit window rest) order x s before waits from =
       let a : Transmission = record { time = time; frame = f; hit = None } in
       let here : x.time ≤ time = from a (inl refl) in
       let head = first-left free left time f is order in
       let ends : (other : a ≡ s) → sent_weight (a ∷ course) x s ≤ ahead_weight left before x s = λ same.
       let at : time ≡ s.time = ap (λ (z : Transmission). z.time) same in
       let none = sent-none (a ∷ course) x s (none-earlier rest a (omega arith) s.time (omega (arith, at))) in omega (arith, none) in
-      elim (sent-cases free time f left course is order x s before waits) [
+      elim (sent-cases free time f left course is order x s before None waits) [
         | inl sends ↦ ends sends.same
         | inr later ↦
             let goes : time < s.time = omega (arith, course-free rest s (awaits-made later).0) in
@@ -202,7 +201,7 @@ module _ (weight : Parts → ℕ) where
               ]
             ]
       ]
-  late-weigh (broken number free time f offset left course is struck window rest) order x s before waits from =
+  late-weigh (attempted number free time f (Some offset) left course is struck window rest) order x s before waits from =
       let a : Transmission = record { time = time; frame = f; hit = Some offset } in
       let behind = late-weigh rest order x s before (hit-awaits free time f left course is order x s before offset waits) (λ z made. from z (inr made)) in
       omega (arith, behind, sent-hit time f course x s offset (from a (inl refl)))
@@ -221,32 +220,20 @@ module _ (weight : Parts → ℕ) where
   pub weigh-going : {hits : List Hit} {number free : ℕ} {left : List TimedParts} {course : List Transmission} → IsCourse hits number free left course → FieldsInOrder left →
       (x : TimedParts) (s : Transmission) (before : List TimedParts) → Awaits left course x s before → sent_weight course x s ≤ going_weight left before course x s
   weigh-going (over number free) order x s before waits = absurd (let h : None ≡ Some s = waits.turn in cc)
-  weigh-going (sent number free time f left course is unhit rest) order x s before waits =
-      let a : Transmission = record { time = time; frame = f; hit = None } in
+  weigh-going (attempted number free time f hit left course is told window rest) order x s before waits =
+      let a : Transmission = record { time = time; frame = f; hit = hit } in
       elim (cases_lt time x.time) [
         | inr from ↦
             let all = none-earlier rest a (omega arith) x.time from in
-            late-going left before (a ∷ course) x s all (late-weigh (sent number free time f left course is unhit rest) order x s before waits all)
-        | inl early ↦ elim (sent-cases free time f left course is order x s before waits) [
+            late-going left before (a ∷ course) x s all (late-weigh (attempted number free time f hit left course is told window rest) order x s before waits all)
+        | inl early ↦ elim (sent-cases free time f left course is order x s before hit waits) [
           | inl sends ↦ absurd (let t = sends.in_time in omega (arith, t, early))
           | inr later ↦
-              let behind = weigh-going rest (fields-without f left order) x s (without_offer f before) later in
-              let same = sent-before time f course x s None early in
+              let behind = weigh-going rest (fields-left f hit left order) x s (left_by f hit before) later in
+              let same = sent-before time f course x s hit early in
               subst (λ l. sent_weight (a ∷ course) x s ≤ ahead_weight (left_behind left l) (left_behind before l) x s) (sym (between-more 0 x.time a course (omega arith) early))
               (omega (arith, behind, same))
         ]
-      ]
-  weigh-going (broken number free time f offset left course is struck window rest) order x s before waits =
-      let a : Transmission = record { time = time; frame = f; hit = Some offset } in
-      elim (cases_lt time x.time) [
-        | inr from ↦
-            let all = none-earlier rest a (omega arith) x.time from in
-            late-going left before (a ∷ course) x s all (late-weigh (broken number free time f offset left course is struck window rest) order x s before waits all)
-        | inl early ↦
-            let behind = weigh-going rest order x s before (hit-awaits free time f left course is order x s before offset waits) in
-            let same = sent-before time f course x s (Some offset) early in
-            subst (λ l. sent_weight (a ∷ course) x s ≤ ahead_weight (left_behind left l) (left_behind before l) x s) (sym (between-more 0 x.time a course (omega arith) early))
-            (omega (arith, behind, same))
       ]
 
 -- ---- attempts that send a frame, and attempts that are hit
@@ -271,9 +258,10 @@ length-sent [] = refl
 length-sent (s ∷ course) = omega (arith, sum_by-cons (λ (z : Transmission). 1) s course, length-sent course)
 
 -- a hit in the window costs thirteen bit times at most
-hit-cost : (f : Parts) (offset : ℕ) → IsFrame f → IsInWindow f offset → hit_time f offset ≤ busy_time f + 13
-hit-cost f zero is window = absurd (omega (arith, window.behind_field))
-hit-cost f (suc o) is window = elim (cases_lt (suc o) (length (stuffed_part f))) [
+hit-cost : (f : Parts) (hit : Option ℕ) → IsFrame f → FallsInWindow f hit → keeping f hit ≤ busy_time f + 13
+hit-cost f None is window = omega arith
+hit-cost f (Some zero) is window = absurd (omega (arith, window.behind_field))
+hit-cost f (Some (suc o)) is window = elim (cases_lt (suc o) (length (stuffed_part f))) [
   | inl within ↦ omega (arith, within, lateness-few f (suc o), length-wire f)
   | inr past ↦ omega (arith, late-behind f is (suc o) (omega arith) past, window.before_last, length-wire f)
 ]
@@ -281,13 +269,10 @@ hit-cost f (suc o) is window = elim (cases_lt (suc o) (length (stuffed_part f)))
 pub course-costs : {hits : List Hit} {number free : ℕ} {left : List TimedParts} {course : List Transmission} → IsCourse hits number free left course → (s : Transmission) → IsMade course s → IsFrame s.frame →
     keeping s.frame s.hit ≤ busy_time s.frame + 13
 course-costs (over number free) s made framed = absurd made
-course-costs (sent number free time f left course is unhit rest) s (inl here) framed =
-    subst (λ (z : Transmission). keeping z.frame z.hit ≤ busy_time z.frame + 13) here (omega arith)
-course-costs (sent number free time f left course is unhit rest) s (inr made) framed = course-costs rest s made framed
-course-costs (broken number free time f offset left course is struck window rest) s (inl here) framed =
+course-costs (attempted number free time f hit left course is told window rest) s (inl here) framed =
     subst (λ (z : Transmission). keeping z.frame z.hit ≤ busy_time z.frame + 13) here
-    (hit-cost f offset (subst (λ (z : Transmission). IsFrame z.frame) (sym here) framed) window)
-course-costs (broken number free time f offset left course is struck window rest) s (inr made) framed = course-costs rest s made framed
+    (hit-cost f hit (subst (λ (z : Transmission). IsFrame z.frame) (sym here) framed) window)
+course-costs (attempted number free time f hit left course is told window rest) s (inr made) framed = course-costs rest s made framed
 
 -- ---- the wait, told from a course
 

@@ -8,13 +8,12 @@ use Rattle.can_node.specs.Waiting.{IsWaiting}
 use Rattle.can_node.proofs.WaitingLaws.{waiting-IsWaiting, waiting-some, waits}
 use Rattle.can_node.proofs.WaitingLemmas.{Shares-same_field}
 use Rattle.can_hit.specs.declared.hit.Hit.{Hit}
-use Rattle.can_bus.specs.Course.{HitInWindows, IsCourse, IsNext, Transmission, attempt_of, broken, course_from, course_of, hit_time, over, sent}
-use Rattle.can_bus.specs.Attempts.{IsInWindow, hit_of}
-use Rattle.can_bus.specs.Quiet.{busy_time}
+use Rattle.can_bus.specs.Course.{FallsInWindow, HitInWindows, IsCourse, IsNext, Transmission, and_hit, attempt_of, attempted, course_from, course_of, keeping, left_by, over}
+use Rattle.can_bus.specs.Attempts.{hit_of}
 use Rattle.can_bus.specs.Timed.{TimedParts, earliest, offered_by, without_offer}
 use Rattle.can_bus.proofs.Fields.{without-length}
 use Rattle.can_bus.proofs.LeftOffers.{earliest-each, earliest-is, offered-stands, stands-offered}
-use Rattle.can_bus.proofs.RepairPlans.{few-before, hit-cases, hits_before, weigh-next}
+use Rattle.can_bus.proofs.RepairPlans.{few-before, hit-counts, hits_before}
 
 -- ---- it is one
 
@@ -58,6 +57,11 @@ module _ (free : ℕ) (x : TimedParts) (others : List TimedParts) (f : Parts) (w
       let there = offered-stands time left f (is.place, is.stands) in
       without-length f left there.0 there.1 (Shares-same_field f there.0.frame (sym (ap arbitration_field there.3)))
 
+-- an attempt uses up an offer, or a hit
+left-length : (f : Parts) (hit : Option ℕ) (left : List TimedParts) → length left ≡ suc (length (without_offer f left)) → length (left_by f hit left) ≡ and_hit hit (length (without_offer f left))
+left-length f None left less = refl
+left-length f (Some offset) left less = omega (arith, less)
+
 module _ (hits : List Hit) where
   there-from : (count number free : ℕ) (left : List TimedParts) → length left + length hits ≤ count + hits_before hits number → HitInWindows (course_from count hits number free left) →
       IsCourse hits number free left (course_from count hits number free left)
@@ -69,28 +73,15 @@ module _ (hits : List Hit) where
       let f = first.0 in
       let left : List TimedParts = x ∷ others in
       let time : ℕ = max free (earliest x others) in
-      let is : IsNext free left time f = next-there free x others f first.1 in
-      let behind : Parts → List Transmission = λ g. course_from count hits (number + 1) (time + busy_time g) (without_offer g left) in
-      let again : Parts → ℕ → List Transmission = λ g o. course_from count hits (number + 1) (time + hit_time g o) left in
-      elim (hit-cases (hit_of hits number)) [
-        | inl unhit ↦
-            let same : course_from (suc count) hits number free left ≡ record { time = time; frame = f; hit = None } ∷ behind f =
-            ap (λ h. attempt_of behind again time h (waiting (offered_by time left))) unhit ∙ ap (attempt_of behind again time None) first.1 in
-            let all : HitInWindows (record { time = time; frame = f; hit = None } ∷ behind f) = subst HitInWindows same windows in
-            subst (IsCourse hits number free left) (sym same)
-            (sent number free time f left (behind f) is unhit
-            (there-from count (number + 1) (time + busy_time f) (without_offer f left) (omega (arith, enough, one-less free x others f first.1, (weigh-next (λ o. 1) hits number).0))
-            (λ s o made e. all s o (inr made) e)))
-        | inr struck ↦
-            let o = struck.0 in
-            let same : course_from (suc count) hits number free left ≡ record { time = time; frame = f; hit = Some o } ∷ again f o =
-            ap (λ h. attempt_of behind again time h (waiting (offered_by time left))) struck.1 ∙ ap (attempt_of behind again time (Some o)) first.1 in
-            let all : HitInWindows (record { time = time; frame = f; hit = Some o } ∷ again f o) = subst HitInWindows same windows in
-            subst (IsCourse hits number free left) (sym same)
-            (broken number free time f o left (again f o) is struck.1 (all (record { time = time; frame = f; hit = Some o }) o (inl refl) refl)
-            (there-from count (number + 1) (time + hit_time f o) left (omega (arith, enough, (weigh-next (λ o. 1) hits number).1 o struck.1))
-            (λ s p made e. all s p (inr made) e)))
-      ]
+      let hit : Option ℕ = hit_of hits number in
+      let behind : Parts → List Transmission = λ g. course_from count hits (number + 1) (time + keeping g hit) (left_by g hit left) in
+      let same : course_from (suc count) hits number free left ≡ record { time = time; frame = f; hit = hit } ∷ behind f = ap (attempt_of behind time hit) first.1 in
+      let all : HitInWindows (record { time = time; frame = f; hit = hit } ∷ behind f) = subst HitInWindows same windows in
+      let less = one-less free x others f first.1 in
+      subst (IsCourse hits number free left) (sym same)
+      (attempted number free time f hit left (behind f) (next-there free x others f first.1) refl (all (record { time = time; frame = f; hit = hit }) (inl refl))
+      (there-from count (number + 1) (time + keeping f hit) (left_by f hit left)
+      (omega (arith, enough, less, left-length f hit left less, hit-counts hits number hit refl (length (without_offer f left)))) (λ s made. all s (inr made))))
 
   pub course-there : (offers : List TimedParts) → HitInWindows (course_of hits offers) → IsCourse hits 0 0 offers (course_of hits offers)
   unfolding course_of
@@ -98,14 +89,9 @@ module _ (hits : List Hit) where
 
 -- so it is the one that is computed
 course-windows : {hits : List Hit} {number free : ℕ} {left : List TimedParts} {course : List Transmission} → IsCourse hits number free left course → HitInWindows course
-course-windows (over number free) s o made e = absurd made
-course-windows (sent number free time f left course is unhit rest) s o (inl here) e = let same : None ≡ Some o = ap (λ (x : Transmission). x.hit) here ∙ e in cc
-course-windows (sent number free time f left course is unhit rest) s o (inr made) e = course-windows rest s o made e
-course-windows (broken number free time f offset left course is struck window rest) s o (inl here) e =
-    let same : Some offset ≡ Some o = ap (λ (x : Transmission). x.hit) here ∙ e in
-    let place : offset ≡ o = cc in
-    subst (λ k. IsInWindow s.frame k) place (subst (λ g. IsInWindow g offset) (ap (λ (x : Transmission). x.frame) here) window)
-course-windows (broken number free time f offset left course is struck window rest) s o (inr made) e = course-windows rest s o made e
+course-windows (over number free) s made = absurd made
+course-windows (attempted number free _ f hit _ course is told window rest) s (inl here) = subst (λ (z : Transmission). FallsInWindow z.frame z.hit) here window
+course-windows (attempted number free _ f hit _ course is told window rest) s (inr made) = course-windows rest s made
 
 -- ---- and no other
 
@@ -122,33 +108,27 @@ module _ (hits : List Hit) (count number free : ℕ) (x : TimedParts) (others : 
   first-waits : waiting (offered_by (max free (earliest x others)) all_left) ≡ Some f
   first-waits = ap (λ k. waiting (offered_by k all_left)) (sym first-time) ∙ (waits (offered_by time all_left) f).1 is.waits
 
-  abbrev behind_at : ℕ → Parts → List Transmission
-  behind_at k g = course_from count hits (number + 1) (k + busy_time g) (without_offer g all_left)
+  abbrev behind_at : ℕ → Option ℕ → Parts → List Transmission
+  behind_at k hit g = course_from count hits (number + 1) (k + keeping g hit) (left_by g hit all_left)
 
-  abbrev again_at : ℕ → Parts → ℕ → List Transmission
-  again_at k g o = course_from count hits (number + 1) (k + hit_time g o) all_left
-
-  first-made : (hit : Option ℕ) → hit_of hits number ≡ hit → course_from (suc count) hits number free all_left ≡ attempt_of (behind_at time) (again_at time) time hit (Some f)
+  first-made : (hit : Option ℕ) → hit_of hits number ≡ hit → course_from (suc count) hits number free all_left ≡ record { time = time; frame = f; hit = hit } ∷ behind_at time hit f
   first-made hit e =
-      ap (λ h. attempt_of (behind_at (max free (earliest x others))) (again_at (max free (earliest x others))) (max free (earliest x others)) h (waiting (offered_by (max free (earliest x others)) all_left))) e
-      ∙ ap (attempt_of (behind_at (max free (earliest x others))) (again_at (max free (earliest x others))) (max free (earliest x others)) hit) first-waits
-      ∙ ap (λ k. attempt_of (behind_at k) (again_at k) k hit (Some f)) (sym first-time)
+      let t = max free (earliest x others) in
+      ap (λ h. attempt_of (behind_at t h) t h (waiting (offered_by t all_left))) e
+      ∙ ap (attempt_of (behind_at t hit) t hit) first-waits
+      ∙ ap (λ k. attempt_of (behind_at k hit) k hit (Some f)) (sym first-time)
 
 pub course-is : {hits : List Hit} {number free : ℕ} {left : List TimedParts} {course : List Transmission} (count : ℕ) → IsCourse hits number free left course →
     length left + length hits ≤ count + hits_before hits number → course ≡ course_from count hits number free left
 course-is zero (over number free) enough = refl
 course-is (suc count) (over number free) enough = refl
-course-is count (sent number free time f [] course is unhit rest) enough = absurd (none-next free time f is)
-course-is count (broken number free time f offset [] course is struck window rest) enough = absurd (none-next free time f is)
-course-is {hits} zero (sent number free time f (x ∷ others) course is unhit rest) enough = absurd (omega (arith, enough, few-before hits number))
-course-is {hits} zero (broken number free time f offset (x ∷ others) course is struck window rest) enough = absurd (omega (arith, enough, few-before hits number))
-course-is {hits} (suc count) (sent number free time f (x ∷ others) course is unhit rest) enough =
+course-is count (attempted number free time f hit [] course is told window rest) enough = absurd (none-next free time f is)
+course-is {hits} zero (attempted number free time f hit (x ∷ others) course is told window rest) enough = absurd (omega (arith, enough, few-before hits number))
+course-is {hits} (suc count) (attempted number free time f hit (x ∷ others) course is told window rest) enough =
     let less = one-less free x others f (first-waits hits count number free x others time f is) in
-    ap (λ l. let s : Transmission = record { time = time; frame = f; hit = None } in s ∷ l) (course-is count rest (omega (arith, enough, less, (weigh-next (λ o. 1) hits number).0)))
-    ∙ sym (first-made hits count number free x others time f is None unhit)
-course-is {hits} (suc count) (broken number free time f offset (x ∷ others) course is struck window rest) enough =
-    ap (λ l. let s : Transmission = record { time = time; frame = f; hit = Some offset } in s ∷ l) (course-is count rest (omega (arith, enough, (weigh-next (λ o. 1) hits number).1 offset struck)))
-    ∙ sym (first-made hits count number free x others time f is (Some offset) struck)
+    ap (λ l. let s : Transmission = record { time = time; frame = f; hit = hit } in s ∷ l)
+    (course-is count rest (omega (arith, enough, less, left-length f hit (x ∷ others) less, hit-counts hits number hit told (length (without_offer f (x ∷ others))))))
+    ∙ sym (first-made hits count number free x others time f is hit told)
 
 pub course-only : (hits : List Hit) (offers : List TimedParts) (course : List Transmission) → IsCourse hits 0 0 offers course → (course ≡ course_of hits offers) × HitInWindows course
 unfolding course_of

@@ -9,22 +9,20 @@ use Rattle.can_frame.specs.declared.level.Level.TheVariants.{Recessive}
 use Rattle.can_frame.specs.Parts.{Parts}
 use Rattle.can_frame.specs.Arbitration.{arbitration_field}
 use Rattle.can_frame.proofs.BeforeLemmas.{Before-differs}
-use Rattle.can_mac.specs.Frames.{with_intermission}
 use Rattle.can_node.proofs.WaitingLaws.{waiting-IsWaiting}
 use Rattle.can_hit.specs.declared.hit.Hit.{Hit}
-use Rattle.can_bus.specs.Course.{IsCourse, IsNext, Transmission, broken, HitInWindows, course_at, frames_sent, hit_time, over, sent}
-use Rattle.can_bus.specs.Quiet.{AreDifferent, IsAscending, IsRising, busy_time}
+use Rattle.can_bus.specs.Course.{IsCourse, IsNext, Transmission, attempted, HitInWindows, course_at, frames_sent, keeping, over}
+use Rattle.can_bus.specs.Quiet.{AreDifferent, IsAscending, IsRising}
 use Rattle.can_bus.specs.Repair.{course_levels, repaired_course}
 use Rattle.can_bus.specs.RepairedLine.{attempt_levels}
 use Rattle.can_bus.specs.Timed.{AreAtOnce, TimedParts, Lists, frames_of, offered_by, without_offer}
 use Rattle.can_bus.proofs.Fields.{without-cases, without-differ, without-listed, without-other}
 use Rattle.can_bus.proofs.Ascending.{Goes, rising_tail}
-use Rattle.can_bus.proofs.Contests.{Has, at-has, has-at, own-waits}
-use Rattle.can_bus.proofs.CourseTracks.{length-struck, track-behind, track-on}
-use Rattle.can_bus.proofs.Members.{map-stands, stands-here, stands-map, stands-permuted}
+use Rattle.can_bus.proofs.Contests.{Has, own-waits}
+use Rattle.can_bus.proofs.CourseTracks.{length-attempt, track-behind, track-on}
+use Rattle.can_bus.proofs.Members.{map-stands, stands-none, stands-here, stands-later, stands-cases, stands-map, stands-permuted}
 use Rattle.can_bus.proofs.LeftOffers.{AllDiffer, differ-from, offered-stands, stands-offered}
-use Rattle.can_bus.proofs.RepairPlans.{Plan, again, done, plan, whole}
-use Rattle.can_bus.proofs.QuietLogs.{length-busy}
+use Rattle.can_bus.proofs.RepairPlans.{Plan, done, plan, tried}
 
 -- ---- they are a course
 
@@ -39,31 +37,29 @@ pub left-ascending : (offers : List TimedParts) (frames : List Parts) → AreDif
 left-ascending offers frames different at_once is = record {
   apart = differ-from offers different;
   at_once = at_once;
-  to = λ x there.
-      let at = stands-permuted (frames_of offers) frames x.frame is.all (stands-map (λ (y : TimedParts). y.frame) offers x there) in
-      has-at x.frame frames at.0 at.1;
-  from = λ g h. map-stands (λ (y : TimedParts). y.frame) offers g (stands-permuted frames (frames_of offers) g (IsPermutation-sym (frames_of offers) frames is.all) (at-has g frames h));
+  to = λ x there. stands-permuted (frames_of offers) frames x.frame is.all (stands-map (λ (y : TimedParts). y.frame) offers x there);
+  from = λ g h. map-stands (λ (y : TimedParts). y.frame) offers g (stands-permuted frames (frames_of offers) g (IsPermutation-sym (frames_of offers) frames is.all) h);
 }
 
 none-left : (left : List TimedParts) → AreLeft [] left → left ≡ []
 none-left [] are = refl
-none-left (x ∷ left) are = absurd (are.to x (stands-here x left))
+none-left (x ∷ left) are = absurd (stands-none x.frame (are.to x (stands-here x left)))
 
 rising-goes : (f : Parts) (frames : List Parts) → IsRising (f ∷ frames) → (x : Parts) → Has x frames → Goes f x
-rising-goes f frames rising x h = let i = at-has x frames h in rising 0 (suc i.0) f x (omega arith) refl i.1
+rising-goes f frames rising x h = rising 0 (suc h.0) f x (omega arith) refl h.1
 
 module _ (f : Parts) (frames : List Parts) (left : List TimedParts) (rising : IsRising (f ∷ frames)) (are : AreLeft (f ∷ frames) left) where
   first-next : (time : ℕ) → IsNext time left time f
   first-next time =
-      let own = are.from f (inl refl) in
+      let own = are.from f (stands-here f frames) in
       let at = stands-offered time left own.0 own.1 (omega (arith, are.at_once own.0 own.1)) in
-      let has : Has f (offered_by time left) = subst (λ g. Has g (offered_by time left)) own.2 (has-at own.0.frame (offered_by time left) at.0 at.1) in
+      let has : Has f (offered_by time left) = subst (λ g. Has g (offered_by time left)) own.2 at in
       record {
         is_free = omega arith;
         soon = λ x there. omega arith;
         waits = waiting-IsWaiting (offered_by time left) f (own-waits f (offered_by time left) has (λ g h. (
-            let there = offered-stands time left g (at-has g (offered_by time left) h) in
-            elim (are.to there.0 there.1) [
+            let there = offered-stands time left g h in
+            elim (stands-cases f frames there.0.frame (are.to there.0 there.1)) [
               | inl same ↦ inl (sym there.3 ∙ sym same)
               | inr later ↦ inr (subst (Goes f) there.3 (rising-goes f frames rising there.0.frame later))
             ])));
@@ -74,12 +70,12 @@ module _ (f : Parts) (frames : List Parts) (left : List TimedParts) (rising : Is
       record {
         apart = without-differ f left are.apart;
         at_once = λ x there. are.at_once x (without-listed f left x there);
-        to = λ x there. elim (are.to x (without-listed f left x there)) [
+        to = λ x there. elim (stands-cases f frames x.frame (are.to x (without-listed f left x there))) [
           | inl same ↦ absurd (without-other f left are.apart x there (ap arbitration_field same))
           | inr later ↦ later
         ];
         from = λ g h. (
-            let there = are.from g (inr h) in
+            let there = are.from g (stands-later f frames g h) in
             elim (without-cases f left there.0 there.1) [
               | inl same ↦ absurd (Before-differs (arbitration_field f) (arbitration_field g) (rising-goes f frames rising g h) (same ∙ ap arbitration_field there.2))
               | inr kept ↦ (there.0, kept, there.2)
@@ -89,11 +85,11 @@ module _ (f : Parts) (frames : List Parts) (left : List TimedParts) (rising : Is
 pub plan-course : {hits : List Hit} {number time : ℕ} {frames : List Parts} {course : List Transmission} → Plan hits number time frames course → (left : List TimedParts) →
     IsRising frames → AreLeft frames left → IsCourse hits number time left course
 plan-course {hits} (done number time) left rising are = subst (λ l. IsCourse hits number time l []) (sym (none-left left are)) (over number time)
-plan-course (whole number time f frames course unhit rest) left rising are =
-    sent number time time f left course (first-next f frames left rising are time) unhit
+plan-course (tried number time f None frames course told window rest) left rising are =
+    attempted number time time f None left course (first-next f frames left rising are time) told window
     (plan-course rest (without_offer f left) (rising_tail f frames rising) (others-left f frames left rising are))
-plan-course (again number time f o frames course struck window rest) left rising are =
-    broken number time time f o left course (first-next f frames left rising are time) struck window (plan-course rest left rising are)
+plan-course (tried number time f (Some o) frames course told window rest) left rising are =
+    attempted number time time f (Some o) left course (first-next f frames left rising are time) told window (plan-course rest left rising are)
 
 -- where all frames are offered at once
 pub course-at_once : (hits : List Hit) (offers : List TimedParts) (frames : List Parts) → AreDifferent (frames_of offers) → AreAtOnce offers → IsAscending (frames_of offers) frames →
@@ -104,8 +100,8 @@ course-at_once hits offers frames different at_once is windows = plan-course (pl
 
 pub plan-frames : {hits : List Hit} {number time : ℕ} {frames : List Parts} {course : List Transmission} → Plan hits number time frames course → frames_sent course ≡ frames
 plan-frames (done number time) = refl
-plan-frames (whole number time f frames course unhit rest) = ap (λ fs. f ∷ fs) (plan-frames rest)
-plan-frames (again number time f o frames course struck window rest) = plan-frames rest
+plan-frames (tried number time f None frames course told window rest) = ap (λ fs. f ∷ fs) (plan-frames rest)
+plan-frames (tried number time f (Some o) frames course told window rest) = plan-frames rest
 
 -- its track
 one-more : (s : Transmission) (course : List Transmission) (behind : List Level) (t : ℕ) →
@@ -127,12 +123,8 @@ pub plan-track : {hits : List Hit} {number time : ℕ} {frames : List Parts} {co
     course_at course (time + t) ≡ slice_index_or (course_levels course) t Recessive
 unfolding course_at
 plan-track (done number time) t = refl
-plan-track (whole number time f frames course unhit rest) t =
-    one-more (record { time = time; frame = f; hit = None }) course (course_levels course) t (λ past.
-    ap (course_at course) (let e : time + t ≡ (time + busy_time f) + (t - length (with_intermission f)) = omega (arith, past, length-busy f) in e)
-    ∙ plan-track rest (t - length (with_intermission f)))
-plan-track (again number time f o frames course struck window rest) t =
-    let size = length-struck f o (omega (arith, window.before_last)) in
-    one-more (record { time = time; frame = f; hit = Some o }) course (course_levels course) t (λ past.
-    ap (course_at course) (let e : time + t ≡ (time + hit_time f o) + (t - length (attempt_levels f (Some o))) = omega (arith, past, size) in e)
-    ∙ plan-track rest (t - length (attempt_levels f (Some o))))
+plan-track (tried number time f hit frames course told window rest) t =
+    let size = length-attempt f hit window in
+    one-more (record { time = time; frame = f; hit = hit }) course (course_levels course) t (λ past.
+    ap (course_at course) (let e : time + t ≡ (time + keeping f hit) + (t - length (attempt_levels f hit)) = omega (arith, past, size) in e)
+    ∙ plan-track rest (t - length (attempt_levels f hit)))

@@ -8,7 +8,7 @@ use Rattle.can_frame.specs.Arbitration.{arbitration_field}
 use Rattle.can_frame.proofs.FieldLemmas.{fields_ranked}
 use Rattle.can_mac.specs.Frames.{with_intermission}
 use Rattle.can_mac.proofs.HitLevels.{IsHit}
-use Rattle.can_node.specs.Ports.{PortState}
+use Rattle.can_node.specs.Ports.{PortState, same_field}
 use Rattle.can_node.specs.Waiting.{IsWaiting}
 use Rattle.can_node.proofs.Arrivals.{GainingPort}
 use Rattle.can_node.proofs.FrameLeaves.{Sends, Receives, IsReady}
@@ -17,7 +17,8 @@ use Rattle.can_bus.specs.CourseWaiting.{of_field}
 use Rattle.can_bus.specs.Quiet.{holds, queued}
 use Rattle.can_bus.specs.Timed.{TimedParts, Lists, offered_by, without_offer}
 use Rattle.can_bus.proofs.Ascending.{Goes, Other}
-use Rattle.can_bus.proofs.Contests.{Has, AllPorts, at-has, has-front, has-back, behind-waits}
+use Rattle.can_bus.proofs.Contests.{Has, AllPorts, behind-waits}
+use Rattle.can_bus.proofs.Members.{filter-stands, stands-here, stands-front, stands-back}
 use Rattle.can_bus.proofs.FrameOnBus.{AllReceive, OneSends, ports_of}
 use Rattle.can_bus.proofs.LeftOffers.{offered-stands, stands-offered}
 use Rattle.can_bus.proofs.OfferTimes.{offered_by-append}
@@ -26,7 +27,7 @@ use Rattle.can_bus.proofs.CalmPorts.{IsCalm, all-ready, frame-queued, sends-has}
 use Rattle.can_bus.proofs.RestingPorts.{IsAtRest, calm-rests}
 use Rattle.can_bus.proofs.AttemptTallies.{Survives}
 use Rattle.can_bus.proofs.Repairs.{broken_levels}
-use Rattle.can_bus.proofs.Fields.{like, like-none, like-append, like-has, like-offered, field-moves, field-without, waiting-head, head-waits, without-front, without-behind, without-length}
+use Rattle.can_bus.proofs.Fields.{like, like-none, like-append, like-offered, field-moves, field-without, waiting-head, head-waits, without-front, without-behind, without-length}
 use Rattle.can_bus.proofs.CoursePorts.{CoursePort, IsCoursePort, queue-now, rested, port-rested, HasPart, others-own, behind_frame, port-behind, behind_hit, port-broken}
 
 -- ---- all ports
@@ -66,7 +67,7 @@ all-calm h now n (o ∷ os) are = (are.0.calm, all-calm h now n os are.1)
 
 -- a frame in a queue is of an offer
 own-offered : (h now n : ℕ) (o : CoursePort) → IsCoursePort h now n o → (x : Parts) → Has x o.machine.port.queue → (y : TimedParts) × Lists o.own y × (y.time ≤ now) × (y.frame ≡ x)
-own-offered h now n o is x has = offered-stands now o.own x (at-has x (offered_by now o.own) (subst (Has x) (queue-now h now n o is) has))
+own-offered h now n o is x has = offered-stands now o.own x (subst (Has x) (queue-now h now n o is) has)
 
 -- what is made of each port keeps its fields
 module _ (F : CoursePort → CoursePort) (same : (o : CoursePort) → (F o).mine ≡ o.mine) where
@@ -100,7 +101,7 @@ module _ (h now : ℕ) (left : List TimedParts) (os : List CoursePort) (round : 
   queued-left : (x : Parts) → Has x (queued (ports_now os)) → (y : TimedParts) × Lists left y × (y.time ≤ now) × (y.frame ≡ x)
   queued-left x has =
       let queue = held-queued h now (length left) os round.ports in
-      let there = offered-stands now (held os) x (at-has x (offered_by now (held os)) (subst (Has x) queue has)) in
+      let there = offered-stands now (held os) x (subst (Has x) queue has) in
       (there.0, held-left there.0 there.1, there.2, there.3)
 
   pub round-rests : NoneWaits now left → AllPorts IsAtRest (ports_now os)
@@ -162,8 +163,8 @@ module _ (h now n : ℕ) (f : Parts) where
       AllPorts (HasNone f) os
   all-receive [] are none ready least = tt
   all-receive (o ∷ os) are none ready least = (
-    receives o are.0 none.0 ready.0 (λ x has. least x (has-front x o.machine.port.queue (queued (ports_now os)) has)),
-    all-receive os are.1 none.1 ready.1 (λ x has. least x (has-back x o.machine.port.queue (queued (ports_now os)) has)),
+    receives o are.0 none.0 ready.0 (λ x has. least x (stands-front o.machine.port.queue (queued (ports_now os)) x has)),
+    all-receive os are.1 none.1 ready.1 (λ x has. least x (stands-back o.machine.port.queue (queued (ports_now os)) x has)),
   )
 
   none-like : (os : List CoursePort) → AllPorts (IsCoursePort h now n) os → AllPorts (λ (q : CoursePort). holds q.mine f ≡ false) os → like f (queued (ports_now os)) ≡ []
@@ -179,8 +180,8 @@ module _ (h now n : ℕ) (f : Parts) where
       let queue = o.machine.port.queue in
       let behind = queued (ports_now os) in
       let both : like f queue ++ like f behind ≡ f ∷ more = sym (like-append f queue behind) ∙ head in
-      let front : (x : Parts) → Has x queue → (arbitration_field f ≡ arbitration_field x) ⊎ Goes f x = λ x has. least x (has-front x queue behind has) in
-      let back : IsLeast f os = λ x has. least x (has-back x queue behind has) in
+      let front : (x : Parts) → Has x queue → (arbitration_field f ≡ arbitration_field x) ⊎ Goes f x = λ x has. least x (stands-front queue behind x has) in
+      let back : IsLeast f os = λ x has. least x (stands-back queue behind x has) in
       elim (cases_Bool (holds o.mine f)) [
         | inl own ↦
             let none = owned.0 f own in
@@ -248,7 +249,7 @@ module _ (h now : ℕ) (left : List TimedParts) (os : List CoursePort) (round : 
   pub next-frame : IsFrame f
   next-frame =
       frame-queued h f (length left) (ports_now os) (all-calm h now (length left) os round.ports)
-      (like-has f f (queued (ports_now os)) (subst (Has f) (sym next-head.1) (inl refl)))
+      (filter-stands (same_field f) (queued (ports_now os)) f (subst (Has f) (sym next-head.1) (stands-here f next-head.0))).0
 
   pub left-length : length left ≡ suc (length (without_offer f left))
   left-length = without-length f left next-left.0 next-left.1 (Shares-same_field f next-left.0.frame (sym (ap arbitration_field next-left.3)))

@@ -1,6 +1,6 @@
 -- Courses that were worked out by hand, from the lengths of the frames' wires and from how late the receivers of a hit are, computed on the
 -- definitions.
-use Rattle.std.proofs.Common.{◌≡◌, ℕ, zero, suc, ◌+◌, Bool, true, false, Option, Some, None, List, [], ◌∷◌, ◌++◌, length, map, take, refl}
+use Rattle.std.proofs.Common.{◌≡◌, ℕ, ◌+◌, Bool, true, false, Option, Some, None, List, [], ◌∷◌, ◌++◌, length, map, take, refl}
 use Rattle.can_frame.specs.Arbitration.{arbitration_field}
 use Rattle.can_frame.specs.Levels.{bits_of}
 use Rattle.can_frame.specs.Parts.{Parts}
@@ -10,15 +10,14 @@ use Rattle.can_wire.specs.Layout.{frame_len}
 use Rattle.can_wire.specs.Wire.{head, unstuffed, stuffed_part, wire}
 use Rattle.can_node.specs.declared.entry.Entry.{Entry}
 use Rattle.can_node.specs.Ports.{waiting}
-use Rattle.can_hit.specs.declared.hit.Hit.{Hit}
 use Rattle.can_hit.specs.declared.hit.Hit.TheVariants.{In}
-use Rattle.can_bus.specs.Course.{Transmission, course_of, course_tally, ended_by, frames_sent}
-use Rattle.can_bus.specs.CourseWaiting.{attempts_between, going_before, hit_attempts, keeping, kept_times, left_on, sends_of}
+use Rattle.can_bus.specs.Course.{Transmission, course_of, course_tally, ended_by, frames_sent, keeping}
+use Rattle.can_bus.specs.CourseWaiting.{attempts_between, going_before, hit_attempts, kept_times, left_on, sends_of}
 use Rattle.can_bus.specs.Quiet.{marked}
-use Rattle.can_bus.specs.Attempts.{Tally}
 use Rattle.can_bus.specs.RepairedLine.{lateness}
 use Rattle.can_bus.specs.Timed.{TimedParts}
 use Rattle.can_bus.proofs.RepairRows.{frame_000, frame_001}
+use Rattle.can_bus.proofs.TallyRows.{counts, hits_from}
 
 -- `S 009 D 0`, and `S 001 D 1 55`
 abbrev frame_009 : Parts
@@ -37,9 +36,6 @@ at time f = record { time = time; frame = f }
 
 abbrev goes : ℕ → Parts → Option ℕ → Transmission
 goes time f hit = record { time = time; frame = f; hit = hit }
-
-abbrev counts : ℕ → ℕ → Tally
-counts tec rec = record { tec = tec; rec = rec }
 
 -- one identifier three times in a row: in the order of the offers
 three : course_of [] (at 0 frame_001 ∷ at 0 again_001 ∷ at 30 frame_001 ∷ []) ≡ goes 0 frame_001 None ∷ goes 50 again_001 None ∷ goes 109 frame_001 None ∷ []
@@ -146,10 +142,6 @@ unfolding arbitration_field bits_of
 second_sender_log = refl
 
 -- fifteen attempts that are hit at 16, and a sixteenth: 128 is not that of an error active port
-abbrev hits_from : ℕ → ℕ → List Hit
-hits_from number zero = []
-hits_from number (suc n) = In number 16 ∷ hits_from (number + 1) n
-
 fifteen : course_tally (frame_000 ∷ frame_000 ∷ []) (take 15 (course_of (hits_from 0 16) (at 0 frame_000 ∷ at 0 frame_000 ∷ []))) (counts 0 0) ≡ counts 120 0
 unfolding course_of waiting lateness stuffed_part unstuffed stuffed crc_of head arbitration_field bits_of frame_len
 fifteen = refl

@@ -16,8 +16,7 @@ use Rattle.can_node.proofs.BrokenFrames.{seen_of}
 use Rattle.can_node.proofs.OneFrame.{gaining_run-at}
 use Rattle.can_hit.specs.declared.hit.Hit.{Hit}
 use Rattle.can_bus.specs.declared.moment.Attempt.{Attempt}
-use Rattle.can_bus.specs.Course.{Transmission, IsNext, IsCourse, over, sent, broken, IsMade, course_at, hit_time, hits_made}
-use Rattle.can_bus.specs.CourseWaiting.{keeping}
+use Rattle.can_bus.specs.Course.{Transmission, IsNext, IsCourse, over, attempted, IsMade, course_at, hit_time, hits_made, keeping}
 use Rattle.can_bus.specs.Network.{AllOver}
 use Rattle.can_bus.specs.Quiet.{holds, busy_time}
 use Rattle.can_bus.specs.Attempts.{IsLow, Tally, tallied}
@@ -315,14 +314,14 @@ module _ (hits : List Hit) (most : ℕ) where
         follows-rest h free [] [] os latest round none (λ s made. absurd made) (silent none) (omega (arith, few)) k
         (λ j one_more. follows fuel j h (map rested os) (aged latest) (omega (arith, less, one_more)) (simp length-map two) (round-rested h free [] os round none) (over number (free + 1))
         (bears-rested [] os (round-rests h free [] os round none) bears) few (following-aged latest number first) (λ still. silent-aged latest (silent none)))
-    follows (suc fuel) k h os latest less two round (sent number free time f left course is unhit rest) bears few first silent = elim (cases_lt free time) [
+    follows (suc fuel) k h os latest less two round (attempted number free time f None left course is unhit window rest) bears few first silent = elim (cases_lt free time) [
       | inl early ↦
           let start : Transmission = record { time = time; frame = f; hit = None } in
           let none : NoneWaits free left = none-yet free left time f is early in
           let behind : (x : Transmission) → IsMade course x → time ≤ x.time = λ x made. omega (arith, course-free rest x made) in
           follows-rest h free left (start ∷ course) os latest round none (later-made free start course early behind) (silent none) (omega (arith, few)) k
           (λ j one_more. follows fuel j h (map rested os) (aged latest) (omega (arith, less, one_more)) (simp length-map two) (round-rested h free left os round none)
-          (sent number (free + 1) time f left course (still-next free left time f is early) unhit rest)
+          (attempted number (free + 1) time f None left course (still-next free left time f is early) unhit window rest)
           (bears-rested (start ∷ course) os (round-rests h free left os round none) bears) few (following-aged latest number first) (λ still. silent-aged latest (silent none)))
       | inr begun ↦
           let start : Transmission = record { time = time; frame = f; hit = None } in
@@ -360,14 +359,14 @@ module _ (hits : List Hit) (most : ℕ) where
                 (at-time course ((time + busy_time f) + j) ((time + length levels) + j) (map (behind_frame f) os) (later j next) (omega (arith, long, length-busy f)) after))
           ])
     ]
-    follows (suc fuel) k h os latest less two round (broken number free time f offset left course is struck window rest) bears few first silent = elim (cases_lt free time) [
+    follows (suc fuel) k h os latest less two round (attempted number free time f (Some offset) left course is struck window rest) bears few first silent = elim (cases_lt free time) [
       | inl early ↦
           let start : Transmission = record { time = time; frame = f; hit = Some offset } in
           let none : NoneWaits free left = none-yet free left time f is early in
           let behind : (x : Transmission) → IsMade course x → time ≤ x.time = λ x made. omega (arith, course-free rest x made) in
           follows-rest h free left (start ∷ course) os latest round none (later-made free start course early behind) (silent none) (omega (arith, few)) k
           (λ j one_more. follows fuel j h (map rested os) (aged latest) (omega (arith, less, one_more)) (simp length-map two) (round-rested h free left os round none)
-          (broken number (free + 1) time f offset left course (still-next free left time f is early) struck window rest)
+          (attempted number (free + 1) time f (Some offset) left course (still-next free left time f is early) struck window rest)
           (bears-rested (start ∷ course) os (round-rests h free left os round none) bears) few (following-aged latest number first) (λ still. silent-aged latest (silent none)))
       | inr begun ↦
           let start : Transmission = record { time = time; frame = f; hit = Some offset } in

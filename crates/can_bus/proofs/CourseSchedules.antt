@@ -11,7 +11,7 @@ use Rattle.can_frame.specs.Parts.{Parts}
 use Rattle.can_wire.specs.Wire.{wire}
 use Rattle.can_mac.specs.Frames.{with_intermission}
 use Rattle.can_node.specs.Ports.{waiting}
-use Rattle.can_bus.specs.Course.{AllEnded, HitInWindows, IsCourse, IsMade, Transmission, attempt_of, course_at, course_from, course_of, course_tally, frames_sent, hit_time, hits_made, lasting}
+use Rattle.can_bus.specs.Course.{AllEnded, FallsInWindow, HitInWindows, IsCourse, IsMade, Transmission, attempt_of, course_at, course_from, course_of, course_tally, frames_sent, hits_made, lasting}
 use Rattle.can_bus.specs.OpenBus.{AreOver}
 use Rattle.can_bus.specs.Quiet.{AreDifferent, holds, busy_time}
 use Rattle.can_bus.specs.Attempts.{IsLow, Tally, tallied}
@@ -32,10 +32,10 @@ starts-unhit [] = refl
 starts-unhit (s ∷ starts) = ap (λ l. s ∷ l) (starts-unhit starts)
 
 -- where nothing is hit, no attempt that is computed is
-one-computed : (behind : Parts → List Transmission) (again : Parts → ℕ → List Transmission) (time : ℕ) → ((f : Parts) → unhit (starts_of (behind f)) ≡ behind f) → (w : Option Parts) →
-    unhit (starts_of (attempt_of behind again time None w)) ≡ attempt_of behind again time None w
-one-computed behind again time same None = refl
-one-computed behind again time same (Some f) = ap (λ l. let s : Transmission = record { time = time; frame = f; hit = None } in s ∷ l) (same f)
+one-computed : (behind : Parts → List Transmission) (time : ℕ) → ((f : Parts) → unhit (starts_of (behind f)) ≡ behind f) → (w : Option Parts) →
+    unhit (starts_of (attempt_of behind time None w)) ≡ attempt_of behind time None w
+one-computed behind time same None = refl
+one-computed behind time same (Some f) = ap (λ l. let s : Transmission = record { time = time; frame = f; hit = None } in s ∷ l) (same f)
 
 computed : (count number free : ℕ) (left : List TimedParts) → unhit (starts_of (course_from count [] number free left)) ≡ course_from count [] number free left
 computed zero number free left = refl
@@ -43,8 +43,8 @@ computed (suc count) number free [] = refl
 computed (suc count) number free (x ∷ others) =
     let left : List TimedParts = x ∷ others in
     let time : ℕ = max free (earliest x others) in
-    one-computed (λ f. course_from count [] (number + 1) (time + busy_time f) (without_offer f left)) (λ f offset. course_from count [] (number + 1) (time + hit_time f offset) left)
-    time (λ f. computed count (number + 1) (time + busy_time f) (without_offer f left)) (waiting (offered_by time left))
+    one-computed (λ f. course_from count [] (number + 1) (time + busy_time f) (without_offer f left)) time
+    (λ f. computed count (number + 1) (time + busy_time f) (without_offer f left)) (waiting (offered_by time left))
 
 pub unhit-made : (starts : List TimedParts) (s : TimedParts) → Lists starts s → IsMade (unhit starts) (one_unhit s)
 unhit-made [] s there = absurd (stands-none s there)
@@ -65,9 +65,9 @@ module _ (offers : List TimedParts) where
 
   pub one-schedule : AreDifferent (frames_of offers) → IsScheduleOf offers (schedule offers)
   one-schedule different =
-      let windows : HitInWindows (course_of [] offers) = λ s offset made at. (
+      let windows : HitInWindows (course_of [] offers) = λ s made. (
       let there = made-unhit (schedule offers) s (subst (λ l. IsMade l s) (sym course-computed) made) in
-      absurd (let none : None ≡ Some offset = ap (λ (z : Transmission). z.hit) there.2 ∙ at in cc)) in
+      subst (λ (z : Transmission). FallsInWindow z.frame z.hit) there.2 tt) in
       record { different = different; scheduled = subst (IsCourse [] 0 0 offers) (sym course-computed) (course-there [] offers windows) }
 
 -- ---- its starts

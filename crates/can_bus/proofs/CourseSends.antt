@@ -9,7 +9,7 @@ use Rattle.can_frame.specs.Arbitration.{arbitration_field}
 use Rattle.can_node.specs.Ports.{same_field}
 use Rattle.can_node.proofs.WaitingLemmas.{Shares-same_field, same_field-Shares}
 use Rattle.can_hit.specs.declared.hit.Hit.{Hit}
-use Rattle.can_bus.specs.Course.{IsCourse, IsNext, Transmission, broken, over, sent}
+use Rattle.can_bus.specs.Course.{IsCourse, IsNext, Transmission, attempted, over}
 use Rattle.can_bus.specs.CourseWaiting.{IsSentBy, of_field, sends_of}
 use Rattle.can_bus.specs.Timed.{TimedParts, Lists, without_offer}
 use Rattle.can_bus.proofs.CourseDelays.{parted}
@@ -44,11 +44,11 @@ module _ (free time : ℕ) (g : Parts) (left : List TimedParts) (is : IsNext fre
 sends-all : {hits : List Hit} {number free : ℕ} {left : List TimedParts} {course : List Transmission} → IsCourse hits number free left course → (f : Parts) →
     length (sends_of f course) ≡ length (of_field f left)
 sends-all (over number free) f = refl
-sends-all (sent number free time g left course is unhit rest) f = elim (cases_Bool (same_field f g)) [
+sends-all (attempted number free time g None left course is unhit window rest) f = elim (cases_Bool (same_field f g)) [
   | inl same ↦ ap length (sends-more f time g course same) ∙ ap suc (sends-all rest f) ∙ sym (one-gone free time g left is f same)
   | inr other ↦ ap length (sends-other f time g course other) ∙ sends-all rest f ∙ ap length (none-gone free time g left is f other)
 ]
-sends-all (broken number free time g offset left course is struck window rest) f = ap length (sends-hit f time g course offset) ∙ sends-all rest f
+sends-all (attempted number free time g (Some offset) left course is struck window rest) f = ap length (sends-hit f time g course offset) ∙ sends-all rest f
 
 -- so the attempt of an offer's turn is made
 pub each-sent : (hits : List Hit) (offers : List TimedParts) (course : List Transmission) → IsCourse hits 0 0 offers course → (place : ℕ) (offer : TimedParts) → slice_get offers place ≡ Some offer →

@@ -1,7 +1,7 @@
 -- The track of a course: the levels of each attempt from its start on, and recessive levels elsewhere; and when its attempts start.
 use Rattle.std.specs.Prelude.{slice_get, slice_index_or, nat_lt, nat_le, ◌&&◌}
 use Rattle.std.specs.List.Sorted.{IsPermutation}
-use Rattle.std.proofs.Common.{◌≡◌, ℕ, zero, suc, ◌+◌, ◌-◌, ◌<◌, ◌≤◌, Bool, None, Some, List, [], ◌∷◌, length, take, replicate, refl, sym, ◌∙◌, ap, subst, inl, inr, arith}
+use Rattle.std.proofs.Common.{◌≡◌, ℕ, zero, suc, ◌+◌, ◌-◌, ◌<◌, ◌≤◌, Bool, None, Some, List, [], ◌∷◌, length, take, replicate, refl, sym, ◌∙◌, ap, subst, inl, inr, arith, Option}
 use Rattle.std.proofs.lemmas.Bool.{cond-true, cond-false, le-leb, lt-leb, lt-ltb, le-ltb}
 use Rattle.std.proofs.lemmas.List.{get_or_append_left, length-append, length-map, length-replicate, length-take-le}
 use Rattle.std.proofs.lemmas.List.Sorted.{IsPermutation-cons, IsPermutation-refl, IsPermutation-trans}
@@ -16,8 +16,7 @@ use Rattle.can_mac.specs.Frames.{with_intermission}
 use Rattle.can_mac.proofs.FrameParts.{length-wire}
 use Rattle.can_mac.proofs.HitLevels.{IsHit}
 use Rattle.can_hit.specs.declared.hit.Hit.{Hit}
-use Rattle.can_bus.specs.Course.{Transmission, IsCourse, over, sent, broken, IsMade, course_at, frames_sent, hit_time}
-use Rattle.can_bus.specs.CourseWaiting.{keeping}
+use Rattle.can_bus.specs.Course.{FallsInWindow, Transmission, IsCourse, over, attempted, IsMade, course_at, frames_sent, hit_time, keeping, left_by}
 use Rattle.can_bus.specs.RepairedLine.{attempt_levels, lateness, struck}
 use Rattle.can_bus.specs.Timed.{Lists, TimedParts, frames_of, without_offer}
 use Rattle.can_bus.proofs.Fields.{without-differ, without-listed, without-permuted}
@@ -63,10 +62,8 @@ track-rests (s ∷ course) t early = track-before s course t (early s (inl refl)
 -- no attempt starts before the bus is free
 pub course-free : {hits : List Hit} {number free : ℕ} {left : List TimedParts} {course : List Transmission} → IsCourse hits number free left course → (s : Transmission) → IsMade course s → free ≤ s.time
 course-free (over number free) s made = absurd made
-course-free (sent number free time f left course is unhit rest) s (inl e) = let same : time ≡ s.time = ap (λ (x : Transmission). x.time) e in omega (arith, is.is_free, same)
-course-free (sent number free time f left course is unhit rest) s (inr made) = omega (arith, is.is_free, course-free rest s made)
-course-free (broken number free time f offset left course is struck window rest) s (inl e) = let same : time ≡ s.time = ap (λ (x : Transmission). x.time) e in omega (arith, is.is_free, same)
-course-free (broken number free time f offset left course is struck window rest) s (inr made) = omega (arith, is.is_free, course-free rest s made)
+course-free (attempted number free time f hit left course is told window rest) s (inl e) = let same : time ≡ s.time = ap (λ (x : Transmission). x.time) e in omega (arith, is.is_free, same)
+course-free (attempted number free time f hit left course is told window rest) s (inr made) = omega (arith, is.is_free, course-free rest s made)
 
 -- how long an attempt is that is hit
 module _ (f : Parts) (offset : ℕ) where
@@ -81,7 +78,17 @@ module _ (f : Parts) (offset : ℕ) where
   length-broken is hit =
       sym (length-map (broken_levels f is offset hit) (λ l. l.1)) ∙ ap length (broken-attempt f is offset hit) ∙ length-struck (omega (arith, hit.within, length-wire f))
 
+-- an attempt has as many levels as it keeps the bus
+pub length-attempt : (f : Parts) (hit : Option ℕ) → FallsInWindow f hit → length (attempt_levels f hit) ≡ keeping f hit
+length-attempt f None window = length-busy f
+length-attempt f (Some offset) window = length-struck f offset (omega (arith, window.before_last))
+
 -- ---- what holds of each attempt
+
+-- what is left behind it was left before
+pub left-listed : (f : Parts) (hit : Option ℕ) (left : List TimedParts) (x : TimedParts) → Lists (left_by f hit left) x → Lists left x
+left-listed f None left x there = without-listed f left x there
+left-listed f (Some offset) left x there = there
 
 -- the line has the whole wire of one that isn't hit
 module _ (time : ℕ) (f : Parts) (course : List Transmission) (k : ℕ) (l : Level) where
@@ -100,26 +107,21 @@ module _ (time : ℕ) (f : Parts) (course : List Transmission) (k : ℕ) (l : Le
 pub line-wire : {hits : List Hit} {number free : ℕ} {left : List TimedParts} {course : List Transmission} → IsCourse hits number free left course → (s : Transmission) → IsMade course s → s.hit ≡ None →
     (k : ℕ) (l : Level) → slice_get (wire s.frame) k ≡ Some l → course_at course (s.time + k) ≡ l
 line-wire (over number free) s made unhit k l at = absurd made
-line-wire (sent number free time f left course is none more) s (inl here) unhit k l at =
+line-wire (attempted number free time f None left course is told window more) s (inl here) unhit k l at =
     subst (λ (z : Transmission). slice_get (wire z.frame) k ≡ Some l → course_at (record { time = time; frame = f; hit = None } ∷ course) (z.time + k) ≡ l) here (wire-here time f course k l) at
-line-wire (sent number free time f left course is none more) s (inr made) unhit k l at =
-    track-behind (record { time = time; frame = f; hit = None }) course (s.time + k) (omega (arith, course-free more s made, length-busy f)) ∙ line-wire more s made unhit k l at
-line-wire (broken number free time f offset left course is struck window more) s (inl here) unhit k l at =
+line-wire (attempted number free time f (Some offset) left course is told window more) s (inl here) unhit k l at =
     absurd (let h : Some offset ≡ None = ap (λ (z : Transmission). z.hit) here ∙ unhit in cc)
-line-wire (broken number free time f offset left course is struck window more) s (inr made) unhit k l at =
-    let last = window.before_last in
-    track-behind (record { time = time; frame = f; hit = Some offset }) course (s.time + k) (omega (arith, course-free more s made, length-struck f offset (omega (arith, last)))) ∙ line-wire more s made unhit k l at
+line-wire (attempted number free time f hit left course is told window more) s (inr made) unhit k l at =
+    track-behind (record { time = time; frame = f; hit = hit }) course (s.time + k) (omega (arith, course-free more s made, length-attempt f hit window)) ∙ line-wire more s made unhit k l at
 
 -- its frame was offered by then
 pub made-offered : {hits : List Hit} {number free : ℕ} {left : List TimedParts} {course : List Transmission} → IsCourse hits number free left course → (s : Transmission) → IsMade course s →
     (x : TimedParts) × Lists left x × (x.time ≤ s.time) × (x.frame ≡ s.frame)
 made-offered (over number free) s made = absurd made
-made-offered (sent number free time f left course is unhit rest) s (inl here) =
+made-offered (attempted number free time f hit left course is told window rest) s (inl here) =
     subst (λ (z : Transmission). (x : TimedParts) × Lists left x × (x.time ≤ z.time) × (x.frame ≡ z.frame)) here (offered-stands time left f (is.waits.place, is.waits.stands))
-made-offered (sent number free time f left course is unhit rest) s (inr made) = let there = made-offered rest s made in (there.0, without-listed f left there.0 there.1, there.2, there.3)
-made-offered (broken number free time f offset left course is struck window rest) s (inl here) =
-    subst (λ (z : Transmission). (x : TimedParts) × Lists left x × (x.time ≤ z.time) × (x.frame ≡ z.frame)) here (offered-stands time left f (is.waits.place, is.waits.stands))
-made-offered (broken number free time f offset left course is struck window rest) s (inr made) = made-offered rest s made
+made-offered (attempted number free time f hit left course is told window rest) s (inr made) =
+    let there = made-offered rest s made in (there.0, left-listed f hit left there.0 there.1, there.2, there.3)
 
 pub made-at : (course : List Transmission) (n : ℕ) (s : Transmission) → slice_get course n ≡ Some s → IsMade course s
 made-at [] n s at = absurd (let h : None ≡ Some s = at in cc)
@@ -130,23 +132,18 @@ made-at (x ∷ course) (suc n) s at = inr (made-at course n s at)
 pub course-rise : {hits : List Hit} {number free : ℕ} {left : List TimedParts} {course : List Transmission} → IsCourse hits number free left course → (m n : ℕ) (s t : Transmission) → m < n →
     slice_get course m ≡ Some s → slice_get course n ≡ Some t → s.time + keeping s.frame s.hit ≤ t.time
 course-rise (over number free) m n s t less a b = absurd (let h : None ≡ Some s = a in cc)
-course-rise (sent number free time f left course is unhit rest) m zero s t less a b = absurd (omega (arith, less))
-course-rise (broken number free time f offset left course is struck window rest) m zero s t less a b = absurd (omega (arith, less))
-course-rise (sent number free time f left course is unhit rest) zero (suc n) s t less a b =
-    let first : Transmission = record { time = time; frame = f; hit = None } in
+course-rise (attempted number free time f hit left course is told window rest) m zero s t less a b = absurd (omega (arith, less))
+course-rise (attempted number free time f hit left course is told window rest) zero (suc n) s t less a b =
+    let first : Transmission = record { time = time; frame = f; hit = hit } in
     subst (λ (z : Transmission). z.time + keeping z.frame z.hit ≤ t.time) (let e : Some first ≡ Some s = a in let same : first ≡ s = cc in same) (course-free rest t (made-at course n t b))
-course-rise (broken number free time f offset left course is struck window rest) zero (suc n) s t less a b =
-    let first : Transmission = record { time = time; frame = f; hit = Some offset } in
-    subst (λ (z : Transmission). z.time + keeping z.frame z.hit ≤ t.time) (let e : Some first ≡ Some s = a in let same : first ≡ s = cc in same) (course-free rest t (made-at course n t b))
-course-rise (sent number free time f left course is unhit rest) (suc m) (suc n) s t less a b = course-rise rest m n s t (omega (arith, less)) a b
-course-rise (broken number free time f offset left course is struck window rest) (suc m) (suc n) s t less a b = course-rise rest m n s t (omega (arith, less)) a b
+course-rise (attempted number free time f hit left course is told window rest) (suc m) (suc n) s t less a b = course-rise rest m n s t (omega (arith, less)) a b
 
 -- where no two offers have one field, each frame that is offered is sent
 pub course-frames : {hits : List Hit} {number free : ℕ} {left : List TimedParts} {course : List Transmission} → IsCourse hits number free left course → AllDiffer left →
     IsPermutation (frames_of left) (frames_sent course)
 course-frames (over number free) apart = IsPermutation-refl []
-course-frames (sent number free time f left course is unhit rest) apart =
+course-frames (attempted number free time f None left course is unhit window rest) apart =
     let there = offered-stands time left f (is.waits.place, is.waits.stands) in
     IsPermutation-trans (frames_of left) (f ∷ frames_of (without_offer f left)) (f ∷ frames_sent course) (without-permuted f left apart there.0 there.1 there.3)
     (IsPermutation-cons f (frames_of (without_offer f left)) (frames_sent course) (course-frames rest (without-differ f left apart)))
-course-frames (broken number free time f offset left course is struck window rest) apart = course-frames rest apart
+course-frames (attempted number free time f (Some offset) left course is struck window rest) apart = course-frames rest apart

@@ -1,6 +1,6 @@
 -- How long an offered frame waits until it is sent, where frames are disturbed meanwhile: exactly.
 use Rattle.std.specs.Prelude.{max, nat_le, nat_lt, filter, not, slice_get, ◌&&◌}
-use Rattle.std.proofs.Common.{◌≡◌, ℕ, suc, ◌+◌, ◌-◌, ◌<◌, ◌≤◌, ◌⊎◌, Bool, true, false, Some, None, List, [], ◌∷◌, ◌++◌, length, refl, sym, ◌∙◌, ap, subst, inl, inr, arith}
+use Rattle.std.proofs.Common.{◌≡◌, ℕ, suc, ◌+◌, ◌-◌, ◌<◌, ◌≤◌, ◌⊎◌, Bool, true, false, Option, Some, None, List, [], ◌∷◌, ◌++◌, length, refl, sym, ◌∙◌, ap, subst, inl, inr, arith}
 use Rattle.std.proofs.lemmas.Bool.{cond-true, cond-false, cases_Bool, cases_lt, le-leb, lt-leb, lt-ltb, le-ltb}
 use Rattle.std.proofs.lemmas.List.Sums.{sum_by-cons}
 use Rattle.can_frame.specs.Parts.{Parts}
@@ -9,8 +9,8 @@ use Rattle.can_frame.proofs.FieldLemmas.{fields_ranked}
 use Rattle.can_node.specs.Ports.{is_equal, same_field}
 use Rattle.can_node.proofs.WaitingLemmas.{same_field-Shares, Shares-same_field}
 use Rattle.can_hit.specs.declared.hit.Hit.{Hit}
-use Rattle.can_bus.specs.Course.{Transmission, IsNext, IsCourse, over, sent, broken, IsMade}
-use Rattle.can_bus.specs.CourseWaiting.{attempts_between, keeping, kept_times, left_on, of_field, sends_of, was_hit}
+use Rattle.can_bus.specs.Course.{Transmission, IsNext, IsCourse, over, attempted, IsMade, keeping, left_by}
+use Rattle.can_bus.specs.CourseWaiting.{attempts_between, kept_times, left_on, of_field, sends_of, was_hit}
 use Rattle.can_bus.specs.Timed.{TimedParts, Lists, offered_by, without_offer}
 use Rattle.can_bus.proofs.CourseTracks.{course-free, made-at}
 use Rattle.can_bus.proofs.Fields.{field-more, field-without, like-offered, waiting-head, without-behind, without-front, without-length, without-order}
@@ -103,6 +103,10 @@ FieldsInOrder left = (f : Parts) → AreInOrder (of_field f left)
 pub fields-without : (f : Parts) (left : List TimedParts) → FieldsInOrder left → FieldsInOrder (without_offer f left)
 fields-without f left order g = subst AreInOrder (sym (field-without g f left)) (without-order f (of_field g left) (order g))
 
+pub fields-left : (f : Parts) (hit : Option ℕ) (left : List TimedParts) → FieldsInOrder left → FieldsInOrder (left_by f hit left)
+fields-left f None left order = fields-without f left order
+fields-left f (Some offset) left order = order
+
 pub same-fields : (f g : Parts) (left : List TimedParts) → arbitration_field f ≡ arbitration_field g → of_field f left ≡ of_field g left
 same-fields f g left e = ap (λ field. filter (λ x. is_equal (field_cmp field (arbitration_field x.frame))) left) e
 
@@ -151,12 +155,13 @@ awaits-listed {left} {before} {course} {x} {s} waits = subst (λ l. Lists l x) (
 
 module _ (free time : ℕ) (f : Parts) (left : List TimedParts) (course : List Transmission) (is : IsNext free left time f) (order : FieldsInOrder left)
     (x : TimedParts) (s : Transmission) (before : List TimedParts) where
-  abbrev first : Transmission
-  first = record { time = time; frame = f; hit = None }
+  abbrev first : Option ℕ → Transmission
+  first hit = record { time = time; frame = f; hit = hit }
 
   -- the attempt sends it
-  pub record SendsIt : Type 0 where
-    pub same : first ≡ s
+  pub record SendsIt (hit : Option ℕ) : Type 0 where
+    pub same : first hit ≡ s
+    pub unhit : hit ≡ None
     pub frame : f ≡ x.frame
     pub in_time : x.time ≤ time
 
@@ -164,7 +169,7 @@ module _ (free time : ℕ) (f : Parts) (left : List TimedParts) (course : List T
   abbrev pub SendsOther : Type 0
   SendsOther = Awaits (without_offer f left) course x s (without_offer f before)
 
-  pub sends-it : (waits : Awaits left (first ∷ course) x s before) → same_field x.frame f ≡ true → of_field x.frame before ≡ [] → SendsIt
+  pub sends-it : (waits : Awaits left (first None ∷ course) x s before) → same_field x.frame f ≡ true → of_field x.frame before ≡ [] → SendsIt None
   sends-it waits same none =
       let head = first-left free left time f is order in
       let own : of_field f left ≡ x ∷ of_field x.frame waits.after =
@@ -172,13 +177,13 @@ module _ (free time : ℕ) (f : Parts) (left : List TimedParts) (course : List T
       ∙ ap (λ l. l ++ of_field x.frame (x ∷ waits.after)) none ∙ field-more x.frame x waits.after (Shares-same_field x.frame x.frame refl) in
       let both : head.offer ∷ head.more ≡ x ∷ of_field x.frame waits.after = sym head.first ∙ own in
       let one : head.offer ≡ x = cc in
-      let turn : slice_get (first ∷ sends_of x.frame course) 0 ≡ Some s =
-      ap (λ n. slice_get (first ∷ sends_of x.frame course) n) (sym (ap length none)) ∙ ap (λ l. slice_get l (length (of_field x.frame before))) (sym (sends-more x.frame time f course same)) ∙ waits.turn in
-      let here : first ≡ s = (let h : Some first ≡ Some s = turn in cc) in
-      record { same = here; frame = sym head.frame ∙ ap (λ (y : TimedParts). y.frame) one; in_time = subst (λ (y : TimedParts). y.time ≤ time) one head.in_time }
+      let turn : slice_get (first None ∷ sends_of x.frame course) 0 ≡ Some s =
+      ap (λ n. slice_get (first None ∷ sends_of x.frame course) n) (sym (ap length none)) ∙ ap (λ l. slice_get l (length (of_field x.frame before))) (sym (sends-more x.frame time f course same)) ∙ waits.turn in
+      let here : first None ≡ s = (let h : Some (first None) ≡ Some s = turn in cc) in
+      record { same = here; unhit = refl; frame = sym head.frame ∙ ap (λ (y : TimedParts). y.frame) one; in_time = subst (λ (y : TimedParts). y.time ≤ time) one head.in_time }
 
   -- one of its field
-  sends-earlier : (waits : Awaits left (first ∷ course) x s before) → same_field x.frame f ≡ true → (y : TimedParts) → Lists before y → arbitration_field x.frame ≡ arbitration_field y.frame → SendsOther
+  sends-earlier : (waits : Awaits left (first None ∷ course) x s before) → same_field x.frame f ≡ true → (y : TimedParts) → Lists before y → arbitration_field x.frame ≡ arbitration_field y.frame → SendsOther
   sends-earlier waits same y there e =
       let of_f : same_field f y.frame ≡ true = Shares-same_field f y.frame (sym (same_field-Shares x.frame f same) ∙ e) in
       let own : Lists (of_field x.frame before) y = stands-filter (λ z. same_field x.frame z.frame) before y there (Shares-same_field x.frame y.frame e) in
@@ -188,7 +193,7 @@ module _ (free time : ℕ) (f : Parts) (left : List TimedParts) (course : List T
         after = waits.after;
         whole = ap (without_offer f) waits.whole ∙ without-front f before (x ∷ waits.after) y there of_f;
         turn =
-            ap (λ n. slice_get (first ∷ sends_of x.frame course) n) (sym less) ∙ ap (λ l. slice_get l (length (of_field x.frame before))) (sym (sends-more x.frame time f course same))
+            ap (λ n. slice_get (first None ∷ sends_of x.frame course) n) (sym less) ∙ ap (λ l. slice_get l (length (of_field x.frame before))) (sym (sends-more x.frame time f course same))
             ∙ waits.turn;
       }
 
@@ -212,7 +217,7 @@ module _ (free time : ℕ) (f : Parts) (left : List TimedParts) (course : List T
     )
   ]
 
-  sends-apart : (waits : Awaits left (first ∷ course) x s before) → same_field x.frame f ≡ false → SendsOther
+  sends-apart : (waits : Awaits left (first None ∷ course) x s before) → same_field x.frame f ≡ false → SendsOther
   sends-apart waits other =
       let out = without-it other waits.after in
       record {
@@ -223,22 +228,24 @@ module _ (free time : ℕ) (f : Parts) (left : List TimedParts) (course : List T
             ∙ waits.turn;
       }
 
-  pub sent-cases : Awaits left (first ∷ course) x s before → SendsIt ⊎ SendsOther
-  sent-cases waits = elim (cases_Bool (same_field x.frame f)) [
+  -- an attempt that is hit leaves it as it is
+  pub hit-awaits : (offset : ℕ) → Awaits left (first (Some offset) ∷ course) x s before → Awaits left course x s before
+  hit-awaits offset waits = record {
+    after = waits.after;
+    whole = waits.whole;
+    turn = ap (λ l. slice_get l (length (of_field x.frame before))) (sym (sends-hit x.frame time f course offset)) ∙ waits.turn;
+  }
+
+  -- so the attempt sends it, or leaves it
+  pub sent-cases : (hit : Option ℕ) → Awaits left (first hit ∷ course) x s before → SendsIt hit ⊎ Awaits (left_by f hit left) course x s (left_by f hit before)
+  sent-cases (Some offset) waits = inr (hit-awaits offset waits)
+  sent-cases None waits = elim (cases_Bool (same_field x.frame f)) [
     | inl same ↦ elim (field-cases x.frame before) [
       | inl none ↦ inl (sends-it waits same (field-none x.frame before none))
       | inr has ↦ inr (sends-earlier waits same has.0 has.1 has.2)
     ]
     | inr other ↦ inr (sends-apart waits other)
   ]
-
-  -- an attempt that is hit leaves it as it is
-  pub hit-awaits : (offset : ℕ) → Awaits left (record { time = time; frame = f; hit = Some offset } ∷ course) x s before → Awaits left course x s before
-  hit-awaits offset waits = record {
-    after = waits.after;
-    whole = waits.whole;
-    turn = ap (λ l. slice_get l (length (of_field x.frame before))) (sym (sends-hit x.frame time f course offset)) ∙ waits.turn;
-  }
 
 -- ---- the wait
 
@@ -296,20 +303,16 @@ exact-behind free left a course is behind x s listed made exact =
 pub wait-exact : {hits : List Hit} {number free : ℕ} {left : List TimedParts} {course : List Transmission} → IsCourse hits number free left course → FieldsInOrder left →
     (x : TimedParts) (s : Transmission) (before : List TimedParts) → Awaits left course x s before → IsExact free course x s
 wait-exact (over number free) order x s before waits = absurd (let h : None ≡ Some s = waits.turn in cc)
-wait-exact (sent number free time f left course is unhit rest) order x s before waits =
-    let a : Transmission = record { time = time; frame = f; hit = None } in
-    elim (sent-cases free time f left course is order x s before waits) [
+wait-exact (attempted number free time f hit left course is told window rest) order x s before waits =
+    let a : Transmission = record { time = time; frame = f; hit = hit } in
+    elim (sent-cases free time f left course is order x s before hit waits) [
       | inl here ↦
           subst (IsExact free (a ∷ course) x) here.same
           (exact-here free left a course is (λ z made. let h = course-free rest z made in omega (arith, h)) x (awaits-listed waits) here.in_time)
       | inr later ↦
           exact-behind free left a course is (course-free rest) x s (awaits-listed waits) (awaits-made later).0
-          (wait-exact rest (fields-without f left order) x s (without_offer f before) later)
+          (wait-exact rest (fields-left f hit left order) x s (left_by f hit before) later)
     ]
-wait-exact (broken number free time f offset left course is struck window rest) order x s before waits =
-    let later = hit-awaits free time f left course is order x s before offset waits in
-    exact-behind free left (record { time = time; frame = f; hit = Some offset }) course is (course-free rest) x s (awaits-listed waits) (awaits-made later).0
-    (wait-exact rest order x s before later)
 
 -- it is the frame that is sent, when it has been offered
 pub record IsOwn (x : TimedParts) (s : Transmission) : Type 0 where
@@ -320,17 +323,15 @@ pub record IsOwn (x : TimedParts) (s : Transmission) : Type 0 where
 pub wait-own : {hits : List Hit} {number free : ℕ} {left : List TimedParts} {course : List Transmission} → IsCourse hits number free left course → FieldsInOrder left →
     (x : TimedParts) (s : Transmission) (before : List TimedParts) → Awaits left course x s before → IsOwn x s
 wait-own (over number free) order x s before waits = absurd (let h : None ≡ Some s = waits.turn in cc)
-wait-own (sent number free time f left course is unhit rest) order x s before waits =
-    elim (sent-cases free time f left course is order x s before waits) [
+wait-own (attempted number free time f hit left course is told window rest) order x s before waits =
+    elim (sent-cases free time f left course is order x s before hit waits) [
       | inl here ↦ record {
         frame = sym (ap (λ (z : Transmission). z.frame) here.same) ∙ here.frame;
-        unhit = sym (ap (λ (z : Transmission). z.hit) here.same);
+        unhit = sym (ap (λ (z : Transmission). z.hit) here.same) ∙ here.unhit;
         in_time = subst (λ (z : Transmission). x.time ≤ z.time) here.same here.in_time;
       }
-      | inr later ↦ wait-own rest (fields-without f left order) x s (without_offer f before) later
+      | inr later ↦ wait-own rest (fields-left f hit left order) x s (left_by f hit before) later
     ]
-wait-own (broken number free time f offset left course is struck window rest) order x s before waits =
-    wait-own rest order x s before (hit-awaits free time f left course is order x s before offset waits)
 
 -- ---- each attempt that starts meanwhile goes before it, or sends a frame of its field
 
@@ -349,21 +350,15 @@ next-first free left a is x listed early =
 pub wait-first : {hits : List Hit} {number free : ℕ} {left : List TimedParts} {course : List Transmission} → IsCourse hits number free left course → FieldsInOrder left →
     (x : TimedParts) (s : Transmission) (before : List TimedParts) → Awaits left course x s before → (z : Transmission) → IsMade course z → x.time ≤ z.time → z.time < s.time → GoesFirst z x
 wait-first (over number free) order x s before waits z made from until = absurd made
-wait-first (sent number free time f left course is unhit rest) order x s before waits z (inl here) from until =
-    let a : Transmission = record { time = time; frame = f; hit = None } in
+wait-first (attempted number free time f hit left course is told window rest) order x s before waits z (inl here) from until =
+    let a : Transmission = record { time = time; frame = f; hit = hit } in
     subst (λ (y : Transmission). GoesFirst y x) here
     (next-first free left a is x (awaits-listed waits) (subst (λ (y : Transmission). x.time ≤ y.time) (sym here) from))
-wait-first (sent number free time f left course is unhit rest) order x s before waits z (inr made) from until =
-    elim (sent-cases free time f left course is order x s before waits) [
+wait-first (attempted number free time f hit left course is told window rest) order x s before waits z (inr made) from until =
+    elim (sent-cases free time f left course is order x s before hit waits) [
       | inl here ↦
           let at : time ≡ s.time = ap (λ (y : Transmission). y.time) here.same in
           let k = course-free rest z made in
           absurd (omega (arith, at, k, until))
-      | inr later ↦ wait-first rest (fields-without f left order) x s (without_offer f before) later z made from until
+      | inr later ↦ wait-first rest (fields-left f hit left order) x s (left_by f hit before) later z made from until
     ]
-wait-first (broken number free time f offset left course is struck window rest) order x s before waits z (inl here) from until =
-    let a : Transmission = record { time = time; frame = f; hit = Some offset } in
-    subst (λ (y : Transmission). GoesFirst y x) here
-    (next-first free left a is x (awaits-listed waits) (subst (λ (y : Transmission). x.time ≤ y.time) (sym here) from))
-wait-first (broken number free time f offset left course is struck window rest) order x s before waits z (inr made) from until =
-    wait-first rest order x s before (hit-awaits free time f left course is order x s before offset waits) z made from until

@@ -17,7 +17,7 @@ use Rattle.can_bus.specs.CourseWaiting.{of_field}
 use Rattle.can_bus.specs.Quiet.{holds}
 use Rattle.can_bus.specs.Timed.{TimedParts, Lists, frames_of, offered_by, without_offer}
 use Rattle.can_bus.proofs.Ascending.{Goes, Other}
-use Rattle.can_bus.proofs.Contests.{Has, at-has, has-at}
+use Rattle.can_bus.proofs.Contests.{Has}
 use Rattle.can_bus.proofs.Members.{filter-stands, stands-filter, stands-here, stands-later, stands-cases, stands-none}
 use Rattle.can_bus.proofs.LeftOffers.{AllDiffer}
 use Rattle.can_bus.proofs.OfferTimes.{AreInOrder, by-early, by-late, by-none}
@@ -49,7 +49,7 @@ module _ (f : Parts) (x : TimedParts) (offers : List TimedParts) where
 
 pub like-none : (f : Parts) (frames : List Parts) → ((x : Parts) → Has x frames → Other f x) → like f frames ≡ []
 like-none f [] other = refl
-like-none f (x ∷ frames) other = like-skip f x frames (other-test f x (other x (inl refl))) ∙ like-none f frames (λ y h. other y (inr h))
+like-none f (x ∷ frames) other = like-skip f x frames (other-test f x (other x (stands-here x frames))) ∙ like-none f frames (λ y h. other y (stands-later x frames y h))
 
 pub like-append : (f : Parts) (a b : List Parts) → like f (a ++ b) ≡ like f a ++ like f b
 like-append f a b = filter-append (same_field f) a b
@@ -98,15 +98,6 @@ pub waiting-head : (queue : List Parts) (f : Parts) → IsWaiting queue f → (m
 waiting-head queue f is =
     head-at f f queue is.place is.stands (Shares-same_field f f refl) (λ n g less at. Before-differs (arbitration_field f) (arbitration_field g) (is.first n g less at))
 
-pub like-has : (f x : Parts) (queue : List Parts) → Has x (like f queue) → Has x queue
-like-has f x [] h = h
-like-has f x (g ∷ queue) h = elim (cases_Bool (same_field f g)) [
-  | inl same ↦
-      let more : Has x (g ∷ like f queue) = subst (Has x) (like-more f g queue same) h in
-      elim more [ inl e ↦ inl e | inr later ↦ inr (like-has f x queue later) ]
-  | inr other ↦ inr (like-has f x queue (subst (Has x) (like-skip f g queue other) h))
-]
-
 same-head : (f w : Parts) (a b : List Parts) → f ∷ a ≡ w ∷ b → w ≡ f
 same-head f w a b both = cc
 
@@ -114,13 +105,12 @@ same-head f w a b both = cc
 pub head-waits : (queue : List Parts) (f : Parts) (more : List Parts) → like f queue ≡ f ∷ more → ((x : Parts) → Has x queue → (arbitration_field f ≡ arbitration_field x) ⊎ Goes f x) →
     waiting queue ≡ Some f
 head-waits queue f more head least =
-    let own : Has f queue = like-has f f queue (subst (Has f) (sym head) (inl refl)) in
-    let at = at-has f queue own in
-    let there = waiting-some queue at.0 f at.1 in
+    let own : Has f queue = (filter-stands (same_field f) queue f (subst (Has f) (sym head) (stands-here f more))).0 in
+    let there = waiting-some queue own.0 f own.1 in
     let w = there.0 in
     let is : IsWaiting queue w = waiting-IsWaiting queue w there.1 in
-    elim (least w (has-at w queue is.place is.stands)) [
-      | inr goes ↦ absurd (is.least at.0 f at.1 goes)
+    elim (least w (is.place, is.stands)) [
+      | inr goes ↦ absurd (is.least own.0 f own.1 goes)
       | inl same ↦
           let first = head-at f w queue is.place is.stands (Shares-same_field f w same)
           (λ n g less here e. Before-differs (arbitration_field w) (arbitration_field g) (is.first n g less here) (sym same ∙ e)) in

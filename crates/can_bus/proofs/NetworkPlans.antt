@@ -1,6 +1,6 @@
 -- Ports that are made idle, with offers and hits as planned, are a network.
 use Rattle.std.specs.Prelude.{slice_get, max}
-use Rattle.std.proofs.Common.{◌≡◌, ℕ, zero, suc, ◌+◌, ◌≤◌, Some, None, List, [], ◌∷◌, All, length, map, refl, sym, ap, subst, ◌∙◌, arith, inl, inr}
+use Rattle.std.proofs.Common.{◌≡◌, ℕ, zero, suc, ◌+◌, ◌≤◌, Option, Some, None, List, [], ◌∷◌, All, length, map, refl, sym, ap, subst, ◌∙◌, arith, inl, inr}
 use Rattle.std.proofs.lemmas.Bool.{le-leb}
 use Rattle.std.proofs.lemmas.List.{length-map}
 use Rattle.can_frame.specs.Parts.{Parts}
@@ -9,32 +9,31 @@ use Rattle.can_node.specs.Waiting.{IsWaiting}
 use Rattle.can_node.proofs.WaitingLaws.{waiting-IsWaiting}
 use Rattle.can_hit.specs.declared.hit.Hit.{Hit}
 use Rattle.can_bus.specs.declared.offer.Offer.{Offer}
-use Rattle.can_bus.specs.Course.{HitInWindows, IsCourse, Transmission, attempt_of, broken, course_from, course_of, hit_time, hits_made, over, sent}
+use Rattle.can_bus.specs.Course.{FallsInWindow, HitInWindows, IsCourse, Transmission, attempt_of, attempted, course_from, course_of, hits_made, keeping, left_by, over}
 use Rattle.can_bus.specs.Network.{AllCountAtMost, CourseIsBorne, FieldsAreOwned, IsNetworkCall, counters_of}
-use Rattle.can_bus.specs.Attempts.{AreInAttempts, AreApart, IsInWindow, hit_of}
+use Rattle.can_bus.specs.Attempts.{AreInAttempts, AreApart, hit_of}
 use Rattle.can_bus.specs.NetworkPlans.{AllInWindow, AreNoEarlier, IsNetworkPlan, network_course, offered_again, two_ports}
 use Rattle.can_bus.specs.Offers.{AreOffered, offer_names_port}
 use Rattle.can_bus.specs.Plans.{PlannedPort, planned, ready_port}
-use Rattle.can_bus.specs.Quiet.{IsQuietPort, busy_time}
-use Rattle.can_bus.specs.Timed.{TimedParts, Lists, earliest, frames_of, offered_by, without_offer, all_offers, offered_to, own_offers, timed}
+use Rattle.can_bus.specs.Quiet.{IsQuietPort}
+use Rattle.can_bus.specs.Timed.{TimedParts, Lists, earliest, frames_of, offered_by, all_offers, offered_to, own_offers, timed}
 use Rattle.can_bus.proofs.BorneHits.{few-course}
 use Rattle.can_bus.proofs.CourseLaws.{course-there, frame-there}
-use Rattle.can_bus.proofs.Fields.{without-listed}
+use Rattle.can_bus.proofs.CourseTracks.{left-listed}
 use Rattle.can_bus.proofs.Members.{stands-none}
 use Rattle.can_bus.proofs.LeftOffers.{offered-stands}
 use Rattle.can_bus.proofs.OpenNetworks.{quiet-counts, quiet-fit}
 use Rattle.can_bus.proofs.OpenPlans.{all-size, own-room}
 use Rattle.can_bus.proofs.PlayedRuns.{to-other}
 use Rattle.can_bus.proofs.QuietPlans.{quiet-each}
-use Rattle.can_bus.proofs.RepairPlans.{few-before, hit-cases, hits_before, struck-there, weigh-next}
+use Rattle.can_bus.proofs.RepairPlans.{few-before, hit-counts, hits_before, struck-there}
 
 -- ---- fifteen hits are borne
 
 -- no more attempts are hit than there are hits
 hits-few : {hits : List Hit} {number free : ℕ} {left : List TimedParts} {course : List Transmission} → IsCourse hits number free left course → hits_before hits number + hits_made course ≤ length hits
 hits-few {hits} (over number free) = omega (arith, few-before hits number)
-hits-few {hits} (sent number free time f left course is unhit rest) = omega (arith, hits-few rest, (weigh-next (λ o. 1) hits number).0)
-hits-few {hits} (broken number free time f offset left course is struck window rest) = omega (arith, hits-few rest, (weigh-next (λ o. 1) hits number).1 offset struck)
+hits-few {hits} (attempted number free time f hit left course is told window rest) = omega (arith, hits-few rest, hit-counts hits number hit told (hits_made course))
 
 pub fifteen-borne : (offers : List Offer) (ports : List PortState) (course : List Transmission) (errors : ℕ) → AllCountAtMost errors ports → errors + hits_made course ≤ 15 → CourseIsBorne offers ports course
 fifteen-borne offers ports course errors most few n p at number within =
@@ -82,38 +81,26 @@ abbrev AreOfFrame : Parts → List TimedParts → Type 0
 AreOfFrame f left = (x : TimedParts) → Lists left x → x.frame ≡ f
 
 module _ (f : Parts) (hits : List Hit) (windows : AllInWindow f hits) where
+  in-window : (number : ℕ) (hit : Option ℕ) → hit_of hits number ≡ hit → FallsInWindow f hit
+  in-window number None e = tt
+  in-window number (Some offset) e = let at = struck-there hits number offset e in windows at.0 number offset at.1
+
   windows-from : (count number free : ℕ) (left : List TimedParts) → AreOfFrame f left → HitInWindows (course_from count hits number free left)
-  windows-from zero number free left are = λ s o made e. absurd made
-  windows-from (suc count) number free [] are = λ s o made e. absurd made
+  windows-from zero number free left are = λ s made. absurd made
+  windows-from (suc count) number free [] are = λ s made. absurd made
   windows-from (suc count) number free (x ∷ others) are =
       let left : List TimedParts = x ∷ others in
       let time : ℕ = max free (earliest x others) in
-      let behind : Parts → List Transmission = λ g. course_from count hits (number + 1) (time + busy_time g) (without_offer g left) in
-      let again : Parts → ℕ → List Transmission = λ g o. course_from count hits (number + 1) (time + hit_time g o) left in
+      let hit : Option ℕ = hit_of hits number in
+      let behind : Parts → List Transmission = λ g. course_from count hits (number + 1) (time + keeping g hit) (left_by g hit left) in
       let some = frame-there free x others in
-      let g = some.0 in
-      let waits : IsWaiting (offered_by time left) g = waiting-IsWaiting (offered_by time left) g some.1 in
-      let there = offered-stands time left g (waits.place, waits.stands) in
-      let same : g ≡ f = sym there.3 ∙ are there.0 there.1 in
-      subst HitInWindows (sym (ap (attempt_of behind again time (hit_of hits number)) some.1))
-      (elim (hit-cases (hit_of hits number)) [
-        | inl unhit ↦
-            subst HitInWindows (sym (ap (λ h. attempt_of behind again time h (Some g)) unhit))
-            (λ s o made e. elim made [
-              | inl here ↦ absurd (let h : None ≡ Some o = ap (λ (z : Transmission). z.hit) here ∙ e in cc)
-              | inr later ↦ windows-from count (number + 1) (time + busy_time g) (without_offer g left) (λ y l. are y (without-listed g left y l)) s o later e
-            ])
-        | inr struck ↦
-            let at = struck-there hits number struck.0 struck.1 in
-            subst HitInWindows (sym (ap (λ h. attempt_of behind again time h (Some g)) struck.1))
-            (λ s o made e. elim made [
-              | inl here ↦
-                  let one : Some struck.0 ≡ Some o = ap (λ (z : Transmission). z.hit) here ∙ e in
-                  let place : struck.0 ≡ o = cc in
-                  subst (λ k. IsInWindow s.frame k) place
-                  (subst (λ h. IsInWindow h struck.0) (sym same ∙ ap (λ (z : Transmission). z.frame) here) (windows at.0 number struck.0 at.1))
-              | inr later ↦ windows-from count (number + 1) (time + hit_time g struck.0) left are s o later e
-            ])
+      let waits : IsWaiting (offered_by time left) some.0 = waiting-IsWaiting (offered_by time left) some.0 some.1 in
+      let there = offered-stands time left some.0 (waits.place, waits.stands) in
+      let same : f ≡ some.0 = sym (are there.0 there.1) ∙ there.3 in
+      subst HitInWindows (sym (ap (attempt_of behind time hit) (some.1 ∙ ap Some (sym same))))
+      (λ s made. elim made [
+        | inl here ↦ subst (λ (z : Transmission). FallsInWindow z.frame z.hit) here (in-window number hit refl)
+        | inr later ↦ windows-from count (number + 1) (time + keeping f hit) (left_by f hit left) (λ y l. are y (left-listed f hit left y l)) s later
       ])
 
 again-at : (f : Parts) (times : List ℕ) (n : ℕ) (offer : Offer) → slice_get (offered_again f times) n ≡ Some offer →

@@ -18,7 +18,7 @@ use Rattle.can_bus.specs.Offers.{call_after, all_made}
 use Rattle.can_bus.specs.Quiet.{holds}
 use Rattle.can_bus.specs.Run.{BusState}
 use Rattle.can_bus.specs.Timed.{TimedParts, Lists, frames_of, offered_by, all_offers, offered_first, offered_to, own_offers}
-use Rattle.can_bus.proofs.Contests.{AllPorts, has-at}
+use Rattle.can_bus.proofs.Contests.{AllPorts}
 use Rattle.can_bus.proofs.Members.{none-taken, stands-map}
 use Rattle.can_bus.proofs.OfferLemmas.{offers-rise}
 use Rattle.can_bus.proofs.OfferTimes.{AreInOrder, offered-arrived, offered_by-append, offered_by-first, frames-offered}
@@ -87,8 +87,7 @@ order-first (f ∷ queue) own order = ((λ x there. omega arith), order-first qu
 -- a port has its own offers
 own-holds : (own : List TimedParts) (x : TimedParts) → Lists own x → holds (frames_of own) x.frame ≡ true
 own-holds own x there =
-    let at = stands-map (λ (y : TimedParts). y.frame) own x there in
-    holds-own x.frame (frames_of own) (has-at x.frame (frames_of own) at.0 at.1)
+    holds-own x.frame (frames_of own) (stands-map (λ (y : TimedParts). y.frame) own x there)
 
 module _ (offers : List Offer) (order : (node : ℕ) → AreInOrder (offered_to node offers)) (frames : (node : ℕ) → AreFrames (frames_of (offered_to node offers))) where
   start-port : (h entries node : ℕ) (p : PortState) → IsPort p → IsFit entries p → CountsAtMost h p → IsCoursePort h 0 entries (course_port offers node p)

@@ -16,12 +16,9 @@ use Rattle.can_bus.proofs.CheckLemmas.{follows-each}
 -- ---- one offer
 
 at_most : (a b : ℕ) → (a < b → ⊥) → b ≤ a
-at_most a b never = elim (cases_order a b) [
-  | inl same ↦ omega arith
-  | inr apart ↦ elim apart [
-    | inl less ↦ absurd (never less)
-    | inr more ↦ omega arith
-  ]
+at_most a b never = elim (cases_lt a b) [
+  | inl less ↦ absurd (never less)
+  | inr more ↦ more
 ]
 
 made-past : (offer : Offer) (number : ℕ) (ports : List PortState) → offer.node < number → made offer number ports ≡ ports
@@ -206,21 +203,6 @@ within-last ports offers place time sound within other = record {
       let least : time ≤ (get_or offers place o).time = within.ahead place (get_or offers place o) (omega arith) here in
       let apart : (get_or offers place o).time ≢ time = other (get_or offers place o) here in
       let h : (get_or offers place o).time ≤ o.time = offers-rise ports offers sound place n (get_or offers place o) o behind here at in omega arith;
-}
-
--- the walk stands so up to the next offer
-pub reached-later : (ports : ℕ) (offers : List Offer) (place time count : ℕ) (offer : Offer) → AreOffered ports offers → IsReached offers place (time + 1) → 0 < count →
-    slice_get offers place ≡ Some offer → time + count ≤ offer.time → IsReached offers place (time + count)
-reached-later ports offers place time count offer sound reached some there before = record {
-  passed = λ n o earlier at. let h : o.time < time + 1 = reached.passed n o earlier at in omega arith;
-  ahead = λ n o behind at. let h : offer.time ≤ o.time = offers-rise ports offers sound place n offer o behind there at in omega arith;
-}
-
--- and wherever it ends, if there is none
-pub reached-end : (offers : List Offer) (place time count : ℕ) → IsReached offers place (time + 1) → 0 < count → length offers ≤ place → IsReached offers place (time + count)
-reached-end offers place time count reached some end = record {
-  passed = λ n o earlier at. let h : o.time < time + 1 = reached.passed n o earlier at in omega arith;
-  ahead = λ n o behind at. let h : n < length offers = slice_get_within offers n o at in absurd (omega arith);
 }
 
 -- up to the time of the next offer

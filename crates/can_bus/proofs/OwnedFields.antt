@@ -16,7 +16,6 @@ use Rattle.can_bus.specs.Offers.{AreOffered}
 use Rattle.can_bus.specs.Quiet.{holds, queued}
 use Rattle.can_bus.specs.Timed.{TimedParts, Lists, frames_of, all_offers, offered_first, offered_to, own_offers, timed}
 use Rattle.can_bus.proofs.Ascending.{Other}
-use Rattle.can_bus.proofs.Contests.{at-has}
 use Rattle.can_bus.proofs.Fields.{field-skip}
 use Rattle.can_bus.proofs.Members.{map-stands, stands-back, stands-cases, stands-filter, stands-front, stands-here, stands-later, stands-map, stands-none}
 use Rattle.can_bus.proofs.PlayedRuns.{to-here, to-other}
@@ -169,5 +168,5 @@ module _ (f : Parts) where
 pub none-holds : (f : Parts) (own : List TimedParts) → NoneOf f own → holds (frames_of own) f ≡ false
 none-holds f own none =
     holds-none f (frames_of own) (λ x has. (
-    let there = map-stands (λ (y : TimedParts). y.frame) own x (at-has x (frames_of own) has) in
+    let there = map-stands (λ (y : TimedParts). y.frame) own x has in
     subst (Other f) there.2 (none there.0 there.1)))

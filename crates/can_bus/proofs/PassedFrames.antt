@@ -3,7 +3,7 @@ use Rattle.std.specs.Prelude.{if◌then◌else◌}
 use Rattle.std.specs.List.{list_any}
 use Rattle.std.proofs.Common.{◌≡◌, ◌≢◌, ℕ, zero, suc, ◌+◌, ◌-◌, ◌<◌, ◌≤◌, true, false, Option, Some, List, [], ◌∷◌, length, map, take, get_or, refl, sym, ap, subst, ◌∙◌, arith}
 use Rattle.std.proofs.lemmas.Bool.{cond-false}
-use Rattle.std.proofs.lemmas.List.{length-append, length-take-le, take_all, take_at}
+use Rattle.std.proofs.lemmas.List.{length-append, length-take-le, take-take, take_all, take_at}
 use Rattle.can_frame.specs.declared.level.Level.{Level}
 use Rattle.can_frame.specs.declared.level.Level.TheVariants.{Dominant, Recessive}
 use Rattle.can_frame.specs.Parts.{Parts, IsFrame}
@@ -27,7 +27,7 @@ use Rattle.can_bus.proofs.HitRuns.{sees}
 use Rattle.can_bus.proofs.RestInFrames.{none-begins, rest_at-next, rest-line}
 use Rattle.can_bus.proofs.StepLemmas.{call_of, same_call, at_next, passed_more, view_later, within_next}
 use Rattle.can_bus.proofs.WireRuns.{all_after, rest_run}
-use Rattle.can_bus.proofs.PassingPorts.{all_after-run, frame-wires, taken-again}
+use Rattle.can_bus.proofs.PassingPorts.{all_after-run, frame-wires}
 
 -- ---- level by level
 
@@ -164,7 +164,7 @@ pub part-of : (f : Parts) (levels : List Level) (n part : ℕ) → n ≤ length 
 part-of f levels n part long are less =
     let size : n ≡ length (stuffed_part f) + 10 = sym (length-take-le n levels long) ∙ ap length are ∙ length-append (stuffed_part f) (tail Recessive Recessive) in
     let whole : part ≡ length (stuffed_part f) = omega (arith, size, less) in (
-      sym (taken-again part n levels (omega (arith, size, whole))) ∙ ap (take part) are ∙ take_at (stuffed_part f) (tail Recessive Recessive) part (sym whole),
+      sym (take-take part n levels (omega (arith, size, whole))) ∙ ap (take part) are ∙ take_at (stuffed_part f) (tail Recessive Recessive) part (sym whole),
       whole,
     )
 

@@ -1,6 +1,6 @@
 -- Ports that a frame passes at once: what they drive in its bit times, and which they are among others.
-use Rattle.std.proofs.Common.{◌≡◌, ℕ, zero, suc, ◌+◌, ◌-◌, ◌++◌, ◌<◌, ◌≤◌, ◌⊎◌, Some, List, [], ◌∷◌, length, map, take, drop, get_or, add-one, refl, sym, ap, subst, ◌∙◌, arith, inl, inr}
-use Rattle.std.proofs.lemmas.List.{map-id}
+use Rattle.std.proofs.Common.{◌≡◌, ℕ, zero, suc, ◌+◌, ◌-◌, ◌++◌, ◌<◌, ◌⊎◌, Some, List, [], ◌∷◌, length, map, take, drop, get_or, add-one, refl, sym, ap, subst, ◌∙◌, arith, inl, inr}
+use Rattle.std.proofs.lemmas.List.{map-id, take-take}
 use Rattle.can_frame.specs.declared.level.Level.{Level}
 use Rattle.can_frame.specs.declared.level.Level.TheVariants.{Dominant, Recessive}
 use Rattle.can_frame.specs.Parts.{Parts, IsFrame}
@@ -18,7 +18,6 @@ use Rattle.can_node.proofs.Passing.{Enters, begins-kept, comes-behind, run-drive
 use Rattle.can_node.proofs.Riding.{run-rides}
 use Rattle.can_bus.specs.Passing.{IsReceived, MayPass, MayPassAll, PassesAt, PassesBus, PassesBy, PassesByAll, PassesFrom, Receives}
 use Rattle.can_bus.specs.Wired.{over, wired}
-use Rattle.can_bus.proofs.Members.{none-taken}
 use Rattle.can_bus.proofs.AsidePorts.{apart-drives, aside-apart}
 use Rattle.can_bus.proofs.Contests.{AllPorts}
 use Rattle.can_bus.proofs.FrameOnBus.{receiver-joins}
@@ -159,12 +158,6 @@ frame-wires f is ports valid passes got o within =
 
 -- ---- one port after another
 
-pub taken-again : {A : Type 0} (m n : ℕ) (xs : List A) → m ≤ n → take m (take n xs) ≡ take m xs
-taken-again zero n xs h = none-taken (take n xs) ∙ sym (none-taken xs)
-taken-again (suc m) zero xs h = absurd (omega (arith, h))
-taken-again (suc m) (suc n) [] h = refl
-taken-again (suc m) (suc n) (x ∷ xs) h = ap (λ ys. x ∷ ys) (taken-again m n xs (omega (arith, h)))
-
 -- a frame that passes by so many passes by one more
 passes-step : {X : Type 0} (S : X → PortState) (f : Parts) (xs : List X) (i : ℕ) (d : X) → i < length xs → PassesByAll f (map S (take i xs)) → PassesBy f (S (get_or xs i d)) → PassesByAll f (map S (take (suc i) xs))
 passes-step S f [] i d within before here = absurd (omega (arith, within))
@@ -258,7 +251,7 @@ received-behind S f (x ∷ xs) zero got = got
 received-behind S f (x ∷ xs) (suc n) got = inr (received-behind S f xs n got)
 
 pub received-more : {X : Type 0} (S : X → PortState) (f : Parts) (xs : List X) (n : ℕ) → IsReceived f (map S (take n xs)) → IsReceived f (map S (take (n + 1) xs))
-received-more S f xs n got = received-first S f (take (n + 1) xs) n (subst (λ ys. IsReceived f (map S ys)) (sym (taken-again n (n + 1) xs (omega arith))) got)
+received-more S f xs n got = received-first S f (take (n + 1) xs) n (subst (λ ys. IsReceived f (map S ys)) (sym (take-take n (n + 1) xs (omega arith))) got)
 
 received-at : {X : Type 0} (S : X → PortState) (f : Parts) (xs : List X) (n : ℕ) (d : X) → n < length xs → Receives f (S (get_or xs n d)) → IsReceived f (map S (take (suc n) xs))
 received-at S f [] n d within here = absurd (omega (arith, within))

@@ -1,5 +1,5 @@
 -- Calls that are repaired: that they can be made, and that those without hits are quiet ones.
-use Rattle.std.proofs.Common.{◌≡◌, ℕ, ◌+◌, ◌-◌, ◌<◌, ◌≤◌, ◌⊎◌, true, Option, Some, None, List, [], ◌∷◌, ◌++◌, length, map, take, refl, sym, ap, subst, ◌∙◌, arith, inl, inr}
+use Rattle.std.proofs.Common.{◌≡◌, ℕ, zero, suc, ◌+◌, ◌-◌, ◌<◌, ◌≤◌, ◌⊎◌, true, Some, None, List, [], ◌∷◌, ◌++◌, length, map, take, refl, sym, ap, subst, ◌∙◌, arith, inl, inr}
 use Rattle.std.specs.Prelude.{◌&&◌, ◌||◌}
 use Rattle.std.proofs.Math.Dec.{eqb, ltb}
 use Rattle.std.proofs.lemmas.Bool.{lt-ltb}
@@ -17,31 +17,25 @@ use Rattle.can_hit.specs.declared.hit.Hit.{Hit}
 use Rattle.can_hit.specs.declared.hit.Hit.TheVariants.{At, In, View}
 use Rattle.can_hit.specs.Hits.{AreTaken, is_above, hit_names_port}
 use Rattle.can_bus.specs.Run.{BusState}
-use Rattle.can_bus.specs.Quiet.{IsQuietCall, IsAscending, ascending, span}
+use Rattle.can_bus.specs.Quiet.{IsQuietCall, IsAscending, ascending, busy_time, span}
 use Rattle.can_bus.specs.Plans.{PlannedPort, IsQuietPlan, planned, ready_port}
 use Rattle.can_bus.specs.Attempts.{AreApart, AreInAttempts, IsInWindow, IsLater}
-use Rattle.can_bus.specs.Course.{IsMade, Transmission, and_hit, hits_made}
-use Rattle.can_bus.specs.Repair.{AreBorne, FallInWindows, IsRepairedCall, repaired_course, repaired_span}
+use Rattle.can_bus.specs.Course.{FallsInWindow, HitInWindows, Transmission}
+use Rattle.can_bus.specs.Repair.{AreBorne, FallInWindows, IsRepairedCall, attempts_from, repaired_course, repaired_span}
 use Rattle.can_bus.proofs.Ascending.{ascending_there}
 use Rattle.can_bus.proofs.QuietPlans.{ready_bus, ready-quiet, ready-queued}
-use Rattle.can_bus.proofs.RepairPlans.{few-made}
 
 -- ---- Without hits.
 
-made-hit : (course : List Transmission) (s : Transmission) (o : ℕ) → IsMade course s → s.hit ≡ Some o → 0 < hits_made course
-made-hit [] s o made e = absurd made
-made-hit (x ∷ course) s o (inl here) e = subst (λ hit. 0 < and_hit hit (hits_made course)) (sym (ap (λ (z : Transmission). z.hit) here ∙ e)) (omega arith)
-made-hit (x ∷ course) s o (inr made) e = no-less x.hit (made-hit course s o made e)
-  where
-    no-less : (hit : Option ℕ) → 0 < hits_made course → 0 < and_hit hit (hits_made course)
-    no-less None some = some
-    no-less (Some offset) some = omega (arith, some)
+none-hit : (count number time : ℕ) (frames : List Parts) → HitInWindows (attempts_from count [] number time frames)
+none-hit zero number time frames s made = absurd made
+none-hit (suc count) number time [] s made = absurd made
+none-hit (suc count) number time (f ∷ frames) s (inl here) = subst (λ (z : Transmission). FallsInWindow z.frame z.hit) here tt
+none-hit (suc count) number time (f ∷ frames) s (inr made) = none-hit count (number + 1) (time + busy_time f) frames s made
 
 pub no-windows : (frames : List Parts) → FallInWindows frames []
-no-windows frames = record {
-  within = λ n hit there. absurd (let h : None ≡ Some hit = there in cc);
-  windows = λ s o made e. absurd (omega (arith, few-made [] frames, made-hit (repaired_course frames []) s o made e));
-}
+unfolding repaired_course
+no-windows frames = record { within = λ n hit there. absurd (let h : None ≡ Some hit = there in cc); windows = none-hit (length frames + 0) 0 0 frames }
 
 pub quiet-call : (bus : BusState) (frames : List Parts) → IsRepairedCall [] bus frames → IsQuietCall [] bus.ports frames × (bus.rest ≡ 11)
 quiet-call bus frames call = (record { undisturbed = refl; quiet = call.quiet; ascending = call.ascending }, call.rest)

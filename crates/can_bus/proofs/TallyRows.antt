@@ -1,8 +1,7 @@
 -- Windows and tallies computed on disturbed calls whose outcome is known from elsewhere.
-use Rattle.std.proofs.Common.{◌≡◌, ℕ, zero, suc, ◌+◌, false, List, [], ◌∷◌, length, take, refl}
+use Rattle.std.proofs.Common.{◌≡◌, ℕ, zero, suc, ◌+◌, List, [], ◌∷◌, length, take, refl}
 use Rattle.can_frame.specs.Levels.{bits_of}
 use Rattle.can_frame.specs.Arbitration.{arbitration_field}
-use Rattle.can_frame.specs.Parts.{Parts}
 use Rattle.can_wire.specs.Crc.{crc_of}
 use Rattle.can_wire.specs.Stuffing.{stuffed}
 use Rattle.can_wire.specs.Wire.{head, unstuffed, stuffed_part, wire}
@@ -13,73 +12,67 @@ use Rattle.can_bus.specs.Quiet.{span}
 use Rattle.can_bus.specs.RepairedLine.{lateness}
 use Rattle.can_bus.specs.Attempts.{Tally, unstuffed_before}
 use Rattle.can_bus.specs.Repair.{repaired_course, tally, repaired_span}
+use Rattle.can_bus.proofs.RepairRows.{frame_000, frame_001}
 
--- S 000 D 0 and S 001 D 0
-abbrev least : Parts
-least = record { id = record { raw = 0; extended = false }; remote = false; dlc = 0; bytes = [] }
-
-abbrev next : Parts
-next = record { id = record { raw = 1; extended = false }; remote = false; dlc = 0; bytes = [] }
-
-abbrev counts : ℕ → ℕ → Tally
+abbrev pub counts : ℕ → ℕ → Tally
 counts tec rec = record { tec = tec; rec = rec }
 
--- The window of the first goes from 16 to 48: start of frame and field are 14 levels, with two stuff bits among them.
-field_size : length (arbitration_field least) ≡ 13
+-- The window of `S 000 D 0` goes from 16 to 48: start of frame and field are 14 levels, with two stuff bits among them.
+field_size : length (arbitration_field frame_000) ≡ 13
 unfolding arbitration_field bits_of
 field_size = refl
 
-at_15 : unstuffed_before least 15 ≡ 13
+at_15 : unstuffed_before frame_000 15 ≡ 13
 unfolding arbitration_field bits_of crc_of head unstuffed stuffed stuffed_part
 at_15 = refl
 
-at_16 : unstuffed_before least 16 ≡ 14
+at_16 : unstuffed_before frame_000 16 ≡ 14
 unfolding arbitration_field bits_of crc_of head unstuffed stuffed stuffed_part
 at_16 = refl
 
-wire_size : length (wire least) ≡ 50
+wire_size : length (wire frame_000) ≡ 50
 unfolding arbitration_field bits_of crc_of head unstuffed stuffed stuffed_part
 wire_size = refl
 
 -- fifteen hits at 16, one an attempt
-abbrev from : ℕ → ℕ → List Hit
-from number zero = []
-from number (suc n) = In number 16 ∷ from (number + 1) n
+abbrev pub hits_from : ℕ → ℕ → List Hit
+hits_from number zero = []
+hits_from number (suc n) = In number 16 ∷ hits_from (number + 1) n
 
-sender_after_fifteen : course_tally (least ∷ []) (take 15 (repaired_course (least ∷ []) (from 0 15))) (counts 0 0) ≡ counts 120 0
+sender_after_fifteen : course_tally (frame_000 ∷ []) (take 15 (repaired_course (frame_000 ∷ []) (hits_from 0 15))) (counts 0 0) ≡ counts 120 0
 unfolding repaired_course lateness arbitration_field bits_of crc_of head unstuffed stuffed stuffed_part
 sender_after_fifteen = refl
 
-receiver_after_fifteen : course_tally [] (take 15 (repaired_course (least ∷ []) (from 0 15))) (counts 0 0) ≡ counts 0 15
+receiver_after_fifteen : course_tally [] (take 15 (repaired_course (frame_000 ∷ []) (hits_from 0 15))) (counts 0 0) ≡ counts 0 15
 unfolding repaired_course lateness arbitration_field bits_of crc_of head unstuffed stuffed stuffed_part
 receiver_after_fifteen = refl
 
-sender_of_fifteen : tally (least ∷ []) (least ∷ []) (from 0 15) ≡ counts 119 0
+sender_of_fifteen : tally (frame_000 ∷ []) (frame_000 ∷ []) (hits_from 0 15) ≡ counts 119 0
 unfolding repaired_course lateness arbitration_field bits_of crc_of head unstuffed stuffed stuffed_part
 sender_of_fifteen = refl
 
-receiver_of_fifteen : tally [] (least ∷ []) (from 0 15) ≡ counts 0 14
+receiver_of_fifteen : tally [] (frame_000 ∷ []) (hits_from 0 15) ≡ counts 0 14
 unfolding repaired_course lateness arbitration_field bits_of crc_of head unstuffed stuffed stuffed_part
 receiver_of_fifteen = refl
 
 -- the second of two frames hit, each at a port of its own
-sender_of_second : tally (next ∷ []) (least ∷ next ∷ []) (In 1 19 ∷ []) ≡ counts 7 0
+sender_of_second : tally (frame_001 ∷ []) (frame_000 ∷ frame_001 ∷ []) (In 1 19 ∷ []) ≡ counts 7 0
 unfolding repaired_course lateness arbitration_field bits_of crc_of head unstuffed stuffed stuffed_part
 sender_of_second = refl
 
-receiver_of_second : tally (least ∷ []) (least ∷ next ∷ []) (In 1 19 ∷ []) ≡ counts 0 0
+receiver_of_second : tally (frame_000 ∷ []) (frame_000 ∷ frame_001 ∷ []) (In 1 19 ∷ []) ≡ counts 0 0
 unfolding repaired_course lateness arbitration_field bits_of crc_of head unstuffed stuffed stuffed_part
 receiver_of_second = refl
 
-bound_of_second : repaired_span (least ∷ next ∷ []) (In 1 19 ∷ []) ≡ 146
+bound_of_second : repaired_span (frame_000 ∷ frame_001 ∷ []) (In 1 19 ∷ []) ≡ 146
 unfolding arbitration_field bits_of crc_of head unstuffed stuffed stuffed_part span
 bound_of_second = refl
 
 -- a hit behind the ACK slot
-sender_at_48 : tally (least ∷ []) (least ∷ []) (In 0 48 ∷ []) ≡ counts 7 0
+sender_at_48 : tally (frame_000 ∷ []) (frame_000 ∷ []) (In 0 48 ∷ []) ≡ counts 7 0
 unfolding repaired_course lateness arbitration_field bits_of crc_of head unstuffed stuffed stuffed_part
 sender_at_48 = refl
 
-receiver_at_48 : tally [] (least ∷ []) (In 0 48 ∷ []) ≡ counts 0 0
+receiver_at_48 : tally [] (frame_000 ∷ []) (In 0 48 ∷ []) ≡ counts 0 0
 unfolding repaired_course lateness arbitration_field bits_of crc_of head unstuffed stuffed stuffed_part
 receiver_at_48 = refl

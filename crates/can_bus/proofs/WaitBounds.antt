@@ -9,14 +9,15 @@ use Rattle.can_frame.specs.Parts.{Parts, IsFrame}
 use Rattle.can_frame.specs.Arbitration.{arbitration_field, Before}
 use Rattle.can_wire.proofs.WireLemmas.{length-wire-le}
 use Rattle.can_node.specs.Ports.{goes_before, same_field}
+use Rattle.can_hit.specs.declared.hit.Hit.{Hit}
 use Rattle.can_node.proofs.WaitingLemmas.{Shares-same_field}
 use Rattle.can_bus.specs.Quiet.{AreDifferent, busy_time, span}
 use Rattle.can_bus.specs.Timed.{TimedParts, Lists, frames_of, without_offer}
 use Rattle.can_bus.specs.Schedule.{IsScheduleOf, StartsAt, unhit, left_at, starts_between, FindsFree}
-use Rattle.can_bus.specs.CourseWaiting.{ahead_of, busy_times, AreInTime, IsSentBy, attempts_between, going_before, hit_attempts, keeping, kept_times, left_behind, left_by, of_field, sends_of, sent_attempts}
+use Rattle.can_bus.specs.CourseWaiting.{ahead_of, busy_times, AreInTime, IsSentBy, attempts_between, going_before, hit_attempts, kept_times, left_behind, of_field, sends_of, sent_attempts}
 use Rattle.can_bus.proofs.Members.{stands-none, stands-here, stands-later, stands-cases, filter-stands, stands-filter}
 use Rattle.can_bus.proofs.LeftOffers.{AllDiffer, differ-from, one-of-field}
-use Rattle.can_bus.specs.Course.{Transmission, IsCourse, over, sent, broken, IsMade}
+use Rattle.can_bus.specs.Course.{Transmission, IsCourse, over, attempted, IsMade, keeping, left_by}
 use Rattle.can_bus.proofs.Ascending.{different_permuted}
 use Rattle.can_bus.proofs.CourseDelays.{bound as course-bound, busy-weighed, exact as course-exact, few as course-few, meanwhile as course-meanwhile, weigh, weigh-first, length-weigh, some-first}
 use Rattle.can_bus.proofs.CourseSchedules.{made-unhit, one_unhit, schedule-frames, starts-offered, unhit-made}
@@ -152,16 +153,16 @@ longest-standard f is = omega (arith, length-wire-le f is.0, cond-false {A = ℕ
 -- ---- where nothing starts at a time
 
 -- what starts between it and a start keeps the bus for less than the time between
-kept-less : {number free : ℕ} {left : List TimedParts} {course : List Transmission} → IsCourse [] number free left course → (from : ℕ) → ((z : Transmission) → IsMade course z → z.time ≢ from) →
+kept-less : {hits : List Hit} {number free : ℕ} {left : List TimedParts} {course : List Transmission} → IsCourse hits number free left course → (from : ℕ) → ((z : Transmission) → IsMade course z → z.time ≢ from) →
     (s : Transmission) → IsMade course s → from < s.time → kept_times (attempts_between from s.time course) + max free (suc from) ≤ s.time
 kept-less (over number free) from none s made less = absurd made
-kept-less (sent number free time f left course is unhit_here rest) from none s made less =
-    let a : Transmission = record { time = time; frame = f; hit = None } in
+kept-less (attempted number free time f hit left course is told window rest) from none s made less =
+    let a : Transmission = record { time = time; frame = f; hit = hit } in
     elim (cases_lt time s.time) [
       | inr late ↦
           let nothing : kept_times (attempts_between from s.time (a ∷ course)) ≡ 0 =
           ap kept_times (between-late from s.time a course late ∙ between-none from s.time course (λ z there. omega (arith, late, course-free rest z there))) in
-          omega (arith, nothing, less, course-free (sent number free time f left course is unhit_here rest) s made)
+          omega (arith, nothing, less, course-free (attempted number free time f hit left course is told window rest) s made)
       | inl early ↦ elim made [
         | inl here ↦ (let same : time ≡ s.time = ap (λ (z : Transmission). z.time) here in absurd (omega (arith, same, early)))
         | inr later ↦
@@ -175,7 +176,6 @@ kept-less (sent number free time f left course is unhit_here rest) from none s m
             ]
       ]
     ]
-kept-less (broken number free time f offset left course is struck window rest) from none s made less = absurd (let h : None ≡ Some offset = struck in cc)
 
 -- ---- the wait, told from a schedule
 

@@ -1,5 +1,6 @@
 -- A wire without disturbances, with machines of any kind on it, over levels that it is known to have.
-use Rattle.std.proofs.Common.{◌≡◌, ℕ, zero, suc, ◌<◌, List, [], ◌∷◌, length, map, take, refl, sym, ap, subst, arith}
+use Rattle.std.proofs.Common.{◌≡◌, ℕ, zero, suc, ◌<◌, List, [], ◌∷◌, length, map, take, sym, subst, arith}
+use Rattle.std.proofs.lemmas.List.{length-map}
 use Rattle.can_frame.specs.declared.level.Level.{Level}
 use Rattle.can_wire.specs.Layout.{level_at}
 use Rattle.can_bus.specs.Wired.{over}
@@ -11,8 +12,7 @@ abbrev pub undisturbed : List Level → List (Level × Level)
 undisturbed levels = map (λ x. (x, x)) levels
 
 pub length-undisturbed : (levels : List Level) → length (undisturbed levels) ≡ length levels
-length-undisturbed [] = refl
-length-undisturbed (x ∷ levels) = ap suc (length-undisturbed levels)
+length-undisturbed levels = length-map levels (λ x. (x, x))
 
 -- the machines after these levels
 abbrev pub all_after : {M : Type 0} → (Level → M → M) → List Level → List M → List M

@@ -1,7 +1,7 @@
 -- The wired level of lists that are put together, taken piece by piece, or filled place by place.
 use Rattle.std.specs.Simd.{first_chunks}
 use Rattle.std.proofs.Common.{◌≡◌, ℕ, zero, suc, ◌+◌, ◌-◌, ◌*◌, ◌%◌, ◌^◌, ◌<◌, ◌≤◌, true, false, cond, List, [], ◌∷◌, ◌++◌, length, map, get_or, set, take, drop, replicate, eqb, refl, ap, sym, ◌∙◌, arith}
-use Rattle.std.proofs.lemmas.List.{take_more, take_more_set, take_all, drop_more, drop-drop, drop_all}
+use Rattle.std.proofs.lemmas.List.{map-append, take_more, take_more_set, take_all, drop_more, drop-drop, drop_all}
 use Rattle.std.proofs.lemmas.Bool.Decides.{nat_tests}
 use lib.Lanes.{mask_l, top, zip2}
 use mir.Syntax.{w8}
@@ -33,21 +33,12 @@ pub wired_empty : wired [] ≡ Recessive
 unfolding wired
 wired_empty = refl
 
--- a plain walk along levels
-pub wired_at : (levels : List Level) (i : ℕ) (d : Level) → i < length levels → wired (drop i levels) ≡ over (get_or levels i d) (wired (drop (i + 1) levels))
-unfolding wired
-wired_at levels i d h = ap wired (drop_more levels i d h)
-
 -- one of the levels at rest is driven
 pub wired-set : (levels : List Level) (i : ℕ) (x : Level) → i < length levels → get_or levels i Recessive ≡ Recessive → wired (set levels i x) ≡ over x (wired levels)
 unfolding wired
 wired-set [] i x h e = absurd (omega arith)
 wired-set (y ∷ levels) zero x h e = ap (λ z. over x (over z (wired levels))) (sym e)
 wired-set (y ∷ levels) (suc i) x h e = ap (over y) (wired-set levels i x (omega arith) e) ∙ over_swap y x (wired levels)
-
-map-append : {X Y : Type 0} (f : X → Y) (a b : List X) → map f (a ++ b) ≡ map f a ++ map f b
-map-append f [] b = refl
-map-append f (x ∷ a) b = ap (λ ys. f x ∷ ys) (map-append f a b)
 
 over_last : (x y : Level) → over x (over y Recessive) ≡ over y x
 over_last Dominant Dominant = refl
@@ -143,19 +134,6 @@ pub chunk_recessive : {X : Type 0} (W : List X → Level) → IsWired W → (xs 
     W (drop (i * n) xs) ≡ W xs → x ≡ W (get_or chunks i e) → is_recessive x ≡ true → W (drop ((i + 1) * n) xs) ≡ W xs
 chunk_recessive W joined xs n k i chunks e x is h before here high =
     part_recessive W joined xs (drop (i * n) xs) (get_or chunks i e) (drop ((i + 1) * n) xs) x (split_at xs n k i chunks e is h) before here high
-
--- one level of a plain walk
-pub level_dominates : (levels : List Level) (i : ℕ) (d : Level) → i < length levels → wired (drop i levels) ≡ wired levels → is_recessive (get_or levels i d) ≡ false → Dominant ≡ wired levels
-level_dominates levels i d h before low =
-    sym (ap (λ x. over x (wired (drop (i + 1) levels))) (level_dominant (get_or levels i d) low)) ∙ sym (wired_at levels i d h) ∙ before
-
-pub level_passes : (levels : List Level) (i : ℕ) (d : Level) → i < length levels → wired (drop i levels) ≡ wired levels → is_recessive (get_or levels i d) ≡ true →
-    wired (drop (i + 1) levels) ≡ wired levels
-level_passes levels i d h before high =
-    sym (ap (λ x. over x (wired (drop (i + 1) levels))) (level_recessive (get_or levels i d) high)) ∙ sym (wired_at levels i d h) ∙ before
-
-pub levels_passed : (levels : List Level) (i : ℕ) → length levels ≤ i → wired (drop i levels) ≡ wired levels → Recessive ≡ wired levels
-levels_passed levels i h before = sym (ap wired (drop_all i levels h) ∙ wired_empty) ∙ before
 
 -- places at rest
 pub resting_all : (n k : ℕ) → get_or (replicate n Recessive) k Recessive ≡ Recessive

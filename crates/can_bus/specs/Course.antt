@@ -25,6 +25,22 @@ pub record Transmission : Type 0 where
 abbrev pub hit_time : Parts → ℕ → ℕ
 hit_time f offset = offset + 18 + lateness f offset
 
+-- how long an attempt keeps the bus: its frame and the intermission, or what a hit makes of them
+abbrev pub keeping : Parts → Option ℕ → ℕ
+keeping f None = busy_time f
+keeping f (Some offset) = hit_time f offset
+
+-- What it leaves of the offers: all but the first of its arbitration field, where it isn't hit. Where it is, all are left: its frame is
+-- sent again. (6)
+abbrev pub left_by : Parts → Option ℕ → List TimedParts → List TimedParts
+left_by f None offers = without_offer f offers
+left_by f (Some offset) offers = offers
+
+-- if it is hit, it is so in the window of its frame
+abbrev pub FallsInWindow : Parts → Option ℕ → Type 0
+FallsInWindow f None = Unit {0}
+FallsInWindow f (Some offset) = IsInWindow f offset
+
 -- The next attempt sends f at this time, where these offers are left and the bus is free from a time on.
 pub record IsNext (free : ℕ) (left : List TimedParts) (time : ℕ) (f : Parts) : Type 0 where
   -- the bus is free by then
@@ -35,16 +51,12 @@ pub record IsNext (free : ℕ) (left : List TimedParts) (time : ℕ) (f : Parts)
   pub waits : IsWaiting (offered_by time left) f
 
 -- The course from the attempt of this number on, where these offers are left and the bus is free from this time on: one attempt after
--- another, until no offer is left. One that isn't hit takes away the first offer of its arbitration field. One that is hit, in the window
--- of its frame, takes none away: its frame is sent again (6). Behind each the bus is free when its last level is over.
+-- another, until no offer is left. Each is the next, and is hit where the hits say so. Behind it the bus is free when it has kept it.
 pub data IsCourse (hits : List Hit) : ℕ → ℕ → List TimedParts → List Transmission → Type 0 where
   over : (number free : ℕ) → IsCourse hits number free [] []
-  sent : (number free time : ℕ) (f : Parts) (left : List TimedParts) (course : List Transmission) → IsNext free left time f → hit_of hits number ≡ None →
-      IsCourse hits (number + 1) (time + busy_time f) (without_offer f left) course →
-      IsCourse hits number free left (record { time = time; frame = f; hit = None } ∷ course)
-  broken : (number free time : ℕ) (f : Parts) (offset : ℕ) (left : List TimedParts) (course : List Transmission) → IsNext free left time f → hit_of hits number ≡ Some offset →
-      IsInWindow f offset → IsCourse hits (number + 1) (time + hit_time f offset) left course →
-      IsCourse hits number free left (record { time = time; frame = f; hit = Some offset } ∷ course)
+  attempted : (number free time : ℕ) (f : Parts) (hit : Option ℕ) (left : List TimedParts) (course : List Transmission) →
+      IsNext free left time f → hit_of hits number ≡ hit → FallsInWindow f hit → IsCourse hits (number + 1) (time + keeping f hit) (left_by f hit left) course →
+      IsCourse hits number free left (record { time = time; frame = f; hit = hit } ∷ course)
 
 -- What is told of it.
 
@@ -100,11 +112,10 @@ course_tally queue (s ∷ course) t = course_tally queue course (tallied (holds 
 
 -- The same, computed.
 
--- an attempt at this time to send the frame that waits, and those behind it: as where it isn't hit, or as where it is
-abbrev pub attempt_of : (Parts → List Transmission) → (Parts → ℕ → List Transmission) → ℕ → Option ℕ → Option Parts → List Transmission
-attempt_of behind again time hit None = []
-attempt_of behind again time None (Some f) = record { time = time; frame = f; hit = None } ∷ behind f
-attempt_of behind again time (Some offset) (Some f) = record { time = time; frame = f; hit = Some offset } ∷ again f offset
+-- an attempt at this time to send the frame that waits, hit or not, and those behind it
+abbrev pub attempt_of : (Parts → List Transmission) → ℕ → Option ℕ → Option Parts → List Transmission
+attempt_of behind time hit None = []
+attempt_of behind time hit (Some f) = record { time = time; frame = f; hit = hit } ∷ behind f
 
 -- so many attempts at most, the first of which has this number, from a time on at which the bus is free
 abbrev pub course_from : ℕ → List Hit → ℕ → ℕ → List TimedParts → List Transmission
@@ -113,8 +124,8 @@ course_from (suc count) hits number free [] = []
 course_from (suc count) hits number free (x ∷ others) =
     let left = x ∷ others in
     let time = max free (earliest x others) in
-    attempt_of (λ f. course_from count hits (number + 1) (time + busy_time f) (without_offer f left))
-    (λ f offset. course_from count hits (number + 1) (time + hit_time f offset) left) time (hit_of hits number) (waiting (offered_by time left))
+    let hit = hit_of hits number in
+    attempt_of (λ f. course_from count hits (number + 1) (time + keeping f hit) (left_by f hit left)) time hit (waiting (offered_by time left))
 
 -- one attempt for each offer, and one more for each hit, at most
 unfoldable pub course_of : List Hit → List TimedParts → List Transmission
@@ -122,4 +133,4 @@ course_of hits offers = course_from (length offers + length hits) hits 0 0 offer
 
 -- each hit falls in the window of the frame that its attempt sends
 abbrev pub HitInWindows : List Transmission → Type 0
-HitInWindows course = (s : Transmission) (offset : ℕ) → IsMade course s → s.hit ≡ Some offset → IsInWindow s.frame offset
+HitInWindows course = (s : Transmission) → IsMade course s → FallsInWindow s.frame s.hit

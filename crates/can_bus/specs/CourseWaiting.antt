@@ -6,21 +6,16 @@ use Rattle.can_frame.specs.Arbitration.{arbitration_field}
 use Rattle.can_frame.specs.Parts.{Parts}
 use Rattle.can_node.specs.Ports.{goes_before, same_field}
 use Rattle.can_hit.specs.declared.hit.Hit.{Hit}
-use Rattle.can_bus.specs.Course.{IsCourse, Transmission, hit_time}
-use Rattle.can_bus.specs.Quiet.{busy_time, span}
-use Rattle.can_bus.specs.Timed.{TimedParts, frames_of, without_offer}
+use Rattle.can_bus.specs.Course.{IsCourse, Transmission, keeping, left_by}
+use Rattle.can_bus.specs.Quiet.{span}
+use Rattle.can_bus.specs.Timed.{TimedParts, frames_of}
 
 -- of one arbitration field no offer is made earlier than one that stands before it
 abbrev pub AreInTime : List TimedParts → Type 0
 AreInTime offers = (m n : ℕ) (x y : TimedParts) → m < n → slice_get offers m ≡ Some x → slice_get offers n ≡ Some y →
     arbitration_field x.frame ≡ arbitration_field y.frame → x.time ≤ y.time
 
--- how long an attempt keeps the bus: its frame and the intermission, or what a hit makes of them
-abbrev pub keeping : Parts → Option ℕ → ℕ
-keeping f None = busy_time f
-keeping f (Some offset) = hit_time f offset
-
--- how long these attempts keep it, one after another
+-- how long these attempts keep the bus, one after another
 abbrev pub kept_times : List Transmission → ℕ
 kept_times course = sum_by (λ s. keeping s.frame s.hit) course
 
@@ -60,11 +55,7 @@ pub record IsSentBy (offers : List TimedParts) (course : List Transmission) (pla
   pub is_offer : slice_get offers place ≡ Some offer
   pub is_attempt : slice_get (sends_of offer.frame course) (length (of_field offer.frame (take place offers))) ≡ Some s
 
--- what an attempt leaves of the offers, and what attempts leave, one after another
-abbrev pub left_by : Parts → Option ℕ → List TimedParts → List TimedParts
-left_by f None offers = without_offer f offers
-left_by f (Some offset) offers = offers
-
+-- what attempts leave of the offers, one after another
 abbrev pub left_behind : List TimedParts → List Transmission → List TimedParts
 left_behind offers [] = offers
 left_behind offers (s ∷ course) = left_behind (left_by s.frame s.hit offers) course

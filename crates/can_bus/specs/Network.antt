@@ -9,8 +9,7 @@ use Rattle.can_mac.specs.declared.phase.Phase.TheVariants.{Idle}
 use Rattle.can_node.specs.Ports.{PortState}
 use Rattle.can_hit.specs.declared.hit.Hit.{Hit}
 use Rattle.can_bus.specs.declared.offer.Offer.{Offer}
-use Rattle.can_bus.specs.Course.{IsCourse, IsMade, Transmission, course_tally, ended_by, frames_sent}
-use Rattle.can_bus.specs.CourseWaiting.{keeping}
+use Rattle.can_bus.specs.Course.{IsCourse, IsMade, Transmission, course_tally, ended_by, frames_sent, keeping}
 use Rattle.can_bus.specs.Offers.{AreOffered}
 use Rattle.can_bus.specs.Quiet.{AtEachPort, IsPrefixOf, marked}
 use Rattle.can_bus.specs.Attempts.{AreApart, IsLow, Tally, AreInAttempts}

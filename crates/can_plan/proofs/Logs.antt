@@ -9,7 +9,7 @@ use Rattle.can_frame.specs.Parts.{Parts}
 use Rattle.can_node.specs.declared.entry.Entry.{Entry}
 use Rattle.can_node.specs.Ports.{same_field}
 use Rattle.can_hit.specs.declared.hit.Hit.{Hit}
-use Rattle.can_bus.specs.Course.{IsCourse, Transmission, and_sent, broken, ended_by, frames_sent, lasting, over, sent}
+use Rattle.can_bus.specs.Course.{IsCourse, Transmission, and_sent, attempted, ended_by, frames_sent, lasting, over}
 use Rattle.can_bus.specs.CourseWaiting.{sends_of, was_hit}
 use Rattle.can_bus.specs.Quiet.{IsPrefixOf, holds, marked}
 use Rattle.can_bus.specs.Timed.{TimedParts}
@@ -25,13 +25,13 @@ module _ (f : Parts) (t : ℕ) where
   pub ended-turn : {hits : List Hit} {number free : ℕ} {left : List TimedParts} {course : List Transmission} → IsCourse hits number free left course → (n : ℕ) (s : Transmission) →
       slice_get (sends_of f course) n ≡ Some s → s.time + lasting s.frame s.hit ≤ t → slice_get (sends_of f (ended_by t course)) n ≡ Some s
   ended-turn (over number free) n s at ended = absurd (let h : None ≡ Some s = at in cc)
-  ended-turn (broken number free time g offset left course is struck window rest) n s at ended =
+  ended-turn (attempted number free time g (Some offset) left course is struck window rest) n s at ended =
       let x : Transmission = record { time = time; frame = g; hit = Some offset } in
       let later : slice_get (sends_of f course) n ≡ Some s = ap (λ l. slice_get l n) (sym (sends-hit f time g course offset)) ∙ at in
       let behind = course-free rest s (sends-made f course n s later).0 in
       ap (λ l. slice_get (sends_of f l) n) (ended-more t x course (omega (arith, behind, ended)))
       ∙ ap (λ l. slice_get l n) (sends-hit f time g (ended_by t course) offset) ∙ ended-turn rest n s later ended
-  ended-turn (sent number free time g left course is unhit rest) n s at ended =
+  ended-turn (attempted number free time g None left course is unhit window rest) n s at ended =
       elim (cases_Bool (same_field f g)) [
         | inl same ↦ own n (ap (λ l. slice_get l n) (sym (sends-more f time g course same)) ∙ at) same (λ k later. ended-turn rest k s later ended)
         | inr other ↦

@@ -1,12 +1,12 @@
 -- A course, told of releases: which of them each attempt sends.
-use Rattle.std.proofs.Common.{◌≡◌, ◌≢◌, ℕ, zero, suc, ◌+◌, ◌<◌, ◌≤◌, ◌⊎◌, List, [], ◌∷◌, ◌++◌, length, map, refl, sym, ◌∙◌, ap, subst, inl, inr, arith}
+use Rattle.std.proofs.Common.{◌≡◌, ◌≢◌, ℕ, zero, suc, ◌+◌, ◌<◌, ◌≤◌, ◌⊎◌, Some, None, List, [], ◌∷◌, ◌++◌, length, map, refl, sym, ◌∙◌, ap, subst, inl, inr, arith}
 use Rattle.std.proofs.lemmas.Bool.{cond-true, cond-false, cases_Bool}
 use Rattle.can_frame.specs.Parts.{Parts, IsFrame}
 use Rattle.can_frame.specs.Arbitration.{arbitration_field, Before}
 use Rattle.can_node.specs.Ports.{same_field}
 use Rattle.can_node.proofs.WaitingLemmas.{Shares-same_field}
 use Rattle.can_hit.specs.declared.hit.Hit.{Hit}
-use Rattle.can_bus.specs.Course.{Transmission, IsNext, IsCourse, over, sent, broken, hit_time}
+use Rattle.can_bus.specs.Course.{Transmission, IsNext, IsCourse, over, attempted, hit_time}
 use Rattle.can_bus.specs.CourseWaiting.{of_field}
 use Rattle.can_bus.specs.Attempts.{IsInWindow}
 use Rattle.can_bus.specs.Quiet.{busy_time}
@@ -102,7 +102,7 @@ pub runs-of : {hits : List Hit} {number free : ℕ} {left : List TimedParts} {co
     (releases : List Release) → map offer_of releases ≡ left → FieldsInOrder (map offer_of releases) → ((r : Release) → IsIn releases r → IsFrame r.frame) → Runs free releases course
 runs-of (over number free) [] same order frames = none free
 runs-of (over number free) (x ∷ releases) same order frames = absurd (let h : offer_of x ∷ map offer_of releases ≡ [] = same in cc)
-runs-of (sent number free time f left course next unhit more) releases same order frames =
+runs-of (attempted number free time f None left course next unhit window more) releases same order frames =
     let at : IsNext free (map offer_of releases) time f = subst (λ l. IsNext free l time f) (sym same) next in
     let found = first-found free time f releases at order in
     let rest : map offer_of (found.before ++ found.after) ≡ without_offer f left = sym found.rest ∙ ap (without_offer f) same in
@@ -113,14 +113,14 @@ runs-of (sent number free time f left course next unhit more) releases same orde
     (runs-of more (found.before ++ found.after) rest
     (subst FieldsInOrder found.rest (fields-without f (map offer_of releases) order))
     (λ r s. frames r (subst (λ l. IsIn l r) (sym found.parts) (stands-among found.before found.element found.after r s)))))))
-runs-of (broken number free time f offset left course next is_hit window more) releases same order frames =
+runs-of (attempted number free time f (Some offset) left course next is_hit window more) releases same order frames =
     let at : IsNext free (map offer_of releases) time f = subst (λ l. IsNext free l time f) (sym same) next in
     let found = first-found free time f releases at order in
     let is : IsFrame f = subst IsFrame found.is_frame (frames found.element (subst (λ l. IsIn l found.element) (sym found.parts) (stands-middle found.before found.element found.after))) in
     let hit : IsHitIn f offset = record {
       behind = hit-behind f offset window;
       before_last = window.before_last;
-      cost = course-costs (broken number free time f offset left course next is_hit window more) (broken_attempt time f offset) (inl refl) is;
+      cost = course-costs (attempted number free time f (Some offset) left course next is_hit window more) (broken_attempt time f offset) (inl refl) is;
     } in
     subst (λ l. Runs free l (broken_attempt time f offset ∷ course)) (sym found.parts)
     (subst (λ g. Runs free (found.before ++ found.element ∷ found.after) (broken_attempt time g offset ∷ course)) found.is_frame

@@ -9,7 +9,7 @@ use Rattle.std.proofs.lemmas.List.Sorted.{IsPermutation-sym}
 use Rattle.can_frame.specs.Parts.{Parts}
 use Rattle.can_wire.specs.Wire.{wire}
 use Rattle.can_bus.specs.declared.offer.Offer.{Offer}
-use Rattle.can_bus.specs.Course.{IsCourse, IsMade, Transmission, broken, frames_sent, over, sent}
+use Rattle.can_bus.specs.Course.{IsCourse, IsMade, Transmission, attempted, frames_sent, over}
 use Rattle.can_bus.specs.OpenBus.{AreOver}
 use Rattle.can_bus.specs.Quiet.{AreDifferent, ascending, line_at, span}
 use Rattle.can_bus.specs.Timed.{AreAtOnce, TimedParts, frames_of, timed}
@@ -56,7 +56,7 @@ over-at_once : {number free : ℕ} {left : List TimedParts} {course : List Trans
     s.time + length (wire s.frame) ≤ free + span (frames_sent course)
 unfolding span
 over-at_once (over number free) all s made = absurd made
-over-at_once (sent number free time f left course is unhit rest) all s made =
+over-at_once (attempted number free time f None left course is unhit window rest) all s made =
     let there = offered-stands time left f (is.waits.place, is.waits.stands) in
     let from : time ≡ free = omega (arith, is.soon there.0 there.1, all there.0 there.1, is.is_free) in
     let whole : span (f ∷ frames_sent course) ≡ length (wire f) + 3 + span (frames_sent course) = sum_by-cons (λ (g : Parts). length (wire g) + 3) f (frames_sent course) in
@@ -64,7 +64,7 @@ over-at_once (sent number free time f left course is unhit rest) all s made =
       | inl here ↦ subst (λ (z : Transmission). z.time + length (wire z.frame) ≤ free + span (f ∷ frames_sent course)) here (omega (arith, whole, from))
       | inr later ↦ omega (arith, whole, from, over-at_once rest (λ x listed. all x (without-listed f left x listed)) s later)
     ]
-over-at_once (broken number free time f offset left course is struck window rest) all s made = absurd (let none : None ≡ Some offset = struck in cc)
+over-at_once (attempted number free time f (Some offset) left course is struck window rest) all s made = absurd (let none : None ≡ Some offset = struck in cc)
 
 -- ---- the report
 
