@@ -28,7 +28,7 @@ PHASES = [
 ]
 STUFFED_PART = 2
 EVENTS = ["nothing", "sent", "received", "lost"]
-EVENTS += [f"error {kind}" for kind in ("stuff", "bit", "form", "crc", "ack")] + ["overload", "off", "recovered"]
+EVENTS += [f"error {kind}" for kind in ("bit", "stuff", "crc", "form", "ack")] + ["overload", "off", "recovered"]
 LEVELS = ("0 (dominant)", "1 (recessive)")
 OUTPUTS = ["drive", "told", "frame_extended", "frame_remote", "frame_identifier", "frame_dlc", "frame_data"]
 OUTPUTS += ["tec", "rec", "passive", "off"]

@@ -29,10 +29,10 @@
 `define SENT 4'd1
 `define RECEIVED 4'd2
 `define LOST 4'd3
-`define STUFF_ERROR 4'd4
-`define BIT_ERROR 4'd5
-`define FORM_ERROR 4'd6
-`define CRC_ERROR 4'd7
+`define BIT_ERROR 4'd4
+`define STUFF_ERROR 4'd5
+`define CRC_ERROR 4'd6
+`define FORM_ERROR 4'd7
 `define ACK_ERROR 4'd8
 `define OVERLOAD 4'd9
 `define WENT_OFF 4'd10

@@ -40,7 +40,7 @@ pub flag_bit_cause_bits : (s : Bool) → bits s true false false ≡ cond s 3 2
 flag_bit_cause_bits true = refl
 flag_bit_cause_bits false = refl
 
-pub form_kind_bits : (s : Bool) → bits s (not s) true false ≡ cond s 5 6
+pub form_kind_bits : (s : Bool) → bits (not s) (not s) true false ≡ cond s 4 7
 form_kind_bits true = refl
 form_kind_bits false = refl
 

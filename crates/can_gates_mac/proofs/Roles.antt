@@ -3,8 +3,9 @@ use Rattle.std.specs.Prelude.{◌≡◌, ◌&&◌, if◌then◌else◌, Some, re
 use Rattle.can_mac.specs.declared.phase.Role.{Role}
 use Rattle.can_mac.specs.declared.phase.Role.TheVariants.{Receiver, Sender}
 use Rattle.can_mac.specs.declared.moves.Stance.{Stance}
+use Rattle.can_mac.specs.Codes.{kind_code}
 use Rattle.can_mac.specs.Moves.{is_held_back, error_cause, flag_bit_cause, form_kind}
-use Rattle.can_gates_mac.specs.Numbers.{is_sender, cause_number, kind_number}
+use Rattle.can_gates_mac.specs.Numbers.{is_sender, cause_number}
 
 pub error_cause_is : (role : Role) → (if is_sender role then 3 else 1) ≡ cause_number (Some (error_cause role))
 error_cause_is Receiver = refl
@@ -14,7 +15,7 @@ pub flag_bit_cause_is : (role : Role) → (if is_sender role then 3 else 2) ≡ 
 flag_bit_cause_is Receiver = refl
 flag_bit_cause_is (Sender f) = refl
 
-pub form_kind_is : (role : Role) → (if is_sender role then 5 else 6) ≡ kind_number (form_kind role)
+pub form_kind_is : (role : Role) → (if is_sender role then 4 else 7) ≡ kind_code (form_kind role)
 form_kind_is Receiver = refl
 form_kind_is (Sender f) = refl
 

@@ -54,17 +54,22 @@ unfolding mac_step
 joined = refl
 
 -- a sender's bit error in the CRC delimiter: its flag is active at a TEC of 127, passive at 128, and at 248 it goes off
-active_at_127 : behind (with_tec 127 (sender (CrcDelimiter read_001))) Dominant ≡ row 7 0 true 5
+active_at_127 : behind (with_tec 127 (sender (CrcDelimiter read_001))) Dominant ≡ row 7 0 true 4
 unfolding mac_step
 active_at_127 = refl
 
-passive_at_128 : behind (with_tec 128 (sender (CrcDelimiter read_001))) Dominant ≡ record (row 8 0 true 5) { last = true }
+passive_at_128 : behind (with_tec 128 (sender (CrcDelimiter read_001))) Dominant ≡ record (row 8 0 true 4) { last = true }
 unfolding mac_step
 passive_at_128 = refl
 
 off_at_256 : behind (with_tec 248 (sender (CrcDelimiter read_001))) Dominant ≡ row 14 0 false 10
 unfolding mac_step
 off_at_256 = refl
+
+-- a receiver's error there is one of form
+form_at_a_receiver : behind (receiver (CrcDelimiter read_001)) Dominant ≡ row 7 0 false 7
+unfolding mac_step
+form_at_a_receiver = refl
 
 -- the sixth level of an active flag
 flag_ended : behind (receiver (ErrorFlag 5)) Dominant ≡ record (row 10 0 false 0) { first = true }

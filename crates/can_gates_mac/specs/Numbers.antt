@@ -7,10 +7,9 @@ use Rattle.can_fault.specs.declared.cause.Cause.{Cause}
 use Rattle.can_fault.specs.declared.cause.Cause.TheVariants.{ReceiverError, ReceiverFlagBit, ReceiverFirstDominant, ReceiverDominantRun, SenderError, SenderFlagBit, SenderDominantRun, PassiveUnacknowledged, FrameSent, FrameReceived}
 use Rattle.can_mac.specs.declared.event.Event.{Event}
 use Rattle.can_mac.specs.declared.event.Event.TheVariants.{Sent, Received, Lost, Error, Overload, WentOff, Recovered}
-use Rattle.can_mac.specs.declared.event.ErrorKind.{ErrorKind}
-use Rattle.can_mac.specs.declared.event.ErrorKind.TheVariants.{Bit, Stuff, Crc, Form, Ack}
 use Rattle.can_mac.specs.declared.phase.Reading.{Reading}
 use Rattle.can_mac.specs.declared.phase.Phase.TheVariants.{Joining, Idle, StuffedPart, CrcDelimiter, AckSlot, AckDelimiter, EndOfFrame, ErrorFlag, PassiveFlag, OverloadFlag, AfterFlag, Delimiter, Intermission, Suspend, BusOff}
+use Rattle.can_mac.specs.Codes.{kind_code}
 use Rattle.can_mac.specs.State.{MacPhase}
 pub use Rattle.can_mac.specs.State.{is_sender}
 use Rattle.can_mac.specs.Moves.{MacMove}
@@ -99,19 +98,13 @@ cause_number (Some PassiveUnacknowledged) = 3
 cause_number (Some FrameSent) = 4
 cause_number (Some FrameReceived) = 5
 
-abbrev pub kind_number : ErrorKind → ℕ
-kind_number Stuff = 4
-kind_number Bit = 5
-kind_number Form = 6
-kind_number Crc = 7
-kind_number Ack = 8
-
+-- as bindings/riddlesage.h numbers them
 abbrev pub event_number : Option Event → ℕ
 event_number None = 0
 event_number (Some (Sent f)) = 1
 event_number (Some (Received f)) = 2
 event_number (Some Lost) = 3
-event_number (Some (Error kind)) = kind_number kind
+event_number (Some (Error kind)) = kind_code kind
 event_number (Some Overload) = 9
 event_number (Some WentOff) = 10
 event_number (Some Recovered) = 11

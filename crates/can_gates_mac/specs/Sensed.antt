@@ -80,7 +80,7 @@ pub record IsSensed (v : ℕ → Bool) (k : Senses) (s : Stance) (p : MacPhase) 
   pub flag : nibble v k.flag ≡ (if s.passive then 8 else 7)
   pub error_cause : nibble v k.error_cause ≡ (if is_sender s.role then 3 else 1)
   pub flag_bit_cause : nibble v k.flag_bit_cause ≡ (if is_sender s.role then 3 else 2)
-  pub form_kind : nibble v k.form_kind ≡ (if is_sender s.role then 5 else 6)
+  pub form_kind : nibble v k.form_kind ≡ (if is_sender s.role then 4 else 7)
 
 -- in each assignment in which the senses are those of a controller of a stance in a phase, where a level is seen
 abbrev pub WhereSensed : Senses → ((ℕ → Bool) → Stance → MacPhase → Level → Type 0) → Type 0

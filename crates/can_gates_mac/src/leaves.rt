@@ -6,10 +6,11 @@ ghost use Rattle.can_mac.specs.declared.event.ErrorKind.{ErrorKind};
 ghost use Rattle.can_mac.specs.declared.phase.Role.{Role};
 ghost use Rattle.can_mac.specs.declared.phase.Role.TheVariants.{Receiver};
 ghost use Rattle.can_mac.specs.declared.phase.Phase.TheVariants.{Idle};
+ghost use Rattle.can_mac.specs.Codes.{kind_code};
 ghost use Rattle.can_mac.specs.Moves.{begins_frame, errs_by, errs, errs_in_flag, overload, goes};
 ghost use Rattle.can_gates.specs.Circuit.{value};
 ghost use Rattle.can_gates_mac.specs.Nibbles.{nibble};
-ghost use Rattle.can_gates_mac.specs.Numbers.{numbers, is_sender, cause_number, kind_number};
+ghost use Rattle.can_gates_mac.specs.Numbers.{numbers, is_sender, cause_number};
 ghost use Rattle.can_gates_mac.specs.Shown.{shown};
 ghost use Rattle.can_gates_mac.specs.Sensed.{WhereSensed, going, run_of};
 
@@ -46,7 +47,7 @@ impl Senses {
 
     /// An error at a sender or a receiver: an error flag starts.
     pub(crate) fn errs_by(&self, sender: Literal, cause: Nibble, kind: Nibble) -> Wires
-        ensures { WhereSensed self.now (λ v s p x. (role : Role) (c : Option Cause) (e : ErrorKind) → value v sender ≡ is_sender role → nibble v cause ≡ cause_number c → nibble v kind ≡ kind_number e → shown v result ≡ numbers (errs_by c false (record s { role = role }) e)) }
+        ensures { WhereSensed self.now (λ v s p x. (role : Role) (c : Option Cause) (e : ErrorKind) → value v sender ≡ is_sender role → nibble v cause ≡ cause_number c → nibble v kind ≡ kind_code e → shown v result ≡ numbers (errs_by c false (record s { role = role }) e)) }
     {
         Wires {
             phase: self.flag,
@@ -64,7 +65,7 @@ impl Senses {
 
     /// An error in a frame or in a delimiter.
     pub(crate) fn errs(&self, kind: Nibble) -> Wires
-        ensures { WhereSensed self.now (λ v s p x. (e : ErrorKind) → nibble v kind ≡ kind_number e → shown v result ≡ numbers (errs s e)) }
+        ensures { WhereSensed self.now (λ v s p x. (e : ErrorKind) → nibble v kind ≡ kind_code e → shown v result ≡ numbers (errs s e)) }
     {
         self.errs_by(self.sender, self.error_cause, kind)
     }

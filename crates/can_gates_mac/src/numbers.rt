@@ -50,13 +50,13 @@ pub(crate) const RECEIVED: u8 = 2;
 
 pub(crate) const LOST: u8 = 3;
 
-pub(crate) const STUFF_ERROR: u8 = 4;
+pub(crate) const BIT_ERROR: u8 = 4;
 
-pub(crate) const BIT_ERROR: u8 = 5;
+pub(crate) const STUFF_ERROR: u8 = 5;
 
-pub(crate) const FORM_ERROR: u8 = 6;
+pub(crate) const CRC_ERROR: u8 = 6;
 
-pub(crate) const CRC_ERROR: u8 = 7;
+pub(crate) const FORM_ERROR: u8 = 7;
 
 pub(crate) const ACK_ERROR: u8 = 8;
 

@@ -166,10 +166,10 @@ fn flag_bit_cause_of(sender: Literal) -> Nibble
 
 /// What is told of an error of fixed form.
 fn form_kind_of(sender: Literal) -> Nibble
-    ensures { (v : ℕ → Bool) → v 0 ≡ false → nibble v result ≡ (if value v sender then 5 else 6) }
+    ensures { (v : ℕ → Bool) → v 0 ≡ false → nibble v result ≡ (if value v sender then 4 else 7) }
 {
     Nibble {
-        ones: sender,
+        ones: sender.opposite(),
         twos: sender.opposite(),
         fours: TRUE,
         eights: FALSE,

@@ -20,7 +20,7 @@ level that is sampled, and drive the level that is driven in the same bit time, 
 1 where it is recessive. Its ports and registers are told in comments of the module,
 and by their names in AIGER; told has the number of what is told, 0 for nothing:
   1 sent  2 received  3 arbitration lost  9 overload frame  10 bus off  11 recovered;
-  errors: 4 stuff  5 bit  6 form  7 check sequence  8 acknowledgment
+  errors: 4 bit  5 stuff  6 check sequence  7 form  8 acknowledgment
 
 Verilog has three forms of statement, a line each:
   wire n385 = n5 & ~n7;    a gate; also wire n12 = wait_identifier[4];

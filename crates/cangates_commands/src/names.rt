@@ -84,7 +84,7 @@ const OUTPUTS: &[Word<'static>] = &[
     Word {
         name: "told",
         places: 4,
-        meaning: "what is told: 0 nothing, 1 sent, 2 received, 3 lost, errors 4 stuff 5 bit 6 form 7 CRC 8 ACK, 9 overload, 10 off, 11 recovered",
+        meaning: "what is told: 0 nothing, 1 sent, 2 received, 3 lost, errors 4 bit 5 stuff 6 CRC 7 form 8 ACK, 9 overload, 10 off, 11 recovered",
     },
     Word {
         name: "frame_extended",
