@@ -25,23 +25,31 @@ use Rattle.can_gates_controller.proofs.Checks.{below_is, above_is}
 
 -- The place, by the phase.
 
-module _ (v : ℕ → Bool) (at_first below_3 below_6 below_7 below_8 below_11 behind_first passive_flag after_flag : Literal) (row n : ℕ) (last unacknowledged first : Bool) (e0 : value v at_first ≡ (nat_lt n 1 && ((not last && not unacknowledged) && not first))) (e3 : value v below_3 ≡ (nat_lt n 3 && ((not last && not unacknowledged) && not first))) (e6 : value v below_6 ≡ (nat_lt n 6 && ((not last && not unacknowledged) && not first))) (e7 : value v below_7 ≡ (nat_lt n 7 && ((not last && not unacknowledged) && not first))) (e8 : value v below_8 ≡ (nat_lt n 8 && ((not last && not unacknowledged) && not first))) (e11 : value v below_11 ≡ (nat_lt n 11 && ((not last && not unacknowledged) && not first))) (ed : value v behind_first ≡ (not (nat_lt n 1) && value v below_8)) (ep : value v passive_flag ≡ (nat_lt n 6 && not first)) (ea : value v after_flag ≡ (nat_lt n 8 && (not last && not unacknowledged))) where
-  pub place_is : (p : MacPhase) → IsPhase p → row < 11 → n ≡ cond (is_off_phase p) row (place_number p) → last ≡ last_recessive p → unacknowledged ≡ unacknowledged_of p → first ≡ is_first p → value v (get_or (at_first ∷ below_11 ∷ at_first ∷ at_first ∷ at_first ∷ at_first ∷ below_7 ∷ below_6 ∷ passive_flag ∷ below_6 ∷ after_flag ∷ behind_first ∷ below_3 ∷ below_8 ∷ below_11 ∷ []) (phase_number p) never) ≡ true
-  place_is Idle h small en el eu ef = e0 ∙ rw (en, el, eu, ef) refl
-  place_is (Joining place) h small en el eu ef = e11 ∙ rw (en, el, eu, ef, below_is place 11 h) refl
-  place_is (StuffedPart front) h small en el eu ef = e0 ∙ rw (en, el, eu, ef) refl
-  place_is (CrcDelimiter r) h small en el eu ef = e0 ∙ rw (en, el, eu, ef) refl
-  place_is (AckSlot r) h small en el eu ef = e0 ∙ rw (en, el, eu, ef) refl
-  place_is (AckDelimiter r) h small en el eu ef = e0 ∙ rw (en, el, eu, ef) refl
-  place_is (EndOfFrame r place) h small en el eu ef = e7 ∙ rw (en, el, eu, ef, below_is place 7 h.1) refl
-  place_is (ErrorFlag place) h small en el eu ef = e6 ∙ rw (en, el, eu, ef, below_is place 6 h) refl
-  place_is (PassiveFlag level run unacknowledged) h small en el eu ef = ep ∙ rw (en, ef, below_is run 6 h) refl
-  place_is (OverloadFlag place) h small en el eu ef = e6 ∙ rw (en, el, eu, ef, below_is place 6 h) refl
-  place_is (AfterFlag first dominant) h small en el eu ef = ea ∙ rw (en, el, eu, below_is dominant 8 h) refl
-  place_is (Delimiter place) h small en el eu ef = ed ∙ rw (e8, en, el, eu, ef, above_is place 1 h.0, below_is place 8 h.1) refl
-  place_is (Intermission place) h small en el eu ef = e3 ∙ rw (en, el, eu, ef, below_is place 3 h) refl
-  place_is (Suspend place) h small en el eu ef = e8 ∙ rw (en, el, eu, ef, below_is place 8 h) refl
-  place_is BusOff h small en el eu ef = e11 ∙ rw (en, el, eu, ef, below_is row 11 small) refl
+module _ (v : ℕ → Bool) (first below_3 below_6 below_7 below_8 below_11 later : Literal) (row n : ℕ) (e1 : value v first ≡ nat_lt n 1) (e3 : value v below_3 ≡ nat_lt n 3) (e6 : value v below_6 ≡ nat_lt n 6) (e7 : value v below_7 ≡ nat_lt n 7) (e8 : value v below_8 ≡ nat_lt n 8) (e11 : value v below_11 ≡ nat_lt n 11) (el : value v later ≡ (not (nat_lt n 1) && nat_lt n 8)) where
+  pub place_is : (p : MacPhase) → IsPhase p → row < 11 → n ≡ cond (is_off_phase p) row (place_number p) → value v (get_or (first ∷ below_11 ∷ first ∷ first ∷ first ∷ first ∷ below_7 ∷ below_6 ∷ below_6 ∷ below_6 ∷ below_8 ∷ later ∷ below_3 ∷ below_8 ∷ below_11 ∷ []) (phase_number p) never) ≡ true
+  place_is Idle h small en = e1 ∙ rw en refl
+  place_is (Joining place) h small en = e11 ∙ rw (en, below_is place 11 h) refl
+  place_is (StuffedPart front) h small en = e1 ∙ rw en refl
+  place_is (CrcDelimiter r) h small en = e1 ∙ rw en refl
+  place_is (AckSlot r) h small en = e1 ∙ rw en refl
+  place_is (AckDelimiter r) h small en = e1 ∙ rw en refl
+  place_is (EndOfFrame r place) h small en = e7 ∙ rw (en, below_is place 7 h.1) refl
+  place_is (ErrorFlag place) h small en = e6 ∙ rw (en, below_is place 6 h) refl
+  place_is (PassiveFlag level run unacknowledged) h small en = e6 ∙ rw (en, below_is run 6 h) refl
+  place_is (OverloadFlag place) h small en = e6 ∙ rw (en, below_is place 6 h) refl
+  place_is (AfterFlag first dominant) h small en = e8 ∙ rw (en, below_is dominant 8 h) refl
+  place_is (Delimiter place) h small en = el ∙ rw (en, above_is place 1 h.0, below_is place 8 h.1) refl
+  place_is (Intermission place) h small en = e3 ∙ rw (en, below_is place 3 h) refl
+  place_is (Suspend place) h small en = e8 ∙ rw (en, below_is place 8 h) refl
+  place_is BusOff h small en = e11 ∙ rw (en, below_is row 11 small) refl
+
+-- What one phase alone has.
+
+module _ (v : ℕ → Bool) (none no_first no_flag : Literal) (last unacknowledged first : Bool) (en : value v none ≡ ((not last && not unacknowledged) && not first)) (e1 : value v no_first ≡ not first) (ef : value v no_flag ≡ (not last && not unacknowledged)) where
+  pub marks_are : (p : MacPhase) → last ≡ last_recessive p → unacknowledged ≡ unacknowledged_of p → first ≡ is_first p → value v (get_or (none ∷ none ∷ none ∷ none ∷ none ∷ none ∷ none ∷ none ∷ no_first ∷ none ∷ no_flag ∷ none ∷ none ∷ none ∷ none ∷ []) (phase_number p) never) ≡ true
+  marks_are (PassiveFlag level run u) el eu eb = e1 ∙ rw eb refl
+  marks_are (AfterFlag b dominant) el eu eb = ef ∙ rw (el, eu) refl
+  marks_are p el eu eb = en ∙ rw (el, eu, eb) refl
 
 -- The role, by the phase.
 

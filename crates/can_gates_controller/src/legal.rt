@@ -1,5 +1,5 @@
 //! What is so of the registers in each state that a run reaches: what a solver may assume of them.
-ghost use Rattle.std.specs.Prelude.{◌≡◌, ◌<◌, ◌≤◌, ◌&&◌, ℕ, nat_lt, nat_le, Bool, true, false, List, IfOk, length};
+ghost use Rattle.std.specs.Prelude.{◌≡◌, ◌≤◌, ℕ, nat_le, Bool, true, false, List, IfOk, length};
 ghost use Rattle.can_frame.specs.declared.level.Level.{Level};
 ghost use Rattle.can_wire.specs.Layout.{frame_len};
 ghost use Rattle.can_code.specs.Front.{FrontParts};
@@ -19,7 +19,7 @@ use crate::heard::Heard;
 use crate::next_front::within;
 use crate::registers::Registers;
 use can_gates::{Circuit, FALSE, Literal, TRUE, constant, literal_at};
-use can_gates_mac::{Controller, Counters, Nibble, Wires};
+use can_gates_mac::{Controller, Counters, Wires};
 use std::alloc::{AllocError, Global};
 
 /// How many places of a front have a register.
@@ -39,18 +39,20 @@ pub(crate) fn is_legal(
     let wires = held.controller.wires;
     let within = within(circuit, alloc, wires.phase)?;
     let place = place_is_legal(circuit, alloc, &held.controller)?;
+    let marks = marks_are_legal(circuit, alloc, &held.controller)?;
     let role = role_is_legal(circuit, alloc, &held.controller)?;
     let wishes = wishes_are_legal(circuit, wires)?;
     let counters = counters_are_legal(circuit, alloc, &held.controller)?;
     let heard = heard_is_legal(circuit, alloc, within, &held.heard)?;
-    let phase = circuit.and(place, role)?;
-    let on = circuit.and(phase, wishes)?;
+    let phase = circuit.and(place, marks)?;
+    let stance = circuit.and(role, wishes)?;
+    let on = circuit.and(phase, stance)?;
     let counted = circuit.and(counters, heard)?;
     let made = circuit.and(on, counted)?;
     Ok(made)
 }
 
-/// Whether the place is one of the phase, and what other phases alone have is 0.
+/// Whether the place is one of the phase.
 fn place_is_legal(
     circuit: &mut Circuit,
     alloc: Global,
@@ -58,40 +60,46 @@ fn place_is_legal(
 ) -> Result<Literal, AllocError>
     ensures { IfOk result (λ r. Makes circuit.old circuit.new (λ v. (m : MacState) → IsMac m → Holds v held.now m → value v r ≡ true)) }
 {
-    let wires = held.wires;
-    let flag = circuit.and(wires.last.opposite(), wires.unacknowledged.opposite())?;
-    let plain = circuit.and(flag, wires.first.opposite())?;
-    let first = wires.place.less(circuit, 1)?;
-    let below_3 = below(circuit, wires.place, 3, plain)?;
-    let below_6 = below(circuit, wires.place, 6, plain)?;
-    let below_7 = below(circuit, wires.place, 7, plain)?;
-    let below_8 = below(circuit, wires.place, 8, plain)?;
-    let below_11 = below(circuit, wires.place, 11, plain)?;
-    let at_first = circuit.and(first, plain)?;
-    let behind_first = circuit.and(first.opposite(), below_8)?;
-    let passive_flag = below(circuit, wires.place, 6, wires.first.opposite())?;
-    let after_flag = below(circuit, wires.place, 8, flag)?;
+    let place = held.wires.place;
+    let first = place.less(circuit, 1)?;
+    let below_3 = place.less(circuit, 3)?;
+    let below_6 = place.less(circuit, 6)?;
+    let below_7 = place.less(circuit, 7)?;
+    let below_8 = place.less(circuit, 8)?;
+    let below_11 = place.less(circuit, 11)?;
+    let later = circuit.and(first.opposite(), below_8)?;
     // in the order of the phases' numbers
     let items = [
-        at_first,
-        below_11,
-        at_first,
-        at_first,
-        at_first,
-        at_first,
-        below_7,
-        below_6,
-        passive_flag,
-        below_6,
-        after_flag,
-        behind_first,
-        below_3,
-        below_8,
-        below_11,
+        first, below_11, first, first, first, first, below_7, below_6, below_6, below_6, below_8,
+        later, below_3, below_8, below_11,
+    ];
+    let phase = held.wires.phase;
+    let number = [phase.ones, phase.twos, phase.fours, phase.eights];
+    let made = circuit.select(alloc, &items, &number)?;
+    Ok(made)
+}
+
+/// Whether what one phase alone has is 0 in the others: the last level and what isn't acknowledged but in a passive error flag,
+/// the first level behind an error flag but behind a flag.
+fn marks_are_legal(
+    circuit: &mut Circuit,
+    alloc: Global,
+    held: &Controller,
+) -> Result<Literal, AllocError>
+    ensures { IfOk result (λ r. Makes circuit.old circuit.new (λ v. (m : MacState) → Holds v held.now m → value v r ≡ true)) }
+{
+    let wires = held.wires;
+    let no_flag = circuit.and(wires.last.opposite(), wires.unacknowledged.opposite())?;
+    let no_first = wires.first.opposite();
+    let none = circuit.and(no_flag, no_first)?;
+    // in the order of the phases' numbers
+    let items = [
+        none, none, none, none, none, none, none, none, no_first, none, no_flag, none, none, none,
+        none,
     ];
     let phase = wires.phase;
-    let place = [phase.ones, phase.twos, phase.fours, phase.eights];
-    let made = circuit.select(alloc, &items, &place)?;
+    let number = [phase.ones, phase.twos, phase.fours, phase.eights];
+    let made = circuit.select(alloc, &items, &number)?;
     Ok(made)
 }
 
@@ -116,21 +124,6 @@ fn role_is_legal(
     let phase = wires.phase;
     let place = [phase.ones, phase.twos, phase.fours, phase.eights];
     let made = circuit.select(alloc, &items, &place)?;
-    Ok(made)
-}
-
-/// Whether a place is below a bound, and a literal is true.
-fn below(
-    circuit: &mut Circuit,
-    place: Nibble,
-    bound: u8,
-    also: Literal,
-) -> Result<Literal, AllocError>
-    requires { bound < 16 }
-    ensures { IfOk result (λ r. Makes circuit.old circuit.new (λ v. value v r ≡ (nat_lt (nibble v place) bound && value v also))) }
-{
-    let less = place.less(circuit, bound)?;
-    let made = circuit.and(less, also)?;
     Ok(made)
 }
 

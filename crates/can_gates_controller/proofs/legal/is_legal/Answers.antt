@@ -3,19 +3,21 @@ use Rattle.can_gates_controller.proofs.legal.is_legal.Goals as goal
 
 pub returns : goal.returns
 returns c = (
-  c.in_ok-made.ensures.made.0 ∙ c.in_ok-counted.ensures.made.0 ∙ c.in_ok-on.ensures.made.0 ∙ c.in_ok-phase.ensures.made.0 ∙ c.in_ok-heard.ensures.0 ∙ c.in_ok-counters.ensures.0 ∙ c.in_ok-wishes.ensures.0 ∙ c.in_ok-role.ensures.0 ∙ c.in_ok-place.ensures.0 ∙ c.in_ok-within.ensures.0,
+  c.in_ok-made.ensures.made.0 ∙ c.in_ok-counted.ensures.made.0 ∙ c.in_ok-on.ensures.made.0 ∙ c.in_ok-stance.ensures.made.0 ∙ c.in_ok-phase.ensures.made.0 ∙ c.in_ok-heard.ensures.0 ∙ c.in_ok-counters.ensures.0 ∙ c.in_ok-wishes.ensures.0 ∙ c.in_ok-role.ensures.0 ∙ c.in_ok-marks.ensures.0 ∙ c.in_ok-place.ensures.0 ∙ c.in_ok-within.ensures.0,
   λ v keeps.
       let made = c.in_ok-made.ensures.made.1 v keeps in
       let counted = c.in_ok-counted.ensures.made.1 v made.0 in
       let on = c.in_ok-on.ensures.made.1 v counted.0 in
-      let phase = c.in_ok-phase.ensures.made.1 v on.0 in
+      let stance = c.in_ok-stance.ensures.made.1 v on.0 in
+      let phase = c.in_ok-phase.ensures.made.1 v stance.0 in
       let heard = c.in_ok-heard.ensures.1 v phase.0 in
       let counters = c.in_ok-counters.ensures.1 v heard.0 in
       let wishes = c.in_ok-wishes.ensures.1 v counters.0 in
       let role = c.in_ok-role.ensures.1 v wishes.0 in
-      let place = c.in_ok-place.ensures.1 v role.0 in
+      let marks = c.in_ok-marks.ensures.1 v role.0 in
+      let place = c.in_ok-place.ensures.1 v marks.0 in
       let within = c.in_ok-within.ensures.1 v place.0 in (
         within.0,
-        λ m h. made.1 ∙ rw (on.1, phase.1, counted.1, place.1 m h.is h.controller, role.1 m h.settled h.controller, wishes.1 (rw h.controller.pending h.is.pending) (rw h.controller.used h.is.used), counters.1 m h.is h.controller, heard.1 m.phase h.is.phase (within.1 m.phase h.controller.phase) h.heard) refl,
+        λ m h. made.1 ∙ rw (on.1, phase.1, stance.1, counted.1, place.1 m h.is h.controller, marks.1 m h.controller, role.1 m h.settled h.controller, wishes.1 (rw h.controller.pending h.is.pending) (rw h.controller.used h.is.used), counters.1 m h.is h.controller, heard.1 m.phase h.is.phase (within.1 m.phase h.controller.phase) h.heard) refl,
       ),
 )
