@@ -8,7 +8,7 @@ use Rattle.std.specs.List.{flat_map, AllByRecursion}
 use Rattle.can_stream.specs.Lines.{with_end, lines_of, ended_lines, whole_lines, IsLine}
 use Rattle.can_stream.specs.LineReader.{ReadsLine}
 use Rattle.can_lines.specs.Coded.{Codes, coded_line}
-use Rattle.can_lines.specs.Answering.{Answers, FailsToAnswer}
+use Rattle.can_lines.specs.Answering.{EncodesLine, FailsToAnswer}
 use Rattle.can_stream.specs.Outbox.{PassesOn}
 use Rattle.can_stream.specs.declared.fault.TraceFault.{TraceFault}
 use Rattle.can_stream.specs.declared.fault.TraceFault.TheVariants.{BadByte, Read, Write, Long, FrameLine, ScenarioField, Memory}
@@ -106,7 +106,7 @@ AtLine-flushed Answer before after held holds holds_now found line unread waitin
 
 -- one more line was answered
 pub Codes-answered : (lines : List (List ℕ)) (output line waiting waiting_now : List ℕ) (held holds : Option (List ℕ)) → Codes lines (output ++ waiting)
-    → (answers : Answers line held holds waiting waiting_now) → Codes (lines ++ line ∷ []) ((output ++ answers.passes.taken) ++ waiting_now)
+    → (answers : EncodesLine line held holds waiting waiting_now) → Codes (lines ++ line ∷ []) ((output ++ answers.passes.taken) ++ waiting_now)
 Codes-answered lines output line waiting waiting_now held holds codes answers =
     let put = coded_line answers.frame in
     let taken = answers.passes.taken in
@@ -135,7 +135,7 @@ Answering-more Answer AnswerNow before after held holds holds_now line unread wa
     }
 
 pub Answering-answered : (before after held holds holds_now : Option (List ℕ)) (line unread waiting waiting_now : List ℕ) (taken number : ℕ)
-    → AtLine Codes before after held holds true line unread waiting taken number → Answers line holds holds_now waiting waiting_now
+    → AtLine Codes before after held holds true line unread waiting taken number → EncodesLine line holds holds_now waiting waiting_now
     → Answering Codes before after held holds_now unread waiting_now taken (number + 1)
 Answering-answered before after held holds holds_now line unread waiting waiting_now taken number at answers =
     Answering-more Codes Codes before after held holds holds_now line unread waiting waiting_now (coded_line answers.frame) taken number at answers.passes
@@ -199,8 +199,8 @@ module _ (Answer : List (List ℕ) → List ℕ → Type 0) (before after held h
 
 -- ---- a line of which the first bytes are kept
 
-pub Answers-front : (line : List ℕ) (held holds : Option (List ℕ)) (old new : List ℕ) → Answers (take 33 line) held holds old new → Answers line held holds old new
-Answers-front line held holds old new answers = record {
+pub EncodesLine-front : (line : List ℕ) (held holds : Option (List ℕ)) (old new : List ℕ) → EncodesLine (take 33 line) held holds old new → EncodesLine line held holds old new
+EncodesLine-front line held holds old new answers = record {
   frame = answers.frame;
   is_frame = answers.is_frame;
   text = line_from_front answers.frame line answers.is_frame answers.text;

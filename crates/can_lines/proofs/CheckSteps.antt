@@ -5,7 +5,7 @@ use Rattle.std.specs.List.{flat_map}
 use Rattle.can_stream.specs.Lines.{with_end}
 use Rattle.can_stream.specs.LineReader.{ReadsLine}
 use Rattle.can_stream.specs.Inbox.{StopsTurn}
-use Rattle.can_lines.specs.Checked.{pass, passes, verdict_line, Checks, IsVectorVerdict, Judged}
+use Rattle.can_lines.specs.Checked.{passed_by, passed_in, vector_verdict_line, Checks, IsVectorVerdict, Judged}
 use Rattle.can_lines.specs.Checking.{IsOpenFault, Judges, StopsChecking}
 use Rattle.can_stream.specs.declared.fault.TraceFault.{TraceFault}
 use Rattle.can_stream.specs.declared.fault.TraceFault.TheVariants.{BadByte, Read, Write, Long, FrameLine, ScenarioField, Memory}
@@ -30,24 +30,24 @@ Judged-push [] (v ∷ vs) line verdict h is = absurd h
 Judged-push (l ∷ ls) [] line verdict h is = absurd h
 Judged-push (l ∷ ls) (v ∷ vs) line verdict h is = (h.0, Judged-push ls vs line verdict h.1 is)
 
-passes-push : (verdicts : List Verdict) (verdict : Verdict) → passes (verdicts ++ verdict ∷ []) ≡ passes verdicts + pass verdict
-passes-push [] verdict = omega arith
-passes-push (v ∷ vs) verdict = let rest = passes-push vs verdict in omega (arith, rest)
+passed_in-push : (verdicts : List Verdict) (verdict : Verdict) → passed_in (verdicts ++ verdict ∷ []) ≡ passed_in verdicts + passed_by verdict
+passed_in-push [] verdict = omega arith
+passed_in-push (v ∷ vs) verdict = let rest = passed_in-push vs verdict in omega (arith, rest)
 
-pub Checks-push : (lines : List (List ℕ)) (passed : ℕ) (output line : List ℕ) (verdict : Verdict) (more : ℕ) → Checks lines passed output → IsVectorVerdict line verdict → more ≡ pass verdict
-    → Checks (lines ++ line ∷ []) (passed + more) (output ++ verdict_line verdict)
+pub Checks-push : (lines : List (List ℕ)) (passed : ℕ) (output line : List ℕ) (verdict : Verdict) (more : ℕ) → Checks lines passed output → IsVectorVerdict line verdict → more ≡ passed_by verdict
+    → Checks (lines ++ line ∷ []) (passed + more) (output ++ vector_verdict_line verdict)
 Checks-push lines passed output line verdict more checks is more_is = record {
   verdicts = checks.verdicts ++ verdict ∷ [];
   judged = Judged-push lines checks.verdicts line verdict checks.judged is;
-  passed_is = omega (arith, checks.passed_is, more_is, passes-push checks.verdicts verdict);
-  output_is = ap (λ t. t ++ verdict_line verdict) checks.output_is ∙ flat_map_more verdict_line [] checks.verdicts verdict;
+  passed_is = omega (arith, checks.passed_is, more_is, passed_in-push checks.verdicts verdict);
+  output_is = ap (λ t. t ++ vector_verdict_line verdict) checks.output_is ∙ flat_map_more vector_verdict_line [] checks.verdicts verdict;
 }
 
 -- one more line was answered, of which the first bytes are kept
 pub Checks-answered : (lines : List (List ℕ)) (passed more : ℕ) (output line waiting waiting_now : List ℕ) (held holds : Option (List ℕ)) → Checks lines passed (output ++ waiting)
     → (judges : Judges (take 193 line) more held holds waiting waiting_now) → Checks (lines ++ line ∷ []) (passed + more) ((output ++ judges.put.taken) ++ waiting_now)
 Checks-answered lines passed more output line waiting waiting_now held holds checks judges =
-    let put = verdict_line judges.verdict in
+    let put = vector_verdict_line judges.verdict in
     let taken = judges.put.taken in
     let moved : (output ++ waiting) ++ put ≡ (output ++ taken) ++ waiting_now =
     append_assoc output waiting put ∙ ap (λ t. output ++ t) judges.put.same ∙ sym (append_assoc output taken waiting_now) in

@@ -6,7 +6,7 @@ use Rattle.can_frame.specs.Text.{IsTextFault, IsFrameText}
 use Rattle.can_frame.specs.declared.text.TextFault.{TextFault}
 use Rattle.can_stream.specs.Lines.{lines_of, ended_lines, whole_lines}
 use Rattle.can_lines.specs.Coded.{Codes, EncodesAll, EncodesEnded, EncodesTooLong, BeginsEncoding, IsFirstBadLine}
-use Rattle.can_lines.specs.Answering.{Answers, FailsToAnswer, Encodes}
+use Rattle.can_lines.specs.Answering.{EncodesLine, FailsToAnswer, Encodes}
 use Rattle.can_stream.specs.Faults.{is_write}
 use Rattle.can_stream.specs.Inbox.{StopsReading, StopsTurn}
 use Rattle.can_stream.specs.Outbox.{Flushes, TakesFront}
@@ -63,7 +63,7 @@ module _ {before after held holds : Option (List ℕ)} {line unread waiting : Li
 
   -- the reader ended, and the last line was answered
   pub EncodesAll-answered : (holds_now : Option (List ℕ)) (waiting_now : List ℕ) → taken ≤ 2 ^ 63 → open_lines line ≡ line ∷ []
-      → (answers : Answers line holds holds_now waiting waiting_now) → EncodesAll at.input ((at.output ++ answers.passes.taken) ++ waiting_now)
+      → (answers : EncodesLine line holds holds_now waiting waiting_now) → EncodesAll at.input ((at.output ++ answers.passes.taken) ++ waiting_now)
   EncodesAll-answered holds_now waiting_now within some answers = record {
     within = omega (arith, at.counted, within);
     codes = subst (λ ls. Codes ls ((at.output ++ answers.passes.taken) ++ waiting_now)) (sym (lines_of-last at ∙ ap (λ ls. at.lines ++ ls) some))
@@ -137,7 +137,7 @@ module _ {R W : Type 0} (remaining : R → Option (List ℕ)) (r_before r : R) (
     }
 
     -- the last line was answered
-    pub Told-answered : (w_after : W) (waiting_after : List ℕ) → open_lines line ≡ line ∷ [] → Answers line (contents w) (contents w_after) waiting waiting_after
+    pub Told-answered : (w_after : W) (waiting_after : List ℕ) → open_lines line ≡ line ∷ [] → EncodesLine line (contents w) (contents w_after) waiting waiting_after
         → Ends (Ok tt) ended w_after waiting_after
     Told-answered w_after waiting_after some answers = record {
       input = at.input;

@@ -10,7 +10,7 @@ use Rattle.hex.specs.Hex.{encode_with, lower_digits}
 use Rattle.can_frame.specs.Parts.{Parts, IsFrame}
 use Rattle.can_frame.specs.Text.{frame_text, hex_digits, decimal_digits, identifier_digits, letter_part, identifier_part, direction_part, dlc_part, data_part, blank_before, blank}
 use Rattle.can_frame.proofs.Decimals.{decimal_one, decimal_two}
-use Rattle.can_lines.specs.Checked.{mark, IsFramePart, IsMarked}
+use Rattle.can_lines.specs.Checked.{mark, IsFramePart, IsMarkedLine}
 use Rattle.can_stream.proofs.Elements.{AllByRecursion-append}
 
 -- ---- no frame's text has a `=`
@@ -78,7 +78,7 @@ unmarked (x ∷ []) others h zero lt = λ e. false≢true (ap (λ (l : List ℕ)
 unmarked (x ∷ y ∷ front) others h zero lt = λ e. false≢true (sym h.1.0 ∙ ap (λ (l : List ℕ). get_or l 1 0 == 61) e)
 unmarked (x ∷ front) others h (suc place) lt = unmarked front others h.1 place (omega arith)
 
-pub IsFramePart-marked : (line : List ℕ) (f : Parts) (others : List ℕ) → IsMarked line f others → IsFramePart line (frame_text f)
+pub IsFramePart-marked : (line : List ℕ) (f : Parts) (others : List ℕ) → IsMarkedLine line f others → IsFramePart line (frame_text f)
 IsFramePart-marked line f others marked = record {
   rest = mark ++ others;
   line_is = marked.line_is;
@@ -108,7 +108,7 @@ IsFramePart-only line a b p q = by_order (cases_order (length a) (length b))
     by_order (inr (inr less)) = let within = front_length line a p in absurd (p.first (length b) less (mark_behind line b q (omega arith)))
 
 -- and is marked in one way
-module _ (line : List ℕ) (f g : Parts) (xs ys : List ℕ) (p : IsMarked line f xs) (q : IsMarked line g ys) where
+module _ (line : List ℕ) (f g : Parts) (xs ys : List ℕ) (p : IsMarkedLine line f xs) (q : IsMarkedLine line g ys) where
   pub marked-text : frame_text f ≡ frame_text g
   marked-text = IsFramePart-only line (frame_text f) (frame_text g) (IsFramePart-marked line f xs p) (IsFramePart-marked line g ys q)
 

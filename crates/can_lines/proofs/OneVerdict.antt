@@ -8,7 +8,7 @@ use Rattle.can_frame.specs.Text.{frame_text}
 use Rattle.can_frame.proofs.LevelDigits.{one-digits}
 use Rattle.can_wire.specs.Wire.{driven}
 use Rattle.can_frame.specs.Levels.{digit_of}
-use Rattle.can_lines.specs.Checked.{Checks, Compares, IsCommonFront, IsVectorVerdict, Judged, passes, verdict_line}
+use Rattle.can_lines.specs.Checked.{Checks, Compares, IsCommonFront, IsVectorVerdict, Judged, passed_in, vector_verdict_line}
 use Rattle.can_lines.specs.declared.vector.Verdict.{Verdict}
 use Rattle.can_lines.specs.declared.vector.Verdict.TheVariants.{Agrees, DiffersAt}
 use Rattle.can_lines.proofs.MarkLemmas.{marked-text, marked-others}
@@ -51,4 +51,4 @@ module _ (one : (f g : Parts) → IsFrame f → IsFrame g → frame_text f ≡ f
   pub Checks-only : (lines : List (List ℕ)) (m n : ℕ) (a b : List ℕ) → Checks lines m a → Checks lines n b → (m ≡ n) × (a ≡ b)
   Checks-only lines m n a b h k =
       let same = Judged-only lines h.verdicts k.verdicts h.judged k.judged in
-      (h.passed_is ∙ ap passes same ∙ sym k.passed_is, h.output_is ∙ ap (flat_map verdict_line) same ∙ sym k.output_is)
+      (h.passed_is ∙ ap passed_in same ∙ sym k.passed_is, h.output_is ∙ ap (flat_map vector_verdict_line) same ∙ sym k.output_is)

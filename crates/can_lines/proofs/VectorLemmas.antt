@@ -13,7 +13,7 @@ use Rattle.can_frame.specs.Text.{frame_text}
 use Rattle.can_frame.specs.declared.text.TextFault.{TextFault}
 use Rattle.can_wire.specs.Wire.{driven}
 use Rattle.can_frame.specs.Levels.{digit_of}
-use Rattle.can_lines.specs.Checked.{mark, ComparesDigits, IsBadLevelByte, IsBadVectorLine, IsFirstBadDigit, IsFramePart, IsLevels, IsMarked, IsVectorVerdict}
+use Rattle.can_lines.specs.Checked.{mark, ComparesDigits, IsBadLevelByte, IsBadVectorLine, IsFirstBadDigit, IsFramePart, IsLevels, IsMarkedLine, IsVectorVerdict}
 use Rattle.can_lines.specs.declared.vector.Verdict.{Verdict}
 use Rattle.can_lines.specs.declared.vector.Verdict.TheVariants.{Agrees}
 use Rattle.can_lines.proofs.DigitLemmas.{IsFirstBadDigit-only, IsLevels-good}
@@ -67,8 +67,8 @@ ComparesDigits-agrees digits f same within = record {
 -- ---- the line
 
 module _ (line : List ℕ) (f : Parts) (start : ℕ) (is : IsFrame f) (text : take start line ≡ frame_text f ++ mark) where
-  pub IsMarked-at : IsMarked line f (drop start line)
-  IsMarked-at = record {
+  pub IsMarkedLine-at : IsMarkedLine line f (drop start line)
+  IsMarkedLine-at = record {
     is_frame = is;
     line_is = sym (take-append-drop start line) ∙ ap (λ t. t ++ drop start line) text ∙ append_assoc (frame_text f) mark (drop start line);
   }
@@ -78,12 +78,12 @@ module _ (line : List ℕ) (f : Parts) (start : ℕ) (is : IsFrame f) (text : ta
   IsVectorVerdict-read verdict compares = record {
     frame = f;
     levels = compares.levels;
-    vector = record { digits = drop start line; marked = IsMarked-at; are_levels = compares.are_levels };
+    vector = record { digits = drop start line; marked = IsMarkedLine-at; are_levels = compares.are_levels };
     compares = compares.compares;
   }
 
   digits_bad : (place : ℕ) (bad : IsBadLevelByte line place) → IsFirstBadDigit (drop start line) bad.place_in_digits
-  digits_bad place bad = subst (λ ds. IsFirstBadDigit ds bad.place_in_digits) (sym (marked-others line f bad.frame (drop start line) bad.digits IsMarked-at bad.marked)) bad.is_bad
+  digits_bad place bad = subst (λ ds. IsFirstBadDigit ds bad.place_in_digits) (sym (marked-others line f bad.frame (drop start line) bad.digits IsMarkedLine-at bad.marked)) bad.is_bad
 
   pub IsBadLevelByte-good : (levels : List Level) (place : ℕ) → IsLevels (drop start line) levels → ¬ IsBadLevelByte line place
   IsBadLevelByte-good levels place are = λ bad. IsLevels-good (drop start line) levels bad.place_in_digits are (digits_bad place bad)
@@ -96,7 +96,7 @@ module _ (line : List ℕ) (f : Parts) (start : ℕ) (is : IsFrame f) (text : ta
     IsBadLevelByte-read place bad = record {
       frame = f;
       digits = drop start line;
-      marked = IsMarked-at;
+      marked = IsMarkedLine-at;
       place_in_digits = place;
       is_bad = bad;
       place_is = omega (arith, start_is);
@@ -105,7 +105,7 @@ module _ (line : List ℕ) (f : Parts) (start : ℕ) (is : IsFrame f) (text : ta
     pub IsBadLevelByte-only : (place other : ℕ) → IsFirstBadDigit (drop start line) place → IsBadLevelByte line other → start + place ≡ other
     IsBadLevelByte-only place other bad at =
         let same = IsFirstBadDigit-only (drop start line) place at.place_in_digits bad (digits_bad other at) in
-        let one = ap length (marked-text line f at.frame (drop start line) at.digits IsMarked-at at.marked) in
+        let one = ap length (marked-text line f at.frame (drop start line) at.digits IsMarkedLine-at at.marked) in
         omega (arith, same, one, at.place_is, start_is)
 
 -- a line whose frame text is bad has no bad byte among its levels

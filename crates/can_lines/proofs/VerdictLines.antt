@@ -2,12 +2,12 @@
 use Rattle.std.proofs.Common.{◌≡◌, ℕ, [], ◌∷◌, ◌++◌, codes, decimal, sym, ap, ◌∙◌, append_assoc}
 use Rattle.can_lines.specs.declared.vector.Verdict.{Verdict}
 use Rattle.can_lines.specs.declared.vector.Verdict.TheVariants.{Agrees, DiffersAt}
-use Rattle.can_lines.specs.Checked.{verdict_line}
+use Rattle.can_lines.specs.Checked.{vector_verdict_line}
 
-pub verdict_line-agrees : (verdict : Verdict) → verdict ≡ Agrees → codes "ok" ++ 10 ∷ [] ≡ verdict_line verdict
-unfolding verdict_line
-verdict_line-agrees verdict is = sym (ap verdict_line is)
+pub vector_verdict_line-agrees : (verdict : Verdict) → verdict ≡ Agrees → codes "ok" ++ 10 ∷ [] ≡ vector_verdict_line verdict
+unfolding vector_verdict_line
+vector_verdict_line-agrees verdict is = sym (ap vector_verdict_line is)
 
-pub verdict_line-differs : (verdict : Verdict) (place : ℕ) → verdict ≡ DiffersAt place → (codes "differs at " ++ decimal place) ++ 10 ∷ [] ≡ verdict_line verdict
-unfolding verdict_line
-verdict_line-differs verdict place is = append_assoc (codes "differs at ") (decimal place) (10 ∷ []) ∙ sym (ap verdict_line is)
+pub vector_verdict_line-differs : (verdict : Verdict) (place : ℕ) → verdict ≡ DiffersAt place → (codes "differs at " ++ decimal place) ++ 10 ∷ [] ≡ vector_verdict_line verdict
+unfolding vector_verdict_line
+vector_verdict_line-differs verdict place is = append_assoc (codes "differs at ") (decimal place) (10 ∷ []) ∙ sym (ap vector_verdict_line is)

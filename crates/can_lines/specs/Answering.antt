@@ -9,7 +9,7 @@ use Rattle.can_stream.specs.Outbox.{PassesOn, TakesFront}
 use Rattle.can_lines.specs.Coded.{coded_line, EncodesAll, EncodesEnded, EncodesTooLong, BeginsEncoding, IsFirstBadLine}
 
 -- the line is the text of a frame, whose levels went into the buffer
-pub record Answers (line : List ℕ) (held holds : Option (List ℕ)) (old new : List ℕ) : Type 0 where
+pub record EncodesLine (line : List ℕ) (held holds : Option (List ℕ)) (old new : List ℕ) : Type 0 where
   pub frame : Parts
   pub is_frame : IsFrame frame
   pub text : frame_text frame ≡ line

@@ -37,14 +37,14 @@ pub record IsFirstBadDigit (digits : List ℕ) (place : ℕ) : Type 0 where
   pub place_is : place ≡ length levels
 
 -- the line is the text of this frame, the mark and other bytes
-pub record IsMarked (line : List ℕ) (f : Parts) (others : List ℕ) : Type 0 where
+pub record IsMarkedLine (line : List ℕ) (f : Parts) (others : List ℕ) : Type 0 where
   pub is_frame : IsFrame f
   pub line_is : line ≡ frame_text f ++ (mark ++ others)
 
 -- the line is the text of this frame, the mark and the digits of these levels, 157 at most
 pub record IsVector (line : List ℕ) (f : Parts) (levels : List Level) : Type 0 where
   pub digits : List ℕ
-  pub marked : IsMarked line f digits
+  pub marked : IsMarkedLine line f digits
   pub are_levels : IsLevels digits levels
 
 -- these are the bytes of the line before its first mark, or the whole line if it has none
@@ -66,7 +66,7 @@ pub record IsBadVectorLine (fault : TextFault) (line : List ℕ) : Type 0 where
 pub record IsBadLevelByte (line : List ℕ) (place : ℕ) : Type 0 where
   pub frame : Parts
   pub digits : List ℕ
-  pub marked : IsMarked line frame digits
+  pub marked : IsMarkedLine line frame digits
   pub place_in_digits : ℕ
   pub is_bad : IsFirstBadDigit digits place_in_digits
   pub place_is : place ≡ length (frame_text frame) + 3 + place_in_digits
@@ -101,14 +101,14 @@ IsBadAs line (Frame fault) = IsBadVectorLine fault line
 IsBadAs line (Byte place) = IsBadLevelByte line place
 
 -- the line that is written for a verdict
-unfoldable pub verdict_line : Verdict → List ℕ
-verdict_line Agrees = codes "ok" ++ 10 ∷ []
-verdict_line (DiffersAt place) = codes "differs at " ++ (decimal place ++ 10 ∷ [])
+unfoldable pub vector_verdict_line : Verdict → List ℕ
+vector_verdict_line Agrees = codes "ok" ++ 10 ∷ []
+vector_verdict_line (DiffersAt place) = codes "differs at " ++ (decimal place ++ 10 ∷ [])
 
 -- 1 for a line that passes
-abbrev pub pass : Verdict → ℕ
-pass Agrees = 1
-pass (DiffersAt place) = 0
+abbrev pub passed_by : Verdict → ℕ
+passed_by Agrees = 1
+passed_by (DiffersAt place) = 0
 
 -- ---- all lines
 
@@ -120,16 +120,16 @@ Judged (line ∷ lines) [] = ⊥
 Judged (line ∷ lines) (verdict ∷ verdicts) = IsVectorVerdict line verdict × Judged lines verdicts
 
 -- how many pass
-abbrev pub passes : List Verdict → ℕ
-passes [] = 0
-passes (verdict ∷ verdicts) = pass verdict + passes verdicts
+abbrev pub passed_in : List Verdict → ℕ
+passed_in [] = 0
+passed_in (verdict ∷ verdicts) = passed_by verdict + passed_in verdicts
 
 -- each line is a vector, so many of them pass, and the output is a line for each
 pub record Checks (lines : List (List ℕ)) (passed : ℕ) (output : List ℕ) : Type 0 where
   pub verdicts : List Verdict
   pub judged : Judged lines verdicts
-  pub passed_is : passed ≡ passes verdicts
-  pub output_is : output ≡ flat_map verdict_line verdicts
+  pub passed_is : passed ≡ passed_in verdicts
+  pub output_is : output ≡ flat_map vector_verdict_line verdicts
 
 -- the same, whatever number of them pass
 abbrev pub ChecksLines : List (List ℕ) → List ℕ → Type 0

@@ -5,7 +5,7 @@ use Rattle.can_stream.specs.declared.fault.TraceFault.{TraceFault}
 use Rattle.can_stream.specs.declared.fault.TraceFault.TheVariants.{BadByte, Read, Write, Long, FrameLine, ScenarioField, Memory}
 use Rattle.can_lines.specs.declared.vector.Verdict.{Verdict}
 use Rattle.can_stream.specs.Outbox.{PassesOn, TakesFront}
-use Rattle.can_lines.specs.Checked.{pass, verdict_line, BeginsChecking, ChecksEnded, ChecksTooLong, IsBadLevelByte, IsBadVectorLine, IsFirstBadByte, IsFirstBadVectorLine, IsVectorVerdict}
+use Rattle.can_lines.specs.Checked.{passed_by, vector_verdict_line, BeginsChecking, ChecksEnded, ChecksTooLong, IsBadLevelByte, IsBadVectorLine, IsFirstBadByte, IsFirstBadVectorLine, IsVectorVerdict}
 
 abbrev pub is_bad_byte : TraceFault → Bool
 is_bad_byte (BadByte place) = true
@@ -20,8 +20,8 @@ is_bad_byte Memory = false
 pub record Judges (line : List ℕ) (passed : ℕ) (held holds : Option (List ℕ)) (old new : List ℕ) : Type 0 where
   pub verdict : Verdict
   pub is_verdict : IsVectorVerdict line verdict
-  pub passed_is : passed ≡ pass verdict
-  pub put : PassesOn held holds old new (verdict_line verdict)
+  pub passed_is : passed ≡ passed_by verdict
+  pub put : PassesOn held holds old new (vector_verdict_line verdict)
 
 -- this place of the input is that of a bad byte of the line that begins at the start
 pub record IsBadAt (start : ℕ) (line : List ℕ) (place : ℕ) : Type 0 where

@@ -197,7 +197,7 @@ fn check_line<W: Sink>(
     match judge(line) {
         Ok(verdict) => {
             put_verdict(verdict, w, out)?;
-            Ok(verdict.pass())
+            Ok(verdict.passed())
         }
         Err(BadLine::Frame(fault)) => Err(TraceFault::FrameLine {
             line: number,

@@ -5,7 +5,7 @@ ghost use Rattle.can_stream.specs.declared.field.Field.{Field};
 ghost use Rattle.can_stream.specs.Told.{Told};
 ghost use Rattle.can_stream.specs.Outbox.{PassesOn, TakesFront};
 ghost use Rattle.can_lines.specs.Coded.{coded_line, EncodesAll, EncodesEnded, EncodesTooLong, BeginsEncoding, IsFirstBadLine};
-ghost use Rattle.can_lines.specs.Answering.{Answers, FailsToAnswer, Encodes};
+ghost use Rattle.can_lines.specs.Answering.{EncodesLine, FailsToAnswer, Encodes};
 ghost use Rattle.can_stream.specs.Faults.{is_err_by, is_read, is_write};
 
 use can_frame::Frame;
@@ -100,7 +100,7 @@ fn answer_line<W: Sink>(
     out: &mut Outbox,
 ) -> Result<(), TraceFault>
     requires { W.has_failed w.old ≡ false }
-    ensures ok { OnOk result (Answers line.now (W.contents w.old) (W.contents w.new) out.old out.new) }
+    ensures ok { OnOk result (EncodesLine line.now (W.contents w.old) (W.contents w.new) out.old out.new) }
     ensures err { IfErr result (λ e. FailsToAnswer e number line.now (W.contents w.old) (W.contents w.new) out.old out.new) }
     ensures failed { W.has_failed w.new ≡ is_err_by is_write result }
 {

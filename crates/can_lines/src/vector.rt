@@ -4,7 +4,7 @@ ghost use Rattle.can_frame.specs.Parts.{IsFrame};
 ghost use Rattle.can_frame.specs.Text.{frame_text};
 ghost use Rattle.can_frame.specs.declared.level.Level.{Level as Bit};
 ghost use Rattle.can_frame.specs.Levels.{digit_of};
-ghost use Rattle.can_lines.specs.Checked.{mark, pass, ComparesDigits, IsBadAs, IsBadLevelByte, IsBadVectorLine, IsCommonFront, IsFirstBadDigit, IsFramePart, IsLevels, IsVectorVerdict};
+ghost use Rattle.can_lines.specs.Checked.{mark, passed_by, ComparesDigits, IsBadAs, IsBadLevelByte, IsBadVectorLine, IsCommonFront, IsFirstBadDigit, IsFramePart, IsLevels, IsVectorVerdict};
 
 use can_frame::{Frame, Level, TextFault, TextFaultKind};
 use can_wire::{DIGITS_ROOM, LONGEST_WIRE, driven_digits};
@@ -24,8 +24,8 @@ pub(crate) enum Verdict {
 
 impl Verdict {
     /// 1 where the line passes, else 0.
-    pub(crate) fn pass(self) -> u64
-        ensures { result ≡ pass self }
+    pub(crate) fn passed(self) -> u64
+        ensures { result ≡ passed_by self }
     {
         match self {
             Verdict::Agrees => 1,

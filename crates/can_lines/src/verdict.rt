@@ -1,7 +1,7 @@
 //! The lines that tell verdicts and their total.
 ghost use Rattle.std.specs.Prelude.{◌≡◌, ◌<◌, false, [], is_err, IfErr, OnOk, OnErr};
 ghost use Rattle.can_stream.specs.Outbox.{PassesOn, TakesFront};
-ghost use Rattle.can_lines.specs.Checked.{total_line, verdict_line};
+ghost use Rattle.can_lines.specs.Checked.{total_line, vector_verdict_line};
 
 use crate::vector::Verdict;
 use arrayvec::ArrayVec;
@@ -15,7 +15,7 @@ pub(crate) fn put_verdict<W: Sink>(
     out: &mut Outbox,
 ) -> Result<(), TraceFault>
     requires { W.has_failed w.old ≡ false }
-    ensures ok { OnOk result (PassesOn (W.contents w.old) (W.contents w.new) out.old out.new (verdict_line verdict)) }
+    ensures ok { OnOk result (PassesOn (W.contents w.old) (W.contents w.new) out.old out.new (vector_verdict_line verdict)) }
     ensures err { OnErr result (TakesFront (W.contents w.old) (W.contents w.new) out.old) }
     ensures dropped { OnErr result (out.new ≡ []) }
     ensures failed { W.has_failed w.new ≡ is_err result }
@@ -26,7 +26,7 @@ pub(crate) fn put_verdict<W: Sink>(
 
 /// The line of a verdict.
 fn written_verdict(verdict: Verdict) -> Line
-    ensures { result.items ≡ verdict_line verdict }
+    ensures { result.items ≡ vector_verdict_line verdict }
 {
     let mut line = ArrayVec::new();
     match verdict {

@@ -2,7 +2,7 @@ use Rattle.std.proofs.Common.{◌≡◌, ℕ, List, ◌++◌, true, false, [], �
 use Rattle.std.proofs.lemmas.Result.{err_from_is_err_and}
 use Rattle.can_lines.specs.Coded.{Codes}
 use Rattle.can_lines.proofs.Codings.{Codes-none}
-use Rattle.can_lines.proofs.Answering.{AtLine, AtLine-flushed, Answering-none, AtLine-read, Answering-answered, Answers-front, FailsToAnswer-front, empty_from_front, open_from_front, whole_lines-ended, lines_of-last, number_below-ended, number_below-last}
+use Rattle.can_lines.proofs.Answering.{AtLine, AtLine-flushed, Answering-none, AtLine-read, Answering-answered, EncodesLine-front, FailsToAnswer-front, empty_from_front, open_from_front, whole_lines-ended, lines_of-last, number_below-ended, number_below-last}
 use Rattle.can_lines.proofs.Endings.{Told-unread, Told-unanswered, Told-done, Told-answered}
 use Rattle.can_stream.proofs.Turns.{PassesOn-flushed}
 use Rattle.can_lines.proofs.encode.answer_lines.Given.{Over}
@@ -53,7 +53,7 @@ loop-number-preserved g c =
     let read = ended_line g (goal.at.loop-number-preserved g c).Then-branch in
     let answers = rw (c.line.ensures, read.1) at c.in_ok-answer_line.ensures.ok in
     record {
-      answering = Answering-answered _ _ _ _ _ read.0 _ _ _ _ _ read.2 (Answers-front read.0 _ _ _ _ answers);
+      answering = Answering-answered _ _ _ _ _ read.0 _ _ _ _ _ read.2 (EncodesLine-front read.0 _ _ _ _ answers);
       reader_unfailed = c.in_ok-next_line.ensures.unfailed;
       reader_unended = rw c.if-branch.true at c.in_ok-next_line.ensures.ended;
       writer_unfailed = c.in_ok-answer_line.ensures.failed;
@@ -89,7 +89,7 @@ returns-in_ok-answer_line-2-clause-told g c =
     let some = rw (c.line-last.ensures, read.1) at (sym c.is_empty.ensures ∙ c.if-not-is_empty.true) in
     let within = c.in_ok-next_line.ensures.within (ap Ok c.if-branch.false) in
     let answers = rw (c.line-last.ensures, read.1) at c.in_ok-answer_line-2.ensures.ok in
-    Told-answered _ _ _ _ _ _ read.0 _ _ _ _ true read.2 within _ _ (open_from_front 33 read.0 some) (Answers-front read.0 _ _ _ _ answers)
+    Told-answered _ _ _ _ _ _ read.0 _ _ _ _ true read.2 within _ _ (open_from_front 33 read.0 some) (EncodesLine-front read.0 _ _ _ _ answers)
 
 pub returns-else-not-is_empty-clause-told : goal.returns-else-not-is_empty-clause-told
 returns-else-not-is_empty-clause-told g c =
