@@ -9,6 +9,7 @@ step. Levels are 0 (dominant) and 1 (recessive).
 
 from __future__ import annotations
 
+import functools
 from collections.abc import Iterable, Iterator
 from typing import NamedTuple
 
@@ -48,6 +49,7 @@ class Attempt(NamedTuple):
         return self.time + len(self.levels) - (0 if self.offset is not None else len(INTERMISSION))
 
 
+@functools.lru_cache(maxsize=4096)
 def attempt_levels(frame: Frame, offset: int | None) -> list[int]:
     """The levels of an attempt that is hit at an offset, or at none, intermission included."""
     wire = spelled(frame).wire
@@ -84,9 +86,8 @@ def line(attempts: Iterable[Attempt], length: int) -> list[int]:
     """So many levels of the bus."""
     levels = [RECESSIVE] * length
     for attempt in attempts:
-        for place, level in enumerate(attempt.levels):
-            if attempt.time + place < length:
-                levels[attempt.time + place] = level
+        part = attempt.levels[: max(0, length - attempt.time)]
+        levels[attempt.time : attempt.time + len(part)] = part
     return levels
 
 

@@ -9,6 +9,7 @@ phase and no step. Levels are 0 (dominant) and 1 (recessive).
 
 from __future__ import annotations
 
+import functools
 from typing import NamedTuple
 
 DOMINANT, RECESSIVE = 0, 1
@@ -57,6 +58,7 @@ def check_sequence(levels: list[int]) -> list[int]:
     return rest[len(levels) :]
 
 
+@functools.lru_cache(maxsize=4096)
 def arbitration_field(frame: Frame) -> list[int]:
     """The levels that arbitration compares."""
     if frame.extended:
@@ -88,6 +90,7 @@ def is_stuff_place(levels: list[int]) -> bool:
     return len(levels) >= 5 and len(set(levels[-5:])) == 1
 
 
+@functools.lru_cache(maxsize=4096)
 def spelled(frame: Frame) -> Spelled:
     """The levels of a frame on the wire."""
     levels: list[int] = []

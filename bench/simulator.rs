@@ -1,8 +1,8 @@
 //! A plain simulator of a classical CAN bus at whole bit times, independent of the crates beside it: a scenario
-//! on standard input, the checksum of the recorded levels and a line for each port on standard output. Standard
-//! library only, written from docs/ACCESS.md and docs/BUS.md; it is what `bench/bus` measures `Bus::run`
-//! against, and its output is compared with that of `bench/bus_driver.rattle`, which reads the same scenarios.
-//! Its bus is in `wire.rs`, its controllers in `machine.rs`.
+//! on standard input, the checksum of the recorded levels and a line for each port on standard output; then the next,
+//! where a line `next` stands between two. Standard library only, written from docs/ACCESS.md and docs/BUS.md; it is
+//! what `bench/bus` measures `Bus::run` against, and its output is compared with that of `bench/bus_driver.rattle`,
+//! which reads the same scenarios. Its bus is in `wire.rs`, its controllers in `machine.rs`.
 
 #[path = "machine.rs"]
 mod machine;
@@ -105,10 +105,8 @@ impl Checksum {
     }
 }
 
-fn main() -> Result<(), Box<dyn Error>> {
-    let mut text = String::new();
-    io::stdin().read_to_string(&mut text)?;
-    let scenario = Scenario::parse(&text)?;
+/// Runs a scenario, and prints what came of it.
+fn play(scenario: &Scenario) {
     let ports = (0..scenario.ports).map(|place| scenario.port(place)).collect();
     let mut bus = Bus::new(ports);
     let mut levels = vec![Recessive; scenario.call];
@@ -146,6 +144,14 @@ fn main() -> Result<(), Box<dyn Error>> {
             port.controller.counters.transmit,
             port.controller.counters.receive,
         );
+    }
+}
+
+fn main() -> Result<(), Box<dyn Error>> {
+    let mut text = String::new();
+    io::stdin().read_to_string(&mut text)?;
+    for part in text.split("next\n") {
+        play(&Scenario::parse(part)?);
     }
     Ok(())
 }
