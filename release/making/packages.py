@@ -34,13 +34,14 @@ Maintainer: nobody yet <nobody@example.invalid>
 Installed-Size: {size}
 Depends: libc6 (>= {libc})
 Recommends: python3 (>= 3.9)
-Suggests: python3-pytest, pkg-config, iverilog, verilator, ghdl
+Suggests: python3-pytest, pkg-config, iverilog, verilator, ghdl, yosys, cadical
 Description: proved reference for classical CAN controllers
  canbit turns frames into levels, traces into frames and faults, and scenarios
  into what was on the bus; canhold judges controllers by a conformance kit;
  canplan tells how late the frames of a network can be; cangates writes the
- reference as a circuit, in Verilog and AIGER. With a golden model for C, C++,
- Rust, Python, Verilog, SystemVerilog and VHDL.
+ reference as a circuit, in Verilog and AIGER, and hold asks a solver whether a
+ design is equal to it in every run. With a golden model for C, C++, Rust,
+ Python, Verilog, SystemVerilog and VHDL.
 """
 
 

@@ -17,12 +17,22 @@ from making.tree import TOP, VERSION, commit_time, told, toolchain, tracked
 SONAME = f"libriddlesage.so.{VERSION.split('.')[0]}"
 # What is of use without the repository, and what of it is not: the tests of what stands there.
 BINDINGS = ("bindings/examples", "bindings/rust", "bindings/sv", "bindings/verilog", "bindings/vhdl")
-SHARED = ("conformance", "examples", *BINDINGS)
-OF_THE_REPOSITORY = ("check", "record", "mechanical", "mutants", "mistakes", "peers", "tests", ".clang-tidy")
+SHARED = ("conformance", "equivalence", "examples", *BINDINGS)
+OF_THE_REPOSITORY = ("check", "record", "mechanical", "mutants", "mistakes", "peer", "peers", "tests", ".clang-tidy")
 # The files of the controller's circuit, and the words by which cangates writes each.
 CIRCUIT = {"v": ["verilog"], "aag": ["aiger"], "aig": ["aiger", "--binary"]}
 LGPL = pathlib.Path("/usr/share/common-licenses/LGPL-2.1")
-DOCUMENTS = (":(glob)*.md", "docs", "bench/README.md", "bindings", "conformance", "examples", "page", "release")
+DOCUMENTS = (
+    ":(glob)*.md",
+    "docs",
+    "bench/README.md",
+    "bindings",
+    "conformance",
+    "equivalence",
+    "examples",
+    "page",
+    "release",
+)
 
 
 class Layout(NamedTuple):
