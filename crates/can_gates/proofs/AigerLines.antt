@@ -1,5 +1,5 @@
 -- Lines of numbers, read from their text.
-use Rattle.std.proofs.Common.{◌≡◌, ℕ, ◌+◌, ◌-◌, ◌*◌, ◌/◌, ◌%◌, ◌^◌, ◌<◌, ◌≤◌, false, eqb, List, [], ◌∷◌, ◌++◌, decimal, refl, ◌∙◌, ap, arith, append_assoc}
+use Rattle.std.proofs.Common.{◌≡◌, ℕ, ◌+◌, ◌-◌, ◌*◌, ◌/◌, ◌%◌, ◌^◌, ◌<◌, ◌≤◌, false, eqb, List, [], ◌∷◌, ◌++◌, decimal, refl, sym, ◌∙◌, ap, arith, append_assoc, append-nil}
 use Rattle.std.specs.List.{flat_map}
 use Rattle.std.proofs.lemmas.Bool.{ne_eqb}
 use Rattle.std.proofs.lemmas.Fmt.{decimal_by_steps}
@@ -35,7 +35,13 @@ line_read before n (m ∷ ns) rest small others =
     ap (lines_in before 0) (append_assoc (decimal n) (numbers_behind (m ∷ ns)) rest) ∙ decimal_read n small before (numbers_behind (m ∷ ns) ++ rest)
     ∙ line_read (before ++ n ∷ []) m ns rest others.0 others.1 ∙ ap (λ l. l ∷ lines_in [] 0 rest) (append_assoc before (n ∷ []) (m ∷ ns))
 
+-- lines that stand before other text
+pub lines_before : (lines : List (List ℕ)) (rest : List ℕ) → AreLines lines → lines_in [] 0 (flat_map line_text lines ++ rest) ≡ lines ++ lines_in [] 0 rest
+lines_before [] rest are = refl
+lines_before ([] ∷ lines) rest are = absurd are.0
+lines_before ((n ∷ ns) ∷ lines) rest are =
+    let more = flat_map line_text lines in
+    ap (lines_in [] 0) (append_assoc (line_text (n ∷ ns)) more rest) ∙ line_read [] n ns (more ++ rest) are.0.0 are.0.1 ∙ ap (λ ls. (n ∷ ns) ∷ ls) (lines_before lines rest are.1)
+
 pub lines_read : (lines : List (List ℕ)) → AreLines lines → lines_in [] 0 (flat_map line_text lines) ≡ lines
-lines_read [] are = refl
-lines_read ([] ∷ lines) are = absurd are.0
-lines_read ((n ∷ ns) ∷ lines) are = line_read [] n ns (flat_map line_text lines) are.0.0 are.0.1 ∙ ap (λ ls. (n ∷ ns) ∷ ls) (lines_read lines are.1)
+lines_read lines are = ap (lines_in [] 0) (sym (append-nil (flat_map line_text lines))) ∙ lines_before lines [] are ∙ append-nil lines

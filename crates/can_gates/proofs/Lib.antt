@@ -1,7 +1,8 @@
--- For crates above: what is known of signal 0, and of words at a place
+-- For crates above: what is known of signal 0, of words at a place, and of lines of numbers
 pub mod Bools
 pub mod Constants
 pub mod WordNumbers
+pub mod AigerLines
 -- For this crate
 pub mod KeptGates
 pub mod Running
@@ -10,5 +11,4 @@ pub mod SumPlaces
 pub mod OrderPlaces
 pub mod Halves
 pub mod AigerTexts
-pub mod AigerLines
 pub mod Rows

@@ -27,7 +27,7 @@ groups_read (suc more) n rest small = by (cases_lt n 128) (λ fits. groups_read 
         let fits : n / 128 < room more = omega (arith, small) in
         rw (le-ltb n 128 many, le-ltb (128 + n % 128) 128 (omega arith), others fits) (ap (λ k. (k, rest)) e)
 
-ten_groups : (n : ℕ) (rest : List ℕ) → n < 2 ^ 64 → number_in (groups 9 n ++ rest) ≡ (n, rest)
+pub ten_groups : (n : ℕ) (rest : List ℕ) → n < 2 ^ 64 → number_in (groups 9 n ++ rest) ≡ (n, rest)
 ten_groups n rest small = groups_read 9 n rest (omega (arith, small))
 
 literal_back : (l : Literal) → literal_of (code_of l) ≡ l
@@ -41,7 +41,7 @@ literal_back l = by l.negated
         let half : (2 * l.signal + 0) / 2 ≡ l.signal = omega arith in
         let even : (2 * l.signal + 0) % 2 ≡ 0 = omega arith in rw (half, even) refl
 
-bit-small : (b : Bool) → bit b ≤ 1
+pub bit-small : (b : Bool) → bit b ≤ 1
 bit-small true = omega arith
 bit-small false = omega arith
 
@@ -66,11 +66,11 @@ gate_read n g rest lower order fits =
     ∙ ap (λ (r : Literal). record { signal = g.signal; left = g.left; right = r } ∷ gates_in n (g.signal + 1) rest) (ap literal_of right ∙ literal_back g.right)
 
 -- gates of the signals from this one on
-abbrev AreNumbered : ℕ → List Gate → Type 0
+abbrev pub AreNumbered : ℕ → List Gate → Type 0
 AreNumbered s [] = Unit {0}
 AreNumbered s (g ∷ gates) = (g.signal ≡ s) × (g.left.signal < g.signal) × (code_of g.right ≤ code_of g.left) × (g.signal < 2 ^ 32) × AreNumbered (s + 1) gates
 
-gates_read : (s : ℕ) (gates : List Gate) (behind : List ℕ) → AreNumbered s gates → gates_in (length gates) s (flat_map gate_bytes gates ++ behind) ≡ gates
+pub gates_read : (s : ℕ) (gates : List Gate) (behind : List ℕ) → AreNumbered s gates → gates_in (length gates) s (flat_map gate_bytes gates ++ behind) ≡ gates
 gates_read s [] behind are = refl
 gates_read s (g ∷ gates) behind are =
     let more : List ℕ = flat_map gate_bytes gates in
@@ -88,7 +88,7 @@ count_of inputs highest [] ordered = omega (arith, ordered)
 count_of inputs highest (g ∷ gates) ordered = omega (arith, ordered.0, ordered.4, count_of inputs ordered.3 gates ordered.5)
 
 -- the order of a circuit's gates, the first one first
-numbered : (inputs highest : ℕ) (gates : List Gate) → IsOrdered inputs highest gates → highest < 2 ^ 32 → AreNumbered (inputs + 1) (reverse gates)
+pub numbered : (inputs highest : ℕ) (gates : List Gate) → IsOrdered inputs highest gates → highest < 2 ^ 32 → AreNumbered (inputs + 1) (reverse gates)
 numbered inputs highest [] ordered fits = tt
 numbered inputs highest (g ∷ gates) ordered fits =
     let before : AreNumbered (inputs + 1) (reverse gates) = numbered inputs ordered.3 gates ordered.5 (omega (arith, fits, ordered.0, ordered.4)) in

@@ -1,30 +1,46 @@
 -- Statements, read from their texts.
-use Rattle.std.proofs.Common.{◌≡◌, ℕ, ◌+◌, ◌%◌, ◌^◌, ◌<◌, if◌then◌else◌, Bool, true, false, List, [], ◌∷◌, ◌++◌, Some, map, decimal, codes, refl, sym, ◌∙◌, ap, arith, append_assoc, append-nil}
+use Rattle.std.proofs.Common.{◌≡◌, ℕ, ◌+◌, ◌%◌, ◌^◌, ◌<◌, if◌then◌else◌, Bool, true, false, eqb, List, [], ◌∷◌, ◌++◌, Some, map, decimal, codes, refl, sym, ◌∙◌, ap, arith, append_assoc, append-nil}
 use Rattle.std.specs.List.{flat_map}
 use Rattle.std.proofs.lemmas.Bool.{ne_eqb}
 use Rattle.std.proofs.lemmas.Fmt.{decimal_by_steps, decimal_is_IsNumeral}
 use Rattle.can_gates.specs.declared.literal.Literal.{Literal}
-use Rattle.can_gates_files.specs.Named.{Symbol, AreSymbols, symbol_text, symbol_words}
-use Rattle.can_gates_files.specs.Statements.{Statement, Wire, And, Assign, Take, literal_text, statement_text, lines_in, literal_in, signal_in, statement_in, IsName, IsProper, AreProper}
+use Rattle.can_gates_files.specs.Statements.{Statement, Wire, And, Assign, Take, literal_text, statement_text, lines_in, literal_in, signal_in, statement_in, words_in, IsLine, IsName, IsProper, AreProper}
 
 -- bytes of a name go on with the word
-name_read : (words : List (List ℕ)) (word name rest : List ℕ) → IsName name → lines_in words word (name ++ rest) ≡ lines_in words (word ++ name) rest
+pub name_read : (words : List (List ℕ)) (word name rest : List ℕ) → IsName name → lines_in words word (name ++ rest) ≡ lines_in words (word ++ name) rest
 name_read words word [] rest is = ap (λ w. lines_in words w rest) (sym (append-nil word))
 name_read words word (c ∷ name) rest is =
     rw (ne_eqb c 10 is.0, ne_eqb c 32 is.1, ne_eqb c 59 is.2) (name_read words (word ++ c ∷ []) name rest is.3 ∙ ap (λ w. lines_in words w rest) (append_assoc word (c ∷ []) name))
 
 -- the same in a longer text
-part_read : (words : List (List ℕ)) (word name more rest : List ℕ) → IsName name → lines_in words word ((name ++ more) ++ rest) ≡ lines_in words (word ++ name) (more ++ rest)
+pub part_read : (words : List (List ℕ)) (word name more rest : List ℕ) → IsName name → lines_in words word ((name ++ more) ++ rest) ≡ lines_in words (word ++ name) (more ++ rest)
 part_read words word name more rest is = ap (lines_in words word) (append_assoc name more rest) ∙ name_read words word name (more ++ rest) is
 
-joined_names : (a b : List ℕ) → IsName a → IsName b → IsName (a ++ b)
+-- the bytes of a line's last words, and its end
+pub line_read : (words : List (List ℕ)) (word line rest : List ℕ) → IsLine line → lines_in words word (line ++ (codes "\n" ++ rest)) ≡ (words ++ words_in word line) ∷ lines_in [] [] rest
+line_read words word [] rest is = refl
+line_read words word (c ∷ line) rest is =
+    rw (ne_eqb c 10 is.0) (by (eqb c 32) (eqb c 59) (line_read (words ++ word ∷ []) [] line rest is.1) (line_read words word line rest is.1) (line_read words (word ++ c ∷ []) line rest is.1))
+  where
+    text : List ℕ
+    text = line ++ (codes "\n" ++ rest)
+
+    by : (blank semicolon : Bool) → lines_in (words ++ word ∷ []) [] text ≡ ((words ++ word ∷ []) ++ words_in [] line) ∷ lines_in [] [] rest → lines_in words word text ≡ (words ++ words_in word line) ∷ lines_in [] [] rest
+        → lines_in words (word ++ c ∷ []) text ≡ (words ++ words_in (word ++ c ∷ []) line) ∷ lines_in [] [] rest
+        → (if blank then lines_in (words ++ word ∷ []) [] text else (if semicolon then lines_in words word text else lines_in words (word ++ c ∷ []) text))
+        ≡ (words ++ (if blank then word ∷ words_in [] line else (if semicolon then words_in word line else words_in (word ++ c ∷ []) line))) ∷ lines_in [] [] rest
+    by true semicolon ended passed more = ended ∙ ap (λ l. l ∷ lines_in [] [] rest) (append_assoc words (word ∷ []) (words_in [] line))
+    by false true ended passed more = passed
+    by false false ended passed more = more
+
+pub joined_names : (a b : List ℕ) → IsName a → IsName b → IsName (a ++ b)
 joined_names [] b first second = second
 joined_names (c ∷ a) b first second = (first.0, first.1, first.2, joined_names a b first.3 second)
 
 one_digit : (d : ℕ) → d < 10 → IsName ((48 + d) ∷ [])
 one_digit d small = ((λ e. absurd (omega (arith, e))), (λ e. absurd (omega (arith, e))), (λ e. absurd (omega (arith, small, e))), tt)
 
-decimal_name : (n : ℕ) → n < 2 ^ 64 → IsName (decimal n)
+pub decimal_name : (n : ℕ) → n < 2 ^ 64 → IsName (decimal n)
 decimal_name n small = decimal_by_steps (λ m digits. IsName digits) one_digit (λ m digits long before. joined_names digits ((48 + m % 10) ∷ []) before (one_digit (m % 10) (omega arith))) n small
 
 literal_name : (l : Literal) → l.signal < 2 ^ 64 → IsName (literal_text l)
@@ -42,13 +58,13 @@ literal_name l small = by l.negated
 
 -- ---- the words of each statement
 
-abbrev words_of : Statement → List (List ℕ)
+abbrev pub words_of : Statement → List (List ℕ)
 words_of (Wire s name) = codes "wire" ∷ (codes "n" ++ decimal s) ∷ codes "=" ∷ name ∷ []
 words_of (And g) = codes "wire" ∷ (codes "n" ++ decimal g.signal) ∷ codes "=" ∷ literal_text g.left ∷ codes "&" ∷ literal_text g.right ∷ []
 words_of (Assign name l) = codes "assign" ∷ name ∷ codes "=" ∷ literal_text l ∷ []
 words_of (Take name l) = name ∷ codes "<=" ∷ literal_text l ∷ []
 
-words_read : (s : Statement) (rest : List ℕ) → IsProper s → lines_in [] [] (statement_text s ++ rest) ≡ words_of s ∷ lines_in [] [] rest
+pub words_read : (s : Statement) (rest : List ℕ) → IsProper s → lines_in [] [] (statement_text s ++ rest) ≡ words_of s ∷ lines_in [] [] rest
 words_read (Wire s name) rest is =
     part_read (codes "wire" ∷ []) (codes "n") (decimal s) (codes " = " ++ (name ++ codes ";\n")) rest (decimal_name s is.0)
     ∙ part_read (codes "wire" ∷ (codes "n" ++ decimal s) ∷ codes "=" ∷ []) [] name (codes ";\n") rest is.1
@@ -75,7 +91,7 @@ literal_read l small = by l.negated
     by true = ap (λ s. record { signal = s; negated = true }) (signal_read l.signal small)
     by false = ap (λ s. record { signal = s; negated = false }) (signal_read l.signal small)
 
-statement_read : (s : Statement) → IsProper s → statement_in (words_of s) ≡ Some s
+pub statement_read : (s : Statement) → IsProper s → statement_in (words_of s) ≡ Some s
 statement_read (Wire s name) is = ap (λ n. Some (Wire n name)) (signal_read s is.0)
 statement_read (And g) is = rw (signal_read g.signal is.0, literal_read g.left is.1, literal_read g.right is.2) refl
 statement_read (Assign name l) is = ap (λ k. Some (Assign name k)) (literal_read l is.1)
@@ -85,15 +101,3 @@ pub statements_read : (statements : List Statement) → AreProper statements →
 statements_read [] are = refl
 statements_read (s ∷ statements) are =
     ap (map statement_in) (words_read s (flat_map statement_text statements) are.0) ∙ rw (statement_read s are.0) (ap (λ l. Some s ∷ l) (statements_read statements are.1))
-
--- ---- names of an AIGER file
-
-symbol_read : (s : Symbol) (rest : List ℕ) → IsName s.kind → s.place < 2 ^ 64 → IsName s.name → lines_in [] [] (symbol_text s ++ rest) ≡ symbol_words s ∷ lines_in [] [] rest
-symbol_read s rest kind small name =
-    let text = decimal s.place ++ (codes " " ++ (s.name ++ codes "\n")) in
-    part_read [] [] s.kind text rest kind ∙ part_read [] s.kind (decimal s.place) (codes " " ++ (s.name ++ codes "\n")) rest (decimal_name s.place small)
-    ∙ part_read ((s.kind ++ decimal s.place) ∷ []) [] s.name (codes "\n") rest name
-
-pub symbols_read : (s : List Symbol) → AreSymbols s → lines_in [] [] (flat_map symbol_text s) ≡ map symbol_words s
-symbols_read [] are = refl
-symbols_read (s ∷ symbols) are = symbol_read s (flat_map symbol_text symbols) are.0 are.1 are.2 ∙ ap (λ l. symbol_words s ∷ l) (symbols_read symbols are.3)

@@ -4,3 +4,6 @@ pub mod Statements
 pub mod Verilog
 pub mod Named
 pub mod Binary
+pub mod Readable
+pub mod Module
+pub mod Files

@@ -35,6 +35,11 @@ lines_in words word (c ∷ text) =
     else if c == 32 then lines_in (words ++ word ∷ []) [] text
     else (if c == 59 then lines_in words word text else lines_in words (word ++ c ∷ []) text)
 
+-- the words of one line, behind this beginning of a word
+abbrev pub words_in : List ℕ → List ℕ → List (List ℕ)
+words_in word [] = word ∷ []
+words_in word (c ∷ line) = if c == 32 then word ∷ words_in [] line else (if c == 59 then words_in word line else words_in (word ++ c ∷ []) line)
+
 -- a signal's number, of its name
 abbrev pub signal_in : List ℕ → ℕ
 signal_in word = digits_value 10 (drop 1 word)
@@ -57,6 +62,11 @@ statement_in words = None
 abbrev pub IsName : List ℕ → Type 0
 IsName [] = Unit {0}
 IsName (c ∷ name) = (c ≢ 10) × (c ≢ 32) × (c ≢ 59) × IsName name
+
+-- and none of a line is a newline
+abbrev pub IsLine : List ℕ → Type 0
+IsLine [] = Unit {0}
+IsLine (c ∷ line) = (c ≢ 10) × IsLine line
 
 abbrev pub IsProper : Statement → Type 0
 IsProper (Wire s name) = (s < 2 ^ 64) × IsName name

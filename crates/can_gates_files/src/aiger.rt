@@ -1,11 +1,17 @@
 //! AIGER, with names.
 ghost use Rattle.std.specs.Prelude.{◌≡◌, ◌+◌, ◌-◌, ◌≤◌, ◌<◌, ◌^◌, ◌++◌, ℕ, List, [], length, map, reverse, OnOk};
 ghost use Rattle.std.specs.List.{flat_map};
-ghost use Rattle.can_gates.specs.Aiger.{line_text, output_numbers};
+ghost use Rattle.can_gates.specs.declared.aiger.Register.{Register as RegisterParts};
+ghost use Rattle.can_gates.specs.declared.literal.Literal.{Literal as Side};
+ghost use Rattle.can_gates.specs.Aiger.{line_text, lines_of, output_numbers};
+ghost use Rattle.can_gates.specs.AigerNumbers.{AreLines};
 ghost use Rattle.can_gates.specs.Circuit.{CircuitParts};
 ghost use Rattle.can_gates.specs.Ordered.{IsOrdered};
+ghost use Rattle.can_gates_files.specs.declared.words.Names.{Names as AllNames};
 ghost use Rattle.can_gates_files.specs.Binary.{binary_text, gate_bytes, gates_in, groups, register_numbers};
+ghost use Rattle.can_gates_files.specs.Files.{binary_lines, names_lines, read_ascii, read_binary};
 ghost use Rattle.can_gates_files.specs.Named.{ascii_text};
+ghost use Rattle.can_gates_files.specs.Readable.{AreReadable};
 
 use crate::symbols::push_names;
 use crate::words::Names;
@@ -112,4 +118,19 @@ fn push_groups(out: &mut Vec<u8>, number: u64) -> Result<(), AllocError>
 pub fn gates_are_read_back()
     ensures { (c : CircuitParts) (behind : List ℕ) → IsOrdered c.inputs c.highest c.gates → c.highest < 2 ^ 32
         → gates_in (length c.gates) (c.inputs + 1) (flat_map gate_bytes (reverse c.gates) ++ behind) ≡ reverse c.gates }
+{}
+
+/// The numbers of an ascii file, the header's first, its names and its comment are read back, where names and their meanings
+/// are readable, and the numbers below 2^64. It does nothing.
+pub fn ascii_files_are_read_back()
+    ensures { (n : AllNames) (c : CircuitParts) (registers : List RegisterParts) (outputs : List Side) → AreReadable n → AreLines (lines_of c registers outputs)
+        → read_ascii (ascii_text n c registers outputs) ≡ record { numbers = lines_of c registers outputs; names = names_lines n } }
+{}
+
+/// So are the numbers, the gates, the names and the comment of a binary file, where the gates stand in their order. It does
+/// nothing.
+pub fn binary_files_are_read_back()
+    ensures { (n : AllNames) (c : CircuitParts) (registers : List RegisterParts) (outputs : List Side) → AreReadable n → AreLines (lines_of c registers outputs)
+        → IsOrdered c.inputs c.highest c.gates → c.highest < 2 ^ 32 → length registers ≤ c.inputs
+        → read_binary (binary_text n c registers outputs) ≡ record { numbers = binary_lines c registers outputs; gates = reverse c.gates; names = names_lines n } }
 {}

@@ -1,6 +1,14 @@
 //! Modules of Verilog-2001.
-ghost use Rattle.std.specs.Prelude.{◌≡◌, ◌++◌, OnOk};
+ghost use Rattle.std.specs.Prelude.{◌≡◌, ◌++◌, List, OnOk};
 ghost use Rattle.std.specs.List.{flat_map};
+ghost use Rattle.can_gates.specs.declared.aiger.Register.{Register as RegisterParts};
+ghost use Rattle.can_gates.specs.declared.literal.Literal.{Literal as Side};
+ghost use Rattle.can_gates.specs.Aiger.{lines_of};
+ghost use Rattle.can_gates.specs.AigerNumbers.{AreLines};
+ghost use Rattle.can_gates.specs.Circuit.{CircuitParts};
+ghost use Rattle.can_gates_files.specs.declared.words.Names.{Names as AllNames};
+ghost use Rattle.can_gates_files.specs.Module.{module_lines, read_module};
+ghost use Rattle.can_gates_files.specs.Readable.{AreReadable};
 ghost use Rattle.can_gates_files.specs.Verilog.{declaration_text, declarations_text, head_text, port_text, steps_text, title_text, verilog_text, width_text};
 
 use crate::statements::{push_assigns, push_gates, push_takes, push_wires};
@@ -121,3 +129,10 @@ fn push_width(out: &mut Vec<u8>, places: u32) -> Result<(), AllocError>
     push_number(out, u64::from(places.saturating_sub(1)))?;
     out.extend_from_slice(b":0] ")
 }
+
+/// Each line of a module is read back, where names and their meanings are readable, and the numbers of the circuit below 2^64.
+/// It does nothing.
+pub fn modules_are_read_back()
+    ensures { (n : AllNames) (c : CircuitParts) (registers : List RegisterParts) (outputs : List Side) → AreReadable n → AreLines (lines_of c registers outputs)
+        → read_module (verilog_text n c registers outputs) ≡ module_lines n c registers outputs }
+{}

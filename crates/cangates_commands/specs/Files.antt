@@ -8,6 +8,7 @@ use Rattle.can_gates_files.specs.declared.words.Names.{Names}
 use Rattle.can_gates_files.specs.Verilog.{verilog_text}
 use Rattle.can_gates_files.specs.Binary.{binary_text}
 use Rattle.can_gates_files.specs.Named.{ascii_text}
+use Rattle.can_gates_files.specs.Readable.{AreReadable}
 use Rattle.can_gates_controller.specs.declared.design.Design.{Design}
 use Rattle.can_gates_controller.specs.Runs.{HasPorts, IsController, Resets, RunsAlike, StartsIdle}
 use Rattle.can_stream.specs.Outbox.{TakesFront}
@@ -15,6 +16,7 @@ use Rattle.can_stream.specs.declared.fault.TraceFault.{TraceFault}
 use Rattle.can_stream.specs.declared.fault.TraceFault.TheVariants.{Write, Memory}
 use Rattle.cangates_commands.specs.declared.words.Form.{Form}
 use Rattle.cangates_commands.specs.declared.words.Form.TheVariants.{Verilog, Ascii, Binary}
+use Rattle.cangates_commands.specs.Ports.{IsNamed}
 
 -- the text of a circuit in each form
 abbrev pub text_in : Form → Names → CircuitParts → List Register → List Literal → List ℕ
@@ -23,7 +25,7 @@ text_in Ascii n c registers outputs = ascii_text n c registers outputs
 text_in Binary n c registers outputs = binary_text n c registers outputs
 
 -- the text is that of a circuit that is can_mac's own controller: at first, behind a reset, in each step and in each run.
--- It has some names for what comes in, is held and goes out
+-- What comes in, is held and goes out has the names of Ports.antt there, in their order, and a line of meaning each
 pub record IsFile (form : Form) (text : List ℕ) : Type 0 where
   pub names : Names
   pub design : Design
@@ -32,6 +34,8 @@ pub record IsFile (form : Form) (text : List ℕ) : Type 0 where
   pub steps : IsController design
   pub runs : RunsAlike design
   pub ports : HasPorts design
+  pub named : IsNamed names design
+  pub readable : AreReadable names
   pub is : text ≡ text_in form names design.circuit design.registers.items design.listed.items
 
 -- what is written where the run ends so: what the writer held and holds

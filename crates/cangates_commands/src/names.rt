@@ -1,8 +1,31 @@
 //! The names of the controller's ports and registers.
+ghost use Rattle.std.specs.Prelude.{◌≡◌, length};
+ghost use Rattle.can_gates_files.specs.Readable.{AreReadable};
+ghost use Rattle.can_gates_controller.specs.declared.design.Design.{Design};
+ghost use Rattle.can_gates_controller.specs.declared.ports.InputPorts.{InputPorts};
+ghost use Rattle.can_gates_controller.specs.declared.ports.OutputPorts.{OutputPorts};
+ghost use Rattle.can_gates_controller.specs.declared.registers.Registers.{Registers};
+ghost use Rattle.can_gates_controller.specs.Listed.{input_list, output_list, register_list};
+ghost use Rattle.cangates_commands.specs.Ports.{IsNamed, input_words, literals_of, output_words, register_words};
+
 use can_gates_files::{Names, Word};
 
+/// The literals of the words, one word behind another, are what comes in, what is held and what goes out, in the order in
+/// which a file has them. It does nothing.
+pub fn words_are_the_ports()
+    ensures inputs { (k : InputPorts) → literals_of (input_words k) ≡ input_list k }
+    ensures registers { (k : Registers) → literals_of (register_words k) ≡ register_list k }
+    ensures outputs { (k : OutputPorts) → literals_of (output_words k) ≡ output_list k }
+    ensures inputs_fit { (k : InputPorts) → length (input_list k) ≡ 107 }
+    ensures registers_fit { (k : Registers) → length (register_list k) ≡ 277 }
+    ensures outputs_fit { (k : OutputPorts) → length (output_list k) ≡ 124 }
+{}
+
 /// The names of the controller's ports and registers, in the order of its circuit.
-pub(crate) fn names() -> Names<'static> {
+pub(crate) fn names() -> Names<'static>
+    ensures named { (d : Design) → IsNamed result d }
+    ensures readable { AreReadable result }
+{
     Names {
         circuit: "riddlesage_controller",
         meaning: "A classical CAN controller, a bit time in each step, written by cangates 0.9.0",

@@ -1,4 +1,4 @@
-use Rattle.can_gates_files.proofs.Reading.{symbols_read}
+use Rattle.can_gates_files.proofs.NamesRead.{symbols_read}
 use Rattle.can_gates_files.proofs.symbols.symbols_are_read_back.Goals as goal
 
 pub returns : goal.returns

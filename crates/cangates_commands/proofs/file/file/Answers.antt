@@ -15,5 +15,7 @@ returns c =
       steps = made.steps;
       runs = made.runs;
       ports = made.ports;
+      named = c.names-chosen.ensures.named c.in_ok-design.design;
+      readable = c.names-chosen.ensures.readable;
       is = c.in_ok-made.ensures ∙ rw (c.deref.ensures.value, c.deref-2.ensures.value) refl;
     }
