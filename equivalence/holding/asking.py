@@ -3,18 +3,43 @@
 from __future__ import annotations
 
 import time
-from collections.abc import Iterator
+from collections.abc import Iterable, Iterator
 from dataclasses import dataclass
 
 from holding.faults import NOTHING_HELD, Fault
 from holding.gates import FALSE, TRUE, Gates, is_true
-from holding.netlist import PLANTED, BitTime, Netlist
+from holding.netlist import PLANTED, BitTime, Key, Netlist
 from holding.tools import Solver
 
 RESET = "reset"
 HOLDS, SAME, GIVEN = "holds_", "same_", "given_"
 FIRST = "bit time"
 OUTPUT = "drive"  # what is compared at least
+
+
+@dataclass
+class Question:
+    """What is asked for: bit times, the last of which, or that `at` a place, has a part with a prefix that fails.
+
+    Without a prefix any bit times will do.
+    """
+
+    name: str
+    bit_times: list[BitTime]
+    assumed: int
+    prefix: str | None
+    at: int = -1
+
+    def parts(self) -> dict[str, int]:
+        """The parts one of which fails."""
+        bit_time, prefix = self.bit_times[self.at], self.prefix
+        names = [name for name in bit_time.netlist.parts if prefix and name.startswith(prefix)]
+        return {name: bit_time.literal(bit_time.netlist.parts[name][0]) for name in names}
+
+    def answered(self) -> int:
+        """Whether the bit times answer it."""
+        gates = self.bit_times[0].gates
+        return gates.both(self.assumed, gates.all(*self.parts().values()) ^ 1) if self.prefix else self.assumed
 
 
 @dataclass
@@ -62,11 +87,12 @@ class Answer:
 
 
 class Asking:
-    """A netlist of both controllers, of which is asked."""
+    """A netlist of both controllers, of which is asked. Some of its inputs may be the same in all bit times."""
 
-    def __init__(self, netlist: Netlist, solver: Solver) -> None:
+    def __init__(self, netlist: Netlist, solver: Solver, kept: Iterable[Key] = ()) -> None:
         self.netlist, self.solver, self.gates = netlist, solver, Gates()
         self.mistake = [self.gates.fresh() for _ in netlist.inputs.get(PLANTED, [])]
+        self.kept = {key: self.gates.fresh() for key in kept}
         self.check_parts()
         self.bit_times, self.assumed = self.related()
 
@@ -93,24 +119,19 @@ class Asking:
         made.literals[self.netlist.inputs[RESET][0]] = int(reset)
         for key, literal in zip(self.netlist.inputs.get(PLANTED, []), self.mistake):
             made.literals[key] = literal if planted else FALSE
+        made.literals |= self.kept
         return made
 
-    def ask(self, question: str, bit_times: list[BitTime], assumed: int, prefix: str | None, at: int = -1) -> Answer:
-        """Asks for bit times, the last of which, or that `at` a place, has a part with a prefix that doesn't hold.
-
-        Without a prefix any bit times will do.
-        """
+    def ask(self, question: Question) -> Answer:
+        """Asks for bit times."""
         begun = time.monotonic()
-        at %= len(bit_times)
-        wanted = self.gates.both(assumed, bit_times[at].all(prefix) ^ 1) if prefix else assumed
-        model = self.solver.ask(self.gates, wanted)
+        model = self.solver.ask(self.gates, question.answered())
         found = None
         if model is not None:
-            names = [name for name in self.netlist.parts if prefix and name.startswith(prefix)]
-            parts = {name: bit_times[at].literal(self.netlist.parts[name][0]) for name in names}
-            found = Found(question, bit_times, self.gates.values(model), at, [])
+            parts, at = question.parts(), question.at % len(question.bit_times)
+            found = Found(question.name, question.bit_times, self.gates.values(model), at, [])
             found.fails = [name for name, part in parts.items() if not found.is_true(part)]
-        return Answer(question, time.monotonic() - begun, found)
+        return Answer(question.name, time.monotonic() - begun, found)
 
     def is_mistaken(self) -> int:
         """Whether some mistake is planted."""
@@ -126,34 +147,34 @@ class Asking:
         behind = self.bit_time(now, False, planted)
         return [now, behind], self.gates.all(now.word("gates.legal")[0], now.all(HOLDS), self.given(now, behind))
 
-    def asks_planted(self) -> Answer:
-        """Whether a planted mistake is found."""
-        bit_times, assumed = self.related(planted=True)
-        return self.ask("planted mistake", bit_times, self.gates.both(assumed, self.is_mistaken()), HOLDS)
-
-    def asks_some(self) -> Answer:
-        """Whether some state is related."""
-        return self.ask("some state", self.bit_times, self.assumed, None)
-
-    def asks_reset(self) -> Answer:
+    def reset(self) -> Question:
         """Whether the states behind a reset are related, whatever the registers held before."""
         now = self.bit_time(None, True, False)
         behind = self.bit_time(now, False, False)
-        return self.ask("reset", [now, behind], self.given(now, behind), HOLDS)
+        return Question("reset", [now, behind], self.given(now, behind), HOLDS)
 
-    def asks_outputs(self) -> Answer:
+    def outputs(self) -> Question:
         """Whether outputs are the same in related states."""
-        return self.ask("outputs", self.bit_times, self.assumed, SAME, at=0)
+        return Question("outputs", self.bit_times, self.assumed, SAME, at=0)
 
-    def asks_step(self) -> Answer:
+    def step(self) -> Question:
         """Whether a bit time leads from related states to related states."""
-        return self.ask("step", self.bit_times, self.assumed, HOLDS)
+        return Question("step", self.bit_times, self.assumed, HOLDS)
 
-    def asks_first(self, count: int, planted: bool) -> Iterator[Answer]:
+    def planted(self) -> Question:
+        """Whether a planted mistake is found."""
+        bit_times, assumed = self.related(planted=True)
+        return Question("planted mistake", bit_times, self.gates.both(assumed, self.is_mistaken()), HOLDS)
+
+    def some(self) -> Question:
+        """Whether some state is related."""
+        return Question("some state", self.bit_times, self.assumed, None)
+
+    def first(self, count: int, planted: bool) -> Iterator[Question]:
         """Whether outputs are the same in each of the first bit times from reset, one question for each."""
         bit_times = [self.bit_time(None, True, planted)]
         assumed = self.gates.both(self.given(bit_times[0]), self.is_mistaken() if planted else TRUE)
         for at in range(1, count + 1):
             bit_times.append(self.bit_time(bit_times[-1], False, planted))
             assumed = self.gates.both(assumed, self.given(bit_times[-1]))
-            yield self.ask(f"{FIRST} {at}", list(bit_times), assumed, SAME)
+            yield Question(f"{FIRST} {at}", list(bit_times), assumed, SAME)

@@ -131,10 +131,10 @@ def tell(lines: list[str]) -> None:
 
 def check_related(asking: Asking) -> None:
     """Raises Fault where no state is related, or the planted mistakes aren't found."""
-    some = asking.asks_some()
+    some = asking.ask(asking.some())
     if some.found is None:
         raise Fault("no state of the circuit that a run reaches meets the relation", NOTHING_HELD)
-    planted = asking.asks_planted()
+    planted = asking.ask(asking.planted())
     if planted.found is None:
         raise Fault("a mistake that was planted in the design isn't found: the relation says too little", NOTHING_HELD)
     tell([f"planted mistake: found, {planted.seconds:.1f} s: {planted.found.fails[0]} fails"])
@@ -150,8 +150,8 @@ def hold(asking: Asking, vcd: str | None) -> int:
     """Asks reset, outputs and step, and gives the status."""
     check_related(asking)
     answers = []
-    for ask in (asking.asks_reset, asking.asks_outputs, asking.asks_step):
-        answers.append(ask())
+    for question in (asking.reset, asking.outputs, asking.step):
+        answers.append(asking.ask(question()))
         tell(told(answers[-1], "holds"))
     found = [answer.found for answer in answers if answer.found]
     if found:
@@ -171,14 +171,16 @@ def hold(asking: Asking, vcd: str | None) -> int:
 
 def smoke(asking: Asking, count: int, vcd: str | None) -> int:
     """Asks the first bit times from reset, and gives the status."""
-    for answer in asking.asks_first(count, planted=True):
+    for question in asking.first(count, planted=True):
+        answer = asking.ask(question)
         if answer.found:
             where = f"in {answer.question} {answer.found.fails[0]} fails"
             tell([f"planted mistake: found, {answer.seconds:.1f} s: {where}"])
             break
     else:
         raise Fault(f"a mistake that was planted in the design isn't found in {count} bit times", NOTHING_HELD)
-    for answer in asking.asks_first(count, planted=False):
+    for question in asking.first(count, planted=False):
+        answer = asking.ask(question)
         tell(told(answer, "the same"))
         if answer.found:
             write_waves(answer.found, vcd)

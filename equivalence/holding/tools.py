@@ -4,14 +4,17 @@ from __future__ import annotations
 
 import json
 import pathlib
+import re
 import shutil
 import subprocess
-from collections.abc import Sequence
+from collections.abc import Iterable, Sequence
+from dataclasses import dataclass
 
 from holding.faults import FAILED, Fault
 from holding.gates import Gates
 
 SOLVERS = {"cadical": "cadical", "abc": "berkeley-abc"}
+GHDL_ERROR = re.compile(r":\d+:\d+: |error|raised")
 PACKAGES = {"yosys": "yosys", "cadical": "cadical", "berkeley-abc": "berkeley-abc"}
 
 
@@ -49,19 +52,49 @@ def ran_yosys(script: Sequence[str], room: pathlib.Path) -> None:
 def synthesized(files: Sequence[str], top: str, room: pathlib.Path) -> pathlib.Path:
     """A design in VHDL as Verilog, by GHDL. Raises Fault with what it says where it fails."""
     made = room / "synthesized.v"
-    analysing = [needed("ghdl"), "-a", "--std=08", *files]
-    for command in (analysing, ["ghdl", "--synth", "--std=08", "--out=verilog", top]):
-        ran = subprocess.run(command, cwd=room, capture_output=True, text=True)
-        if ran.returncode:
-            errors = [line for line in ran.stderr.splitlines() if "error" in line or "raised" in line]
-            raise Fault("ghdl: " + "; ".join(errors or [f"status {ran.returncode}"]))
-        made.write_text(ran.stdout)
+    command = [needed("ghdl"), "--synth", "--std=08", "--out=verilog", *files, "-e", top]
+    ran = subprocess.run(command, cwd=room, capture_output=True, text=True)
+    if ran.returncode:
+        errors = [line for line in ran.stderr.splitlines() if GHDL_ERROR.search(line)]
+        raise Fault("ghdl: " + "; ".join(errors or [f"status {ran.returncode}"]))
+    made.write_text(ran.stdout)
     return made
 
 
 def read_netlist(path: pathlib.Path, module: str) -> dict:
     """A module of what yosys wrote."""
     return json.loads(path.read_text())["modules"][module]
+
+
+@dataclass
+class Clauses:
+    """That a literal is true, one clause, and what each gate is on which it depends, three each."""
+
+    numbers: dict[int, int]  # of signals, from 1 on
+    count: int
+    lines: str
+
+    def number(self, literal: int) -> int:
+        """A literal as it stands in a clause."""
+        return -self.numbers[literal >> 1] if literal & 1 else self.numbers[literal >> 1]
+
+    def text(self, given: Iterable[int]) -> str:
+        """The file of a question, in which these literals are true too."""
+        units = [f"{self.number(literal)} 0\n" for literal in given if literal >> 1 in self.numbers]
+        return "".join([f"p cnf {len(self.numbers)} {self.count + len(units)}\n", *units, self.lines])
+
+
+def clauses_of(gates: Gates, literal: int) -> Clauses:
+    """The clauses of a literal that isn't known."""
+    cone = gates.cone(literal)
+    made = Clauses({signal: number for number, signal in enumerate(cone, 1)}, 0, "")
+    lines = [f"{made.number(literal)} 0"]
+    for signal in cone:
+        if signal in gates.gates:
+            at = made.numbers[signal]
+            a, b = (made.number(side) for side in gates.gates[signal])
+            lines += [f"{-at} {a} 0", f"{-at} {b} 0", f"{at} {-a} {-b} 0"]
+    return Clauses(made.numbers, len(lines), "\n".join([*lines, ""]))
 
 
 class Solver:
@@ -74,51 +107,45 @@ class Solver:
         """Values of free signals that make it true; None where there are none. Raises Fault where it isn't told."""
         if literal < 2:
             return {} if literal else None
-        cone = gates.cone(literal)
-        return self.ask_cadical(gates, literal, cone) if self.name == "cadical" else self.ask_abc(gates, literal, cone)
+        return self.ask_cadical(gates, literal) if self.name == "cadical" else self.ask_abc(gates, literal)
 
-    def run(self, command: list[str]) -> tuple[int, str]:
-        """Runs a solver, and gives its status and what it said."""
+    def run(self, command: list[str], given: str) -> tuple[int, str]:
+        """Runs a solver over what it is given, and gives its status and what it said."""
         try:
             ran = subprocess.run(
-                command, stdout=subprocess.PIPE, stderr=subprocess.STDOUT, text=True, timeout=self.seconds
+                command, input=given, stdout=subprocess.PIPE, stderr=subprocess.STDOUT, text=True, timeout=self.seconds
             )
         except subprocess.TimeoutExpired:
             raise Fault(f"{command[0]} has not answered in {self.seconds} s", FAILED) from None
         return ran.returncode, ran.stdout
 
-    def ask_cadical(self, gates: Gates, literal: int, cone: list[int]) -> dict[int, bool] | None:
-        """The same of CaDiCaL: a clause says that the literal is true, three what each gate is."""
-        numbers = {signal: number for number, signal in enumerate(cone, 1)}
+    def ask_cadical(self, gates: Gates, literal: int) -> dict[int, bool] | None:
+        """The same of CaDiCaL."""
+        clauses = clauses_of(gates, literal)
+        true = self.answer(clauses, ())
+        if true is None:
+            return None
+        return {signal: number in true for signal, number in clauses.numbers.items() if signal not in gates.gates}
 
-        def number(side: int) -> int:
-            return -numbers[side >> 1] if side & 1 else numbers[side >> 1]
-
-        clauses = [f"{number(literal)} 0"]
-        for signal in cone:
-            if signal in gates.gates:
-                made = numbers[signal]
-                a, b = (number(side) for side in gates.gates[signal])
-                clauses += [f"{-made} {a} 0", f"{-made} {b} 0", f"{made} {-a} {-b} 0"]
-        path = self.room / "asked.cnf"
-        path.write_text("\n".join([f"p cnf {len(cone)} {len(clauses)}", *clauses]) + "\n")
-        status, said = self.run([needed("cadical"), "-q", str(path)])
+    def answer(self, clauses: Clauses, given: Iterable[int]) -> set[int] | None:
+        """The numbers of signals that are true where all clauses hold, and these literals too, by CaDiCaL."""
+        status, said = self.run([needed("cadical"), "-q"], clauses.text(given))
         if status == 20:
             return None
         if status != 10:
             raise Fault(f"cadical ended with status {status}", FAILED)
-        true = {int(word) for line in said.splitlines() if line.startswith("v") for word in line.split()[1:]}
-        return {signal: numbers[signal] in true for signal in cone if signal not in gates.gates}
+        return {int(word) for line in said.splitlines() if line.startswith("v") for word in line.split()[1:]}
 
-    def ask_abc(self, gates: Gates, literal: int, cone: list[int]) -> dict[int, bool] | None:
+    def ask_abc(self, gates: Gates, literal: int) -> dict[int, bool] | None:
         """The same of ABC: the literal is the one output of a circuit without registers."""
+        cone = gates.cone(literal)
         free = [signal for signal in cone if signal not in gates.gates]
         made = [signal for signal in cone if signal in gates.gates]
         path, told = self.room / "asked.aig", self.room / "told.cex"
         path.write_bytes(aiger(gates, literal, free, made))
         told.unlink(missing_ok=True)
         script = f"read_aiger {path}; sat; write_cex -n {told}"
-        status, said = self.run([needed("berkeley-abc"), "-q", script])
+        status, said = self.run([needed("berkeley-abc"), "-q", script], "")
         if "UNSATISFIABLE" in said:
             return None
         if "SATISFIABLE" not in said or not told.exists():

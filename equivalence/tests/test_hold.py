@@ -19,7 +19,7 @@ from holding.circuit import MODULE, read_circuit
 from holding.faults import Fault
 from holding.gates import Gates, is_true
 from holding.relation import read_relation
-from holding.tools import SOLVERS, Solver
+from holding.tools import SOLVERS, Solver, clauses_of
 from peer.controller import controller
 from peer.verilog import written
 
@@ -139,6 +139,12 @@ class Relations(Files):
         relation = self.put("relation.v", RELATION.format(outputs="output same_drive", parts=""))
         self.is_told(self.run_hold(relation, self.put("small.v", "module small(")), 1, "hold: yosys: ")
 
+    @unittest.skipUnless(shutil.which("ghdl"), "ghdl is not there")
+    def test_a_design_that_ghdl_does_not_read(self) -> None:
+        text = "entity small is end entity; architecture wrong of small is begin assert gone; end architecture;"
+        relation = self.put("relation.v", RELATION.format(outputs="output same_drive", parts=""))
+        self.is_told(self.run_hold(relation, self.put("small.vhd", text)), 1, 'no declaration for "gone"')
+
     def test_a_register_of_another_clock(self) -> None:
         for edge, said in (("negedge clock", "$_DFF_N_"), ("posedge reset", "another clock")):
             design = self.put("small.v", DESIGN.replace("posedge clock", edge))
@@ -214,6 +220,15 @@ class Solvers(unittest.TestCase):
                 assert model is not None
                 self.assertTrue(is_true(gates.values(model), c))
                 self.assertIsNone(solver.ask(gates, gates.all(parity, a, b, c ^ 1)))
+
+    @unittest.skipUnless(shutil.which("cadical"), "cadical is not there")
+    def test_literals_that_are_true_besides(self) -> None:
+        gates = Gates()
+        a, b, other = (gates.fresh() for _ in range(3))
+        clauses = clauses_of(gates, gates.either(a, b))
+        solver = Solver("cadical", pathlib.Path(), None)
+        self.assertIn(clauses.number(b), solver.answer(clauses, [a ^ 1, other]) or set())
+        self.assertIsNone(solver.answer(clauses, [a ^ 1, b ^ 1]))
 
 
 if __name__ == "__main__":
