@@ -26,9 +26,9 @@ use Rattle.can_c.specs.declared.inputs.PlainOffer.{PlainOffer}
 use Rattle.can_c.specs.declared.plain.PlainFrame.{PlainFrame}
 use Rattle.can_c.specs.declared.status.Status.{Status}
 use Rattle.can_c.specs.declared.status.Status.TheVariants.{Done, NoPort, NoMemory, BadFlag, BadIdentifier, BadDlc, BadBus, BadKind}
-use Rattle.can_c.specs.Play.{AreCodesOf, IsNetworkRun, IsPlayed, IsPlayFault, IsPlayRefusal, bus_held, bus_of, held_by, held_in, lacks_port, play_refusal, ports_refusal}
+use Rattle.can_c.specs.Play.{AreCodesOf, IsNetworkRun, IsPlayCall, IsPlayFault, IsPlayRefusal, bus_held, bus_of, held_by, held_in, lacks_port, play_refusal, ports_refusal}
 use Rattle.can_c.specs.PlainFrames.{refusal}
-use Rattle.can_c.specs.PlainInputs.{first_reason, hits_in, hits_refusal, kind_refusal, offers_in, offers_refusal}
+use Rattle.can_c.specs.PlainInputs.{first_reason, hits_of_plain, hits_refusal, kind_refusal, offers_of_plain, offers_refusal}
 use Rattle.can_c.specs.Statuses.{bus_status}
 use Rattle.can_c.proofs.HandleLists.{ports-held}
 
@@ -170,26 +170,26 @@ refusal-named held offers hits why is done = elim is [
 -- ---- what a bus does with offers and hits that were read from plain fields, its handles holding what they held before
 
 module _ (first handles : List Handle) (plain : List PlainOffer) (given : List PlainHit) (offers : List Offer) (hits : List Hit)
-    (same : held_in handles ≡ held_in first) (read : offers ≡ offers_in plain) (told : hits ≡ hits_in given) where
+    (same : held_in handles ≡ held_in first) (read : offers ≡ offers_of_plain plain) (told : hits ≡ hits_of_plain given) where
   as-many : length handles ≡ length (held_in first)
   as-many = sym (length-map handles held_by) ∙ ap length same
 
-  offered-of : AreOffered (length handles) offers → AreOffered (length (held_in first)) (offers_in plain)
+  offered-of : AreOffered (length handles) offers → AreOffered (length (held_in first)) (offers_of_plain plain)
   offered-of is = subst (λ (os : List Offer). AreOffered (length (held_in first)) os) read (subst (λ (n : ℕ). AreOffered n offers) as-many is)
 
-  taken-of : AreTaken (length handles) hits → AreTaken (length (held_in first)) (hits_in given)
+  taken-of : AreTaken (length handles) hits → AreTaken (length (held_in first)) (hits_of_plain given)
   taken-of is = subst (λ (hs : List Hit). AreTaken (length (held_in first)) hs) told (subst (λ (n : ℕ). AreTaken n hits) as-many is)
 
-  pub played-is : ports_refusal (held_in first) ≡ None → offers_refusal plain ≡ None → hits_refusal given ≡ None → AreOffered (length handles) offers → AreTaken (length handles) hits → IsPlayed (held_in first) plain given
+  pub played-is : ports_refusal (held_in first) ≡ None → offers_refusal plain ≡ None → hits_refusal given ≡ None → AreOffered (length handles) offers → AreTaken (length handles) hits → IsPlayCall (held_in first) plain given
   played-is fits frames kinds offered taken = record {
     fits = refused-hits (held_in first) plain given None fits frames kinds;
     offered = offered-of offered;
     taken = taken-of taken;
   }
 
-  fault-of : (fault : BusFault) → IsPlayFault (length handles) offers hits fault → IsPlayFault (length (held_in first)) (offers_in plain) (hits_in given) fault
+  fault-of : (fault : BusFault) → IsPlayFault (length handles) offers hits fault → IsPlayFault (length (held_in first)) (offers_of_plain plain) (hits_of_plain given) fault
   fault-of fault is =
-      subst (λ (hs : List Hit). IsPlayFault (length (held_in first)) (offers_in plain) hs fault) told
+      subst (λ (hs : List Hit). IsPlayFault (length (held_in first)) (offers_of_plain plain) hs fault) told
       (subst (λ (os : List Offer). IsPlayFault (length (held_in first)) os hits fault) read (subst (λ (n : ℕ). IsPlayFault n offers hits fault) as-many is))
 
   -- why the bus has not run
@@ -198,16 +198,16 @@ module _ (first handles : List Handle) (plain : List PlainOffer) (given : List P
   refused-run fits frames kinds why (inl memory) = inl memory
   refused-run fits frames kinds why (inr other) = inr (inr (refused-hits (held_in first) plain given None fits frames kinds, (other.0, (fault-of other.0 other.1.0, other.1.1))))
 
-  call-levels : (t : ℕ) → call_level offers hits t (bus_held (held_in handles)) ≡ call_level (offers_in plain) (hits_in given) t (bus_held (held_in first))
+  call-levels : (t : ℕ) → call_level offers hits t (bus_held (held_in handles)) ≡ call_level (offers_of_plain plain) (hits_of_plain given) t (bus_held (held_in first))
   call-levels t =
       ap (λ (os : List Offer). call_level os hits t (bus_held (held_in handles))) read
-      ∙ ap (λ (hs : List Hit). call_level (offers_in plain) hs t (bus_held (held_in handles))) told
-      ∙ ap (λ (held : List (Option PortState)). call_level (offers_in plain) (hits_in given) t (bus_held held)) same
+      ∙ ap (λ (hs : List Hit). call_level (offers_of_plain plain) hs t (bus_held (held_in handles))) told
+      ∙ ap (λ (held : List (Option PortState)). call_level (offers_of_plain plain) (hits_of_plain given) t (bus_held held)) same
 
   pub played-levels : (recorded : List Level) (codes : List ℕ) → codes ≡ map level_code recorded → AreLevelsOf (λ t. call_level offers hits t (bus_held (held_in handles))) recorded
-      → AreCodesOf (λ t. call_level (offers_in plain) (hits_in given) t (bus_held (held_in first))) codes
+      → AreCodesOf (λ t. call_level (offers_of_plain plain) (hits_of_plain given) t (bus_held (held_in first))) codes
   played-levels recorded codes are is =
-      codes-of (λ t. call_level (offers_in plain) (hits_in given) t (bus_held (held_in first))) recorded codes are (λ t within. is t within ∙ ap Some (call-levels t))
+      codes-of (λ t. call_level (offers_of_plain plain) (hits_of_plain given) t (bus_held (held_in first))) recorded codes are (λ t within. is t within ∙ ap Some (call-levels t))
 
 -- ---- handles whose ports have been on a bus, and are back
 

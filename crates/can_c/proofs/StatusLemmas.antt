@@ -4,7 +4,7 @@ use Rattle.can_code.specs.declared.fault.CodeFaultKind.{CodeFaultKind}
 use Rattle.can_code.specs.declared.fault.CodeFaultKind.TheVariants.{Short, NoStartOfFrame, Stuff, Crc, Form}
 use Rattle.can_c.specs.declared.status.Status.{Status}
 use Rattle.can_c.specs.declared.status.Status.TheVariants.{Done, NoPort, NoMemory, QueueFull, NoEntry, BadFlag, BadIdentifier, BadDlc, BadLevel, BadCount, NoLevels, NoRoom, ShortFrame, NoStart, StuffFault, CrcFault, FormFault, BadBus, NoSuchPort, BadOrder, BadKind, BadWire}
-use Rattle.can_c.specs.Statuses.{done, fault_status, status_code}
+use Rattle.can_c.specs.Statuses.{done, levels_status, status_code}
 
 pub done_only : (s : Status) → status_code s ≡ done → s ≡ Done
 done_only Done e = refl
@@ -34,7 +34,7 @@ pub not_done : (s : Status) → status_code s ≢ done → s ≢ Done
 not_done s h e = h (ap status_code e)
 
 -- a fault of levels is no success, and no bad level
-pub fault_not_done : (kind : CodeFaultKind) → status_code (fault_status kind) ≢ done
+pub fault_not_done : (kind : CodeFaultKind) → status_code (levels_status kind) ≢ done
 fault_not_done Short e = cc
 fault_not_done NoStartOfFrame e = cc
 fault_not_done Stuff e = cc

@@ -14,12 +14,12 @@ use Rattle.can_bus.specs.Wired.{over, wired}
 use Rattle.can_bus.specs.WireSteps.{WireState, is_struck, wire_attempt}
 use Rattle.can_bus.specs.declared.bus_wire.Moment.{Moment}
 use Rattle.can_c.specs.declared.inputs.PlainHit.{PlainHit}
-use Rattle.can_c.specs.PlainInputs.{hit_in, hits_in}
+use Rattle.can_c.specs.PlainInputs.{hit_of_plain, hits_of_plain}
 
 -- a test of hits, read one by one
-pub any-hit : (p : Hit → Bool) (hits : List PlainHit) → list_any (λ hit. p (hit_in hit)) hits ≡ list_any p (hits_in hits)
+pub any-hit : (p : Hit → Bool) (hits : List PlainHit) → list_any (λ hit. p (hit_of_plain hit)) hits ≡ list_any p (hits_of_plain hits)
 any-hit p [] = refl
-any-hit p (hit ∷ hits) = ap (λ more. p (hit_in hit) || more) (any-hit p hits)
+any-hit p (hit ∷ hits) = ap (λ more. p (hit_of_plain hit) || more) (any-hit p hits)
 
 -- ---- what several drive together
 
@@ -62,9 +62,9 @@ moment_of w driven = record { time = w.time; attempt = wire_attempt w driven }
 -- what is found in the bit time is what falls on the wire in it
 pub struck-is : (hits : List PlainHit) (w : WireState) (driven : Level) (m : Moment) (hit : Bool) →
     m ≡ moment_of w driven →
-    hit ≡ list_any (λ hit. hits_wire m.time m.attempt (hit_in hit)) hits → hit ≡ is_struck (hits_in hits) w driven
+    hit ≡ list_any (λ hit. hits_wire m.time m.attempt (hit_of_plain hit)) hits → hit ≡ is_struck (hits_of_plain hits) w driven
 struck-is hits w driven m hit is e =
-    e ∙ ap (λ (n : Moment). list_any (λ hit. hits_wire n.time n.attempt (hit_in hit)) hits) is ∙ any-hit (hits_wire w.time (wire_attempt w driven)) hits
+    e ∙ ap (λ (n : Moment). list_any (λ hit. hits_wire n.time n.attempt (hit_of_plain hit)) hits) is ∙ any-hit (hits_wire w.time (wire_attempt w driven)) hits
 
 -- ---- places that are written one after another
 

@@ -7,7 +7,7 @@ use Rattle.can_c.specs.declared.plain.PlainFrame.{PlainFrame}
 use Rattle.can_c.specs.declared.status.Status.{Status}
 use Rattle.can_c.specs.declared.status.Status.TheVariants.{Done, NoPort, NoMemory, QueueFull, NoEntry, BadLevel, BadCount, NoLevels, NoRoom}
 use Rattle.can_frame.specs.Levels.{are_level_codes, is_level_code}
-use Rattle.can_c.specs.PlainFrames.{frame_in, refusal}
+use Rattle.can_c.specs.PlainFrames.{frame_of_plain, refusal}
 
 -- a call that a port never refuses
 abbrev pub port_status : Option PortState → Status
@@ -49,4 +49,4 @@ entry_status (Some p) number = if nat_lt number (length p.log) then Done else No
 
 -- a frame that is encoded, with a list for its levels
 abbrev pub encode_status : PlainFrame → List ℕ → Status
-encode_status frame levels = unwrap_or (refusal frame) (if nat_le (length (driven (frame_in frame))) (length levels) then Done else NoRoom)
+encode_status frame levels = unwrap_or (refusal frame) (if nat_le (length (driven (frame_of_plain frame))) (length levels) then Done else NoRoom)

@@ -20,12 +20,12 @@ refusal f =
     else if nat_lt f.identifier (ident_count (f.extended == 1)) then (if nat_lt 15 f.dlc then Some BadDlc else None)
     else Some BadIdentifier
 
-abbrev pub ident_in : PlainFrame → Ident
-ident_in f = record { raw = f.identifier; extended = f.extended == 1 }
+abbrev pub ident_of_plain : PlainFrame → Ident
+ident_of_plain f = record { raw = f.identifier; extended = f.extended == 1 }
 
 -- the frame of plain fields
-abbrev pub frame_in : PlainFrame → Parts
-frame_in f = record { id = ident_in f; remote = f.remote == 1; dlc = f.dlc; bytes = take (byte_count (f.remote == 1) f.dlc) f.bytes }
+abbrev pub frame_of_plain : PlainFrame → Parts
+frame_of_plain f = record { id = ident_of_plain f; remote = f.remote == 1; dlc = f.dlc; bytes = take (byte_count (f.remote == 1) f.dlc) f.bytes }
 
 -- the plain fields of a frame: the data bytes that it has not are 0
 abbrev pub plain_frame : Parts → PlainFrame

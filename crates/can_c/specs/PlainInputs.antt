@@ -9,21 +9,21 @@ use Rattle.can_c.specs.declared.inputs.PlainHit.{PlainHit}
 use Rattle.can_c.specs.declared.inputs.PlainOffer.{PlainOffer}
 use Rattle.can_c.specs.declared.status.Status.{Status}
 use Rattle.can_c.specs.declared.status.Status.TheVariants.{BadKind}
-use Rattle.can_c.specs.PlainFrames.{frame_in, refusal}
+use Rattle.can_c.specs.PlainFrames.{frame_of_plain, refusal}
 
 -- the offer of plain fields
-abbrev pub offer_in : PlainOffer → Offer
-offer_in o = record { time = o.time; node = o.port; frame = frame_in o.frame }
+abbrev pub offer_of_plain : PlainOffer → Offer
+offer_of_plain o = record { time = o.time; node = o.port; frame = frame_of_plain o.frame }
 
-abbrev pub offers_in : List PlainOffer → List Offer
-offers_in offers = map offer_in offers
+abbrev pub offers_of_plain : List PlainOffer → List Offer
+offers_of_plain offers = map offer_of_plain offers
 
 -- the disturbance of plain fields: its kind says what it is, and which of them are read
-abbrev pub hit_in : PlainHit → Hit
-hit_in h = if h.kind == 0 then At h.time else if h.kind == 1 then In h.attempt h.offset else View h.time h.port
+abbrev pub hit_of_plain : PlainHit → Hit
+hit_of_plain h = if h.kind == 0 then At h.time else if h.kind == 1 then In h.attempt h.offset else View h.time h.port
 
-abbrev pub hits_in : List PlainHit → List Hit
-hits_in hits = map hit_in hits
+abbrev pub hits_of_plain : List PlainHit → List Hit
+hits_of_plain hits = map hit_of_plain hits
 
 -- why plain fields are no disturbance: there are three kinds
 abbrev pub kind_refusal : PlainHit → Option Status

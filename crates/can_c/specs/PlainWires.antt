@@ -25,8 +25,8 @@ abbrev pub is_wire : PlainWire → Bool
 is_wire w = nat_le w.until_rest idle_row && (nat_lt w.time (2 ^ 64 - 1) && have_come w.attempts w.start w.time)
 
 -- the wire of plain fields
-abbrev pub wire_in : PlainWire → WireState
-wire_in w = record { rest = idle_row - w.until_rest; time = w.time; latest = latest_of w.attempts w.start w.time }
+abbrev pub wire_of_plain : PlainWire → WireState
+wire_of_plain w = record { rest = idle_row - w.until_rest; time = w.time; latest = latest_of w.attempts w.start w.time }
 
 -- what several drive together, each by the number of its level
 abbrev pub wired_in : List ℕ → Level

@@ -20,7 +20,7 @@ use Rattle.can_c.specs.declared.inputs.PlainHit.{PlainHit}
 use Rattle.can_c.specs.declared.inputs.PlainOffer.{PlainOffer}
 use Rattle.can_c.specs.declared.status.Status.{Status}
 use Rattle.can_c.specs.declared.status.Status.TheVariants.{BadBus, NoMemory, NoPort}
-use Rattle.can_c.specs.PlainInputs.{hits_in, hits_refusal, offers_in, offers_refusal}
+use Rattle.can_c.specs.PlainInputs.{hits_of_plain, hits_refusal, offers_of_plain, offers_refusal}
 use Rattle.can_c.specs.Statuses.{bus_status}
 
 -- what a handle holds, and what each of several
@@ -57,7 +57,10 @@ AreCodesOf line codes = (t : ℕ) → t < length codes → slice_get codes t ≡
 
 -- there are 1 to 64 handles, each with a port
 abbrev pub ports_refusal : List (Option PortState) → Option Status
-ports_refusal held = if length held == 0 then Some BadBus else if nat_lt 64 (length held) then Some BadBus else if lacks_port held then Some NoPort else None
+ports_refusal held =
+    if length held == 0 then Some BadBus
+    else if nat_lt 64 (length held) then Some BadBus
+    else if lacks_port held then Some NoPort else None
 
 -- the first reason why there is no such call: of the handles, then of the frames that are offered, then of the kinds of disturbances
 abbrev pub play_refusal : List (Option PortState) → List PlainOffer → List PlainHit → Option Status
@@ -70,13 +73,14 @@ IsPlayFault ports offers hits fault = IsFirstOfferFault ports offers fault ⊎ (
 -- why a call is refused: there is none, or the bus tells a fault; or else memory ran out
 abbrev pub IsPlayRefusal : List (Option PortState) → List PlainOffer → List PlainHit → Status → Type 0
 IsPlayRefusal held offers hits why = (why ≡ NoMemory) ⊎ ((play_refusal held offers hits ≡ Some why)
-    ⊎ ((play_refusal held offers hits ≡ None) × ((fault : BusFault) × (IsPlayFault (length held) (offers_in offers) (hits_in hits) fault × (why ≡ bus_status fault)))))
+    ⊎ ((play_refusal held offers hits ≡ None) × ((fault : BusFault)
+    × (IsPlayFault (length held) (offers_of_plain offers) (hits_of_plain hits) fault × (why ≡ bus_status fault)))))
 
 -- a call that isn't refused
-pub record IsPlayed (held : List (Option PortState)) (offers : List PlainOffer) (hits : List PlainHit) : Type 0 where
+pub record IsPlayCall (held : List (Option PortState)) (offers : List PlainOffer) (hits : List PlainHit) : Type 0 where
   pub fits : play_refusal held offers hits ≡ None
-  pub offered : AreOffered (length held) (offers_in offers)
-  pub taken : AreTaken (length held) (hits_in hits)
+  pub offered : AreOffered (length held) (offers_of_plain offers)
+  pub taken : AreTaken (length held) (hits_of_plain hits)
 
 -- ---- a network
 

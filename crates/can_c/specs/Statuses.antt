@@ -37,12 +37,12 @@ abbrev pub done : ℕ
 done = status_code Done
 
 -- the status of a fault of levels
-abbrev pub fault_status : CodeFaultKind → Status
-fault_status Short = ShortFrame
-fault_status NoStartOfFrame = NoStart
-fault_status Stuff = StuffFault
-fault_status Crc = CrcFault
-fault_status Form = FormFault
+abbrev pub levels_status : CodeFaultKind → Status
+levels_status Short = ShortFrame
+levels_status NoStartOfFrame = NoStart
+levels_status Stuff = StuffFault
+levels_status Crc = CrcFault
+levels_status Form = FormFault
 
 -- the status of a fault that a bus tells
 abbrev pub bus_status : BusFault → Status

@@ -137,12 +137,12 @@ fn run(port: &mut Controller, levels: &[u8], drives: &mut [u8], events: &mut [u8
     if !Level::are_codes(levels) {
         return Status::BadLevel;
     }
-    pass(port, levels, drives, events);
+    run_each(port, levels, drives, events);
     Status::Done
 }
 
 /// Takes a port through as many bit times as there are levels.
-fn pass(port: &mut Controller, levels: &[u8], drives: &mut [u8], events: &mut [u8])
+fn run_each(port: &mut Controller, levels: &[u8], drives: &mut [u8], events: &mut [u8])
     requires drives { length drives.old ≡ length levels.now }
     requires events { length events.old ≡ length levels.now }
     ensures run { port.new ≡ port_run port.old (levels_of_codes levels.now) }

@@ -6,8 +6,8 @@ ghost use Rattle.can_wire.specs.Heard.{HeardParts, Spells};
 ghost use Rattle.can_wire.specs.Wire.{driven};
 ghost use Rattle.can_c.specs.Calls.{encode_status};
 ghost use Rattle.can_frame.specs.Levels.{are_level_codes, level_code, levels_of_codes};
-ghost use Rattle.can_c.specs.PlainFrames.{frame_in, plain_heard};
-ghost use Rattle.can_c.specs.Statuses.{done, fault_status, status_code};
+ghost use Rattle.can_c.specs.PlainFrames.{frame_of_plain, plain_heard};
+ghost use Rattle.can_c.specs.Statuses.{done, levels_status, status_code};
 
 use crate::plain::{PlainFrame, PlainHeard};
 use crate::status::Status;
@@ -20,8 +20,8 @@ use can_wire::{front_of_codes, write_codes};
 #[unsafe(no_mangle)]
 pub extern "C" fn can_c_encode(frame: &PlainFrame, levels: &mut [u8], count: &mut usize) -> u8
     ensures status { result ≡ status_code (encode_status frame.now levels.old) }
-    ensures count { result ≡ done → count.new ≡ length (driven (frame_in frame.now)) }
-    ensures levels { result ≡ done → take count.new levels.new ≡ map level_code (driven (frame_in frame.now)) }
+    ensures count { result ≡ done → count.new ≡ length (driven (frame_of_plain frame.now)) }
+    ensures levels { result ≡ done → take count.new levels.new ≡ map level_code (driven (frame_of_plain frame.now)) }
     ensures behind { result ≡ done → drop count.new levels.new ≡ drop count.new levels.old }
     ensures unwritten { result ≢ done → (levels.new ≡ levels.old) × (count.new ≡ count.old) }
 {
@@ -50,7 +50,7 @@ pub extern "C" fn can_c_decode(levels: &[u8], heard: &mut PlainHeard, place: &mu
     ensures found { result ≡ done → (h : HeardParts) × (Spells h (take place.new (levels_of_codes levels.now)) × (heard.new ≡ plain_heard h)) }
     ensures within { result ≡ done → place.new ≤ length levels.now }
     ensures only { are_level_codes (take 157 levels.now) ≡ true → (h : HeardParts) (w rest : List Bit) → Spells h w → w ++ rest ≡ levels_of_codes levels.now → (result ≡ done) × (heard.new ≡ plain_heard h) × (place.new ≡ length w) }
-    ensures fault { are_level_codes (take 157 levels.now) ≡ true → result ≢ done → (f : Fault) × (IsCodeFault (levels_of_codes levels.now) f × (result ≡ status_code (fault_status f.kind)) × (place.new ≡ f.place)) }
+    ensures fault { are_level_codes (take 157 levels.now) ≡ true → result ≢ done → (f : Fault) × (IsCodeFault (levels_of_codes levels.now) f × (result ≡ status_code (levels_status f.kind)) × (place.new ≡ f.place)) }
     ensures unheard { result ≢ done → heard.new ≡ heard.old }
     ensures unplaced { are_level_codes (take 157 levels.now) ≡ false → place.new ≡ place.old }
 {

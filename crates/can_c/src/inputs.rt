@@ -1,7 +1,7 @@
 //! Offers and disturbances of a bus, as they cross to C.
 ghost use Rattle.std.specs.Prelude.{◌≡◌, ◌≢◌, ◌⊎◌, None, Some, IfErr, IfOk, OnOk};
 ghost use Rattle.can_c.specs.PlainFrames.{refusal};
-ghost use Rattle.can_c.specs.PlainInputs.{hit_in, hits_in, hits_refusal, kind_refusal, offer_in, offers_in, offers_refusal};
+ghost use Rattle.can_c.specs.PlainInputs.{hit_of_plain, hits_of_plain, hits_refusal, kind_refusal, offer_of_plain, offers_of_plain, offers_refusal};
 ghost use Rattle.can_c.specs.PlainWires.{struck_refusal};
 
 use crate::plain::PlainFrame;
@@ -44,7 +44,7 @@ impl PlainOffer {
     fn offer(&self) -> Result<Offer, Status>
         ensures refused { IfErr result (λ why. refusal self.now.frame ≡ Some why) }
         ensures none { OnOk result (refusal self.now.frame ≡ None) }
-        ensures offer { IfOk result (λ offer. offer ≡ offer_in self.now) }
+        ensures offer { IfOk result (λ offer. offer ≡ offer_of_plain self.now) }
     {
         match self.frame.frame() {
             Err(why) => Err(why),
@@ -62,7 +62,7 @@ impl PlainHit {
     fn hit(&self) -> Result<Hit, Status>
         ensures refused { IfErr result (λ why. kind_refusal self.now ≡ Some why) }
         ensures none { OnOk result (kind_refusal self.now ≡ None) }
-        ensures hit { IfOk result (λ hit. hit ≡ hit_in self.now) }
+        ensures hit { IfOk result (λ hit. hit ≡ hit_of_plain self.now) }
     {
         match self.kind {
             0 | 1 | 2 => Ok(self.named()),
@@ -72,7 +72,7 @@ impl PlainHit {
 
     /// The disturbance, where a kind that is none is taken for the last.
     pub(crate) fn named(&self) -> Hit
-        ensures { result ≡ hit_in self.now }
+        ensures { result ≡ hit_of_plain self.now }
     {
         match self.kind {
             0 => Hit::At(self.time),
@@ -105,7 +105,7 @@ impl PlainHit {
 
 /// The offers of plain fields, or the first reason why a frame is none; or there is no memory for them.
 pub(crate) fn read_offers(alloc: Global, plain: &[PlainOffer]) -> Result<Vec<Offer>, Status>
-    ensures offers { IfOk result (λ offers. offers.items ≡ offers_in plain.now) }
+    ensures offers { IfOk result (λ offers. offers.items ≡ offers_of_plain plain.now) }
     ensures none { OnOk result (offers_refusal plain.now ≡ None) }
     ensures refused { IfErr result (λ why. (why ≡ Status.NoMemory) ⊎ (offers_refusal plain.now ≡ Some why)) }
 {
@@ -118,7 +118,7 @@ pub(crate) fn read_offers(alloc: Global, plain: &[PlainOffer]) -> Result<Vec<Off
 
 /// The disturbances of plain fields, or the first reason why one is none; or there is no memory for them.
 pub(crate) fn read_hits(alloc: Global, plain: &[PlainHit]) -> Result<Vec<Hit>, Status>
-    ensures hits { IfOk result (λ hits. hits.items ≡ hits_in plain.now) }
+    ensures hits { IfOk result (λ hits. hits.items ≡ hits_of_plain plain.now) }
     ensures none { OnOk result (hits_refusal plain.now ≡ None) }
     ensures refused { IfErr result (λ why. (why ≡ Status.NoMemory) ⊎ (hits_refusal plain.now ≡ Some why)) }
 {

@@ -1,7 +1,7 @@
 ghost use Rattle.std.specs.Prelude.{◌≡◌, ◌≢◌, ◌<◌, ◌≤◌, ◌-◌, ◌++◌, ◌==◌, false, length, replicate, take, IfErr, IfOk, IfSome, IsNone};
 ghost use Rattle.can_frame.specs.Ident.{ident_count};
 ghost use Rattle.can_frame.specs.Parts.{byte_count};
-ghost use Rattle.can_c.specs.PlainFrames.{frame_in, ident_in, plain_frame, plain_heard, refusal};
+ghost use Rattle.can_c.specs.PlainFrames.{frame_of_plain, ident_of_plain, plain_frame, plain_heard, refusal};
 
 use crate::status::Status;
 use can_code::Heard;
@@ -50,7 +50,7 @@ impl PlainFrame {
         ensures refused { IfErr result (λ why. refusal self.now ≡ Some why) }
         ensures named { IfErr result (λ why. why ≢ Status.Done) }
         ensures none { IfOk result (λ f. refusal self.now ≡ None) }
-        ensures frame { IfOk result (λ f. f ≡ frame_in self.now) }
+        ensures frame { IfOk result (λ f. f ≡ frame_of_plain self.now) }
     {
         if self.extended > 1 {
             return Err(Status::BadFlag);
@@ -84,7 +84,7 @@ impl PlainFrame {
         requires { self.now.extended < 2 }
         ensures none { IsNone result → ident_count (self.now.extended == 1) ≤ self.now.identifier }
         ensures within { IfSome result (λ id. self.now.identifier < ident_count (self.now.extended == 1)) }
-        ensures id { IfSome result (λ id. id ≡ ident_in self.now) }
+        ensures id { IfSome result (λ id. id ≡ ident_of_plain self.now) }
     {
         if self.extended == 1 {
             return Id::extended(self.identifier);

@@ -6,8 +6,8 @@ ghost use Rattle.can_bus.specs.Run.{hits_view as hits_view_of, hits_wire as hits
 ghost use Rattle.can_bus.specs.Walks.{IsPassed};
 ghost use Rattle.can_bus.specs.WireSteps.{seen_by, wire_level, wire_step};
 ghost use Rattle.can_c.specs.declared.inputs.PlainHit.{PlainHit as Plain};
-ghost use Rattle.can_c.specs.PlainInputs.{first_reason, hit_in, hits_in};
-ghost use Rattle.can_c.specs.PlainWires.{have_come as have_come_of, is_wire as is_wire_of, latest_of, struck_refusal, wire_in, wire_status, wired_in};
+ghost use Rattle.can_c.specs.PlainInputs.{first_reason, hit_of_plain, hits_of_plain};
+ghost use Rattle.can_c.specs.PlainWires.{have_come as have_come_of, is_wire as is_wire_of, latest_of, struck_refusal, wire_of_plain, wire_status, wired_in};
 ghost use Rattle.can_c.specs.Play.{AreCodesOf};
 ghost use Rattle.can_c.specs.Statuses.{done, status_code};
 
@@ -45,10 +45,10 @@ pub extern "C" fn can_c_wire(
     seen: &mut [u8],
 ) -> u8
     ensures status { result ≡ status_code (wire_status wire.old drives.now hits.now) }
-    ensures after { result ≡ done → wire_in wire.new ≡ wire_step (hits_in hits.now) (wire_in wire.old) (wired_in drives.now) }
+    ensures after { result ≡ done → wire_of_plain wire.new ≡ wire_step (hits_of_plain hits.now) (wire_of_plain wire.old) (wired_in drives.now) }
     ensures whole { result ≡ done → wire.new.time < 2 ^ 64 - 1 → is_wire_of wire.new ≡ true }
-    ensures level { result ≡ done → level.new ≡ level_code (wire_level (hits_in hits.now) (wire_in wire.old) (wired_in drives.now)) }
-    ensures seen { result ≡ done → AreCodesOf (seen_by (hits_in hits.now) wire.old.time (wire_level (hits_in hits.now) (wire_in wire.old) (wired_in drives.now))) seen.new }
+    ensures level { result ≡ done → level.new ≡ level_code (wire_level (hits_of_plain hits.now) (wire_of_plain wire.old) (wired_in drives.now)) }
+    ensures seen { result ≡ done → AreCodesOf (seen_by (hits_of_plain hits.now) wire.old.time (wire_level (hits_of_plain hits.now) (wire_of_plain wire.old) (wired_in drives.now))) seen.new }
     ensures unchanged { result ≢ done → wire.new ≡ wire.old }
     ensures unwritten { result ≢ done → (level.new ≡ level.old) × (seen.new ≡ seen.old) }
 {
@@ -61,19 +61,19 @@ pub extern "C" fn can_c_wire(
     match check_hits(hits, drives.len()) {
         Err(why) => why.code(),
         Ok(()) => {
-            *level = pass(wire, wired(drives), hits, seen).code();
+            *level = bit_time(wire, wired(drives), hits, seen).code();
             Status::Done.code()
         }
     }
 }
 
 /// One bit time of a wire that is driven so, and its level; writes what each sees of it.
-fn pass(wire: &mut PlainWire, driven: Level, hits: &[PlainHit], seen: &mut [u8]) -> Level
+fn bit_time(wire: &mut PlainWire, driven: Level, hits: &[PlainHit], seen: &mut [u8]) -> Level
     requires { is_wire_of wire.old ≡ true }
-    ensures after { wire_in wire.new ≡ wire_step (hits_in hits.now) (wire_in wire.old) driven }
+    ensures after { wire_of_plain wire.new ≡ wire_step (hits_of_plain hits.now) (wire_of_plain wire.old) driven }
     ensures whole { wire.new.time < 2 ^ 64 - 1 → is_wire_of wire.new ≡ true }
-    ensures level { result ≡ wire_level (hits_in hits.now) (wire_in wire.old) driven }
-    ensures seen { AreCodesOf (seen_by (hits_in hits.now) wire.old.time (wire_level (hits_in hits.now) (wire_in wire.old) driven)) seen.new }
+    ensures level { result ≡ wire_level (hits_of_plain hits.now) (wire_of_plain wire.old) driven }
+    ensures seen { AreCodesOf (seen_by (hits_of_plain hits.now) wire.old.time (wire_level (hits_of_plain hits.now) (wire_of_plain wire.old) driven)) seen.new }
 {
     let mut passing = wire.wire();
     let moment = passing.moment(driven);
@@ -109,35 +109,35 @@ fn check_hits(hits: &[PlainHit], count: usize) -> Result<(), Status>
 
 /// Whether a hit inverts the level of the wire in this bit time.
 fn falls(hits: &[PlainHit], moment: &Moment) -> bool
-    ensures { result ≡ list_any (λ (hit : Plain). hits_wire_of moment.now.time moment.now.attempt (hit_in hit)) hits.now }
+    ensures { result ≡ list_any (λ (hit : Plain). hits_wire_of moment.now.time moment.now.attempt (hit_of_plain hit)) hits.now }
 {
     hits.iter().any(|hit| hits_wire(hit, moment))
 }
 
 /// Whether this one does.
 fn hits_wire(hit: &PlainHit, moment: &Moment) -> bool
-    ensures { result ≡ hits_wire_of moment.now.time moment.now.attempt (hit_in hit.now) }
+    ensures { result ≡ hits_wire_of moment.now.time moment.now.attempt (hit_of_plain hit.now) }
 {
     moment.hits_wire(hit.named())
 }
 
 /// Whether a hit inverts what the one of this number sees.
 fn falls_at(hits: &[PlainHit], moment: &Moment, number: usize) -> bool
-    ensures { result ≡ list_any (λ (hit : Plain). hits_view_of moment.now.time number (hit_in hit)) hits.now }
+    ensures { result ≡ list_any (λ (hit : Plain). hits_view_of moment.now.time number (hit_of_plain hit)) hits.now }
 {
     hits.iter().any(|hit| hits_view(hit, moment, number))
 }
 
 /// Whether this one does.
 fn hits_view(hit: &PlainHit, moment: &Moment, number: usize) -> bool
-    ensures { result ≡ hits_view_of moment.now.time number (hit_in hit.now) }
+    ensures { result ≡ hits_view_of moment.now.time number (hit_of_plain hit.now) }
 {
     moment.hits_view(number, hit.named())
 }
 
 /// Writes what each sees of the level.
 fn tell_each(hits: &[PlainHit], moment: &Moment, level: Level, seen: &mut [u8])
-    ensures { AreCodesOf (seen_by (hits_in hits.now) moment.now.time level) seen.new }
+    ensures { AreCodesOf (seen_by (hits_of_plain hits.now) moment.now.time level) seen.new }
 {
     for number in 0..seen.len() {
         seen[number] = told(falls_at(hits, moment, number), level);
@@ -168,7 +168,7 @@ impl PlainWire {
     /// The wire.
     fn wire(&self) -> Wire
         requires { is_wire_of self.now ≡ true }
-        ensures { result ≡ wire_in self.now }
+        ensures { result ≡ wire_of_plain self.now }
     {
         let latest = latest(self.attempts, self.start, self.time);
         match Wire::at(IDLE_ROW - self.until_rest, self.time, latest) {
@@ -179,7 +179,7 @@ impl PlainWire {
 
     /// The plain fields of a wire.
     fn of(wire: &Wire) -> PlainWire
-        ensures wire { wire_in result ≡ wire.now }
+        ensures wire { wire_of_plain result ≡ wire.now }
         ensures whole { result.time < 2 ^ 64 - 1 → is_wire_of result ≡ true }
     {
         let (attempts, start) = counted(wire.latest(), wire.time());

@@ -7,8 +7,8 @@ ghost use Rattle.can_bus.specs.Offers.{call_after, call_level, call_refused, Are
 ghost use Rattle.can_bus.specs.Run.{AreLevelsOf};
 ghost use Rattle.can_bus.specs.declared.fault.BusFault.{BusFault as Fault};
 ghost use Rattle.can_c.specs.declared.status.Status.{Status as Why};
-ghost use Rattle.can_c.specs.Play.{AreCodesOf, IsNetworkRun, IsPlayFault, IsPlayRefusal, IsPlayed, bus_held, bus_of, held_in, lacks_port, ports_held, ports_refusal};
-ghost use Rattle.can_c.specs.PlainInputs.{hits_in, offers_in};
+ghost use Rattle.can_c.specs.Play.{AreCodesOf, IsNetworkRun, IsPlayFault, IsPlayRefusal, IsPlayCall, bus_held, bus_of, held_in, lacks_port, ports_held, ports_refusal};
+ghost use Rattle.can_c.specs.PlainInputs.{hits_of_plain, offers_of_plain};
 ghost use Rattle.can_c.specs.Statuses.{bus_status, done, status_code};
 
 use crate::inputs::{PlainHit, PlainOffer, read_hits, read_offers};
@@ -39,12 +39,12 @@ pub extern "C" fn can_c_play(
     refused: &mut usize,
 ) -> u8
     ensures why { result ≢ done → (why : Why) × (IsPlayRefusal (held_in handles.old) offers.now hits.now why × (result ≡ status_code why)) }
-    ensures taken { result ≡ done → IsPlayed (held_in handles.old) offers.now hits.now }
-    ensures ports { result ≡ done → held_in handles.new ≡ map Some (call_after (offers_in offers.now) (hits_in hits.now) (length levels.new) (bus_held (held_in handles.old))).bus.ports }
-    ensures levels { result ≡ done → AreCodesOf (λ t. call_level (offers_in offers.now) (hits_in hits.now) t (bus_held (held_in handles.old))) levels.new }
-    ensures count { result ≡ done → refused.new ≡ call_refused (offers_in offers.now) (hits_in hits.now) (length levels.new) (bus_held (held_in handles.old)) }
-    ensures network { result ≡ done → OnNetworkCall (offers_in offers.now) (hits_in hits.now) (bus_held (held_in handles.old)) (λ course.
-        IsNetworkRun (offers_in offers.now) course (levels_of_codes levels.new) (ports_held (held_in handles.old)) (ports_held (held_in handles.new))) }
+    ensures taken { result ≡ done → IsPlayCall (held_in handles.old) offers.now hits.now }
+    ensures ports { result ≡ done → held_in handles.new ≡ map Some (call_after (offers_of_plain offers.now) (hits_of_plain hits.now) (length levels.new) (bus_held (held_in handles.old))).bus.ports }
+    ensures levels { result ≡ done → AreCodesOf (λ t. call_level (offers_of_plain offers.now) (hits_of_plain hits.now) t (bus_held (held_in handles.old))) levels.new }
+    ensures count { result ≡ done → refused.new ≡ call_refused (offers_of_plain offers.now) (hits_of_plain hits.now) (length levels.new) (bus_held (held_in handles.old)) }
+    ensures network { result ≡ done → OnNetworkCall (offers_of_plain offers.now) (hits_of_plain hits.now) (bus_held (held_in handles.old)) (λ course.
+        IsNetworkRun (offers_of_plain offers.now) course (levels_of_codes levels.new) (ports_held (held_in handles.old)) (ports_held (held_in handles.new))) }
     ensures unchanged { result ≢ done → held_in handles.new ≡ held_in handles.old }
     ensures unwritten { result ≢ done → (levels.new ≡ levels.old) × (refused.new ≡ refused.old) }
 {
@@ -66,12 +66,12 @@ fn play_ports(
     levels: &mut [u8],
 ) -> Result<usize, Status>
     ensures why { IfErr result (λ why. IsPlayRefusal (held_in handles.old) offers.now hits.now why) }
-    ensures taken { OnOk result (IsPlayed (held_in handles.old) offers.now hits.now) }
-    ensures ports { OnOk result (held_in handles.new ≡ map Some (call_after (offers_in offers.now) (hits_in hits.now) (length levels.new) (bus_held (held_in handles.old))).bus.ports) }
-    ensures levels { OnOk result (AreCodesOf (λ t. call_level (offers_in offers.now) (hits_in hits.now) t (bus_held (held_in handles.old))) levels.new) }
-    ensures count { IfOk result (λ count. count ≡ call_refused (offers_in offers.now) (hits_in hits.now) (length levels.new) (bus_held (held_in handles.old))) }
-    ensures network { OnOk result (OnNetworkCall (offers_in offers.now) (hits_in hits.now) (bus_held (held_in handles.old)) (λ course.
-        IsNetworkRun (offers_in offers.now) course (levels_of_codes levels.new) (ports_held (held_in handles.old)) (ports_held (held_in handles.new)))) }
+    ensures taken { OnOk result (IsPlayCall (held_in handles.old) offers.now hits.now) }
+    ensures ports { OnOk result (held_in handles.new ≡ map Some (call_after (offers_of_plain offers.now) (hits_of_plain hits.now) (length levels.new) (bus_held (held_in handles.old))).bus.ports) }
+    ensures levels { OnOk result (AreCodesOf (λ t. call_level (offers_of_plain offers.now) (hits_of_plain hits.now) t (bus_held (held_in handles.old))) levels.new) }
+    ensures count { IfOk result (λ count. count ≡ call_refused (offers_of_plain offers.now) (hits_of_plain hits.now) (length levels.new) (bus_held (held_in handles.old))) }
+    ensures network { OnOk result (OnNetworkCall (offers_of_plain offers.now) (hits_of_plain hits.now) (bus_held (held_in handles.old)) (λ course.
+        IsNetworkRun (offers_of_plain offers.now) course (levels_of_codes levels.new) (ports_held (held_in handles.old)) (ports_held (held_in handles.new)))) }
     ensures unchanged { OnErr result (held_in handles.new ≡ held_in handles.old) }
     ensures unwritten { OnErr result (levels.new ≡ levels.old) }
 {

@@ -2,7 +2,7 @@ ghost use Rattle.std.specs.Prelude.{◌≡◌, ◌≢◌, None, Some, option_map
 ghost use Rattle.can_mac.specs.State.{idle, joining};
 ghost use Rattle.can_node.specs.Ports.{fresh_port, port_offered, port_holding};
 ghost use Rattle.can_c.specs.Calls.{copy_refusal, hold_status, offer_status};
-ghost use Rattle.can_c.specs.PlainFrames.{frame_in};
+ghost use Rattle.can_c.specs.PlainFrames.{frame_of_plain};
 ghost use Rattle.can_c.specs.Statuses.{done, status_code};
 
 use crate::plain::PlainFrame;
@@ -95,7 +95,7 @@ pub extern "C" fn can_c_free(alloc: Global, handle: &mut Handle)
 #[unsafe(no_mangle)]
 pub extern "C" fn can_c_offer(alloc: Global, handle: &mut Handle, frame: &PlainFrame) -> u8
     ensures status { result ≡ status_code (offer_status handle.old.held frame.now) }
-    ensures offered { result ≡ done → handle.new.held ≡ option_map (port_offered (frame_in frame.now)) handle.old.held }
+    ensures offered { result ≡ done → handle.new.held ≡ option_map (port_offered (frame_of_plain frame.now)) handle.old.held }
     ensures unchanged { result ≢ done → handle.new.held ≡ handle.old.held }
 {
     match handle.take(alloc) {
@@ -111,7 +111,7 @@ pub extern "C" fn can_c_offer(alloc: Global, handle: &mut Handle, frame: &PlainF
 /// Offers a frame at a port.
 fn offer(port: &mut Controller, frame: &PlainFrame) -> Status
     ensures status { result ≡ offer_status (Some port.old) frame.now }
-    ensures offered { result ≡ Status.Done → port.new ≡ port_offered (frame_in frame.now) port.old }
+    ensures offered { result ≡ Status.Done → port.new ≡ port_offered (frame_of_plain frame.now) port.old }
     ensures unchanged { result ≢ Status.Done → port.new ≡ port.old }
 {
     match frame.frame() {

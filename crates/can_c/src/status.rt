@@ -1,5 +1,5 @@
 ghost use Rattle.std.specs.Prelude.{◌≡◌};
-ghost use Rattle.can_c.specs.Statuses.{bus_status, fault_status, status_code};
+ghost use Rattle.can_c.specs.Statuses.{bus_status, levels_status, status_code};
 
 use can_bus::BusFault;
 use can_code::CodeFaultKind;
@@ -87,7 +87,7 @@ impl Status {
 
     /// The status of a fault of levels.
     pub(crate) fn of_fault(kind: CodeFaultKind) -> Status
-        ensures { result ≡ fault_status kind }
+        ensures { result ≡ levels_status kind }
     {
         match kind {
             CodeFaultKind::Short => Status::ShortFrame,

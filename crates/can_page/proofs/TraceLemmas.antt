@@ -1,8 +1,7 @@
 -- Trace text whose levels are written one by one.
-use Rattle.std.proofs.Common.{◌≡◌, ℕ, ◌+◌, ◌<◌, ◌≤◌, true, false, Option, Some, None, IfSome, append_assoc, List, [], ◌∷◌, ◌++◌, length, take, drop, get_or, sym, ◌∙◌, ap, subst, arith}
-use Rattle.std.proofs.lemmas.List.{drop_more, length-take-le, take_all, take_more, take-append-drop}
+use Rattle.std.proofs.Common.{◌≡◌, ℕ, ◌+◌, ◌<◌, ◌≤◌, false, Option, Some, None, IfSome, append_assoc, List, [], ◌∷◌, ◌++◌, length, take, drop, get_or, sym, ◌∙◌, ap, subst, arith}
+use Rattle.std.proofs.lemmas.List.{drop_more, length-take-le, take-append-drop}
 use Rattle.std.specs.Io.KnownBytes.{Appends, Consumes}
-use Rattle.can_stream.proofs.Elements.{AllByRecursion-append}
 use Rattle.can_decode.specs.Decoded.{DecodesToBadByte}
 use Rattle.can_decode.specs.TraceText.{IsFirstBadTraceByte, IsTraceText, is_trace_byte, levels_in}
 use Rattle.can_page.specs.Codes.{level_codes}
@@ -12,19 +11,6 @@ pub record IsRead (text levels : List ℕ) (written index : ℕ) : Type 0 where
   pub text_is : IsTraceText (take index text)
   pub levels_are : take written levels ≡ level_codes (levels_in (take index text))
   pub within : written ≤ index
-
--- the bytes up to one more
-module _ (text levels : List ℕ) (written index : ℕ) (h : IsRead text levels written index) (l : index < length text) (stands : is_trace_byte (get_or text index 0) ≡ true) where
-  one_more : take (index + 1) text ≡ take index text ++ get_or text index 0 ∷ []
-  one_more = take_more text index 0 l
-
-  is_text : IsTraceText (take (index + 1) text)
-  is_text = subst IsTraceText (sym one_more) (AllByRecursion-append (λ byte. is_trace_byte byte ≡ true) (take index text) (get_or text index 0 ∷ []) h.text_is (stands, tt))
-
--- all bytes
-pub all_read : (text levels : List ℕ) (written index : ℕ) → IsRead text levels written index → length text ≤ index → (take written levels ≡ level_codes (levels_in text)) × IsTraceText text
-all_read text levels written index h l =
-    (h.levels_are ∙ ap (λ t. level_codes (levels_in t)) (take_all index text l), subst IsTraceText (take_all index text l) h.text_is)
 
 -- the first bad byte stands behind those
 pub bad_byte : (text levels : List ℕ) (written index : ℕ) → IsRead text levels written index → index < length text → is_trace_byte (get_or text index 0) ≡ false → IsFirstBadTraceByte text index

@@ -3,9 +3,9 @@ use Rattle.std.specs.Prelude.{ℕ, nat_le, Bool, ◌&&◌, List, take}
 use Rattle.can_page.specs.declared.lines.Lines.{Lines}
 
 -- the bytes that are written
-abbrev pub lines_of : Lines → List ℕ
-lines_of l = take l.count l.bytes
+abbrev pub written_lines : Lines → List ℕ
+written_lines l = take l.count l.bytes
 
 -- all the room is taken, and more bytes came
-abbrev pub is_full : Lines → Bool
-is_full l = l.full && nat_le 33554432 l.count
+abbrev pub is_overfull : Lines → Bool
+is_overfull l = l.full && nat_le 33554432 l.count

@@ -20,12 +20,12 @@ pub struct Lines {
 }
 
 impl Lines {
-    ghost use Rattle.can_page.specs.Lines.{is_full, lines_of};
+    ghost use Rattle.can_page.specs.Lines.{is_overfull, written_lines};
 
     /// No bytes are written.
     pub(crate) fn clear(&mut self)
-        ensures lines { lines_of self.new ≡ [] }
-        ensures full { is_full self.new ≡ false }
+        ensures lines { written_lines self.new ≡ [] }
+        ensures full { is_overfull self.new ≡ false }
     {
         self.count = 0;
         self.full = false;
@@ -34,11 +34,11 @@ impl Lines {
 
 impl Sink for Lines {
     ghost use Rattle.std.specs.Prelude.{Some};
-    ghost use Rattle.can_page.specs.Lines.{is_full, lines_of};
+    ghost use Rattle.can_page.specs.Lines.{is_overfull, written_lines};
 
-    ghost contents = { λ s. Some (lines_of s) };
+    ghost contents = { λ s. Some (written_lines s) };
 
-    ghost has_failed = { is_full };
+    ghost has_failed = { is_overfull };
 
     fn write(&mut self, buf: &[u8]) -> io::Result<usize> {
         let start = self.count.min(ROOM);

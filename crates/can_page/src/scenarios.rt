@@ -6,7 +6,7 @@ ghost use Rattle.can_port_times.specs.declared.port_times.PortTime.{PortTime as 
 ghost use Rattle.can_scenario_text.specs.declared.scenario.Scenario.{Scenario as Planned};
 ghost use Rattle.can_stream.specs.declared.field.Field.{Field as Wrong};
 ghost use Rattle.can_page.specs.Answers.{bad_scenario, done, no_memory, no_port, no_room};
-ghost use Rattle.can_page.specs.Lines.{is_full, lines_of};
+ghost use Rattle.can_page.specs.Lines.{is_overfull, written_lines};
 ghost use Rattle.can_page.specs.Plain.{plain_times, wrong_field};
 
 use crate::answer::Answer;
@@ -26,10 +26,10 @@ pub extern "C" fn page_run(
     out: &mut Lines,
     wrong: &mut WrongField,
 ) -> u8
-    ensures report { result ≡ done → (s : Planned) × (IsScenarioText text.now s × (lines_of out.new ≡ report s)) }
+    ensures report { result ≡ done → (s : Planned) × (IsScenarioText text.now s × (written_lines out.new ≡ report s)) }
     ensures wrong { result ≡ bad_scenario → (field : Wrong) × (IsWrongScenarioField field text.now × (wrong.new ≡ wrong_field field)) }
     ensures answers { (result ≡ done) ⊎ (result ≡ bad_scenario) ⊎ (result ≡ no_room) ⊎ (result ≡ no_memory) }
-    ensures room { result ≡ no_room → is_full out.new ≡ true }
+    ensures room { result ≡ no_room → is_overfull out.new ≡ true }
 {
     out.clear();
     run_onto(alloc, text, out, wrong).code()

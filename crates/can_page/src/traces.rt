@@ -3,7 +3,7 @@ ghost use Rattle.can_decode.specs.Decoded.{DecodesAll, DecodesToBadByte};
 ghost use Rattle.can_decode.specs.TraceText.{IsFirstBadTraceByte, IsTraceText, is_trace_byte, levels_in, levels_of_byte};
 ghost use Rattle.can_page.specs.Answers.{bad_level, done, no_room};
 ghost use Rattle.can_page.specs.Codes.{level_codes, trace_text};
-ghost use Rattle.can_page.specs.Lines.{is_full, lines_of};
+ghost use Rattle.can_page.specs.Lines.{is_overfull, written_lines};
 
 use crate::answer::Answer;
 use crate::levels::Levels;
@@ -18,10 +18,10 @@ use can_stream::{Sink, Source, TraceFault};
 /// it. Where it is that of too little room, all the room is taken.
 #[unsafe(no_mangle)]
 pub extern "C" fn page_decode(text: &[u8], out: &mut Lines, place: &mut u64) -> u8
-    ensures whole { result ≡ done → DecodesAll text.now (lines_of out.new) }
-    ensures bad { result ≡ bad_level → DecodesToBadByte place.new text.now (lines_of out.new) }
+    ensures whole { result ≡ done → DecodesAll text.now (written_lines out.new) }
+    ensures bad { result ≡ bad_level → DecodesToBadByte place.new text.now (written_lines out.new) }
     ensures answers { (result ≡ done) ⊎ (result ≡ bad_level) ⊎ (result ≡ no_room) }
-    ensures room { length text.now ≤ 2 ^ 63 → result ≡ no_room → is_full out.new ≡ true }
+    ensures room { length text.now ≤ 2 ^ 63 → result ≡ no_room → is_overfull out.new ≡ true }
 {
     out.clear();
     decode_onto(&mut Text::new(text), out, place).code()
@@ -31,10 +31,10 @@ pub extern "C" fn page_decode(text: &[u8], out: &mut Lines, place: &mut u64) -> 
 /// bad one.
 #[unsafe(no_mangle)]
 pub extern "C" fn page_decode_levels(levels: &[u8], out: &mut Lines, place: &mut u64) -> u8
-    ensures whole { result ≡ done → DecodesAll (trace_text levels.now) (lines_of out.new) }
-    ensures bad { result ≡ bad_level → DecodesToBadByte place.new (trace_text levels.now) (lines_of out.new) }
+    ensures whole { result ≡ done → DecodesAll (trace_text levels.now) (written_lines out.new) }
+    ensures bad { result ≡ bad_level → DecodesToBadByte place.new (trace_text levels.now) (written_lines out.new) }
     ensures answers { (result ≡ done) ⊎ (result ≡ bad_level) ⊎ (result ≡ no_room) }
-    ensures room { length levels.now ≤ 2 ^ 63 → result ≡ no_room → is_full out.new ≡ true }
+    ensures room { length levels.now ≤ 2 ^ 63 → result ≡ no_room → is_overfull out.new ≡ true }
 {
     out.clear();
     decode_onto(&mut Levels::new(levels), out, place).code()

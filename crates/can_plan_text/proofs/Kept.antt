@@ -13,7 +13,7 @@ use Rattle.can_plan.specs.Messages.{ArePeriodic, IsMessageSet, most_hits}
 use Rattle.can_plan_text.specs.declared.plan.Plan.{Plan}
 use Rattle.can_plan_text.specs.declared.plan.Planned.{Planned}
 use Rattle.can_plan_text.specs.declared.verdict.Verdict.{Verdict}
-use Rattle.can_plan_text.specs.Answers.{AreVerdicts, IsPlanVerdict, Keeps, hit_rate_of, is_late, limit}
+use Rattle.can_plan_text.specs.Answers.{AreVerdicts, IsPlanVerdict, KeepsDeadline, hit_rate_of, is_late, limit}
 use Rattle.can_plan_text.specs.Plans.{messages_of}
 use Rattle.can_plan_text.proofs.InOrder.{message-at}
 
@@ -74,6 +74,6 @@ module _ (plan : Plan) (place : ℕ) (within : place < length plan.messages.item
         ];
         kept = λ set n u there. elim (last-cases vs v u n there) [
           | inl early ↦ before.kept set n u early
-          | inr last ↦ subst (λ (w : Verdict). Keeps plan w) last.1 (moved.2 set)
+          | inr last ↦ subst (λ (w : Verdict). KeepsDeadline plan w) last.1 (moved.2 set)
         ];
       }

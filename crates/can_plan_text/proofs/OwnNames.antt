@@ -9,7 +9,7 @@ use Rattle.std.proofs.lemmas.Slice.Eq.{bytes_eq-Decides}
 use Rattle.can_plan_text.specs.declared.name.Name.{Name}
 use Rattle.can_bus.proofs.Members.{Stands}
 use Rattle.can_plan_text.specs.declared.plan.Planned.{Planned}
-use Rattle.can_plan_text.specs.Names.{HasName, bytes_of}
+use Rattle.can_plan_text.specs.Names.{HasName, name_bytes}
 use Rattle.can_plan_text.specs.Order.{HaveOwnNames, is_one_name}
 use Rattle.can_plan_text.proofs.InOrder.{stands-taken, taken-stands}
 
@@ -18,12 +18,12 @@ use Rattle.can_plan_text.proofs.InOrder.{stands-taken, taken-stands}
 pub one-name-from : (m n : Option Name) (text : List ℕ) → HasName m text → HasName n text → is_one_name m n ≡ true
 one-name-from None n text a b = absurd a
 one-name-from (Some x) None text a b = absurd b
-one-name-from (Some x) (Some y) text a b = (bytes_eq-Decides (bytes_of y) (bytes_of x)).1 (b ∙ sym a)
+one-name-from (Some x) (Some y) text a b = (bytes_eq-Decides (name_bytes y) (name_bytes x)).1 (b ∙ sym a)
 
 pub one-name-to : (m n : Option Name) → is_one_name m n ≡ true → (text : List ℕ) × HasName m text × HasName n text
 one-name-to None n e = absurd (cc)
 one-name-to (Some x) None e = absurd (cc)
-one-name-to (Some x) (Some y) e = (bytes_of x, refl, (bytes_eq-Decides (bytes_of y) (bytes_of x)).0 e)
+one-name-to (Some x) (Some y) e = (name_bytes x, refl, (bytes_eq-Decides (name_bytes y) (name_bytes x)).0 e)
 
 -- ---- among those before
 

@@ -15,7 +15,7 @@ use Rattle.can_plan_text.specs.declared.field.PlanField.{PlanField}
 use Rattle.can_plan_text.specs.declared.plan.Planned.{Planned}
 use Rattle.can_plan_text.specs.Names.{HasName, SaysName}
 use Rattle.can_plan_text.specs.Order.{HaveOwnFields, HaveOwnNames, IsNamedAgain, IsRepeated, is_one_name}
-use Rattle.can_plan_text.specs.Plans.{IsNew, IsNewName, NamesHead, SaysHead, SaysMessage, SaysText, message_demands, messages_in, name_demands, new_demands, plan_demands, rate_in, top_demands}
+use Rattle.can_plan_text.specs.Plans.{IsHeadText, IsNew, IsNewName, NamesHead, SaysHead, SaysMessage, SaysText, message_demands, messages_in, name_demands, new_demands, plan_demands, rate_in, plan_top_demands}
 use Rattle.can_plan_text.proofs.OwnNames.{one-name-from, one-name-to}
 
 -- ---- pairs
@@ -26,7 +26,8 @@ paired-at R (z ∷ xs) [] n x p is = absurd p
 paired-at R (z ∷ xs) (y ∷ ys) zero x p is = let e : z ≡ x = (let s : Some z ≡ Some x = is in cc) in (y, refl, subst (λ w. R w y) e p.0)
 paired-at R (z ∷ xs) (y ∷ ys) (suc n) x p is = paired-at R xs ys n x p.1 is
 
-paired-back : {A B : Type 0} (R : A → B → Type 0) (xs : List A) (ys : List B) (n : ℕ) (y : B) → ArePaired R xs ys → slice_get ys n ≡ Some y → (x : A) × (slice_get xs n ≡ Some x) × R x y
+-- what is paired with an element
+pub paired-back : {A B : Type 0} (R : A → B → Type 0) (xs : List A) (ys : List B) (n : ℕ) (y : B) → ArePaired R xs ys → slice_get ys n ≡ Some y → (x : A) × (slice_get xs n ≡ Some x) × R x y
 paired-back R xs [] n y p is = absurd (cc)
 paired-back R [] (z ∷ ys) n y p is = absurd p
 paired-back R (x ∷ xs) (z ∷ ys) zero y p is = let e : z ≡ y = (let s : Some z ≡ Some y = is in cc) in (x, refl, subst (λ w. R x w) e p.0)
@@ -53,10 +54,14 @@ module _ {F A : Type 0} (one : ℕ → A → Demands F) where
 
 -- ---- heads
 
+-- a text is the head of one frame
+pub one-head_text : (text : List ℕ) (f g : Parts) → IsHeadText text f → IsHeadText text g → f ≡ g
+one-head_text text f g a b = same_frame f g a.0 b.0 (a.1 ∙ sym b.1)
+
 one-head : (h : Data) (f g : Parts) → SaysHead h f → SaysHead h g → f ≡ g
 one-head h f g a b =
     let texts : a.0 ≡ b.0 = (let e : string a.0 ≡ string b.0 = sym a.1 ∙ b.1 in cc) in
-    same_frame f g a.2.0 b.2.0 (a.2.1 ∙ ap (λ text. text ++ codes " 0") texts ∙ sym b.2.1)
+    one-head_text b.0 f g (subst (λ (text : List ℕ). IsHeadText text f) texts a.2) b.2
 
 one-required : (o : Option Data) (f g : Parts) → IsRequired (λ h. SaysHead h f) o → IsRequired (λ h. SaysHead h g) o → f ≡ g
 one-required None f g a b = absurd a
@@ -155,8 +160,8 @@ module _ (rate : ℕ) (ds : List Data) (listed : List Planned) (paired : ArePair
 -- ---- the document
 
 module _ (document : Data) (ds : List Data) (rate : ℕ) (are : ds ≡ messages_in document) (said : rate ≡ rate_in document) where
-  pub top-unmet : (wrong : PlanField) → IsFirstUnmet wrong (top_demands document) → IsFirstUnmet wrong (plan_demands document)
-  top-unmet wrong unmet = unmet-first wrong (top_demands document) _ unmet
+  pub top-unmet : (wrong : PlanField) → IsFirstUnmet wrong (plan_top_demands document) → IsFirstUnmet wrong (plan_demands document)
+  top-unmet wrong unmet = unmet-first wrong (plan_top_demands document) _ unmet
 
   abbrev listed_demands : Demands PlanField
   listed_demands = demands_on_each (message_demands rate) 0 ds
@@ -164,12 +169,12 @@ module _ (document : Data) (ds : List Data) (rate : ℕ) (are : ds ≡ messages_
   to-document : (P : Demands PlanField → Type 0) → P listed_demands → P (demands_on_each (message_demands (rate_in document)) 0 (messages_in document))
   to-document P p = subst (λ (r : ℕ). P (demands_on_each (message_demands r) 0 (messages_in document))) said (subst (λ (xs : List Data). P (demands_on_each (message_demands rate) 0 xs)) are p)
 
-  pub listed-unmet : (wrong : PlanField) → AllMet (top_demands document) → IsFirstUnmet wrong listed_demands → IsFirstUnmet wrong (plan_demands document)
+  pub listed-unmet : (wrong : PlanField) → AllMet (plan_top_demands document) → IsFirstUnmet wrong listed_demands → IsFirstUnmet wrong (plan_demands document)
   listed-unmet wrong top unmet =
-      unmet-later wrong (top_demands document) _ top
+      unmet-later wrong (plan_top_demands document) _ top
       (unmet-first wrong (demands_on_each (message_demands (rate_in document)) 0 (messages_in document)) _ (to-document (λ d. IsFirstUnmet wrong d) unmet))
 
-  module _ (top : AllMet (top_demands document)) (met : AllMet listed_demands) (listed : List Planned) (paired : ArePaired (SaysMessage rate) ds listed) where
+  module _ (top : AllMet (plan_top_demands document)) (met : AllMet listed_demands) (listed : List Planned) (paired : ArePaired (SaysMessage rate) ds listed) where
     abbrev each_field : Demands PlanField
     each_field = demands_on_each (new_demands (messages_in document)) 0 (messages_in document)
 
@@ -179,7 +184,7 @@ module _ (document : Data) (ds : List Data) (rate : ℕ) (are : ds ≡ messages_
     -- what is told behind what is demanded of each message by itself
     behind-each : (wrong : PlanField) → IsFirstUnmet wrong (followed each_field each_name) → IsFirstUnmet wrong (plan_demands document)
     behind-each wrong unmet =
-        unmet-later wrong (top_demands document) _ top
+        unmet-later wrong (plan_top_demands document) _ top
         (unmet-later wrong (demands_on_each (message_demands (rate_in document)) 0 (messages_in document)) (followed each_field each_name) (to-document AllMet met) unmet)
 
     fields-met : HaveOwnFields (length listed) listed → AllMet each_field
@@ -199,7 +204,7 @@ module _ (document : Data) (ds : List Data) (rate : ℕ) (are : ds ≡ messages_
 
     pub plan-met : HaveOwnFields (length listed) listed → HaveOwnNames (length listed) listed → AllMet (plan_demands document)
     plan-met apart own =
-        met-followed (top_demands document) _ top
+        met-followed (plan_top_demands document) _ top
         (met-followed (demands_on_each (message_demands (rate_in document)) 0 (messages_in document)) _ (to-document AllMet met)
         (met-followed each_field each_name (fields-met apart)
         (subst (λ (xs : List Data). AllMet (demands_on_each (name_demands xs) 0 xs)) are (all-named rate ds listed paired own))))

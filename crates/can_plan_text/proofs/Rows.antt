@@ -4,7 +4,7 @@ use Rattle.std.specs.List.{list_all}
 use Rattle.std.specs.Prelude.{codes}
 use Rattle.toml.specs.Data.{integer}
 use Rattle.can_plan.specs.Margins.{is_above}
-use Rattle.can_plan_text.specs.Names.{IsName, is_name_byte}
+use Rattle.can_plan_text.specs.Names.{IsMessageName, is_name_byte}
 use Rattle.can_plan_text.specs.Plans.{IsPeriod, IsSpacing}
 use Rattle.can_plan_text.specs.Report.{end_text, outcome_text, quoted_text}
 use Rattle.can_plan_text.specs.Times.{bits_down, bits_up}
@@ -65,7 +65,7 @@ late-told : outcome_text 131 (Some 132) ≡ codes " late"
 late-told = refl
 
 -- a name: the first and the last characters that may stand in it, and their neighbours, which may not
-named-all : IsName (codes " !#[]~")
+named-all : IsMessageName (codes " !#[]~")
 named-all = let six : length (codes " !#[]~") ≡ 6 = refl in record { some = omega (arith, six); few = omega (arith, six); printed = refl }
 
 named-none : list_all is_name_byte (31 ∷ []) ≡ false

@@ -40,14 +40,14 @@ pub record IsPlanVerdict (plan : Plan) (place : ℕ) (v : Verdict) : Type 0 wher
 
 -- A message that isn't late meets its deadline: the wire of each of its frames ends so long behind its release, or
 -- sooner, on every course of the bus on which releases keep to the messages, and hits to their rate.
-abbrev pub Keeps : Plan → Verdict → Type 0
-Keeps plan v = is_late v ≡ false → EndAlways (most_of plan) (messages_of plan.messages.items) v.planned.message v.planned.deadline
+abbrev pub KeepsDeadline : Plan → Verdict → Type 0
+KeepsDeadline plan v = is_late v ≡ false → EndAlways (most_of plan) (messages_of plan.messages.items) v.planned.message v.planned.deadline
 
 -- all that is answered of the messages before a place
 pub record AreVerdicts (plan : Plan) (place : ℕ) (verdicts : List Verdict) : Type 0 where
   pub same : map (λ v. v.planned) verdicts ≡ take place plan.messages.items
   pub each : (n : ℕ) (v : Verdict) → slice_get verdicts n ≡ Some v → IsPlanVerdict plan n v
-  pub kept : IsMessageSet (messages_of plan.messages.items) → (n : ℕ) (v : Verdict) → slice_get verdicts n ≡ Some v → Keeps plan v
+  pub kept : IsMessageSet (messages_of plan.messages.items) → (n : ℕ) (v : Verdict) → slice_get verdicts n ≡ Some v → KeepsDeadline plan v
 
 -- for how long the rate of hits is borne, where the document has one
 abbrev pub IsBorneFor : Option HitRate → Option Borne → Type 0

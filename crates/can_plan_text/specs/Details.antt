@@ -17,9 +17,9 @@ use Rattle.can_plan_text.specs.declared.plan.Plan.{Plan}
 use Rattle.can_plan_text.specs.declared.plan.Planned.{Planned}
 use Rattle.can_plan_text.specs.declared.verdict.Analysis.{Analysis}
 use Rattle.can_plan_text.specs.declared.verdict.Verdict.{Verdict}
-use Rattle.can_plan_text.specs.Answers.{IsAnalysis, Keeps, hit_rate_of, late_in, limit, most_of}
+use Rattle.can_plan_text.specs.Answers.{IsAnalysis, KeepsDeadline, hit_rate_of, late_in, limit, most_of}
 use Rattle.can_plan_text.specs.Plans.{IsPlanText, messages_of}
-use Rattle.can_plan_text.specs.Report.{IsAnswer, borne_line, end_text, first_line, head_text, last_line, message_line, slack_text}
+use Rattle.can_plan_text.specs.Report.{IsAnswer, borne_line, end_text, first_line, message_head, last_line, message_line, slack_text}
 use Rattle.can_plan_text.specs.Times.{time_down, time_up}
 
 -- ---- which frame is the latest
@@ -49,7 +49,8 @@ deadlines_of planned = map (λ p. p.deadline) planned
 
 -- how much more of this the network bears; nothing is told where a message may be late as it is
 abbrev pub IsMarginOf : Plan → Strain → Option Margin → Type 0
-IsMarginOf plan strain margin = MatchOption margin (¬ MeetDeadlines (hit_rate_of plan.errors) limit (messages_of plan.messages.items) (deadlines_of plan.messages.items))
+IsMarginOf plan strain margin =
+    MatchOption margin (¬ MeetDeadlines (hit_rate_of plan.errors) limit (messages_of plan.messages.items) (deadlines_of plan.messages.items))
     (IsMargin strain (hit_rate_of plan.errors) limit (messages_of plan.messages.items) (deadlines_of plan.messages.items))
 
 pub record IsLeft (plan : Plan) (left : Left) : Type 0 where
@@ -63,8 +64,8 @@ abbrev pub number_line : List ℕ → ℕ → List ℕ
 number_line word n = word ++ (decimal n ++ codes "\n")
 
 -- `  hits 2 bits 270`
-abbrev pub bits_line : List ℕ → ℕ → ℕ → List ℕ
-bits_line word n bits = word ++ (decimal n ++ number_line (codes " bits ") bits)
+abbrev pub cost_line : List ℕ → ℕ → ℕ → List ℕ
+cost_line word n bits = word ++ (decimal n ++ number_line (codes " bits ") bits)
 
 -- ` slack 40 ok`, in microseconds rounded down, or ` late`
 abbrev pub time_outcome : ℕ → ℕ → ℕ → List ℕ
@@ -84,7 +85,7 @@ time_lines rate deadline bound = if rate == 0 then [] else time_line rate deadli
 unfoldable pub before_line : ℕ → Planned → List ℕ
 before_line delay p =
     codes "  before frames " ++ (decimal (arrivals p.message (delay + 1)) ++ (codes " bits " ++ (decimal (arrivals p.message (delay + 1) * p.message.longest) ++
-    (codes " of " ++ (head_text p ++ end_text p.name)))))
+    (codes " of " ++ (message_head p ++ end_text p.name)))))
 
 -- `  latest frame 1 start 730`
 abbrev pub latest_line : Latest → List ℕ
@@ -92,11 +93,15 @@ latest_line l = codes "  latest frame " ++ (decimal l.number ++ number_line (cod
 
 -- jitter, blocking, and its own frames before it
 unfoldable pub own_lines : Verdict → Latest → List ℕ
-own_lines v l = number_line (codes "  jitter ") v.planned.message.jitter ++ (number_line (codes "  blocking ") v.blocking ++ bits_line (codes "  earlier frames ") l.number l.earlier)
+own_lines v l =
+    number_line (codes "  jitter ") v.planned.message.jitter ++ (number_line (codes "  blocking ") v.blocking ++
+    cost_line (codes "  earlier frames ") l.number l.earlier)
 
 -- hits, its wire, and the periods
 unfoldable pub last_lines : Verdict → Latest → List ℕ
-last_lines v l = bits_line (codes "  hits ") l.hits l.hits_cost ++ (number_line (codes "  wire ") (v.planned.message.longest - 3) ++ bits_line (codes "  less periods ") l.number l.later)
+last_lines v l =
+    cost_line (codes "  hits ") l.hits l.hits_cost ++ (number_line (codes "  wire ") (v.planned.message.longest - 3) ++
+    cost_line (codes "  less periods ") l.number l.later)
 
 -- the parts of a bound
 abbrev pub part_lines : List Planned → Verdict → Latest → List ℕ
@@ -112,18 +117,18 @@ abbrev pub detail_lines : Plan → Detail → List ℕ
 detail_lines plan d = message_line d.verdict ++ latest_lines plan.rate (take d.place plan.messages.items) d.verdict d.latest
 
 -- the message at a place, if one is told
-abbrev pub told_at : List Planned → Option ℕ → Option Planned
-told_at planned None = None
-told_at planned (Some place) = slice_get planned place
+abbrev pub planned_at : List Planned → Option ℕ → Option Planned
+planned_at planned None = None
+planned_at planned (Some place) = slice_get planned place
 
 -- ` 2 per cent late S 300 D 7`, and its name: with so much the first message that may be late
 abbrev pub late_text : List ℕ → ℕ → Option Planned → List ℕ
 late_text unit more None = codes "\n"
-late_text unit more (Some p) = codes " " ++ (decimal more ++ (unit ++ (codes " late " ++ (head_text p ++ end_text p.name))))
+late_text unit more (Some p) = codes " " ++ (decimal more ++ (unit ++ (codes " late " ++ (message_head p ++ end_text p.name))))
 
 -- `shorter periods 1 per cent ok`, and the first message that may be late with one more
 unfoldable pub margin_line : List ℕ → List ℕ → List Planned → Margin → List ℕ
-margin_line word unit planned m = word ++ (decimal m.most ++ (unit ++ (codes " ok" ++ late_text unit (m.most + 1) (told_at planned m.late))))
+margin_line word unit planned m = word ++ (decimal m.most ++ (unit ++ (codes " ok" ++ late_text unit (m.most + 1) (planned_at planned m.late))))
 
 -- where all are in time as they are
 abbrev pub margin_lines : List ℕ → List ℕ → List Planned → Option Margin → List ℕ
@@ -131,7 +136,9 @@ margin_lines word unit planned None = []
 margin_lines word unit planned (Some m) = margin_line word unit planned m
 
 abbrev pub left_lines : List Planned → Left → List ℕ
-left_lines planned left = margin_lines (codes "shorter periods ") (codes " per cent") planned left.periods ++ margin_lines (codes "more hits ") [] planned left.hits
+left_lines planned left =
+    margin_lines (codes "shorter periods ") (codes " per cent") planned left.periods ++
+    margin_lines (codes "more hits ") [] planned left.hits
 
 -- the whole answer
 abbrev pub details_text : Plan → Analysis → List Detail → Left → List ℕ
@@ -152,7 +159,7 @@ pub record IsDetailedAnswer (input output : List ℕ) (late : ℕ) : Type 0 wher
   pub leaves : IsLeft plan left
   pub written : output ≡ details_text plan analysis details left
   pub counted : late ≡ late_in analysis.verdicts.items
-  pub kept : (place : ℕ) (v : Verdict) → slice_get analysis.verdicts.items place ≡ Some v → Keeps plan v
+  pub kept : (place : ℕ) (v : Verdict) → slice_get analysis.verdicts.items place ≡ Some v → KeepsDeadline plan v
 
 -- the answer in a form
 abbrev pub IsAnswerIn : Form → List ℕ → List ℕ → ℕ → Type 0

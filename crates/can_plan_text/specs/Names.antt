@@ -9,23 +9,23 @@ abbrev pub is_name_byte : ℕ → Bool
 is_name_byte byte = (nat_le 32 byte && nat_le byte 33) || ((nat_le 35 byte && nat_le byte 91) || (nat_le 93 byte && nat_le byte 126))
 
 -- 1 to 64 of them
-pub record IsName (text : List ℕ) : Type 0 where
+pub record IsMessageName (text : List ℕ) : Type 0 where
   pub some : 0 < length text
   pub few : length text ≤ 64
   pub printed : list_all is_name_byte text ≡ true
 
 -- a string that is a name
 abbrev pub IsNameValue : Data → Type 0
-IsNameValue d = (text : List ℕ) × (d ≡ string text) × IsName text
+IsNameValue d = (text : List ℕ) × (d ≡ string text) × IsMessageName text
 
 -- the characters of a name
-abbrev pub bytes_of : Name → List ℕ
-bytes_of name = take name.size name.store
+abbrev pub name_bytes : Name → List ℕ
+name_bytes name = take name.size name.store
 
 -- the name that a message has
 abbrev pub HasName : Option Name → List ℕ → Type 0
 HasName None text = ⊥
-HasName (Some name) text = bytes_of name ≡ text
+HasName (Some name) text = name_bytes name ≡ text
 
 -- what a field says of it: where it is left out, the message has none
 abbrev pub SaysName : Option Data → Option Name → Type 0

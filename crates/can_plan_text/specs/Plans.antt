@@ -1,8 +1,8 @@
 -- Networks in documents: what a document has to meet, in the order in which it is tested, and which network it says.
 -- (docs/PLANNING.md, "`canplan`")
-use Rattle.std.specs.Prelude.{ℕ, ◌≡◌, ◌≢◌, ◌<◌, ◌≤◌, pos, true, List, [], ◌∷◌, ◌++◌, length, map, Option, Some, None, slice_get, codes}
+use Rattle.std.specs.Prelude.{ℕ, ◌≡◌, ◌≢◌, ◌<◌, ◌≤◌, true, List, [], ◌∷◌, ◌++◌, length, map, Option, Some, None, slice_get, codes}
 use Rattle.std.specs.List.Sorted.{IsPermutation}
-use Rattle.toml.specs.Data.{Data, string, integer}
+use Rattle.toml.specs.Data.{Data, string}
 use Rattle.can_frame.specs.Arbitration.{arbitration_field}
 use Rattle.can_frame.specs.Parts.{Parts, IsFrame}
 use Rattle.can_frame.specs.Text.{frame_text}
@@ -12,7 +12,7 @@ use Rattle.can_plan.specs.FramesOf.{IsLongestBusy}
 use Rattle.can_plan.specs.Messages.{IsMessageSet}
 use Rattle.document_values.specs.Demands.{Demands, no_demands, demand, followed, demands_on_each, AllMet}
 use Rattle.document_values.specs.Refusals.{IsWrongField}
-use Rattle.document_values.specs.Values.{are_known, elements, elements_in, members_in, named, ArePaired, IsArray, IsDocument, IsNumber, IsOptional, IsRequired, IsTable, IsUpTo, SaysNumber}
+use Rattle.document_values.specs.Values.{are_known, elements, elements_in, members_in, named, field_number, ArePaired, IsArray, IsDocument, IsNumber, IsOptional, IsRequired, IsTable, IsUpTo, SaysNumber}
 use Rattle.can_plan_text.specs.declared.field.PlanField.{PlanField}
 use Rattle.can_plan_text.specs.declared.field.PlanField.TheVariants as field
 use Rattle.can_plan_text.specs.declared.field.MessageField.TheVariants as of_message
@@ -24,28 +24,24 @@ use Rattle.can_plan_text.specs.Times.{bits_down, bits_up}
 
 -- ---- the fields at the top
 
-abbrev pub top_fields : List (List ℕ)
-top_fields = codes "version" ∷ codes "rate" ∷ codes "errors" ∷ codes "message" ∷ []
+abbrev pub plan_fields : List (List ℕ)
+plan_fields = codes "version" ∷ codes "rate" ∷ codes "errors" ∷ codes "message" ∷ []
 
 -- how many bits a second there may be
 abbrev pub most_rate : ℕ
 most_rate = 1000000
 
 -- how long a time may be
-abbrev pub most_time : ℕ
-most_time = 4294967295
+abbrev pub longest_time : ℕ
+longest_time = 4294967295
 
--- the rate that a field says, and 0 where it says none: its times are in bit times then
-abbrev pub rate_said : Option Data → ℕ
-rate_said (Some (integer (pos n))) = n
-rate_said _ = 0
-
+-- the rate of a document, and 0 where it says none: its times are in bit times then
 abbrev pub rate_in : Data → ℕ
-rate_in document = rate_said (named (codes "rate") document)
+rate_in document = field_number (named (codes "rate") document)
 
 abbrev pub rate_demands : Data → Demands PlanField
 rate_demands document =
-    demand field.Unknown (are_known top_fields (members_in document) ≡ true)
+    demand field.Unknown (are_known plan_fields (members_in document) ≡ true)
     (demand field.Version (IsRequired (IsNumber 1) (named (codes "version") document))
     (demand field.Rate (IsOptional (IsUpTo most_rate) (named (codes "rate") document))
     no_demands))
@@ -57,7 +53,7 @@ error_fields = codes "burst" ∷ codes "spacing" ∷ []
 
 -- a time that is 0, or a bit time at least
 abbrev pub IsSpacing : ℕ → Data → Type 0
-IsSpacing rate d = (n : ℕ) × IsNumber n d × (n ≤ most_time) × (0 < n → 0 < bits_down rate n)
+IsSpacing rate d = (n : ℕ) × IsNumber n d × (n ≤ longest_time) × (0 < n → 0 < bits_down rate n)
 
 abbrev pub table_demands : ℕ → Data → Demands PlanField
 table_demands rate d =
@@ -88,21 +84,21 @@ IsHead d = (f : Parts) × SaysHead d f
 
 -- a time that is a bit time at least
 abbrev pub IsPeriod : ℕ → Data → Type 0
-IsPeriod rate d = (n : ℕ) × IsNumber n d × (n ≤ most_time) × (0 < bits_down rate n)
+IsPeriod rate d = (n : ℕ) × IsNumber n d × (n ≤ longest_time) × (0 < bits_down rate n)
 
-abbrev pub fields_demands : ℕ → ℕ → Data → Demands PlanField
-fields_demands rate place d =
+abbrev pub message_fields_demands : ℕ → ℕ → Data → Demands PlanField
+message_fields_demands rate place d =
     demand (field.Message place of_message.Unknown) (are_known message_fields (members_in d) ≡ true)
     (demand (field.Message place of_message.Frame) (IsRequired IsHead (named (codes "frame") d))
     (demand (field.Message place of_message.Dlc) (IsOptional (IsUpTo 15) (named (codes "dlc") d))
     (demand (field.Message place of_message.Period) (IsRequired (IsPeriod rate) (named (codes "period") d))
-    (demand (field.Message place of_message.Jitter) (IsOptional (IsUpTo most_time) (named (codes "jitter") d))
-    (demand (field.Message place of_message.Deadline) (IsOptional (IsUpTo most_time) (named (codes "deadline") d))
+    (demand (field.Message place of_message.Jitter) (IsOptional (IsUpTo longest_time) (named (codes "jitter") d))
+    (demand (field.Message place of_message.Deadline) (IsOptional (IsUpTo longest_time) (named (codes "deadline") d))
     (demand (field.Message place of_message.Name) (IsOptional IsNameValue (named (codes "name") d))
     no_demands))))))
 
 abbrev pub message_demands : ℕ → ℕ → Data → Demands PlanField
-message_demands rate place d = demand (field.Message place of_message.Table) (IsTable d) (fields_demands rate place d)
+message_demands rate place d = demand (field.Message place of_message.Table) (IsTable d) (message_fields_demands rate place d)
 
 -- a message's table names the identifier and the kind of this frame
 abbrev pub NamesHead : Data → Parts → Type 0
@@ -110,7 +106,8 @@ NamesHead d f = IsRequired (λ h. SaysHead h f) (named (codes "frame") d)
 
 -- the frames of a message have another arbitration field than those of each message before this place
 abbrev pub IsNew : List Data → ℕ → Data → Type 0
-IsNew ds place d = (n : ℕ) (e : Data) (f g : Parts) → n < place → slice_get ds n ≡ Some e → NamesHead e f → NamesHead d g → arbitration_field f ≢ arbitration_field g
+IsNew ds place d = (n : ℕ) (e : Data) (f g : Parts) → n < place → slice_get ds n ≡ Some e →
+    NamesHead e f → NamesHead d g → arbitration_field f ≢ arbitration_field g
 
 abbrev pub new_demands : List Data → ℕ → Data → Demands PlanField
 new_demands ds place d = demand (field.Message place of_message.Repeated) (IsNew ds place d) no_demands
@@ -135,8 +132,8 @@ IsMessageArray d = IsArray d × (1 ≤ length (elements d)) × (length (elements
 abbrev pub messages_in : Data → List Data
 messages_in document = elements_in (named (codes "message") document)
 
-abbrev pub top_demands : Data → Demands PlanField
-top_demands document =
+abbrev pub plan_top_demands : Data → Demands PlanField
+plan_top_demands document =
     followed (rate_demands document)
     (followed (errors_demands (rate_in document) (named (codes "errors") document))
     (demand field.Messages (IsRequired IsMessageArray (named (codes "message") document)) no_demands))
@@ -144,7 +141,7 @@ top_demands document =
 -- what a document has to meet
 abbrev pub plan_demands : Data → Demands PlanField
 plan_demands document =
-    followed (top_demands document)
+    followed (plan_top_demands document)
     (followed (demands_on_each (message_demands (rate_in document)) 0 (messages_in document))
     (followed (demands_on_each (new_demands (messages_in document)) 0 (messages_in document))
     (demands_on_each (name_demands (messages_in document)) 0 (messages_in document))))

@@ -9,8 +9,8 @@ use Rattle.can_plan_text.specs.declared.verdict.Analysis.{Analysis}
 use Rattle.can_plan_text.specs.declared.verdict.Verdict.{Verdict}
 use Rattle.can_plan_text.specs.declared.plan.Plan.{Plan}
 use Rattle.can_plan_text.specs.declared.plan.Planned.{Planned}
-use Rattle.can_plan_text.specs.Answers.{IsAnalysis, Keeps, late_in}
-use Rattle.can_plan_text.specs.Names.{bytes_of}
+use Rattle.can_plan_text.specs.Answers.{IsAnalysis, KeepsDeadline, late_in}
+use Rattle.can_plan_text.specs.Names.{name_bytes}
 use Rattle.can_plan_text.specs.Plans.{IsPlanText}
 
 -- ---- the load
@@ -20,8 +20,8 @@ abbrev pub share_of : Verdict → ℕ
 share_of v = (v.planned.message.longest * 1000000000 + v.planned.message.period - 1) / v.planned.message.period
 
 -- all of them together, in thousandths, rounded down
-abbrev pub load_of : List Verdict → ℕ
-load_of verdicts = sum_by share_of verdicts / 1000000
+abbrev pub load_thousandths : List Verdict → ℕ
+load_thousandths verdicts = sum_by share_of verdicts / 1000000
 
 -- thousandths with their point, as 0.972
 abbrev pub thousandths : ℕ → List ℕ
@@ -30,8 +30,8 @@ thousandths n = decimal (n / 1000) ++ (codes "." ++ (decimal (n / 100 % 10) ++ (
 -- ---- lines
 
 -- `S 100 D 7`: the text of the head up to its last digit, which is its DLC, and the DLC of the message
-abbrev pub head_text : Planned → List ℕ
-head_text p = take (length (frame_text p.head) - 1) (frame_text p.head) ++ decimal p.dlc
+abbrev pub message_head : Planned → List ℕ
+message_head p = take (length (frame_text p.head) - 1) (frame_text p.head) ++ decimal p.dlc
 
 -- `246`, or `none`
 abbrev pub bound_text : Option ℕ → List ℕ
@@ -58,24 +58,24 @@ quoted_text name = codes " name \"" ++ (name ++ codes "\"\n")
 -- the end of the line, behind the name where there is one
 abbrev pub end_text : Option Name → List ℕ
 end_text None = codes "\n"
-end_text (Some name) = quoted_text (bytes_of name)
+end_text (Some name) = quoted_text (name_bytes name)
 
 -- `S 100 D 7 longest 125 blocking 124`, bound and deadline, and the name
 unfoldable pub message_line : Verdict → List ℕ
 message_line v =
-    head_text v.planned ++ (codes " longest " ++ (decimal v.planned.message.longest ++
+    message_head v.planned ++ (codes " longest " ++ (decimal v.planned.message.longest ++
     (codes " blocking " ++ (decimal v.blocking ++ (times_text v.planned.deadline v.bound ++ end_text v.planned.name)))))
 
 -- `network messages 3 load 0.972 rate 125000`
 unfoldable pub first_line : ℕ → List Verdict → List ℕ
 first_line rate verdicts =
-    codes "network messages " ++ (decimal (length verdicts) ++ (codes " load " ++ (thousandths (load_of verdicts) ++
+    codes "network messages " ++ (decimal (length verdicts) ++ (codes " load " ++ (thousandths (load_thousandths verdicts) ++
     (codes " rate " ++ (decimal rate ++ codes "\n")))))
 
 -- `load 0.972 late 1 of 3`
 unfoldable pub last_line : List Verdict → List ℕ
 last_line verdicts =
-    codes "load " ++ (thousandths (load_of verdicts) ++ (codes " late " ++ (decimal (late_in verdicts) ++
+    codes "load " ++ (thousandths (load_thousandths verdicts) ++ (codes " late " ++ (decimal (late_in verdicts) ++
     (codes " of " ++ (decimal (length verdicts) ++ codes "\n")))))
 
 -- `hits at most 15 within 149999`, where the document has errors
@@ -86,8 +86,8 @@ borne_line (Some (For long)) = codes "hits at most 15 within " ++ (decimal long 
 borne_line (Some Never) = codes "hits above 15 at once\n"
 
 -- the whole answer
-abbrev pub report_text : ℕ → Analysis → List ℕ
-report_text rate analysis =
+abbrev pub plan_report : ℕ → Analysis → List ℕ
+plan_report rate analysis =
     first_line rate analysis.verdicts.items ++ (flat_map message_line analysis.verdicts.items ++
     (last_line analysis.verdicts.items ++ borne_line analysis.borne))
 
@@ -98,6 +98,6 @@ pub record IsAnswer (input output : List ℕ) (late : ℕ) : Type 0 where
   pub said : IsPlanText input plan
   pub analysis : Analysis
   pub answered : IsAnalysis plan analysis
-  pub written : output ≡ report_text plan.rate analysis
+  pub written : output ≡ plan_report plan.rate analysis
   pub counted : late ≡ late_in analysis.verdicts.items
-  pub kept : (place : ℕ) (v : Verdict) → slice_get analysis.verdicts.items place ≡ Some v → Keeps plan v
+  pub kept : (place : ℕ) (v : Verdict) → slice_get analysis.verdicts.items place ≡ Some v → KeepsDeadline plan v

@@ -1,7 +1,7 @@
 //! The answer to a network with details, as text.
 ghost use Rattle.std.specs.Prelude.{◌≡◌, ◌+◌, ◌-◌, ◌++◌, ◌^◌, ◌<◌, ◌≤◌, OnOk, codes, take};
 ghost use Rattle.std.specs.List.{flat_map};
-ghost use Rattle.can_plan_text.specs.Details.{before_line, bits_line, detail_lines, details_text, last_lines, latest_line, latest_lines, number_line, own_lines, part_lines, time_line, time_lines, time_outcome};
+ghost use Rattle.can_plan_text.specs.Details.{before_line, cost_line, detail_lines, details_text, last_lines, latest_line, latest_lines, number_line, own_lines, part_lines, time_line, time_lines, time_outcome};
 
 use crate::detail::Detail;
 use crate::left::Left;
@@ -187,7 +187,7 @@ fn wire(longest: u16) -> u64
 
 /// Appends a word, a number, and how many bit times that is.
 fn push_bits(out: &mut Vec<u8>, word: &[u8], number: u64, bits: u64) -> Result<(), AllocError>
-    ensures { OnOk result (out.new.items ≡ out.old.items ++ bits_line word.now number bits) }
+    ensures { OnOk result (out.new.items ≡ out.old.items ++ cost_line word.now number bits) }
 {
     push_named(out, word, number)?;
     push_ended(out, b" bits ", bits)

@@ -6,7 +6,7 @@ ghost use Rattle.can_plan_text.specs.declared.field.PlanField.{PlanField as Wron
 ghost use Rattle.document_values.specs.Demands.{AllMet, IsFirstUnmet};
 ghost use Rattle.document_values.specs.Refusals.{IsNoDocument};
 ghost use Rattle.document_values.specs.Values.{named, IsDocument, IsNumber, IsOptional, IsRequired, SaysNumber};
-ghost use Rattle.can_plan_text.specs.Plans.{errors_demands, messages_in, most_rate, most_time, rate_demands, rate_in, table_demands, top_demands, IsMessageArray, IsSpacing, SaysErrors, SaysHitRate, SaysSpacing};
+ghost use Rattle.can_plan_text.specs.Plans.{errors_demands, messages_in, most_rate, longest_time, rate_demands, rate_in, table_demands, plan_top_demands, IsMessageArray, IsSpacing, SaysErrors, SaysHitRate, SaysSpacing};
 
 use crate::fault::PlanFault;
 use crate::field::PlanField;
@@ -66,8 +66,8 @@ pub(crate) fn read_top(document: &Table) -> Result<Top<'_>, PlanFault>
     ensures errors { IfOk result (λ top. SaysErrors (rate_in (table (table_view document.now))) (named (codes "errors") (table (table_view document.now))) top.errors) }
     ensures messages { IfOk result (λ top. map view top.messages.now ≡ messages_in (table (table_view document.now))) }
     ensures few { IfOk result (λ top. length top.messages.now ≤ 512) }
-    ensures met { OnOk result (AllMet (top_demands (table (table_view document.now)))) }
-    ensures unmet { (wrong : Wrong) → IsErrOf result (PlanFault.Field wrong) → IsFirstUnmet wrong (top_demands (table (table_view document.now))) }
+    ensures met { OnOk result (AllMet (plan_top_demands (table (table_view document.now)))) }
+    ensures unmet { (wrong : Wrong) → IsErrOf result (PlanFault.Field wrong) → IsFirstUnmet wrong (plan_top_demands (table (table_view document.now))) }
 {
     let rate = read_rate(document)?;
     let errors = read_errors(rate, document)?;

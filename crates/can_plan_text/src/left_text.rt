@@ -1,6 +1,6 @@
 //! How much is left of a network, as text.
 ghost use Rattle.std.specs.Prelude.{◌≡◌, ◌+◌, ◌++◌, OnOk, Some, codes, slice_get};
-ghost use Rattle.can_plan_text.specs.Details.{late_text, left_lines, margin_line, margin_lines, told_at};
+ghost use Rattle.can_plan_text.specs.Details.{late_text, left_lines, margin_line, margin_lines, planned_at};
 
 use crate::left::Left;
 use crate::plan::Planned;
@@ -67,7 +67,7 @@ fn push_margin_line(
 
 /// The message at a place, if one is told.
 fn told(planned: &[Planned], place: Option<usize>) -> Option<Planned>
-    ensures { result ≡ told_at planned.now place }
+    ensures { result ≡ planned_at planned.now place }
 {
     match place {
         Some(place) => message_at(planned, place),

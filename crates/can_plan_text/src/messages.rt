@@ -7,7 +7,7 @@ ghost use Rattle.can_plan_text.specs.declared.field.PlanField.{PlanField as Wron
 ghost use Rattle.document_values.specs.Demands.{demands_on_each, AllMet, IsFirstUnmet};
 ghost use Rattle.document_values.specs.Values.{named, ArePaired, IsNumber, IsRequired, IsUpTo};
 ghost use Rattle.can_plan_text.specs.Times.{bits_down as bits_within};
-ghost use Rattle.can_plan_text.specs.Plans.{fields_demands, message_demands, IsHead, IsHeadText, IsPeriod, IsPlanned, NamesHead, SaysFields, SaysMessage};
+ghost use Rattle.can_plan_text.specs.Plans.{message_fields_demands, message_demands, IsHead, IsHeadText, IsPeriod, IsPlanned, NamesHead, SaysFields, SaysMessage};
 
 use crate::document::MOST_TIME;
 use crate::fault::PlanFault;
@@ -89,8 +89,8 @@ fn read_fields(place: usize, rate: u32, fields: &Table) -> Result<Fields, PlanFa
     ensures said { IfOk result (SaysFields (table (table_view fields.now))) }
     ensures periodic { IfOk result (λ said. 0 < bits_within rate said.period) }
     ensures dlc { IfOk result (λ said. said.dlc < 16) }
-    ensures met { OnOk result (AllMet (fields_demands rate place (table (table_view fields.now)))) }
-    ensures unmet { (wrong : Wrong) → IsErrOf result (PlanFault.Field wrong) → IsFirstUnmet wrong (fields_demands rate place (table (table_view fields.now))) }
+    ensures met { OnOk result (AllMet (message_fields_demands rate place (table (table_view fields.now)))) }
+    ensures unmet { (wrong : Wrong) → IsErrOf result (PlanFault.Field wrong) → IsFirstUnmet wrong (message_fields_demands rate place (table (table_view fields.now))) }
 {
     if !has_only(fields, &MESSAGE_FIELDS) {
         return Err(PlanFault::of_message(place, MessageField::Unknown));

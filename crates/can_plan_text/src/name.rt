@@ -14,12 +14,12 @@ pub struct Name {
 
 impl Name {
     ghost use Rattle.std.specs.Prelude.{◌≡◌, length};
-    ghost use Rattle.can_plan_text.specs.Names.{bytes_of};
+    ghost use Rattle.can_plan_text.specs.Names.{name_bytes};
 
     /// The name of these bytes.
     pub(crate) fn of(text: &[u8]) -> Name
         requires { length text.now ≤ 64 }
-        ensures { bytes_of result ≡ text.now }
+        ensures { name_bytes result ≡ text.now }
     {
         let mut store = [0; LONGEST_NAME];
         store[..text.len()].copy_from_slice(text);
@@ -31,7 +31,7 @@ impl Name {
 
     /// Its characters: 1 to 64 printable ones of ASCII.
     pub fn as_bytes(&self) -> &[u8]
-        ensures { result.now ≡ bytes_of self.now }
+        ensures { result.now ≡ name_bytes self.now }
     {
         &self.store[..self.size]
     }

@@ -5,7 +5,7 @@ ghost use Rattle.toml.specs.Data.{table};
 ghost use Rattle.toml.specs.View.{table_view};
 ghost use Rattle.document_values.specs.Values.{named, IsOptional};
 ghost use Rattle.can_plan_text.specs.declared.field.PlanField.{PlanField as Wrong};
-ghost use Rattle.can_plan_text.specs.Names.{bytes_of, is_name_byte as is_of_name, IsName, IsNameValue, SaysName};
+ghost use Rattle.can_plan_text.specs.Names.{name_bytes, is_name_byte as is_of_name, IsMessageName, IsNameValue, SaysName};
 ghost use Rattle.can_plan_text.specs.Order.{is_named, is_one_name as are_one_name, HaveOwnNames, IsNamedAgain};
 
 use crate::fault::PlanFault;
@@ -29,9 +29,9 @@ pub(crate) fn name(fields: &Table) -> Option<Option<Name>>
 
 /// The name that a text is.
 fn name_of(text: &str) -> Option<Name>
-    ensures said { IfSome result (λ name. bytes_of name ≡ text.now) }
-    ensures met { OnSome result (IsName text.now) }
-    ensures unmet { IfNone result (¬ IsName text.now) }
+    ensures said { IfSome result (λ name. name_bytes name ≡ text.now) }
+    ensures met { OnSome result (IsMessageName text.now) }
+    ensures unmet { IfNone result (¬ IsMessageName text.now) }
 {
     if !is_name(text) {
         return None;
@@ -41,7 +41,7 @@ fn name_of(text: &str) -> Option<Name>
 
 /// Whether a text is 1 to 64 printable characters of ASCII, none of them a quotation mark or a backslash.
 fn is_name(text: &str) -> bool
-    ensures { IsTrue result ↔ IsName text.now }
+    ensures { IsTrue result ↔ IsMessageName text.now }
 {
     !text.is_empty() && text.len() <= LONGEST_NAME && are_of_names(text.as_bytes())
 }

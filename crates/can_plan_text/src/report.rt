@@ -1,7 +1,7 @@
 //! The answer to a network, as text.
 ghost use Rattle.std.specs.Prelude.{◌≡◌, ◌++◌, ◌^◌, ◌<◌, codes, decimal, OnOk};
 ghost use Rattle.std.specs.List.{flat_map};
-ghost use Rattle.can_plan_text.specs.Report.{borne_line, bound_text, end_text, first_line, head_text, last_line, load_of, message_line, outcome_text, quoted_text, report_text, share_of, slack_text, thousandths, times_text};
+ghost use Rattle.can_plan_text.specs.Report.{borne_line, bound_text, end_text, first_line, message_head, last_line, load_thousandths, message_line, outcome_text, quoted_text, plan_report, share_of, slack_text, thousandths, times_text};
 
 use crate::plan::Planned;
 use crate::verdict::{Analysis, Verdict};
@@ -19,7 +19,7 @@ const MILLION: u64 = 1_000_000;
 /// order of arbitration, and one that counts those that are late; where the document has errors, one that tells for how
 /// long they are borne. Each ends with 0x0a.
 pub fn push_report(out: &mut Vec<u8>, rate: u32, analysis: &Analysis) -> Result<(), AllocError>
-    ensures { OnOk result (out.new.items ≡ out.old.items ++ report_text rate analysis.now) }
+    ensures { OnOk result (out.new.items ≡ out.old.items ++ plan_report rate analysis.now) }
 {
     push_first(out, u64::from(rate), analysis)?;
     push_messages(out, &analysis.verdicts)?;
@@ -69,7 +69,7 @@ pub(crate) fn push_message(out: &mut Vec<u8>, verdict: &Verdict) -> Result<(), A
 
 /// Appends what a message's frames have in common: a frame's text up to its DLC.
 pub(crate) fn push_head(out: &mut Vec<u8>, planned: &Planned) -> Result<(), AllocError>
-    ensures { OnOk result (out.new.items ≡ out.old.items ++ head_text planned.now) }
+    ensures { OnOk result (out.new.items ≡ out.old.items ++ message_head planned.now) }
 {
     let text = planned.head.to_text();
     let bytes = text.as_bytes();
@@ -158,7 +158,7 @@ pub(crate) fn push_borne(out: &mut Vec<u8>, borne: Option<Borne>) -> Result<(), 
 
 /// Appends a word, and the load of all messages behind it.
 fn push_load(out: &mut Vec<u8>, word: &[u8], analysis: &Analysis) -> Result<(), AllocError>
-    ensures { OnOk result (out.new.items ≡ out.old.items ++ (word.now ++ thousandths (load_of analysis.now.verdicts.items))) }
+    ensures { OnOk result (out.new.items ≡ out.old.items ++ (word.now ++ thousandths (load_thousandths analysis.now.verdicts.items))) }
 {
     push_text(out, word)?;
     push_thousandths(out, load(analysis))
@@ -166,7 +166,7 @@ fn push_load(out: &mut Vec<u8>, word: &[u8], analysis: &Analysis) -> Result<(), 
 
 /// The load of all messages, in thousandths.
 fn load(analysis: &Analysis) -> u64
-    ensures { result ≡ load_of analysis.now.verdicts.items }
+    ensures { result ≡ load_thousandths analysis.now.verdicts.items }
 {
     let mut total = 0;
     for verdict in &analysis.verdicts {

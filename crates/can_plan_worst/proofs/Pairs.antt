@@ -13,13 +13,6 @@ paired-push R [] (z ∷ ys) x y p r = absurd p
 paired-push R (w ∷ xs) [] x y p r = absurd p
 paired-push R (w ∷ xs) (z ∷ ys) x y p r = (p.0, paired-push R xs ys x y p.1 r)
 
--- what is paired with an element
-pub paired-back : {A B : Type 0} (R : A → B → Type 0) (xs : List A) (ys : List B) (n : ℕ) (y : B) → ArePaired R xs ys → slice_get ys n ≡ Some y → (x : A) × R x y
-paired-back R xs [] n y p is = absurd (cc)
-paired-back R [] (z ∷ ys) n y p is = absurd p
-paired-back R (x ∷ xs) (z ∷ ys) zero y p is = let e : z ≡ y = (let s : Some z ≡ Some y = is in cc) in (x, subst (λ w. R x w) e p.0)
-paired-back R (x ∷ xs) (z ∷ ys) (suc n) y p is = paired-back R xs ys n y p.1 is
-
 -- the element at a place of one list behind another
 pub at-either : {A : Type 0} (xs ys : List A) (n : ℕ) (a : A) → slice_get (xs ++ ys) n ≡ Some a →
     ((n < length xs) × (slice_get xs n ≡ Some a)) ⊎ ((k : ℕ) × (n ≡ length xs + k) × (slice_get ys k ≡ Some a))

@@ -6,17 +6,17 @@ use Rattle.can_bus.proofs.Members.{stands-permuted}
 use Rattle.can_plan.specs.FramesOf.{IsLongestBusy}
 use Rattle.can_plan_text.specs.declared.plan.Plan.{Plan}
 use Rattle.can_plan_text.specs.Plans.{IsPlanText, SaysMessage, messages_in}
+use Rattle.can_plan_text.proofs.PlanParts.{paired-back}
 use Rattle.can_plan_worst.specs.Keeping.{AreSized}
 use Rattle.can_plan_worst.specs.Worst.{dlc_of}
-use Rattle.can_plan_worst.proofs.Pairs.{paired-back}
 
 pub sized : (document : List ℕ) (plan : Plan) → IsPlanText document plan → AreSized plan.messages.items
 sized document plan is p there =
     let says = is.2 in
     let listed = stands-permuted plan.messages.items says.listed p (IsPermutation-sym says.listed plan.messages.items says.ordered.all) there in
     let message = paired-back (SaysMessage plan.rate) (messages_in is.0) says.listed listed.0 p says.messages listed.1 in
-    let said = message.1.0 in
-    let planned = message.1.2 in
+    let said = message.2.0 in
+    let planned = message.2.2 in
     let frame = planned.longest.one_as_long.1 in
     let small : said.dlc < 16 = omega (arith, frame.is_frame.dlc, frame.same_dlc) in
     let dlc : said.dlc ≡ dlc_of p = omega (arith, small, planned.dlc) in

@@ -5,6 +5,6 @@ use Rattle.canbit_commands.specs.declared.fault.CanbitFault.{CanbitFault}
 use Rattle.canbit_commands.specs.declared.fault.CanbitFault.TheVariants.{Stream, VectorsDiffer}
 
 -- 1: the input is refused, or vectors differ. 3: a stream failed. 4: memory ran out.
-abbrev pub fault_status : CanbitFault → ℕ
-fault_status VectorsDiffer = 1
-fault_status (Stream fault) = stream_status fault
+abbrev pub canbit_status : CanbitFault → ℕ
+canbit_status VectorsDiffer = 1
+canbit_status (Stream fault) = stream_status fault

@@ -1,6 +1,6 @@
 //! Why `canbit` did not do all that it was asked.
 ghost use Rattle.std.specs.Prelude.{◌≡◌};
-ghost use Rattle.canbit_commands.specs.Status.{fault_status};
+ghost use Rattle.canbit_commands.specs.Status.{canbit_status};
 ghost use Rattle.canbit_commands.specs.declared.fault.CanbitFault.TheVariants.{Stream};
 
 use can_program::RunFault;
@@ -27,7 +27,7 @@ impl From<TraceFault> for CanbitFault {
 }
 
 impl RunFault for CanbitFault {
-    ghost status_of = { fault_status };
+    ghost status_of = { canbit_status };
 
     fn status(&self) -> u8 {
         match self {

@@ -4,10 +4,11 @@ ghost use Rattle.std.specs.Io.KnownBytes.{Appends, IsAtEnd};
 ghost use Rattle.can_stream.specs.Told.{Told};
 ghost use Rattle.canbit_commands.specs.Answers.{AnswersAll, AnswersEnded, BeginsAnswering, HasBadByte, RefusesInput};
 ghost use Rattle.canbit_commands.specs.Ends.{Ends};
-ghost use Rattle.canbit_commands.specs.Status.{fault_status};
+ghost use Rattle.canbit_commands.specs.Status.{canbit_status};
 ghost use Rattle.can_program.specs.Status.{exit_status};
 ghost use Rattle.canbit_words.specs.Subcommands.{name_of};
-ghost use Rattle.canbit_words.specs.Words.{AsksFor, AsksForHelp, AsksForOne, IsMisuse, texts_of};
+ghost use Rattle.can_program.specs.Words.{texts_of};
+ghost use Rattle.canbit_words.specs.Words.{AsksFor, AsksForHelp, AsksForOne, IsMisuse};
 
 use crate::fault::CanbitFault;
 use crate::run::run;
@@ -100,7 +101,7 @@ fn answer<R: Source, W: Sink>(
     requires reader_unfailed { R.has_failed r.old ≡ false }
     requires reader_unended { R.has_ended r.old ≡ false }
     requires writer_unfailed { W.has_failed w.old ≡ false }
-    ensures { Ends R.remaining r.old r.new W.contents w.old w.new (R.has_ended r.new) (R.has_failed r.new) (W.has_failed w.new) chosen (exit_status fault_status result) }
+    ensures { Ends R.remaining r.old r.new W.contents w.old w.new (R.has_ended r.new) (R.has_failed r.new) (W.has_failed w.new) chosen (exit_status canbit_status result) }
 {
     match chosen {
         Chosen::Encode => Ok(encode_lines(r, w)?),

@@ -1,17 +1,11 @@
 -- What the words of a command line ask for, by clap's definition of what a simple command makes of words.
 -- (docs/FORMATS.md, "Faults and statuses of the program")
-use Rattle.std.specs.Prelude.{◌≡◌, ◌≢◌, List, [], Option, Some, map, option_map, string_bytes}
-use Rattle.std.specs.declared.alloc.Global.{Global}
-use Rattle.std.specs.declared.string.String.{String}
+use Rattle.std.specs.Prelude.{◌≡◌, ◌≢◌, List, [], Option, Some, option_map}
 use Rattle.clap.specs.Words.{IsAmong, Kinds, Text, fault_of, subcommand_of}
 use Rattle.clap.specs.declared.error.kind.ErrorKind.{ErrorKind}
 use Rattle.clap.specs.declared.error.kind.ErrorKind.TheVariants.{DisplayHelp}
 use Rattle.canbit_words.specs.declared.subcommands.Chosen.{Chosen}
 use Rattle.canbit_words.specs.Subcommands.{canbit, name_of}
-
--- the words as texts
-abbrev pub texts_of : List (String Global) → List Text
-texts_of words = map string_bytes words
 
 -- the kinds of fault that the words may be refused with: none where the command takes them
 abbrev pub faults_in : List Text → Kinds

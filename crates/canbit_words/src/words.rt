@@ -4,7 +4,8 @@ ghost use Rattle.clap.specs.Words.{app_of, shape_of, kind_of, subcommand_name_of
 ghost use Rattle.clap.specs.Simple.{new_shape};
 ghost use Rattle.clap.specs.declared.builder.command.Command.TheViews.{out-Command as fields_of};
 ghost use Rattle.canbit_words.specs.Subcommands.{canbit, name_of};
-ghost use Rattle.canbit_words.specs.Words.{AsksFor, AsksForHelp, IsMisuse, faults_in, named_in, texts_of};
+ghost use Rattle.can_program.specs.Words.{texts_of};
+ghost use Rattle.canbit_words.specs.Words.{AsksFor, AsksForHelp, IsMisuse, faults_in, named_in};
 
 use crate::help::{PROGRAM, USAGE};
 use crate::subcommands::Chosen;

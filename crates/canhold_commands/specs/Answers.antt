@@ -53,18 +53,18 @@ demands_of Expect = cases_alone_demands
 demands_of Judge = document_demands
 
 -- the document is refused for this field, and nothing is written
-abbrev pub Refuses : Question → KitField → List ℕ → List ℕ → Type 0
-Refuses question wrong input output =
+abbrev pub RefusesDocument : Question → KitField → List ℕ → List ℕ → Type 0
+RefusesDocument question wrong input output =
     IsWrongKitField (demands_of question) wrong input × WritesNothing input output
 
 -- a field is wrong, or memory ran out
-abbrev pub IsFieldOrMemory : CanholdFault → Type 0
-IsFieldOrMemory fault = ((wrong : KitField) × (fault ≡ Field wrong)) ⊎ (fault ≡ Stream Memory)
+abbrev pub IsKitFault : CanholdFault → Type 0
+IsKitFault fault = ((wrong : KitField) × (fault ≡ Field wrong)) ⊎ (fault ≡ Stream Memory)
 
 -- the document has been answered
 abbrev pub AnswersDocument : Question → Result (Unit {0}) CanholdFault → List ℕ → List ℕ → Type 0
 AnswersDocument question (Ok done) = AnswersSo question Agree
-AnswersDocument question (Err (Field wrong)) = Refuses question wrong
+AnswersDocument question (Err (Field wrong)) = RefusesDocument question wrong
 AnswersDocument question (Err TranscriptsDiffer) = AnswersSo question Differ
 AnswersDocument question (Err NothingJudged) = AnswersSo question Nothing
 AnswersDocument question (Err (Stream Read)) = WritesNothing
@@ -73,6 +73,6 @@ AnswersDocument question (Err (Stream Memory)) = WritesNothing
 AnswersDocument question (Err (Stream _)) = λ input output. ⊥
 
 -- what is written where the subcommand ends so
-abbrev pub Does : Chosen → Result (Unit {0}) CanholdFault → List ℕ → List ℕ → Type 0
-Does Play = PlaysLines
-Does (Document question) = AnswersDocument question
+abbrev pub DoesChosen : Chosen → Result (Unit {0}) CanholdFault → List ℕ → List ℕ → Type 0
+DoesChosen Play = PlaysLines
+DoesChosen (Document question) = AnswersDocument question

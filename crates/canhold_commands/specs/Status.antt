@@ -8,13 +8,13 @@ use Rattle.canhold_commands.specs.declared.fault.CanholdFault.{CanholdFault}
 use Rattle.canhold_commands.specs.declared.fault.CanholdFault.TheVariants.{Field, NothingJudged, Stream, TranscriptsDiffer}
 
 -- 1: the input is refused, or not all transcripts pass. 3: a stream failed. 4: memory ran out. 5: nothing was judged.
-abbrev pub fault_status : CanholdFault → ℕ
-fault_status (Field wrong) = 1
-fault_status TranscriptsDiffer = 1
-fault_status NothingJudged = 5
-fault_status (Stream fault) = stream_status fault
+abbrev pub canhold_status : CanholdFault → ℕ
+canhold_status (Field wrong) = 1
+canhold_status TranscriptsDiffer = 1
+canhold_status NothingJudged = 5
+canhold_status (Stream fault) = stream_status fault
 
 -- how it is told that a document is not read
-abbrev pub fault_of : KitFault → CanholdFault
-fault_of (kit.Field wrong) = Field wrong
-fault_of kit.Memory = Stream Memory
+abbrev pub kit_fault_of : KitFault → CanholdFault
+kit_fault_of (kit.Field wrong) = Field wrong
+kit_fault_of kit.Memory = Stream Memory

@@ -9,8 +9,8 @@ use Rattle.canhold_commands.specs.declared.words.Chosen.TheVariants.{Play, Docum
 use Rattle.canhold_commands.specs.declared.words.Question.TheVariants.{Expect, Judge}
 
 -- what one word asks for: it names a subcommand, or asks for help or for the version
-abbrev pub asked_word : List ℕ → Option Asked
-asked_word word =
+abbrev pub canhold_word : List ℕ → Option Asked
+canhold_word word =
     if bytes_eq word (codes "play") then Some (Run Play)
     else if bytes_eq word (codes "expect") then Some (Run (Document Expect))
     else if bytes_eq word (codes "judge") then Some (Run (Document Judge))
@@ -22,17 +22,17 @@ abbrev pub is_subcommand : List ℕ → Bool
 is_subcommand word = bytes_eq word (codes "play") || (bytes_eq word (codes "expect") || bytes_eq word (codes "judge"))
 
 -- what two words ask for: help, where the second asks for it behind a subcommand
-abbrev pub asked_words : List ℕ → List ℕ → Option Asked
-asked_words word option = if is_subcommand word && is_help_option option then Some Help else None
+abbrev pub canhold_words : List ℕ → List ℕ → Option Asked
+canhold_words word option = if is_subcommand word && is_help_option option then Some Help else None
 
 -- what the words ask for: the program's name, whatever it is, and one word or two
-abbrev pub asked_by : List (List ℕ) → Option Asked
-asked_by [] = None
-asked_by (name ∷ []) = None
-asked_by (name ∷ word ∷ []) = asked_word word
-asked_by (name ∷ word ∷ option ∷ []) = asked_words word option
-asked_by (name ∷ word ∷ option ∷ other ∷ words) = None
+abbrev pub asked_of_canhold : List (List ℕ) → Option Asked
+asked_of_canhold [] = None
+asked_of_canhold (name ∷ []) = None
+asked_of_canhold (name ∷ word ∷ []) = canhold_word word
+asked_of_canhold (name ∷ word ∷ option ∷ []) = canhold_words word option
+asked_of_canhold (name ∷ word ∷ option ∷ other ∷ words) = None
 
 -- they ask for this subcommand
-abbrev pub AsksFor : Chosen → List (List ℕ) → Type 0
-AsksFor chosen words = asked_by words ≡ Some (Run chosen)
+abbrev pub AsksCanhold : Chosen → List (List ℕ) → Type 0
+AsksCanhold chosen words = asked_of_canhold words ≡ Some (Run chosen)

@@ -4,7 +4,7 @@ ghost use Rattle.can_stream.specs.Told.{Told};
 ghost use Rattle.kit_cases.specs.declared.field.KitField.{KitField};
 ghost use Rattle.kit_answers.specs.Documents.{IsWrongKitField};
 ghost use Rattle.can_program.specs.Written.{WritesBeginning, WritesNothing};
-ghost use Rattle.canhold_commands.specs.Answers.{demands_of, finding_of, Answers, AnswersSo, IsFieldOrMemory, Refuses};
+ghost use Rattle.canhold_commands.specs.Answers.{demands_of, finding_of, Answers, AnswersSo, IsKitFault, RefusesDocument};
 
 use crate::fault::CanholdFault;
 use crate::words::Question;
@@ -42,11 +42,11 @@ pub fn answer_document<R: Source, W: Sink>(
     // What was written of what was read.
     ensures ok { IfOk result (λ finding. Told R.remaining r.old r.new W.contents w.old w.new (AnswersSo question finding)) }
     ensures field { (wrong : KitField) → IsErrOf result (CanholdFault.Field wrong) →
-        Told R.remaining r.old r.new W.contents w.old w.new (Refuses question wrong) }
+        Told R.remaining r.old r.new W.contents w.old w.new (RefusesDocument question wrong) }
     ensures read { IsErrOf result (CanholdFault.Stream TraceFault.Read) → Told R.remaining r.old r.new W.contents w.old w.new WritesNothing }
     ensures write { IsErrOf result (CanholdFault.Stream TraceFault.Write) → Told R.remaining r.old r.new W.contents w.old w.new (WritesBeginning (Answers question)) }
     ensures memory { IsErrOf result (CanholdFault.Stream TraceFault.Memory) → Told R.remaining r.old r.new W.contents w.old w.new WritesNothing }
-    ensures other { IfErr result (λ fault. IsFieldOrMemory fault ⊎ (fault ≡ CanholdFault.Stream TraceFault.Read) ⊎ (fault ≡ CanholdFault.Stream TraceFault.Write)) }
+    ensures other { IfErr result (λ fault. IsKitFault fault ⊎ (fault ≡ CanholdFault.Stream TraceFault.Read) ⊎ (fault ≡ CanholdFault.Stream TraceFault.Write)) }
 
     // What the reader and the writer came to.
     ensures read_failed { IsErrOf result (CanholdFault.Stream TraceFault.Read) ↔ IsTrue (R.has_failed r.new) }

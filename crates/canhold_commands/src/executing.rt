@@ -2,11 +2,11 @@
 ghost use Rattle.std.specs.Prelude.{◌≡◌, ◌⊎◌, ◌<◌, false, Option, Result, IsTrue};
 ghost use Rattle.std.specs.Io.KnownBytes.{Appends};
 ghost use Rattle.can_stream.specs.Told.{Told};
-ghost use Rattle.canhold_commands.specs.Answers.{AnswersDocument, Does};
+ghost use Rattle.canhold_commands.specs.Answers.{AnswersDocument, DoesChosen};
 ghost use Rattle.can_program.specs.Status.{exit_status, TellsStreams};
 ghost use Rattle.can_program.specs.Words.{texts_of};
-ghost use Rattle.canhold_commands.specs.Status.{fault_status};
-ghost use Rattle.canhold_commands.specs.Words.{AsksFor, asked_by};
+ghost use Rattle.canhold_commands.specs.Status.{canhold_status};
+ghost use Rattle.canhold_commands.specs.Words.{AsksCanhold, asked_of_canhold};
 
 use crate::document::{Finding, answer_document};
 use crate::fault::CanholdFault;
@@ -46,9 +46,9 @@ pub fn execute<R: Source, W: Sink, E: Sink>(
     ensures status { result < 6 }
 
     // What the subcommand wrote of what it read, by the outcome that the status tells.
-    ensures told { (chosen : Chosen) → AsksFor chosen (texts_of words.now)
-        → (outcome : Result (Unit {0}) CanholdFault) × (result ≡ exit_status fault_status outcome)
-        × Told R.remaining r.old r.new W.contents w.old w.new (Does chosen outcome) }
+    ensures told { (chosen : Chosen) → AsksCanhold chosen (texts_of words.now)
+        → (outcome : Result (Unit {0}) CanholdFault) × (result ≡ exit_status canhold_status outcome)
+        × Told R.remaining r.old r.new W.contents w.old w.new (DoesChosen chosen outcome) }
 
     // A stream's failure is told, and nothing else is told so.
     ensures stream_failed { result ≡ 3 → IsTrue (R.has_failed r.new) ⊎ IsTrue (W.has_failed w.new) }
@@ -56,21 +56,21 @@ pub fn execute<R: Source, W: Sink, E: Sink>(
     ensures read_told { IsTrue (R.has_failed r.new) → result ≡ 3 }
 
     // Help is written where the words ask for it, and other words are refused.
-    ensures help_status { asked_by (texts_of words.now) ≡ Option.Some Asked.Help → (result ≡ 0) ⊎ (result ≡ 3) }
-    ensures helped { asked_by (texts_of words.now) ≡ Option.Some Asked.Help → result ≡ 0
+    ensures help_status { asked_of_canhold (texts_of words.now) ≡ Option.Some Asked.Help → (result ≡ 0) ⊎ (result ≡ 3) }
+    ensures helped { asked_of_canhold (texts_of words.now) ≡ Option.Some Asked.Help → result ≡ 0
         → Appends (W.contents w.old) (W.contents w.new) HELP.now }
-    ensures refused { asked_by (texts_of words.now) ≡ Option.None → result ≡ 2 }
-    ensures misuse { result ≡ 2 → asked_by (texts_of words.now) ≡ Option.None }
+    ensures refused { asked_of_canhold (texts_of words.now) ≡ Option.None → result ≡ 2 }
+    ensures misuse { result ≡ 2 → asked_of_canhold (texts_of words.now) ≡ Option.None }
 
     // So is the version.
-    ensures version_status { asked_by (texts_of words.now) ≡ Option.Some Asked.Version → (result ≡ 0) ⊎ (result ≡ 3) }
-    ensures version_written { asked_by (texts_of words.now) ≡ Option.Some Asked.Version → result ≡ 0
+    ensures version_status { asked_of_canhold (texts_of words.now) ≡ Option.Some Asked.Version → (result ≡ 0) ⊎ (result ≡ 3) }
+    ensures version_written { asked_of_canhold (texts_of words.now) ≡ Option.Some Asked.Version → result ≡ 0
         → Appends (W.contents w.old) (W.contents w.new) VERSION.now }
 
     // Nothing else is read or written.
     ensures untouched { result ≡ 2 → (r.new ≡ r.old) × (w.new ≡ w.old) }
-    ensures help_reads_nothing { asked_by (texts_of words.now) ≡ Option.Some Asked.Help → r.new ≡ r.old }
-    ensures version_reads_nothing { asked_by (texts_of words.now) ≡ Option.Some Asked.Version → r.new ≡ r.old }
+    ensures help_reads_nothing { asked_of_canhold (texts_of words.now) ≡ Option.Some Asked.Help → r.new ≡ r.old }
+    ensures version_reads_nothing { asked_of_canhold (texts_of words.now) ≡ Option.Some Asked.Version → r.new ≡ r.old }
     ensures no_fault_line { result ≡ 0 → e.new ≡ e.old }
 {
     match read_words(words) {
@@ -96,8 +96,8 @@ fn answer<R: Source, W: Sink>(
     requires reader_unfailed { R.has_failed r.old ≡ false }
     requires reader_unended { R.has_ended r.old ≡ false }
     requires writer_unfailed { W.has_failed w.old ≡ false }
-    ensures told { Told R.remaining r.old r.new W.contents w.old w.new (Does chosen result) }
-    ensures streams { TellsStreams (R.has_failed r.new) (W.has_failed w.new) (exit_status fault_status result) }
+    ensures told { Told R.remaining r.old r.new W.contents w.old w.new (DoesChosen chosen result) }
+    ensures streams { TellsStreams (R.has_failed r.new) (W.has_failed w.new) (exit_status canhold_status result) }
 {
     match chosen {
         Chosen::Play => Ok(play_lines(alloc, r, w)?),
@@ -117,7 +117,7 @@ fn answered<R: Source, W: Sink>(
     requires reader_unended { R.has_ended r.old ≡ false }
     requires writer_unfailed { W.has_failed w.old ≡ false }
     ensures told { Told R.remaining r.old r.new W.contents w.old w.new (AnswersDocument question result) }
-    ensures streams { TellsStreams (R.has_failed r.new) (W.has_failed w.new) (exit_status fault_status result) }
+    ensures streams { TellsStreams (R.has_failed r.new) (W.has_failed w.new) (exit_status canhold_status result) }
 {
     match answer_document(alloc, question, r, w, of)? {
         Finding::Agree => Ok(()),

@@ -1,6 +1,6 @@
 //! Why `canhold` did not do all that it was asked.
 ghost use Rattle.std.specs.Prelude.{◌≡◌};
-ghost use Rattle.canhold_commands.specs.Status.{fault_of, fault_status};
+ghost use Rattle.canhold_commands.specs.Status.{kit_fault_of, canhold_status};
 ghost use Rattle.canhold_commands.specs.declared.fault.CanholdFault.TheVariants.{Stream};
 
 use can_program::RunFault;
@@ -34,7 +34,7 @@ impl From<TraceFault> for CanholdFault {
 }
 
 impl From<KitFault> for CanholdFault {
-    ghost from_gives = { λ fault own. own ≡ fault_of fault };
+    ghost from_gives = { λ fault own. own ≡ kit_fault_of fault };
 
     fn from(fault: KitFault) -> CanholdFault {
         match fault {
@@ -45,7 +45,7 @@ impl From<KitFault> for CanholdFault {
 }
 
 impl RunFault for CanholdFault {
-    ghost status_of = { fault_status };
+    ghost status_of = { canhold_status };
 
     fn status(&self) -> u8 {
         match self {

@@ -1,7 +1,7 @@
 //! What the words of a command line ask for.
 ghost use Rattle.std.specs.Prelude.{◌≡◌};
 ghost use Rattle.can_program.specs.Words.{texts_of};
-ghost use Rattle.canhold_commands.specs.Words.{asked_by, asked_word, asked_words};
+ghost use Rattle.canhold_commands.specs.Words.{asked_of_canhold, canhold_word, canhold_words};
 
 /// What is asked of a kit document.
 #[derive(Clone, Copy, Debug, PartialEq, Eq)]
@@ -32,7 +32,7 @@ pub enum Asked {
 /// What the words ask for, the first of which is the program's name: a subcommand by its name, the help text,
 /// also by an option behind a subcommand, or the version. Other words are no use of the program.
 pub fn read_words(words: &[String]) -> Option<Asked>
-    ensures { result ≡ asked_by (texts_of words.now) }
+    ensures { result ≡ asked_of_canhold (texts_of words.now) }
 {
     match words {
         [_, word] => read_word(word.as_str()),
@@ -43,7 +43,7 @@ pub fn read_words(words: &[String]) -> Option<Asked>
 
 /// What one word asks for.
 fn read_word(word: &str) -> Option<Asked>
-    ensures { result ≡ asked_word word.now }
+    ensures { result ≡ canhold_word word.now }
 {
     match word {
         "play" => Some(Asked::Run(Chosen::Play)),
@@ -57,7 +57,7 @@ fn read_word(word: &str) -> Option<Asked>
 
 /// What a subcommand and an option behind it ask for.
 fn read_option(word: &str, option: &str) -> Option<Asked>
-    ensures { result ≡ asked_words word.now option.now }
+    ensures { result ≡ canhold_words word.now option.now }
 {
     match (word, option) {
         ("play" | "expect" | "judge", "--help" | "-h") => Some(Asked::Help),

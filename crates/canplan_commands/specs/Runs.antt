@@ -11,36 +11,36 @@ use Rattle.canplan_commands.specs.declared.fault.CanplanFault.{CanplanFault}
 use Rattle.canplan_commands.specs.declared.fault.CanplanFault.TheVariants.{Field, MessageUnknown, TimelineTooLong, DeadlinesMissed, Stream}
 
 -- the document is refused for this field, and nothing is written
-abbrev pub Refuses : PlanField → List ℕ → List ℕ → Type 0
-Refuses wrong input output = IsWrongPlanField wrong input × WritesNothing input output
+abbrev pub RefusesNetwork : PlanField → List ℕ → List ℕ → Type 0
+RefusesNetwork wrong input output = IsWrongPlanField wrong input × WritesNothing input output
 
 -- a field is wrong, or memory ran out
-abbrev pub IsFieldOrMemory : CanplanFault → Type 0
-IsFieldOrMemory fault = ((wrong : PlanField) × (fault ≡ Field wrong)) ⊎ (fault ≡ Stream Memory)
+abbrev pub IsPlanFault : CanplanFault → Type 0
+IsPlanFault fault = ((wrong : PlanField) × (fault ≡ Field wrong)) ⊎ (fault ≡ Stream Memory)
 
 -- the whole answer is written in a form, by which so many messages may be late
-abbrev pub Answers : Form → ℕ → List ℕ → List ℕ → Type 0
-Answers form late input output = IsAnswerIn form input output late
+abbrev pub AnswersNetwork : Form → ℕ → List ℕ → List ℕ → Type 0
+AnswersNetwork form late input output = IsAnswerIn form input output late
 
 -- it is, however many may be late
 abbrev pub AnswersWhole : Form → List ℕ → List ℕ → Type 0
-AnswersWhole form input output = (late : ℕ) × Answers form late input output
+AnswersWhole form input output = (late : ℕ) × AnswersNetwork form late input output
 
 -- it is, and some may be late
 abbrev pub AnswersLate : Form → List ℕ → List ℕ → Type 0
-AnswersLate form input output = (late : ℕ) × (0 < late) × Answers form late input output
+AnswersLate form input output = (late : ℕ) × (0 < late) × AnswersNetwork form late input output
 
 -- what is written where the run ends so
-abbrev pub Does : Form → Result (Unit {0}) CanplanFault → List ℕ → List ℕ → Type 0
-Does form (Ok done) = Answers form 0
-Does form (Err (Field wrong)) = Refuses wrong
-Does form (Err MessageUnknown) = λ input output. ⊥
-Does form (Err TimelineTooLong) = λ input output. ⊥
-Does form (Err DeadlinesMissed) = AnswersLate form
-Does form (Err (Stream Read)) = WritesNothing
-Does form (Err (Stream Write)) = WritesBeginning (AnswersWhole form)
-Does form (Err (Stream Memory)) = WritesNothing
-Does form (Err (Stream _)) = λ input output. ⊥
+abbrev pub DoesAnswer : Form → Result (Unit {0}) CanplanFault → List ℕ → List ℕ → Type 0
+DoesAnswer form (Ok done) = AnswersNetwork form 0
+DoesAnswer form (Err (Field wrong)) = RefusesNetwork wrong
+DoesAnswer form (Err MessageUnknown) = λ input output. ⊥
+DoesAnswer form (Err TimelineTooLong) = λ input output. ⊥
+DoesAnswer form (Err DeadlinesMissed) = AnswersLate form
+DoesAnswer form (Err (Stream Read)) = WritesNothing
+DoesAnswer form (Err (Stream Write)) = WritesBeginning (AnswersWhole form)
+DoesAnswer form (Err (Stream Memory)) = WritesNothing
+DoesAnswer form (Err (Stream _)) = λ input output. ⊥
 
 -- ---- the scenario of the worst case of a message
 
@@ -59,7 +59,7 @@ RefusesLength message input output = IsUnending input message × WritesNothing i
 -- what is written where the run ends so
 abbrev pub DoesTimeline : List ℕ → Result (Unit {0}) CanplanFault → List ℕ → List ℕ → Type 0
 DoesTimeline message (Ok done) = Draws message
-DoesTimeline message (Err (Field wrong)) = Refuses wrong
+DoesTimeline message (Err (Field wrong)) = RefusesNetwork wrong
 DoesTimeline message (Err MessageUnknown) = RefusesName message
 DoesTimeline message (Err TimelineTooLong) = RefusesLength message
 DoesTimeline message (Err DeadlinesMissed) = λ input output. ⊥
@@ -70,4 +70,4 @@ DoesTimeline message (Err (Stream _)) = λ input output. ⊥
 
 -- the scenario is refused for a field, a name or its length, or memory ran out
 abbrev pub IsTimelineFault : CanplanFault → Type 0
-IsTimelineFault fault = IsFieldOrMemory fault ⊎ ((fault ≡ MessageUnknown) ⊎ (fault ≡ TimelineTooLong))
+IsTimelineFault fault = IsPlanFault fault ⊎ ((fault ≡ MessageUnknown) ⊎ (fault ≡ TimelineTooLong))

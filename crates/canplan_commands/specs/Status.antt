@@ -10,17 +10,17 @@ use Rattle.canplan_commands.specs.declared.fault.CanplanFault.{CanplanFault}
 use Rattle.canplan_commands.specs.declared.fault.CanplanFault.TheVariants.{Field, MessageUnknown, TimelineTooLong, DeadlinesMissed, Stream}
 
 -- 1: the document is refused, or the message that is named, or some message is not sure to meet its deadline. 3: a stream failed. 4: memory ran out.
-abbrev pub fault_status : CanplanFault → ℕ
-fault_status (Field wrong) = 1
-fault_status MessageUnknown = 1
-fault_status TimelineTooLong = 1
-fault_status DeadlinesMissed = 1
-fault_status (Stream fault) = stream_status fault
+abbrev pub canplan_status : CanplanFault → ℕ
+canplan_status (Field wrong) = 1
+canplan_status MessageUnknown = 1
+canplan_status TimelineTooLong = 1
+canplan_status DeadlinesMissed = 1
+canplan_status (Stream fault) = stream_status fault
 
 -- how it is told that a document is not read
-abbrev pub fault_of : PlanFault → CanplanFault
-fault_of (plan.Field wrong) = Field wrong
-fault_of plan.Memory = Stream Memory
+abbrev pub plan_fault_of : PlanFault → CanplanFault
+plan_fault_of (plan.Field wrong) = Field wrong
+plan_fault_of plan.Memory = Stream Memory
 
 -- and that there is no scenario
 abbrev pub worst_fault_of : WorstFault → CanplanFault

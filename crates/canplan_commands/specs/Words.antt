@@ -6,8 +6,8 @@ use Rattle.canplan_commands.specs.declared.words.Asked.{Asked}
 use Rattle.canplan_commands.specs.declared.words.Asked.TheVariants.{Answer, Details, Help, Timeline, Version}
 
 -- what one word asks for: help, the version, or the answer with details
-abbrev pub asked_word : List ℕ → Option Asked
-asked_word word =
+abbrev pub canplan_word : List ℕ → Option Asked
+canplan_word word =
     if is_help_word word then Some Help
     else if is_version_word word then Some Version
     else (if bytes_eq word (codes "--details") then Some Details else None)
@@ -17,12 +17,12 @@ abbrev pub asked_of_message : List ℕ → Option Asked
 asked_of_message word = if bytes_eq word (codes "--timeline") then Some Timeline else None
 
 -- what the words ask for: the program's name, whatever it is, and no word, one, or one with the name of a message
-abbrev pub asked_by : List (List ℕ) → Option Asked
-asked_by [] = None
-asked_by (name ∷ []) = Some Answer
-asked_by (name ∷ word ∷ []) = asked_word word
-asked_by (name ∷ word ∷ message ∷ []) = asked_of_message word
-asked_by (name ∷ word ∷ message ∷ other ∷ words) = None
+abbrev pub asked_of_canplan : List (List ℕ) → Option Asked
+asked_of_canplan [] = None
+asked_of_canplan (name ∷ []) = Some Answer
+asked_of_canplan (name ∷ word ∷ []) = canplan_word word
+asked_of_canplan (name ∷ word ∷ message ∷ []) = asked_of_message word
+asked_of_canplan (name ∷ word ∷ message ∷ other ∷ words) = None
 
 -- the message that they name
 abbrev pub message_in : List (List ℕ) → List ℕ

@@ -3,7 +3,7 @@ ghost use Rattle.std.specs.Prelude.{◌≡◌, ◌⊎◌, ◌↔◌, false, IfEr
 ghost use Rattle.can_stream.specs.Told.{Told};
 ghost use Rattle.can_plan_text.specs.declared.field.PlanField.{PlanField as Wrong};
 ghost use Rattle.can_program.specs.Written.{WritesBeginning, WritesNothing};
-ghost use Rattle.canplan_commands.specs.Runs.{Answers, AnswersWhole, IsFieldOrMemory, Refuses};
+ghost use Rattle.canplan_commands.specs.Runs.{AnswersNetwork, AnswersWhole, IsPlanFault, RefusesNetwork};
 
 use crate::fault::CanplanFault;
 use can_plan_text::{Form, answered_in};
@@ -23,13 +23,13 @@ pub fn answer_document<R: Source, W: Sink>(
     requires writer_unfailed { W.has_failed w.old ≡ false }
 
     // What was written of what was read.
-    ensures ok { IfOk result (λ late. Told R.remaining r.old r.new W.contents w.old w.new (Answers form late)) }
+    ensures ok { IfOk result (λ late. Told R.remaining r.old r.new W.contents w.old w.new (AnswersNetwork form late)) }
     ensures field { (wrong : Wrong) → IsErrOf result (CanplanFault.Field wrong) →
-        Told R.remaining r.old r.new W.contents w.old w.new (Refuses wrong) }
+        Told R.remaining r.old r.new W.contents w.old w.new (RefusesNetwork wrong) }
     ensures read { IsErrOf result (CanplanFault.Stream TraceFault.Read) → Told R.remaining r.old r.new W.contents w.old w.new WritesNothing }
     ensures write { IsErrOf result (CanplanFault.Stream TraceFault.Write) → Told R.remaining r.old r.new W.contents w.old w.new (WritesBeginning (AnswersWhole form)) }
     ensures memory { IsErrOf result (CanplanFault.Stream TraceFault.Memory) → Told R.remaining r.old r.new W.contents w.old w.new WritesNothing }
-    ensures other { IfErr result (λ fault. IsFieldOrMemory fault ⊎ (fault ≡ CanplanFault.Stream TraceFault.Read) ⊎ (fault ≡ CanplanFault.Stream TraceFault.Write)) }
+    ensures other { IfErr result (λ fault. IsPlanFault fault ⊎ (fault ≡ CanplanFault.Stream TraceFault.Read) ⊎ (fault ≡ CanplanFault.Stream TraceFault.Write)) }
 
     // What the reader and the writer came to.
     ensures read_failed { IsErrOf result (CanplanFault.Stream TraceFault.Read) ↔ IsTrue (R.has_failed r.new) }

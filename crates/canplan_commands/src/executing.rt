@@ -4,9 +4,9 @@ ghost use Rattle.std.specs.Io.KnownBytes.{Appends};
 ghost use Rattle.can_stream.specs.Told.{Told};
 ghost use Rattle.can_program.specs.Status.{exit_status, TellsStreams};
 ghost use Rattle.can_program.specs.Words.{texts_of};
-ghost use Rattle.canplan_commands.specs.Runs.{Does, DoesTimeline};
-ghost use Rattle.canplan_commands.specs.Status.{fault_status};
-ghost use Rattle.canplan_commands.specs.Words.{asked_by, message_in};
+ghost use Rattle.canplan_commands.specs.Runs.{DoesAnswer, DoesTimeline};
+ghost use Rattle.canplan_commands.specs.Status.{canplan_status};
+ghost use Rattle.canplan_commands.specs.Words.{asked_of_canplan, message_in};
 
 use crate::document::answer_document;
 use crate::fault::CanplanFault;
@@ -48,14 +48,14 @@ pub fn execute<R: Source, W: Sink, E: Sink>(
     ensures status { result < 5 }
 
     // What was written of what was read, by the outcome that the status tells.
-    ensures told { asked_by (texts_of words.now) ≡ Option.Some Asked.Answer
-        → (outcome : Result (Unit {0}) CanplanFault) × (result ≡ exit_status fault_status outcome)
-        × Told R.remaining r.old r.new W.contents w.old w.new (Does Form.Brief outcome) }
-    ensures detailed { asked_by (texts_of words.now) ≡ Option.Some Asked.Details
-        → (outcome : Result (Unit {0}) CanplanFault) × (result ≡ exit_status fault_status outcome)
-        × Told R.remaining r.old r.new W.contents w.old w.new (Does Form.Detailed outcome) }
-    ensures drawn { asked_by (texts_of words.now) ≡ Option.Some Asked.Timeline
-        → (outcome : Result (Unit {0}) CanplanFault) × (result ≡ exit_status fault_status outcome)
+    ensures told { asked_of_canplan (texts_of words.now) ≡ Option.Some Asked.Answer
+        → (outcome : Result (Unit {0}) CanplanFault) × (result ≡ exit_status canplan_status outcome)
+        × Told R.remaining r.old r.new W.contents w.old w.new (DoesAnswer Form.Brief outcome) }
+    ensures detailed { asked_of_canplan (texts_of words.now) ≡ Option.Some Asked.Details
+        → (outcome : Result (Unit {0}) CanplanFault) × (result ≡ exit_status canplan_status outcome)
+        × Told R.remaining r.old r.new W.contents w.old w.new (DoesAnswer Form.Detailed outcome) }
+    ensures drawn { asked_of_canplan (texts_of words.now) ≡ Option.Some Asked.Timeline
+        → (outcome : Result (Unit {0}) CanplanFault) × (result ≡ exit_status canplan_status outcome)
         × Told R.remaining r.old r.new W.contents w.old w.new (DoesTimeline (message_in (texts_of words.now)) outcome) }
 
     // A stream's failure is told, and nothing else is told so.
@@ -64,21 +64,21 @@ pub fn execute<R: Source, W: Sink, E: Sink>(
     ensures read_told { IsTrue (R.has_failed r.new) → result ≡ 3 }
 
     // Help is written where the words ask for it, and other words are refused.
-    ensures help_status { asked_by (texts_of words.now) ≡ Option.Some Asked.Help → (result ≡ 0) ⊎ (result ≡ 3) }
-    ensures helped { asked_by (texts_of words.now) ≡ Option.Some Asked.Help → result ≡ 0
+    ensures help_status { asked_of_canplan (texts_of words.now) ≡ Option.Some Asked.Help → (result ≡ 0) ⊎ (result ≡ 3) }
+    ensures helped { asked_of_canplan (texts_of words.now) ≡ Option.Some Asked.Help → result ≡ 0
         → Appends (W.contents w.old) (W.contents w.new) HELP.now }
-    ensures refused { asked_by (texts_of words.now) ≡ Option.None → result ≡ 2 }
-    ensures misuse { result ≡ 2 → asked_by (texts_of words.now) ≡ Option.None }
+    ensures refused { asked_of_canplan (texts_of words.now) ≡ Option.None → result ≡ 2 }
+    ensures misuse { result ≡ 2 → asked_of_canplan (texts_of words.now) ≡ Option.None }
 
     // So is the version.
-    ensures version_status { asked_by (texts_of words.now) ≡ Option.Some Asked.Version → (result ≡ 0) ⊎ (result ≡ 3) }
-    ensures version_written { asked_by (texts_of words.now) ≡ Option.Some Asked.Version → result ≡ 0
+    ensures version_status { asked_of_canplan (texts_of words.now) ≡ Option.Some Asked.Version → (result ≡ 0) ⊎ (result ≡ 3) }
+    ensures version_written { asked_of_canplan (texts_of words.now) ≡ Option.Some Asked.Version → result ≡ 0
         → Appends (W.contents w.old) (W.contents w.new) VERSION.now }
 
     // Nothing else is read or written.
     ensures untouched { result ≡ 2 → (r.new ≡ r.old) × (w.new ≡ w.old) }
-    ensures help_reads_nothing { asked_by (texts_of words.now) ≡ Option.Some Asked.Help → r.new ≡ r.old }
-    ensures version_reads_nothing { asked_by (texts_of words.now) ≡ Option.Some Asked.Version → r.new ≡ r.old }
+    ensures help_reads_nothing { asked_of_canplan (texts_of words.now) ≡ Option.Some Asked.Help → r.new ≡ r.old }
+    ensures version_reads_nothing { asked_of_canplan (texts_of words.now) ≡ Option.Some Asked.Version → r.new ≡ r.old }
     ensures no_fault_line { result ≡ 0 → e.new ≡ e.old }
 {
     match read_words(words) {
@@ -101,8 +101,8 @@ fn answer<R: Source, W: Sink>(
     requires reader_unfailed { R.has_failed r.old ≡ false }
     requires reader_unended { R.has_ended r.old ≡ false }
     requires writer_unfailed { W.has_failed w.old ≡ false }
-    ensures told { Told R.remaining r.old r.new W.contents w.old w.new (Does form result) }
-    ensures streams { TellsStreams (R.has_failed r.new) (W.has_failed w.new) (exit_status fault_status result) }
+    ensures told { Told R.remaining r.old r.new W.contents w.old w.new (DoesAnswer form result) }
+    ensures streams { TellsStreams (R.has_failed r.new) (W.has_failed w.new) (exit_status canplan_status result) }
 {
     match answer_document(alloc, form, r, w)? {
         0 => Ok(()),
@@ -121,7 +121,7 @@ fn draw<R: Source, W: Sink>(
     requires reader_unended { R.has_ended r.old ≡ false }
     requires writer_unfailed { W.has_failed w.old ≡ false }
     ensures told { Told R.remaining r.old r.new W.contents w.old w.new (DoesTimeline message.now result) }
-    ensures streams { TellsStreams (R.has_failed r.new) (W.has_failed w.new) (exit_status fault_status result) }
+    ensures streams { TellsStreams (R.has_failed r.new) (W.has_failed w.new) (exit_status canplan_status result) }
 {
     write_timeline(alloc, message, r, w)?;
     Ok(())

@@ -1,6 +1,6 @@
 //! Why `canplan` did not do all that it was asked.
 ghost use Rattle.std.specs.Prelude.{◌≡◌};
-ghost use Rattle.canplan_commands.specs.Status.{fault_of, fault_status, worst_fault_of};
+ghost use Rattle.canplan_commands.specs.Status.{plan_fault_of, canplan_status, worst_fault_of};
 ghost use Rattle.canplan_commands.specs.declared.fault.CanplanFault.TheVariants.{Stream};
 
 use can_plan_text::{PlanFault, PlanField};
@@ -38,7 +38,7 @@ impl From<TraceFault> for CanplanFault {
 }
 
 impl From<PlanFault> for CanplanFault {
-    ghost from_gives = { λ fault own. own ≡ fault_of fault };
+    ghost from_gives = { λ fault own. own ≡ plan_fault_of fault };
 
     fn from(fault: PlanFault) -> CanplanFault {
         match fault {
@@ -62,7 +62,7 @@ impl From<WorstFault> for CanplanFault {
 }
 
 impl RunFault for CanplanFault {
-    ghost status_of = { fault_status };
+    ghost status_of = { canplan_status };
 
     fn status(&self) -> u8 {
         match self {

@@ -1,7 +1,7 @@
 //! What the words of a command line ask for.
 ghost use Rattle.std.specs.Prelude.{◌≡◌};
 ghost use Rattle.can_program.specs.Words.{texts_of};
-ghost use Rattle.canplan_commands.specs.Words.{asked_by, asked_of_message, asked_word, message_in};
+ghost use Rattle.canplan_commands.specs.Words.{asked_of_canplan, asked_of_message, canplan_word, message_in};
 
 /// What is asked for.
 #[derive(Clone, Copy, Debug, PartialEq, Eq)]
@@ -21,7 +21,7 @@ pub enum Asked {
 /// What the words ask for, the first of which is the program's name: the answer where there is no other, the answer with
 /// details, the scenario of a message's worst case, the help text or the version. Other words are no use of the program.
 pub fn read_words(words: &[String]) -> Option<Asked>
-    ensures { result ≡ asked_by (texts_of words.now) }
+    ensures { result ≡ asked_of_canplan (texts_of words.now) }
 {
     match words {
         [_] => Some(Asked::Answer),
@@ -33,7 +33,7 @@ pub fn read_words(words: &[String]) -> Option<Asked>
 
 /// What one word asks for.
 fn read_word(word: &str) -> Option<Asked>
-    ensures { result ≡ asked_word word.now }
+    ensures { result ≡ canplan_word word.now }
 {
     match word {
         "help" | "--help" | "-h" => Some(Asked::Help),

@@ -3,7 +3,7 @@ ghost use Rattle.std.specs.Prelude.{◌≡◌, ◌⊎◌, ◌↔◌, false, IfEr
 ghost use Rattle.can_stream.specs.Told.{Told};
 ghost use Rattle.can_plan_text.specs.declared.field.PlanField.{PlanField as Wrong};
 ghost use Rattle.can_program.specs.Written.{WritesBeginning, WritesNothing};
-ghost use Rattle.canplan_commands.specs.Runs.{Draws, IsTimelineFault, Refuses, RefusesLength, RefusesName};
+ghost use Rattle.canplan_commands.specs.Runs.{Draws, IsTimelineFault, RefusesNetwork, RefusesLength, RefusesName};
 
 use crate::fault::CanplanFault;
 use can_plan_worst::timeline;
@@ -26,7 +26,7 @@ pub fn write_timeline<R: Source, W: Sink>(
     // What was written of what was read.
     ensures ok { OnOk result (Told R.remaining r.old r.new W.contents w.old w.new (Draws message.now)) }
     ensures field { (wrong : Wrong) → IsErrOf result (CanplanFault.Field wrong) →
-        Told R.remaining r.old r.new W.contents w.old w.new (Refuses wrong) }
+        Told R.remaining r.old r.new W.contents w.old w.new (RefusesNetwork wrong) }
     ensures unknown { IsErrOf result CanplanFault.MessageUnknown → Told R.remaining r.old r.new W.contents w.old w.new (RefusesName message.now) }
     ensures too_long { IsErrOf result CanplanFault.TimelineTooLong → Told R.remaining r.old r.new W.contents w.old w.new (RefusesLength message.now) }
     ensures read { IsErrOf result (CanplanFault.Stream TraceFault.Read) → Told R.remaining r.old r.new W.contents w.old w.new WritesNothing }

@@ -97,6 +97,11 @@ ArePaired R (x ∷ xs) (y ∷ ys) = R x y × ArePaired R xs ys
 
 -- ---- what they say
 
+-- the number that a field says, 0 where it says none
+abbrev pub field_number : Option Data → ℕ
+field_number (Some (integer (pos n))) = n
+field_number _ = 0
+
 -- the number that a field says, or this one where it is left out
 abbrev pub SaysNumber : ℕ → Option Data → ℕ → Type 0
 SaysNumber usual None n = n ≡ usual

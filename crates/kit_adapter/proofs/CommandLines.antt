@@ -10,7 +10,7 @@ use Rattle.can_conform.specs.declared.script.TesterLevel.{TesterLevel}
 use Rattle.can_conform.specs.declared.script.TesterLevel.TheVariants.{Dominant, Recessive, Forced}
 use Rattle.can_node.specs.Ports.{PortState}
 use Rattle.kit_adapter.specs.Commands.{Command, begins, offers, wishes, plays, ends, is_tester_digit, quit_line, start_part, tester_digit, tester_of, IsCaseLine, IsCommandLine, IsPlayLine}
-use Rattle.kit_adapter.specs.Adapters.{answer_to, behind_command, IsStep}
+use Rattle.kit_adapter.specs.Adapters.{answer_to, behind_command, IsAnswered}
 
 -- ---- digits
 
@@ -93,7 +93,7 @@ play_found line digits starts some few are = record {
 
 -- what a line asks for is done
 pub step-done : {E : Type 0} (r : Result (Unit {0}) E) (line : List ℕ) (before : Option PortState) (cleared out : List ℕ) (after : Option PortState) (command : Command)
-    → IsCommandLine line command → cleared ≡ [] → OnOk r (out ≡ cleared ++ answer_to command before) → OnOk r (after ≡ behind_command command before) → OnOk r (IsStep line before out after)
+    → IsCommandLine line command → cleared ≡ [] → OnOk r (out ≡ cleared ++ answer_to command before) → OnOk r (after ≡ behind_command command before) → OnOk r (IsAnswered line before out after)
 step-done (Ok done) line before cleared out after command asked empty text port =
     inl (record { command = command; asked = asked; text = text ∙ ap (λ t. t ++ answer_to command before) empty; port = port })
 step-done (Err e) line before cleared out after command asked empty text port = tt
@@ -109,16 +109,16 @@ pub quit_from_front : (line : List ℕ) → take 4102 line ≡ quit_line → lin
 quit_from_front line is = sym (line_from_front line (omega (arith, ap length is))) ∙ is
 
 -- a line is answered as its front is
-pub IsStep-front : (line : List ℕ) (before : Option PortState) (answer : List ℕ) (after : Option PortState) → IsStep (take 4102 line) before answer after → IsStep line before answer after
-IsStep-front line before answer after (inl done) =
-    subst (λ l. IsStep l before answer after) (line_from_front line (command-short (take 4102 line) done.command done.asked)) (inl done)
-IsStep-front line before answer after (inr none) = by_length (cases_lt 4102 (length line))
+pub IsAnswered-front : (line : List ℕ) (before : Option PortState) (answer : List ℕ) (after : Option PortState) → IsAnswered (take 4102 line) before answer after → IsAnswered line before answer after
+IsAnswered-front line before answer after (inl done) =
+    subst (λ l. IsAnswered l before answer after) (line_from_front line (command-short (take 4102 line) done.command done.asked)) (inl done)
+IsAnswered-front line before answer after (inr none) = by_length (cases_lt 4102 (length line))
   where
-    by_length : (4102 < length line) ⊎ (length line ≤ 4102) → IsStep line before answer after
+    by_length : (4102 < length line) ⊎ (length line ≤ 4102) → IsAnswered line before answer after
     by_length (inl longer) = inr (record {
       unknown = λ c is. absurd (omega (arith, command-short line c is, longer));
       no_quit = λ is. absurd (omega (arith, ap length is, longer));
       text = none.text;
       port = none.port;
     })
-    by_length (inr within) = subst (λ l. IsStep l before answer after) (take_all 4102 line within) (inr none)
+    by_length (inr within) = subst (λ l. IsAnswered l before answer after) (take_all 4102 line within) (inr none)

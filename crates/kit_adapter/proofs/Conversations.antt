@@ -14,10 +14,10 @@ use Rattle.can_stream.specs.declared.fault.TraceFault.TheVariants.{BadByte, Read
 use Rattle.can_stream.specs.declared.lines.LineReader.{LineReader}
 use Rattle.can_stream.proofs.Turns.{PassesOn-flushed, TakesFront-flushed, unwritten}
 use Rattle.can_lines.proofs.Answering.{Answering, AtLine, Answering-more, AtLine-flushed, AtLine-read, ended_lines-last, whole_lines-ended}
-use Rattle.kit_adapter.specs.Adapters.{IsStep}
+use Rattle.kit_adapter.specs.Adapters.{IsAnswered}
 use Rattle.kit_adapter.specs.Commands.{quit_line}
-use Rattle.kit_adapter.specs.Plays.{Answers, AnswersFront, BeginsPlaying, Plays, PlaysAll, PlaysEnded, PlaysFront, greeting}
-use Rattle.kit_adapter.proofs.Running.{Answers-none, Answers-push, none_waits}
+use Rattle.kit_adapter.specs.Plays.{IsConversation, AnswersFront, BeginsPlaying, Plays, PlaysAll, PlaysEnded, PlaysFront, greeting}
+use Rattle.kit_adapter.proofs.Running.{IsConversation-none, IsConversation-push, none_waits}
 
 -- ---- line by line
 
@@ -25,37 +25,37 @@ module _ (before after held holds : Option (List ℕ)) where
   -- the greeting and the answers to the lines that were read are with the writer
   pub record IsTalking (port : Option PortState) (unread : List ℕ) (taken : ℕ) : Type 0 where
     pub number : ℕ
-    pub answering : Answering (Answers port) before after held holds unread [] taken number
+    pub answering : Answering (IsConversation port) before after held holds unread [] taken number
 
   -- the same, and one more line was read
   pub record HasRead (port : Option PortState) (found : Bool) (line unread : List ℕ) (taken : ℕ) : Type 0 where
     pub number : ℕ
-    pub at : AtLine (Answers port) before after held holds found line unread [] taken number
+    pub at : AtLine (IsConversation port) before after held holds found line unread [] taken number
 
 -- a line is read where nothing waits, and what did is written
 pub HasRead-next : (before between after held holds holds_now : Option (List ℕ)) (port : Option PortState) (found : Bool) (kept : ℕ) (old new : LineReader kept) (waiting : List ℕ)
     → IsTalking before between held holds port old.inbox.unread old.inbox.taken → (reads : ReadsLine found between after kept old new) → PassesOn holds holds_now [] waiting []
     → HasRead before after held holds_now port found reads.line new.inbox.unread new.inbox.taken
 HasRead-next before between after held holds holds_now port found kept old new waiting talk reads passes =
-    let at = AtLine-read (Answers port) before between after held holds found kept old new [] talk.number talk.answering reads in
+    let at = AtLine-read (IsConversation port) before between after held holds found kept old new [] talk.number talk.answering reads in
     let none : PassesOn holds holds_now [] [] [] = subst (λ ws. PassesOn holds holds_now [] ws []) (none_waits holds holds_now waiting passes) passes in
     record {
       number = talk.number;
-      at = AtLine-flushed (Answers port) before after held holds holds_now found reads.line new.inbox.unread [] [] new.inbox.taken talk.number at none;
+      at = AtLine-flushed (IsConversation port) before after held holds holds_now found reads.line new.inbox.unread [] [] new.inbox.taken talk.number at none;
     }
 
 module _ (before after held holds : Option (List ℕ)) (port : Option PortState) (line unread : List ℕ) (taken : ℕ) where
   -- the line was answered
   pub IsTalking-answered : (holds_now : Option (List ℕ)) (answer : List ℕ) (port_now : Option PortState) → HasRead before after held holds port true line unread taken
-      → IsStep line port answer port_now → Appends holds holds_now answer → IsTalking before after held holds_now port_now unread taken
+      → IsAnswered line port answer port_now → Appends holds holds_now answer → IsTalking before after held holds_now port_now unread taken
   IsTalking-answered holds_now answer port_now read step took =
       let at = read.at in
       let passes : PassesOn holds holds_now [] [] answer = record { taken = answer; appends = took; same = sym (append-nil answer) } in
-      let pushed : Answers port_now (at.lines ++ line ∷ []) ((at.output ++ []) ++ answer) = Answers-push port at.lines (at.output ++ []) line answer port_now at.answer step in
+      let pushed : IsConversation port_now (at.lines ++ line ∷ []) ((at.output ++ []) ++ answer) = IsConversation-push port at.lines (at.output ++ []) line answer port_now at.answer step in
       let same : (at.output ++ []) ++ answer ≡ (at.output ++ answer) ++ [] = ap (λ t. t ++ answer) (append-nil at.output) ∙ sym (append-nil (at.output ++ answer)) in
       record {
         number = read.number + 1;
-        answering = Answering-more (Answers port) (Answers port_now) before after held holds holds_now line unread [] [] answer taken read.number at passes (subst (Answers port_now (at.lines ++ line ∷ [])) same pushed);
+        answering = Answering-more (IsConversation port) (IsConversation port_now) before after held holds holds_now line unread [] [] answer taken read.number at passes (subst (IsConversation port_now (at.lines ++ line ∷ [])) same pushed);
       }
 
   -- ---- what has been written
@@ -66,7 +66,7 @@ module _ (before after held holds : Option (List ℕ)) (port : Option PortState)
     answered_before = record {
       lines = read.at.lines;
       split = whole_lines-ended false read.at;
-      answers = (port, subst (Answers port read.at.lines) (append-nil read.at.output) read.at.answer);
+      answers = (port, subst (IsConversation port read.at.lines) (append-nil read.at.output) read.at.answer);
     }
 
     pub PlaysAll-quit : line ≡ quit_line → PlaysAll read.at.input read.at.output
@@ -75,10 +75,10 @@ module _ (before after held holds : Option (List ℕ)) (port : Option PortState)
     pub PlaysFront-unanswered : PlaysFront read.at.input read.at.output
     PlaysFront-unanswered = (line ∷ ended_lines unread, answered_before)
 
-    pub BeginsPlaying-answer : (answer : List ℕ) (port_now : Option PortState) (took left : List ℕ) → IsStep line port answer port_now → answer ≡ took ++ left
+    pub BeginsPlaying-answer : (answer : List ℕ) (port_now : Option PortState) (took left : List ℕ) → IsAnswered line port answer port_now → answer ≡ took ++ left
         → BeginsPlaying read.at.input (read.at.output ++ took)
     BeginsPlaying-answer answer port_now took left step split =
-        let pushed : Answers port_now (read.at.lines ++ line ∷ []) ((read.at.output ++ []) ++ answer) = Answers-push port read.at.lines (read.at.output ++ []) line answer port_now read.at.answer step in
+        let pushed : IsConversation port_now (read.at.lines ++ line ∷ []) ((read.at.output ++ []) ++ answer) = IsConversation-push port read.at.lines (read.at.output ++ []) line answer port_now read.at.answer step in
         let same : (read.at.output ++ []) ++ answer ≡ (read.at.output ++ took) ++ left =
         ap (λ t. t ++ answer) (append-nil read.at.output) ∙ ap (λ t. read.at.output ++ t) split ∙ sym (append_assoc read.at.output took left) in (
           left,
@@ -87,7 +87,7 @@ module _ (before after held holds : Option (List ℕ)) (port : Option PortState)
             record {
               lines = read.at.lines ++ line ∷ [];
               split = whole_lines-ended false read.at ∙ sym (append_assoc read.at.lines (line ∷ []) (ended_lines unread));
-              answers = (port_now, subst (Answers port_now (read.at.lines ++ line ∷ [])) same pushed);
+              answers = (port_now, subst (IsConversation port_now (read.at.lines ++ line ∷ [])) same pushed);
             },
           ),
         )
@@ -98,7 +98,7 @@ module _ (before after held holds : Option (List ℕ)) (port : Option PortState)
     PlaysEnded-last = record {
       lines = read.at.lines;
       split = ended_lines-last read.at ∙ sym (append-nil read.at.lines);
-      answers = (port, subst (Answers port read.at.lines) (append-nil read.at.output) read.at.answer);
+      answers = (port, subst (IsConversation port read.at.lines) (append-nil read.at.output) read.at.answer);
     }
 
     pub PlaysAll-last : PlaysAll read.at.input read.at.output
@@ -106,7 +106,7 @@ module _ (before after held holds : Option (List ℕ)) (port : Option PortState)
 
 -- nothing was read, and the writer took a front of the greeting
 pub BeginsPlaying-greeting : (took left : List ℕ) → greeting ≡ took ++ left → BeginsPlaying [] took
-BeginsPlaying-greeting took left split = (left, ([], record { lines = []; split = refl; answers = (None, subst (Answers None []) split Answers-none) }))
+BeginsPlaying-greeting took left split = (left, ([], record { lines = []; split = refl; answers = (None, subst (IsConversation None []) split IsConversation-none) }))
 
 -- where the writer took a front of nothing, it took nothing
 took_nothing : (took left : List ℕ) → [] ≡ took ++ left → took ≡ []
@@ -164,7 +164,7 @@ module _ {R W : Type 0} (remaining : R → Option (List ℕ)) (r_before r : R) (
     }
 
     -- the answer was not written
-    pub Told-unwritten : (w_now : W) (answer : List ℕ) (port_now : Option PortState) → Reads true → IsStep line port answer port_now → TakesFront (contents w) (contents w_now) answer
+    pub Told-unwritten : (w_now : W) (answer : List ℕ) (port_now : Option PortState) → Reads true → IsAnswered line port answer port_now → TakesFront (contents w) (contents w_now) answer
         → Ends (Err Write) w_now
     Told-unwritten w_now answer port_now read step front = record {
       input = read.at.input;
@@ -202,13 +202,13 @@ module _ {R W : Type 0} (remaining : R → Option (List ℕ)) (r_before r : R) (
       → write_failed ≡ is_write e → StopsTurn e failed new.inbox.taken → Flushes write_failed (contents w) (contents w_now) [] waiting → Ends (Err e) w_now
   Told-unread w w_now port kept old new waiting between e failed write_failed talk reads is (inl stops) flushes =
       let fails = TakesFront-flushed write_failed _ _ [] waiting (is ∙ ap is_write stops.0) flushes in
-      let at = AtLine-read (Answers port) _ _ _ _ _ false kept old new [] talk.number talk.answering reads in
+      let at = AtLine-read (IsConversation port) _ _ _ _ _ false kept old new [] talk.number talk.answering reads in
       let took = fails.0.taken in
       let none : took ≡ [] = took_nothing took fails.0.left fails.0.split in
       let all : PlaysEnded at.input at.output = record {
         lines = at.lines;
         split = ended_lines-last at ∙ sym (append-nil at.lines);
-        answers = (port, subst (Answers port at.lines) (append-nil at.output) at.answer);
+        answers = (port, subst (IsConversation port at.lines) (append-nil at.output) at.answer);
       } in
       let begins : BeginsPlaying at.input (at.output ++ took) =
       ([], ([], subst (λ o. PlaysEnded at.input o) (sym (append-nil (at.output ++ took) ∙ ap (λ t. at.output ++ t) none ∙ append-nil at.output)) all)) in

@@ -5,29 +5,29 @@ use Rattle.can_node.specs.Ports.{PortState}
 use Rattle.can_stream.specs.LineReader.{ReadsLine}
 use Rattle.can_stream.specs.Outbox.{PassesOn}
 use Rattle.can_stream.specs.declared.lines.LineReader.{LineReader}
-use Rattle.kit_adapter.specs.Adapters.{IsRun, IsStep}
-use Rattle.kit_adapter.specs.Plays.{Answers, greeting}
+use Rattle.kit_adapter.specs.Adapters.{AreAnswered, IsAnswered}
+use Rattle.kit_adapter.specs.Plays.{IsConversation, greeting}
 
 -- one more line is answered
-pub IsRun-push : (before : Option PortState) (lines : List (List ℕ)) (answers : List ℕ) (between : Option PortState) (line answer : List ℕ) (after : Option PortState)
-    → IsRun before lines answers between → IsStep line between answer after → IsRun before (lines ++ line ∷ []) (answers ++ answer) after
-IsRun-push before [] answers between line answer after run step =
-    (answer, ([], (after, (subst (λ p. IsStep line p answer after) run.1 step, (ap (λ t. t ++ answer) run.0 ∙ sym (append-nil answer), (refl, refl))))))
-IsRun-push before (first ∷ lines) answers between line answer after run step =
+pub AreAnswered-push : (before : Option PortState) (lines : List (List ℕ)) (answers : List ℕ) (between : Option PortState) (line answer : List ℕ) (after : Option PortState)
+    → AreAnswered before lines answers between → IsAnswered line between answer after → AreAnswered before (lines ++ line ∷ []) (answers ++ answer) after
+AreAnswered-push before [] answers between line answer after run step =
+    (answer, ([], (after, (subst (λ p. IsAnswered line p answer after) run.1 step, (ap (λ t. t ++ answer) run.0 ∙ sym (append-nil answer), (refl, refl))))))
+AreAnswered-push before (first ∷ lines) answers between line answer after run step =
     let rest = run.1.0 in
     let mid = run.1.1.0 in
     let facts = run.1.1.1 in
-    (run.0, (rest ++ answer, (mid, (facts.0, (ap (λ t. t ++ answer) facts.1.0 ∙ append_assoc run.0 rest answer, IsRun-push mid lines rest between line answer after facts.1.1 step)))))
+    (run.0, (rest ++ answer, (mid, (facts.0, (ap (λ t. t ++ answer) facts.1.0 ∙ append_assoc run.0 rest answer, AreAnswered-push mid lines rest between line answer after facts.1.1 step)))))
 
 -- no line is answered yet
-pub Answers-none : Answers None [] greeting
-Answers-none = record { answers = []; run = (refl, refl); text = sym (append-nil greeting) }
+pub IsConversation-none : IsConversation None [] greeting
+IsConversation-none = record { answers = []; run = (refl, refl); text = sym (append-nil greeting) }
 
-pub Answers-push : (between : Option PortState) (lines : List (List ℕ)) (output line answer : List ℕ) (after : Option PortState)
-    → Answers between lines output → IsStep line between answer after → Answers after (lines ++ line ∷ []) (output ++ answer)
-Answers-push between lines output line answer after so_far step = record {
+pub IsConversation-push : (between : Option PortState) (lines : List (List ℕ)) (output line answer : List ℕ) (after : Option PortState)
+    → IsConversation between lines output → IsAnswered line between answer after → IsConversation after (lines ++ line ∷ []) (output ++ answer)
+IsConversation-push between lines output line answer after so_far step = record {
   answers = so_far.answers ++ answer;
-  run = IsRun-push None lines so_far.answers between line answer after so_far.run step;
+  run = AreAnswered-push None lines so_far.answers between line answer after so_far.run step;
   text = ap (λ t. t ++ answer) so_far.text ∙ append_assoc greeting so_far.answers answer;
 }
 

@@ -56,17 +56,17 @@ abbrev pub no_line_answer : List ℕ
 no_line_answer = codes "error no line of the protocol\n"
 
 -- what answers a line that wants a case
-abbrev pub in_case : Option PortState → (PortState → List ℕ) → List ℕ
-in_case None answer = no_case_answer
-in_case (Some p) answer = answer p
+abbrev pub if_begun : Option PortState → (PortState → List ℕ) → List ℕ
+if_begun None answer = no_case_answer
+if_begun (Some p) answer = answer p
 
 -- what answers what a line asks for, where the port of a case that has begun is this
 abbrev pub answer_to : Command → Option PortState → List ℕ
 answer_to (begins start) p = codes "ready\n"
-answer_to (offers f) p = in_case p (λ port. [])
-answer_to (wishes n) p = in_case p (λ port. [])
-answer_to (plays levels) p = in_case p (play_answer levels)
-answer_to ends p = in_case p state_answer
+answer_to (offers f) p = if_begun p (λ port. [])
+answer_to (wishes n) p = if_begun p (λ port. [])
+answer_to (plays levels) p = if_begun p (play_answer levels)
+answer_to ends p = if_begun p state_answer
 
 -- the port behind it
 abbrev pub behind_command : Command → Option PortState → Option PortState
@@ -91,14 +91,14 @@ pub record IsRefused (line : List ℕ) (before : Option PortState) (answer : Lis
   pub port : after ≡ before
 
 -- a line is answered so
-abbrev pub IsStep : List ℕ → Option PortState → List ℕ → Option PortState → Type 0
-IsStep line before answer after = IsDone line before answer after ⊎ IsRefused line before answer after
+abbrev pub IsAnswered : List ℕ → Option PortState → List ℕ → Option PortState → Type 0
+IsAnswered line before answer after = IsDone line before answer after ⊎ IsRefused line before answer after
 
 -- ---- line by line
 
 -- the answers to these lines, one behind another
-abbrev pub IsRun : Option PortState → List (List ℕ) → List ℕ → Option PortState → Type 0
-IsRun before [] answers after = (answers ≡ []) × (after ≡ before)
-IsRun before (line ∷ lines) answers after =
+abbrev pub AreAnswered : Option PortState → List (List ℕ) → List ℕ → Option PortState → Type 0
+AreAnswered before [] answers after = (answers ≡ []) × (after ≡ before)
+AreAnswered before (line ∷ lines) answers after =
     (answer : List ℕ) × ((rest : List ℕ) × ((between : Option PortState) ×
-    (IsStep line before answer between × ((answers ≡ answer ++ rest) × IsRun between lines rest after))))
+    (IsAnswered line before answer between × ((answers ≡ answer ++ rest) × AreAnswered between lines rest after))))

@@ -36,8 +36,8 @@ start_part Idle = codes " idle"
 start_part Joining = codes " joining"
 
 -- how many bit times a line plays at most
-abbrev pub most_levels : ℕ
-most_levels = 4096
+abbrev pub longest_play : ℕ
+longest_play = 4096
 
 -- `case NAME` and then this ending
 pub record IsCaseLine (line ending : List ℕ) : Type 0 where
@@ -58,7 +58,7 @@ pub record IsHoldLine (line : List ℕ) (n : ℕ) : Type 0 where
 -- `play LEVELS`, 1 to 4096 of them
 pub record IsPlayLine (line : List ℕ) (levels : List TesterLevel) : Type 0 where
   pub some : 1 ≤ length levels
-  pub few : length levels ≤ most_levels
+  pub few : length levels ≤ longest_play
   pub text : line ≡ codes "play " ++ map tester_digit levels
 
 -- the line asks for this

@@ -4,7 +4,7 @@ use Rattle.can_node.specs.Ports.{PortState}
 use Rattle.can_stream.specs.Lines.{ended_lines}
 use Rattle.can_stream.specs.declared.fault.TraceFault.{TraceFault}
 use Rattle.can_stream.specs.declared.fault.TraceFault.TheVariants.{BadByte, Read, Write, Long, FrameLine, ScenarioField, Memory}
-use Rattle.kit_adapter.specs.Adapters.{IsRun}
+use Rattle.kit_adapter.specs.Adapters.{AreAnswered}
 use Rattle.kit_adapter.specs.Commands.{quit_line}
 
 -- the first line that an adapter writes
@@ -12,14 +12,14 @@ abbrev pub greeting : List ℕ
 greeting = codes "can-kit 1 Riddlesage, the proved reference\n"
 
 -- the output is the greeting and the answers to these lines, behind which the port of the case is this
-pub record Answers (after : Option PortState) (lines : List (List ℕ)) (output : List ℕ) : Type 0 where
+pub record IsConversation (after : Option PortState) (lines : List (List ℕ)) (output : List ℕ) : Type 0 where
   pub answers : List ℕ
-  pub run : IsRun None lines answers after
+  pub run : AreAnswered None lines answers after
   pub text : output ≡ greeting ++ answers
 
 -- the same, however the port stands
 abbrev pub AnswersLines : List (List ℕ) → List ℕ → Type 0
-AnswersLines lines output = (after : Option PortState) × Answers after lines output
+AnswersLines lines output = (after : Option PortState) × IsConversation after lines output
 
 -- no line is left, or the next one ends the adapter
 abbrev pub IsStopped : List (List ℕ) → Type 0

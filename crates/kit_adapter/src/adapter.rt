@@ -27,7 +27,7 @@ pub(crate) struct Adapter {
 impl Adapter {
     ghost use Rattle.can_conform.specs.Runs.{started, wished};
     ghost use Rattle.can_node.specs.Ports.{with_offer};
-    ghost use Rattle.kit_adapter.specs.Adapters.{in_case, IsStep};
+    ghost use Rattle.kit_adapter.specs.Adapters.{if_begun, IsAnswered};
     ghost use Rattle.std.specs.Prelude.{[], codes, None, Some};
 
     /// No case has begun.
@@ -45,7 +45,7 @@ impl Adapter {
         out: &mut Vec<u8>,
     ) -> Result<(), AllocError>
         requires { line.now ≢ quit_line }
-        ensures { OnOk result (IsStep line.now (option_map ⟦<PackedNode as Port>⟧.port self.old.node) out.new.items (option_map ⟦<PackedNode as Port>⟧.port self.new.node)) }
+        ensures { OnOk result (IsAnswered line.now (option_map ⟦<PackedNode as Port>⟧.port self.old.node) out.new.items (option_map ⟦<PackedNode as Port>⟧.port self.new.node)) }
     {
         out.clear();
         if let Some(start) = start_in(line) {
@@ -77,7 +77,7 @@ impl Adapter {
 
     /// Offers a frame.
     fn offer(&mut self, frame: Frame, out: &mut Vec<u8>) -> Result<(), AllocError>
-        ensures text { OnOk result (out.new.items ≡ out.old.items ++ in_case (option_map ⟦<PackedNode as Port>⟧.port self.old.node) (λ port. [])) }
+        ensures text { OnOk result (out.new.items ≡ out.old.items ++ if_begun (option_map ⟦<PackedNode as Port>⟧.port self.old.node) (λ port. [])) }
         ensures port { OnOk result (option_map ⟦<PackedNode as Port>⟧.port self.new.node ≡ option_map (with_offer frame) (option_map ⟦<PackedNode as Port>⟧.port self.old.node)) }
     {
         match &mut self.node {
@@ -91,7 +91,7 @@ impl Adapter {
 
     /// Asks for overload frames.
     fn hold(&mut self, count: u8, out: &mut Vec<u8>) -> Result<(), AllocError>
-        ensures text { OnOk result (out.new.items ≡ out.old.items ++ in_case (option_map ⟦<PackedNode as Port>⟧.port self.old.node) (λ port. [])) }
+        ensures text { OnOk result (out.new.items ≡ out.old.items ++ if_begun (option_map ⟦<PackedNode as Port>⟧.port self.old.node) (λ port. [])) }
         ensures port { OnOk result (option_map ⟦<PackedNode as Port>⟧.port self.new.node ≡ option_map (wished count) (option_map ⟦<PackedNode as Port>⟧.port self.old.node)) }
     {
         match &mut self.node {
@@ -106,7 +106,7 @@ impl Adapter {
     /// Plays bit times.
     fn play(&mut self, digits: &[u8], out: &mut Vec<u8>) -> Result<(), AllocError>
         requires { length digits.now ≤ MOST_LEVELS }
-        ensures text { OnOk result (out.new.items ≡ out.old.items ++ in_case (option_map ⟦<PackedNode as Port>⟧.port self.old.node) (play_answer (map tester_by digits.now))) }
+        ensures text { OnOk result (out.new.items ≡ out.old.items ++ if_begun (option_map ⟦<PackedNode as Port>⟧.port self.old.node) (play_answer (map tester_by digits.now))) }
         ensures port { OnOk result (option_map ⟦<PackedNode as Port>⟧.port self.new.node ≡ option_map (behind_levels (map tester_by digits.now)) (option_map ⟦<PackedNode as Port>⟧.port self.old.node)) }
     {
         match &mut self.node {
@@ -117,7 +117,7 @@ impl Adapter {
 
     /// Tells what the port has come to.
     fn end(&self, out: &mut Vec<u8>) -> Result<(), AllocError>
-        ensures { OnOk result (out.new.items ≡ out.old.items ++ in_case (option_map ⟦<PackedNode as Port>⟧.port self.now.node) state_answer) }
+        ensures { OnOk result (out.new.items ≡ out.old.items ++ if_begun (option_map ⟦<PackedNode as Port>⟧.port self.now.node) state_answer) }
     {
         match &self.node {
             Some(node) => tell_state(node, out),

@@ -8,7 +8,7 @@ use crate::adapter::Adapter;
 use can_stream::{LineReader, Outbox, Sink, Source, TraceFault, write_all};
 use std::alloc::Global;
 
-/// How many bytes of a line are kept: one more than the longest line of the protocol has.
+/// How many bytes of a line are kept: one more than the longest line of the protocol has. The proofs have it too.
 const KEPT: usize = 4102;
 
 /// The first line that an adapter writes.

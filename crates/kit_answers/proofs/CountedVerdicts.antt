@@ -6,20 +6,20 @@ use Rattle.kit_cases.specs.declared.case.Case.{Case}
 use Rattle.kit_transcripts.specs.declared.told.Told.{Told}
 use Rattle.kit_verdicts.specs.declared.tally.Tally.{Tally}
 use Rattle.kit_verdicts.specs.Counts.{cases_in}
-use Rattle.kit_answers.specs.Judgements.{counted, AddVerdicts, Lines}
+use Rattle.kit_answers.specs.Judgements.{with_verdict, AddVerdicts, Lines}
 
 -- at most so many verdicts of each kind are counted
 abbrev pub HasAtMost : ℕ → Tally → Type 0
 HasAtMost n tally = (tally.passed ≤ n) × (tally.failed ≤ n)
 
-one-more : (n : ℕ) (tally : Tally) (verdict : Verdict) → HasAtMost n tally → HasAtMost (n + 1) (counted tally verdict)
+one-more : (n : ℕ) (tally : Tally) (verdict : Verdict) → HasAtMost n tally → HasAtMost (n + 1) (with_verdict tally verdict)
 one-more n tally Pass (passed, failed) = (omega (arith, passed), omega (arith, failed))
 one-more n tally (Fail failure) (passed, failed) = (omega (arith, passed), omega (arith, failed))
 
-pub counted-within : (n : ℕ) (before after : Tally) (verdict : Verdict) → after ≡ counted before verdict → HasAtMost n before → HasAtMost (n + 1) after
+pub counted-within : (n : ℕ) (before after : Tally) (verdict : Verdict) → after ≡ with_verdict before verdict → HasAtMost n before → HasAtMost (n + 1) after
 counted-within n before after verdict is few = subst (HasAtMost (n + 1)) (sym is) (one-more n before verdict few)
 
-one-counted : (before : Tally) (verdict : Verdict) → cases_in (counted before verdict) ≡ cases_in before + 1
+one-counted : (before : Tally) (verdict : Verdict) → cases_in (with_verdict before verdict) ≡ cases_in before + 1
 one-counted before Pass = omega arith
 one-counted before (Fail failure) = omega arith
 

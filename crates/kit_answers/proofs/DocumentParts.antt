@@ -1,5 +1,5 @@
 -- The parts of a document, read one after another: the top, the cases, the transcripts.
-use Rattle.std.proofs.Common.{◌≡◌, ℕ, suc, ◌<◌, List, [], ◌∷◌, length, Option, Some, None, All, refl, ap, subst}
+use Rattle.std.proofs.Common.{◌≡◌, ℕ, ◌<◌, List, [], ◌∷◌, length, Option, Some, None, All, subst}
 use Rattle.std.proofs.lemmas.List.Elements.{All-cons, All-nil}
 use Rattle.std.proofs.lemmas.List.Quantifiers.{position-Some}
 use Rattle.toml.specs.Data.{Data, table, no_members, same_key}
@@ -7,12 +7,13 @@ use Rattle.kit_cases.specs.declared.field.KitField.{KitField}
 use Rattle.document_values.specs.Demands.{Demands, followed, AllMet, IsFirstUnmet}
 use Rattle.document_values.specs.Values.{ArePaired, IsRequired}
 use Rattle.document_values.proofs.DemandLemmas.{met-followed, unmet-first, unmet-later}
+use Rattle.document_values.proofs.ReadLists.{length-paired}
 use Rattle.kit_cases.specs.declared.case.Case.{Case}
-use Rattle.kit_cases.specs.Cases.{cases_demands, name_of, SaysCase}
+use Rattle.kit_cases.specs.Cases.{cases_demands, case_name, SaysCase}
 use Rattle.kit_cases.specs.Words.{IsText}
 use Rattle.kit_transcripts.specs.declared.told.Told.{Told}
 use Rattle.kit_transcripts.specs.Transcripts.{place_where, transcripts_demands, SaysTranscript}
-use Rattle.kit_answers.specs.Documents.{cases_of, document_demands, top_demands, transcripts_of}
+use Rattle.kit_answers.specs.Documents.{cases_of, document_demands, document_top_demands, transcripts_of}
 
 -- ---- what is demanded
 
@@ -22,29 +23,22 @@ those_of_transcripts d = transcripts_demands (cases_of d) (transcripts_of d)
 abbrev behind_top : Data → Demands KitField
 behind_top d = followed (cases_demands (cases_of d)) (those_of_transcripts d)
 
-module _ (d : Data) (top : AllMet (top_demands d)) where
+module _ (d : Data) (top : AllMet (document_top_demands d)) where
   pub cases-unmet : (wrong : KitField) → IsFirstUnmet wrong (cases_demands (cases_of d)) → IsFirstUnmet wrong (document_demands d)
-  cases-unmet wrong unmet = unmet-later wrong (top_demands d) (behind_top d) top (unmet-first wrong (cases_demands (cases_of d)) (those_of_transcripts d) unmet)
+  cases-unmet wrong unmet = unmet-later wrong (document_top_demands d) (behind_top d) top (unmet-first wrong (cases_demands (cases_of d)) (those_of_transcripts d) unmet)
 
   pub transcripts-unmet : (wrong : KitField) → AllMet (cases_demands (cases_of d)) → IsFirstUnmet wrong (those_of_transcripts d) → IsFirstUnmet wrong (document_demands d)
-  transcripts-unmet wrong cases unmet = unmet-later wrong (top_demands d) (behind_top d) top (unmet-later wrong (cases_demands (cases_of d)) (those_of_transcripts d) cases unmet)
+  transcripts-unmet wrong cases unmet = unmet-later wrong (document_top_demands d) (behind_top d) top (unmet-later wrong (cases_demands (cases_of d)) (those_of_transcripts d) cases unmet)
 
   pub document-met : AllMet (cases_demands (cases_of d)) → AllMet (those_of_transcripts d) → AllMet (document_demands d)
-  document-met cases transcripts = met-followed (top_demands d) (behind_top d) top (met-followed (cases_demands (cases_of d)) (those_of_transcripts d) cases transcripts)
+  document-met cases transcripts = met-followed (document_top_demands d) (behind_top d) top (met-followed (cases_demands (cases_of d)) (those_of_transcripts d) cases transcripts)
 
 -- ---- which case a transcript is of
 
--- paired lists are equally long
-pub length-paired : {A B : Type 0} (R : A → B → Type 0) (xs : List A) (ys : List B) → ArePaired R xs ys → length xs ≡ length ys
-length-paired R [] [] pairs = refl
-length-paired R [] (y ∷ ys) pairs = absurd pairs
-length-paired R (x ∷ xs) [] pairs = absurd pairs
-length-paired R (x ∷ xs) (y ∷ ys) pairs = ap suc (length-paired R xs ys pairs.1)
-
 -- the place of a case that a field names is one of these tables'
-place-within : (tables : List Data) (place : ℕ) (field : Option Data) → IsRequired (IsText (λ name. place_where name_of name tables ≡ Some place)) field → place < length tables
+place-within : (tables : List Data) (place : ℕ) (field : Option Data) → IsRequired (IsText (λ name. place_where case_name name tables ≡ Some place)) field → place < length tables
 place-within tables place None said = absurd said
-place-within tables place (Some d) (name, is, at) = (position-Some (λ one. same_key name (name_of one)) tables place (table no_members) at).0
+place-within tables place (Some d) (name, is, at) = (position-Some (λ one. same_key name (case_name one)) tables place (table no_members) at).0
 
 -- each transcript is of one of the cases
 pub cases-known : (tables : List Data) (cases : List Case) (ds : List Data) (transcripts : List Told) → ArePaired SaysCase tables cases → ArePaired (SaysTranscript tables) ds transcripts

@@ -6,15 +6,12 @@ use Rattle.std.proofs.lemmas.List.{append-nil, drop_all, get_or-replicate, get_o
 use Rattle.std.proofs.lemmas.List.Folds.{fold-map}
 use Rattle.std.proofs.lemmas.List.FromFn.{get_or-map-range_with_len, length-map-range_with_len}
 use Rattle.std.proofs.lemmas.List.Prefix.{front_from_reads}
+use Rattle.kit_cases.proofs.NamesBefore.{or_false}
 use Rattle.kit_transcripts.specs.declared.told.Told.{Told}
 use Rattle.kit_answers.specs.Judgements.{has_one}
-use Rattle.kit_answers.specs.Marks.{marked}
+use Rattle.kit_answers.specs.Marks.{with_marks}
 
-or_false : (b : Bool) → b ≡ (b || false)
-or_false true = refl
-or_false false = refl
-
-length-marked : (transcripts : List Told) (marks : List Bool) → length (marked transcripts marks) ≡ length marks
+length-marked : (transcripts : List Told) (marks : List Bool) → length (with_marks transcripts marks) ≡ length marks
 length-marked [] marks = refl
 length-marked (told ∷ transcripts) marks = length-marked transcripts (set marks told.case true) ∙ length-set marks told.case true
 
@@ -38,16 +35,16 @@ set-mark marks at k rest within =
     ∙ sym (or_true (get_or marks k false)) ∙ ap (λ b. get_or marks k false || (b || rest)) (sym is) in
     true_or_false (at == k) here other
 
-marked-at : (transcripts : List Told) (marks : List Bool) (k : ℕ) → k < length marks → get_or (marked transcripts marks) k false ≡ (get_or marks k false || has_one transcripts k)
-marked-at [] marks k within = or_false (get_or marks k false)
+marked-at : (transcripts : List Told) (marks : List Bool) (k : ℕ) → k < length marks → get_or (with_marks transcripts marks) k false ≡ (get_or marks k false || has_one transcripts k)
+marked-at [] marks k within = sym (or_false (get_or marks k false))
 marked-at (told ∷ transcripts) marks k within =
     let longer : k < length (set marks told.case true) = omega (arith, length-set marks told.case true) in
     marked-at transcripts (set marks told.case true) k longer ∙ set-mark marks told.case k (has_one transcripts k) within
 
 -- of marks that stood nowhere
-pub marked-all : (transcripts : List Told) (n : ℕ) → marked transcripts (replicate n false) ≡ map (has_one transcripts) (range_with_len 0 n)
+pub marked-all : (transcripts : List Told) (n : ℕ) → with_marks transcripts (replicate n false) ≡ map (has_one transcripts) (range_with_len 0 n)
 marked-all transcripts n =
-    let marks = marked transcripts (replicate n false) in
+    let marks = with_marks transcripts (replicate n false) in
     let places = map (has_one transcripts) (range_with_len 0 n) in
     let long : length marks ≡ n = length-marked transcripts (replicate n false) ∙ length-replicate n false in
     let long_places : length places ≡ n = length-map-range_with_len (has_one transcripts) 0 n in

@@ -5,14 +5,14 @@ use Rattle.toml.specs.Data.{Data, string}
 use Rattle.kit_cases.specs.declared.field.KitField.{KitField}
 use Rattle.kit_cases.specs.declared.field.KitField.TheVariants.{Case, Transcript}
 use Rattle.document_values.specs.Values.{elements_in, named, IsDocument}
-use Rattle.kit_words.specs.Names.{longest_name, IsName}
+use Rattle.kit_words.specs.Names.{longest_name, IsKitName}
 
 -- a field of the table of this number in a list of the document is this name
 pub record NamesTable (list : List ℕ) (number : ℕ) (part : List ℕ) (d : Data) (name : List ℕ) : Type 0 where
   pub one : Data
   pub is : slice_get (elements_in (named list d)) number ≡ Some one
   pub said : named part one ≡ Some (string name)
-  pub word : IsName longest_name name
+  pub word : IsKitName longest_name name
 
 -- the field is of the case of this name: of its table, or of that of its transcript
 abbrev pub IsOfCase : KitField → Data → List ℕ → Type 0

@@ -25,8 +25,8 @@ abbrev pub transcripts_of : Data → List Data
 transcripts_of d = elements_in (named (codes "transcript") d)
 
 -- the fields at the top: two lists of at most 4096 tables each, which may be left out
-abbrev pub top_demands : Data → Demands KitField
-top_demands d =
+abbrev pub document_top_demands : Data → Demands KitField
+document_top_demands d =
     demand field.Unknown (are_known document_fields (members_in d) ≡ true)
     (demand field.Cases (IsOptional (IsArrayOf 0 4096) (named (codes "case") d))
     (demand field.Transcripts (IsOptional (IsArrayOf 0 4096) (named (codes "transcript") d))
@@ -35,7 +35,7 @@ top_demands d =
 -- the top, then each case, then each transcript
 abbrev pub document_demands : Data → Demands KitField
 document_demands d =
-    followed (top_demands d)
+    followed (document_top_demands d)
     (followed (cases_demands (cases_of d))
     (transcripts_demands (cases_of d) (transcripts_of d)))
 

@@ -21,9 +21,9 @@ abbrev pub no_cases : Tally
 no_cases = record { passed = 0; failed = 0; void = 0; skipped = 0 }
 
 -- one more has this verdict
-abbrev pub counted : Tally → Verdict → Tally
-counted tally Pass = record { passed = tally.passed + 1; failed = tally.failed; void = tally.void; skipped = tally.skipped }
-counted tally (Fail failure) = record { passed = tally.passed; failed = tally.failed + 1; void = tally.void; skipped = tally.skipped }
+abbrev pub with_verdict : Tally → Verdict → Tally
+with_verdict tally Pass = record tally { passed = tally.passed + 1 }
+with_verdict tally (Fail failure) = record tally { failed = tally.failed + 1 }
 
 -- one of the transcripts is of the case at this place
 abbrev pub has_one : List Told → ℕ → Bool
@@ -50,7 +50,7 @@ pub record AddsVerdict (case : Case) (told : Told) (before after : Lines) : Type
   pub verdict : Verdict
   pub judged : IsVerdict case.script told.transcript verdict
   pub line : after.text ≡ before.text ++ verdict_line (string_bytes case.name) case.choices.items verdict
-  pub count : after.tally ≡ counted before.tally verdict
+  pub count : after.tally ≡ with_verdict before.tally verdict
 
 -- behind these lines such a line for each transcript of one of these cases, one after another
 abbrev pub AddVerdicts : List Case → List Told → Lines → Lines → Type 0
@@ -61,12 +61,13 @@ AddVerdicts cases (told ∷ transcripts) before after =
 
 -- the answer is a line for each transcript of the document, and behind them this count of their verdicts, and of the
 -- cases without a transcript
-pub record IsAnswer (document : Document) (answer : List ℕ) (tally : Tally) : Type 0 where
+pub record TellsVerdicts (document : Document) (answer : List ℕ) (tally : Tally) : Type 0 where
   pub lines : List ℕ
-  pub verdicts : AddVerdicts document.cases.items document.transcripts.items (lines_with [] no_cases) (lines_with lines tally)
+  pub verdicts : AddVerdicts document.cases.items document.transcripts.items
+      (lines_with [] no_cases) (lines_with lines tally)
   pub each : cases_in tally ≡ length document.transcripts.items
   pub all : answer ≡ lines ++ count_line tally (cases_without document)
 
 -- the bytes are a kit document with this answer
 abbrev pub IsJudged : (bytes answer : List ℕ) (tally : Tally) → Type 0
-IsJudged bytes answer tally = (document : Document) × IsKitText bytes document × IsAnswer document answer tally
+IsJudged bytes answer tally = (document : Document) × IsKitText bytes document × TellsVerdicts document answer tally

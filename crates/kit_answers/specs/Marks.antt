@@ -3,6 +3,6 @@ use Rattle.std.specs.Prelude.{Bool, true, List, [], ◌∷◌, set}
 use Rattle.kit_transcripts.specs.declared.told.Told.{Told}
 
 -- the marks, with those at the places of these transcripts' cases
-abbrev pub marked : List Told → List Bool → List Bool
-marked [] marks = marks
-marked (told ∷ transcripts) marks = marked transcripts (set marks told.case true)
+abbrev pub with_marks : List Told → List Bool → List Bool
+with_marks [] marks = marks
+with_marks (told ∷ transcripts) marks = with_marks transcripts (set marks told.case true)

@@ -7,9 +7,9 @@ ghost use Rattle.kit_cases.specs.declared.field.KitField.{KitField as Wrong};
 ghost use Rattle.document_values.specs.Demands.{AllMet, IsFirstUnmet};
 ghost use Rattle.document_values.specs.Refusals.{IsNoDocument};
 ghost use Rattle.document_values.specs.Values.{elements_in, named, IsDocument, IsOptional};
-ghost use Rattle.kit_cases.specs.Cases.{most_bits};
+ghost use Rattle.kit_cases.specs.Cases.{longest_case};
 ghost use Rattle.kit_cases.specs.Lists.{IsArrayOf};
-ghost use Rattle.kit_answers.specs.Documents.{cases_of, document_demands, top_demands, transcripts_of, IsKitText, IsWrongKitField, SaysDocument};
+ghost use Rattle.kit_answers.specs.Documents.{cases_of, document_demands, document_top_demands, transcripts_of, IsKitText, IsWrongKitField, SaysDocument};
 
 use document_values::{DocumentFault, elements_or_none, has_only, read_document};
 use kit_cases::{Case, KitFault, KitField, read_cases};
@@ -40,7 +40,7 @@ impl Document {
     /// each transcript. `Memory` says that memory ran out. The document holds all memory that it needs.
     pub fn from_text(alloc: Global, text: &[u8]) -> Result<Document, KitFault>
         ensures found { IfOk result (IsKitText text.now) }
-        ensures short { IfOk result (λ document. All (λ one. length one.script.tester.items ≤ most_bits) document.cases.items) }
+        ensures short { IfOk result (λ document. All (λ one. length one.script.tester.items ≤ longest_case) document.cases.items) }
         ensures told { IfOk result (λ document. All (λ one. IsTold one.transcript) document.transcripts.items) }
         ensures known { IfOk result (λ document. All (λ one. one.case < length document.cases.items) document.transcripts.items) }
         ensures few { IfOk result (λ document. length document.transcripts.items ≤ 4096) }
@@ -66,7 +66,7 @@ pub(crate) fn read_fields(alloc: Global, text: &[u8]) -> Result<Table, KitFault>
 /// Reads the cases and transcripts of a document with these fields.
 pub(crate) fn read_tables(alloc: Global, fields: &Table) -> Result<Document, KitFault>
     ensures said { IfOk result (SaysDocument (table (table_view fields.now))) }
-    ensures short { IfOk result (λ document. All (λ one. length one.script.tester.items ≤ most_bits) document.cases.items) }
+    ensures short { IfOk result (λ document. All (λ one. length one.script.tester.items ≤ longest_case) document.cases.items) }
     ensures told { IfOk result (λ document. All (λ one. IsTold one.transcript) document.transcripts.items) }
     ensures known { IfOk result (λ document. All (λ one. one.case < length document.cases.items) document.transcripts.items) }
     ensures few { IfOk result (λ document. length document.transcripts.items ≤ 4096) }
@@ -90,8 +90,8 @@ fn read_top(fields: &Table) -> Result<Top<'_>, KitFault>
     ensures cases { IfOk result (λ top. map view top.cases.now ≡ cases_of (table (table_view fields.now))) }
     ensures transcripts { IfOk result (λ top. map view top.transcripts.now ≡ transcripts_of (table (table_view fields.now))) }
     ensures few { IfOk result (λ top. length top.transcripts.now ≤ 4096) }
-    ensures met { OnOk result (AllMet (top_demands (table (table_view fields.now)))) }
-    ensures unmet { (wrong : Wrong) → IsErrOf result (KitFault.Field wrong) → IsFirstUnmet wrong (top_demands (table (table_view fields.now))) }
+    ensures met { OnOk result (AllMet (document_top_demands (table (table_view fields.now)))) }
+    ensures unmet { (wrong : Wrong) → IsErrOf result (KitFault.Field wrong) → IsFirstUnmet wrong (document_top_demands (table (table_view fields.now))) }
 {
     if !has_only(fields, &DOCUMENT_FIELDS) {
         return Err(KitFault::Field(KitField::Unknown));

@@ -1,7 +1,7 @@
 //! A document with the transcripts of the reference behind it.
 ghost use Rattle.std.specs.Prelude.{◌≤◌, All, length, IfOk, IsErrOf, OnOk};
 ghost use Rattle.kit_cases.specs.declared.field.KitField.{KitField as Wrong};
-ghost use Rattle.kit_cases.specs.Cases.{most_bits};
+ghost use Rattle.kit_cases.specs.Cases.{longest_case};
 ghost use Rattle.kit_answers.specs.Documents.{IsWrongKitField};
 ghost use Rattle.kit_answers.specs.Expectations.{cases_alone_demands, AddTables, IsCasesText, IsExpected};
 
@@ -29,7 +29,7 @@ pub fn expected(alloc: Global, text: &[u8]) -> Result<Vec<u8>, KitFault>
 /// one.
 fn read_alone(alloc: Global, text: &[u8]) -> Result<Document, KitFault>
     ensures read { IfOk result (IsCasesText text.now) }
-    ensures short { IfOk result (λ document. All (λ one. length one.script.tester.items ≤ most_bits) document.cases.items) }
+    ensures short { IfOk result (λ document. All (λ one. length one.script.tester.items ≤ longest_case) document.cases.items) }
     ensures wrong { (wrong : Wrong) → IsErrOf result (KitFault.Field wrong) → IsWrongKitField cases_alone_demands wrong text.now }
 {
     let fields = read_fields(alloc, text)?;
@@ -42,7 +42,7 @@ fn read_alone(alloc: Global, text: &[u8]) -> Result<Document, KitFault>
 
 /// The bytes, and behind them the table of each case's transcript.
 fn with_tables(alloc: Global, text: &[u8], cases: &[Case]) -> Result<Vec<u8>, AllocError>
-    requires { All (λ one. length one.script.tester.items ≤ most_bits) cases.now }
+    requires { All (λ one. length one.script.tester.items ≤ longest_case) cases.now }
     ensures { IfOk result (λ answer. AddTables cases.now text.now answer.items) }
 {
     let mut answer = Vec::from_slice(alloc, text)?;
@@ -52,7 +52,7 @@ fn with_tables(alloc: Global, text: &[u8], cases: &[Case]) -> Result<Vec<u8>, Al
 
 /// Appends the table of each case's transcript.
 fn push_tables(alloc: Global, out: &mut Vec<u8>, cases: &[Case]) -> Result<(), AllocError>
-    requires { All (λ one. length one.script.tester.items ≤ most_bits) cases.now }
+    requires { All (λ one. length one.script.tester.items ≤ longest_case) cases.now }
     ensures { OnOk result (AddTables cases.now out.old.items out.new.items) }
 {
     for case in cases {

@@ -4,10 +4,10 @@ ghost use Rattle.std.specs.String.{string_bytes};
 ghost use Rattle.kit_verdicts.specs.Verdicts.{verdict_line};
 ghost use Rattle.can_conform.specs.Transcripts.{IsTold};
 ghost use Rattle.kit_cases.specs.declared.field.KitField.{KitField as Wrong};
-ghost use Rattle.kit_cases.specs.Cases.{most_bits};
+ghost use Rattle.kit_cases.specs.Cases.{longest_case};
 ghost use Rattle.kit_answers.specs.Documents.{document_demands, IsWrongKitField};
-ghost use Rattle.kit_answers.specs.Marks.{marked};
-ghost use Rattle.kit_answers.specs.Judgements.{cases_without as without_in, counted as counted_as, lines_with, no_cases, AddVerdicts, AddsVerdict, IsAnswer, IsJudged};
+ghost use Rattle.kit_answers.specs.Marks.{with_marks};
+ghost use Rattle.kit_answers.specs.Judgements.{cases_without as without_in, with_verdict, lines_with, no_cases, AddVerdicts, AddsVerdict, TellsVerdicts, IsJudged};
 
 use crate::document::Document;
 use can_conform::{Verdict, judge};
@@ -40,11 +40,11 @@ pub fn judged(alloc: Global, text: &[u8]) -> Result<Judgement, KitFault>
 
 /// Judges each transcript of a document.
 fn judge_all(alloc: Global, document: &Document) -> Result<Judgement, AllocError>
-    requires short { All (λ one. length one.script.tester.items ≤ most_bits) document.now.cases.items }
+    requires short { All (λ one. length one.script.tester.items ≤ longest_case) document.now.cases.items }
     requires told { All (λ one. IsTold one.transcript) document.now.transcripts.items }
     requires known { All (λ one. one.case < length document.now.cases.items) document.now.transcripts.items }
     requires few { length document.now.transcripts.items ≤ 4096 }
-    ensures { IfOk result (λ judgement. IsAnswer document.now judgement.lines.items judgement.tally) }
+    ensures { IfOk result (λ judgement. TellsVerdicts document.now judgement.lines.items judgement.tally) }
 {
     let mut lines = Vec::new(alloc);
     let tally = push_verdicts(alloc, &mut lines, &document.cases, &document.transcripts)?;
@@ -64,7 +64,7 @@ fn cases_without(alloc: Global, document: &Document) -> Result<usize, AllocError
 /// A mark for each of so many cases, set where one of these transcripts is of it.
 fn marks_of(alloc: Global, number: usize, transcripts: &[Told]) -> Result<Vec<bool>, AllocError>
     requires { All (λ one. one.case < number) transcripts.now }
-    ensures { IfOk result (λ marks. marks.items ≡ marked transcripts.now (replicate number false)) }
+    ensures { IfOk result (λ marks. marks.items ≡ with_marks transcripts.now (replicate number false)) }
 {
     let mut marks = no_marks(alloc, number)?;
     mark(&mut marks, transcripts);
@@ -88,7 +88,7 @@ fn no_marks(alloc: Global, number: usize) -> Result<Vec<bool>, AllocError>
 /// Marks the places of the cases that these transcripts are of.
 fn mark(marks: &mut [bool], transcripts: &[Told])
     requires { All (λ one. one.case < length marks.old) transcripts.now }
-    ensures { marks.new ≡ marked transcripts.now marks.old }
+    ensures { marks.new ≡ with_marks transcripts.now marks.old }
 {
     for told in transcripts {
         marks[told.case] = true;
@@ -102,7 +102,7 @@ fn push_verdicts(
     cases: &[Case],
     transcripts: &[Told],
 ) -> Result<Tally, AllocError>
-    requires short { All (λ one. length one.script.tester.items ≤ most_bits) cases.now }
+    requires short { All (λ one. length one.script.tester.items ≤ longest_case) cases.now }
     requires told { All (λ one. IsTold one.transcript) transcripts.now }
     requires known { All (λ one. one.case < length cases.now) transcripts.now }
     requires few { length transcripts.now ≤ 4096 }
@@ -123,7 +123,7 @@ fn push_one(
     told: &Told,
     tally: Tally,
 ) -> Result<Tally, AllocError>
-    requires short { length case.now.script.tester.items ≤ most_bits }
+    requires short { length case.now.script.tester.items ≤ longest_case }
     requires told { IsTold told.now.transcript }
     requires few { (tally.passed ≤ 4095) × (tally.failed ≤ 4095) }
     ensures { IfOk result (λ counts. AddsVerdict case.now told.now (lines_with out.old.items tally) (lines_with out.new.items counts)) }
@@ -143,7 +143,7 @@ fn push_said(
 ) -> Result<Tally, AllocError>
     requires few { (tally.passed ≤ 4095) × (tally.failed ≤ 4095) }
     ensures line { OnOk result (out.new.items ≡ out.old.items ++ verdict_line (string_bytes case.now.name) case.now.choices.items verdict.now) }
-    ensures count { IfOk result (λ counts. counts ≡ counted_as tally verdict.now) }
+    ensures count { IfOk result (λ counts. counts ≡ with_verdict tally verdict.now) }
 {
     push_verdict(out, case.name.as_bytes(), &case.choices, verdict)?;
     Ok(counted(tally, verdict))
@@ -152,7 +152,7 @@ fn push_said(
 /// One more transcript has this verdict.
 fn counted(tally: Tally, verdict: &Verdict) -> Tally
     requires { (tally.passed ≤ 4095) × (tally.failed ≤ 4095) }
-    ensures { result ≡ counted_as tally verdict.now }
+    ensures { result ≡ with_verdict tally verdict.now }
 {
     match verdict {
         Verdict::Pass => Tally {

@@ -4,28 +4,28 @@ use Rattle.toml.specs.Data.{Data}
 use Rattle.kit_cases.specs.declared.field.KitField.{KitField}
 use Rattle.kit_cases.specs.declared.field.CaseField.TheVariants as of_case
 use Rattle.document_values.specs.Demands.{Demands, no_demands, demand, followed, demands_on_each, AllMet, IsFirstUnmet}
-use Rattle.document_values.specs.Values.{are_known, elements_in, members_in, named, IsNumber, IsRequired}
+use Rattle.document_values.specs.Values.{are_known, elements_in, members_in, named, field_number, IsNumber, IsRequired}
 use Rattle.document_values.proofs.DemandLemmas.{met-followed, unmet-first, unmet-later}
 use Rattle.kit_cases.specs.declared.words.Needs.{Needs}
 use Rattle.kit_cases.specs.declared.lists.CaseList.TheVariants.{Offers, Holds, Forced}
-use Rattle.kit_cases.specs.Cases.{bits_of, case_fields, fields_demands, forced_demands, head_demands, lists_demands, naming_demands, strings_of, tester_demands, in_case, NeedsAll}
-use Rattle.kit_cases.specs.Lists.{list_demands, number_in, SaysHold, SaysOffer, SaysTime}
+use Rattle.kit_cases.specs.Cases.{case_bits, case_fields, case_fields_demands, forced_demands, head_demands, lists_demands, case_naming_demands, strings_of, tester_demands, in_case, NeedsAll}
+use Rattle.kit_cases.specs.Lists.{case_list_demands, SaysHold, SaysOffer, SaysTime}
 
 -- the number of a field that has one
-pub number-said : (field : Option Data) (n : ℕ) → IsRequired (IsNumber n) field → n ≡ number_in field
-number-said None n said = absurd said
-number-said (Some d) n said = sym (ap (λ e. number_in (Some e)) said)
+pub field_number-is : (field : Option Data) (n : ℕ) → IsRequired (IsNumber n) field → n ≡ field_number field
+field_number-is None n said = absurd said
+field_number-is (Some d) n said = sym (ap (λ e. field_number (Some e)) said)
 
 -- ---- lists
 
 abbrev offers_demands : ℕ → ℕ → Data → Demands KitField
-offers_demands number bits d = list_demands Offers SaysOffer number bits d
+offers_demands number bits d = case_list_demands Offers SaysOffer number bits d
 
 abbrev holds_demands : ℕ → ℕ → Data → Demands KitField
-holds_demands number bits d = list_demands Holds SaysHold number bits d
+holds_demands number bits d = case_list_demands Holds SaysHold number bits d
 
 abbrev times_demands : ℕ → ℕ → Data → Demands KitField
-times_demands number bits d = list_demands Forced SaysTime number bits d
+times_demands number bits d = case_list_demands Forced SaysTime number bits d
 
 -- the tester is recessive at each forced time
 abbrev all_forced_demands : ℕ → Data → Demands KitField
@@ -60,7 +60,7 @@ abbrev behind_lists : ℕ → Data → Demands KitField
 behind_lists number d = demand (in_case number of_case.Needs) ((needs : Needs) × NeedsAll d needs) no_demands
 
 abbrev behind_tester : ℕ → Data → Demands KitField
-behind_tester number d = followed (lists_demands number (bits_of d) d) (behind_lists number d)
+behind_tester number d = followed (lists_demands number (case_bits d) d) (behind_lists number d)
 
 abbrev behind_head : ℕ → Data → Demands KitField
 behind_head number d = followed (tester_demands number d) (behind_tester number d)
@@ -68,28 +68,28 @@ behind_head number d = followed (tester_demands number d) (behind_tester number 
 abbrev behind_naming : ℕ → Data → Demands KitField
 behind_naming number d = followed (head_demands number d) (behind_head number d)
 
-module _ (earlier : List Data) (number : ℕ) (d : Data) (known : are_known case_fields (members_in d) ≡ true) (naming : AllMet (naming_demands earlier number d)) (head : AllMet (head_demands number d)) where
-  behind : (wrong : KitField) → IsFirstUnmet wrong (behind_head number d) → IsFirstUnmet wrong (fields_demands earlier number d)
-  behind wrong unmet = inr (known, unmet-later wrong (naming_demands earlier number d) (behind_naming number d) naming (unmet-later wrong (head_demands number d) (behind_head number d) head unmet))
+module _ (earlier : List Data) (number : ℕ) (d : Data) (known : are_known case_fields (members_in d) ≡ true) (naming : AllMet (case_naming_demands earlier number d)) (head : AllMet (head_demands number d)) where
+  behind : (wrong : KitField) → IsFirstUnmet wrong (behind_head number d) → IsFirstUnmet wrong (case_fields_demands earlier number d)
+  behind wrong unmet = inr (known, unmet-later wrong (case_naming_demands earlier number d) (behind_naming number d) naming (unmet-later wrong (head_demands number d) (behind_head number d) head unmet))
 
-  pub tester-unmet : (wrong : KitField) → IsFirstUnmet wrong (tester_demands number d) → IsFirstUnmet wrong (fields_demands earlier number d)
+  pub tester-unmet : (wrong : KitField) → IsFirstUnmet wrong (tester_demands number d) → IsFirstUnmet wrong (case_fields_demands earlier number d)
   tester-unmet wrong unmet = behind wrong (unmet-first wrong (tester_demands number d) (behind_tester number d) unmet)
 
-  pub lists-unmet : (wrong : KitField) → AllMet (tester_demands number d) → IsFirstUnmet wrong (lists_demands number (bits_of d) d) → IsFirstUnmet wrong (fields_demands earlier number d)
+  pub lists-unmet : (wrong : KitField) → AllMet (tester_demands number d) → IsFirstUnmet wrong (lists_demands number (case_bits d) d) → IsFirstUnmet wrong (case_fields_demands earlier number d)
   lists-unmet wrong tester unmet =
-      behind wrong (unmet-later wrong (tester_demands number d) (behind_tester number d) tester (unmet-first wrong (lists_demands number (bits_of d) d) (behind_lists number d) unmet))
+      behind wrong (unmet-later wrong (tester_demands number d) (behind_tester number d) tester (unmet-first wrong (lists_demands number (case_bits d) d) (behind_lists number d) unmet))
 
-  pub needs-unmet : AllMet (tester_demands number d) → AllMet (lists_demands number (bits_of d) d) → ((needs : Needs) → NeedsAll d needs → ⊥) → IsFirstUnmet (in_case number of_case.Needs) (fields_demands earlier number d)
+  pub needs-unmet : AllMet (tester_demands number d) → AllMet (lists_demands number (case_bits d) d) → ((needs : Needs) → NeedsAll d needs → ⊥) → IsFirstUnmet (in_case number of_case.Needs) (case_fields_demands earlier number d)
   needs-unmet tester lists none =
       let wrong = in_case number of_case.Needs in
       behind wrong (unmet-later wrong (tester_demands number d) (behind_tester number d) tester
-      (unmet-later wrong (lists_demands number (bits_of d) d) (behind_lists number d) lists (inl (refl, λ met. none met.0 met.1))))
+      (unmet-later wrong (lists_demands number (case_bits d) d) (behind_lists number d) lists (inl (refl, λ met. none met.0 met.1))))
 
-  pub fields-met : (needs : Needs) → AllMet (tester_demands number d) → AllMet (lists_demands number (bits_of d) d) → NeedsAll d needs → AllMet (fields_demands earlier number d)
+  pub fields-met : (needs : Needs) → AllMet (tester_demands number d) → AllMet (lists_demands number (case_bits d) d) → NeedsAll d needs → AllMet (case_fields_demands earlier number d)
   fields-met needs tester lists all = (
     known,
-    met-followed (naming_demands earlier number d) (behind_naming number d) naming
+    met-followed (case_naming_demands earlier number d) (behind_naming number d) naming
         (met-followed (head_demands number d) (behind_head number d) head
         (met-followed (tester_demands number d) (behind_tester number d) tester
-        (met-followed (lists_demands number (bits_of d) d) (behind_lists number d) lists ((needs, all), tt)))),
+        (met-followed (lists_demands number (case_bits d) d) (behind_lists number d) lists ((needs, all), tt)))),
   )

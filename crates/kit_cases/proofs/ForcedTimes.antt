@@ -12,7 +12,7 @@ use Rattle.document_values.specs.Demands.{AllMet, IsFirstUnmet, demands_on_each}
 use Rattle.document_values.specs.Values.{ArePaired}
 use Rattle.can_conform.specs.declared.script.TesterLevel.{TesterLevel}
 use Rattle.can_conform.specs.declared.script.TesterLevel.TheVariants as tester
-use Rattle.kit_cases.specs.Cases.{driven, forced_at, forced_demands, in_case}
+use Rattle.kit_cases.specs.Cases.{tester_level, forced_at, forced_demands, in_case}
 use Rattle.kit_cases.specs.Lists.{element_demands, time_in, SaysTime, SayStrings}
 use Rattle.kit_cases.proofs.TesterParts.{one-strings}
 
@@ -63,5 +63,5 @@ pub length-forced : (times : List ℕ) (levels : List TesterLevel) → length (f
 length-forced [] levels = refl
 length-forced (time ∷ times) levels = length-forced times (set levels time tester.Forced) ∙ length-set levels time tester.Forced
 
-pub length-tester : (times : List ℕ) (levels : List Level) → length (forced_at times (map driven levels)) ≡ length levels
-length-tester times levels = length-forced times (map driven levels) ∙ length-map levels driven
+pub length-tester : (times : List ℕ) (levels : List Level) → length (forced_at times (map tester_level levels)) ≡ length levels
+length-tester times levels = length-forced times (map tester_level levels) ∙ length-map levels tester_level

@@ -11,7 +11,7 @@ use Rattle.std.proofs.lemmas.List.Folds.{list_any-append}
 use Rattle.std.proofs.lemmas.Map.Text.{is_eq-slice_cmp}
 use Rattle.std.proofs.lemmas.Slice.Eq.{bytes_eq-Decides}
 use Rattle.toml.specs.Data.{Data, same_key}
-use Rattle.kit_cases.specs.Cases.{name_of}
+use Rattle.kit_cases.specs.Cases.{case_name}
 use Rattle.kit_cases.specs.NameSets.{HasNames}
 
 -- two names are the same either way round
@@ -27,16 +27,16 @@ or_last true false = refl
 or_last false true = refl
 or_last false false = refl
 
-or_false : (b : Bool) → (b || false) ≡ b
+pub or_false : (b : Bool) → (b || false) ≡ b
 or_false true = refl
 or_false false = refl
 
 -- with the name of one case more
-pub names-more : (names more : BTreeSet (Bor (List ℕ))) (said : Bor (List ℕ)) (cases : List Data) (d : Data) → said.now ≡ name_of d
+pub names-more : (names more : BTreeSet (Bor (List ℕ))) (said : Bor (List ℕ)) (cases : List Data) (d : Data) → said.now ≡ case_name d
     → Updates (λ a b. slice_cmp nat_cmp a.now b.now) names more said true
     → HasNames names cases → HasNames more (cases ++ d ∷ [])
 names-more names more said cases d says updates before = λ text.
-    let test = λ (other : Data). same_key text (name_of other) in
+    let test = λ (other : Data). same_key text (case_name other) in
     let here : same_key said.now text ≡ test d = same-turned said.now text ∙ ap (λ n. same_key text n) says in
     updates.0 (record { ref_ptr = (0, 0); now = text })
     ∙ or_last (same_key said.now text) _

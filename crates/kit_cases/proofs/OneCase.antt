@@ -16,7 +16,7 @@ use Rattle.kit_cases.specs.declared.words.Choice.{Choice}
 use Rattle.kit_cases.specs.declared.words.Choice.TheVariants.{ReservedLevels, StuffException, OwnStart, FlagErrorOnce, OwnOverload, Rec127, RecoveryByItself, RecoveryRows, Prompt}
 use Rattle.kit_cases.specs.Words.{choice_word, SaysChoices, SaysStart}
 use Rattle.kit_cases.specs.Lists.{SaysHold, SaysOffer, SaysTime}
-use Rattle.kit_cases.specs.Cases.{driven, forced_at, strings_of, AreSameCases, SaysCase, SaysTester}
+use Rattle.kit_cases.specs.Cases.{tester_level, forced_at, strings_of, AreSameCases, SaysCase, SaysTester}
 use Rattle.kit_cases.proofs.OneNeeds.{one-needs}
 use Rattle.kit_cases.proofs.TesterParts.{one-strings}
 use Rattle.kit_cases.proofs.WordLists.{differ}
@@ -98,7 +98,7 @@ one-tester : (d : Data) (a b : List TesterLevel) → SaysTester d a → SaysTest
 one-tester d a b x y =
     let levels : x.levels ≡ y.levels = one-strings (strings_of d) x.levels y.levels x.strings y.strings in
     let times : x.times ≡ y.times = one-list SaysTime (λ e m n p q. one-number m n e p q) (elements_in (named (codes "forced") d)) x.times y.times x.forced y.forced in
-    x.all ∙ ap (λ ts. forced_at ts (map driven x.levels)) times ∙ ap (λ (ls : List Level). forced_at y.times (map driven ls)) levels ∙ sym y.all
+    x.all ∙ ap (λ ts. forced_at ts (map tester_level x.levels)) times ∙ ap (λ (ls : List Level). forced_at y.times (map tester_level ls)) levels ∙ sym y.all
 
 -- ---- a case
 

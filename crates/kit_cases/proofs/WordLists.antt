@@ -11,7 +11,7 @@ use Rattle.toml.specs.View.{view}
 use Rattle.toml.specs.declared.value.Value.{Value}
 use Rattle.kit_cases.specs.declared.words.Choice.{Choice}
 use Rattle.kit_cases.specs.declared.words.Needs.{Needs}
-use Rattle.kit_cases.specs.Cases.{name_of}
+use Rattle.kit_cases.specs.Cases.{case_name}
 use Rattle.can_conform.specs.declared.script.Start.{Start}
 use Rattle.document_values.specs.Values.{IsRequired}
 use Rattle.kit_cases.specs.Words.{choice_word, need_words, SaysStart, TakesWord}
@@ -98,9 +98,9 @@ needs-none ds needs rest are some said is =
 -- ---- names
 
 -- names among those of tables
-pub names-taken : (name : List ℕ) (values : List Value) → list_any (λ value. bytes_eq name (name_of (view value))) values ≡ list_any (λ other. same_key name (name_of other)) (map view values)
+pub names-taken : (name : List ℕ) (values : List Value) → list_any (λ value. bytes_eq name (case_name (view value))) values ≡ list_any (λ other. same_key name (case_name other)) (map view values)
 names-taken name [] = refl
-names-taken name (value ∷ values) = rw (is_eq-slice_cmp name (name_of (view value)), names-taken name values)
+names-taken name (value ∷ values) = rw (is_eq-slice_cmp name (case_name (view value)), names-taken name values)
 
 -- a name that begins with the family and something else
 pub begins-on : (name family rest : List ℕ) (b : Bool) → name ≡ family ++ rest → MatchBool b ((more : List ℕ) × (rest ≡ 45 ∷ more)) ((more : List ℕ) → rest ≢ 45 ∷ more)

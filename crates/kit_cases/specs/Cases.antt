@@ -14,14 +14,14 @@ use Rattle.kit_cases.specs.declared.field.KitField.TheVariants as field
 use Rattle.kit_cases.specs.declared.field.CaseField.{CaseField}
 use Rattle.kit_cases.specs.declared.field.CaseField.TheVariants as of_case
 use Rattle.document_values.specs.Demands.{Demands, no_demands, demand, followed, demands_on_each}
-use Rattle.document_values.specs.Values.{are_known, elements_in, members_in, named, ArePaired, IsNumber, IsOptional, IsRequired, IsTable}
+use Rattle.document_values.specs.Values.{are_known, elements_in, members_in, named, field_number, ArePaired, IsNumber, IsOptional, IsRequired, IsTable}
 use Rattle.kit_cases.specs.declared.case.Case.{Case}
 use Rattle.kit_cases.specs.declared.words.Choice.{Choice}
 use Rattle.kit_cases.specs.declared.words.Needs.{Needs}
-use Rattle.kit_words.specs.Names.{longest_name, IsName}
-use Rattle.kit_cases.specs.Words.{text_in, IsPurpose, IsText, SaysChoices, SaysNeeds, SaysStart}
+use Rattle.kit_words.specs.Names.{longest_name, IsKitName}
+use Rattle.kit_cases.specs.Words.{field_text, IsPurpose, IsText, SaysChoices, SaysNeeds, SaysStart}
 use Rattle.kit_cases.specs.declared.lists.CaseList.TheVariants.{Offers, Holds, Forced}
-use Rattle.kit_cases.specs.Lists.{list_demands, number_in, time_in, strings_demands, AreRecessive, IsArrayOf, SaysHold, SaysOffer, SayStrings, SaysTime}
+use Rattle.kit_cases.specs.Lists.{case_list_demands, time_in, strings_demands, AreRecessive, IsArrayOf, SaysHold, SaysOffer, SayStrings, SaysTime}
 
 -- something of the case of this number
 abbrev pub in_case : ℕ → CaseField → KitField
@@ -35,33 +35,33 @@ case_fields =
     codes "bits" ∷ codes "tester" ∷ codes "offers" ∷ codes "holds" ∷ codes "forced" ∷ []
 
 -- the name that a case's table says
-abbrev pub name_of : Data → List ℕ
-name_of d = text_in (named (codes "name") d)
+abbrev pub case_name : Data → List ℕ
+case_name d = field_text (named (codes "name") d)
 
 -- a name that begins with the family and a hyphen, and that none of the cases before has
-pub record IsNewName (earlier : List Data) (family name : List ℕ) : Type 0 where
-  pub word : IsName longest_name name
+pub record IsNewCaseName (earlier : List Data) (family name : List ℕ) : Type 0 where
+  pub word : IsKitName longest_name name
   pub rest : List ℕ
   pub begins : name ≡ family ++ (45 ∷ rest)
-  pub new : list_any (λ other. same_key name (name_of other)) earlier ≡ false
+  pub new : list_any (λ other. same_key name (case_name other)) earlier ≡ false
 
 -- which version it has and what it is named, behind these cases
-abbrev pub naming_demands : List Data → ℕ → Data → Demands KitField
-naming_demands earlier number d =
+abbrev pub case_naming_demands : List Data → ℕ → Data → Demands KitField
+case_naming_demands earlier number d =
     demand (in_case number of_case.Version) (IsRequired (IsNumber 1) (named (codes "version") d))
-    (demand (in_case number of_case.Family) (IsRequired (IsText (IsName 40)) (named (codes "family") d))
+    (demand (in_case number of_case.Family) (IsRequired (IsText (IsKitName 40)) (named (codes "family") d))
     (demand (in_case number of_case.Name)
-    (IsRequired (IsText (IsNewName earlier (text_in (named (codes "family") d)))) (named (codes "name") d))
+    (IsRequired (IsText (IsNewCaseName earlier (field_text (named (codes "family") d)))) (named (codes "name") d))
     (demand (in_case number of_case.Purpose) (IsOptional (IsText IsPurpose) (named (codes "purpose") d))
     no_demands)))
 
 -- how many bit times a case may have
-abbrev pub most_bits : ℕ
-most_bits = 100000
+abbrev pub longest_case : ℕ
+longest_case = 100000
 
 -- how many bit times a case has
 abbrev pub IsLength : Data → Type 0
-IsLength d = (n : ℕ) × IsNumber n d × (0 < n) × (n ≤ most_bits)
+IsLength d = (n : ℕ) × IsNumber n d × (0 < n) × (n ≤ longest_case)
 
 -- how it starts, what it needs, which choices it rests on, and how long it is
 abbrev pub head_demands : ℕ → Data → Demands KitField
@@ -75,8 +75,8 @@ head_demands number d =
 -- ---- the tester
 
 -- how many bit times a case's table says
-abbrev pub bits_of : Data → ℕ
-bits_of d = number_in (named (codes "bits") d)
+abbrev pub case_bits : Data → ℕ
+case_bits d = field_number (named (codes "bits") d)
 
 -- the strings of the tester's levels
 abbrev pub strings_of : Data → List Data
@@ -103,9 +103,9 @@ forced_demands number strings place d =
 -- offers, wishes, and forced bit times of a case of so many bit times
 abbrev pub lists_demands : ℕ → ℕ → Data → Demands KitField
 lists_demands number bits d =
-    followed (list_demands Offers SaysOffer number bits d)
-    (followed (list_demands Holds SaysHold number bits d)
-    (followed (list_demands Forced SaysTime number bits d)
+    followed (case_list_demands Offers SaysOffer number bits d)
+    (followed (case_list_demands Holds SaysHold number bits d)
+    (followed (case_list_demands Forced SaysTime number bits d)
     (demands_on_each (forced_demands number (strings_of d)) 0 (elements_in (named (codes "forced") d)))))
 
 -- what a case asks of a bench is among its needs
@@ -117,18 +117,18 @@ pub record NeedsAll (d : Data) (needs : Needs) : Type 0 where
 -- ---- a case
 
 -- the fields of a case's table, behind these cases
-abbrev pub fields_demands : List Data → ℕ → Data → Demands KitField
-fields_demands earlier number d =
+abbrev pub case_fields_demands : List Data → ℕ → Data → Demands KitField
+case_fields_demands earlier number d =
     demand (in_case number of_case.Unknown) (are_known case_fields (members_in d) ≡ true)
-    (followed (naming_demands earlier number d)
+    (followed (case_naming_demands earlier number d)
     (followed (head_demands number d)
     (followed (tester_demands number d)
-    (followed (lists_demands number (bits_of d) d)
+    (followed (lists_demands number (case_bits d) d)
     (demand (in_case number of_case.Needs) ((needs : Needs) × NeedsAll d needs) no_demands)))))
 
 -- a case's table
 abbrev pub case_demands : List Data → ℕ → Data → Demands KitField
-case_demands earlier number d = demand (in_case number of_case.Table) (IsTable d) (fields_demands earlier number d)
+case_demands earlier number d = demand (in_case number of_case.Table) (IsTable d) (case_fields_demands earlier number d)
 
 -- the tables of all cases
 abbrev pub cases_demands : List Data → Demands KitField
@@ -137,9 +137,9 @@ cases_demands ds = demands_on_each (λ number d. case_demands (take number ds) n
 -- ---- which case it says
 
 -- the tester drives this level
-abbrev pub driven : Level → TesterLevel
-driven Dominant = tester.Dominant
-driven Recessive = tester.Recessive
+abbrev pub tester_level : Level → TesterLevel
+tester_level Dominant = tester.Dominant
+tester_level Recessive = tester.Recessive
 
 -- the same, forced at these times
 abbrev pub forced_at : List ℕ → List TesterLevel → List TesterLevel
@@ -152,7 +152,7 @@ pub record SaysTester (d : Data) (does : List TesterLevel) : Type 0 where
   pub strings : SayStrings (strings_of d) levels
   pub times : List ℕ
   pub forced : ArePaired SaysTime (elements_in (named (codes "forced") d)) times
-  pub all : does ≡ forced_at times (map driven levels)
+  pub all : does ≡ forced_at times (map tester_level levels)
 
 -- the table says this case
 pub record SaysCase (d : Data) (c : Case) : Type 0 where

@@ -1,5 +1,5 @@
 -- The lists of a case: levels in strings, and elements with their times. (docs/CONFORMANCE.md, "Documents")
-use Rattle.std.specs.Prelude.{ℕ, ◌≡◌, ◌+◌, ◌≤◌, ◌<◌, pos, codes, take, All, List, [], ◌∷◌, ◌++◌, length, Option, Some, slice_get}
+use Rattle.std.specs.Prelude.{ℕ, ◌≡◌, ◌+◌, ◌≤◌, ◌<◌, pos, codes, take, All, List, [], ◌∷◌, ◌++◌, length, Some, slice_get}
 use Rattle.toml.specs.Data.{Data, string, integer, array, item}
 use Rattle.can_frame.specs.Parts.{Parts}
 use Rattle.can_frame.specs.declared.level.Level.{Level}
@@ -44,11 +44,6 @@ time_in (integer (pos time)) = time
 time_in (array (item (integer (pos time)) rest)) = time
 time_in _ = 0
 
--- the number of a field, 0 where it has none
-abbrev pub number_in : Option Data → ℕ
-number_in (Some (integer (pos n))) = n
-number_in _ = 0
-
 -- the time of an element, behind these, is below the end, and at least so far behind the time of each of them
 pub record IsInTime (end apart : ℕ) (before : List Data) (d : Data) : Type 0 where
   pub within : time_in d < end
@@ -72,16 +67,16 @@ AreRecessive strings time = (levels : List Level) × SayStrings strings levels �
 
 -- ---- the lists by name
 
-abbrev pub list_name : CaseList → List ℕ
-list_name list.Offers = codes "offers"
-list_name list.Holds = codes "holds"
-list_name list.Forced = codes "forced"
+abbrev pub case_list_name : CaseList → List ℕ
+case_list_name list.Offers = codes "offers"
+case_list_name list.Holds = codes "holds"
+case_list_name list.Forced = codes "forced"
 
 -- how many elements it has at most
-abbrev pub most_elements : CaseList → ℕ
-most_elements list.Offers = 256
-most_elements list.Holds = 256
-most_elements list.Forced = 4096
+abbrev pub most_case_elements : CaseList → ℕ
+most_case_elements list.Offers = 256
+most_case_elements list.Holds = 256
+most_case_elements list.Forced = 4096
 
 -- how far apart their times are at least: offers and wishes don't fall, forced bit times rise
 abbrev pub apart : CaseList → ℕ
@@ -89,34 +84,36 @@ apart list.Offers = 0
 apart list.Holds = 0
 apart list.Forced = 1
 
-abbrev pub list_field : CaseList → CaseField
-list_field list.Offers = of_case.Offers
-list_field list.Holds = of_case.Holds
-list_field list.Forced = of_case.Forced
+abbrev pub case_list_field : CaseList → CaseField
+case_list_field list.Offers = of_case.Offers
+case_list_field list.Holds = of_case.Holds
+case_list_field list.Forced = of_case.Forced
 
-abbrev pub element_field : CaseList → ℕ → CaseField
-element_field list.Offers place = of_case.Offer place
-element_field list.Holds place = of_case.Hold place
-element_field list.Forced place = of_case.ForcedTime place
+abbrev pub case_element_field : CaseList → ℕ → CaseField
+case_element_field list.Offers place = of_case.Offer place
+case_element_field list.Holds place = of_case.Hold place
+case_element_field list.Forced place = of_case.ForcedTime place
 
 -- ---- demands
 
 -- an element of a list says something in time, below the end and behind those before it
-abbrev pub element_demands : {A : Type 0} → (ℕ → KitField) → (Data → A → Type 0) → ℕ → ℕ → List Data → ℕ → Data → Demands KitField
+abbrev pub element_demands : {A : Type 0} → (ℕ → KitField) → (Data → A → Type 0)
+    → ℕ → ℕ → List Data → ℕ → Data → Demands KitField
 element_demands {A} told Says end apart all place d =
     demand (told place) (((x : A) × Says d x) × IsInTime end apart (take place all) d) no_demands
 
 -- the elements of such a list
-abbrev pub elements_demands : {A : Type 0} → (ℕ → KitField) → (Data → A → Type 0) → ℕ → ℕ → List Data → Demands KitField
+abbrev pub elements_demands : {A : Type 0} → (ℕ → KitField) → (Data → A → Type 0)
+    → ℕ → ℕ → List Data → Demands KitField
 elements_demands told Says end apart all = demands_on_each (element_demands told Says end apart all) 0 all
 
 -- a list of the case of this number, which has so many bit times; it is empty where it is left out
-abbrev pub list_demands : {A : Type 0} → CaseList → (Data → A → Type 0) → ℕ → ℕ → Data → Demands KitField
-list_demands list Says number bits d =
-    demand (field.Case number (list_field list))
-    (IsOptional (IsArrayOf 0 (most_elements list)) (named (list_name list) d))
-    (elements_demands (λ place. field.Case number (element_field list place)) Says bits (apart list)
-    (elements_in (named (list_name list) d)))
+abbrev pub case_list_demands : {A : Type 0} → CaseList → (Data → A → Type 0) → ℕ → ℕ → Data → Demands KitField
+case_list_demands list Says number bits d =
+    demand (field.Case number (case_list_field list))
+    (IsOptional (IsArrayOf 0 (most_case_elements list)) (named (case_list_name list) d))
+    (elements_demands (λ place. field.Case number (case_element_field list place)) Says bits (apart list)
+    (elements_in (named (case_list_name list) d)))
 
 -- a string of levels
 abbrev pub string_demands : (ℕ → KitField) → ℕ → Data → Demands KitField

@@ -7,11 +7,12 @@ use Rattle.std.specs.Cmp.Lexicographic.{slice_cmp}
 use Rattle.std.specs.List.{list_any}
 use Rattle.std.specs.Ordering.{nat_cmp}
 use Rattle.toml.specs.Data.{Data, same_key}
-use Rattle.kit_cases.specs.Cases.{name_of}
+use Rattle.kit_cases.specs.Cases.{case_name}
 
 -- the set has the names that these tables say, and no others
 abbrev pub HasNames : BTreeSet (Bor (List ℕ)) → List Data → Type 0
-HasNames names cases = (text : List ℕ) → contains_by (λ name. slice_cmp nat_cmp text name.now) names ≡ list_any (λ other. same_key text (name_of other)) cases
+HasNames names cases = (text : List ℕ) →
+    contains_by (λ name. slice_cmp nat_cmp text name.now) names ≡ list_any (λ other. same_key text (case_name other)) cases
 
 -- nothing is said where there is no set
 abbrev pub AreNames : Option (BTreeSet (Bor (List ℕ))) → List Data → Type 0

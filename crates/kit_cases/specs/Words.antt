@@ -16,9 +16,9 @@ abbrev pub IsText : (List ℕ → Type 0) → Data → Type 0
 IsText P d = (text : List ℕ) × (d ≡ string text) × P text
 
 -- the text of a field, none where it has none
-abbrev pub text_in : Option Data → List ℕ
-text_in (Some (string text)) = text
-text_in _ = []
+abbrev pub field_text : Option Data → List ℕ
+field_text (Some (string text)) = text
+field_text _ = []
 
 -- one line of at most 200 bytes
 pub record IsPurpose (text : List ℕ) : Type 0 where

@@ -5,7 +5,7 @@ ghost use Rattle.toml.specs.View.{table_view, view};
 ghost use Rattle.kit_cases.specs.declared.field.KitField.{KitField as Wrong};
 ghost use Rattle.document_values.specs.Demands.{AllMet, IsFirstUnmet};
 ghost use Rattle.document_values.specs.Values.{elements_in, named, ArePaired};
-ghost use Rattle.kit_cases.specs.Cases.{case_demands, cases_demands, fields_demands, most_bits, NeedsAll, SaysCase};
+ghost use Rattle.kit_cases.specs.Cases.{case_demands, cases_demands, case_fields_demands, longest_case, NeedsAll, SaysCase};
 ghost use Rattle.kit_cases.specs.Words.{SaysNeeds};
 
 use crate::earlier::Earlier;
@@ -44,7 +44,7 @@ pub struct Case {
 /// `Field` names the first field that isn't as it has to be; `Memory` says that memory ran out.
 pub fn read_cases(alloc: Global, values: &[Value]) -> Result<Vec<Case>, KitFault>
     ensures said { IfOk result (λ cases. ArePaired SaysCase (map view values.now) cases.items) }
-    ensures short { IfOk result (λ cases. All (λ one. length one.script.tester.items ≤ most_bits) cases.items) }
+    ensures short { IfOk result (λ cases. All (λ one. length one.script.tester.items ≤ longest_case) cases.items) }
     ensures met { OnOk result (AllMet (cases_demands (map view values.now))) }
     ensures unmet { (wrong : Wrong) → IsErrOf result (KitFault.Field wrong) → IsFirstUnmet wrong (cases_demands (map view values.now)) }
 {
@@ -75,7 +75,7 @@ pub fn read_case(
     value: &Value,
 ) -> Result<Case, KitFault>
     ensures said { IfOk result (SaysCase (view value.now)) }
-    ensures short { IfOk result (λ one. length one.script.tester.items ≤ most_bits) }
+    ensures short { IfOk result (λ one. length one.script.tester.items ≤ longest_case) }
     ensures met { OnOk result (AllMet (case_demands (map view earlier.now) number (view value.now))) }
     ensures unmet { (wrong : Wrong) → IsErrOf result (KitFault.Field wrong) → IsFirstUnmet wrong (case_demands (map view earlier.now) number (view value.now)) }
 {
@@ -90,7 +90,7 @@ fn read_behind(
     value: &Value,
 ) -> Result<Case, KitFault>
     ensures said { IfOk result (SaysCase (view value.now)) }
-    ensures short { IfOk result (λ one. length one.script.tester.items ≤ most_bits) }
+    ensures short { IfOk result (λ one. length one.script.tester.items ≤ longest_case) }
     ensures met { OnOk result (AllMet (case_demands (map view earlier.now.tables.now) number (view value.now))) }
     ensures unmet { (wrong : Wrong) → IsErrOf result (KitFault.Field wrong) → IsFirstUnmet wrong (case_demands (map view earlier.now.tables.now) number (view value.now)) }
 {
@@ -108,9 +108,9 @@ fn read_fields(
     fields: &Table,
 ) -> Result<Case, KitFault>
     ensures said { IfOk result (SaysCase (table (table_view fields.now))) }
-    ensures short { IfOk result (λ one. length one.script.tester.items ≤ most_bits) }
-    ensures met { OnOk result (AllMet (fields_demands (map view earlier.now.tables.now) number (table (table_view fields.now)))) }
-    ensures unmet { (wrong : Wrong) → IsErrOf result (KitFault.Field wrong) → IsFirstUnmet wrong (fields_demands (map view earlier.now.tables.now) number (table (table_view fields.now))) }
+    ensures short { IfOk result (λ one. length one.script.tester.items ≤ longest_case) }
+    ensures met { OnOk result (AllMet (case_fields_demands (map view earlier.now.tables.now) number (table (table_view fields.now)))) }
+    ensures unmet { (wrong : Wrong) → IsErrOf result (KitFault.Field wrong) → IsFirstUnmet wrong (case_fields_demands (map view earlier.now.tables.now) number (table (table_view fields.now))) }
 {
     if !has_only(fields, &CASE_FIELDS) {
         return Err(KitFault::in_case(number, CaseField::Unknown));

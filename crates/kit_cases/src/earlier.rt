@@ -3,7 +3,7 @@ ghost use Rattle.std.specs.List.{list_any};
 ghost use Rattle.std.specs.Prelude.{◌≡◌, List, [], ◌∷◌, ◌++◌, map, OnErr, OnOk};
 ghost use Rattle.toml.specs.Data.{Data, same_key};
 ghost use Rattle.toml.specs.View.{view};
-ghost use Rattle.kit_cases.specs.Cases.{name_of};
+ghost use Rattle.kit_cases.specs.Cases.{case_name};
 ghost use Rattle.kit_cases.specs.NameSets.{AreNames, AreNames-prop};
 
 use crate::words::text_of;
@@ -12,7 +12,7 @@ use std::alloc::{AllocFailed, Global};
 use std::collections::BTreeSet;
 use toml::Value;
 
-/// So many cases are sooner looked through for a name than kept in the order of their names.
+/// So many cases are sooner looked through for a name than kept in the order of their names. Chosen for speed alone.
 const FEW_CASES: usize = 32;
 
 /// The cases before one: their tables, and their names in order, where these are kept.
@@ -49,7 +49,7 @@ impl<'a> Earlier<'a> {
 
     /// Whether one of the cases has the name.
     pub(crate) fn have(&self, name: &str) -> bool
-        ensures { result ≡ list_any (λ other. same_key name.now (name_of other)) (map view self.now.tables.now) }
+        ensures { result ≡ list_any (λ other. same_key name.now (case_name other)) (map view self.now.tables.now) }
     {
         match &self.names {
             Some(names) => names.contains(name),
@@ -77,7 +77,7 @@ fn keep<'a>(
     names: &mut Option<BTreeSet<&'a str>>,
     name: &'a str,
 ) -> Result<(), AllocFailed<&'a str>>
-    ensures one_more { OnOk result ((cases : List Data) (d : Data) → name.now ≡ name_of d → AreNames names.old cases → AreNames names.new (cases ++ d ∷ [])) }
+    ensures one_more { OnOk result ((cases : List Data) (d : Data) → name.now ≡ case_name d → AreNames names.old cases → AreNames names.new (cases ++ d ∷ [])) }
     ensures as_before { OnErr result ((cases : List Data) → AreNames names.old cases → AreNames names.new cases) }
 {
     let Some(names) = names else {
@@ -89,14 +89,14 @@ fn keep<'a>(
 
 /// Whether one of these cases has the name.
 fn is_taken(earlier: &[Value], name: &str) -> bool
-    ensures { result ≡ list_any (λ other. same_key name.now (name_of other)) (map view earlier.now) }
+    ensures { result ≡ list_any (λ other. same_key name.now (case_name other)) (map view earlier.now) }
 {
     earlier.iter().any(|other| name == name_said(other))
 }
 
 /// The name that a case's table says, no text where it says none.
 fn name_said(value: &Value) -> &str
-    ensures { result.now ≡ name_of (view value.now) }
+    ensures { result.now ≡ case_name (view value.now) }
 {
     let Some(fields) = fields_of(value) else {
         return "";

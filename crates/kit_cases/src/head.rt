@@ -7,7 +7,7 @@ ghost use Rattle.kit_cases.specs.declared.field.KitField.{KitField as Wrong};
 ghost use Rattle.document_values.specs.Demands.{AllMet, IsFirstUnmet};
 ghost use Rattle.document_values.specs.Values.{named, IsNumber, IsRequired};
 ghost use Rattle.kit_cases.specs.Words.{SaysChoices, SaysNeeds, SaysStart};
-ghost use Rattle.kit_cases.specs.Cases.{head_demands, most_bits, IsLength};
+ghost use Rattle.kit_cases.specs.Cases.{head_demands, longest_case, IsLength};
 
 use crate::fault::KitFault;
 use crate::field::CaseField;
@@ -35,7 +35,7 @@ pub(crate) fn read_head(alloc: Global, number: usize, fields: &Table) -> Result<
     ensures needs { IfOk result (λ head. SaysNeeds (named (codes "needs") (table (table_view fields.now))) head.needs) }
     ensures choices { IfOk result (λ head. SaysChoices (named (codes "choices") (table (table_view fields.now))) head.choices.items) }
     ensures bits { IfOk result (λ head. IsRequired (IsNumber head.bits) (named (codes "bits") (table (table_view fields.now)))) }
-    ensures short { IfOk result (λ head. head.bits ≤ most_bits) }
+    ensures short { IfOk result (λ head. head.bits ≤ longest_case) }
     ensures met { OnOk result (AllMet (head_demands number (table (table_view fields.now)))) }
     ensures unmet { (wrong : Wrong) → IsErrOf result (KitFault.Field wrong) → IsFirstUnmet wrong (head_demands number (table (table_view fields.now))) }
 {
@@ -70,7 +70,7 @@ fn start_said(fields: &Table) -> Option<Start>
 /// How many bit times the fields of a case say.
 fn length_said(fields: &Table) -> Option<u32>
     ensures said { IfSome result (λ bits. IsRequired (IsNumber bits) (named (codes "bits") (table (table_view fields.now)))) }
-    ensures short { IfSome result (λ bits. bits ≤ most_bits) }
+    ensures short { IfSome result (λ bits. bits ≤ longest_case) }
     ensures met { OnSome result (IsRequired IsLength (named (codes "bits") (table (table_view fields.now)))) }
     ensures unmet { IfNone result (¬ IsRequired IsLength (named (codes "bits") (table (table_view fields.now)))) }
 {

@@ -6,7 +6,7 @@ ghost use Rattle.kit_cases.specs.declared.field.KitField.{KitField as Wrong};
 ghost use Rattle.document_values.specs.Demands.{AllMet, IsFirstUnmet};
 ghost use Rattle.document_values.specs.Values.{elements_in, named, ArePaired};
 ghost use Rattle.kit_cases.specs.declared.lists.ElementFault.TheVariants.{Memory as OutOfMemory};
-ghost use Rattle.kit_cases.specs.Lists.{apart as apart_of, element_field, elements_demands, list_demands, list_field, list_name, most_elements, time_in, SaysHold, SaysOffer, SaysTime};
+ghost use Rattle.kit_cases.specs.Lists.{apart as apart_of, case_element_field, elements_demands, case_list_demands, case_list_field, case_list_name, most_case_elements, time_in, SaysHold, SaysOffer, SaysTime};
 
 use crate::fault::KitFault;
 use crate::field::CaseField;
@@ -32,7 +32,7 @@ pub(crate) enum CaseList {
 
 impl CaseList {
     fn name(self) -> &'static str
-        ensures { result.now ≡ list_name self }
+        ensures { result.now ≡ case_list_name self }
     {
         match self {
             CaseList::Offers => "offers",
@@ -43,7 +43,7 @@ impl CaseList {
 
     /// How many elements it has at most.
     fn most(self) -> usize
-        ensures { result ≡ most_elements self }
+        ensures { result ≡ most_case_elements self }
     {
         match self {
             CaseList::Offers | CaseList::Holds => 256,
@@ -63,7 +63,7 @@ impl CaseList {
 
     /// The list, as a refusal names it.
     fn field(self) -> CaseField
-        ensures { result ≡ list_field self }
+        ensures { result ≡ case_list_field self }
     {
         match self {
             CaseList::Offers => CaseField::Offers,
@@ -74,7 +74,7 @@ impl CaseList {
 
     /// Its element at a place, as a refusal names it.
     pub(crate) fn element(self, place: usize) -> CaseField
-        ensures { result ≡ element_field self place }
+        ensures { result ≡ case_element_field self place }
     {
         match self {
             CaseList::Offers => CaseField::Offer(place),
@@ -158,9 +158,9 @@ pub(crate) fn read_list<T: Element<CaseList>>(
     bits: u32,
     fields: &Table,
 ) -> Result<Vec<T>, KitFault>
-    ensures said { IfOk result (λ read. ArePaired T.says (elements_in (named (list_name list) (table (table_view fields.now)))) read.items) }
-    ensures met { OnOk result (AllMet (list_demands list T.says number bits (table (table_view fields.now)))) }
-    ensures unmet { (wrong : Wrong) → IsErrOf result (KitFault.Field wrong) → IsFirstUnmet wrong (list_demands list T.says number bits (table (table_view fields.now))) }
+    ensures said { IfOk result (λ read. ArePaired T.says (elements_in (named (case_list_name list) (table (table_view fields.now)))) read.items) }
+    ensures met { OnOk result (AllMet (case_list_demands list T.says number bits (table (table_view fields.now)))) }
+    ensures unmet { (wrong : Wrong) → IsErrOf result (KitFault.Field wrong) → IsFirstUnmet wrong (case_list_demands list T.says number bits (table (table_view fields.now))) }
 {
     let Some(values) = elements_or_none(fields, list.name()) else {
         return Err(KitFault::in_case(number, list.field()));

@@ -6,9 +6,9 @@ ghost use Rattle.toml.specs.View.{table_view, view};
 ghost use Rattle.kit_cases.specs.declared.field.KitField.{KitField as Wrong};
 ghost use Rattle.document_values.specs.Demands.{AllMet, IsFirstUnmet};
 ghost use Rattle.document_values.specs.Values.{named, IsNumber, IsOptional, IsRequired};
-ghost use Rattle.kit_words.specs.Names.{IsName};
+ghost use Rattle.kit_words.specs.Names.{IsKitName};
 ghost use Rattle.kit_cases.specs.Words.{IsPurpose, IsText};
-ghost use Rattle.kit_cases.specs.Cases.{name_of, naming_demands, IsNewName};
+ghost use Rattle.kit_cases.specs.Cases.{case_name, case_naming_demands, IsNewCaseName};
 
 use crate::earlier::Earlier;
 use crate::fault::KitFault;
@@ -28,8 +28,8 @@ pub(crate) fn read_name<'a>(
     fields: &'a Table,
 ) -> Result<&'a str, KitFault>
     ensures said { IfOk result (λ name. named (codes "name") (table (table_view fields.now)) ≡ Some (string name.now)) }
-    ensures met { OnOk result (AllMet (naming_demands (map view earlier.now.tables.now) number (table (table_view fields.now)))) }
-    ensures unmet { (wrong : Wrong) → IsErrOf result (KitFault.Field wrong) → IsFirstUnmet wrong (naming_demands (map view earlier.now.tables.now) number (table (table_view fields.now))) }
+    ensures met { OnOk result (AllMet (case_naming_demands (map view earlier.now.tables.now) number (table (table_view fields.now)))) }
+    ensures unmet { (wrong : Wrong) → IsErrOf result (KitFault.Field wrong) → IsFirstUnmet wrong (case_naming_demands (map view earlier.now.tables.now) number (table (table_view fields.now))) }
 {
     if !is_of_version_one(fields) {
         return Err(KitFault::in_case(number, CaseField::Version));
@@ -59,8 +59,8 @@ pub fn is_of_version_one(fields: &Table) -> bool
 /// The family that the fields of a case say.
 fn family_in(fields: &Table) -> Option<&str>
     ensures said { IfSome result (λ family. named (codes "family") (table (table_view fields.now)) ≡ Some (string family.now)) }
-    ensures met { OnSome result (IsRequired (IsText (IsName 40)) (named (codes "family") (table (table_view fields.now)))) }
-    ensures unmet { IfNone result (¬ IsRequired (IsText (IsName 40)) (named (codes "family") (table (table_view fields.now)))) }
+    ensures met { OnSome result (IsRequired (IsText (IsKitName 40)) (named (codes "family") (table (table_view fields.now)))) }
+    ensures unmet { IfNone result (¬ IsRequired (IsText (IsKitName 40)) (named (codes "family") (table (table_view fields.now)))) }
 {
     let family = text_of(field(fields, "family")?)?;
     if !is_name(family, LONGEST_FAMILY) {
@@ -72,8 +72,8 @@ fn family_in(fields: &Table) -> Option<&str>
 /// The name that the fields of a case say, of a case of this family behind these cases.
 fn name_in<'a>(fields: &'a Table, family: &str, earlier: &Earlier<'_>) -> Option<&'a str>
     ensures said { IfSome result (λ name. named (codes "name") (table (table_view fields.now)) ≡ Some (string name.now)) }
-    ensures met { OnSome result (IsRequired (IsText (IsNewName (map view earlier.now.tables.now) family.now)) (named (codes "name") (table (table_view fields.now)))) }
-    ensures unmet { IfNone result (¬ IsRequired (IsText (IsNewName (map view earlier.now.tables.now) family.now)) (named (codes "name") (table (table_view fields.now)))) }
+    ensures met { OnSome result (IsRequired (IsText (IsNewCaseName (map view earlier.now.tables.now) family.now)) (named (codes "name") (table (table_view fields.now)))) }
+    ensures unmet { IfNone result (¬ IsRequired (IsText (IsNewCaseName (map view earlier.now.tables.now) family.now)) (named (codes "name") (table (table_view fields.now)))) }
 {
     let name = text_of(field(fields, "name")?)?;
     if !is_new_name(earlier, family, name) {
@@ -84,7 +84,7 @@ fn name_in<'a>(fields: &'a Table, family: &str, earlier: &Earlier<'_>) -> Option
 
 /// Whether the name of a case is one of the family, and none of these cases has it.
 fn is_new_name(earlier: &Earlier<'_>, family: &str, name: &str) -> bool
-    ensures { IsTrue result ↔ IsNewName (map view earlier.now.tables.now) family.now name.now }
+    ensures { IsTrue result ↔ IsNewCaseName (map view earlier.now.tables.now) family.now name.now }
 {
     is_name(name, LONGEST_NAME)
         && begins_with(name.as_bytes(), family.as_bytes())

@@ -7,7 +7,7 @@ ghost use Rattle.can_frame.specs.declared.level.Level.{Level as LevelSaid};
 ghost use Rattle.document_values.specs.Demands.{AllMet, IsFirstUnmet};
 ghost use Rattle.document_values.specs.Values.{named, IsNumber, IsRequired};
 ghost use Rattle.kit_words.specs.LevelTexts.{AddsLevels};
-ghost use Rattle.kit_cases.specs.Cases.{driven as driven_as, forced_at, strings_of, tester_demands};
+ghost use Rattle.kit_cases.specs.Cases.{tester_level, forced_at, strings_of, tester_demands};
 ghost use Rattle.kit_cases.specs.Lists.{strings_demands, IsArrayOf, SaysString, SayStrings, SayUpTo};
 
 use crate::fault::KitFault;
@@ -106,7 +106,7 @@ pub(crate) fn forced_tester(
     times: &[u32],
 ) -> Result<Vec<TesterLevel>, AllocError>
     requires { All (λ time. time < length levels.now) times.now }
-    ensures { IfOk result (λ does. does.items ≡ forced_at times.now (map driven_as levels.now)) }
+    ensures { IfOk result (λ does. does.items ≡ forced_at times.now (map tester_level levels.now)) }
 {
     let mut does = Vec::new(alloc);
     for level in levels {
@@ -128,7 +128,7 @@ fn force(does: &mut [TesterLevel], times: &[u32])
 
 /// The tester drives this level.
 fn driven(level: Level) -> TesterLevel
-    ensures { result ≡ driven_as level }
+    ensures { result ≡ tester_level level }
 {
     match level {
         Level::Dominant => TesterLevel::Dominant,

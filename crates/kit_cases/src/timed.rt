@@ -7,7 +7,7 @@ ghost use Rattle.can_frame.specs.declared.level.Level.TheVariants.{Recessive};
 ghost use Rattle.kit_cases.specs.declared.field.KitField.{KitField as Wrong};
 ghost use Rattle.document_values.specs.Demands.{demands_on_each, AllMet, IsFirstUnmet};
 ghost use Rattle.document_values.specs.Values.{elements_in, named, ArePaired};
-ghost use Rattle.kit_cases.specs.Cases.{driven, forced_at, forced_demands, lists_demands, strings_of, SaysTester};
+ghost use Rattle.kit_cases.specs.Cases.{tester_level, forced_at, forced_demands, lists_demands, strings_of, SaysTester};
 ghost use Rattle.kit_cases.specs.Lists.{SaysHold, SaysOffer, SaysTime, SayStrings};
 
 use crate::fault::KitFault;
@@ -63,7 +63,7 @@ fn read_forced(
     times: &[u32],
 ) -> Result<Vec<TesterLevel>, KitFault>
     requires { All (λ time. time < length levels.now) times.now }
-    ensures does { IfOk result (λ does. does.items ≡ forced_at times.now (map driven levels.now)) }
+    ensures does { IfOk result (λ does. does.items ≡ forced_at times.now (map tester_level levels.now)) }
     ensures met { (strings ds : List Data) → SayStrings strings levels.now → ArePaired SaysTime ds times.now → OnOk result (AllMet (demands_on_each (forced_demands number strings) 0 ds)) }
     ensures unmet { (strings ds : List Data) → SayStrings strings levels.now → ArePaired SaysTime ds times.now → (wrong : Wrong) → IsErrOf result (KitFault.Field wrong) → IsFirstUnmet wrong (demands_on_each (forced_demands number strings) 0 ds) }
 {

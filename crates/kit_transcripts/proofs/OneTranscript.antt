@@ -12,7 +12,7 @@ use Rattle.kit_words.proofs.OneEvent.{one-event, one-state}
 use Rattle.document_values.specs.Values.{elements, named, three, two, ArePaired, IsRequired}
 use Rattle.document_values.proofs.OneReading.{one-list, one-number}
 use Rattle.document_values.proofs.Pairs.{same-three}
-use Rattle.kit_cases.specs.Cases.{name_of}
+use Rattle.kit_cases.specs.Cases.{case_name}
 use Rattle.kit_cases.specs.Words.{IsText}
 use Rattle.kit_cases.proofs.OneCase.{same-timed}
 use Rattle.kit_cases.proofs.TesterParts.{one-strings}
@@ -61,12 +61,12 @@ one_end d a b x y =
 
 -- ---- fields
 
-one_case : (cases : List Data) (field : Option Data) (m n : ℕ) → IsRequired (IsText (λ name. place_where name_of name cases ≡ Some m)) field → IsRequired (IsText (λ name. place_where name_of name cases ≡ Some n)) field
+one_case : (cases : List Data) (field : Option Data) (m n : ℕ) → IsRequired (IsText (λ name. place_where case_name name cases ≡ Some m)) field → IsRequired (IsText (λ name. place_where case_name name cases ≡ Some n)) field
     → m ≡ n
 one_case cases None m n x y = absurd x
 one_case cases (Some d) m n x y =
     let texts : x.0 ≡ y.0 = one_text x.0 y.0 (sym x.1 ∙ y.1) in
-    let places : Some m ≡ Some n = sym x.2 ∙ ap (λ (name : List ℕ). place_where name_of name cases) texts ∙ y.2 in
+    let places : Some m ≡ Some n = sym x.2 ∙ ap (λ (name : List ℕ). place_where case_name name cases) texts ∙ y.2 in
     cc
 
 one_if_there : {A : Type 0} (Says : Data → A → Type 0) (Same : A → A → Type 0) → ((d : Data) (a b : A) → Says d a → Says d b → Same a b) → (field : Option Data) (a b : Option A)

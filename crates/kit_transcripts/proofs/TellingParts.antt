@@ -12,7 +12,7 @@ use Rattle.document_values.specs.Values.{named, IsOptional}
 use Rattle.document_values.proofs.DemandLemmas.{met-followed, unmet-first, unmet-later}
 use Rattle.kit_cases.specs.Lists.{time_in}
 use Rattle.kit_transcripts.specs.declared.lists.TranscriptList.TheVariants.{Events, Counters}
-use Rattle.kit_transcripts.specs.Elements.{list_demands, SaysChange, SaysEnd, SaysEventAt}
+use Rattle.kit_transcripts.specs.Elements.{transcript_list_demands, SaysChange, SaysEnd, SaysEventAt}
 use Rattle.kit_transcripts.specs.Transcripts.{drove_demands, end_demands, telling_demands, in_transcript}
 
 -- the time of an element is that of its value
@@ -26,25 +26,25 @@ module _ (number : ℕ) (d : Data) where
   pub drove-unmet : (wrong : KitField) → IsFirstUnmet wrong (drove_demands number d) → IsFirstUnmet wrong (telling_demands number d)
   drove-unmet wrong unmet = unmet-first wrong (drove_demands number d) _ unmet
 
-  pub events-unmet : (wrong : KitField) → AllMet (drove_demands number d) → IsFirstUnmet wrong (list_demands Events SaysEventAt number d) → IsFirstUnmet wrong (telling_demands number d)
-  events-unmet wrong drove unmet = unmet-later wrong (drove_demands number d) _ drove (unmet-first wrong (list_demands Events SaysEventAt number d) _ unmet)
+  pub events-unmet : (wrong : KitField) → AllMet (drove_demands number d) → IsFirstUnmet wrong (transcript_list_demands Events SaysEventAt number d) → IsFirstUnmet wrong (telling_demands number d)
+  events-unmet wrong drove unmet = unmet-later wrong (drove_demands number d) _ drove (unmet-first wrong (transcript_list_demands Events SaysEventAt number d) _ unmet)
 
-  pub counters-unmet : (wrong : KitField) → AllMet (drove_demands number d) → AllMet (list_demands Events SaysEventAt number d) → IsFirstUnmet wrong (list_demands Counters SaysChange number d)
+  pub counters-unmet : (wrong : KitField) → AllMet (drove_demands number d) → AllMet (transcript_list_demands Events SaysEventAt number d) → IsFirstUnmet wrong (transcript_list_demands Counters SaysChange number d)
       → IsFirstUnmet wrong (telling_demands number d)
   counters-unmet wrong drove events unmet =
-      unmet-later wrong (drove_demands number d) _ drove (unmet-later wrong (list_demands Events SaysEventAt number d) _ events
-      (unmet-first wrong (list_demands Counters SaysChange number d) _ unmet))
+      unmet-later wrong (drove_demands number d) _ drove (unmet-later wrong (transcript_list_demands Events SaysEventAt number d) _ events
+      (unmet-first wrong (transcript_list_demands Counters SaysChange number d) _ unmet))
 
-  pub end-unmet : (wrong : KitField) → AllMet (drove_demands number d) → AllMet (list_demands Events SaysEventAt number d) → AllMet (list_demands Counters SaysChange number d)
+  pub end-unmet : (wrong : KitField) → AllMet (drove_demands number d) → AllMet (transcript_list_demands Events SaysEventAt number d) → AllMet (transcript_list_demands Counters SaysChange number d)
       → IsFirstUnmet wrong (end_demands number d) → IsFirstUnmet wrong (telling_demands number d)
   end-unmet wrong drove events counters unmet =
-      unmet-later wrong (drove_demands number d) _ drove (unmet-later wrong (list_demands Events SaysEventAt number d) _ events
-      (unmet-later wrong (list_demands Counters SaysChange number d) _ counters unmet))
+      unmet-later wrong (drove_demands number d) _ drove (unmet-later wrong (transcript_list_demands Events SaysEventAt number d) _ events
+      (unmet-later wrong (transcript_list_demands Counters SaysChange number d) _ counters unmet))
 
-  pub telling-met : AllMet (drove_demands number d) → AllMet (list_demands Events SaysEventAt number d) → AllMet (list_demands Counters SaysChange number d) → AllMet (end_demands number d)
+  pub telling-met : AllMet (drove_demands number d) → AllMet (transcript_list_demands Events SaysEventAt number d) → AllMet (transcript_list_demands Counters SaysChange number d) → AllMet (end_demands number d)
       → AllMet (telling_demands number d)
   telling-met drove events counters end =
-      met-followed (drove_demands number d) _ drove (met-followed (list_demands Events SaysEventAt number d) _ events (met-followed (list_demands Counters SaysChange number d) _ counters end))
+      met-followed (drove_demands number d) _ drove (met-followed (transcript_list_demands Events SaysEventAt number d) _ events (met-followed (transcript_list_demands Counters SaysChange number d) _ counters end))
 
 -- an end that is there and says none isn't as it has to be
 pub end-none : (number : ℕ) (d value : Data) → named (codes "end") d ≡ Some value → ((end : Ending) → SaysEnd value end → ⊥) → IsFirstUnmet (in_transcript number of_transcript.End) (end_demands number d)

@@ -16,7 +16,7 @@ use Rattle.std.proofs.lemmas.Slice.Eq.{bytes_eq-Decides}
 use Rattle.toml.specs.Data.{Data, same_key}
 use Rattle.toml.specs.View.{view}
 use Rattle.toml.specs.declared.value.Value.{Value}
-use Rattle.kit_cases.specs.Cases.{name_of}
+use Rattle.kit_cases.specs.Cases.{case_name}
 use Rattle.kit_transcripts.specs.Transcripts.{case_of, place_where}
 use Rattle.kit_transcripts.specs.Untold.{place_at, with_place, HasUntold}
 
@@ -70,25 +70,25 @@ or_none None = refl
 or_none (Some k) = refl
 
 -- with the place of one case more
-pub untold-case : (places more : BTreeMap (Bor (List ℕ)) ℕ) (cases : List Data) (d : Data) (name : List ℕ) (n : ℕ) → n ≡ length cases → name ≡ name_of d
+pub untold-case : (places more : BTreeMap (Bor (List ℕ)) ℕ) (cases : List Data) (d : Data) (name : List ℕ) (n : ℕ) → n ≡ length cases → name ≡ case_name d
     → ((text : List ℕ) → place_at more text ≡ with_place (place_at places) name n text)
     → HasUntold places cases [] → HasUntold more (cases ++ d ∷ []) []
 unfolding at_last
 untold-case places more cases d name n last says adds before = λ text.
-    let old = place_where name_of text cases in
-    let goal : Bool → Type 0 = λ b. bytes_eq name text ≡ b → cond b (Some (unwrap_or (place_at places name) n)) (place_at places text) ≡ or_place old (at_last (λ table. same_key text (name_of table)) n d) in
+    let old = place_where case_name text cases in
+    let goal : Bool → Type 0 = λ b. bytes_eq name text ≡ b → cond b (Some (unwrap_or (place_at places name) n)) (place_at places text) ≡ or_place old (at_last (λ table. same_key text (case_name table)) n d) in
     let cases_of : (b : Bool) → goal b = elim [
       | true ↦ λ is.
           let same : name ≡ text = (bytes_eq-Decides name text).0 is in
           let known : place_at places name ≡ old = ap (λ t. place_at places t) same ∙ before text in
-          let found : same_key text (name_of d) ≡ true = ap (λ t. same_key text t) (sym says) ∙ same-here name text same in
+          let found : same_key text (case_name d) ≡ true = ap (λ t. same_key text t) (sym says) ∙ same-here name text same in
           ap (λ o. Some (unwrap_or o n)) known ∙ first_or old n ∙ ap (λ b. or_place old (cond b (Some n) None)) (sym found)
       | false ↦ λ apart.
-          let other : same_key text (name_of d) ≡ false = ap (λ t. same_key text t) (sym says) ∙ same-apart name text apart in
+          let other : same_key text (case_name d) ≡ false = ap (λ t. same_key text t) (sym says) ∙ same-apart name text apart in
           before text ∙ or_none old ∙ ap (λ b. or_place old (cond b (Some n) None)) (sym other)
     ] in
-    adds text ∙ cases_of (bytes_eq name text) refl ∙ ap (λ k. or_place old (at_last (λ table. same_key text (name_of table)) k d)) last
-    ∙ sym (position-more (λ table. same_key text (name_of table)) cases d)
+    adds text ∙ cases_of (bytes_eq name text) refl ∙ ap (λ k. or_place old (at_last (λ table. same_key text (case_name table)) k d)) last
+    ∙ sym (position-more (λ table. same_key text (case_name table)) cases d)
 
 twice : {X : Type 0} (b : Bool) (x y z : X) → cond b x (cond b y z) ≡ cond b x z
 twice true x y z = refl
@@ -122,7 +122,7 @@ pub untold-told : (places more : BTreeMap (Bor (List ℕ)) ℕ) (cases earlier :
 unfolding or_place at_last
 untold-told places more cases earlier d said says updates before = λ text.
     let old = place_where case_of text earlier in
-    let place = place_where name_of text cases in
+    let place = place_where case_name text cases in
     let last = at_last (λ table. same_key text (case_of table)) (length earlier) d in
     let goal : Bool → Type 0 = λ b. bytes_eq said.now text ≡ b → cond b None (place_at places text) ≡ cond (is_some (or_place old last)) None place in
     let told : (o : Option ℕ) → None ≡ cond (is_some (or_place o (Some (length earlier)))) None place = elim [ None ↦ refl | Some k ↦ refl ] in

@@ -55,30 +55,30 @@ SaysIfThere Says (Some d) (Some x) = Says d x
 
 -- ---- the lists by name
 
-abbrev pub list_name : TranscriptList → List ℕ
-list_name list.Events = codes "events"
-list_name list.Counters = codes "counters"
+abbrev pub transcript_list_name : TranscriptList → List ℕ
+transcript_list_name list.Events = codes "events"
+transcript_list_name list.Counters = codes "counters"
 
-abbrev pub list_field : TranscriptList → TranscriptField
-list_field list.Events = of_transcript.Events
-list_field list.Counters = of_transcript.Counters
+abbrev pub transcript_list_field : TranscriptList → TranscriptField
+transcript_list_field list.Events = of_transcript.Events
+transcript_list_field list.Counters = of_transcript.Counters
 
-abbrev pub element_field : TranscriptList → ℕ → TranscriptField
-element_field list.Events place = of_transcript.Event place
-element_field list.Counters place = of_transcript.Change place
+abbrev pub transcript_element_field : TranscriptList → ℕ → TranscriptField
+transcript_element_field list.Events place = of_transcript.Event place
+transcript_element_field list.Counters place = of_transcript.Change place
 
 -- how many elements a list has at most
-abbrev pub most_elements : ℕ
-most_elements = 100000
+abbrev pub most_transcript_elements : ℕ
+most_transcript_elements = 100000
 
 -- all times are below this one, which may be behind the end of the case
 abbrev pub time_end : ℕ
 time_end = 100001
 
 -- a list of the transcript of this number; its times rise
-abbrev pub list_demands : {A : Type 0} → TranscriptList → (Data → A → Type 0) → ℕ → Data → Demands KitField
-list_demands list Says number d =
-    demand (field.Transcript number (list_field list))
-    (IsOptional (IsArrayOf 0 most_elements) (named (list_name list) d))
-    (elements_demands (λ place. field.Transcript number (element_field list place)) Says time_end 1
-    (elements_in (named (list_name list) d)))
+abbrev pub transcript_list_demands : {A : Type 0} → TranscriptList → (Data → A → Type 0) → ℕ → Data → Demands KitField
+transcript_list_demands list Says number d =
+    demand (field.Transcript number (transcript_list_field list))
+    (IsOptional (IsArrayOf 0 most_transcript_elements) (named (transcript_list_name list) d))
+    (elements_demands (λ place. field.Transcript number (transcript_element_field list place)) Says time_end 1
+    (elements_in (named (transcript_list_name list) d)))

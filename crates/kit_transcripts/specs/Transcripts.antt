@@ -12,12 +12,12 @@ use Rattle.kit_cases.specs.declared.field.TranscriptField.{TranscriptField}
 use Rattle.kit_cases.specs.declared.field.TranscriptField.TheVariants as of_transcript
 use Rattle.document_values.specs.Demands.{Demands, no_demands, demand, followed, demands_on_each}
 use Rattle.document_values.specs.Values.{are_known, elements, elements_in, members_in, named, ArePaired, IsNumber, IsOptional, IsRequired, IsTable}
-use Rattle.kit_cases.specs.Cases.{name_of}
+use Rattle.kit_cases.specs.Cases.{case_name}
 use Rattle.kit_cases.specs.Lists.{strings_demands, IsArrayOf, SayStrings}
-use Rattle.kit_cases.specs.Words.{text_in, IsText}
+use Rattle.kit_cases.specs.Words.{field_text, IsText}
 use Rattle.kit_transcripts.specs.declared.lists.TranscriptList.TheVariants.{Events, Counters}
 use Rattle.kit_transcripts.specs.declared.told.Told.{Told}
-use Rattle.kit_transcripts.specs.Elements.{list_demands, SaysChange, SaysEnd, SaysEventAt, SaysIfThere}
+use Rattle.kit_transcripts.specs.Elements.{transcript_list_demands, SaysChange, SaysEnd, SaysEventAt, SaysIfThere}
 
 -- something of the transcript of this number
 abbrev pub in_transcript : ℕ → TranscriptField → KitField
@@ -30,7 +30,7 @@ transcript_fields = codes "version" ∷ codes "case" ∷ codes "drove" ∷ codes
 
 -- the name of the case that a transcript's table says it is of
 abbrev pub case_of : Data → List ℕ
-case_of d = text_in (named (codes "case") d)
+case_of d = field_text (named (codes "case") d)
 
 -- the place of the first of these tables that says this text
 abbrev pub place_where : (Data → List ℕ) → List ℕ → List Data → Option ℕ
@@ -39,7 +39,7 @@ place_where said text tables = position (λ table. same_key text (said table)) t
 -- the name of one of these cases, which none of these transcripts is of
 pub record IsUntold (cases earlier : List Data) (name : List ℕ) : Type 0 where
   pub place : ℕ
-  pub known : place_where name_of name cases ≡ Some place
+  pub known : place_where case_name name cases ≡ Some place
   pub new : place_where case_of name earlier ≡ None
 
 -- ---- levels
@@ -64,8 +64,8 @@ drove_demands number d =
 -- ---- a transcript
 
 -- what it has to tell first: its version, and one of these cases, which none of these transcripts is of
-abbrev pub naming_demands : List Data → List Data → ℕ → Data → Demands KitField
-naming_demands cases earlier number d =
+abbrev pub transcript_naming_demands : List Data → List Data → ℕ → Data → Demands KitField
+transcript_naming_demands cases earlier number d =
     demand (in_transcript number of_transcript.Unknown) (are_known transcript_fields (members_in d) ≡ true)
     (demand (in_transcript number of_transcript.Version) (IsRequired (IsNumber 1) (named (codes "version") d))
     (demand (in_transcript number of_transcript.Case) (IsRequired (IsText (IsUntold cases earlier)) (named (codes "case") d))
@@ -82,15 +82,15 @@ end_demands number d =
 abbrev pub telling_demands : ℕ → Data → Demands KitField
 telling_demands number d =
     followed (drove_demands number d)
-    (followed (list_demands Events SaysEventAt number d)
-    (followed (list_demands Counters SaysChange number d)
+    (followed (transcript_list_demands Events SaysEventAt number d)
+    (followed (transcript_list_demands Counters SaysChange number d)
     (end_demands number d)))
 
 -- a transcript's table, among these cases and behind these transcripts
 abbrev pub transcript_demands : List Data → List Data → ℕ → Data → Demands KitField
 transcript_demands cases earlier number d =
     demand (in_transcript number of_transcript.Table) (IsTable d)
-    (followed (naming_demands cases earlier number d)
+    (followed (transcript_naming_demands cases earlier number d)
     (telling_demands number d))
 
 -- the tables of all transcripts, each behind those before
@@ -110,7 +110,7 @@ pub record SaysTelling (d : Data) (t : Transcript) : Type 0 where
 
 -- the table says this transcript, of the case at this place among these
 pub record SaysTranscript (cases : List Data) (d : Data) (t : Told) : Type 0 where
-  pub case : IsRequired (IsText (λ name. place_where name_of name cases ≡ Some t.case)) (named (codes "case") d)
+  pub case : IsRequired (IsText (λ name. place_where case_name name cases ≡ Some t.case)) (named (codes "case") d)
   pub telling : SaysTelling d t.transcript
 
 -- both are there and are the same, or neither is there

@@ -8,12 +8,12 @@ use Rattle.std.specs.Ordering.{nat_cmp}
 use Rattle.std.specs.Str.{bytes_eq}
 use Rattle.std.proofs.Props.{props}
 use Rattle.toml.specs.Data.{Data}
-use Rattle.kit_cases.specs.Cases.{name_of}
+use Rattle.kit_cases.specs.Cases.{case_name}
 use Rattle.kit_transcripts.specs.Transcripts.{case_of, place_where}
 
 -- the place of the first of these cases that has the name, where none of these transcripts is of it
 abbrev pub untold_place : List Data → List Data → List ℕ → Option ℕ
-untold_place cases earlier name = cond (is_some (place_where case_of name earlier)) None (place_where name_of name cases)
+untold_place cases earlier name = cond (is_some (place_where case_of name earlier)) None (place_where case_name name cases)
 
 -- the place at a name
 abbrev pub place_at : BTreeMap (Bor (List ℕ)) ℕ → List ℕ → Option ℕ

@@ -3,7 +3,7 @@ ghost use Rattle.std.specs.Prelude.{ℕ, ◌≡◌, List, [], ◌∷◌, ◌++�
 ghost use Rattle.toml.specs.Data.{Data};
 ghost use Rattle.toml.specs.View.{view};
 ghost use Rattle.document_values.specs.Values.{named};
-ghost use Rattle.kit_cases.specs.Words.{text_in};
+ghost use Rattle.kit_cases.specs.Words.{field_text};
 ghost use Rattle.kit_transcripts.specs.Transcripts.{case_of, place_where as place_in};
 ghost use Rattle.kit_transcripts.specs.Untold.{place_at, untold_place as untold_place_in, with_place, AreUntold, AreUntold-prop, HasUntold};
 
@@ -158,7 +158,7 @@ fn untold_place(cases: &[Value], earlier: &[Value], name: &str) -> Option<usize>
 
 /// The place of the first of these tables that says this text in the field of this name.
 fn place_where(tables: &[Value], key: &str, text: &str) -> Option<usize>
-    ensures { result ≡ place_in (λ value. text_in (named key.now value)) text.now (map view tables.now) }
+    ensures { result ≡ place_in (λ value. field_text (named key.now value)) text.now (map view tables.now) }
 {
     tables
         .iter()
@@ -167,7 +167,7 @@ fn place_where(tables: &[Value], key: &str, text: &str) -> Option<usize>
 
 /// The text that a table says in the field of this name, no text where it says none.
 fn text_said<'a>(value: &'a Value, key: &str) -> &'a str
-    ensures { result.now ≡ text_in (named key.now (view value.now)) }
+    ensures { result.now ≡ field_text (named key.now (view value.now)) }
 {
     let Some(fields) = fields_of(value) else {
         return "";

@@ -6,7 +6,7 @@ ghost use Rattle.kit_cases.specs.declared.field.KitField.{KitField as Wrong};
 ghost use Rattle.document_values.specs.Demands.{AllMet, IsFirstUnmet};
 ghost use Rattle.document_values.specs.Values.{elements, named, ArePaired};
 ghost use Rattle.kit_cases.specs.Lists.{IsArrayOf};
-ghost use Rattle.kit_transcripts.specs.Elements.{element_field, list_demands, list_field, list_name, SaysIfThere};
+ghost use Rattle.kit_transcripts.specs.Elements.{transcript_element_field, transcript_list_demands, transcript_list_field, transcript_list_name, SaysIfThere};
 
 use crate::fault::in_transcript;
 use document_values::{elements_of, field};
@@ -33,7 +33,7 @@ pub(crate) enum TranscriptList {
 
 impl TranscriptList {
     fn name(self) -> &'static str
-        ensures { result.now ≡ list_name self }
+        ensures { result.now ≡ transcript_list_name self }
     {
         match self {
             TranscriptList::Events => "events",
@@ -43,7 +43,7 @@ impl TranscriptList {
 
     /// The list, as a refusal names it.
     fn field(self) -> TranscriptField
-        ensures { result ≡ list_field self }
+        ensures { result ≡ transcript_list_field self }
     {
         match self {
             TranscriptList::Events => TranscriptField::Events,
@@ -53,7 +53,7 @@ impl TranscriptList {
 
     /// Its element at a place, as a refusal names it.
     fn element(self, place: usize) -> TranscriptField
-        ensures { result ≡ element_field self place }
+        ensures { result ≡ transcript_element_field self place }
     {
         match self {
             TranscriptList::Events => TranscriptField::Event(place),
@@ -69,9 +69,9 @@ pub(crate) fn read_list<T: Element<TranscriptList>>(
     number: usize,
     fields: &Table,
 ) -> Result<Option<Vec<T>>, KitFault>
-    ensures said { IfOk result (λ read. SaysIfThere (λ told elements_said. ArePaired T.says (elements told) elements_said.items) (named (list_name list) (table (table_view fields.now))) read) }
-    ensures met { OnOk result (AllMet (list_demands list T.says number (table (table_view fields.now)))) }
-    ensures unmet { (wrong : Wrong) → IsErrOf result (KitFault.Field wrong) → IsFirstUnmet wrong (list_demands list T.says number (table (table_view fields.now))) }
+    ensures said { IfOk result (λ read. SaysIfThere (λ told elements_said. ArePaired T.says (elements told) elements_said.items) (named (transcript_list_name list) (table (table_view fields.now))) read) }
+    ensures met { OnOk result (AllMet (transcript_list_demands list T.says number (table (table_view fields.now)))) }
+    ensures unmet { (wrong : Wrong) → IsErrOf result (KitFault.Field wrong) → IsFirstUnmet wrong (transcript_list_demands list T.says number (table (table_view fields.now))) }
 {
     let Some(value) = field(fields, list.name()) else {
         return Ok(None);

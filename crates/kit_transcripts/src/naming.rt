@@ -3,8 +3,8 @@ ghost use Rattle.std.specs.Prelude.{◌≡◌, codes, map, Some, IfNone, IfSome,
 ghost use Rattle.toml.specs.Data.{table};
 ghost use Rattle.toml.specs.View.{table_view, view};
 ghost use Rattle.document_values.specs.Values.{named, IsRequired};
-ghost use Rattle.kit_cases.specs.Cases.{name_of};
-ghost use Rattle.kit_cases.specs.Words.{text_in, IsText};
+ghost use Rattle.kit_cases.specs.Cases.{case_name};
+ghost use Rattle.kit_cases.specs.Words.{field_text, IsText};
 ghost use Rattle.kit_transcripts.specs.Transcripts.{place_where as place_in, IsUntold};
 
 use crate::known::Known;
@@ -15,7 +15,7 @@ use toml::Table;
 /// The place of the case that the fields of a transcript name: one of those known, which none of the earlier
 /// transcripts is of.
 pub(crate) fn case_in(known: &Known<'_>, fields: &Table) -> Option<usize>
-    ensures said { IfSome result (λ place. IsRequired (IsText (λ name. place_in name_of name (map view known.now.cases.now) ≡ Some place)) (named (codes "case") (table (table_view fields.now)))) }
+    ensures said { IfSome result (λ place. IsRequired (IsText (λ name. place_in case_name name (map view known.now.cases.now) ≡ Some place)) (named (codes "case") (table (table_view fields.now)))) }
     ensures met { OnSome result (IsRequired (IsText (IsUntold (map view known.now.cases.now) (map view known.now.earlier.now))) (named (codes "case") (table (table_view fields.now)))) }
     ensures unmet { IfNone result (¬ IsRequired (IsText (IsUntold (map view known.now.cases.now) (map view known.now.earlier.now))) (named (codes "case") (table (table_view fields.now)))) }
 {

@@ -6,10 +6,10 @@ ghost use Rattle.can_conform.specs.Transcripts.{IsTold};
 ghost use Rattle.kit_cases.specs.declared.field.KitField.{KitField as Wrong};
 ghost use Rattle.document_values.specs.Demands.{AllMet, IsFirstUnmet};
 ghost use Rattle.document_values.specs.Values.{named, ArePaired, IsRequired};
-ghost use Rattle.kit_cases.specs.Cases.{name_of};
+ghost use Rattle.kit_cases.specs.Cases.{case_name};
 ghost use Rattle.kit_cases.specs.Words.{IsText};
 ghost use Rattle.kit_transcripts.specs.Elements.{SaysEnd, SaysIfThere};
-ghost use Rattle.kit_transcripts.specs.Transcripts.{end_demands, naming_demands, place_where, telling_demands, transcript_demands, transcripts_demands, SaysTelling, SaysTranscript};
+ghost use Rattle.kit_transcripts.specs.Transcripts.{end_demands, transcript_naming_demands, place_where, telling_demands, transcript_demands, transcripts_demands, SaysTelling, SaysTranscript};
 
 use crate::drove::read_drove;
 use crate::elements::end_in;
@@ -96,9 +96,9 @@ fn read_behind(
 
 /// Reads which of the cases known the transcript of this number is of, with these fields.
 fn read_case(known: &Known<'_>, number: usize, fields: &Table) -> Result<usize, KitFault>
-    ensures said { IfOk result (λ place. IsRequired (IsText (λ name. place_where name_of name (map view known.now.cases.now) ≡ Some place)) (named (codes "case") (table (table_view fields.now)))) }
-    ensures met { OnOk result (AllMet (naming_demands (map view known.now.cases.now) (map view known.now.earlier.now) number (table (table_view fields.now)))) }
-    ensures unmet { (wrong : Wrong) → IsErrOf result (KitFault.Field wrong) → IsFirstUnmet wrong (naming_demands (map view known.now.cases.now) (map view known.now.earlier.now) number (table (table_view fields.now))) }
+    ensures said { IfOk result (λ place. IsRequired (IsText (λ name. place_where case_name name (map view known.now.cases.now) ≡ Some place)) (named (codes "case") (table (table_view fields.now)))) }
+    ensures met { OnOk result (AllMet (transcript_naming_demands (map view known.now.cases.now) (map view known.now.earlier.now) number (table (table_view fields.now)))) }
+    ensures unmet { (wrong : Wrong) → IsErrOf result (KitFault.Field wrong) → IsFirstUnmet wrong (transcript_naming_demands (map view known.now.cases.now) (map view known.now.earlier.now) number (table (table_view fields.now))) }
 {
     if !has_only(fields, &TRANSCRIPT_FIELDS) {
         return Err(in_transcript(number, TranscriptField::Unknown));

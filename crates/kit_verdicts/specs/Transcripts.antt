@@ -42,8 +42,8 @@ counters_element x = decimal x.time ++ (codes ", " ++ counters_elements x.told)
 -- ---- the table
 
 -- an empty line, the table's own, the version of the format, and the name of the case in quotes
-unfoldable pub head_lines : List ℕ → List ℕ
-head_lines name = codes "\n[[transcript]]\nversion = 1\ncase = \"" ++ (name ++ codes "\"\n")
+unfoldable pub transcript_head : List ℕ → List ℕ
+transcript_head name = codes "\n[[transcript]]\nversion = 1\ncase = \"" ++ (name ++ codes "\"\n")
 
 -- the levels as tokens in one string; no string where there are none
 abbrev pub drove_line : List Level → List ℕ
@@ -59,7 +59,7 @@ end_line end =
 -- the transcript of the case of this name
 abbrev pub transcript_text : List ℕ → Transcript → List ℕ
 transcript_text name told =
-    head_lines name ++
+    transcript_head name ++
     (drove_line told.drove.items ++
     (where_told (λ events. list_text (codes "events") event_element events.items) told.events ++
     (where_told (λ counters. list_text (codes "counters") counters_element counters.items) told.counters ++

@@ -1,6 +1,6 @@
 //! A transcript as a table of a document.
 ghost use Rattle.std.specs.Prelude.{◌≡◌, ◌++◌, OnOk};
-ghost use Rattle.kit_verdicts.specs.Transcripts.{counters_elements, drove_line, end_line, head_lines, transcript_text, where_told};
+ghost use Rattle.kit_verdicts.specs.Transcripts.{counters_elements, drove_line, end_line, transcript_head, transcript_text, where_told};
 
 use crate::elements::push_list;
 use can_conform::{Counters, Ending, Transcript};
@@ -25,9 +25,9 @@ pub fn push_transcript(
 }
 
 /// Appends the lines down to the name.
-#[tactic(auto, unfolding(crate::specs::Transcripts::head_lines))]
+#[tactic(auto, unfolding(crate::specs::Transcripts::transcript_head))]
 fn push_head(out: &mut Vec<u8>, name: &[u8]) -> Result<(), AllocError>
-    ensures { OnOk result (out.new.items ≡ out.old.items ++ head_lines name.now) }
+    ensures { OnOk result (out.new.items ≡ out.old.items ++ transcript_head name.now) }
 {
     push_between(
         out,

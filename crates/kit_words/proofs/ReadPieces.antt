@@ -9,7 +9,7 @@ use Rattle.can_frame.specs.declared.level.Level.{Level}
 use Rattle.can_frame.specs.declared.level.Level.TheVariants.{Dominant, Recessive}
 use Rattle.can_frame.specs.Levels.{digit_of}
 use Rattle.can_frame.proofs.LevelDigits.{one-digit, one-digits}
-use Rattle.kit_words.specs.LevelTexts.{IsRun, SaysPiece, SayPieces, SaysLevels, AddsLevels, longest_run, pieces_of}
+use Rattle.kit_words.specs.LevelTexts.{IsRunToken, SaysPiece, SayPieces, SaysLevels, AddsLevels, longest_run, pieces_of}
 
 -- ---- digits
 
@@ -25,7 +25,7 @@ no-run digit rest (x ∷ y ∷ xs) e =
     let second : digit_of y ≡ 42 = cc in
     no-star y second
 
-one-run : (piece : List ℕ) (xs ys : List Level) → IsRun piece xs → IsRun piece ys → xs ≡ ys
+one-run : (piece : List ℕ) (xs ys : List Level) → IsRunToken piece xs → IsRunToken piece ys → xs ≡ ys
 one-run piece xs ys a b =
     let texts : digit_of a.level ∷ 42 ∷ decimal a.count ≡ digit_of b.level ∷ 42 ∷ decimal b.count = sym a.text ∙ b.text in
     let digits : digit_of a.level ≡ digit_of b.level = cc in
@@ -123,7 +123,7 @@ pub not-written : (digits written : List ℕ) (number n : ℕ) → written ≡ d
 not-written digits written number n text other is same = false≢true (sym other ∙ (bytes_eq-Decides written digits).1 (text ∙ ap decimal is ∙ sym same))
 
 -- what is neither a run nor digits of levels says none
-pub no-piece : {E : Type 0} (r : Result Bool E) (piece digits : List ℕ) → digits ≡ piece → ((levels : List Level) → IsRun piece levels → ⊥)
+pub no-piece : {E : Type 0} (r : Result Bool E) (piece digits : List ℕ) → digits ≡ piece → ((levels : List Level) → IsRunToken piece levels → ⊥)
     → IfOk r (λ said. said ≡ false → (read : List Level) → digits ≢ map digit_of read) → IfOk r (λ said. said ≡ false → (read : List Level) → SaysPiece piece read → ⊥)
 no-piece (Err e) piece digits is no_run none = tt
 no-piece (Ok said) piece digits is no_run none = λ no read says. elim says [ inl one ↦ none no read (is ∙ one) | inr run ↦ no_run read run ]

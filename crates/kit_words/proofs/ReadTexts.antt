@@ -5,7 +5,7 @@ use Rattle.std.proofs.Math.Seq.{take-append-add}
 use Rattle.std.proofs.lemmas.List.{length-append, length-map, length-replicate, take-replicate, take_all, take_min}
 use Rattle.can_frame.specs.Levels.{digit_of}
 use Rattle.can_frame.specs.declared.level.Level.{Level}
-use Rattle.kit_words.specs.LevelTexts.{AddsLevels, IsRun, SaysLevels, SaysPiece, SayPieces, pieces_of}
+use Rattle.kit_words.specs.LevelTexts.{AddsLevels, IsRunToken, SaysLevels, SaysPiece, SayPieces, pieces_of}
 use Rattle.kit_words.proofs.ReadPieces.{one-pieces, take-joined}
 
 pub pieces-push : (pieces : List (List ℕ)) (piece : List ℕ) (levels more : List Level) → SayPieces pieces levels → SaysPiece piece more → SayPieces (pieces ++ piece ∷ []) (levels ++ more)
@@ -87,7 +87,7 @@ text-none text most before after are levels says =
     omega (arith, are.any, says.some, ap length same)
 
 -- a run is read as far as there is room
-pub run-said : (piece : List ℕ) (most : ℕ) (before after : List Level) (level : Level) (count : ℕ) → length before ≤ most → after ≡ before ++ replicate (min (most - length before) count) level → IsRun piece (replicate count level)
+pub run-said : (piece : List ℕ) (most : ℕ) (before after : List Level) (level : Level) (count : ℕ) → length before ≤ most → after ≡ before ++ replicate (min (most - length before) count) level → IsRunToken piece (replicate count level)
     → AddsLevels (SaysPiece piece) most before after
 run-said piece most before after level count few all is =
     let room = most - length before in

@@ -13,7 +13,7 @@ abbrev pub longest_run : ℕ
 longest_run = 100000
 
 -- `L*N`: the level L, N times, N in decimal from 1 on
-pub record IsRun (piece : List ℕ) (levels : List Level) : Type 0 where
+pub record IsRunToken (piece : List ℕ) (levels : List Level) : Type 0 where
   pub level : Level
   pub count : ℕ
   pub some : 0 < count
@@ -23,7 +23,7 @@ pub record IsRun (piece : List ℕ) (levels : List Level) : Type 0 where
 
 -- a piece says its levels one by one, or as a run
 abbrev pub SaysPiece : List ℕ → List Level → Type 0
-SaysPiece piece levels = (piece ≡ map digit_of levels) ⊎ IsRun piece levels
+SaysPiece piece levels = (piece ≡ map digit_of levels) ⊎ IsRunToken piece levels
 
 -- the pieces say these levels, one piece after another
 abbrev pub SayPieces : List (List ℕ) → List Level → Type 0

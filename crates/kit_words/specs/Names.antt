@@ -3,14 +3,14 @@ use Rattle.std.specs.Prelude.{ℕ, ◌≡◌, ◌==◌, ◌≤◌, ◌<◌, nat_
 use Rattle.std.specs.List.{list_all}
 
 -- a letter from a to z, a digit or a hyphen
-abbrev pub is_name_byte : ℕ → Bool
-is_name_byte byte = (nat_le 97 byte && nat_le byte 122) || ((nat_le 48 byte && nat_le byte 57) || (byte == 45))
+abbrev pub is_kit_name_byte : ℕ → Bool
+is_kit_name_byte byte = (nat_le 97 byte && nat_le byte 122) || ((nat_le 48 byte && nat_le byte 57) || (byte == 45))
 
 -- 1 to so many letters, digits and hyphens
-pub record IsName (most : ℕ) (text : List ℕ) : Type 0 where
+pub record IsKitName (most : ℕ) (text : List ℕ) : Type 0 where
   pub some : 0 < length text
   pub few : length text ≤ most
-  pub letters : list_all is_name_byte text ≡ true
+  pub letters : list_all is_kit_name_byte text ≡ true
 
 -- how many bytes the name of a case has at most
 abbrev pub longest_name : ℕ

@@ -26,12 +26,12 @@ event_text WentOff = codes "off"
 event_text Recovered = codes "recovered"
 
 -- the frame that an event tells of
-abbrev pub frame_in : Event → Option Parts
-frame_in (Sent f) = Some f
-frame_in (Received f) = Some f
-frame_in _ = None
+abbrev pub event_frame : Event → Option Parts
+event_frame (Sent f) = Some f
+event_frame (Received f) = Some f
+event_frame _ = None
 
 -- a text says an event: it is the event's, and a frame of which the event tells is one
 pub record SaysEvent (text : List ℕ) (event : Event) : Type 0 where
   pub text_is : text ≡ event_text event
-  pub frame : IfSome (frame_in event) IsFrame
+  pub frame : IfSome (event_frame event) IsFrame

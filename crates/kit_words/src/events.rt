@@ -5,7 +5,7 @@ ghost use Rattle.can_frame.specs.Parts.{IsFrame, Parts};
 ghost use Rattle.can_frame.specs.Text.{frame_text};
 ghost use Rattle.can_mac.specs.declared.event.Event.{Event as EventSaid};
 ghost use Rattle.can_fault.specs.Words.{state_word};
-ghost use Rattle.kit_words.specs.Words.{event_text, frame_in, SaysEvent};
+ghost use Rattle.kit_words.specs.Words.{event_text, event_frame, SaysEvent};
 
 use can_fault::State;
 use can_frame::Frame;
@@ -48,8 +48,8 @@ fn behind<'a>(text: &'a str, word: &str) -> Option<&'a [u8]>
 /// The event of this text that tells of no frame.
 fn event_in_words(text: &str) -> Option<Event>
     ensures { MatchOption result
-        ((event : EventSaid) → frame_in event ≡ None → text.now ≢ event_text event)
-        (λ event. (frame_in event ≡ None) × (text.now ≡ event_text event)) }
+        ((event : EventSaid) → event_frame event ≡ None → text.now ≢ event_text event)
+        (λ event. (event_frame event ≡ None) × (text.now ≡ event_text event)) }
 {
     match text {
         "lost" => Some(Event::Lost),

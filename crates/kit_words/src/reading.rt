@@ -2,7 +2,7 @@
 ghost use Rattle.std.specs.Prelude.{ℕ, ◌≡◌, ◌≢◌, ◌<◌, ◌≤◌, ◌^◌, List, decimal, false, length, map, replicate, true, IfOk, MatchOption};
 ghost use Rattle.can_frame.specs.declared.level.Level.{Level as LevelSaid};
 ghost use Rattle.can_frame.specs.Levels.{digit_of};
-ghost use Rattle.kit_words.specs.LevelTexts.{longest_run, AddsLevels, IsRun, SaysLevels, SaysPiece};
+ghost use Rattle.kit_words.specs.LevelTexts.{longest_run, AddsLevels, IsRunToken, SaysLevels, SaysPiece};
 
 use can_frame::Level;
 use itoa::Buffer;
@@ -66,7 +66,7 @@ fn read_digits(levels: &mut Vec<Level>, most: usize, digits: &[u8]) -> Result<bo
 
 /// The level of a token `L*N`, and how many there are.
 fn run_in(piece: &str) -> Option<(Level, u32)>
-    ensures { MatchOption result ((levels : List LevelSaid) → ¬ IsRun piece.now levels) (λ run. IsRun piece.now (replicate run.1 run.0)) }
+    ensures { MatchOption result ((levels : List LevelSaid) → ¬ IsRunToken piece.now levels) (λ run. IsRunToken piece.now (replicate run.1 run.0)) }
 {
     let (digit, count) = piece.split_once('*')?;
     match digit.as_bytes() {

@@ -4,7 +4,7 @@ use Rattle.std.proofs.lemmas.Result.{err_from_is_err_and}
 use Rattle.can_frame.specs.Levels.{level_code, levels_of_codes}
 use Rattle.can_c.specs.declared.status.Status.{Status}
 use Rattle.can_c.specs.Play.{IsPlayRefusal, bus_held, held_in, ports_held, ports_refusal}
-use Rattle.can_c.specs.PlainInputs.{hits_in, offers_in}
+use Rattle.can_c.specs.PlainInputs.{hits_of_plain, offers_of_plain}
 use Rattle.can_c.proofs.PlayLemmas.{levels-of, network-given, network-same, played-is, played-levels, refused-ports, refused-run}
 use Rattle.can_c.proofs.play.play_ports.Goals as goal
 
@@ -48,7 +48,7 @@ returns-clause-network c =
     let long : length c.write_codes.new.codes ≤ length c.deref-3.result.now = omega (arith, ap length levels, c.in_ok-recorded.ensures.len) in
     let codes : c.write_codes.new.codes ≡ map level_code c.run.new.recorded =
     sym (take_all (length c.deref-3.result.now) c.write_codes.new.codes long) ∙ c.write_codes.ensures.front ∙ ap (map level_code) levels in
-    network-same (offers_in c.args.offers.now) (hits_in c.args.hits.now) (bus_held (held_in c.check_ports.new.handles)) (bus_held (held_in c.args.handles.now)) c.run.new.recorded (levels_of_codes c.write_codes.new.codes)
+    network-same (offers_of_plain c.args.offers.now) (hits_of_plain c.args.hits.now) (bus_held (held_in c.check_ports.new.handles)) (bus_held (held_in c.args.handles.now)) c.run.new.recorded (levels_of_codes c.write_codes.new.codes)
     (ports_held (held_in c.run.new.handles)) (ports_held (held_in c.run.new.handles)) (ap bus_held c.in_ok-check_ports.ensures.unchanged) (levels-of c.run.new.recorded c.write_codes.new.codes codes) refl
-    (network-given c.deref.result.now (offers_in c.args.offers.now) c.deref-2.result.now (hits_in c.args.hits.now) (bus_held (held_in c.check_ports.new.handles)) c.run.new.recorded (ports_held (held_in c.run.new.handles))
+    (network-given c.deref.result.now (offers_of_plain c.args.offers.now) c.deref-2.result.now (hits_of_plain c.args.hits.now) (bus_held (held_in c.check_ports.new.handles)) c.run.new.recorded (ports_held (held_in c.run.new.handles))
     (c.deref.ensures.value ∙ c.in_ok-offers.ensures.offers) (c.deref-2.ensures.value ∙ c.in_ok-hits.ensures.hits) c.in_ok-count.ensures.network)

@@ -1,5 +1,5 @@
 use Rattle.std.proofs.Common.{ap, inr, rules, Err}
-use Rattle.canbit_words.specs.Words.{texts_of}
+use Rattle.can_program.specs.Words.{texts_of}
 use Rattle.canbit_words.proofs.Parses.{alone_asks, misuse}
 use Rattle.canbit_words.proofs.words.chosen.Goals as goal
 

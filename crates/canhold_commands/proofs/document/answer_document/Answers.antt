@@ -3,11 +3,11 @@ use Rattle.kit_cases.specs.declared.field.KitField.{KitField}
 use Rattle.kit_cases.specs.declared.fault.KitFault.{KitFault}
 use Rattle.kit_cases.specs.declared.fault.KitFault.TheVariants as kit
 use Rattle.canhold_commands.specs.declared.fault.CanholdFault.TheVariants.{Field}
-use Rattle.canhold_commands.specs.Status.{fault_of}
+use Rattle.canhold_commands.specs.Status.{kit_fault_of}
 use Rattle.canhold_commands.proofs.document.answer_document.Goals as goal
 
 -- a field that is told is the document's
-field-of : (fault : KitFault) (wrong : KitField) → fault_of fault ≡ Field wrong → fault ≡ kit.Field wrong
+field-of : (fault : KitFault) (wrong : KitField) → kit_fault_of fault ≡ Field wrong → fault ≡ kit.Field wrong
 field-of (kit.Field other) wrong is = ap kit.Field (cc)
 field-of kit.Memory wrong is = absurd (cc)
 

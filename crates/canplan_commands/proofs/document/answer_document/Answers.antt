@@ -3,11 +3,11 @@ use Rattle.can_plan_text.specs.declared.field.PlanField.{PlanField}
 use Rattle.can_plan_text.specs.declared.fault.PlanFault.{PlanFault}
 use Rattle.can_plan_text.specs.declared.fault.PlanFault.TheVariants as plan
 use Rattle.canplan_commands.specs.declared.fault.CanplanFault.TheVariants.{Field}
-use Rattle.canplan_commands.specs.Status.{fault_of}
+use Rattle.canplan_commands.specs.Status.{plan_fault_of}
 use Rattle.canplan_commands.proofs.document.answer_document.Goals as goal
 
 -- a field that is told is the document's
-field-of : (fault : PlanFault) (wrong : PlanField) → fault_of fault ≡ Field wrong → fault ≡ plan.Field wrong
+field-of : (fault : PlanFault) (wrong : PlanField) → plan_fault_of fault ≡ Field wrong → fault ≡ plan.Field wrong
 field-of (plan.Field other) wrong is = ap plan.Field (cc)
 field-of plan.Memory wrong is = absurd (cc)
 

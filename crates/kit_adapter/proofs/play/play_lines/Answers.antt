@@ -5,7 +5,7 @@ use Rattle.std.specs.Cmp.Lexicographic.{pointwise_decides}
 use Rattle.std.specs.Prelude.{option_map}
 use Rattle.can_stream.proofs.Turns.{PassesOn-flushed}
 use Rattle.can_node.proofs.NodePort.{node_port}
-use Rattle.kit_adapter.proofs.CommandLines.{IsStep-front, quit_from_front}
+use Rattle.kit_adapter.proofs.CommandLines.{IsAnswered-front, quit_from_front}
 use Rattle.kit_adapter.proofs.Conversations.{HasRead, HasRead-next, IsTalking-answered, Told-last, Told-quit, Told-unanswered, Told-ungreeted, Told-unread, Told-unwritten}
 use Rattle.kit_adapter.proofs.Running.{falls-read, none_waits}
 use Rattle.kit_adapter.proofs.play.play_lines.Given.{Over}
@@ -66,7 +66,7 @@ loop-answer-preserved g c =
     let took = rw c.deref.ensures.value at c.in_ok-write_all-2.ensures.ok in
     let flushed = rw c.loop-answer.invariant.empty at c.in_ok-next_line.ensures.flushed in
     record {
-      talking = IsTalking-answered _ _ _ _ _ read.0 _ _ _ _ _ read.2 (IsStep-front read.0 _ _ _ step) took;
+      talking = IsTalking-answered _ _ _ _ _ read.0 _ _ _ _ _ read.2 (IsAnswered-front read.0 _ _ _ step) took;
       empty = none_waits _ _ _ (PassesOn-flushed _ _ _ _ _ c.in_ok-next_line.ensures.write_failed flushed);
       reader_unfailed = c.in_ok-next_line.ensures.unfailed;
       reader_unended = rw c.if-branch.true at c.in_ok-next_line.ensures.ended;
@@ -80,7 +80,7 @@ returns-in_err-write_all-2-clause-told g c =
     let step = rw (c.line-line.ensures, read.1) at c.in-Ok.ensures in
     let front = rw c.deref.ensures.value at c.in_err-write_all-2.ensures.err in
     let p = err_from_is_err_and c.from_residual-in_err-write_all-2.result c.from_residual-in_err-write_all-2.ensures.1 in
-    rw (p.1, p.2, c.in_err-write_all-2.ensures.fault) (Told-unwritten _ _ _ _ _ _ _ read.0 _ _ _ _ _ read.2 (IsStep-front read.0 _ _ _ step) front)
+    rw (p.1, p.2, c.in_err-write_all-2.ensures.fault) (Told-unwritten _ _ _ _ _ _ _ read.0 _ _ _ _ _ read.2 (IsAnswered-front read.0 _ _ _ step) front)
 
 pub returns-clause-told : goal.returns-clause-told
 returns-clause-told g c =

@@ -7,7 +7,8 @@ use Rattle.document_values.specs.Values.{ArePaired}
 use Rattle.kit_cases.specs.Cases.{cases_demands, SaysCase}
 use Rattle.kit_transcripts.specs.Transcripts.{transcripts_demands, SaysTranscript}
 use Rattle.kit_answers.specs.Documents.{cases_of}
-use Rattle.kit_answers.proofs.DocumentParts.{cases-known, cases-unmet, document-met, length-paired, transcripts-unmet}
+use Rattle.document_values.proofs.ReadLists.{length-paired}
+use Rattle.kit_answers.proofs.DocumentParts.{cases-known, cases-unmet, document-met, transcripts-unmet}
 use Rattle.kit_answers.proofs.document.read_tables.Goals as goal
 
 pub returns-in_err-cases-clause-unmet : goal.returns-in_err-cases-clause-unmet

@@ -1,7 +1,7 @@
 use Rattle.std.proofs.Common.{◌≡◌, rules, false, not, length, replicate, ap, ◌∙◌}
 use Rattle.std.specs.List.{count_by, range_with_len}
 use Rattle.kit_answers.specs.Judgements.{has_one}
-use Rattle.kit_answers.specs.Marks.{marked}
+use Rattle.kit_answers.specs.Marks.{with_marks}
 use Rattle.kit_answers.proofs.MarkedCases.{count-map, marked-all}
 use Rattle.kit_answers.proofs.judging.cases_without.Goals as goal
 
@@ -9,5 +9,5 @@ pub returns : goal.returns
 returns c =
     let document = c.args.document.now in
     let n = length document.cases.items in
-    let is : c.deref-2.result.now ≡ marked document.transcripts.items (replicate n false) = search rules in
+    let is : c.deref-2.result.now ≡ with_marks document.transcripts.items (replicate n false) = search rules in
     c.unmarked.ensures ∙ ap (count_by not) (is ∙ marked-all document.transcripts.items n) ∙ count-map not (has_one document.transcripts.items) (range_with_len 0 n)

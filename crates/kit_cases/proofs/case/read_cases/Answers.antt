@@ -5,7 +5,7 @@ use Rattle.toml.specs.Data.{Data}
 use Rattle.toml.specs.View.{view}
 use Rattle.document_values.specs.Demands.{AllMet, IsFirstUnmet}
 use Rattle.document_values.proofs.ReadLists.{IsRead-more, said-all, unmet-next}
-use Rattle.kit_cases.specs.Cases.{case_demands, most_bits, SaysCase}
+use Rattle.kit_cases.specs.Cases.{case_demands, longest_case, SaysCase}
 use Rattle.kit_cases.proofs.case.read_cases.Goals as goal
 
 pub returns-in_err-read_behind-clause-unmet : goal.returns-in_err-read_behind-clause-unmet
@@ -24,7 +24,7 @@ loop-number-preserved c =
     rw c.in_ok-push.ensures.items (
       IsRead-more (λ place d. case_demands (take place (map view values)) place d) SaysCase values number _ c.index-values-number.result _ c.loop-number-test.true c.index-values-number.is
           (subst (λ (earlier : List Data). AllMet (case_demands earlier number (view c.index-values-number.result))) (sym (take-map view number values)) here) c.in_ok-read_behind.ensures.said c.loop-number.invariant.0,
-      All-push (λ one. length one.script.tester.items ≤ most_bits) _ _ c.loop-number.invariant.1 c.in_ok-read_behind.ensures.short,
+      All-push (λ one. length one.script.tester.items ≤ longest_case) _ _ c.loop-number.invariant.1 c.in_ok-read_behind.ensures.short,
       search rules,
     )
 

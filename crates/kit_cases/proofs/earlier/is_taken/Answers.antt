@@ -3,7 +3,7 @@ use Rattle.std.proofs.Common.{◌∙◌, rules}
 use Rattle.std.proofs.lemmas.Iterator.{YieldsList-from_slice}
 use Rattle.std.proofs.lemmas.Iterator.Search.{any_from_yields_List}
 use Rattle.toml.specs.View.{view}
-use Rattle.kit_cases.specs.Cases.{name_of}
+use Rattle.kit_cases.specs.Cases.{case_name}
 use Rattle.kit_cases.proofs.WordLists.{names-taken}
 use Rattle.kit_cases.proofs.earlier.is_taken.Goals as goal
 
@@ -11,5 +11,5 @@ pub returns : goal.returns
 returns c =
     let name = c.args.name.now in
     let values = c.args.earlier.now in
-    any_from_yields_List (λ value. bytes_eq name (name_of (view value))) _ _ _ c.any.ensures.ran (YieldsList-from_slice values cc) (λ x b q k. search rules)
+    any_from_yields_List (λ value. bytes_eq name (case_name (view value))) _ _ _ c.any.ensures.ran (YieldsList-from_slice values cc) (λ x b q k. search rules)
     ∙ names-taken name values

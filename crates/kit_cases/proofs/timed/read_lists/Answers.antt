@@ -6,7 +6,7 @@ use Rattle.document_values.specs.Demands.{demands_on_each, IsFirstUnmet}
 use Rattle.document_values.specs.Values.{elements_in, named, ArePaired}
 use Rattle.kit_cases.specs.declared.lists.CaseList.TheVariants.{Offers, Holds, Forced}
 use Rattle.kit_cases.specs.Cases.{forced_demands, strings_of, in_case}
-use Rattle.kit_cases.specs.Lists.{list_demands, SaysHold, SaysOffer, SaysTime}
+use Rattle.kit_cases.specs.Lists.{case_list_demands, SaysHold, SaysOffer, SaysTime}
 use Rattle.kit_cases.proofs.CaseParts.{forced-unmet, holds-unmet, lists-met, offers-unmet, times-unmet}
 use Rattle.kit_cases.proofs.ForcedTimes.{length-tester, times-below}
 use Rattle.kit_cases.proofs.timed.read_lists.Goals as goal
@@ -14,19 +14,19 @@ use Rattle.kit_cases.proofs.timed.read_lists.Goals as goal
 pub returns-in_err-offers-clause-unmet : goal.returns-in_err-offers-clause-unmet
 returns-in_err-offers-clause-unmet c = λ wrong is.
     let d = table (table_view c.args.fields.now) in
-    let here : IsFirstUnmet wrong (list_demands Offers SaysOffer c.args.number c.args.bits d) = search rules in
+    let here : IsFirstUnmet wrong (case_list_demands Offers SaysOffer c.args.number c.args.bits d) = search rules in
     offers-unmet c.args.number c.args.bits d wrong here
 
 pub returns-in_err-holds-clause-unmet : goal.returns-in_err-holds-clause-unmet
 returns-in_err-holds-clause-unmet c = λ wrong is.
     let d = table (table_view c.args.fields.now) in
-    let here : IsFirstUnmet wrong (list_demands Holds SaysHold c.args.number c.args.bits d) = search rules in
+    let here : IsFirstUnmet wrong (case_list_demands Holds SaysHold c.args.number c.args.bits d) = search rules in
     holds-unmet c.args.number c.args.bits d wrong c.in_ok-offers.ensures.met here
 
 pub returns-in_err-times-clause-unmet : goal.returns-in_err-times-clause-unmet
 returns-in_err-times-clause-unmet c = λ wrong is.
     let d = table (table_view c.args.fields.now) in
-    let here : IsFirstUnmet wrong (list_demands Forced SaysTime c.args.number c.args.bits d) = search rules in
+    let here : IsFirstUnmet wrong (case_list_demands Forced SaysTime c.args.number c.args.bits d) = search rules in
     times-unmet c.args.number c.args.bits d wrong c.in_ok-offers.ensures.met c.in_ok-holds.ensures.met here
 
 pub read_forced-requires : goal.read_forced-requires

@@ -4,7 +4,7 @@ use Rattle.toml.specs.View.{table_view}
 use Rattle.document_values.specs.Demands.{IsFirstUnmet}
 use Rattle.document_values.specs.Values.{named}
 use Rattle.kit_transcripts.specs.declared.lists.TranscriptList.TheVariants.{Counters, Events}
-use Rattle.kit_transcripts.specs.Elements.{element_field, list_demands, SaysChange, SaysEventAt}
+use Rattle.kit_transcripts.specs.Elements.{transcript_element_field, transcript_list_demands, SaysChange, SaysEventAt}
 use Rattle.kit_transcripts.specs.Transcripts.{drove_demands, end_demands, in_transcript}
 use Rattle.kit_transcripts.proofs.Rising.{list-end, list-rising}
 use Rattle.kit_transcripts.proofs.TellingParts.{change-time, counters-unmet, drove-unmet, end-unmet, event-time, events-unmet, telling-met}
@@ -19,13 +19,13 @@ returns-in_err-drove-clause-unmet c = λ wrong is.
 pub returns-in_err-events-clause-unmet : goal.returns-in_err-events-clause-unmet
 returns-in_err-events-clause-unmet c = λ wrong is.
     let d = table (table_view c.args.fields.now) in
-    let here : IsFirstUnmet wrong (list_demands Events SaysEventAt c.args.number d) = search rules in
+    let here : IsFirstUnmet wrong (transcript_list_demands Events SaysEventAt c.args.number d) = search rules in
     events-unmet c.args.number d wrong c.in_ok-drove.ensures.met here
 
 pub returns-in_err-counters-clause-unmet : goal.returns-in_err-counters-clause-unmet
 returns-in_err-counters-clause-unmet c = λ wrong is.
     let d = table (table_view c.args.fields.now) in
-    let here : IsFirstUnmet wrong (list_demands Counters SaysChange c.args.number d) = search rules in
+    let here : IsFirstUnmet wrong (transcript_list_demands Counters SaysChange c.args.number d) = search rules in
     counters-unmet c.args.number d wrong c.in_ok-drove.ensures.met c.in_ok-events.ensures.met here
 
 pub returns-in_err-end-clause-unmet : goal.returns-in_err-end-clause-unmet
@@ -37,8 +37,8 @@ returns-in_err-end-clause-unmet c = λ wrong is.
 pub returns-clause-told : goal.returns-clause-told
 returns-clause-told c =
     let d = table (table_view c.args.fields.now) in
-    let events_told = λ (place : ℕ). in_transcript c.args.number (element_field Events place) in
-    let changes_told = λ (place : ℕ). in_transcript c.args.number (element_field Counters place) in
+    let events_told = λ (place : ℕ). in_transcript c.args.number (transcript_element_field Events place) in
+    let changes_told = λ (place : ℕ). in_transcript c.args.number (transcript_element_field Counters place) in
     let few = c.in_ok-drove.ensures.few in
     let events = c.in_ok-events.ensures in
     let changes = c.in_ok-counters.ensures in

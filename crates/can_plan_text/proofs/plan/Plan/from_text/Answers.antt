@@ -5,7 +5,7 @@ use Rattle.toml.specs.View.{view, table_view}
 use Rattle.document_values.specs.Demands.{IsFirstUnmet}
 use Rattle.document_values.specs.Values.{named, ArePaired}
 use Rattle.can_plan_text.specs.Order.{IsNamedAgain, IsRepeated}
-use Rattle.can_plan_text.specs.Plans.{SaysErrors, SaysMessage, messages_in, rate_in, top_demands}
+use Rattle.can_plan_text.specs.Plans.{SaysErrors, SaysMessage, messages_in, rate_in, plan_top_demands}
 use Rattle.document_values.proofs.ReadLists.{length-paired}
 use Rattle.can_plan_text.proofs.PlanParts.{listed-unmet, named-again-unmet, plan-met, repeated-unmet, top-unmet}
 use Rattle.can_plan_text.proofs.plan.Plan.from_text.Goals as goal
@@ -13,7 +13,7 @@ use Rattle.can_plan_text.proofs.plan.Plan.from_text.Goals as goal
 pub returns-in_err-top-clause-wrong : goal.returns-in_err-top-clause-wrong
 returns-in_err-top-clause-wrong c = λ wrong told.
     let document : Data = table (table_view c.in_ok-document.document) in
-    let unmet : IsFirstUnmet wrong (top_demands document) = search rules in
+    let unmet : IsFirstUnmet wrong (plan_top_demands document) = search rules in
     inr (document, c.in_ok-document.ensures.said, top-unmet document (messages_in document) (rate_in document) refl refl wrong unmet)
 
 pub returns-in_err-listed-clause-wrong : goal.returns-in_err-listed-clause-wrong

@@ -2,7 +2,7 @@ use Rattle.std.proofs.Common.{◌∙◌, ap, arith, refl}
 use Rattle.can_frame.specs.Levels.{level_code}
 use Rattle.can_c.specs.Codes.{event_code}
 use Rattle.can_c.proofs.RunLemmas.{all_passed, next_passed}
-use Rattle.can_c.proofs.bit_times.pass.Goals as goal
+use Rattle.can_c.proofs.bit_times.run_each.Goals as goal
 
 pub loop-place-preserved : goal.loop-place-preserved
 loop-place-preserved c =
