@@ -1,14 +1,43 @@
 //! What a controller drives of a frame. (Bosch CAN 2.0 part B, sections 3.2.1 and 6)
 
 ghost use Rattle.std.specs.Prelude.{◌≡◌};
-ghost use Rattle.can_mac.specs.Machine.{part_drives, slot_drives};
+ghost use Rattle.std.specs.Option.{option_copied};
+ghost use Rattle.can_mac.specs.Machine.{part_drives, phase_drives, slot_drives};
 
-use crate::phase::{Reading, Role};
+use crate::phase::{Phase, Reading, Role};
 use can_code::{FrameBits, Front, Place};
-use can_frame::Level;
+use can_frame::{Frame, Level};
+
+/// What a controller drives in this phase, where this frame waits to be sent.
+#[inline(always)]
+pub(crate) fn level_of_phase<B: FrameBits>(
+    phase: &Phase<Front<B>>,
+    role: &Role,
+    waiting: Option<&Frame>,
+) -> Level
+    ensures { result ≡ phase_drives phase.now role.now (option_copied waiting.entry) }
+{
+    match phase {
+        Phase::Idle if waiting.is_some() => Level::Dominant,
+        Phase::StuffedPart(front) => level_of_part(role, front),
+        Phase::AckSlot(reading) => level_of_slot(role, reading),
+        Phase::ErrorFlag { .. } | Phase::OverloadFlag { .. } => Level::Dominant,
+        Phase::Joining { .. }
+        | Phase::Idle
+        | Phase::CrcDelimiter(_)
+        | Phase::AckDelimiter(_)
+        | Phase::EndOfFrame { .. }
+        | Phase::PassiveFlag { .. }
+        | Phase::AfterFlag { .. }
+        | Phase::Delimiter { .. }
+        | Phase::Intermission { .. }
+        | Phase::Suspend { .. }
+        | Phase::BusOff => Level::Recessive,
+    }
+}
 
 /// In the stuffed part a sender drives its frame's next level, or a stuff bit.
-pub(crate) fn level_of_part<B: FrameBits>(role: &Role, front: &Front<B>) -> Level
+fn level_of_part<B: FrameBits>(role: &Role, front: &Front<B>) -> Level
     ensures { result ≡ part_drives role.now front.now }
 {
     match role {
@@ -19,7 +48,7 @@ pub(crate) fn level_of_part<B: FrameBits>(role: &Role, front: &Front<B>) -> Leve
 }
 
 /// In the ACK slot a receiver whose check sequence agrees acknowledges.
-pub(crate) fn level_of_slot(role: &Role, reading: &Reading) -> Level
+fn level_of_slot(role: &Role, reading: &Reading) -> Level
     ensures { result ≡ slot_drives role.now reading.now.agrees }
 {
     match role {

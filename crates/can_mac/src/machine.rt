@@ -9,7 +9,7 @@ ghost use Rattle.can_mac.specs.Moves.{move, move_keeping};
 ghost use Rattle.can_mac.specs.Machine.{holding, IsSilent, mac_drives, mac_step, off_step, on_step, stance as stance_of, step_counting};
 
 use crate::copying::phase_copied;
-use crate::driving::{level_of_part, level_of_slot};
+use crate::driving::level_of_phase;
 use crate::event::Event;
 use crate::moves::flags::LAST_OF_DELIMITER;
 use crate::moves::shortcuts::{goes_on, goes_on_recessive, move_in_place, receiver_hears_on};
@@ -99,30 +99,14 @@ impl<B: FrameBits> MediumAccess<B> {
     }
 
     /// What the controller drives in the next bit time, where this frame waits to be sent.
-    #[tactic(auto, using(crate::proofs::DriveLemmas::longest_part), unfolding(crate::specs::Machine::mac_drives))]
+    #[tactic(auto, using(crate::proofs::DriveLemmas::longest_part, crate::proofs::DriveLemmas::silent_drives), unfolding(crate::specs::Machine::mac_drives))]
     pub fn drive(&self, waiting: Option<&Frame>) -> Level
         ensures level { result ≡ mac_drives self.now (option_copied waiting.entry) }
         ensures silent { IsSilent self.now.phase → result ≡ Level.Recessive }
         ensures kept { IsMac self.now }
         ensures longest { (front : FrontParts) → self.now.phase ≡ Phase.StuffedPart front → length front.unstuffed ≤ 118 }
     {
-        match &self.phase {
-            Phase::Idle if waiting.is_some() => Level::Dominant,
-            Phase::StuffedPart(front) => level_of_part(&self.role, front),
-            Phase::AckSlot(reading) => level_of_slot(&self.role, reading),
-            Phase::ErrorFlag { .. } | Phase::OverloadFlag { .. } => Level::Dominant,
-            Phase::Joining { .. }
-            | Phase::Idle
-            | Phase::CrcDelimiter(_)
-            | Phase::AckDelimiter(_)
-            | Phase::EndOfFrame { .. }
-            | Phase::PassiveFlag { .. }
-            | Phase::AfterFlag { .. }
-            | Phase::Delimiter { .. }
-            | Phase::Intermission { .. }
-            | Phase::Suspend { .. }
-            | Phase::BusOff => Level::Recessive,
-        }
+        level_of_phase(&self.phase, &self.role, waiting)
     }
 
     /// Takes the level that the bus has in this bit time, where this frame waits to be sent: what is
