@@ -1,9 +1,8 @@
 -- When attempts begin, and when a hit falls on the wire, over whole lists of levels and bit time by bit time.
-use Rattle.std.specs.Prelude.{if◌then◌else◌, nat_le, ◌&&◌, not, min, ◌↔◌}
+use Rattle.std.specs.Prelude.{if◌then◌else◌, nat_le, ◌==◌, ◌&&◌, not, min, ◌↔◌}
 use Rattle.std.specs.List.{Any, Contains, list_any, range_with_len, suffix_len}
 use Rattle.std.proofs.Common.{◌≡◌, ℕ, ◌+◌, ◌<◌, Bool, true, false, cond, List, [], ◌∷◌, ◌++◌, Option, Some, None, length, take, replicate, refl, ap, sym, ◌∙◌, subst, inl, inr, append_assoc, arith, below_more}
-use Rattle.std.proofs.lemmas.Bool.{cases_order}
-use Rattle.std.proofs.lemmas.Bool.Decides.{nat_tests}
+use Rattle.std.proofs.lemmas.Bool.{cases_lt, cases_order, and_from, and_parts, eq-eqb, eqb-true, false_from_ne_true, false≢true, le-leb, lt-leb}
 use Rattle.std.proofs.lemmas.List.{append-nil, get_or-replicate, length-replicate, map-id, reverse-append, take_more}
 use Rattle.std.proofs.lemmas.List.Elements.{Contains-get_or}
 use Rattle.std.proofs.lemmas.List.Folds.{Any-from_list_any, list_any-from_Any}
@@ -50,7 +49,10 @@ rest_after-capped rest Dominant = refl
 rest_after-capped rest Recessive = omega arith
 
 pub begins_attempt-capped : (rest : ℕ) (x : Level) → begins_attempt (min rest 11) x ≡ (not (is_recessive x) && nat_le 11 rest)
-begins_attempt-capped rest Dominant = grind (arith, nat_tests)
+begins_attempt-capped rest Dominant = elim (cases_lt rest 11) [
+  | inl less ↦ false_from_ne_true (min rest 11 == 11) (λ e. let full : min rest 11 ≡ 11 = eqb-true (min rest 11) 11 e in omega (arith, full, less)) ∙ sym (lt-leb 11 rest less)
+  | inr full ↦ eq-eqb (min rest 11) 11 (omega (arith, full)) ∙ sym (le-leb 11 rest full)
+]
 begins_attempt-capped rest Recessive = refl
 
 -- Where a hit inverts a level.
@@ -68,12 +70,12 @@ never_opposite Recessive e = cc
 -- a level that is inverted as a test says is the opposite exactly where what the test decides is true
 pub inverted-tells : {P : Type 0} (hit : Bool) (x y : Level) → (hit ≡ true) ↔ P → y ≡ inverted_if hit x → (y ≡ opposite x) ↔ P
 inverted-tells true x y decides e = (λ h. decides.0 refl, λ p. e)
-inverted-tells false x y decides e = (λ h. absurd (never_opposite x (sym e ∙ h)), λ p. absurd (let k : false ≡ true = decides.1 p in cc))
+inverted-tells false x y decides e = (λ h. absurd (never_opposite x (sym e ∙ h)), λ p. absurd (false≢true (decides.1 p)))
 
 -- and the other way round
 pub inverted-told : {P : Type 0} (hit : Bool) (x y : Level) → (hit ≡ true) ↔ P → (y ≡ opposite x) ↔ P → y ≡ inverted_if hit x
 inverted-told true x y decides e = e.1 (decides.0 refl)
-inverted-told false x y decides e = same_levels y x (λ h. let k : false ≡ true = decides.1 (e.0 h) in cc)
+inverted-told false x y decides e = same_levels y x (λ h. false≢true (decides.1 (e.0 h)))
 
 -- a test that decides a fact of each hit decides whether it is one of any
 any-decided : (P : Hit → Type 0) (p : Hit → Bool) → ((hit : Hit) → p hit ≡ true → P hit) → ((hit : Hit) → P hit → p hit ≡ true) →
@@ -84,15 +86,14 @@ any-decided P p there back hits = (
 )
 
 is_view : (t port : ℕ) (hit : Hit) → hits_view t port hit ≡ true → hit ≡ View t port
-is_view t port (At time) e = cc
-is_view t port (In attempt offset) e = cc
+is_view t port (At time) e = absurd (false≢true e)
+is_view t port (In attempt offset) e = absurd (false≢true e)
 is_view t port (View time node) e =
-    let a : time ≡ t = grind (arith, nat_tests) in
-    let b : node ≡ port = grind (arith, nat_tests) in
-    ap (λ n. View n node) a ∙ ap (View t) b
+    let both = and_parts (time == t) (node == port) e in
+    ap (λ n. View n node) (eqb-true time t both.0) ∙ ap (View t) (eqb-true node port both.1)
 
 view_hits : (t port : ℕ) → hits_view t port (View t port) ≡ true
-view_hits t port = grind (arith, nat_tests)
+view_hits t port = and_from (t == t) (port == port) (eq-eqb t t refl) (eq-eqb port port refl)
 
 pub view-decided : (t port : ℕ) (hits : List Hit) → (list_any (hits_view t port) hits ≡ true) ↔ Contains hits (View t port)
 view-decided t port hits = (
@@ -156,15 +157,16 @@ module _ (rest : ℕ) (wired recorded : List Level) where
   )
 
   none_begins : (u : ℕ) → begins_at rest wired recorded u ≡ true → begins_at rest wired recorded u ≡ false → ⊥
-  none_begins u begun unbegun = let e : false ≡ true = sym unbegun ∙ begun in cc
+  none_begins u begun unbegun = false≢true (sym unbegun ∙ begun)
 
   -- the attempt that goes on at time t is the one that a hit falls on
   falls-in : (t : ℕ) (latest : Option Attempt) (number offset : ℕ) → LatestIs (t + 1) latest → is_attempt latest number offset ≡ true →
       FallsOnWire rest wired recorded (In number offset) t
-  falls-in t None number offset h e = absurd (let k : false ≡ true = e in cc)
+  falls-in t None number offset h e = absurd (false≢true e)
   falls-in t (Some a) number offset h e =
-      let n : a.number ≡ number = grind (arith, nat_tests) in
-      let o : a.offset ≡ offset = grind (arith, nat_tests) in (
+      let both = and_parts (a.number == number) (a.offset == offset) e in
+      let n : a.number ≡ number = eqb-true a.number number both.0 in
+      let o : a.offset ≡ offset = eqb-true a.offset offset both.1 in (
         h.1.0,
         subst (λ k. IsBeginning rest wired recorded k h.1.0) n h.1.1,
         omega (arith, h.1.2, o),
@@ -179,7 +181,7 @@ module _ (rest : ℕ) (wired recorded : List Level) where
         | inl same ↦
             let n : a.number ≡ number = sym h.1.1.number ∙ ap (attempts_before rest wired recorded) (sym same) ∙ f.1.number in
             let o : a.offset ≡ offset = omega (arith, h.1.2, f.2, same) in
-            grind (arith, nat_tests)
+            and_from (a.number == number) (a.offset == offset) (eq-eqb a.number number n) (eq-eqb a.offset offset o)
         | inr other ↦ elim other [
           | inl less ↦ absurd (none_begins h.1.0 h.1.1.begins (f.3 h.1.0 less (omega (arith, h.1.2))))
           | inr more ↦ absurd (none_begins f.0 f.1.begins (h.1.3 f.0 more (omega (arith, f.2))))
@@ -187,12 +189,12 @@ module _ (rest : ℕ) (wired recorded : List Level) where
       ]
 
   falls : (t : ℕ) (latest : Option Attempt) → LatestIs (t + 1) latest → (hit : Hit) → hits_wire t latest hit ≡ true → FallsOnWire rest wired recorded hit t
-  falls t latest h (At time) e = grind (arith, nat_tests)
+  falls t latest h (At time) e = eqb-true time t e
   falls t latest h (In number offset) e = falls-in t latest number offset h e
-  falls t latest h (View time node) e = let k : false ≡ true = e in cc
+  falls t latest h (View time node) e = absurd (false≢true e)
 
   fallen : (t : ℕ) (latest : Option Attempt) → LatestIs (t + 1) latest → (hit : Hit) → FallsOnWire rest wired recorded hit t → hits_wire t latest hit ≡ true
-  fallen t latest h (At time) e = grind (arith, nat_tests)
+  fallen t latest h (At time) e = eq-eqb time t e
   fallen t latest h (In number offset) f = falls-back t latest number offset h f
   fallen t latest h (View time node) f = absurd f
 
