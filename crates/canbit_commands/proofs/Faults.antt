@@ -1,5 +1,6 @@
 -- What a stream's fault says of what was read and written, and how a subcommand ends.
-use Rattle.std.proofs.Common.{◌≡◌, ◌≢◌, ◌⊎◌, ◌<◌, arith, inl, inr, refl, ℕ, Bool, true, false, List, Option, Result, Ok, Err, IsTrue}
+use Rattle.std.proofs.Common.{◌≡◌, ◌≢◌, ◌⊎◌, ◌<◌, ap, arith, eqb, inl, inr, refl, sym, ◌∙◌, ℕ, Bool, true, false, List, Option, Result, Ok, Err, IsTrue}
+use Rattle.std.proofs.lemmas.Bool.{eqb-false}
 use Rattle.std.specs.Io.KnownBytes.{IsAtEnd}
 use Rattle.std.specs.Result.{IsErrOf}
 use Rattle.can_lines.specs.Checked.{ChecksAll}
@@ -12,43 +13,95 @@ use Rattle.canbit_commands.specs.Answers.{AnswersAll, AnswersEnded, AnswersTooLo
 use Rattle.canbit_commands.specs.Ends.{Ends}
 use Rattle.can_program.specs.Status.{stream_status}
 
+-- two numbers that differ as they are computed
+pub apart : {m n : ℕ} → m ≡ n → eqb m n ≡ false → ⊥
+apart {m} {n} same differ = eqb-false m n differ same
+
+-- what is so is not otherwise
+pub not-both-so : {b : Bool} → IsTrue b → b ≡ false → ⊥
+not-both-so so not_so = cc
+
+-- ---- the kinds of a stream's faults, by which two of them differ
+
+abbrev pub kind : TraceFault → ℕ
+kind (BadByte place) = 0
+kind (ScenarioField wrong) = 1
+kind Read = 2
+kind Write = 3
+kind Memory = 4
+kind Long = 5
+kind (FrameLine number fault) = 6
+
+the-same : {T : Type 0} {fault other : TraceFault} → IsErrOf {T = T} (Err fault) other → fault ≡ other
+the-same e = cc
+
+-- a fault is not one of another kind
+pub unlike : {T : Type 0} {fault own other : TraceFault} → fault ≡ own → IsErrOf {T = T} (Err fault) other → eqb (kind own) (kind other) ≡ false → ⊥
+unlike {T} {fault} {own} {other} is e differ =
+    let same : own ≡ other = sym is ∙ the-same e in
+    apart (ap kind same) differ
+
+-- a fault of one result is that of another
+pub as-well : {T S : Type 0} {fault other : TraceFault} → IsErrOf {T = T} (Err fault) other → IsErrOf {T = S} (Err fault) other
+as-well e = ap Err (the-same e)
+
+-- what is done has no fault
+pub not-ok : {T : Type 0} {done : T} {fault : TraceFault} → IsErrOf (Ok done) fault → ⊥
+not-ok e = cc
+
 -- ---- the statuses of a stream's faults
 
 not-done : (fault : TraceFault) → stream_status fault ≡ 0 → ⊥
-not-done (BadByte place) is = omega arith
-not-done (ScenarioField wrong) is = omega arith
-not-done Read is = omega arith
-not-done Write is = omega arith
-not-done Memory is = omega arith
-not-done Long is = omega arith
-not-done (FrameLine number fault) is = omega arith
+not-done (BadByte place) is = apart is refl
+not-done (ScenarioField wrong) is = apart is refl
+not-done Read is = apart is refl
+not-done Write is = apart is refl
+not-done Memory is = apart is refl
+not-done Long is = apart is refl
+not-done (FrameLine number fault) is = apart is refl
 
 of-stream : (fault : TraceFault) → stream_status fault ≡ 3 → (fault ≡ Read) ⊎ (fault ≡ Write)
-of-stream (BadByte place) is = absurd (omega arith)
-of-stream (ScenarioField wrong) is = absurd (omega arith)
+of-stream (BadByte place) is = absurd (apart is refl)
+of-stream (ScenarioField wrong) is = absurd (apart is refl)
 of-stream Read is = inl refl
 of-stream Write is = inr refl
-of-stream Memory is = absurd (omega arith)
-of-stream Long is = absurd (omega arith)
-of-stream (FrameLine number fault) is = absurd (omega arith)
+of-stream Memory is = absurd (apart is refl)
+of-stream Long is = absurd (apart is refl)
+of-stream (FrameLine number fault) is = absurd (apart is refl)
 
 of-memory : (fault : TraceFault) → stream_status fault ≡ 4 → fault ≡ Memory
-of-memory (BadByte place) is = absurd (omega arith)
-of-memory (ScenarioField wrong) is = absurd (omega arith)
-of-memory Read is = absurd (omega arith)
-of-memory Write is = absurd (omega arith)
+of-memory (BadByte place) is = absurd (apart is refl)
+of-memory (ScenarioField wrong) is = absurd (apart is refl)
+of-memory Read is = absurd (apart is refl)
+of-memory Write is = absurd (apart is refl)
 of-memory Memory is = refl
-of-memory Long is = absurd (omega arith)
-of-memory (FrameLine number fault) is = absurd (omega arith)
+of-memory Long is = absurd (apart is refl)
+of-memory (FrameLine number fault) is = absurd (apart is refl)
 
-limits : (fault : TraceFault) → (stream_status fault < 5) × (stream_status fault ≢ 2)
-limits (BadByte place) = (omega arith, λ is. omega arith)
-limits (ScenarioField wrong) = (omega arith, λ is. omega arith)
-limits Read = (omega arith, λ is. omega arith)
-limits Write = (omega arith, λ is. omega arith)
-limits Memory = (omega arith, λ is. omega arith)
-limits Long = (omega arith, λ is. omega arith)
-limits (FrameLine number fault) = (omega arith, λ is. omega arith)
+-- a status that there is, and that does not blame the words
+abbrev IsProper : ℕ → Type 0
+IsProper status = (status < 5) × (status ≢ 2)
+
+proper-0 : IsProper 0
+proper-0 = (omega arith, λ is. omega arith)
+
+proper-1 : IsProper 1
+proper-1 = (omega arith, λ is. omega arith)
+
+proper-3 : IsProper 3
+proper-3 = (omega arith, λ is. omega arith)
+
+proper-4 : IsProper 4
+proper-4 = (omega arith, λ is. omega arith)
+
+limits : (fault : TraceFault) → IsProper (stream_status fault)
+limits (BadByte place) = proper-1
+limits (ScenarioField wrong) = proper-1
+limits Read = proper-3
+limits Write = proper-3
+limits Memory = proper-4
+limits Long = proper-1
+limits (FrameLine number fault) = proper-1
 
 -- why a call ended whose reader failed
 abbrev pub Cause : TraceFault → Type 0
@@ -69,14 +122,14 @@ abbrev ToldCause : {T : Type 0} → Result T TraceFault → Type 0
 ToldCause r = IsErrOf r Read ⊎ (IsErrOf r Write ⊎ ((place : ℕ) × IsErrOf r (BadByte place)))
 
 pub caused : {T : Type 0} (fault : TraceFault) → ToldCause {T = T} (Err fault) → Cause fault
-caused fault (inl e) = inl cc
-caused fault (inr (inl e)) = inr (inl cc)
-caused fault (inr (inr at)) = let e = at.1 in inr (inr (at.0, cc))
+caused fault (inl e) = inl (the-same e)
+caused fault (inr (inl e)) = inr (inl (the-same e))
+caused fault (inr (inr at)) = inr (inr (at.0, the-same at.1))
 
 pub uncaused : {T : Type 0} {x : T} → ToldCause (Ok x) → ⊥
-uncaused (inl e) = cc
-uncaused (inr (inl e)) = cc
-uncaused (inr (inr at)) = let e = at.1 in cc
+uncaused (inl e) = not-ok e
+uncaused (inr (inl e)) = not-ok e
+uncaused (inr (inr at)) = not-ok at.1
 
 module _ {R W : Type 0} (remaining : R → Option (List ℕ)) (before after : R) (contents : W → Option (List ℕ)) (held holds : W) where
   -- what was read and written is so related
@@ -101,9 +154,9 @@ module _ {R W : Type 0} (remaining : R → Option (List ℕ)) (before after : R)
       → Says (RefusesInput chosen reader_ended)
   refused chosen reader_ended (BadByte place) is byte long line field = weaker _ _ (λ input output h. inl (place, h)) (byte place refl)
   refused chosen reader_ended (ScenarioField wrong) is byte long line field = weaker _ _ (λ input output h. inr (inr (inr (inr h)))) (field wrong refl)
-  refused chosen reader_ended Read is byte long line field = absurd (omega arith)
-  refused chosen reader_ended Write is byte long line field = absurd (omega arith)
-  refused chosen reader_ended Memory is byte long line field = absurd (omega arith)
+  refused chosen reader_ended Read is byte long line field = absurd (apart is refl)
+  refused chosen reader_ended Write is byte long line field = absurd (apart is refl)
+  refused chosen reader_ended Memory is byte long line field = absurd (apart is refl)
   refused chosen reader_ended Long is byte long line field = weaker _ _ (λ input output h. inr (inr (inl h))) (long refl)
   refused chosen reader_ended (FrameLine number fault) is byte long line field = weaker _ _ (λ input output h. inr (inl (number, h))) (line number fault refl)
 
@@ -127,33 +180,33 @@ module _ {R W : Type 0} (remaining : R → Option (List ℕ)) (before after : R)
     finished chosen done ended at_end unfailed uncut = record {
       all_done = λ is. done;
       all_read = λ is. (ended, at_end);
-      input_refused = λ is. absurd (omega arith);
-      reader_failed = λ is whole. absurd (omega arith);
+      input_refused = λ is. absurd (apart is refl);
+      reader_failed = λ is whole. absurd (apart is refl);
       writer_failed = λ cut. absurd (uncut cut);
-      stream_failed = λ is. absurd (omega arith);
+      stream_failed = λ is. absurd (apart is refl);
       write_told = λ cut. absurd (uncut cut);
       read_told = λ failed. absurd (unfailed failed);
-      limit = omega arith;
-      no_misuse = λ is. omega arith;
-      unwritten = λ is. absurd (omega arith);
-      memory = λ is. absurd (omega arith);
+      limit = proper-0.0;
+      no_misuse = proper-0.1;
+      unwritten = λ is. absurd (apart is refl);
+      memory = λ is. absurd (apart is refl);
     }
 
     -- vectors differ
     pub differing : Says (RefusesInput Check has_ended) → (IsTrue has_failed → ⊥) → (IsTrue is_cut → ⊥) → Ended Check 1
     differing refusal unfailed uncut = record {
-      all_done = λ is. absurd (omega arith);
-      all_read = λ is. absurd (omega arith);
+      all_done = λ is. absurd (apart is refl);
+      all_read = λ is. absurd (apart is refl);
       input_refused = λ is. refusal;
-      reader_failed = λ is whole. absurd (omega arith);
+      reader_failed = λ is whole. absurd (apart is refl);
       writer_failed = λ cut. absurd (uncut cut);
-      stream_failed = λ is. absurd (omega arith);
+      stream_failed = λ is. absurd (apart is refl);
       write_told = λ cut. absurd (uncut cut);
       read_told = λ failed. absurd (unfailed failed);
-      limit = omega arith;
-      no_misuse = λ is. omega arith;
-      unwritten = λ is. absurd (omega arith);
-      memory = λ is. absurd (omega arith);
+      limit = proper-1.0;
+      no_misuse = proper-1.1;
+      unwritten = λ is. absurd (apart is refl);
+      memory = λ is. absurd (apart is refl);
     }
 
     failed-or-cut : (fault : TraceFault) → (fault ≡ Read → IsTrue has_failed) → (fault ≡ Write → IsTrue is_cut) → (fault ≡ Read) ⊎ (fault ≡ Write) → IsTrue has_failed ⊎ IsTrue is_cut
@@ -162,7 +215,7 @@ module _ {R W : Type 0} (remaining : R → Option (List ℕ)) (before after : R)
 
     read-if-uncut : (fault : TraceFault) → (fault ≡ Write → IsTrue is_cut) → is_cut ≡ false → (fault ≡ Read) ⊎ (fault ≡ Write) → fault ≡ Read
     read-if-uncut fault write uncut (inl is) = is
-    read-if-uncut fault write uncut (inr is) = absurd (let cut : is_cut ≡ true = write is in cc)
+    read-if-uncut fault write uncut (inr is) = absurd (not-both-so (write is) uncut)
 
     by-cause : (chosen : Chosen) (fault : TraceFault) → ((place : ℕ) → fault ≡ BadByte place → Says (HasBadByte chosen place)) → Cause fault
         → (stream_status fault ≡ 3) ⊎ ((stream_status fault ≡ 1) × ((place : ℕ) × Says (HasBadByte chosen place)))

@@ -11,6 +11,7 @@ use Rattle.can_stream.specs.Told.{Told}
 use Rattle.can_stream.specs.declared.fault.TraceFault.{TraceFault}
 use Rattle.can_stream.specs.declared.fault.TraceFault.TheVariants.{ScenarioField, Read, Write, Memory}
 use Rattle.can_stream.specs.declared.field.Field.{Field}
+use Rattle.canbit_commands.proofs.Faults.{as-well, not-both-so, not-ok, unlike}
 use Rattle.canbit_commands.specs.Answers.{RefusesScenario}
 use Rattle.can_program.specs.Written.{WritesNothing}
 use Rattle.canbit_commands.specs.Ends.{RunEnds}
@@ -40,35 +41,35 @@ module _ {R W : Type 0} (remaining : R → Option (List ℕ)) (before after : R)
         → (IsErrOf {T = T} (Err fault) Read ↔ IsTrue has_failed) → is_cut ≡ false → holds ≡ held → Outcome (Err fault)
     unread fault (inl is) part failed uncut same = record {
       ok = tt;
-      field = λ wrong e. cc;
+      field = λ wrong e. absurd (unlike is e refl);
       read = λ e. silent WritesNothing part.0 part.1 same refl;
-      write = λ e. cc;
+      write = λ e. absurd (unlike is e refl);
       memory = λ e. same;
-      no_byte = λ place e. cc;
-      no_line = λ n bad e. cc;
-      no_long = λ e. cc;
+      no_byte = λ place e. unlike is e refl;
+      no_line = λ n bad e. unlike is e refl;
+      no_long = λ e. unlike is e refl;
       ended = tt;
       at_end = tt;
-      field_ended = λ wrong e. cc;
-      write_ended = λ e. cc;
+      field_ended = λ wrong e. absurd (unlike is e refl);
+      write_ended = λ e. absurd (unlike is e refl);
       read_failed = (λ e. failed.0 (ap Err is), λ f. ap Err is);
-      write_failed = (λ e. cc, λ cut. cc);
+      write_failed = (λ e. absurd (unlike is e refl), λ cut. absurd (not-both-so cut uncut));
     }
     unread fault (inr is) part failed uncut same = record {
       ok = tt;
-      field = λ wrong e. cc;
-      read = λ e. cc;
-      write = λ e. cc;
+      field = λ wrong e. absurd (unlike is e refl);
+      read = λ e. absurd (unlike is e refl);
+      write = λ e. absurd (unlike is e refl);
       memory = λ e. same;
-      no_byte = λ place e. cc;
-      no_line = λ n bad e. cc;
-      no_long = λ e. cc;
+      no_byte = λ place e. unlike is e refl;
+      no_line = λ n bad e. unlike is e refl;
+      no_long = λ e. unlike is e refl;
       ended = tt;
       at_end = tt;
-      field_ended = λ wrong e. cc;
-      write_ended = λ e. cc;
-      read_failed = (λ e. cc, λ f. let e = failed.1 f in cc);
-      write_failed = (λ e. cc, λ cut. cc);
+      field_ended = λ wrong e. absurd (unlike is e refl);
+      write_ended = λ e. absurd (unlike is e refl);
+      read_failed = (λ e. absurd (unlike is e refl), λ f. absurd (unlike is (failed.1 f) refl));
+      write_failed = (λ e. absurd (unlike is e refl), λ cut. absurd (not-both-so cut uncut));
     }
 
     module _ {T : Type 0} (whole : T) (failed : IsErrOf {T = T} (Ok whole) Read ↔ IsTrue has_failed) (read text : List ℕ) (consumes : Consumes (remaining before) (remaining after) read) (same : text ≡ read) (ended : IsTrue has_ended) where
@@ -77,35 +78,35 @@ module _ {R W : Type 0} (remaining : R → Option (List ℕ)) (before after : R)
           → is_cut ≡ false → holds ≡ held → Outcome (Err fault)
       unsaid fault (inl is) first uncut kept = record {
         ok = tt;
-        field = λ wrong e. silent (RefusesScenario wrong) read consumes kept (subst (IsWrongScenarioField wrong) same (first wrong (let h : Err fault ≡ Err (ScenarioField wrong) = e in cc)), refl);
-        read = λ e. let h : fault ≡ ScenarioField is.0 = is.1 in cc;
-        write = λ e. let h : fault ≡ ScenarioField is.0 = is.1 in cc;
+        field = λ wrong e. silent (RefusesScenario wrong) read consumes kept (subst (IsWrongScenarioField wrong) same (first wrong (as-well e)), refl);
+        read = λ e. absurd (unlike is.1 e refl);
+        write = λ e. absurd (unlike is.1 e refl);
         memory = λ e. kept;
-        no_byte = λ place e. let h : fault ≡ ScenarioField is.0 = is.1 in cc;
-        no_line = λ n bad e. let h : fault ≡ ScenarioField is.0 = is.1 in cc;
-        no_long = λ e. let h : fault ≡ ScenarioField is.0 = is.1 in cc;
+        no_byte = λ place e. unlike is.1 e refl;
+        no_line = λ n bad e. unlike is.1 e refl;
+        no_long = λ e. unlike is.1 e refl;
         ended = tt;
         at_end = tt;
         field_ended = λ wrong e. ended;
         write_ended = λ e. ended;
-        read_failed = (λ e. let h : fault ≡ ScenarioField is.0 = is.1 in cc, λ f. let e = failed.1 f in cc);
-        write_failed = (λ e. let h : fault ≡ ScenarioField is.0 = is.1 in cc, λ cut. cc);
+        read_failed = (λ e. absurd (unlike is.1 e refl), λ f. absurd (not-ok (failed.1 f)));
+        write_failed = (λ e. absurd (unlike is.1 e refl), λ cut. absurd (not-both-so cut uncut));
       }
       unsaid fault (inr is) first uncut kept = record {
         ok = tt;
-        field = λ wrong e. cc;
-        read = λ e. cc;
-        write = λ e. cc;
+        field = λ wrong e. absurd (unlike is e refl);
+        read = λ e. absurd (unlike is e refl);
+        write = λ e. absurd (unlike is e refl);
         memory = λ e. kept;
-        no_byte = λ place e. cc;
-        no_line = λ n bad e. cc;
-        no_long = λ e. cc;
+        no_byte = λ place e. unlike is e refl;
+        no_line = λ n bad e. unlike is e refl;
+        no_long = λ e. unlike is e refl;
         ended = tt;
         at_end = tt;
-        field_ended = λ wrong e. cc;
-        write_ended = λ e. cc;
-        read_failed = (λ e. cc, λ f. let e = failed.1 f in cc);
-        write_failed = (λ e. cc, λ cut. cc);
+        field_ended = λ wrong e. absurd (unlike is e refl);
+        write_ended = λ e. absurd (unlike is e refl);
+        read_failed = (λ e. absurd (unlike is e refl), λ f. absurd (not-ok (failed.1 f)));
+        write_failed = (λ e. absurd (unlike is e refl), λ cut. absurd (not-both-so cut uncut));
       }
 
       module _ (scenario : Scenario) (says : IsScenarioText text scenario) where
@@ -121,51 +122,51 @@ module _ {R W : Type 0} (remaining : R → Option (List ℕ)) (before after : R)
             → (IsErrOf result Write ↔ IsTrue is_cut) → Outcome result
         ran (Ok done) at_end appends front kept other cut = record {
           ok = record { input = text; output = report scenario; consumes = takes; appends = appends; related = (scenario, says, refl) };
-          field = λ wrong e. cc;
-          read = λ e. cc;
-          write = λ e. cc;
+          field = λ wrong e. absurd (not-ok e);
+          read = λ e. absurd (not-ok e);
+          write = λ e. absurd (not-ok e);
           memory = λ e. kept e;
-          no_byte = λ place e. cc;
-          no_line = λ n bad e. cc;
-          no_long = λ e. cc;
+          no_byte = λ place e. not-ok e;
+          no_line = λ n bad e. not-ok e;
+          no_long = λ e. not-ok e;
           ended = ended;
           at_end = at_end;
           field_ended = λ wrong e. ended;
           write_ended = λ e. ended;
-          read_failed = (λ e. cc, λ f. let e = failed.1 f in cc);
+          read_failed = (λ e. absurd (not-ok e), λ f. absurd (not-ok (failed.1 f)));
           write_failed = cut;
         }
         ran (Err fault) at_end appends front kept (inl is) cut = record {
           ok = tt;
-          field = λ wrong e. cc;
-          read = λ e. cc;
+          field = λ wrong e. absurd (unlike is e refl);
+          read = λ e. absurd (unlike is e refl);
           write = λ e.
               let taken = front e in
               record { input = text; output = taken.taken; consumes = takes; appends = taken.appends; related = record { answer = report scenario; is = (scenario, says, refl); rest = taken.left; all = taken.split } };
           memory = λ e. kept e;
-          no_byte = λ place e. cc;
-          no_line = λ n bad e. cc;
-          no_long = λ e. cc;
+          no_byte = λ place e. unlike is e refl;
+          no_line = λ n bad e. unlike is e refl;
+          no_long = λ e. unlike is e refl;
           ended = tt;
           at_end = tt;
           field_ended = λ wrong e. ended;
           write_ended = λ e. ended;
-          read_failed = (λ e. cc, λ f. let e = failed.1 f in cc);
+          read_failed = (λ e. absurd (unlike is e refl), λ f. absurd (not-ok (failed.1 f)));
           write_failed = cut;
         }
         ran (Err fault) at_end appends front kept (inr is) cut = record {
           ok = tt;
-          field = λ wrong e. cc;
-          read = λ e. cc;
-          write = λ e. cc;
+          field = λ wrong e. absurd (unlike is e refl);
+          read = λ e. absurd (unlike is e refl);
+          write = λ e. absurd (unlike is e refl);
           memory = λ e. kept e;
-          no_byte = λ place e. cc;
-          no_line = λ n bad e. cc;
-          no_long = λ e. cc;
+          no_byte = λ place e. unlike is e refl;
+          no_line = λ n bad e. unlike is e refl;
+          no_long = λ e. unlike is e refl;
           ended = tt;
           at_end = tt;
           field_ended = λ wrong e. ended;
           write_ended = λ e. ended;
-          read_failed = (λ e. cc, λ f. let e = failed.1 f in cc);
+          read_failed = (λ e. absurd (unlike is e refl), λ f. absurd (not-ok (failed.1 f)));
           write_failed = cut;
         }
