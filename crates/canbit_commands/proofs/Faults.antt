@@ -32,7 +32,8 @@ kind Memory = 4
 kind Long = 5
 kind (FrameLine number fault) = 6
 
-the-same : {T : Type 0} {fault other : TraceFault} → IsErrOf {T = T} (Err fault) other → fault ≡ other
+-- the fault of a result that is another is that
+pub the-same : {T : Type 0} {fault other : TraceFault} → IsErrOf {T = T} (Err fault) other → fault ≡ other
 the-same e = cc
 
 -- a fault is not one of another kind

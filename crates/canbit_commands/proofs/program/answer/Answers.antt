@@ -1,5 +1,5 @@
 use Rattle.std.proofs.Common.{◌≡◌, ap, refl, rules, Err}
-use Rattle.canbit_commands.proofs.Faults.{caused, differing, faulted, finished, not-both, passes_all, passes_not_all, told-cause, uncaused, weaker}
+use Rattle.canbit_commands.proofs.Faults.{caused, differing, faulted, finished, not-both, not-ok, passes_all, passes_not_all, the-same, told-cause, uncaused, weaker}
 use Rattle.canbit_commands.specs.Answers.{HasBadLine, HasWrongField}
 use Rattle.canbit_commands.specs.declared.fault.CanbitFault.TheVariants.{Stream}
 use Rattle.canbit_words.specs.declared.subcommands.Chosen.TheVariants.{Encode, Decode, Run, Check}
@@ -20,8 +20,8 @@ returns-in_err-encode_lines-in-Encode g c =
     (λ e. told.write (ap Err e))
     (λ e. (told.read_failed.0 (ap Err e)).0)
     (λ e. told.write_failed.0 (ap Err e))
-    (λ cut. let h = told.write_failed.1 cut in cc)
-    (λ failed. told-cause _ _ fault (λ are. let h = told.read_failed.1 are in cc) (λ cut. let h = told.write_failed.1 cut in cc) failed)
+    (λ cut. the-same (told.write_failed.1 cut))
+    (λ failed. told-cause _ _ fault (λ are. the-same (told.read_failed.1 are)) (λ cut. the-same (told.write_failed.1 cut)) failed)
     (λ e. absurd (told.no_memory (ap Err e)))))
 
 pub returns-in_err-decode_stream-in-Decode : goal.returns-in_err-decode_stream-in-Decode
@@ -38,8 +38,8 @@ returns-in_err-decode_stream-in-Decode g c =
     (λ e. told.write (ap Err e))
     (λ e. (told.read_failed.0 (ap Err e)).0)
     (λ e. told.write_failed.0 (ap Err e))
-    (λ cut. let h = told.write_failed.1 cut in cc)
-    (λ failed. told-cause _ _ fault (λ are. let h = told.read_failed.1 are in cc) (λ cut. let h = told.write_failed.1 cut in cc) failed)
+    (λ cut. the-same (told.write_failed.1 cut))
+    (λ failed. told-cause _ _ fault (λ are. the-same (told.read_failed.1 are)) (λ cut. the-same (told.write_failed.1 cut)) failed)
     (λ e. absurd (told.no_memory (ap Err e)))))
 
 pub returns-in_err-run-in-Run : goal.returns-in_err-run-in-Run
@@ -57,8 +57,8 @@ returns-in_err-run-in-Run g c =
     (λ e. weaker _ _ _ _ _ _ _ _ (λ input output h. (told.write_ended (ap Err e), h)) (told.write (ap Err e)))
     (λ e. told.read_failed.0 (ap Err e))
     (λ e. told.write_failed.0 (ap Err e))
-    (λ cut. let h = told.write_failed.1 cut in cc)
-    (λ failed. told-cause _ _ fault (λ are. let h = told.read_failed.1 are.0 in cc) (λ cut. let h = told.write_failed.1 cut in cc) failed)
+    (λ cut. the-same (told.write_failed.1 cut))
+    (λ failed. told-cause _ _ fault (λ are. the-same (told.read_failed.1 are.0)) (λ cut. the-same (told.write_failed.1 cut)) failed)
     (λ e. (refl, told.memory (ap Err e)))))
 
 pub returns-in_err-passed-in-Check : goal.returns-in_err-passed-in-Check
@@ -76,7 +76,7 @@ returns-in_err-passed-in-Check g c =
     (λ e. told.write (ap Err e))
     (λ e. (told.read_failed (ap Err e)).0)
     (λ e. told.write_failed.0 (ap Err e))
-    (λ cut. let h = told.write_failed.1 cut in cc)
+    (λ cut. the-same (told.write_failed.1 cut))
     (λ failed. caused fault (told.failed_read failed))
     (λ e. absurd (told.no_memory (ap Err e)))))
 
@@ -84,33 +84,33 @@ pub returns-in_ok-encode_lines-in-Encode : goal.returns-in_ok-encode_lines-in-En
 returns-in_ok-encode_lines-in-Encode g c =
     let told = c.in_ok-encode_lines-in-Encode.ensures in
     rw c.in-Encode.is (finished _ _ _ _ _ _ _ _ _ Encode told.ok told.ended told.at_end
-    (λ failed. not-both _ _ failed (λ are. let h = told.read_failed.1 are in cc) (λ cut. let h = told.write_failed.1 cut in cc))
-    (λ cut. let h = told.write_failed.1 cut in cc))
+    (λ failed. not-both _ _ failed (λ are. not-ok (told.read_failed.1 are)) (λ cut. not-ok (told.write_failed.1 cut)))
+    (λ cut. not-ok (told.write_failed.1 cut)))
 
 pub returns-in_ok-decode_stream-in-Decode : goal.returns-in_ok-decode_stream-in-Decode
 returns-in_ok-decode_stream-in-Decode g c =
     let told = c.in_ok-decode_stream-in-Decode.ensures in
     rw c.in-Decode.is (finished _ _ _ _ _ _ _ _ _ Decode told.ok told.ended told.at_end
-    (λ failed. not-both _ _ failed (λ are. let h = told.read_failed.1 are in cc) (λ cut. let h = told.write_failed.1 cut in cc))
-    (λ cut. let h = told.write_failed.1 cut in cc))
+    (λ failed. not-both _ _ failed (λ are. not-ok (told.read_failed.1 are)) (λ cut. not-ok (told.write_failed.1 cut)))
+    (λ cut. not-ok (told.write_failed.1 cut)))
 
 pub returns-in_ok-run-in-Run : goal.returns-in_ok-run-in-Run
 returns-in_ok-run-in-Run g c =
     let told = c.in_ok-run-in-Run.ensures in
     rw c.in-Run.is (finished _ _ _ _ _ _ _ _ _ Run told.ok told.ended told.at_end
-    (λ failed. let h = told.read_failed.1 failed in cc)
-    (λ cut. let h = told.write_failed.1 cut in cc))
+    (λ failed. not-ok (told.read_failed.1 failed))
+    (λ cut. not-ok (told.write_failed.1 cut)))
 
 pub returns-then-passed-count : goal.returns-then-passed-count
 returns-then-passed-count g c =
     let told = c.in_ok-passed-in-Check.ensures in
     rw c.in-Check.is (finished _ _ _ _ _ _ _ _ _ Check (passes_all _ _ _ _ _ _ _ _ c.if-passed-count.true told.ok) told.ended told.at_end
     (λ failed. uncaused (told.failed_read failed))
-    (λ cut. let h = told.write_failed.1 cut in cc))
+    (λ cut. not-ok (told.write_failed.1 cut)))
 
 pub returns-else-passed-count : goal.returns-else-passed-count
 returns-else-passed-count g c =
     let told = c.in_ok-passed-in-Check.ensures in
     rw c.in-Check.is (differing _ _ _ _ _ _ _ _ _ (passes_not_all _ _ _ _ _ _ _ _ _ c.if-passed-count.false told.ended told.ok)
     (λ failed. uncaused (told.failed_read failed))
-    (λ cut. let h = told.write_failed.1 cut in cc))
+    (λ cut. not-ok (told.write_failed.1 cut)))
