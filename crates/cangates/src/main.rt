@@ -1,11 +1,25 @@
 //! The command `cangates`: a CAN controller as a circuit, to standard output.
 //!
-//! What a run does over any writers is told by the crate `cangates_commands`. That `main` joins its `execute` to the
-//! process's words and standard streams is only tested.
+//! What a run does over any writers is told by [`execute`](executing::execute). That `main` joins it to the process's words
+//! and standard streams is only tested.
+//!
+//! | File | What it has | Defined in |
+//! |---|---|---|
+//! | `words.rt` | [`Asked`](words::Asked), what the words of a command line ask for: a file in one of its [`Form`](words::Form)s, the help text, or the version | `specs/Words.antt` |
+//! | `help.rt` | [`HELP`](help::HELP), the help text; [`VERSION`](help::VERSION) | |
+//! | `names.rt` | the names of the controller's ports and registers, and [`words_are_the_ports`](names::words_are_the_ports) | `specs/Ports.antt` |
+//! | `file.rt` | the text of a file | `specs/Files.antt` |
+//! | `executing.rt` | [`execute`](executing::execute), what a run does, its fault line and its exit status | `specs/Files.antt` |
 #![tactic(auto)]
 
+mod executing;
+mod file;
+mod help;
+mod names;
+mod words;
+
 use can_program::run_program;
-use cangates_commands::{NAME, execute};
+use executing::{NAME, execute};
 use std::process::ExitCode;
 
 fn main(rt: HostRuntime) -> ExitCode {

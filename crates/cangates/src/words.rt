@@ -1,7 +1,7 @@
 //! What the words of a command line ask for.
 ghost use Rattle.std.specs.Prelude.{◌≡◌};
 ghost use Rattle.can_program.specs.Words.{texts_of};
-ghost use Rattle.cangates_commands.specs.Words.{asked_by, asked_word, asked_words};
+ghost use Rattle.cangates.specs.Words.{asked_by, asked_word, asked_words};
 
 /// The form of a file.
 #[derive(Clone, Copy, Debug, PartialEq, Eq)]

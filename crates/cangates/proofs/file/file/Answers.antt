@@ -1,5 +1,5 @@
 use Rattle.std.proofs.Common.{length, refl, ◌∙◌, ap, arith}
-use Rattle.cangates_commands.proofs.file.file.Goals as goal
+use Rattle.cangates.proofs.file.file.Goals as goal
 
 pub text-requires : goal.text-requires
 text-requires c = let ports = c.in_ok-design.ensures.ports in omega (arith, ports.inputs, ports.registers, ap length c.deref.ensures.value)

@@ -7,8 +7,8 @@ use Rattle.can_stream.specs.Outbox.{TakesFront}
 use Rattle.can_stream.specs.declared.fault.TraceFault.{TraceFault}
 use Rattle.can_stream.specs.declared.fault.TraceFault.TheVariants.{Write, Memory}
 use Rattle.can_program.specs.Status.{exit_status, stream_status}
-use Rattle.cangates_commands.specs.declared.words.Form.{Form}
-use Rattle.cangates_commands.specs.Files.{IsFile, Does, TellsWriter}
+use Rattle.cangates.specs.declared.words.Form.{Form}
+use Rattle.cangates.specs.Files.{IsFile, Does, TellsWriter}
 
 pub written : (form : Form) (held holds : Option (List ℕ)) (text : List ℕ) (r : Result (Unit {0}) TraceFault) → IsFile form text → OnOk r (Appends held holds text) → OnErr r (TakesFront held holds text) → IfErr r (λ e. e ≡ Write) → Does form held holds r
 written form held holds text (Ok done) is ok err fault = (text, is, ok)

@@ -6,7 +6,7 @@ ghost use Rattle.can_gates_controller.specs.declared.ports.InputPorts.{InputPort
 ghost use Rattle.can_gates_controller.specs.declared.ports.OutputPorts.{OutputPorts};
 ghost use Rattle.can_gates_controller.specs.declared.registers.Registers.{Registers};
 ghost use Rattle.can_gates_controller.specs.Listed.{input_list, output_list, register_list};
-ghost use Rattle.cangates_commands.specs.Ports.{IsNamed, input_words, literals_of, output_words, register_words};
+ghost use Rattle.cangates.specs.Ports.{IsNamed, input_words, literals_of, output_words, register_words};
 
 use can_gates_files::{Names, Word};
 

@@ -1,7 +1,7 @@
 -- The definitions computed on words that were worked out by hand.
 use Rattle.std.proofs.Common.{◌≡◌, ℕ, false, List, [], ◌∷◌, map, codes, refl}
 use Rattle.can_gates.specs.declared.literal.Literal.{Literal}
-use Rattle.cangates_commands.specs.Ports.{literals_of, sized}
+use Rattle.cangates.specs.Ports.{literals_of, sized}
 
 abbrev plain : ℕ → Literal
 plain s = record { signal = s; negated = false }

@@ -2,9 +2,9 @@
 use Rattle.std.specs.Prelude.{ℕ, if◌then◌else◌, ◌&&◌, ◌||◌, List, [], ◌∷◌, Option, Some, None, codes}
 use Rattle.std.specs.Str.{bytes_eq}
 use Rattle.can_program.specs.Words.{is_help_option, is_help_word, is_version_word}
-use Rattle.cangates_commands.specs.declared.words.Asked.{Asked}
-use Rattle.cangates_commands.specs.declared.words.Asked.TheVariants.{File, Help, Version}
-use Rattle.cangates_commands.specs.declared.words.Form.TheVariants.{Verilog, Ascii, Binary}
+use Rattle.cangates.specs.declared.words.Asked.{Asked}
+use Rattle.cangates.specs.declared.words.Asked.TheVariants.{File, Help, Version}
+use Rattle.cangates.specs.declared.words.Form.TheVariants.{Verilog, Ascii, Binary}
 
 -- what one word asks for: a file, help or the version
 abbrev pub asked_word : List ℕ → Option Asked

@@ -7,7 +7,7 @@ use Rattle.can_gates_controller.specs.declared.ports.OutputPorts.{OutputPorts}
 use Rattle.can_gates_controller.specs.declared.registers.Registers.{Registers}
 use Rattle.can_gates_controller.specs.Listed.{counters_list, field_list, heard_list, input_list, nibble_before, output_list, placed, register_list, wires_list}
 use Rattle.can_gates_controller.proofs.ListedLemmas.{length-placed}
-use Rattle.cangates_commands.specs.Ports.{input_words, literals_of, output_words, register_words, sized}
+use Rattle.cangates.specs.Ports.{input_words, literals_of, output_words, register_words, sized}
 
 -- ---- word by word
 

@@ -1,6 +1,6 @@
 //! The files of the controller's circuit.
 ghost use Rattle.std.specs.Prelude.{◌≡◌, ◌≤◌, ◌++◌, length, IfOk, OnOk};
-ghost use Rattle.cangates_commands.specs.Files.{IsFile, text_in};
+ghost use Rattle.cangates.specs.Files.{IsFile, text_in};
 
 use crate::names::names;
 use crate::words::Form;

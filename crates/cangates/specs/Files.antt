@@ -14,9 +14,9 @@ use Rattle.can_gates_controller.specs.Runs.{HasPorts, IsController, Resets, Runs
 use Rattle.can_stream.specs.Outbox.{TakesFront}
 use Rattle.can_stream.specs.declared.fault.TraceFault.{TraceFault}
 use Rattle.can_stream.specs.declared.fault.TraceFault.TheVariants.{Write, Memory}
-use Rattle.cangates_commands.specs.declared.words.Form.{Form}
-use Rattle.cangates_commands.specs.declared.words.Form.TheVariants.{Verilog, Ascii, Binary}
-use Rattle.cangates_commands.specs.Ports.{IsNamed}
+use Rattle.cangates.specs.declared.words.Form.{Form}
+use Rattle.cangates.specs.declared.words.Form.TheVariants.{Verilog, Ascii, Binary}
+use Rattle.cangates.specs.Ports.{IsNamed}
 
 -- the text of a circuit in each form
 abbrev pub text_in : Form → Names → CircuitParts → List Register → List Literal → List ℕ

@@ -4,8 +4,8 @@ ghost use Rattle.std.specs.Io.KnownBytes.{Appends};
 ghost use Rattle.can_stream.specs.declared.fault.TraceFault.{TraceFault as Fault};
 ghost use Rattle.can_program.specs.Status.{exit_status, stream_status};
 ghost use Rattle.can_program.specs.Words.{texts_of};
-ghost use Rattle.cangates_commands.specs.Files.{Does, TellsWriter};
-ghost use Rattle.cangates_commands.specs.Words.{asked_by};
+ghost use Rattle.cangates.specs.Files.{Does, TellsWriter};
+ghost use Rattle.cangates.specs.Words.{asked_by};
 
 use crate::file::file;
 use crate::help::{HELP, VERSION};

@@ -1,5 +1,5 @@
-use Rattle.cangates_commands.proofs.WordLists.{inputs_fit, inputs_joined, outputs_fit, outputs_joined, registers_fit, registers_joined}
-use Rattle.cangates_commands.proofs.names.words_are_the_ports.Goals as goal
+use Rattle.cangates.proofs.WordLists.{inputs_fit, inputs_joined, outputs_fit, outputs_joined, registers_fit, registers_joined}
+use Rattle.cangates.proofs.names.words_are_the_ports.Goals as goal
 
 pub returns-clause-inputs : goal.returns-clause-inputs
 returns-clause-inputs c = inputs_joined
