@@ -9,4 +9,5 @@ mod Groups
 mod NamesRead
 mod FilesRead
 mod Joined
+mod Bits
 mod Rows
