@@ -1,0 +1,11 @@
+mod DocumentParts
+mod CasesAlone
+mod CountedVerdicts
+mod Rows
+mod TablesByNumber
+mod MarkedCases
+mod Appends
+mod CommandLines
+mod Playing
+mod Running
+mod Conversations

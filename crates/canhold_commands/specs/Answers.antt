@@ -2,18 +2,18 @@
 -- "What is expected", "What is judged")
 use Rattle.std.specs.Prelude.{ℕ, ◌≡◌, ◌⊎◌, ◌==◌, if◌then◌else◌, List, Result, Ok, Err}
 use Rattle.toml.specs.Data.{Data}
-use Rattle.kit_adapter.specs.Plays.{Plays}
-use Rattle.kit_answers.specs.Documents.{document_demands, IsWrongKitField}
-use Rattle.kit_answers.specs.Expectations.{cases_alone_demands, IsExpected}
-use Rattle.kit_answers.specs.Judgements.{IsJudged}
+use Rattle.canhold_commands.specs.Plays.{Plays}
+use Rattle.canhold_commands.specs.Documents.{document_demands, IsWrongKitField}
+use Rattle.canhold_commands.specs.Expectations.{cases_alone_demands, IsExpected}
+use Rattle.canhold_commands.specs.Judgements.{IsJudged}
 use Rattle.can_program.specs.Written.{WritesBeginning, WritesNothing}
 use Rattle.can_stream.specs.declared.fault.TraceFault.TheVariants.{Read, Write, Memory}
 use Rattle.kit_cases.specs.declared.field.KitField.{KitField}
 use Rattle.document_values.specs.Demands.{Demands}
-use Rattle.kit_verdicts.specs.declared.tally.Tally.{Tally}
-use Rattle.kit_verdicts.specs.Counts.{cases_in}
-use Rattle.canhold_commands.specs.declared.document.Finding.{Finding}
-use Rattle.canhold_commands.specs.declared.document.Finding.TheVariants.{Agree, Differ, Nothing}
+use Rattle.canhold_commands.specs.declared.tally.Tally.{Tally}
+use Rattle.canhold_commands.specs.Counts.{cases_in}
+use Rattle.canhold_commands.specs.declared.answering.Finding.{Finding}
+use Rattle.canhold_commands.specs.declared.answering.Finding.TheVariants.{Agree, Differ, Nothing}
 use Rattle.canhold_commands.specs.declared.fault.CanholdFault.{CanholdFault}
 use Rattle.canhold_commands.specs.declared.fault.CanholdFault.TheVariants.{Field, NothingJudged, Stream, TranscriptsDiffer}
 use Rattle.canhold_commands.specs.declared.words.Chosen.{Chosen}

@@ -1,118 +1,117 @@
-//! Answering the kit document that a reader tells.
-ghost use Rattle.std.specs.Prelude.{◌≡◌, ◌⊎◌, ◌↔◌, false, IfErr, IfOk, IsErrOf, IsTrue};
-ghost use Rattle.can_stream.specs.Told.{Told};
-ghost use Rattle.kit_cases.specs.declared.field.KitField.{KitField};
-ghost use Rattle.kit_answers.specs.Documents.{IsWrongKitField};
-ghost use Rattle.can_program.specs.Written.{WritesBeginning, WritesNothing};
-ghost use Rattle.canhold_commands.specs.Answers.{demands_of, finding_of, Answers, AnswersSo, IsKitFault, RefusesDocument};
+//! Kit documents.
+ghost use Rattle.std.specs.Prelude.{◌≡◌, ◌≤◌, ◌<◌, All, length, map, IfOk, IfNone, IfSome, IsErrOf, OnOk, OnSome};
+ghost use Rattle.toml.specs.Data.{table};
+ghost use Rattle.toml.specs.View.{table_view, view};
+ghost use Rattle.can_conform.specs.Transcripts.{IsTold};
+ghost use Rattle.kit_cases.specs.declared.field.KitField.{KitField as Wrong};
+ghost use Rattle.document_values.specs.Demands.{AllMet, IsFirstUnmet};
+ghost use Rattle.document_values.specs.Refusals.{IsNoDocument};
+ghost use Rattle.document_values.specs.Values.{elements_in, named, IsDocument, IsOptional};
+ghost use Rattle.kit_cases.specs.Cases.{longest_case};
+ghost use Rattle.kit_cases.specs.Lists.{IsArrayOf};
+ghost use Rattle.canhold_commands.specs.Documents.{cases_of, document_demands, document_top_demands, transcripts_of, IsKitText, IsWrongKitField, SaysDocument};
 
-use crate::fault::CanholdFault;
-use crate::words::Question;
-use can_stream::{Sink, Source, TraceFault, read_whole, write_all};
-use kit_answers::{case_of, expected, judged};
-use kit_cases::KitFault;
-use kit_verdicts::Tally;
+use document_values::{DocumentFault, elements_or_none, has_only, read_document};
+use kit_cases::{Case, KitFault, KitField, read_cases};
+use kit_transcripts::{Told, read_transcripts};
 use std::alloc::Global;
+use toml::{Table, Value};
 
-/// What was found in a document.
-#[derive(Clone, Copy, Debug, PartialEq, Eq)]
-pub enum Finding {
-    /// All transcripts that were judged agree with the reference.
-    Agree,
-    /// Some transcript does not.
-    Differ,
-    /// There was no transcript to judge.
-    Nothing,
+/// How many cases a document has at most, and how many transcripts.
+const MOST_TABLES: usize = 4096;
+
+/// The fields that a document may have.
+const DOCUMENT_FIELDS: [&str; 2] = ["case", "transcript"];
+
+/// A document of the conformance kit.
+#[derive(Debug, Drop)]
+pub struct Document {
+    /// At most 4096 cases.
+    pub cases: Vec<Case>,
+    /// At most one transcript for each case.
+    pub transcripts: Vec<Told>,
 }
 
-/// Reads a kit document up to the reader's end, and writes the answer to the question. It answers what was
-/// found in the document. Nothing is written where the reader failed, the document is refused, or memory ran
-/// out. `of` becomes the name of the case for which the document is refused, if there is one.
-pub fn answer_document<R: Source, W: Sink>(
-    alloc: Global,
-    question: Question,
-    r: &mut R,
-    w: &mut W,
-    of: &mut String,
-) -> Result<Finding, CanholdFault>
-    requires reader_unfailed { R.has_failed r.old ≡ false }
-    requires reader_unended { R.has_ended r.old ≡ false }
-    requires writer_unfailed { W.has_failed w.old ≡ false }
-
-    // What was written of what was read.
-    ensures ok { IfOk result (λ finding. Told R.remaining r.old r.new W.contents w.old w.new (AnswersSo question finding)) }
-    ensures field { (wrong : KitField) → IsErrOf result (CanholdFault.Field wrong) →
-        Told R.remaining r.old r.new W.contents w.old w.new (RefusesDocument question wrong) }
-    ensures read { IsErrOf result (CanholdFault.Stream TraceFault.Read) → Told R.remaining r.old r.new W.contents w.old w.new WritesNothing }
-    ensures write { IsErrOf result (CanholdFault.Stream TraceFault.Write) → Told R.remaining r.old r.new W.contents w.old w.new (WritesBeginning (Answers question)) }
-    ensures memory { IsErrOf result (CanholdFault.Stream TraceFault.Memory) → Told R.remaining r.old r.new W.contents w.old w.new WritesNothing }
-    ensures other { IfErr result (λ fault. IsKitFault fault ⊎ (fault ≡ CanholdFault.Stream TraceFault.Read) ⊎ (fault ≡ CanholdFault.Stream TraceFault.Write)) }
-
-    // What the reader and the writer came to.
-    ensures read_failed { IsErrOf result (CanholdFault.Stream TraceFault.Read) ↔ IsTrue (R.has_failed r.new) }
-    ensures write_failed { IsErrOf result (CanholdFault.Stream TraceFault.Write) ↔ IsTrue (W.has_failed w.new) }
-{
-    let text = read_whole(alloc, r)?;
-    let answer = answer_or_name(alloc, question, text.as_slice(), of)?;
-    write_all(w, answer.bytes.as_slice())?;
-    Ok(answer.finding)
-}
-
-/// The answer to a document.
-#[derive(Drop)]
-struct Answer {
-    bytes: Vec<u8>,
-    finding: Finding,
-}
-
-/// The answer to the document that the bytes are. `of` becomes the name of the case for which it is refused.
-fn answer_or_name(
-    alloc: Global,
-    question: Question,
-    text: &[u8],
-    of: &mut String,
-) -> Result<Answer, KitFault>
-    ensures found { IfOk result (λ answer. AnswersSo question answer.finding text.now answer.bytes.items) }
-    ensures wrong { (wrong : KitField) → IsErrOf result (KitFault.Field wrong) → IsWrongKitField (demands_of question) wrong text.now }
-{
-    let answer = answer_to(alloc, question, text);
-    if let Err(KitFault::Field(wrong)) = answer {
-        if let Some(name) = case_of(alloc, text, wrong) {
-            *of = name;
-        }
-    }
-    answer
-}
-
-/// The answer to the document that the bytes are.
-fn answer_to(alloc: Global, question: Question, text: &[u8]) -> Result<Answer, KitFault>
-    ensures found { IfOk result (λ answer. AnswersSo question answer.finding text.now answer.bytes.items) }
-    ensures wrong { (wrong : KitField) → IsErrOf result (KitFault.Field wrong) → IsWrongKitField (demands_of question) wrong text.now }
-{
-    match question {
-        Question::Expect => Ok(Answer {
-            bytes: expected(alloc, text)?,
-            finding: Finding::Agree,
-        }),
-        Question::Judge => {
-            let judgement = judged(alloc, text)?;
-            Ok(Answer {
-                finding: found(judgement.tally),
-                bytes: judgement.lines,
-            })
-        }
+impl Document {
+    /// The kit document that the bytes are: a TOML document with a list of tables `case`, a list of tables
+    /// `transcript`, and nothing else at the top.
+    ///
+    /// `Field` names the first field that isn't as it has to be: the top is tested first, then each case, then
+    /// each transcript. `Memory` says that memory ran out. The document holds all memory that it needs.
+    pub fn from_text(alloc: Global, text: &[u8]) -> Result<Document, KitFault>
+        ensures found { IfOk result (IsKitText text.now) }
+        ensures short { IfOk result (λ document. All (λ one. length one.script.tester.items ≤ longest_case) document.cases.items) }
+        ensures told { IfOk result (λ document. All (λ one. IsTold one.transcript) document.transcripts.items) }
+        ensures known { IfOk result (λ document. All (λ one. one.case < length document.cases.items) document.transcripts.items) }
+        ensures few { IfOk result (λ document. length document.transcripts.items ≤ 4096) }
+        ensures wrong { (wrong : Wrong) → IsErrOf result (KitFault.Field wrong) → IsWrongKitField document_demands wrong text.now }
+    {
+        let fields = read_fields(alloc, text)?;
+        Ok(read_tables(alloc, &fields)?)
     }
 }
 
-/// What was found where so many transcripts have which verdict.
-fn found(tally: Tally) -> Finding
-    ensures { result ≡ finding_of tally }
+/// The fields at the top of the TOML document that the bytes are.
+pub(crate) fn read_fields(alloc: Global, text: &[u8]) -> Result<Table, KitFault>
+    ensures said { IfOk result (λ fields. IsDocument text.now (table (table_view fields))) }
+    ensures wrong { (wrong : Wrong) → IsErrOf result (KitFault.Field wrong) → IsNoDocument KitField.Document wrong text.now }
 {
-    if tally.cases() == 0 {
-        Finding::Nothing
-    } else if tally.failed == 0 {
-        Finding::Agree
-    } else {
-        Finding::Differ
+    match read_document(alloc, text) {
+        Ok(fields) => Ok(fields),
+        Err(DocumentFault::Memory) => Err(KitFault::Memory),
+        Err(DocumentFault::NoDocument) => Err(KitFault::Field(KitField::Document)),
     }
+}
+
+/// Reads the cases and transcripts of a document with these fields.
+pub(crate) fn read_tables(alloc: Global, fields: &Table) -> Result<Document, KitFault>
+    ensures said { IfOk result (SaysDocument (table (table_view fields.now))) }
+    ensures short { IfOk result (λ document. All (λ one. length one.script.tester.items ≤ longest_case) document.cases.items) }
+    ensures told { IfOk result (λ document. All (λ one. IsTold one.transcript) document.transcripts.items) }
+    ensures known { IfOk result (λ document. All (λ one. one.case < length document.cases.items) document.transcripts.items) }
+    ensures few { IfOk result (λ document. length document.transcripts.items ≤ 4096) }
+    ensures unmet { (wrong : Wrong) → IsErrOf result (KitFault.Field wrong) → IsFirstUnmet wrong (document_demands (table (table_view fields.now))) }
+{
+    let top = read_top(fields)?;
+    let cases = read_cases(alloc, top.cases)?;
+    let transcripts = read_transcripts(alloc, top.cases, top.transcripts)?;
+    Ok(Document { cases, transcripts })
+}
+
+/// The tables of a document.
+#[derive(Clone, Copy)]
+struct Top<'a> {
+    cases: &'a [Value],
+    transcripts: &'a [Value],
+}
+
+/// Reads the fields at the top of a document.
+fn read_top(fields: &Table) -> Result<Top<'_>, KitFault>
+    ensures cases { IfOk result (λ top. map view top.cases.now ≡ cases_of (table (table_view fields.now))) }
+    ensures transcripts { IfOk result (λ top. map view top.transcripts.now ≡ transcripts_of (table (table_view fields.now))) }
+    ensures few { IfOk result (λ top. length top.transcripts.now ≤ 4096) }
+    ensures met { OnOk result (AllMet (document_top_demands (table (table_view fields.now)))) }
+    ensures unmet { (wrong : Wrong) → IsErrOf result (KitFault.Field wrong) → IsFirstUnmet wrong (document_top_demands (table (table_view fields.now))) }
+{
+    if !has_only(fields, &DOCUMENT_FIELDS) {
+        return Err(KitFault::Field(KitField::Unknown));
+    }
+    let Some(cases) = tables(fields, "case") else {
+        return Err(KitFault::Field(KitField::Cases));
+    };
+    let Some(transcripts) = tables(fields, "transcript") else {
+        return Err(KitFault::Field(KitField::Transcripts));
+    };
+    Ok(Top { cases, transcripts })
+}
+
+/// The elements of a list of at most 4096, which may be left out.
+fn tables<'a>(fields: &'a Table, name: &str) -> Option<&'a [Value]>
+    ensures said { IfSome result (λ values. map view values.now ≡ elements_in (named name.now (table (table_view fields.now)))) }
+    ensures few { IfSome result (λ values. length values.now ≤ 4096) }
+    ensures met { OnSome result (IsOptional (IsArrayOf 0 4096) (named name.now (table (table_view fields.now)))) }
+    ensures unmet { IfNone result (¬ IsOptional (IsArrayOf 0 4096) (named name.now (table (table_view fields.now)))) }
+{
+    let values = elements_or_none(fields, name)?;
+    (values.len() <= MOST_TABLES).then_some(values)
 }

@@ -8,13 +8,13 @@ ghost use Rattle.can_program.specs.Words.{texts_of};
 ghost use Rattle.canhold_commands.specs.Status.{canhold_status};
 ghost use Rattle.canhold_commands.specs.Words.{AsksCanhold, asked_of_canhold};
 
-use crate::document::{Finding, answer_document};
+use crate::answering::{Finding, answer_document};
 use crate::fault::CanholdFault;
 use crate::help::{HELP, VERSION};
+use crate::play::play_lines;
 use crate::words::{Asked, Chosen, Question, read_words};
 use can_program::{WordsFault, conclude, conclude_of, refuse, write_help};
 use can_stream::{Sink, Source};
-use kit_adapter::play_lines;
 use std::alloc::Global;
 
 /// The program's name, before the line of a fault.

@@ -1,0 +1,77 @@
+//! How many cases have which verdict.
+ghost use Rattle.std.specs.Prelude.{◌≡◌, ◌++◌, decimal, OnOk};
+ghost use Rattle.canhold_commands.specs.Counts.{cases_in, count_line, verdicts_text, without_text};
+
+use kit_words::{push_number, push_text};
+use std::alloc::AllocError;
+
+/// How many cases of a run have which verdict.
+#[derive(Clone, Copy, Debug, PartialEq, Eq)]
+pub struct Tally {
+    pub passed: u32,
+    pub failed: u32,
+    /// A case could not be played to its end.
+    pub void: u32,
+    /// A case needs what the bench can't do.
+    pub skipped: u32,
+}
+
+impl Tally {
+    /// No case has a verdict.
+    pub const NONE: Tally = Tally {
+        passed: 0,
+        failed: 0,
+        void: 0,
+        skipped: 0,
+    };
+
+    /// How many cases there are.
+    pub fn cases(self) -> u64
+        ensures { result ≡ cases_in self }
+    {
+        u64::from(self.passed)
+            + u64::from(self.failed)
+            + u64::from(self.void)
+            + u64::from(self.skipped)
+    }
+}
+
+/// Appends the line that counts the cases of a run, `passed 1 failed 1 void 0 skipped 0 of 2`, and 0x0a. Of cases
+/// that have no transcript, and so no verdict, it says how many there are: `, 3 without a transcript`.
+pub fn push_count(out: &mut Vec<u8>, tally: Tally, without: u64) -> Result<(), AllocError>
+    ensures { OnOk result (out.new.items ≡ out.old.items ++ count_line tally without) }
+{
+    push_verdicts(out, tally)?;
+    push_without(out, without)?;
+    push_text(out, b"\n")
+}
+
+/// Appends how many cases have which verdict, and how many these are.
+fn push_verdicts(out: &mut Vec<u8>, tally: Tally) -> Result<(), AllocError>
+    ensures { OnOk result (out.new.items ≡ out.old.items ++ verdicts_text tally) }
+{
+    push_number_behind(out, b"passed ", u64::from(tally.passed))?;
+    push_number_behind(out, b" failed ", u64::from(tally.failed))?;
+    push_number_behind(out, b" void ", u64::from(tally.void))?;
+    push_number_behind(out, b" skipped ", u64::from(tally.skipped))?;
+    push_number_behind(out, b" of ", tally.cases())
+}
+
+/// Appends how many cases have no transcript, or nothing where each has one.
+fn push_without(out: &mut Vec<u8>, without: u64) -> Result<(), AllocError>
+    ensures { OnOk result (out.new.items ≡ out.old.items ++ without_text without) }
+{
+    if without == 0 {
+        return Ok(());
+    }
+    push_number_behind(out, b", ", without)?;
+    push_text(out, b" without a transcript")
+}
+
+/// Appends a word and a number.
+fn push_number_behind(out: &mut Vec<u8>, word: &[u8], number: u64) -> Result<(), AllocError>
+    ensures { OnOk result (out.new.items ≡ out.old.items ++ (word.now ++ decimal number)) }
+{
+    push_text(out, word)?;
+    push_number(out, number)
+}

@@ -1,4 +1,0 @@
-mod CommandLines
-mod Playing
-mod Running
-mod Conversations

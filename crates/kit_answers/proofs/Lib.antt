@@ -1,6 +1,0 @@
-mod DocumentParts
-mod CasesAlone
-mod CountedVerdicts
-mod Rows
-mod TablesByNumber
-mod MarkedCases

@@ -1,7 +1,0 @@
-use Rattle.std.proofs.Common.{ℕ, List, drop}
-use Rattle.kit_answers.specs.Expectations.{AddTables}
-use Rattle.kit_answers.proofs.expecting.push_tables.Given as goal
-
--- behind what is written the tables of the other cases give what those of all give
-abbrev pub invariant-loop-case : goal.invariant-loop-case
-invariant-loop-case l = (after : List ℕ) → AddTables (drop l.case-index l.cases) l.out.items after → AddTables l.cases l.fn.out.items after

@@ -1,9 +1,0 @@
-use Rattle.std.proofs.Common.{◌≤◌, drop}
-use Rattle.kit_answers.specs.Judgements.{Lines, lines_with, no_cases, AddVerdicts}
-use Rattle.kit_answers.proofs.judging.push_verdicts.Given as goal
-
--- behind what is written the lines of the other transcripts give what those of all give; no more are counted than were looked at
-abbrev pub invariant-loop-told : goal.invariant-loop-told
-invariant-loop-told l =
-    ((after : Lines) → AddVerdicts l.cases (drop l.told-index l.transcripts) (lines_with l.out.items l.tally) after → AddVerdicts l.cases l.transcripts (lines_with l.fn.out.items no_cases) after)
-    × (l.tally.passed ≤ l.told-index) × (l.tally.failed ≤ l.told-index)

@@ -1,8 +1,0 @@
-use Rattle.std.proofs.Common.{◌≡◌, ◌++◌, drop}
-use Rattle.kit_verdicts.specs.Transcripts.{element_lines}
-use Rattle.kit_verdicts.proofs.elements.push_elements.Given as goal
-
--- behind what is written the other elements would stand
-abbrev pub invariant-loop-element : goal.invariant-loop-element
-invariant-loop-element g l =
-    l.out.items ++ element_lines g.T.Element.text (drop l.element-index l.list) ≡ l.fn.out.items ++ element_lines g.T.Element.text l.fn.list

@@ -1,8 +1,0 @@
-use Rattle.std.proofs.Common.{◌≡◌, ◌++◌, drop}
-use Rattle.kit_verdicts.specs.Verdicts.{choices_text}
-use Rattle.kit_verdicts.proofs.verdict.push_choices.Given as goal
-
--- behind what is written the other choices would stand
-abbrev pub invariant-loop-choice : goal.invariant-loop-choice
-invariant-loop-choice l =
-    l.out.items ++ choices_text (drop l.choice-index l.choices) ≡ l.fn.out.items ++ choices_text l.fn.choices
