@@ -2,7 +2,7 @@
 //! those that run a scenario or answer a network take memory of their own.
 //!
 //! Each export does what one call of can_frame, can_code, can_fields, can_decode, can_scenario, can_port_times,
-//! can_plan_text or can_plan_worst does, and promises it in the same definitions. It answers an [`Answer`] as a number.
+//! can_plan_text does, and promises it in the same definitions. It answers an [`Answer`] as a number.
 //!
 //! | File | What it has | Defined in |
 //! |---|---|---|

@@ -4,12 +4,12 @@ ghost use Rattle.can_page.specs.Lines.{is_overfull, written_lines};
 ghost use Rattle.can_page.specs.Plain.{wrong_in_plan};
 ghost use Rattle.can_plan_text.specs.Plans.{IsWrongPlanField};
 ghost use Rattle.can_plan_text.specs.declared.field.PlanField.{PlanField as Wrong};
-ghost use Rattle.can_plan_worst.specs.Timelines.{IsTimeline, IsUnending, IsUnknown};
+ghost use Rattle.can_plan_text.specs.Timelines.{IsTimeline, IsUnending, IsUnknown};
 
 use crate::answer::Answer;
 use crate::lines::Lines;
 use crate::plain::WrongField;
-use can_plan_worst::{WorstFault, timeline};
+use can_plan_text::{WorstFault, timeline};
 use can_stream::{Sink, write_all};
 use std::alloc::Global;
 

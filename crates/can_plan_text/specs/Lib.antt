@@ -1,9 +1,13 @@
--- To believe: what public calls promise is said in these words
+-- To believe: what public calls and laws promise is said in these words
 pub mod Times
 pub mod Names
 pub mod Plans
 pub mod Answers
 pub mod Report
 pub mod Details
+pub mod Worst
+pub mod Scenario
+pub mod Timelines
+pub mod Keeping
 -- For proofs only
 pub mod Order

@@ -1,5 +1,6 @@
-//! Networks as documents say them, and what the analysis of can_plan answers of their messages, as text.
-//! (docs/PLANNING.md, "`canplan`")
+//! Networks as documents say them, and what the analysis of can_plan answers of their messages, as text; and the worst
+//! case of a message, where nothing is hit: frames that are offered so that one of its own comes as late as can be, and
+//! their scenario, which can be run bit by bit. (docs/PLANNING.md, "`canplan`" and "The worst case")
 //!
 //! | File | What it has | Defined in |
 //! |---|---|---|
@@ -20,30 +21,49 @@
 //! | `laws.rt` | [`one_plan_field`]: of bytes at most one field is told | `specs/Plans.antt` |
 //! | `fault.rt` | [`PlanFault`], why a document is not read | |
 //! | `field.rt` | [`PlanField`], what is wrong in one | |
+//! | `timelines.rt` | [`timeline`], a network's document and the name of a message in, the scenario out | `specs/Timelines.antt` |
+//! | `case.rt` | [`WorstCase`], which frames are offered when | `specs/Worst.antt` |
+//! | `worst.rt` | [`worst_case`], which are in the worst case | `specs/Worst.antt` |
+//! | `period.rt` | for how long they keep the bus busy | `specs/Worst.antt` |
+//! | `frames.rt` | a message's longest frame | `specs/Worst.antt` |
+//! | `scenario.rt` | [`push_scenario`], the scenario as text | `specs/Scenario.antt` |
+//! | `named.rt` | which message has a name | `specs/Timelines.antt` |
+//! | `worst_laws.rt` | [`worst_cases_keep_to_messages`]: bounds speak of these frames | `specs/Keeping.antt` |
+//! | `worst_fault.rt` | [`WorstFault`], why there is no scenario | |
 #![tactic(auto)]
 
 mod analysis;
 mod answer;
+mod case;
 mod detail;
 mod details;
 mod document;
 mod fault;
 mod field;
+mod frames;
 mod latest;
 mod laws;
 mod left;
 mod left_text;
 mod messages;
 mod name;
+mod named;
 mod names;
 mod order;
+mod period;
 mod plan;
 mod report;
+mod scenario;
+mod timelines;
 mod times;
 mod verdict;
+mod worst;
+mod worst_fault;
+mod worst_laws;
 
 pub use analysis::analysed;
 pub use answer::{Answer, Form, answered, answered_in};
+pub use case::{Sequence, WorstCase};
 pub use fault::PlanFault;
 pub use field::{MessageField, PlanField};
 pub use laws::one_plan_field;
@@ -51,4 +71,9 @@ pub use messages::head_of;
 pub use name::{LONGEST_NAME, Name};
 pub use plan::{Plan, Planned};
 pub use report::push_report;
+pub use scenario::push_scenario;
+pub use timelines::timeline;
 pub use verdict::{Analysis, Verdict};
+pub use worst::worst_case;
+pub use worst_fault::WorstFault;
+pub use worst_laws::worst_cases_keep_to_messages;

@@ -4,7 +4,7 @@ use Rattle.can_plan_text.specs.declared.answer.Form.{Form}
 use Rattle.can_plan_text.specs.declared.field.PlanField.{PlanField}
 use Rattle.can_plan_text.specs.Plans.{IsWrongPlanField}
 use Rattle.can_plan_text.specs.Details.{IsAnswerIn}
-use Rattle.can_plan_worst.specs.Timelines.{IsTimeline, IsUnending, IsUnknown}
+use Rattle.can_plan_text.specs.Timelines.{IsTimeline, IsUnending, IsUnknown}
 use Rattle.can_program.specs.Written.{WritesBeginning, WritesNothing}
 use Rattle.can_stream.specs.declared.fault.TraceFault.TheVariants.{Read, Write, Memory}
 use Rattle.canplan_commands.specs.declared.fault.CanplanFault.{CanplanFault}

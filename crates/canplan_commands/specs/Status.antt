@@ -4,8 +4,8 @@ use Rattle.can_plan_text.specs.declared.fault.PlanFault.{PlanFault}
 use Rattle.can_plan_text.specs.declared.fault.PlanFault.TheVariants as plan
 use Rattle.can_program.specs.Status.{stream_status}
 use Rattle.can_stream.specs.declared.fault.TraceFault.TheVariants.{Memory}
-use Rattle.can_plan_worst.specs.declared.fault.WorstFault.{WorstFault}
-use Rattle.can_plan_worst.specs.declared.fault.WorstFault.TheVariants as worst
+use Rattle.can_plan_text.specs.declared.worst_fault.WorstFault.{WorstFault}
+use Rattle.can_plan_text.specs.declared.worst_fault.WorstFault.TheVariants as worst
 use Rattle.canplan_commands.specs.declared.fault.CanplanFault.{CanplanFault}
 use Rattle.canplan_commands.specs.declared.fault.CanplanFault.TheVariants.{Field, MessageUnknown, TimelineTooLong, DeadlinesMissed, Stream}
 

@@ -3,8 +3,7 @@ ghost use Rattle.std.specs.Prelude.{◌≡◌};
 ghost use Rattle.canplan_commands.specs.Status.{plan_fault_of, canplan_status, worst_fault_of};
 ghost use Rattle.canplan_commands.specs.declared.fault.CanplanFault.TheVariants.{Stream};
 
-use can_plan_text::{PlanFault, PlanField};
-use can_plan_worst::WorstFault;
+use can_plan_text::{PlanFault, PlanField, WorstFault};
 use can_program::RunFault;
 use can_stream::TraceFault;
 use thiserror::Error;

@@ -6,7 +6,7 @@ ghost use Rattle.can_program.specs.Written.{WritesBeginning, WritesNothing};
 ghost use Rattle.canplan_commands.specs.Runs.{Draws, IsTimelineFault, RefusesNetwork, RefusesLength, RefusesName};
 
 use crate::fault::CanplanFault;
-use can_plan_worst::timeline;
+use can_plan_text::timeline;
 use can_stream::{Sink, Source, TraceFault, read_whole, write_all};
 use std::alloc::Global;
 

@@ -1,7 +1,7 @@
 use Rattle.std.proofs.Common.{◌≡◌, ap, refl, rules, Err}
 use Rattle.can_plan_text.specs.declared.field.PlanField.{PlanField}
-use Rattle.can_plan_worst.specs.declared.fault.WorstFault.{WorstFault}
-use Rattle.can_plan_worst.specs.declared.fault.WorstFault.TheVariants as worst
+use Rattle.can_plan_text.specs.declared.worst_fault.WorstFault.{WorstFault}
+use Rattle.can_plan_text.specs.declared.worst_fault.WorstFault.TheVariants as worst
 use Rattle.canplan_commands.specs.declared.fault.CanplanFault.TheVariants.{Field, MessageUnknown, TimelineTooLong}
 use Rattle.canplan_commands.specs.Status.{worst_fault_of}
 use Rattle.canplan_commands.proofs.worst.write_timeline.Goals as goal

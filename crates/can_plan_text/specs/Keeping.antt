@@ -1,0 +1,31 @@
+-- That the frames of a worst case keep to the messages, so that bounds speak of them. (docs/PLANNING.md, "The worst case")
+use Rattle.std.specs.Prelude.{ℕ, ◌≡◌, ◌+◌, List, map}
+use Rattle.std.specs.List.{flat_map}
+use Rattle.can_bus.specs.Timed.{TimedParts}
+use Rattle.can_plan.specs.declared.message.Message.{Message}
+use Rattle.can_plan.specs.FramesOf.{IsLongestBusy}
+use Rattle.can_plan.specs.Messages.{IsIn, KeepTo, Release, offer_of}
+use Rattle.can_plan_text.specs.declared.plan.Planned.{Planned}
+use Rattle.can_plan_text.specs.declared.case.Sequence.{Sequence}
+use Rattle.can_plan_text.specs.declared.case.WorstCase.{WorstCase}
+use Rattle.can_plan_text.specs.Worst.{dlc_of}
+
+-- each message says of its frames how long they keep the bus at most, as it does where a document says it
+abbrev pub AreSized : List Planned → Type 0
+AreSized planned = (p : Planned) → IsIn planned p → IsLongestBusy p.head.id p.head.remote (dlc_of p) p.message.longest
+
+abbrev pub offers_in : Sequence → List TimedParts
+offers_in s = map (λ (t : ℕ). let x : TimedParts = record { time = t; frame = s.frame } in x) s.times.items
+
+-- the offers of a worst case, one message after another
+abbrev pub offers_of : WorstCase → List TimedParts
+offers_of w = flat_map offers_in w.sequences.items
+
+abbrev pub later : ℕ → TimedParts → TimedParts
+later delay x = record { time = delay + x.time; frame = x.frame }
+
+-- so many bit times later they are those of releases that keep to the messages
+pub record KeepToMessages (messages : List Message) (delay : ℕ) (offers : List TimedParts) : Type 0 where
+  pub releases : List Release
+  pub same : map offer_of releases ≡ map (later delay) offers
+  pub keep : KeepTo messages releases
