@@ -9,5 +9,8 @@ pub mod Worst
 pub mod Scenario
 pub mod Timelines
 pub mod Keeping
+pub mod Words
+pub mod Status
+pub mod Runs
 -- For proofs only
 pub mod Order

@@ -13,7 +13,7 @@ use crate::report::{
 use crate::times::{time_down, time_up};
 use crate::verdict::{Analysis, Verdict};
 use can_plan::{Latest, arrivals, own_load};
-use kit_words::{push_named, push_text};
+use document_values::{push_named, push_text};
 use std::alloc::AllocError;
 
 /// How many bit times of intermission a message's longest time on the bus has, and its wire has not.

@@ -6,7 +6,7 @@ use crate::left::Left;
 use crate::plan::Planned;
 use crate::report::{push_end, push_head};
 use can_plan::Margin;
-use kit_words::{push_named, push_text};
+use document_values::{push_named, push_text};
 use std::alloc::AllocError;
 
 /// Appends how much is left: by how many per cent all periods may be shorter, and how many more hits may come.

@@ -1,6 +1,8 @@
 //! Networks as documents say them, and what the analysis of can_plan answers of their messages, as text; and the worst
 //! case of a message, where nothing is hit: frames that are offered so that one of its own comes as late as can be, and
-//! their scenario, which can be run bit by bit. (docs/PLANNING.md, "`canplan`" and "The worst case")
+//! their scenario, which can be run bit by bit. With them what the program `canplan` does with the words of its command
+//! line, over any reader and writers; the contract of `execute` says for each outcome what was read and written.
+//! (docs/PLANNING.md, "`canplan`" and "The worst case")
 //!
 //! | File | What it has | Defined in |
 //! |---|---|---|
@@ -30,17 +32,28 @@
 //! | `named.rt` | which message has a name | `specs/Timelines.antt` |
 //! | `worst_laws.rt` | [`worst_cases_keep_to_messages`]: bounds speak of these frames | `specs/Keeping.antt` |
 //! | `worst_fault.rt` | [`WorstFault`], why there is no scenario | |
+//! | `words.rt` | [`Asked`], what the words of a command line ask for: an answer, with details or without, a scenario, the help text, or the version | `specs/Words.antt` |
+//! | `help.rt` | [`HELP`], the help text; [`VERSION`] | |
+//! | `canplan_fault.rt` | [`CanplanFault`], why a run did not do all that it was asked | `specs/Status.antt` |
+//! | `answering.rt` | a reader's document in, the answer to it out to a writer | `specs/Runs.antt` |
+//! | `drawing.rt` | a reader's document in, the scenario of a message's worst case out to a writer | `specs/Runs.antt` |
+//! | `executing.rt` | [`execute`], what a run does, its fault line and its exit status | `specs/Runs.antt` |
 #![tactic(auto)]
 
 mod analysis;
 mod answer;
+mod answering;
+mod canplan_fault;
 mod case;
 mod detail;
 mod details;
 mod document;
+mod drawing;
+mod executing;
 mod fault;
 mod field;
 mod frames;
+mod help;
 mod latest;
 mod laws;
 mod left;
@@ -57,15 +70,19 @@ mod scenario;
 mod timelines;
 mod times;
 mod verdict;
+mod words;
 mod worst;
 mod worst_fault;
 mod worst_laws;
 
 pub use analysis::analysed;
 pub use answer::{Answer, Form, answered, answered_in};
+pub use canplan_fault::CanplanFault;
 pub use case::{Sequence, WorstCase};
+pub use executing::{NAME, execute};
 pub use fault::PlanFault;
 pub use field::{MessageField, PlanField};
+pub use help::{HELP, VERSION};
 pub use laws::one_plan_field;
 pub use messages::head_of;
 pub use name::{LONGEST_NAME, Name};
@@ -74,6 +91,7 @@ pub use report::push_report;
 pub use scenario::push_scenario;
 pub use timelines::timeline;
 pub use verdict::{Analysis, Verdict};
+pub use words::Asked;
 pub use worst::worst_case;
 pub use worst_fault::WorstFault;
 pub use worst_laws::worst_cases_keep_to_messages;

@@ -6,7 +6,7 @@ ghost use Rattle.can_plan_text.specs.Report.{borne_line, bound_text, end_text, f
 use crate::plan::Planned;
 use crate::verdict::{Analysis, Verdict};
 use can_plan::Borne;
-use kit_words::{push_named, push_number, push_text};
+use document_values::{push_named, push_number, push_text};
 use std::alloc::AllocError;
 
 /// How many billionths a whole has.

@@ -5,7 +5,7 @@ ghost use Rattle.can_plan_text.specs.Scenario.{head_lines, log_room as log_room_
 
 use crate::case::{Sequence, WorstCase};
 use can_frame::Frame;
-use kit_words::{push_number, push_text};
+use document_values::{push_number, push_text};
 use std::alloc::AllocError;
 
 /// How many ports have the frames of one message alone. One more has the others, or listens.

@@ -1,11 +1,11 @@
 //! The command `canplan`: how late the frames of a network can be, from standard input to standard output.
 //!
-//! What a run does over any reader and writers is told by the crate `canplan_commands`. That `main` joins its
+//! What a run does over any reader and writers is told by the crate `can_plan_text`. That `main` joins its
 //! `execute` to the process's words and standard streams is only tested.
 #![tactic(auto)]
 
+use can_plan_text::{NAME, execute};
 use can_program::run_program;
-use canplan_commands::{NAME, execute};
 use std::process::ExitCode;
 
 fn main(rt: HostRuntime) -> ExitCode {

@@ -65,6 +65,6 @@ fn execute(
     match program {
         Program::Canbit => canbit_commands::execute(alloc, words, reader, writer, errors),
         Program::Canhold => canhold_commands::execute(alloc, words, reader, writer, errors),
-        Program::Canplan => canplan_commands::execute(alloc, words, reader, writer, errors),
+        Program::Canplan => can_plan_text::execute(alloc, words, reader, writer, errors),
     }
 }

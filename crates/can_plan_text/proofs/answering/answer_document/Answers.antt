@@ -2,9 +2,9 @@ use Rattle.std.proofs.Common.{◌≡◌, ap, rules, Err}
 use Rattle.can_plan_text.specs.declared.field.PlanField.{PlanField}
 use Rattle.can_plan_text.specs.declared.fault.PlanFault.{PlanFault}
 use Rattle.can_plan_text.specs.declared.fault.PlanFault.TheVariants as plan
-use Rattle.canplan_commands.specs.declared.fault.CanplanFault.TheVariants.{Field}
-use Rattle.canplan_commands.specs.Status.{plan_fault_of}
-use Rattle.canplan_commands.proofs.document.answer_document.Goals as goal
+use Rattle.can_plan_text.specs.declared.canplan_fault.CanplanFault.TheVariants.{Field}
+use Rattle.can_plan_text.specs.Status.{plan_fault_of}
+use Rattle.can_plan_text.proofs.answering.answer_document.Goals as goal
 
 -- a field that is told is the document's
 field-of : (fault : PlanFault) (wrong : PlanField) → plan_fault_of fault ≡ Field wrong → fault ≡ plan.Field wrong

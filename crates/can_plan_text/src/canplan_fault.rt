@@ -1,9 +1,11 @@
 //! Why `canplan` did not do all that it was asked.
 ghost use Rattle.std.specs.Prelude.{◌≡◌};
-ghost use Rattle.canplan_commands.specs.Status.{plan_fault_of, canplan_status, worst_fault_of};
-ghost use Rattle.canplan_commands.specs.declared.fault.CanplanFault.TheVariants.{Stream};
+ghost use Rattle.can_plan_text.specs.Status.{plan_fault_of, canplan_status, worst_fault_of};
+ghost use Rattle.can_plan_text.specs.declared.canplan_fault.CanplanFault.TheVariants.{Stream};
 
-use can_plan_text::{PlanFault, PlanField, WorstFault};
+use crate::fault::PlanFault;
+use crate::field::PlanField;
+use crate::worst_fault::WorstFault;
 use can_program::RunFault;
 use can_stream::TraceFault;
 use thiserror::Error;

@@ -3,10 +3,10 @@ ghost use Rattle.std.specs.Prelude.{◌≡◌, ◌⊎◌, ◌↔◌, false, IfEr
 ghost use Rattle.can_stream.specs.Told.{Told};
 ghost use Rattle.can_plan_text.specs.declared.field.PlanField.{PlanField as Wrong};
 ghost use Rattle.can_program.specs.Written.{WritesBeginning, WritesNothing};
-ghost use Rattle.canplan_commands.specs.Runs.{Draws, IsTimelineFault, RefusesNetwork, RefusesLength, RefusesName};
+ghost use Rattle.can_plan_text.specs.Runs.{Draws, IsTimelineFault, RefusesNetwork, RefusesLength, RefusesName};
 
-use crate::fault::CanplanFault;
-use can_plan_text::timeline;
+use crate::canplan_fault::CanplanFault;
+use crate::timelines::timeline;
 use can_stream::{Sink, Source, TraceFault, read_whole, write_all};
 use std::alloc::Global;
 

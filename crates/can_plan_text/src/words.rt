@@ -1,7 +1,7 @@
 //! What the words of a command line ask for.
 ghost use Rattle.std.specs.Prelude.{◌≡◌};
 ghost use Rattle.can_program.specs.Words.{texts_of};
-ghost use Rattle.canplan_commands.specs.Words.{asked_of_canplan, asked_of_message, canplan_word, message_in};
+ghost use Rattle.can_plan_text.specs.Words.{asked_of_canplan, asked_of_message, canplan_word, message_in};
 
 /// What is asked for.
 #[derive(Clone, Copy, Debug, PartialEq, Eq)]

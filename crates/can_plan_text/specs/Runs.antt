@@ -7,8 +7,8 @@ use Rattle.can_plan_text.specs.Details.{IsAnswerIn}
 use Rattle.can_plan_text.specs.Timelines.{IsTimeline, IsUnending, IsUnknown}
 use Rattle.can_program.specs.Written.{WritesBeginning, WritesNothing}
 use Rattle.can_stream.specs.declared.fault.TraceFault.TheVariants.{Read, Write, Memory}
-use Rattle.canplan_commands.specs.declared.fault.CanplanFault.{CanplanFault}
-use Rattle.canplan_commands.specs.declared.fault.CanplanFault.TheVariants.{Field, MessageUnknown, TimelineTooLong, DeadlinesMissed, Stream}
+use Rattle.can_plan_text.specs.declared.canplan_fault.CanplanFault.{CanplanFault}
+use Rattle.can_plan_text.specs.declared.canplan_fault.CanplanFault.TheVariants.{Field, MessageUnknown, TimelineTooLong, DeadlinesMissed, Stream}
 
 -- the document is refused for this field, and nothing is written
 abbrev pub RefusesNetwork : PlanField → List ℕ → List ℕ → Type 0

@@ -3,10 +3,10 @@ ghost use Rattle.std.specs.Prelude.{◌≡◌, ◌⊎◌, ◌↔◌, false, IfEr
 ghost use Rattle.can_stream.specs.Told.{Told};
 ghost use Rattle.can_plan_text.specs.declared.field.PlanField.{PlanField as Wrong};
 ghost use Rattle.can_program.specs.Written.{WritesBeginning, WritesNothing};
-ghost use Rattle.canplan_commands.specs.Runs.{AnswersNetwork, AnswersWhole, IsPlanFault, RefusesNetwork};
+ghost use Rattle.can_plan_text.specs.Runs.{AnswersNetwork, AnswersWhole, IsPlanFault, RefusesNetwork};
 
-use crate::fault::CanplanFault;
-use can_plan_text::{Form, answered_in};
+use crate::answer::{Form, answered_in};
+use crate::canplan_fault::CanplanFault;
 use can_stream::{Sink, Source, TraceFault, read_whole, write_all};
 use std::alloc::Global;
 

@@ -2,8 +2,8 @@
 use Rattle.std.specs.Prelude.{ℕ, if◌then◌else◌, List, [], ◌∷◌, Option, Some, None, codes}
 use Rattle.std.specs.Str.{bytes_eq}
 use Rattle.can_program.specs.Words.{is_help_word, is_version_word}
-use Rattle.canplan_commands.specs.declared.words.Asked.{Asked}
-use Rattle.canplan_commands.specs.declared.words.Asked.TheVariants.{Answer, Details, Help, Timeline, Version}
+use Rattle.can_plan_text.specs.declared.words.Asked.{Asked}
+use Rattle.can_plan_text.specs.declared.words.Asked.TheVariants.{Answer, Details, Help, Timeline, Version}
 
 -- what one word asks for: help, the version, or the answer with details
 abbrev pub canplan_word : List ℕ → Option Asked

@@ -2,9 +2,9 @@ use Rattle.std.proofs.Common.{◌≡◌, ap, refl, rules, Err}
 use Rattle.can_plan_text.specs.declared.field.PlanField.{PlanField}
 use Rattle.can_plan_text.specs.declared.worst_fault.WorstFault.{WorstFault}
 use Rattle.can_plan_text.specs.declared.worst_fault.WorstFault.TheVariants as worst
-use Rattle.canplan_commands.specs.declared.fault.CanplanFault.TheVariants.{Field, MessageUnknown, TimelineTooLong}
-use Rattle.canplan_commands.specs.Status.{worst_fault_of}
-use Rattle.canplan_commands.proofs.worst.write_timeline.Goals as goal
+use Rattle.can_plan_text.specs.declared.canplan_fault.CanplanFault.TheVariants.{Field, MessageUnknown, TimelineTooLong}
+use Rattle.can_plan_text.specs.Status.{worst_fault_of}
+use Rattle.can_plan_text.proofs.drawing.write_timeline.Goals as goal
 
 -- a fault that is told is the one that was found
 field-of : (fault : WorstFault) (wrong : PlanField) → worst_fault_of fault ≡ Field wrong → fault ≡ worst.Field wrong

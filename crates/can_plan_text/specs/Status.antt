@@ -6,8 +6,8 @@ use Rattle.can_program.specs.Status.{stream_status}
 use Rattle.can_stream.specs.declared.fault.TraceFault.TheVariants.{Memory}
 use Rattle.can_plan_text.specs.declared.worst_fault.WorstFault.{WorstFault}
 use Rattle.can_plan_text.specs.declared.worst_fault.WorstFault.TheVariants as worst
-use Rattle.canplan_commands.specs.declared.fault.CanplanFault.{CanplanFault}
-use Rattle.canplan_commands.specs.declared.fault.CanplanFault.TheVariants.{Field, MessageUnknown, TimelineTooLong, DeadlinesMissed, Stream}
+use Rattle.can_plan_text.specs.declared.canplan_fault.CanplanFault.{CanplanFault}
+use Rattle.can_plan_text.specs.declared.canplan_fault.CanplanFault.TheVariants.{Field, MessageUnknown, TimelineTooLong, DeadlinesMissed, Stream}
 
 -- 1: the document is refused, or the message that is named, or some message is not sure to meet its deadline. 3: a stream failed. 4: memory ran out.
 abbrev pub canplan_status : CanplanFault → ℕ

@@ -1,4 +1,0 @@
--- To believe: what public calls and laws promise is said in these words
-pub mod Words
-pub mod Status
-pub mod Runs
