@@ -2,8 +2,8 @@
 use Rattle.std.proofs.Common.{ℕ, ◌≡◌, List, Option, Some, None, refl, inl, inr}
 use Rattle.std.specs.Prelude.{option_map}
 use Rattle.toml.specs.Data.{Data}
-use Rattle.kit_cases.specs.declared.field.KitField.{KitField}
-use Rattle.kit_cases.specs.declared.field.KitField.TheVariants as field
+use Rattle.kit_documents.specs.declared.field.KitField.{KitField}
+use Rattle.kit_documents.specs.declared.field.KitField.TheVariants as field
 use Rattle.document_values.specs.Demands.{Demands, no_demands, demand, AllMet, IsFirstUnmet}
 use Rattle.document_values.specs.Values.{IsDocument}
 use Rattle.document_values.proofs.DemandLemmas.{unmet-first, unmet-later}

@@ -2,8 +2,8 @@
 use Rattle.std.proofs.Common.{◌≡◌, ℕ, ◌+◌, ◌≤◌, List, [], ◌∷◌, length, ap, sym, subst, arith}
 use Rattle.can_conform.specs.declared.judging.Verdict.{Verdict}
 use Rattle.can_conform.specs.declared.judging.Verdict.TheVariants.{Pass, Fail}
-use Rattle.kit_cases.specs.declared.case.Case.{Case}
-use Rattle.kit_transcripts.specs.declared.told.Told.{Told}
+use Rattle.kit_documents.specs.declared.cases.case.Case.{Case}
+use Rattle.kit_documents.specs.declared.transcripts.told.Told.{Told}
 use Rattle.canhold_commands.specs.declared.tally.Tally.{Tally}
 use Rattle.canhold_commands.specs.Counts.{cases_in}
 use Rattle.canhold_commands.specs.Judgements.{with_verdict, AddVerdicts, Lines}

@@ -3,16 +3,16 @@ use Rattle.std.proofs.Common.{◌≡◌, ℕ, ◌<◌, List, [], ◌∷◌, leng
 use Rattle.std.proofs.lemmas.List.Elements.{All-cons, All-nil}
 use Rattle.std.proofs.lemmas.List.Quantifiers.{position-Some}
 use Rattle.toml.specs.Data.{Data, table, no_members, same_key}
-use Rattle.kit_cases.specs.declared.field.KitField.{KitField}
+use Rattle.kit_documents.specs.declared.field.KitField.{KitField}
 use Rattle.document_values.specs.Demands.{Demands, followed, AllMet, IsFirstUnmet}
 use Rattle.document_values.specs.Values.{ArePaired, IsRequired}
 use Rattle.document_values.proofs.DemandLemmas.{met-followed, unmet-first, unmet-later}
 use Rattle.document_values.proofs.ReadLists.{length-paired}
-use Rattle.kit_cases.specs.declared.case.Case.{Case}
-use Rattle.kit_cases.specs.Cases.{cases_demands, case_name, SaysCase}
-use Rattle.kit_cases.specs.Words.{IsText}
-use Rattle.kit_transcripts.specs.declared.told.Told.{Told}
-use Rattle.kit_transcripts.specs.Transcripts.{place_where, transcripts_demands, SaysTranscript}
+use Rattle.kit_documents.specs.declared.cases.case.Case.{Case}
+use Rattle.kit_documents.specs.Cases.{cases_demands, case_name, SaysCase}
+use Rattle.kit_documents.specs.CaseWords.{IsText}
+use Rattle.kit_documents.specs.declared.transcripts.told.Told.{Told}
+use Rattle.kit_documents.specs.Transcripts.{place_where, transcripts_demands, SaysTranscript}
 use Rattle.canhold_commands.specs.Documents.{cases_of, document_demands, document_top_demands, transcripts_of}
 
 -- ---- what is demanded

@@ -6,8 +6,8 @@ use Rattle.std.proofs.lemmas.List.{append-nil, drop_all, get_or-replicate, get_o
 use Rattle.std.proofs.lemmas.List.Folds.{fold-map}
 use Rattle.std.proofs.lemmas.List.FromFn.{get_or-map-range_with_len, length-map-range_with_len}
 use Rattle.std.proofs.lemmas.List.Prefix.{front_from_reads}
-use Rattle.kit_cases.proofs.NamesBefore.{or_false}
-use Rattle.kit_transcripts.specs.declared.told.Told.{Told}
+use Rattle.kit_documents.proofs.NamesBefore.{or_false}
+use Rattle.kit_documents.specs.declared.transcripts.told.Told.{Told}
 use Rattle.canhold_commands.specs.Judgements.{has_one}
 use Rattle.canhold_commands.specs.Marks.{with_marks}
 

@@ -3,7 +3,7 @@ use Rattle.std.proofs.Common.{◌≡◌, ℕ, List, [], ◌∷◌, map, refl}
 use Rattle.std.specs.Prelude.{count_by, not}
 use Rattle.std.specs.List.{range_with_len}
 use Rattle.can_conform.specs.declared.transcript.Transcript.{Transcript}
-use Rattle.kit_transcripts.specs.declared.told.Told.{Told}
+use Rattle.kit_documents.specs.declared.transcripts.told.Told.{Told}
 use Rattle.canhold_commands.specs.Judgements.{has_one}
 
 -- this transcript for the case at each of these places

@@ -9,7 +9,7 @@ use Rattle.can_conform.specs.Runs.{met, started, told_of, wished}
 use Rattle.can_frame.specs.Levels.{digit_of}
 use Rattle.can_fault.specs.Words.{state_word}
 use Rattle.can_stream.specs.Lines.{line_end}
-use Rattle.kit_words.specs.Words.{event_text}
+use Rattle.kit_documents.specs.Events.{event_text}
 use Rattle.canhold_commands.specs.Commands.{Command, begins, offers, wishes, plays, ends, IsCommandLine, quit_line}
 
 -- ---- bit times one behind another

@@ -8,7 +8,7 @@ use Rattle.canhold_commands.specs.Expectations.{cases_alone_demands, IsExpected}
 use Rattle.canhold_commands.specs.Judgements.{IsJudged}
 use Rattle.can_program.specs.Written.{WritesBeginning, WritesNothing}
 use Rattle.can_stream.specs.declared.fault.TraceFault.TheVariants.{Read, Write, Memory}
-use Rattle.kit_cases.specs.declared.field.KitField.{KitField}
+use Rattle.kit_documents.specs.declared.field.KitField.{KitField}
 use Rattle.document_values.specs.Demands.{Demands}
 use Rattle.canhold_commands.specs.declared.tally.Tally.{Tally}
 use Rattle.canhold_commands.specs.Counts.{cases_in}

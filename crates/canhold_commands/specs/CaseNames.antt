@@ -2,10 +2,10 @@
 use Rattle.std.specs.Prelude.{ℕ, ◌≡◌, codes, List, Some}
 use Rattle.std.specs.List.{slice_get}
 use Rattle.toml.specs.Data.{Data, string}
-use Rattle.kit_cases.specs.declared.field.KitField.{KitField}
-use Rattle.kit_cases.specs.declared.field.KitField.TheVariants.{Case, Transcript}
+use Rattle.kit_documents.specs.declared.field.KitField.{KitField}
+use Rattle.kit_documents.specs.declared.field.KitField.TheVariants.{Case, Transcript}
 use Rattle.document_values.specs.Values.{elements_in, named, IsDocument}
-use Rattle.kit_words.specs.Names.{longest_name, IsKitName}
+use Rattle.kit_documents.specs.Names.{longest_name, IsKitName}
 
 -- a field of the table of this number in a list of the document is this name
 pub record NamesTable (list : List ℕ) (number : ℕ) (part : List ℕ) (d : Data) (name : List ℕ) : Type 0 where

@@ -6,7 +6,7 @@ use Rattle.can_conform.specs.declared.script.Start.{Start}
 use Rattle.can_conform.specs.declared.script.Start.TheVariants.{Idle, Joining}
 use Rattle.can_conform.specs.declared.script.TesterLevel.{TesterLevel}
 use Rattle.can_conform.specs.declared.script.TesterLevel.TheVariants.{Dominant, Recessive, Forced}
-use Rattle.kit_words.specs.Names.{longest_name}
+use Rattle.kit_documents.specs.Names.{longest_name}
 
 -- a case begins; a frame is offered; overload frames are asked for; bit times are played; the case ends
 pub data Command : Type 0 where

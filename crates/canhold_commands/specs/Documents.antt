@@ -2,14 +2,14 @@
 -- (docs/CONFORMANCE.md, "Documents")
 use Rattle.std.specs.Prelude.{ℕ, ◌≡◌, true, codes, List, [], ◌∷◌}
 use Rattle.toml.specs.Data.{Data}
-use Rattle.kit_cases.specs.declared.field.KitField.{KitField}
-use Rattle.kit_cases.specs.declared.field.KitField.TheVariants as field
+use Rattle.kit_documents.specs.declared.field.KitField.{KitField}
+use Rattle.kit_documents.specs.declared.field.KitField.TheVariants as field
 use Rattle.document_values.specs.Demands.{Demands, no_demands, demand, followed, AllMet}
 use Rattle.document_values.specs.Refusals.{IsWrongField}
 use Rattle.document_values.specs.Values.{are_known, elements_in, members_in, named, ArePaired, IsDocument, IsOptional}
-use Rattle.kit_cases.specs.Cases.{cases_demands, SaysCase}
-use Rattle.kit_cases.specs.Lists.{IsArrayOf}
-use Rattle.kit_transcripts.specs.Transcripts.{transcripts_demands, SaysTranscript}
+use Rattle.kit_documents.specs.Cases.{cases_demands, SaysCase}
+use Rattle.kit_documents.specs.Lists.{IsArrayOf}
+use Rattle.kit_documents.specs.Transcripts.{transcripts_demands, SaysTranscript}
 use Rattle.canhold_commands.specs.declared.document.Document.{Document}
 
 -- ---- what is demanded

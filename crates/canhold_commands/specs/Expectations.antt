@@ -5,11 +5,11 @@ use Rattle.std.specs.String.{string_bytes}
 use Rattle.toml.specs.Data.{Data}
 use Rattle.can_conform.specs.declared.transcript.Transcript.{Transcript}
 use Rattle.can_conform.specs.Transcripts.{IsTranscript}
-use Rattle.kit_cases.specs.declared.field.KitField.{KitField}
-use Rattle.kit_cases.specs.declared.field.KitField.TheVariants as field
+use Rattle.kit_documents.specs.declared.field.KitField.{KitField}
+use Rattle.kit_documents.specs.declared.field.KitField.TheVariants as field
 use Rattle.document_values.specs.Demands.{Demands, no_demands, demand, followed}
 use Rattle.document_values.specs.Values.{named, IsDocument}
-use Rattle.kit_cases.specs.declared.case.Case.{Case}
+use Rattle.kit_documents.specs.declared.cases.case.Case.{Case}
 use Rattle.canhold_commands.specs.Transcripts.{transcript_text}
 use Rattle.canhold_commands.specs.declared.document.Document.{Document}
 use Rattle.canhold_commands.specs.Documents.{document_demands, SaysDocument}

@@ -6,8 +6,8 @@ use Rattle.std.specs.String.{string_bytes}
 use Rattle.can_conform.specs.declared.judging.Verdict.{Verdict}
 use Rattle.can_conform.specs.declared.judging.Verdict.TheVariants.{Pass, Fail}
 use Rattle.can_conform.specs.Verdicts.{IsVerdict}
-use Rattle.kit_cases.specs.declared.case.Case.{Case}
-use Rattle.kit_transcripts.specs.declared.told.Told.{Told}
+use Rattle.kit_documents.specs.declared.cases.case.Case.{Case}
+use Rattle.kit_documents.specs.declared.transcripts.told.Told.{Told}
 use Rattle.canhold_commands.specs.declared.tally.Tally.{Tally}
 use Rattle.canhold_commands.specs.Counts.{cases_in, count_line}
 use Rattle.canhold_commands.specs.Verdicts.{verdict_line}

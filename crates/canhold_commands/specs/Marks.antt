@@ -1,6 +1,6 @@
 -- The cases that have a transcript, marked one after another.
 use Rattle.std.specs.Prelude.{Bool, true, List, [], ◌∷◌, set}
-use Rattle.kit_transcripts.specs.declared.told.Told.{Told}
+use Rattle.kit_documents.specs.declared.transcripts.told.Told.{Told}
 
 -- the marks, with those at the places of these transcripts' cases
 abbrev pub with_marks : List Told → List Bool → List Bool

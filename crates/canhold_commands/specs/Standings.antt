@@ -9,7 +9,7 @@ use Rattle.can_conform.specs.declared.standing.Part.TheVariants as part
 use Rattle.can_conform.specs.declared.standing.Rule.{Rule}
 use Rattle.can_conform.specs.declared.standing.Rule.TheVariants as rule
 use Rattle.can_conform.specs.declared.standing.Standing.{Standing}
-use Rattle.kit_words.specs.Words.{event_text}
+use Rattle.kit_documents.specs.Events.{event_text}
 
 -- a phase, and how much of it has come
 abbrev pub phase_text : PhaseName → List ℕ

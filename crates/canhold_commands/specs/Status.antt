@@ -1,7 +1,7 @@
 -- What the exit status of `canhold` says. (docs/CODES.md)
 use Rattle.std.specs.Prelude.{ℕ}
-use Rattle.kit_cases.specs.declared.fault.KitFault.{KitFault}
-use Rattle.kit_cases.specs.declared.fault.KitFault.TheVariants as kit
+use Rattle.kit_documents.specs.declared.fault.KitFault.{KitFault}
+use Rattle.kit_documents.specs.declared.fault.KitFault.TheVariants as kit
 use Rattle.can_program.specs.Status.{stream_status}
 use Rattle.can_stream.specs.declared.fault.TraceFault.TheVariants.{Memory}
 use Rattle.canhold_commands.specs.declared.fault.CanholdFault.{CanholdFault}

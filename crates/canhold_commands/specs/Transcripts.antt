@@ -6,9 +6,9 @@ use Rattle.can_conform.specs.declared.timed.Timed.{Timed}
 use Rattle.can_conform.specs.declared.transcript.Counters.{Counters}
 use Rattle.can_conform.specs.declared.transcript.Ending.{Ending}
 use Rattle.can_conform.specs.declared.transcript.Transcript.{Transcript}
-use Rattle.kit_words.specs.LevelTokens.{levels_text}
+use Rattle.kit_documents.specs.LevelTokens.{levels_text}
 use Rattle.can_fault.specs.Words.{state_word}
-use Rattle.kit_words.specs.Words.{event_text}
+use Rattle.kit_documents.specs.Events.{event_text}
 
 -- what is left out has no text
 abbrev pub where_told : {A : Type 0} → (A → List ℕ) → Option A → List ℕ

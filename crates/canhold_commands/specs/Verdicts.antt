@@ -10,10 +10,10 @@ use Rattle.can_conform.specs.declared.judging.Verdict.TheVariants.{Pass, Fail}
 use Rattle.can_conform.specs.declared.transcript.Counters.{Counters}
 use Rattle.can_conform.specs.declared.transcript.Ending.{Ending}
 use Rattle.can_frame.specs.Levels.{digit_of}
-use Rattle.kit_cases.specs.declared.words.Choice.{Choice}
-use Rattle.kit_cases.specs.Words.{choice_word}
+use Rattle.kit_documents.specs.declared.cases.words.Choice.{Choice}
+use Rattle.kit_documents.specs.CaseWords.{choice_word}
 use Rattle.can_fault.specs.Words.{state_word}
-use Rattle.kit_words.specs.Words.{event_text}
+use Rattle.kit_documents.specs.Events.{event_text}
 use Rattle.canhold_commands.specs.Standings.{standing_text}
 
 -- ---- what is told, and what ought to be

@@ -9,7 +9,8 @@ use can_conform::{Start, meet, started_node};
 use can_frame::Frame;
 use can_mac::Event;
 use can_node::{PackedNode, Port};
-use kit_words::{push_event, push_number, push_state, push_text};
+use document_values::{push_number, push_text};
+use kit_documents::{push_event, push_state};
 use std::alloc::{AllocError, Global};
 
 /// What answers a line that wants a case where none has begun.

@@ -1,7 +1,7 @@
 //! Answering the kit document that a reader tells.
 ghost use Rattle.std.specs.Prelude.{◌≡◌, ◌⊎◌, ◌↔◌, false, IfErr, IfOk, IsErrOf, IsTrue};
 ghost use Rattle.can_stream.specs.Told.{Told};
-ghost use Rattle.kit_cases.specs.declared.field.KitField.{KitField};
+ghost use Rattle.kit_documents.specs.declared.field.KitField.{KitField};
 ghost use Rattle.canhold_commands.specs.Documents.{IsWrongKitField};
 ghost use Rattle.can_program.specs.Written.{WritesBeginning, WritesNothing};
 ghost use Rattle.canhold_commands.specs.Answers.{demands_of, finding_of, Answers, AnswersSo, IsKitFault, RefusesDocument};
@@ -13,7 +13,7 @@ use crate::naming::case_of;
 use crate::tally::Tally;
 use crate::words::Question;
 use can_stream::{Sink, Source, TraceFault, read_whole, write_all};
-use kit_cases::KitFault;
+use kit_documents::KitFault;
 use std::alloc::Global;
 
 /// What was found in a document.

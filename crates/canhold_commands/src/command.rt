@@ -8,7 +8,7 @@ ghost use Rattle.canhold_commands.specs.Commands.{is_tester_digit, start_part, t
 
 use can_conform::{Start, TesterLevel};
 use can_frame::Frame;
-use kit_words::LONGEST_NAME;
+use kit_documents::LONGEST_NAME;
 
 /// How many bit times a line plays at most.
 pub(crate) const MOST_LEVELS: usize = 4096;

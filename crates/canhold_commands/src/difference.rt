@@ -5,7 +5,8 @@ ghost use Rattle.canhold_commands.specs.Verdicts.{counters_text, difference_text
 use can_conform::{Counters, Difference, Ending};
 use can_frame::Level;
 use can_mac::Event;
-use kit_words::{push_event, push_number, push_state, push_text};
+use document_values::{push_number, push_text};
+use kit_documents::{push_event, push_state};
 use std::alloc::AllocError;
 
 /// What stands between what is told and what ought to be.

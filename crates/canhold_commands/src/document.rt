@@ -3,17 +3,16 @@ ghost use Rattle.std.specs.Prelude.{◌≡◌, ◌≤◌, ◌<◌, All, length, 
 ghost use Rattle.toml.specs.Data.{table};
 ghost use Rattle.toml.specs.View.{table_view, view};
 ghost use Rattle.can_conform.specs.Transcripts.{IsTold};
-ghost use Rattle.kit_cases.specs.declared.field.KitField.{KitField as Wrong};
+ghost use Rattle.kit_documents.specs.declared.field.KitField.{KitField as Wrong};
 ghost use Rattle.document_values.specs.Demands.{AllMet, IsFirstUnmet};
 ghost use Rattle.document_values.specs.Refusals.{IsNoDocument};
 ghost use Rattle.document_values.specs.Values.{elements_in, named, IsDocument, IsOptional};
-ghost use Rattle.kit_cases.specs.Cases.{longest_case};
-ghost use Rattle.kit_cases.specs.Lists.{IsArrayOf};
+ghost use Rattle.kit_documents.specs.Cases.{longest_case};
+ghost use Rattle.kit_documents.specs.Lists.{IsArrayOf};
 ghost use Rattle.canhold_commands.specs.Documents.{cases_of, document_demands, document_top_demands, transcripts_of, IsKitText, IsWrongKitField, SaysDocument};
 
 use document_values::{DocumentFault, elements_or_none, has_only, read_document};
-use kit_cases::{Case, KitFault, KitField, read_cases};
-use kit_transcripts::{Told, read_transcripts};
+use kit_documents::{Case, KitFault, KitField, Told, read_cases, read_transcripts};
 use std::alloc::Global;
 use toml::{Table, Value};
 

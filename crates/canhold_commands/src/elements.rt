@@ -5,7 +5,8 @@ ghost use Rattle.canhold_commands.specs.Transcripts.{counters_element, element_l
 use crate::transcript::push_counters;
 use can_conform::{Counters, Timed};
 use can_mac::Event;
-use kit_words::{push_event, push_number, push_text};
+use document_values::{push_number, push_text};
+use kit_documents::push_event;
 use std::alloc::AllocError;
 
 /// What stands in a list.

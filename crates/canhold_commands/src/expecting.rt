@@ -1,7 +1,7 @@
 //! A document with the transcripts of the reference behind it.
 ghost use Rattle.std.specs.Prelude.{◌≤◌, All, length, IfOk, IsErrOf, OnOk};
-ghost use Rattle.kit_cases.specs.declared.field.KitField.{KitField as Wrong};
-ghost use Rattle.kit_cases.specs.Cases.{longest_case};
+ghost use Rattle.kit_documents.specs.declared.field.KitField.{KitField as Wrong};
+ghost use Rattle.kit_documents.specs.Cases.{longest_case};
 ghost use Rattle.canhold_commands.specs.Documents.{IsWrongKitField};
 ghost use Rattle.canhold_commands.specs.Expectations.{cases_alone_demands, AddTables, IsCasesText, IsExpected};
 
@@ -9,7 +9,7 @@ use crate::document::{Document, read_fields, read_tables};
 use crate::transcript::push_transcript;
 use can_conform::expect;
 use document_values::field;
-use kit_cases::{Case, KitFault, KitField};
+use kit_documents::{Case, KitFault, KitField};
 use std::alloc::{AllocError, Global};
 
 /// The kit document that the bytes are, and behind it a table for each of its cases: the transcript of the

@@ -5,7 +5,7 @@ ghost use Rattle.canhold_commands.specs.declared.fault.CanholdFault.TheVariants.
 
 use can_program::RunFault;
 use can_stream::TraceFault;
-use kit_cases::{KitFault, KitField};
+use kit_documents::{KitFault, KitField};
 use thiserror::Error;
 
 /// Why a subcommand did not do all that it was asked.

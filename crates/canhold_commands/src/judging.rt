@@ -3,8 +3,8 @@ ghost use Rattle.std.specs.Prelude.{◌≡◌, ◌≤◌, ◌<◌, ◌+◌, ◌+
 ghost use Rattle.std.specs.String.{string_bytes};
 ghost use Rattle.canhold_commands.specs.Verdicts.{verdict_line};
 ghost use Rattle.can_conform.specs.Transcripts.{IsTold};
-ghost use Rattle.kit_cases.specs.declared.field.KitField.{KitField as Wrong};
-ghost use Rattle.kit_cases.specs.Cases.{longest_case};
+ghost use Rattle.kit_documents.specs.declared.field.KitField.{KitField as Wrong};
+ghost use Rattle.kit_documents.specs.Cases.{longest_case};
 ghost use Rattle.canhold_commands.specs.Documents.{document_demands, IsWrongKitField};
 ghost use Rattle.canhold_commands.specs.Marks.{with_marks};
 ghost use Rattle.canhold_commands.specs.Judgements.{cases_without as without_in, with_verdict, lines_with, no_cases, AddVerdicts, AddsVerdict, TellsVerdicts, IsJudged};
@@ -13,8 +13,7 @@ use crate::document::Document;
 use crate::tally::{Tally, push_count};
 use crate::verdict::push_verdict;
 use can_conform::{Verdict, judge};
-use kit_cases::{Case, KitFault};
-use kit_transcripts::Told;
+use kit_documents::{Case, KitFault, Told};
 use std::alloc::{AllocError, Global};
 
 /// What is said of the transcripts of a document.

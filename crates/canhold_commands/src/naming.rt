@@ -7,8 +7,7 @@ ghost use Rattle.canhold_commands.specs.CaseNames.{IsCaseIn, IsOfCase, NamesTabl
 
 use crate::document::read_fields;
 use document_values::{elements_or_none, field, fields_of};
-use kit_cases::{KitField, text_of};
-use kit_words::{LONGEST_NAME, is_name};
+use kit_documents::{KitField, LONGEST_NAME, is_name, text_of};
 use std::alloc::Global;
 use toml::Table;
 

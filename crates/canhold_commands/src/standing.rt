@@ -4,7 +4,8 @@ ghost use Rattle.canhold_commands.specs.Standings.{part_word as word_of_part, ph
 
 use can_conform::{Part, PhaseName, Rule, Standing, Timed};
 use can_mac::Event;
-use kit_words::{push_event, push_number, push_text};
+use document_values::{push_number, push_text};
+use kit_documents::push_event;
 use std::alloc::AllocError;
 
 /// Appends phase, part, rule and last event.

@@ -2,7 +2,7 @@
 ghost use Rattle.std.specs.Prelude.{◌≡◌, ◌++◌, decimal, OnOk};
 ghost use Rattle.canhold_commands.specs.Counts.{cases_in, count_line, verdicts_text, without_text};
 
-use kit_words::{push_number, push_text};
+use document_values::{push_number, push_text};
 use std::alloc::AllocError;
 
 /// How many cases of a run have which verdict.

@@ -5,7 +5,8 @@ ghost use Rattle.canhold_commands.specs.Transcripts.{counters_elements, drove_li
 use crate::elements::push_list;
 use can_conform::{Counters, Ending, Transcript};
 use can_frame::Level;
-use kit_words::{push_levels, push_number, push_state, push_text};
+use document_values::{push_number, push_text};
+use kit_documents::{push_levels, push_state};
 use std::alloc::AllocError;
 
 /// Appends the table of a transcript, for the case of this name. The levels stand in one string; events, counters and

@@ -5,8 +5,8 @@ ghost use Rattle.canhold_commands.specs.Verdicts.{choices_text, failure_text, ve
 use crate::difference::push_difference;
 use crate::standing::push_standing;
 use can_conform::{Failure, Verdict};
-use kit_cases::Choice;
-use kit_words::{push_number, push_text};
+use document_values::{push_number, push_text};
+use kit_documents::Choice;
 use std::alloc::AllocError;
 
 /// Appends what is said of the case of this name, which rests on these choices: `pass NAME`, or

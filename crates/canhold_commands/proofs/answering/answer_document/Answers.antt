@@ -1,7 +1,7 @@
 use Rattle.std.proofs.Common.{◌≡◌, ap, rules, Err}
-use Rattle.kit_cases.specs.declared.field.KitField.{KitField}
-use Rattle.kit_cases.specs.declared.fault.KitFault.{KitFault}
-use Rattle.kit_cases.specs.declared.fault.KitFault.TheVariants as kit
+use Rattle.kit_documents.specs.declared.field.KitField.{KitField}
+use Rattle.kit_documents.specs.declared.fault.KitFault.{KitFault}
+use Rattle.kit_documents.specs.declared.fault.KitFault.TheVariants as kit
 use Rattle.canhold_commands.specs.declared.fault.CanholdFault.TheVariants.{Field}
 use Rattle.canhold_commands.specs.Status.{kit_fault_of}
 use Rattle.canhold_commands.proofs.answering.answer_document.Goals as goal

@@ -4,8 +4,8 @@ use Rattle.toml.specs.Data.{Data, table}
 use Rattle.toml.specs.View.{table_view, view}
 use Rattle.document_values.specs.Demands.{AllMet, IsFirstUnmet}
 use Rattle.document_values.specs.Values.{ArePaired}
-use Rattle.kit_cases.specs.Cases.{cases_demands, SaysCase}
-use Rattle.kit_transcripts.specs.Transcripts.{transcripts_demands, SaysTranscript}
+use Rattle.kit_documents.specs.Cases.{cases_demands, SaysCase}
+use Rattle.kit_documents.specs.Transcripts.{transcripts_demands, SaysTranscript}
 use Rattle.canhold_commands.specs.Documents.{cases_of}
 use Rattle.document_values.proofs.ReadLists.{length-paired}
 use Rattle.canhold_commands.proofs.DocumentParts.{cases-known, cases-unmet, document-met, transcripts-unmet}

@@ -1,6 +1,6 @@
 use Rattle.std.proofs.Common.{◌≡◌, ◌+◌, List, ◌∷◌, drop, ap, subst, sym, ◌∙◌, rules}
 use Rattle.std.proofs.lemmas.List.{drop_more}
-use Rattle.kit_cases.specs.declared.case.Case.{Case}
+use Rattle.kit_documents.specs.declared.cases.case.Case.{Case}
 use Rattle.canhold_commands.specs.Expectations.{AddTables, AddsTable}
 use Rattle.canhold_commands.proofs.expecting.push_tables.Goals as goal
 

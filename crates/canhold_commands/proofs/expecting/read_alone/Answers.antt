@@ -1,8 +1,8 @@
 use Rattle.std.proofs.Common.{◌≡◌, subst, rules}
 use Rattle.toml.specs.Data.{table}
 use Rattle.toml.specs.View.{table_view}
-use Rattle.kit_cases.specs.declared.field.KitField.{KitField}
-use Rattle.kit_cases.specs.declared.field.KitField.TheVariants as field
+use Rattle.kit_documents.specs.declared.field.KitField.{KitField}
+use Rattle.kit_documents.specs.declared.field.KitField.TheVariants as field
 use Rattle.document_values.specs.Demands.{IsFirstUnmet}
 use Rattle.canhold_commands.specs.Documents.{document_demands, IsWrongKitField}
 use Rattle.canhold_commands.specs.Expectations.{cases_alone_demands, HasCasesAlone}

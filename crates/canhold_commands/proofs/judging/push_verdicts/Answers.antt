@@ -3,7 +3,7 @@ use Rattle.std.specs.List.{slice_get}
 use Rattle.std.proofs.lemmas.List.{drop_more}
 use Rattle.std.proofs.lemmas.List.Elements.{All-get_or}
 use Rattle.std.proofs.lemmas.Option.{slice_get_read}
-use Rattle.kit_transcripts.specs.declared.told.Told.{Told}
+use Rattle.kit_documents.specs.declared.transcripts.told.Told.{Told}
 use Rattle.canhold_commands.specs.Judgements.{lines_with, AddVerdicts}
 use Rattle.canhold_commands.proofs.CountedVerdicts.{counted-within}
 use Rattle.canhold_commands.proofs.judging.push_verdicts.Goals as goal

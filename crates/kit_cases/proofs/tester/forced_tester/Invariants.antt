@@ -1,6 +1,0 @@
-use Rattle.std.proofs.Common.{◌≡◌, map, take}
-use Rattle.kit_cases.specs.Cases.{tester_level}
-use Rattle.kit_cases.proofs.tester.forced_tester.Given as goal
-
-abbrev pub invariant-loop-level : goal.invariant-loop-level
-invariant-loop-level l = l.does.items ≡ map tester_level (take l.level-index l.levels)

@@ -1,0 +1,60 @@
+//! Documents of the conformance kit, read: cases, what each has to be, and transcripts; and the words of documents and of
+//! the line protocol. (docs/CONFORMANCE.md, "Documents")
+//!
+//! [`read_cases`] reads all tables of `case`, each behind those before, [`read_transcripts`] all of `transcript`. A
+//! transcript is of one of the document's cases, which are handed over as values. Whatever isn't as it has to be is
+//! refused by the first field that isn't: `transcript[3].events[1]`.
+//!
+//! | File | What it has | Defined in |
+//! |---|---|---|
+//! | `words/events.rt` | [`read_event`], [`read_state`] | `specs/Events.antt`, can_fault's `specs/Words.antt` |
+//! | `words/event_texts.rt` | [`push_event`], [`push_state`] | `specs/Events.antt`, can_fault's `specs/Words.antt` |
+//! | `words/levels.rt` | [`push_levels`], levels as tokens | `specs/LevelTokens.antt` |
+//! | `words/reading.rt` | [`read_levels`], the levels that tokens say | `specs/LevelTexts.antt` |
+//! | `words/names.rt` | [`is_name`], [`LONGEST_NAME`] | `specs/Names.antt` |
+//! | `tables.rt` | [`text_of`], [`is_of_version_one`]: what the tables of cases and of transcripts have alike | `specs/CaseWords.antt`, `specs/Lists.antt` |
+//! | `strings.rt` | [`read_strings`], levels in strings | `specs/Lists.antt` |
+//! | `elements.rt` | [`read_elements`] over the trait [`Element`]: what comes at its time | `specs/Lists.antt` |
+//! | `cases/words.rt` | [`Needs`], [`Choice`], and the words of a case's table | `specs/CaseWords.antt` |
+//! | `cases/earlier.rt` | the cases before one, and their names in order | `specs/NameSets.antt` |
+//! | `cases/naming.rt` | the name of a case | `specs/Cases.antt` |
+//! | `cases/head.rt` | how a case starts, what it needs, and how long it is | `specs/Cases.antt` |
+//! | `cases/tester.rt` | what the tester does: its levels, and forced bit times | `specs/Cases.antt` |
+//! | `cases/lists.rt` | the lists of a case | `specs/Lists.antt` |
+//! | `cases/timed.rt` | what comes at its time: offers, wishes and forced bit times | `specs/Cases.antt` |
+//! | `cases/case.rt` | [`Case`], [`read_case`], and [`read_cases`], all cases of a list | `specs/Cases.antt` |
+//! | `transcripts/naming.rt` | which case a transcript is of | `specs/Transcripts.antt` |
+//! | `transcripts/known.rt` | the cases that no transcript is of yet | `specs/Untold.antt` |
+//! | `transcripts/drove.rt` | the levels that were driven | `specs/Transcripts.antt` |
+//! | `transcripts/lists.rt` | the lists of a transcript, whose times rise | `specs/Elements.antt` |
+//! | `transcripts/elements.rt` | events, counters and the end | `specs/Elements.antt` |
+//! | `transcripts/told.rt` | [`Told`], [`read_transcript`], [`read_transcripts`] | `specs/Transcripts.antt` |
+//! | `laws.rt` | [`one_case`], [`one_told`]: a table says at most one case, or one transcript | `specs/Cases.antt`, `specs/Transcripts.antt` |
+//! | `fault.rt` | [`KitFault`], why a document is not read | |
+//! | `field.rt` | [`KitField`], what is wrong in one | |
+#![tactic(auto)]
+
+mod cases;
+mod elements;
+mod fault;
+mod field;
+mod laws;
+mod strings;
+mod tables;
+mod transcripts;
+mod words;
+
+pub use cases::case::{Case, read_case, read_cases};
+pub use cases::words::{Choice, Needs};
+pub use elements::{Element, ElementFault, read_elements};
+pub use fault::KitFault;
+pub use field::{CaseField, KitField, TranscriptField};
+pub use laws::{one_case, one_told};
+pub use strings::read_strings;
+pub use tables::{is_of_version_one, text_of};
+pub use transcripts::told::{Told, read_transcript, read_transcripts};
+pub use words::event_texts::{push_event, push_state};
+pub use words::events::{read_event, read_state};
+pub use words::levels::push_levels;
+pub use words::names::{LONGEST_NAME, is_name};
+pub use words::reading::read_levels;

@@ -1,0 +1,7 @@
+//! The words of documents and of the line protocol: levels, events, states and names, as text and read.
+
+pub(crate) mod event_texts;
+pub(crate) mod events;
+pub(crate) mod levels;
+pub(crate) mod names;
+pub(crate) mod reading;

@@ -1,7 +1,0 @@
-use Rattle.std.proofs.Common.{map, take}
-use Rattle.toml.specs.View.{view}
-use Rattle.kit_transcripts.specs.Untold.{HasUntold}
-use Rattle.kit_transcripts.proofs.known.untold_of.Given as goal
-
-abbrev pub invariant-loop-transcript : goal.invariant-loop-transcript
-invariant-loop-transcript l = HasUntold l.places (map view l.cases) (map view (take l.transcript-index l.earlier))

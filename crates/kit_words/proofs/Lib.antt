@@ -1,4 +1,0 @@
-pub mod ReadPieces
-pub mod ReadTexts
-pub mod EventTexts
-pub mod OneEvent

@@ -1,5 +1,0 @@
-use Rattle.kit_words.proofs.ReadPieces.{AreRead}
-use Rattle.kit_words.proofs.reading.read_digits.Given as goal
-
-abbrev pub invariant-loop-digit : goal.invariant-loop-digit
-invariant-loop-digit l = AreRead l.digits l.digit-index l.most l.fn.levels.items l.levels.items

@@ -1,5 +1,0 @@
--- To believe: what public calls and laws promise is said in these words
-pub mod Words
-pub mod Names
-pub mod LevelTokens
-pub mod LevelTexts
