@@ -42,13 +42,13 @@ use Rattle.std_alloc.proofs.boxed.Box.from_raw.Symbol as symbol
 use Rattle.std_heap.specs.contracts.Global as heap
 use Rattle.std_heap.specs.contracts.GlobalAllocator.TheImpl.{ghosts, dict}
 use Rattle.std_heap.proofs.GlobalAllocator.TheImpl.Met.{passed}
-use Rattle.can_c_handle.proofs.Destruct++none.drop.Code.{code as none}
-use Rattle.can_c_handle.proofs.PortBox.{Port, Heap, port_lawful, heap_lawful, heap_drop, PortBox, BoxedPort}
-use Rattle.can_c_handle.proofs.BoxCalls.{FromRaw, from_with, from_takes, from_gives}
-use Rattle.can_c_handle.proofs.HandleValues.{Handle, word, held, handle_out}
-use Rattle.can_c_handle.specs.contracts.handle.Handle.into_box as f
-use Rattle.can_c_handle.proofs.handle.Handle.into_box.Statement.{statement}
-use Rattle.can_c_handle.proofs.handle.Handle.into_box.Code as code
+use Rattle.can_c.proofs.Destruct++none.drop.Code.{code as none}
+use Rattle.can_c.proofs.PortBox.{Port, Heap, port_lawful, heap_lawful, heap_drop, PortBox, BoxedPort}
+use Rattle.can_c.proofs.BoxCalls.{FromRaw, from_with, from_takes, from_gives}
+use Rattle.can_c.proofs.HandleValues.{Handle, word, held, handle_out}
+use Rattle.can_c.specs.contracts.handle.Handle.into_box as f
+use Rattle.can_c.proofs.handle.Handle.into_box.Statement.{statement}
+use Rattle.can_c.proofs.handle.Handle.into_box.Code as code
 
 abbrev stayed : Stays f.ended.signature.params f.ended.kept
 stayed = (stay_dropped (plain (λ _. Handle)) yes, (stay_dropped (plain (λ _. heap.the_row)) yes, tt))
@@ -138,7 +138,7 @@ into_box_spec {M = M} 𝓤 𝓛 𝓜 𝓡 wired =
     let called =
     met 𝓤 𝓛 𝓜 𝓡 (code.calls-std_alloc::boxed::Box::from_raw 𝓡.env wired) Port Heap port_lawful heap_lawful ghosts dict heap_drop
     (passed 𝓡.env (code.calls-std_heap::GlobalAllocator::allocate 𝓡.env wired) (code.calls-std_heap::GlobalAllocator::deallocate 𝓡.env wired) (code.calls-std_heap::GlobalAllocator::grow 𝓡.env wired) (code.calls-std_heap::GlobalAllocator::shrink 𝓡.env wired) M 𝓤 𝓛 𝓜 𝓡)
-    (glues "can_c_handle::Destruct++none::drop" 𝓡.env (code.calls-can_c_handle::Destruct++none::drop 𝓡.env wired) Heap heap_lawful M 𝓤 𝓛 𝓜 𝓡) in
+    (glues "can_c::Destruct++none::drop" 𝓡.env (code.calls-can_c::Destruct++none::drop 𝓡.env wired) Heap heap_lawful M 𝓤 𝓛 𝓜 𝓡) in
     proved_at 𝓛 f.ended stayed c 𝓜 𝓡 (Goes-dropped 𝓛 0 (plain (λ _. Handle)) yes (λ κs x w. refl), (Goes-dropped 𝓛 0 (plain (λ _. heap.the_row)) yes (λ κs x w. refl), tt))
     f.Key.name code.function (code.unfolded 𝓤 𝓛.H 𝓜 𝓡 wired) (λ z are.
     walk 𝓛 𝓜.mem 𝓡.returns 𝓣 called z.0.3.1.0 z.0.4.0 z.0.4.1.0 z.0.3.0.at z.0.3.0.live z.0.3.0.held)

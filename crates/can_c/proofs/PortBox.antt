@@ -11,8 +11,8 @@ use Rattle.std_alloc.specs.contracts.boxed.Box as boxed
 use Rattle.std_heap.specs.contracts.Global as heap
 use Rattle.std_heap.specs.contracts.GlobalAllocator.TheImpl.{ghosts, dict}
 use Rattle.std_heap.proofs.Global.TheLaws as heap_laws
-use Rattle.can_c_handle.specs.contracts.controller.Controller as port
-use Rattle.can_c_handle.proofs.controller.Controller.TheLaws as port_laws
+use Rattle.can_c.specs.contracts.controller.Controller as port
+use Rattle.can_c.proofs.controller.Controller.TheLaws as port_laws
 
 -- the two types, as arguments of a generic call
 abbrev pub Port : RattleType
@@ -29,10 +29,10 @@ heap_lawful = arg_laws (bare (layout heap.the_row)) no heap.the_row heap_laws.th
 
 -- their drops: a port's is derived, and the heap's handle has nothing to drop
 abbrev pub port_drop : Dict
-port_drop = impl ("can_c_handle::can_c_handle++controller++Controller+Destruct::drop" ∷ []) tnil dnil
+port_drop = impl ("can_c::can_c++controller++Controller+Destruct::drop" ∷ []) tnil dnil
 
 abbrev pub heap_drop : Dict
-heap_drop = impl ("can_c_handle::Destruct++none::drop" ∷ []) (tcons (layout Heap) tnil) dnil
+heap_drop = impl ("can_c::Destruct++none::drop" ∷ []) (tcons (layout Heap) tnil) dnil
 
 -- the box
 abbrev pub PortBox : Bx

@@ -28,15 +28,15 @@ use Rattle.std_alloc.proofs.ResultValues.{and_tt}
 use Rattle.std_alloc.proofs.boxed.Box.into_raw.Met.{met}
 use Rattle.std_heap.specs.contracts.GlobalAllocator.TheImpl.{ghosts, dict}
 use Rattle.std_heap.proofs.GlobalAllocator.TheImpl.Met.{passed}
-use Rattle.can_c_handle.specs.Owned.{handle_owns}
-use Rattle.can_c_handle.proofs.Destruct++none.drop.Code.{code as none}
-use Rattle.can_c_handle.proofs.PortBox.{Port, Heap, port_lawful, heap_lawful, port_drop, heap_drop, PortBox, BoxedPort}
-use Rattle.can_c_handle.proofs.BoxCalls.{IntoRaw, into_with, into_takes, into_gives}
-use Rattle.can_c_handle.proofs.PortDrop.{port_drops}
-use Rattle.can_c_handle.proofs.HandleValues.{word, held, handle_in}
-use Rattle.can_c_handle.specs.contracts.handle.Handle.of as f
-use Rattle.can_c_handle.proofs.handle.Handle.of.Statement.{statement}
-use Rattle.can_c_handle.proofs.handle.Handle.of.Code as code
+use Rattle.can_c.specs.Owned.{handle_owns}
+use Rattle.can_c.proofs.Destruct++none.drop.Code.{code as none}
+use Rattle.can_c.proofs.PortBox.{Port, Heap, port_lawful, heap_lawful, port_drop, heap_drop, PortBox, BoxedPort}
+use Rattle.can_c.proofs.BoxCalls.{IntoRaw, into_with, into_takes, into_gives}
+use Rattle.can_c.proofs.PortDrop.{port_drops}
+use Rattle.can_c.proofs.HandleValues.{word, held, handle_in}
+use Rattle.can_c.specs.contracts.handle.Handle.of as f
+use Rattle.can_c.proofs.handle.Handle.of.Statement.{statement}
+use Rattle.can_c.proofs.handle.Handle.of.Code as code
 
 abbrev stayed : Stays f.ended.signature.params f.ended.kept
 stayed = (stay_dropped (plain (λ _. BoxedPort)) yes, tt)
@@ -46,12 +46,12 @@ unfolding none
 of_spec {M = M} 𝓤 𝓛 𝓜 𝓡 wired =
     let c = f.clauses 𝓛 𝓜.mem 𝓡.returns in
     let 𝓣 = tables 𝓤 𝓛.H 𝓜 𝓡 𝓡.env in
-    let no_drops = code.calls-can_c_handle::Destruct++none::drop 𝓡.env wired in
+    let no_drops = code.calls-can_c::Destruct++none::drop 𝓡.env wired in
     let called =
     met 𝓤 𝓛 𝓜 𝓡 (code.calls-std_alloc::boxed::Box::into_raw 𝓡.env wired) Port Heap port_lawful heap_lawful ghosts dict heap_drop port_drop
     (passed 𝓡.env (code.calls-std_heap::GlobalAllocator::allocate 𝓡.env wired) (code.calls-std_heap::GlobalAllocator::deallocate 𝓡.env wired) (code.calls-std_heap::GlobalAllocator::grow 𝓡.env wired) (code.calls-std_heap::GlobalAllocator::shrink 𝓡.env wired) M 𝓤 𝓛 𝓜 𝓡)
-    (glues "can_c_handle::Destruct++none::drop" 𝓡.env no_drops Heap heap_lawful M 𝓤 𝓛 𝓜 𝓡)
-    (port_drops 𝓤 𝓛 𝓜 𝓡 (code.calls-can_c_handle::can_c_handle++controller++Controller+Destruct::drop 𝓡.env wired)) in
+    (glues "can_c::Destruct++none::drop" 𝓡.env no_drops Heap heap_lawful M 𝓤 𝓛 𝓜 𝓡)
+    (port_drops 𝓤 𝓛 𝓜 𝓡 (code.calls-can_c::can_c++controller++Controller+Destruct::drop 𝓡.env wired)) in
     proved_at 𝓛 f.ended stayed c 𝓜 𝓡 (Goes-blank 𝓛 0 (plain (λ _. BoxedPort)) yes (λ κs x w. tt), tt)
     f.Key.name code.function (code.unfolded 𝓤 𝓛.H 𝓜 𝓡 wired) (λ z are.
     let b = z.0.3.0 in

@@ -8,7 +8,7 @@ use denote.RawPtr.{Ptr}
 use Rattle.std.specs.Box.Ownership.{box_owns}
 use Rattle.std.specs.declared.alloc.Global.{Global}
 use Rattle.std.specs.contracts.impls.GlobalAllocator.TheImpl.{ghosts}
-use Rattle.can_c_handle.specs.contracts.controller.Controller.{the_row}
+use Rattle.can_c.specs.contracts.controller.Controller.{the_row}
 
 -- the one value of the heap's handle, which has no bytes
 abbrev heap : Global

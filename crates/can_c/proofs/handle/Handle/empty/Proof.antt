@@ -22,12 +22,12 @@ use denote.Steps.{nothing}
 use denote.Triple.Spec.{triple_of}
 use denote.Triple.Table.{entered}
 use denote.Triple.Walked.{says, Stays, walk_of, ends_at, walk_Meets}
-use Rattle.can_c_handle.proofs.HandleValues.{word, held, handle_in}
+use Rattle.can_c.proofs.HandleValues.{word, held, handle_in}
 use Rattle.std.specs.Prelude.{None}
-use Rattle.can_c_handle.specs.contracts.handle.Handle.empty as F
-use Rattle.can_c_handle.specs.contracts.handle.Handle.empty.Key.{name as #self}
-use Rattle.can_c_handle.proofs.handle.Handle.empty.Statement as stated
-use Rattle.can_c_handle.proofs.handle.Handle.empty.Code as code
+use Rattle.can_c.specs.contracts.handle.Handle.empty as F
+use Rattle.can_c.specs.contracts.handle.Handle.empty.Key.{name as #self}
+use Rattle.can_c.proofs.handle.Handle.empty.Statement as stated
+use Rattle.can_c.proofs.handle.Handle.empty.Code as code
 
 abbrev stayed : Stays (F.ended).signature.params (F.ended).kept
 stayed = tt

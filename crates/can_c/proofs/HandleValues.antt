@@ -12,10 +12,10 @@ use denote.RawPtr.{Ptr, ptr_val}
 use denote.Steps.{nothing}
 use denote.Struct.Struct.{within}
 use denote.Struct.Owning.{shape}
-use Rattle.can_c_handle.specs.contracts.handle.Handle as handle
-use Rattle.can_c_handle.specs.contracts.controller.Controller as port
+use Rattle.can_c.specs.contracts.handle.Handle as handle
+use Rattle.can_c.specs.contracts.controller.Controller as port
 use Rattle.std.specs.Prelude.{Option}
-use Rattle.can_c_handle.specs.Owned.{handle_owns}
+use Rattle.can_c.specs.Owned.{handle_owns}
 
 abbrev pub Handle : RattleType
 Handle = handle.the_row

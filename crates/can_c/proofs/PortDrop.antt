@@ -17,10 +17,10 @@ use prog.Model.{Model}
 use prog.Wired.{Wired}
 use types.Kit.{raw, ◌$◌, ◌∵◌, !, qed, keep, join, show, done}
 use types.Logic.{Logic, sem}
-use Rattle.can_c_handle.specs.contracts.can_c_handle++controller++Controller+Destruct.drop as dropped
-use Rattle.can_c_handle.proofs.can_c_handle++controller++Controller+Destruct.drop.Symbol as symbol
-use Rattle.can_c_handle.proofs.can_c_handle++controller++Controller+Destruct.drop.Met.{met}
-use Rattle.can_c_handle.proofs.PortBox.{Port, port_drop}
+use Rattle.can_c.specs.contracts.can_c++controller++Controller+Destruct.drop as dropped
+use Rattle.can_c.proofs.can_c++controller++Controller+Destruct.drop.Symbol as symbol
+use Rattle.can_c.proofs.can_c++controller++Controller+Destruct.drop.Met.{met}
+use Rattle.can_c.proofs.PortBox.{Port, port_drop}
 
 pub port_drops : {M : Type 1} (𝓤 : Ura M) (𝓛 : Logic 𝓤) (𝓜 : Model 𝓤 𝓛.H) (𝓡 : Running 𝓤 𝓛.H 𝓜) → Wired 𝓡.env symbol.code → glue.Met 𝓛 𝓜 𝓡 𝓡.env Port port_drop
 port_drops 𝓤 𝓛 𝓜 𝓡 wired =

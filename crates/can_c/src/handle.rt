@@ -1,6 +1,6 @@
 ghost use Rattle.std.specs.Prelude.{◌≡◌, Option, Some, None, MatchOption, is_some};
 ghost use Rattle.can_node.specs.Ports.{PortState};
-ghost use Rattle.can_c_handle.specs.Owned.{handle_owns, port_coded};
+ghost use Rattle.can_c.specs.Owned.{handle_owns, port_coded};
 
 use crate::controller::Controller;
 use std::alloc::Global;

@@ -26,8 +26,8 @@ use Rattle.std_alloc.proofs.BoxSteps.Steps.{box_out, box_in}
 use Rattle.std_alloc.specs.contracts.boxed.Box.into_raw as into
 use Rattle.std_alloc.specs.contracts.boxed.Box.from_raw as from
 use Rattle.std_heap.specs.contracts.GlobalAllocator.TheImpl.{ghosts, dict}
-use Rattle.can_c_handle.specs.Owned.{handle_owns}
-use Rattle.can_c_handle.proofs.PortBox.{Port, Heap, port_drop, heap_drop, PortBox, BoxedPort}
+use Rattle.can_c.specs.Owned.{handle_owns}
+use Rattle.can_c.proofs.PortBox.{Port, Heap, port_drop, heap_drop, PortBox, BoxedPort}
 
 module _ {M : Type 1} {𝓤 : Ura M} (𝓛 : Logic 𝓤) (at_mem : Memory → SProp 𝓤) (run : Routine → Fun 𝓤) where
   open 𝓛 use {H}
