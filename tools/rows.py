@@ -16,7 +16,10 @@ def crates_of(root: str) -> dict[str, str]:
 
 
 def put_rows(root: str, to: str) -> None:
-    """Puts the crates of tests/rows of a repository among those of a copy of it."""
+    """Puts the crates of tests/rows of a repository among those of a copy of it.
+
+    No crate can name a static library, so those stand there as libraries.
+    """
     lines = crates_of(root)
     for crate in lines:
         source = f"{root}/tests/rows/{crate}"
@@ -25,5 +28,7 @@ def put_rows(root: str, to: str) -> None:
             os.makedirs(made, exist_ok=True)
             for it in files:
                 shutil.copyfile(f"{folder}/{it}", f"{made}/{it.removesuffix(SUFFIX)}.rt")
-    with open(f"{to}/crates.txt", "a", encoding="utf-8") as out:
-        out.writelines(lines.values())
+    with open(f"{to}/crates.txt", encoding="utf-8") as it:
+        own = it.read()
+    with open(f"{to}/crates.txt", "w", encoding="utf-8") as out:
+        out.writelines([own.replace(" staticlib:", ":"), *lines.values()])

@@ -8,7 +8,7 @@
 //! | File | What it does | Over |
 //! |---|---|---|
 //! | `frame.rt` | tells how long a frame keeps the bus | can_frame, can_wire |
-//! | `stream.rt` | finds the frames of a trace | can_stream, can_decode |
+//! | `stream.rt` | finds the frames of a trace | can_stream, can_texts |
 //! | `port.rt` | has two ports share a wire | can_node |
 //! | `bus.rt` | runs a bus that is disturbed | can_bus |
 //! | `plan.rt` | tells how late a message's frames can be | can_longest, can_plan |

@@ -1,9 +1,9 @@
 //! A stream: what is found in a trace.
 ghost use Rattle.std.specs.Prelude.{IfOk};
-ghost use Rattle.can_decode.specs.Decoded.{DecodesAll};
+ghost use Rattle.can_texts.specs.Decoded.{DecodesAll};
 
-use can_decode::decode_stream;
 use can_stream::{FromRead, ToWrite, TraceFault};
+use can_texts::decode_stream;
 use std::alloc::Global;
 
 /// The lines of the frames and faults in a trace, `0` and `1` for its levels. A trace in a file, or one that still

@@ -7,7 +7,7 @@ use Rattle.can_wire.specs.contracts.checked_bits.CheckedBitsFrameBits.TheImpl as
 use Rattle.can_node.specs.declared.node.Node.{Node}
 use Rattle.can_node.specs.Ports.{PortState}
 use Rattle.can_node.proofs.NodePort.{node_port}
-use Rattle.can_c_handle.specs.declared.handle.Handle.{Handle}
+use Rattle.can_c.specs.declared.handle.Handle.{Handle}
 use Rattle.can_c.specs.Play.{held_by, held_in, lacks_port, ports_held}
 
 -- what ports are that are the same

@@ -1,8 +1,16 @@
+-- a handle and its box: what the heap has at a pointer, and the calls of a box
+mod PortBox
+mod PortDrop
+mod BoxCalls
+mod HandleValues
+-- what calls answer
 mod StatusLemmas
 mod FrameLemmas
-mod RunLemmas
-mod LongestFrame
 mod DecodeLemmas
+mod LongestFrame
+-- ports through bit times
+mod RunLemmas
+-- what a bus is offered and how it is disturbed, a wire, handles on a bus
 mod InputLemmas
 mod WireLemmas
 mod HandleLists

@@ -20,7 +20,7 @@ use Rattle.can_bus.specs.Offers.{call_after, call_level, call_refused, offered_n
 use Rattle.can_bus.specs.Run.{AreLevelsOf, BusState}
 use Rattle.can_bus.proofs.OfferLemmas.{length-all_made}
 use Rattle.can_bus.proofs.RunLemmas.{length-step}
-use Rattle.can_c_handle.specs.declared.handle.Handle.{Handle}
+use Rattle.can_c.specs.declared.handle.Handle.{Handle}
 use Rattle.can_c.specs.declared.inputs.PlainHit.{PlainHit}
 use Rattle.can_c.specs.declared.inputs.PlainOffer.{PlainOffer}
 use Rattle.can_c.specs.declared.plain.PlainFrame.{PlainFrame}

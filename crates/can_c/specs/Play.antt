@@ -15,7 +15,7 @@ use Rattle.can_bus.specs.Offers.{AreOffered, IsFirstOfferFault}
 use Rattle.can_bus.specs.Network.{NetworkLogBegins, NetworkLogHas, NetworkLogWhole, NetworkTally, StaysActive}
 use Rattle.can_bus.specs.Quiet.{AtEachNode, AtEachPort, MissesNothing}
 use Rattle.can_bus.specs.Run.{AreLevelsOf, BusState}
-use Rattle.can_c_handle.specs.declared.handle.Handle.{Handle}
+use Rattle.can_c.specs.declared.handle.Handle.{Handle}
 use Rattle.can_c.specs.declared.inputs.PlainHit.{PlainHit}
 use Rattle.can_c.specs.declared.inputs.PlainOffer.{PlainOffer}
 use Rattle.can_c.specs.declared.status.Status.{Status}

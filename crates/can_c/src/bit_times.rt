@@ -7,9 +7,10 @@ ghost use Rattle.can_c.specs.Codes.{event_code as event_code_of};
 ghost use Rattle.can_c.specs.Statuses.{done, status_code};
 
 use crate::codes::event_code;
+use crate::controller::Controller;
+use crate::handle::Handle;
 use crate::plain::PlainFrame;
 use crate::status::Status;
-use can_c_handle::{Controller, Handle};
 use can_frame::Level;
 use can_mac::Event;
 use std::alloc::Global;

@@ -10,6 +10,8 @@
 //! | `status.rt` | [`Status`], what a call answers | `specs/Codes.antt` |
 //! | `codes.rt` | the numbers of events and states | `specs/Codes.antt` |
 //! | `plain.rt` | [`PlainFrame`], [`PlainHeard`], frames as plain fields | `specs/PlainFrames.antt` |
+//! | `controller.rt` | [`Controller`], a port as one value | can_node's `specs/Ports.antt` |
+//! | `handle.rt` | [`Handle`], a controller on the heap, or none: a plain struct of a pointer and a flag, which code that is not Rattle keeps and hands in again with each call | `specs/Owned.antt` |
 //! | `ports.rt` | the exports that make a port, and what is done at one between two bit times | `specs/Calls.antt` |
 //! | `bit_times.rt` | the exports that take a port through bit times, one or many | `specs/Calls.antt`, `specs/BitTimes.antt` |
 //! | `standing.rt` | [`can_c_phase`], the phase of a port and the rule there | `specs/PlainStandings.antt` |
@@ -19,12 +21,17 @@
 //! | `play.rt` | [`can_c_play`], the ports of handles on a bus, with offers and disturbances | `specs/Play.antt` |
 //! | `plain_wire.rt` | [`PlainWire`], a wire between two bit times, and [`can_c_wire`], a bit time of it | `specs/PlainWires.antt` |
 //!
+//! A handle that is all bytes 0 holds none. Which controller it holds is told by its ghost field `held`, as the `PortState`
+//! that can_node's contracts speak of.
+//!
 //! bindings/ has the header, what else a program in C needs, and a module for Python.
 #![tactic(auto)]
 
 mod bit_times;
 mod codes;
 mod coding;
+mod controller;
+mod handle;
 mod inputs;
 mod plain;
 mod plain_wire;
@@ -36,6 +43,8 @@ mod told;
 
 pub use bit_times::{can_c_drive, can_c_run, can_c_sample};
 pub use coding::{can_c_decode, can_c_encode};
+pub use controller::Controller;
+pub use handle::Handle;
 pub use inputs::{PlainHit, PlainOffer};
 pub use plain::{PlainFrame, PlainHeard};
 pub use plain_wire::{PlainWire, can_c_wire};

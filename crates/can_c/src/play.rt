@@ -11,10 +11,10 @@ ghost use Rattle.can_c.specs.Play.{AreCodesOf, IsNetworkRun, IsPlayFault, IsPlay
 ghost use Rattle.can_c.specs.PlainInputs.{hits_of_plain, offers_of_plain};
 ghost use Rattle.can_c.specs.Statuses.{bus_status, done, status_code};
 
+use crate::handle::Handle;
 use crate::inputs::{PlainHit, PlainOffer, read_hits, read_offers};
 use crate::status::Status;
 use can_bus::{Bus, BusFault, Hit, Offer};
-use can_c_handle::Handle;
 use can_frame::Level;
 use can_node::{PackedNode, Port};
 use can_wire::write_codes;

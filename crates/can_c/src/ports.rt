@@ -5,9 +5,10 @@ ghost use Rattle.can_c.specs.Calls.{copy_refusal, hold_status, offer_status};
 ghost use Rattle.can_c.specs.PlainFrames.{frame_of_plain};
 ghost use Rattle.can_c.specs.Statuses.{done, status_code};
 
+use crate::controller::Controller;
+use crate::handle::Handle;
 use crate::plain::PlainFrame;
 use crate::status::Status;
-use can_c_handle::{Controller, Handle};
 use std::alloc::Global;
 
 /// Makes a port that is on the bus and idle, with room for so many frames that wait and so many entries of the

@@ -4,8 +4,8 @@ ghost use Rattle.can_c.specs.Calls.{port_status};
 ghost use Rattle.can_c.specs.PlainStandings.{part_code as part_code_of, phase_code, phase_place, plain_standing, rule_code as rule_code_of};
 ghost use Rattle.can_c.specs.Statuses.{done, status_code};
 
+use crate::handle::Handle;
 use crate::status::Status;
-use can_c_handle::Handle;
 use can_conform::{Rule, phase_rule};
 use can_mac::{PackedMac, Phase, Role};
 use std::alloc::Global;

@@ -7,9 +7,10 @@ ghost use Rattle.can_c.specs.PlainFrames.{plain_frame};
 ghost use Rattle.can_c.specs.Statuses.{done, status_code};
 
 use crate::codes::state_code;
+use crate::controller::Controller;
+use crate::handle::Handle;
 use crate::plain::PlainFrame;
 use crate::status::Status;
-use can_c_handle::{Controller, Handle};
 use std::alloc::Global;
 
 /// Writes the transmit and the receive error counter.

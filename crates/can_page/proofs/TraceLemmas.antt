@@ -2,8 +2,8 @@
 use Rattle.std.proofs.Common.{◌≡◌, ℕ, ◌+◌, ◌<◌, ◌≤◌, false, Option, Some, None, IfSome, append_assoc, List, [], ◌∷◌, ◌++◌, length, take, drop, get_or, sym, ◌∙◌, ap, subst, arith}
 use Rattle.std.proofs.lemmas.List.{drop_more, length-take-le, take-append-drop}
 use Rattle.std.specs.Io.KnownBytes.{Appends, Consumes}
-use Rattle.can_decode.specs.Decoded.{DecodesToBadByte}
-use Rattle.can_decode.specs.TraceText.{IsFirstBadTraceByte, IsTraceText, is_trace_byte, levels_in}
+use Rattle.can_texts.specs.Decoded.{DecodesToBadByte}
+use Rattle.can_texts.specs.TraceText.{IsFirstBadTraceByte, IsTraceText, is_trace_byte, levels_in}
 use Rattle.can_page.specs.Codes.{level_codes}
 
 -- the levels of the first bytes are written

@@ -1,6 +1,6 @@
 ghost use Rattle.std.specs.Prelude.{◌≡◌, ◌^◌, ◌≤◌, ◌⊎◌, [], false, true, length, take, option_to_list, IfOk, IfSome, OnErr, OnOk, Some};
-ghost use Rattle.can_decode.specs.Decoded.{DecodesAll, DecodesToBadByte};
-ghost use Rattle.can_decode.specs.TraceText.{IsFirstBadTraceByte, IsTraceText, is_trace_byte, levels_in, levels_of_byte};
+ghost use Rattle.can_texts.specs.Decoded.{DecodesAll, DecodesToBadByte};
+ghost use Rattle.can_texts.specs.TraceText.{IsFirstBadTraceByte, IsTraceText, is_trace_byte, levels_in, levels_of_byte};
 ghost use Rattle.can_page.specs.Answers.{bad_level, done, no_room};
 ghost use Rattle.can_page.specs.Codes.{level_codes, trace_text};
 ghost use Rattle.can_page.specs.Lines.{is_overfull, written_lines};
@@ -9,9 +9,9 @@ use crate::answer::Answer;
 use crate::levels::Levels;
 use crate::lines::Lines;
 use crate::text::Text;
-use can_decode::decode_stream;
 use can_frame::Level;
 use can_stream::{Sink, Source, TraceFault};
+use can_texts::decode_stream;
 
 /// Finds the frames and the faults of a trace, and writes their lines to `out`. The answer is 0 where these are all.
 /// Where it is that of a bad byte, that byte's place in the text is told, and the lines are those of the levels before

@@ -2,11 +2,11 @@
 pub use Rattle.can_stream.specs.Told
 pub use Rattle.can_stream.specs.Wrapped
 pub use Rattle.can_stream.specs.Outbox
-pub use Rattle.can_lines.specs.Answered
-pub use Rattle.can_lines.specs.Coded
-pub use Rattle.can_lines.specs.Checked
-pub use Rattle.can_decode.specs.TraceText
-pub use Rattle.can_decode.specs.Decoded
+pub use Rattle.can_texts.specs.Answered
+pub use Rattle.can_texts.specs.Coded
+pub use Rattle.can_texts.specs.Checked
+pub use Rattle.can_texts.specs.TraceText
+pub use Rattle.can_texts.specs.Decoded
 pub use Rattle.can_scenario_text.specs.Scenarios
 pub use Rattle.can_scenario.specs.Report
 pub use Rattle.can_scenario.specs.ScenarioOffers

@@ -1,8 +1,8 @@
 -- What each subcommand has written of what it read, for each way in which it can end. (docs/FORMATS.md)
 use Rattle.std.specs.Prelude.{◌≡◌, ◌≢◌, ◌⊎◌, ℕ, Bool, IsTrue, List}
-use Rattle.can_lines.specs.Checked.{BeginsChecking, ChecksAll, ChecksEnded, ChecksTooLong, IsFirstBadByte, IsFirstBadVectorLine}
-use Rattle.can_lines.specs.Coded.{BeginsEncoding, EncodesAll, EncodesEnded, EncodesTooLong, IsFirstBadLine}
-use Rattle.can_decode.specs.Decoded.{BeginsDecoding, DecodesAll, DecodesSoFar, DecodesToBadByte, DecodesTooLong}
+use Rattle.can_texts.specs.Checked.{BeginsChecking, ChecksAll, ChecksEnded, ChecksTooLong, IsFirstBadByte, IsFirstBadVectorLine}
+use Rattle.can_texts.specs.Coded.{BeginsEncoding, EncodesAll, EncodesEnded, EncodesTooLong, IsFirstBadLine}
+use Rattle.can_texts.specs.Decoded.{BeginsDecoding, DecodesAll, DecodesSoFar, DecodesToBadByte, DecodesTooLong}
 use Rattle.can_scenario.specs.Report.{report}
 use Rattle.can_scenario_text.specs.Scenarios.{IsWrongScenarioField, IsScenarioText}
 use Rattle.can_scenario_text.specs.declared.scenario.Scenario.{Scenario}

@@ -12,10 +12,9 @@ ghost use Rattle.canbit_words.specs.Words.{AsksFor, AsksForHelp, AsksForOne, IsM
 
 use crate::fault::CanbitFault;
 use crate::run::run;
-use can_decode::decode_stream;
-use can_lines::{check_lines, encode_lines};
 use can_program::{WordsFault, conclude, refuse, write_help};
 use can_stream::{Sink, Source};
+use can_texts::{check_lines, decode_stream, encode_lines};
 use canbit_words::{Chosen, WordFault, chosen};
 use std::alloc::Global;
 

@@ -13,7 +13,7 @@ use Rattle.can_stream.specs.declared.fault.TraceFault.{TraceFault}
 use Rattle.can_stream.specs.declared.fault.TraceFault.TheVariants.{BadByte, Read, Write, Long, FrameLine, ScenarioField, Memory}
 use Rattle.can_stream.specs.declared.lines.LineReader.{LineReader}
 use Rattle.can_stream.proofs.Turns.{PassesOn-flushed, TakesFront-flushed, unwritten}
-use Rattle.can_lines.proofs.Answering.{Answering, AtLine, Answering-more, AtLine-flushed, AtLine-read, ended_lines-last, whole_lines-ended}
+use Rattle.can_texts.proofs.Answering.{Answering, AtLine, Answering-more, AtLine-flushed, AtLine-read, ended_lines-last, whole_lines-ended}
 use Rattle.canhold_commands.specs.Adapters.{IsAnswered}
 use Rattle.canhold_commands.specs.Commands.{quit_line}
 use Rattle.canhold_commands.specs.Plays.{IsConversation, AnswersFront, BeginsPlaying, Plays, PlaysAll, PlaysEnded, PlaysFront, greeting}

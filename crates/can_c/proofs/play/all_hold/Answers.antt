@@ -1,6 +1,6 @@
 use Rattle.std.specs.Prelude.{is_some}
 use Rattle.std.proofs.Common.{◌≡◌, ◌<◌, true, false, length, refl, sym, ap, ◌∙◌, arith, rules}
-use Rattle.can_c_handle.specs.declared.handle.Handle.{Handle}
+use Rattle.can_c.specs.declared.handle.Handle.{Handle}
 use Rattle.can_c.specs.Play.{held_by}
 use Rattle.can_c.proofs.HandleLists.{hold-all, hold-next, hold-not, hold-unchanged}
 use Rattle.can_c.proofs.play.all_hold.Goals as goal

@@ -1,6 +1,6 @@
 use Rattle.std.specs.Prelude.{is_some}
 use Rattle.std.proofs.Common.{◌<◌, length, sym, ap, ◌∙◌, arith}
-use Rattle.can_c_handle.specs.declared.handle.Handle.{Handle}
+use Rattle.can_c.specs.declared.handle.Handle.{Handle}
 use Rattle.can_node.proofs.NodePort.{node_port}
 use Rattle.can_c.specs.Play.{held_by}
 use Rattle.can_c.proofs.HandleLists.{exchange-held, exchange-next, exchange-none, exchanged-handles, exchanged-nodes, same-ports}

@@ -1,9 +1,0 @@
-use Rattle.std.proofs.Common.{[], subst, sym, ap, ◌∙◌}
-use Rattle.can_decode.specs.TraceText.{levels_in}
-use Rattle.can_decode.specs.Decoding.{Hears}
-use Rattle.can_decode.proofs.DecodeSteps.{levels_in-row}
-use Rattle.can_decode.proofs.decode.skip_row.Goals as goal
-
-pub returns-clause-hears : goal.returns-clause-hears
-returns-clause-hears c =
-    subst (λ l. Hears c.args.trace.now c.skip.new.self l []) (sym (ap levels_in c.recessive_count-count.ensures.row ∙ levels_in-row c.recessive_count-count.result)) c.skip.ensures.hears

@@ -1,5 +1,0 @@
-use Rattle.std.proofs.Common.{rules}
-use Rattle.can_decode.proofs.finding.code.Goals as goal
-
-pub returns-in-Stuff : goal.returns-in-Stuff
-returns-in-Stuff c = search rules

@@ -1,7 +1,0 @@
-use Rattle.std.proofs.Common.{sym, ◌∙◌, arith}
-use Rattle.std.proofs.lemmas.Bool.{eqb-true}
-use Rattle.can_decode.proofs.BlockMasks.{digits_by_mask}
-use Rattle.can_decode.proofs.masks.are_digits.Goals as goal
-
-pub returns : goal.returns
-returns c full = digits_by_mask c.args.block.now (omega arith) (sym c.digits_of.ensures.places ∙ eqb-true _ 65535 full)

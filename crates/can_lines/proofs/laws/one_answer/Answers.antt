@@ -1,5 +1,0 @@
-use Rattle.can_lines.proofs.Codings.{Codes-only}
-use Rattle.can_lines.proofs.laws.one_answer.Goals as goal
-
-pub returns : goal.returns
-returns c = Codes-only c.one_text_a_frame.ensures

@@ -1,5 +1,0 @@
-use Rattle.can_lines.proofs.DigitFronts.{HasLevels}
-use Rattle.can_lines.proofs.vector.check_digits.Given as goal
-
-abbrev pub invariant-loop-place : goal.invariant-loop-place
-invariant-loop-place l = HasLevels l.digits l.place

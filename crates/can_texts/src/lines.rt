@@ -1,0 +1,8 @@
+//! Lines of frames and of vectors, an answer for each.
+mod check;
+mod encode;
+mod vector;
+mod verdict;
+
+pub use check::check_lines;
+pub use encode::encode_lines;
