@@ -4,6 +4,7 @@
  */
 #include "riddlesage.h"
 
+#include <stdbool.h>
 #include <stdlib.h>
 
 #define EXPORT __attribute__((visibility("default")))
@@ -43,6 +44,13 @@ static riddlesage_status port_at(const riddlesage_port *port)
   if (port->self == NULL)
     return RIDDLESAGE_NO_PORT;
   return port->self == port ? RIDDLESAGE_OK : RIDDLESAGE_MOVED;
+}
+
+/* The same of a call that also needs whether these pointers are there; the port's fault comes first. */
+static riddlesage_status port_with(const riddlesage_port *port, bool pointers)
+{
+  riddlesage_status status = port_at(port);
+  return status == RIDDLESAGE_OK && !pointers ? RIDDLESAGE_NULL_POINTER : status;
 }
 
 /* Whether a port may be made there. Where none was, the room is made ready. */
@@ -121,114 +129,76 @@ EXPORT riddlesage_status riddlesage_port_free(riddlesage_port *port)
 
 EXPORT riddlesage_status riddlesage_port_offer(riddlesage_port *port, const riddlesage_frame *frame)
 {
-  riddlesage_status status = port_at(port);
-  if (status != RIDDLESAGE_OK)
-    return status;
-  if (frame == NULL)
-    return RIDDLESAGE_NULL_POINTER;
-  return (riddlesage_status)can_c_offer(&port->handle, frame);
+  riddlesage_status status = port_with(port, frame != NULL);
+  return status == RIDDLESAGE_OK ? (riddlesage_status)can_c_offer(&port->handle, frame) : status;
 }
 
 EXPORT riddlesage_status riddlesage_port_hold(riddlesage_port *port, uint8_t count)
 {
   riddlesage_status status = port_at(port);
-  if (status != RIDDLESAGE_OK)
-    return status;
-  return (riddlesage_status)can_c_hold(&port->handle, count);
+  return status == RIDDLESAGE_OK ? (riddlesage_status)can_c_hold(&port->handle, count) : status;
 }
 
 EXPORT riddlesage_status riddlesage_port_drive(riddlesage_port *port, uint8_t *level)
 {
-  riddlesage_status status = port_at(port);
-  if (status != RIDDLESAGE_OK)
-    return status;
-  if (level == NULL)
-    return RIDDLESAGE_NULL_POINTER;
-  return (riddlesage_status)can_c_drive(&port->handle, level);
+  riddlesage_status status = port_with(port, level != NULL);
+  return status == RIDDLESAGE_OK ? (riddlesage_status)can_c_drive(&port->handle, level) : status;
 }
 
 EXPORT riddlesage_status riddlesage_port_sample(riddlesage_port *port, uint8_t level, uint8_t *event,
                                                 riddlesage_frame *frame)
 {
   riddlesage_frame unwanted = { 0, 0, 0, 0, { 0 } };
-  riddlesage_status status = port_at(port);
-  if (status != RIDDLESAGE_OK)
-    return status;
-  if (event == NULL)
-    return RIDDLESAGE_NULL_POINTER;
-  return (riddlesage_status)can_c_sample(&port->handle, level, event, frame == NULL ? &unwanted : frame);
+  riddlesage_status status = port_with(port, event != NULL);
+  return status == RIDDLESAGE_OK
+           ? (riddlesage_status)can_c_sample(&port->handle, level, event, frame == NULL ? &unwanted : frame)
+           : status;
 }
 
 EXPORT riddlesage_status riddlesage_port_run(riddlesage_port *port, const uint8_t *levels, size_t count,
                                              uint8_t *drives, uint8_t *events)
 {
-  riddlesage_status status = port_at(port);
-  if (status != RIDDLESAGE_OK)
-    return status;
-  if (levels == NULL || drives == NULL || events == NULL)
-    return RIDDLESAGE_NULL_POINTER;
-  return (riddlesage_status)can_c_run(&port->handle, levels, count, drives, count, events, count);
+  riddlesage_status status = port_with(port, levels != NULL && drives != NULL && events != NULL);
+  return status == RIDDLESAGE_OK
+           ? (riddlesage_status)can_c_run(&port->handle, levels, count, drives, count, events, count)
+           : status;
 }
 
 EXPORT riddlesage_status riddlesage_port_counters(riddlesage_port *port, uint16_t *transmit, uint16_t *receive)
 {
-  riddlesage_status status = port_at(port);
-  if (status != RIDDLESAGE_OK)
-    return status;
-  if (transmit == NULL || receive == NULL)
-    return RIDDLESAGE_NULL_POINTER;
-  return (riddlesage_status)can_c_counters(&port->handle, transmit, receive);
+  riddlesage_status status = port_with(port, transmit != NULL && receive != NULL);
+  return status == RIDDLESAGE_OK ? (riddlesage_status)can_c_counters(&port->handle, transmit, receive) : status;
 }
 
 EXPORT riddlesage_status riddlesage_port_state(riddlesage_port *port, uint8_t *state)
 {
-  riddlesage_status status = port_at(port);
-  if (status != RIDDLESAGE_OK)
-    return status;
-  if (state == NULL)
-    return RIDDLESAGE_NULL_POINTER;
-  return (riddlesage_status)can_c_state(&port->handle, state);
+  riddlesage_status status = port_with(port, state != NULL);
+  return status == RIDDLESAGE_OK ? (riddlesage_status)can_c_state(&port->handle, state) : status;
 }
 
 EXPORT riddlesage_status riddlesage_port_phase(riddlesage_port *port, riddlesage_standing *standing)
 {
-  riddlesage_status status = port_at(port);
-  if (status != RIDDLESAGE_OK)
-    return status;
-  if (standing == NULL)
-    return RIDDLESAGE_NULL_POINTER;
-  return (riddlesage_status)can_c_phase(&port->handle, standing);
+  riddlesage_status status = port_with(port, standing != NULL);
+  return status == RIDDLESAGE_OK ? (riddlesage_status)can_c_phase(&port->handle, standing) : status;
 }
 
 EXPORT riddlesage_status riddlesage_port_log_length(riddlesage_port *port, size_t *count)
 {
-  riddlesage_status status = port_at(port);
-  if (status != RIDDLESAGE_OK)
-    return status;
-  if (count == NULL)
-    return RIDDLESAGE_NULL_POINTER;
-  return (riddlesage_status)can_c_log_length(&port->handle, count);
+  riddlesage_status status = port_with(port, count != NULL);
+  return status == RIDDLESAGE_OK ? (riddlesage_status)can_c_log_length(&port->handle, count) : status;
 }
 
 EXPORT riddlesage_status riddlesage_port_missed(riddlesage_port *port, uint32_t *count)
 {
-  riddlesage_status status = port_at(port);
-  if (status != RIDDLESAGE_OK)
-    return status;
-  if (count == NULL)
-    return RIDDLESAGE_NULL_POINTER;
-  return (riddlesage_status)can_c_missed(&port->handle, count);
+  riddlesage_status status = port_with(port, count != NULL);
+  return status == RIDDLESAGE_OK ? (riddlesage_status)can_c_missed(&port->handle, count) : status;
 }
 
 EXPORT riddlesage_status riddlesage_port_entry(riddlesage_port *port, size_t number, riddlesage_frame *frame,
                                                uint8_t *sent)
 {
-  riddlesage_status status = port_at(port);
-  if (status != RIDDLESAGE_OK)
-    return status;
-  if (frame == NULL || sent == NULL)
-    return RIDDLESAGE_NULL_POINTER;
-  return (riddlesage_status)can_c_entry(&port->handle, number, frame, sent);
+  riddlesage_status status = port_with(port, frame != NULL && sent != NULL);
+  return status == RIDDLESAGE_OK ? (riddlesage_status)can_c_entry(&port->handle, number, frame, sent) : status;
 }
 
 /* Whether these ports can be those of a bus: each was made, and is there once. */

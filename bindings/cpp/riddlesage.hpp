@@ -128,32 +128,35 @@ enum class Rule : std::uint8_t {
   overload_flags = RIDDLESAGE_RULE_OVERLOAD_FLAGS
 };
 
+namespace detail {
+
+/// A text of the library, none where it is told by no pointer.
+[[nodiscard]] inline std::string_view text_of(const char *text) noexcept { return text != nullptr ? text : ""; }
+
+} // namespace detail
+
 /// The name of a status, as "queue full".
 [[nodiscard]] inline std::string_view name(Status status) noexcept
 {
-  const char *const found = riddlesage_status_name(static_cast<riddlesage_status>(status));
-  return found != nullptr ? found : "";
+  return detail::text_of(riddlesage_status_name(static_cast<riddlesage_status>(status)));
 }
 
 /// The name of an event, as "bit error".
 [[nodiscard]] inline std::string_view name(Event event) noexcept
 {
-  const char *const found = riddlesage_event_name(static_cast<riddlesage_event>(event));
-  return found != nullptr ? found : "";
+  return detail::text_of(riddlesage_event_name(static_cast<riddlesage_event>(event)));
 }
 
 /// The name of a phase, as "end-of-frame".
 [[nodiscard]] inline std::string_view name(Phase phase) noexcept
 {
-  const char *const found = riddlesage_phase_name(static_cast<riddlesage_phase>(phase));
-  return found != nullptr ? found : "";
+  return detail::text_of(riddlesage_phase_name(static_cast<riddlesage_phase>(phase)));
 }
 
 /// The name of a rule, as "Stuff places".
 [[nodiscard]] inline std::string_view name(Rule rule) noexcept
 {
-  const char *const found = riddlesage_rule_name(static_cast<riddlesage_rule>(rule));
-  return found != nullptr ? found : "";
+  return detail::text_of(riddlesage_rule_name(static_cast<riddlesage_rule>(rule)));
 }
 
 /// The version of the library, with which RIDDLESAGE_VERSION is to agree.
@@ -340,12 +343,7 @@ public:
   [[nodiscard]] Status hold(std::uint8_t count) noexcept { return answered(riddlesage_port_hold(at_.get(), count)); }
 
   /// The level that the port drives in this bit time.
-  [[nodiscard]] Level drive() const noexcept
-  {
-    std::uint8_t level = 0;
-    detail::demand(riddlesage_port_drive(at_.get(), &level));
-    return static_cast<Level>(level);
-  }
+  [[nodiscard]] Level drive() const noexcept { return static_cast<Level>(number_of(riddlesage_port_drive)); }
 
   /// Samples the level that the bus has in this bit time, and tells what it brought.
   Told sample(Level bus) noexcept
@@ -378,12 +376,7 @@ public:
     return counters;
   }
 
-  [[nodiscard]] State state() const noexcept
-  {
-    std::uint8_t state = 0;
-    detail::demand(riddlesage_port_state(at_.get(), &state));
-    return static_cast<State>(state);
-  }
+  [[nodiscard]] State state() const noexcept { return static_cast<State>(number_of(riddlesage_port_state)); }
 
   /// Where the port stands before the next bit time, and the rule that decides there.
   [[nodiscard]] Standing phase() const noexcept
@@ -394,20 +387,10 @@ public:
   }
 
   /// How many entries the log has.
-  [[nodiscard]] std::size_t log_length() const noexcept
-  {
-    std::size_t count = 0;
-    detail::demand(riddlesage_port_log_length(at_.get(), &count));
-    return count;
-  }
+  [[nodiscard]] std::size_t log_length() const noexcept { return number_of(riddlesage_port_log_length); }
 
   /// How many entries the log had no room for.
-  [[nodiscard]] std::uint32_t missed() const noexcept
-  {
-    std::uint32_t count = 0;
-    detail::demand(riddlesage_port_missed(at_.get(), &count));
-    return count;
-  }
+  [[nodiscard]] std::uint32_t missed() const noexcept { return number_of(riddlesage_port_missed); }
 
   /// The entry of the log with this number, the oldest having 0; none where there is no such entry.
   [[nodiscard]] std::optional<Entry> entry(std::size_t number) const noexcept
@@ -436,6 +419,15 @@ private:
     if (at == nullptr || make(at.get(), queue, log) != RIDDLESAGE_OK)
       return std::nullopt;
     return Port(std::move(at));
+  }
+
+  /// The number that this call of the library tells of the port.
+  template <typename Number>
+  [[nodiscard]] Number number_of(riddlesage_status (*tell)(riddlesage_port *, Number *)) const noexcept
+  {
+    Number number = 0;
+    detail::demand(tell(at_.get(), &number));
+    return number;
   }
 
   /// Where the port is kept: one that was moved from ends the program.

@@ -1,18 +1,18 @@
 -- What one attempt makes of the counters of a port: the tally, as long as the port is error active.
-use Rattle.std.specs.Prelude.{nat_lt, min, if◌then◌else◌}
+use Rattle.std.specs.Prelude.{nat_lt, if◌then◌else◌}
 use Rattle.std.proofs.Common.{◌≡◌, ℕ, suc, ◌+◌, ◌-◌, ◌<◌, Bool, true, false, Some, refl, sym, ap, subst, ◌∙◌, arith, inl, inr}
 use Rattle.std.proofs.Math.Dec.{ltb, leb}
 use Rattle.std.proofs.lemmas.Bool.{cond-true, cond-false, cond_both, cases_lt, lt-ltb, le-ltb, leb-true, false_from_ne_true}
 use Rattle.can_frame.specs.Parts.{Parts}
 use Rattle.can_fault.specs.declared.cause.Cause.{Cause}
 use Rattle.can_fault.specs.declared.cause.Cause.TheVariants.{FrameReceived, ReceiverError, SenderError}
-use Rattle.can_fault.specs.Counters.{ConfineParts, changed, counted, is_bus_off, rec_after_reception}
+use Rattle.can_fault.specs.Counters.{ConfineParts, changed, counted, is_bus_off}
 use Rattle.can_mac.specs.declared.phase.Role.TheVariants.{Receiver}
 use Rattle.can_mac.specs.Frames.{behind_part, counters_after, slot_place}
 use Rattle.can_node.specs.Ports.{PortState, waiting}
 use Rattle.can_node.proofs.FrameLeaves.{Sends, Receives}
 use Rattle.can_bus.specs.Quiet.{holds}
-use Rattle.can_bus.specs.Attempts.{Tally, IsLow, tallied}
+use Rattle.can_bus.specs.Attempts.{Tally, IsLow, changed_by, tallied}
 use Rattle.can_bus.proofs.CalmPorts.{IsWithin, within-received, sends-has}
 use Rattle.can_bus.proofs.QuietLogs.{TakesPart, holds-own, holds-none, others-of}
 
@@ -46,9 +46,6 @@ on-bus h c within = false_from_ne_true (leb 256 c.tec) (λ e. omega (arith, leb-
 pub counted-on : (h : ℕ) (cause : Cause) (c : ConfineParts) → IsWithin h c → counted cause c ≡ changed cause c
 counted-on h cause c within = cond-false (is_bus_off c) c (changed cause c) (on-bus h c within)
 
-pub fewer-by-one : (h : ℕ) (c : ConfineParts) → IsWithin h c → rec_after_reception c.rec ≡ c.rec - 1
-fewer-by-one h c within = cond-false (leb 128 c.rec) _ _ (false_from_ne_true (leb 128 c.rec) (λ e. omega (arith, leb-true 128 c.rec e, within.low_rec)))
-
 abbrev pub part-holds : (f : Parts) (p : PortState) → TakesPart f p → Bool
 part-holds f p (inl sends) = true
 part-holds f p (inr receives) = false
@@ -59,20 +56,18 @@ holds-part f p (inr receives) = holds-none f p.queue (others-of f p.queue (waiti
 
 -- behind the ACK slot a receiver has counted a reception
 pub slot-tally : (h : ℕ) (f : Parts) (o : ℕ) (c : ConfineParts) → IsWithin h c →
-    tally_of (counters_after Receiver c (behind_part f o)) ≡ record { tec = c.tec; rec = if nat_lt (slot_place f) o then c.rec - 1 else c.rec }
+    tally_of (counters_after Receiver c (behind_part f o)) ≡ (if nat_lt (slot_place f) o then changed_by FrameReceived (tally_of c) else tally_of c)
 slot-tally h f o c within = elim (cases_lt (slot_place f) o) [
   | inl past ↦
       ap tally_of (cond-false (ltb (behind_part f o) 2) _ _ (le-ltb (behind_part f o) 2 (omega (arith, past))) ∙ counted-on h FrameReceived c within)
-      ∙ ap (λ r. let t : Tally = record { tec = c.tec; rec = r } in t) (fewer-by-one h c within ∙ sym (cond-true (ltb (slot_place f) o) (c.rec - 1) c.rec (lt-ltb (slot_place f) o past)))
+      ∙ sym (cond-true (ltb (slot_place f) o) (changed_by FrameReceived (tally_of c)) (tally_of c) (lt-ltb (slot_place f) o past))
   | inr early ↦
       ap tally_of (cond-true (ltb (behind_part f o) 2) _ _ (lt-ltb (behind_part f o) 2 (omega (arith, early))))
-      ∙ ap (λ r. let t : Tally = record { tec = c.tec; rec = r } in t) (sym (cond-false (ltb (slot_place f) o) (c.rec - 1) c.rec (le-ltb (slot_place f) o early)))
+      ∙ sym (cond-false (ltb (slot_place f) o) (changed_by FrameReceived (tally_of c)) (tally_of c) (le-ltb (slot_place f) o early))
 ]
 
-pub error-tally : (h : ℕ) (c : ConfineParts) → IsWithin h c → tally_of (counted ReceiverError c) ≡ record { tec = c.tec; rec = c.rec + 1 }
-error-tally h c within =
-    ap tally_of (counted-on h ReceiverError c within)
-    ∙ ap (λ r. let t : Tally = record { tec = c.tec; rec = r } in t) (let e : min (c.rec + 1) 255 ≡ c.rec + 1 = omega (arith, within.low_rec) in e)
+pub error-tally : (h : ℕ) (c : ConfineParts) → IsWithin h c → tally_of (counted ReceiverError c) ≡ changed_by ReceiverError (tally_of c)
+error-tally h c within = ap tally_of (counted-on h ReceiverError c within)
 
 -- ---- A port that a hit leaves error active.
 
@@ -86,4 +81,4 @@ pub survives-receiver : (h : ℕ) (f : Parts) (o : ℕ) (p : PortState) → IsWi
     (counters_after Receiver p.mac.counters (behind_part f o)).rec + 1 < 128
 survives-receiver h f o p within low receives =
     let less = (subst (λ b. IsLow (tallied b f (Some o) (tally_of p.mac.counters))) (holds-part f p (inr receives)) low).rec in
-    subst (λ (t : Tally). t.rec + 1 < 128) (sym (slot-tally h f o p.mac.counters within)) less
+    subst (λ (t : Tally). t.rec + 1 < 128) (sym (slot-tally h f o p.mac.counters within)) (omega (arith, less))

@@ -12,7 +12,7 @@ use Rattle.can_bus.specs.Offers.{call_after, call_level, call_refused, offered_n
 use Rattle.can_bus.specs.OpenBus.{AreOver, IsOpenCall, OpenLogBegins, OpenLogWhole}
 use Rattle.can_bus.specs.Quiet.{AtEachNode, AtEachPort, CountsNothing, IsPrefixOf, IsQuietPort, MissesNothing, marked}
 use Rattle.can_bus.specs.Attempts.{IsLow}
-use Rattle.can_bus.specs.Run.{BusState, recorded}
+use Rattle.can_bus.specs.Run.{BusState, new_bus, recorded}
 use Rattle.can_bus.specs.Timed.{TimedParts, Lists, frames_of, all_offers, own_offers}
 use Rattle.can_bus.specs.Wired.{wired}
 use Rattle.can_bus.proofs.Ascending.{Other, different_permuted}
@@ -82,10 +82,6 @@ differ-owned offers node (r ∷ ports) apart (suc m) (suc n) p q less at there x
     (subst (λ k. Lists (own_offers offers k p) x) (let e : node + suc m ≡ (node + 1) + m = omega arith in e) a)
     (subst (λ k. Lists (own_offers offers k q) y) (let e : node + suc n ≡ (node + 1) + n = omega arith in e) b)
 
--- the bus at rest with these ports
-abbrev pub at_rest : List PortState → BusState
-at_rest ports = record { ports = ports; rest = 11 }
-
 pub quiet-low : (n : ℕ) (p : PortState) → IsQuietPort n p → IsLow (counters_of p)
 quiet-low n p quiet = record { tec = omega (arith, quiet.tec); rec = omega (arith, quiet.rec) }
 
@@ -99,7 +95,7 @@ module _ (offers : List Offer) (starts : List TimedParts) (ports : List PortStat
   abbrev all : List TimedParts
   all = all_offers offers ports
 
-  pub open-network : IsNetworkCall offers [] (at_rest ports) (unhit starts)
+  pub open-network : IsNetworkCall offers [] (new_bus ports) (unhit starts)
   open-network =
       let by_port : IsPermutation (port_offers offers 0 ports) all = offers-by-port offers ports call.offered in
       let other_way : IsPermutation all (port_offers offers 0 ports) = IsPermutation-sym (port_offers offers 0 ports) all by_port in
@@ -126,23 +122,23 @@ module _ (offers : List Offer) (starts : List TimedParts) (ports : List PortStat
 
 module _ (offers : List Offer) (starts : List TimedParts) (bus : BusState) (valid : AllPorts IsPort bus.ports) (framed : OfFrames offers)
     (call : IsOpenCall offers bus.ports starts) where
-  abbrev net : IsNetworkCall offers [] (at_rest bus.ports) (unhit starts)
+  abbrev net : IsNetworkCall offers [] (new_bus bus.ports) (unhit starts)
   net = open-network offers starts bus.ports call
 
   -- the level at each time is that of the track
   pub open-track : (t : ℕ) → played_level offers t bus ≡ track_at starts t
-  open-track t = plain-level offers bus (at_rest bus.ports) refl t ∙ network-track offers [] (unhit starts) (at_rest bus.ports) valid framed net t
+  open-track t = plain-level offers bus (new_bus bus.ports) refl t ∙ network-track offers [] (unhit starts) (new_bus bus.ports) valid framed net t
 
   -- no queue was full
   pub open-refused : (n : ℕ) → refused offers n bus ≡ 0
-  open-refused n = plain-refused offers bus (at_rest bus.ports) refl n ∙ network-refused offers [] (unhit starts) (at_rest bus.ports) valid framed net n
+  open-refused n = plain-refused offers bus (new_bus bus.ports) refl n ∙ network-refused offers [] (unhit starts) (new_bus bus.ports) valid framed net n
 
   module _ (n : ℕ) (after : BusState) (ran : after ≡ played offers n bus) where
     abbrev end : BusState
-    end = (call_after offers [] n (at_rest bus.ports)).bus
+    end = (call_after offers [] n (new_bus bus.ports)).bus
 
     same-ports : after.ports ≡ end.ports
-    same-ports = ap (λ (b : BusState). b.ports) ran ∙ plain-ports offers bus (at_rest bus.ports) refl n
+    same-ports = ap (λ (b : BusState). b.ports) ran ∙ plain-ports offers bus (new_bus bus.ports) refl n
 
     now-at : (node : ℕ) (q : PortState) → slice_get after.ports node ≡ Some q → slice_get end.ports node ≡ Some q
     now-at node q at = ap (λ ps. slice_get ps node) (sym same-ports) ∙ at
@@ -155,15 +151,15 @@ module _ (offers : List Offer) (starts : List TimedParts) (bus : BusState) (vali
 
     pub open-logs : AtEachNode (OpenLogBegins offers starts) bus.ports after.ports
     open-logs node p q before now =
-        subst (IsPrefixOf q.log) (entries node p before) (network-logs offers [] (unhit starts) (at_rest bus.ports) valid framed net n end refl node p q before (now-at node q now))
+        subst (IsPrefixOf q.log) (entries node p before) (network-logs offers [] (unhit starts) (new_bus bus.ports) valid framed net n end refl node p q before (now-at node q now))
 
     pub open-whole : AreOver starts n → AtEachNode (OpenLogWhole offers starts) bus.ports after.ports
     open-whole past node p q before now =
-        network-whole offers [] (unhit starts) (at_rest bus.ports) valid framed net n end refl (unhit-ended starts n past) node p q before (now-at node q now) ∙ entries node p before
+        network-whole offers [] (unhit starts) (new_bus bus.ports) valid framed net n end refl (unhit-ended starts n past) node p q before (now-at node q now) ∙ entries node p before
 
     pub open-counters : AtEachPort CountsNothing bus.ports after.ports
     open-counters node p q before now =
-        network-unmoved offers [] (unhit starts) (at_rest bus.ports) valid framed net n end refl (quiet-counts (length (all_offers offers bus.ports)) bus.ports call.quiet) (unhit-none starts) node p q before (now-at node q now)
+        network-unmoved offers [] (unhit starts) (new_bus bus.ports) valid framed net n end refl (quiet-counts (length (all_offers offers bus.ports)) bus.ports call.quiet) (unhit-none starts) node p q before (now-at node q now)
 
     pub open-missed : AtEachPort MissesNothing bus.ports after.ports
-    open-missed node p q before now = network-missed offers [] (unhit starts) (at_rest bus.ports) valid framed net n end refl node p q before (now-at node q now)
+    open-missed node p q before now = network-missed offers [] (unhit starts) (new_bus bus.ports) valid framed net n end refl node p q before (now-at node q now)

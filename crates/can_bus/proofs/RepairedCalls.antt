@@ -83,7 +83,7 @@ taken-attempts ports hits within apart place hit there = (
 -- ---- The window of a frame.
 
 unstuffed-long : (f : Parts) → length (arbitration_field f) < length (unstuffed f)
-unfolding unstuffed head
+unfolding unstuffed head arbitration_field
 unstuffed-long f = omega (arith, length-append (arbitration_field f) (reserved f ++ (bits_of 4 f.dlc ++ flat_map (bits_of 8) f.bytes)), length-append (head f) (crc_of (head f)))
 
 stuffed-kept : (f : Parts) → kept (stuffed_part f) 0 (stuffed_part f) ≡ unstuffed f

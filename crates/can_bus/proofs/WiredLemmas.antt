@@ -9,8 +9,8 @@ use mir.Val.{bits as width_bits, hbits}
 use Rattle.std.proofs.lemmas.Simd.{chunk-drop, bitmask_splat}
 use Rattle.can_frame.specs.declared.level.Level.{Level}
 use Rattle.can_frame.specs.declared.level.Level.TheVariants.{Dominant, Recessive}
-use Rattle.can_frame.specs.Levels.{is_recessive}
-use Rattle.can_bus.specs.Wired.{over, wired, level_bit}
+use Rattle.can_frame.specs.Levels.{is_recessive, level_code}
+use Rattle.can_bus.specs.Wired.{over, wired}
 use Rattle.can_frame.proofs.LevelTests.{level_dominant, level_recessive}
 
 over_swap : (x y z : Level) → over x (over y z) ≡ over y (over x z)
@@ -142,14 +142,14 @@ resting_all (suc n) zero = refl
 resting_all (suc n) (suc k) = resting_all n k
 
 -- levels as lanes
-pub bits_more : (levels : List Level) (bits : List ℕ) (i v : ℕ) (d : Level) → i < length levels → i < length bits → take i bits ≡ map level_bit (take i levels) → v ≡ level_bit (get_or levels i d) →
-    take (i + 1) (set bits i v) ≡ map level_bit (take (i + 1) levels)
+pub bits_more : (levels : List Level) (bits : List ℕ) (i v : ℕ) (d : Level) → i < length levels → i < length bits → take i bits ≡ map level_code (take i levels) → v ≡ level_code (get_or levels i d) →
+    take (i + 1) (set bits i v) ≡ map level_code (take (i + 1) levels)
 bits_more levels bits i v d h k before e =
-    take_more_set bits i v k ∙ ap (λ xs. xs ++ v ∷ []) before ∙ ap (λ b. map level_bit (take i levels) ++ b ∷ []) e
-    ∙ sym (ap (map level_bit) (take_more levels i d h) ∙ map-append level_bit (take i levels) (get_or levels i d ∷ []))
+    take_more_set bits i v k ∙ ap (λ xs. xs ++ v ∷ []) before ∙ ap (λ b. map level_code (take i levels) ++ b ∷ []) e
+    ∙ sym (ap (map level_code) (take_more levels i d h) ∙ map-append level_code (take i levels) (get_or levels i d ∷ []))
 
-pub bits_all : (levels : List Level) (bits : List ℕ) (n : ℕ) → length levels ≤ n → length bits ≤ n → take n bits ≡ map level_bit (take n levels) → bits ≡ map level_bit levels
-bits_all levels bits n h k e = sym (take_all n bits k) ∙ e ∙ ap (map level_bit) (take_all n levels h)
+pub bits_all : (levels : List Level) (bits : List ℕ) (n : ℕ) → length levels ≤ n → length bits ≤ n → take n bits ≡ map level_code (take n levels) → bits ≡ map level_code levels
+bits_all levels bits n h k e = sym (take_all n bits k) ∙ e ∙ ap (map level_code) (take_all n levels h)
 
 doubled : (m : ℕ) → eqb (0 + 2 * m) 0 ≡ eqb m 0
 doubled zero = refl
@@ -158,14 +158,14 @@ doubled (suc m) = grind (arith, nat_tests)
 odd : (m : ℕ) → eqb (1 + 2 * m) 0 ≡ false
 odd m = grind (arith, nat_tests)
 
-mask_wired : (levels : List Level) → eqb (mask_l (map (λ x. eqb x 0) (map level_bit levels))) 0 ≡ is_recessive (wired levels)
+mask_wired : (levels : List Level) → eqb (mask_l (map (λ x. eqb x 0) (map level_code levels))) 0 ≡ is_recessive (wired levels)
 unfolding wired
 mask_wired [] = refl
-mask_wired (Dominant ∷ levels) = odd (mask_l (map (λ x. eqb x 0) (map level_bit levels)))
-mask_wired (Recessive ∷ levels) = doubled (mask_l (map (λ x. eqb x 0) (map level_bit levels))) ∙ mask_wired levels
+mask_wired (Dominant ∷ levels) = odd (mask_l (map (λ x. eqb x 0) (map level_code levels)))
+mask_wired (Recessive ∷ levels) = doubled (mask_l (map (λ x. eqb x 0) (map level_code levels))) ∙ mask_wired levels
 
 -- the lanes that are 0 are the dominant levels
-pub lanes_wired : (levels : List Level) (bits : List ℕ) (n : ℕ) → bits ≡ map level_bit levels → length bits ≡ n → n ≤ 64 →
+pub lanes_wired : (levels : List Level) (bits : List ℕ) (n : ℕ) → bits ≡ map level_code levels → length bits ≡ n → n ≤ 64 →
     eqb (mask_l (map (top (hbits w8)) (zip2 (λ a b. cond (eqb a b) (2 ^ width_bits w8 - 1) 0) bits (replicate n 0))) % 2 ^ 64) 0 ≡ is_recessive (wired levels)
 lanes_wired levels bits n e long short =
     ap (λ m. eqb m 0) (bitmask_splat w8 eqb bits n 0 long short) ∙ ap (λ b. eqb (mask_l (map (λ x. eqb x 0) b)) 0) e ∙ mask_wired levels

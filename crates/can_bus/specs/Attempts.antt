@@ -1,11 +1,13 @@
 -- Attempts that are hit: in which attempt and where, in the window of its frame, and what the ports count. Nothing here knows what a
 -- port does in a bit time. (docs/BUS.md, "A disturbed bus"; Bosch CAN 2.0 part B, sections whose numbers stand in brackets)
-use Rattle.std.specs.Prelude.{ℕ, ◌≡◌, ◌+◌, ◌-◌, ◌<◌, ◌≤◌, ◌==◌, nat_lt, Bool, true, false, if◌then◌else◌, List, [], ◌∷◌, length, take, Option, Some, None, slice_get}
+use Rattle.std.specs.Prelude.{ℕ, ◌≡◌, ◌+◌, ◌<◌, ◌≤◌, ◌==◌, nat_lt, Bool, true, false, if◌then◌else◌, List, [], ◌∷◌, length, take, Option, Some, None, slice_get}
 use Rattle.can_frame.specs.Parts.{Parts}
 use Rattle.can_frame.specs.Arbitration.{arbitration_field}
 use Rattle.can_wire.specs.Stuffing.{kept}
 use Rattle.can_wire.specs.Wire.{stuffed_part, wire}
-use Rattle.can_fault.specs.Counters.{fresh}
+use Rattle.can_fault.specs.declared.cause.Cause.{Cause}
+use Rattle.can_fault.specs.declared.cause.Cause.TheVariants.{FrameReceived, FrameSent, ReceiverError, SenderError}
+use Rattle.can_fault.specs.Counters.{changed, fresh}
 use Rattle.can_mac.specs.Frames.{IsActive, slot_place}
 use Rattle.can_hit.specs.declared.hit.Hit.{Hit}
 use Rattle.can_hit.specs.declared.hit.Hit.TheVariants.{At, In, View}
@@ -51,14 +53,20 @@ pub record Tally : Type 0 where
   pub tec : ℕ
   pub rec : ℕ
 
--- What an attempt to send f makes of them, at the port that holds f and at each other one. Where it isn't hit the sender's TEC and
--- each receiver's REC go down by one. Where it is hit they go up, by eight and by one; where the hit falls behind the ACK slot, a
--- receiver has counted the reception before. (8)
+-- what a cause makes of them (8)
+abbrev pub changed_by : Cause → Tally → Tally
+changed_by cause t =
+    let c = changed cause (record fresh { tec = t.tec; rec = t.rec }) in
+    record { tec = c.tec; rec = c.rec }
+
+-- What an attempt to send f makes of them, at the port that holds f and at each other one. Where it isn't hit, the frame is sent and
+-- received. Where it is hit, each port counts an error; where the hit falls behind the ACK slot, a receiver has counted the reception
+-- before.
 abbrev pub tallied : Bool → Parts → Option ℕ → Tally → Tally
-tallied true f None t = record { tec = t.tec - 1; rec = t.rec }
-tallied false f None t = record { tec = t.tec; rec = t.rec - 1 }
-tallied true f (Some offset) t = record { tec = t.tec + 8; rec = t.rec }
-tallied false f (Some offset) t = record { tec = t.tec; rec = (if nat_lt (slot_place f) offset then t.rec - 1 else t.rec) + 1 }
+tallied true f None t = changed_by FrameSent t
+tallied false f None t = changed_by FrameReceived t
+tallied true f (Some offset) t = changed_by SenderError t
+tallied false f (Some offset) t = changed_by ReceiverError (if nat_lt (slot_place f) offset then changed_by FrameReceived t else t)
 
 -- counters of an error active port (8)
 abbrev pub IsLow : Tally → Type 0

@@ -18,6 +18,10 @@ pub record BusState : Type 0 where
   pub ports : List PortState
   pub rest : ℕ
 
+-- a bus as it is made, where eleven recessive levels count as recorded last
+abbrev pub new_bus : List PortState → BusState
+new_bus ports = record { ports = ports; rest = idle_row }
+
 -- how far a call is: the bus, the bit time, and the latest attempt of the call
 pub record CallState : Type 0 where
   pub bus : BusState

@@ -1,5 +1,5 @@
 -- The wired level. (Bosch CAN 2.0 part B, section 2)
-use Rattle.std.specs.Prelude.{ℕ, List, [], ◌∷◌}
+use Rattle.std.specs.Prelude.{List, [], ◌∷◌}
 use Rattle.can_frame.specs.declared.level.Level.{Level}
 use Rattle.can_frame.specs.declared.level.Level.TheVariants.{Dominant, Recessive}
 
@@ -12,8 +12,3 @@ over Recessive x = x
 unfoldable pub wired : List Level → Level
 wired [] = Recessive
 wired (x ∷ levels) = over x (wired levels)
-
--- a level as a lane
-abbrev pub level_bit : Level → ℕ
-level_bit Dominant = 0
-level_bit Recessive = 1

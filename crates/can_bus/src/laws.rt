@@ -23,7 +23,7 @@ ghost use Rattle.can_bus.specs.Quiet.{AreDifferent, IsAscending, IsQuiet, IsQuie
 ghost use Rattle.can_bus.specs.Attempts.{AreApart, IsInWindow};
 ghost use Rattle.can_bus.specs.Repair.{AreBorne, AreOfOnePort, FallInWindows, IsRepairedCall, repaired_span, tally, repaired_line_at};
 ghost use Rattle.can_bus.specs.RepairedLine.{lateness, refused_place, struck};
-ghost use Rattle.can_bus.specs.Run.{AreLevelsOf, BusState, bus_level, bus_run};
+ghost use Rattle.can_bus.specs.Run.{AreLevelsOf, BusState, bus_level, bus_run, new_bus};
 
 use can_hit::Hit;
 
@@ -121,7 +121,7 @@ pub fn a_call_without_hits_is_quiet()
 pub fn a_repaired_call_can_be_made()
     ensures call { (plans : List PlannedPort) (hits : List Disturbance) → IsQuietPlan plans → FallInWindows (ascending (planned plans)) hits → AreApart 1 hits →
         (length hits ≤ 15) ⊎ AreBorne (ascending (planned plans)) hits (map ready_port plans) →
-        IsRepairedCall hits (record { ports = map ready_port plans; rest = idle_row }) (ascending (planned plans)) }
+        IsRepairedCall hits (new_bus (map ready_port plans)) (ascending (planned plans)) }
     ensures taken { (ports : ℕ) (frames : List Parts) (hits : List Disturbance) → FallInWindows frames hits → AreApart 1 hits → AreTaken ports hits }
     ensures window { (f : Parts) → IsInWindow f (length (wire f) - 2) }
 {}

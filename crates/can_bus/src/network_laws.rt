@@ -13,7 +13,7 @@ ghost use Rattle.can_bus.specs.Offers.{call_after, call_level, call_refused};
 ghost use Rattle.can_bus.specs.NetworkPlans.{AllInWindow, AreNoEarlier, IsNetworkPlan, network_course, offered_again, two_ports};
 ghost use Rattle.can_bus.specs.Plans.{PlannedPort, ready_port};
 ghost use Rattle.can_bus.specs.Quiet.{AtEachNode};
-ghost use Rattle.can_bus.specs.Run.{AreLevelsOf, BusState};
+ghost use Rattle.can_bus.specs.Run.{AreLevelsOf, BusState, new_bus};
 
 /// A call, bit time by bit time, is a disturbed play over whole lists of levels, whatever its offers and hits: with the
 /// levels that it records there are levels on the wire and levels that the ports saw. The recorded levels, the end
@@ -47,7 +47,7 @@ pub fn a_network_call_can_follow()
 /// in order, and is disturbed up to fifteen times, at most once an attempt, anywhere in its window.
 pub fn a_network_can_be_made()
     ensures call { (offers : List Offer) (hits : List Disturbance) (plans : List PlannedPort) → IsNetworkPlan offers hits plans →
-        IsNetworkCall offers hits (record { ports = map ready_port plans; rest = idle_row }) (network_course offers hits (map ready_port plans)) }
+        IsNetworkCall offers hits (new_bus (map ready_port plans)) (network_course offers hits (map ready_port plans)) }
     ensures comes_back { (f : Parts) (times : List ℕ) (hits : List Disturbance) → AreNoEarlier times → AreInAttempts hits → AreApart 1 hits →
         AllInWindow f hits → length hits ≤ 15 → IsNetworkPlan (offered_again f times) hits (two_ports (length times)) }
 {}

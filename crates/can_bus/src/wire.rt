@@ -1,17 +1,18 @@
 ghost use Rattle.std.specs.Prelude.{◌≡◌, length, map};
+ghost use Rattle.can_frame.specs.Levels.{level_code};
 ghost use Rattle.can_node.specs.Ports.{port_drives};
-ghost use Rattle.can_bus.specs.Wired.{level_bit, wired as wired_of};
+ghost use Rattle.can_bus.specs.Wired.{wired as wired_of};
 
 use can_frame::Level;
 use can_node::Port;
 use std::simd::prelude::*;
 
-/// How many levels are wired at once.
+/// How many levels are wired at once: as many as `u8x32` has lanes.
 const LANES: usize = 32;
 
 /// A level as a lane.
 fn bit(level: Level) -> u8
-    ensures { result ≡ level_bit level }
+    ensures { result ≡ level_code level }
 {
     match level {
         Level::Dominant => 0,
@@ -21,7 +22,7 @@ fn bit(level: Level) -> u8
 
 /// A full vector of levels as lanes.
 fn lanes(levels: &[Level; LANES]) -> u8x32
-    ensures lanes { result ≡ map level_bit levels.now }
+    ensures lanes { result ≡ map level_code levels.now }
     ensures whole { length result ≡ 32 }
 {
     let mut bits = [0; LANES];

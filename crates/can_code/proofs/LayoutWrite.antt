@@ -1,5 +1,5 @@
 -- Complete unstuffed levels are the levels of what they tell.
-use Rattle.std.proofs.Common.{◌≡◌, ℕ, ◌+◌, ◌-◌, ◌*◌, ◌/◌, ◌^◌, ◌≤◌, Bool, true, false, cond, List, ◌∷◌, ◌++◌, length, drop, refl, sym, ◌∙◌, ap, arith, append_assoc, length-append, inl, inr}
+use Rattle.std.proofs.Common.{◌≡◌, ℕ, ◌+◌, ◌-◌, ◌*◌, ◌/◌, ◌^◌, ◌≤◌, Bool, true, false, cond, List, [], ◌∷◌, ◌++◌, length, drop, refl, sym, ◌∙◌, ap, arith, append_assoc, length-append, inl, inr}
 use Rattle.std.specs.List.{flat_map}
 use Rattle.std.proofs.lemmas.Bool.{cond-false, cases_Bool}
 use Rattle.std.proofs.lemmas.List.{drop-drop, length-drop}
@@ -87,20 +87,22 @@ control_written u r count size =
 
 -- a standard frame's levels
 standard_levels : (u : List Level) (count : ℕ) → level_at u 0 ≡ Dominant → level_at u 13 ≡ Dominant → 34 + 8 * count ≡ length u
-    → u ≡ Dominant ∷ ((bits_of 11 (number_from 0 (levels_at u 1 11)) ++ level_from (is_recessive (level_at u 12)) ∷ Dominant ∷ level_at u 14 ∷ data_at u 15 count) ++ check_of u)
+    → u ≡ Dominant ∷ (((bits_of 11 (number_from 0 (levels_at u 1 11)) ++ level_from (is_recessive (level_at u 12)) ∷ Dominant ∷ []) ++ level_at u 14 ∷ data_at u 15 count) ++ check_of u)
 standard_levels u count start ide size =
     let raw = number_from 0 (levels_at u 1 11) in
     let identifier = bits_of-number_from 11 0 (levels_at u 1 11) (length-filled 11 (drop 1 u)) in
     let first = next_level u 0 1 refl (omega arith) in
     let second = next_levels u 1 11 12 refl (omega arith) in
     let third = control_written u 12 count size in
-    let regroup = append_assoc (bits_of 11 raw) (level_from (is_recessive (level_at u 12)) ∷ Dominant ∷ level_at u 14 ∷ data_at u 15 count) (check_of u) in
+    let rest = level_at u 14 ∷ data_at u 15 count in
+    let regroup_field = append_assoc (bits_of 11 raw) (level_from (is_recessive (level_at u 12)) ∷ Dominant ∷ []) rest in
+    let regroup = append_assoc (bits_of 11 raw) (level_from (is_recessive (level_at u 12)) ∷ Dominant ∷ rest) (check_of u) in
     cc
 
 -- an extended frame's levels
 extended_levels : (u : List Level) (count : ℕ) → level_at u 0 ≡ Dominant → level_at u 13 ≡ Recessive → 54 + 8 * count ≡ length u
-    → u ≡ Dominant ∷ ((bits_of 11 (number_from 0 (levels_at u 1 11 ++ levels_at u 14 18) / 2 ^ 18) ++ level_at u 12 ∷ Recessive
-    ∷ (bits_of 18 (number_from 0 (levels_at u 1 11 ++ levels_at u 14 18)) ++ level_from (is_recessive (level_at u 32)) ∷ level_at u 33 ∷ level_at u 34 ∷ data_at u 35 count)) ++ check_of u)
+    → u ≡ Dominant ∷ (((bits_of 11 (number_from 0 (levels_at u 1 11 ++ levels_at u 14 18) / 2 ^ 18) ++ level_at u 12 ∷ Recessive
+    ∷ (bits_of 18 (number_from 0 (levels_at u 1 11 ++ levels_at u 14 18)) ++ level_from (is_recessive (level_at u 32)) ∷ [])) ++ level_at u 33 ∷ level_at u 34 ∷ data_at u 35 count) ++ check_of u)
 extended_levels u count start ide size =
     let upper = levels_at u 1 11 in
     let lower = levels_at u 14 18 in
@@ -115,7 +117,11 @@ extended_levels u count start ide size =
     let fourth = next_level u 13 14 refl (omega arith) in
     let fifth = next_levels u 14 18 32 refl (omega arith) in
     let sixth = control_written u 32 count size in
-    let last = level_from (is_recessive (level_at u 32)) ∷ level_at u 33 ∷ level_at u 34 ∷ data_at u 35 count in
+    let rtr = level_from (is_recessive (level_at u 32)) ∷ [] in
+    let rest = level_at u 33 ∷ level_at u 34 ∷ data_at u 35 count in
+    let last = level_from (is_recessive (level_at u 32)) ∷ rest in
+    let regroup_field = append_assoc (bits_of 11 (raw / 2 ^ 18)) (level_at u 12 ∷ Recessive ∷ (bits_of 18 raw ++ rtr)) rest in
+    let regroup_rtr = append_assoc (bits_of 18 raw) rtr rest in
     let regroup = append_assoc (bits_of 11 (raw / 2 ^ 18)) (level_at u 12 ∷ Recessive ∷ (bits_of 18 raw ++ last)) (check_of u) in
     let regroup_lower = append_assoc (bits_of 18 raw) last (check_of u) in
     cc

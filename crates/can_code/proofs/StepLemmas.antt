@@ -18,7 +18,7 @@ use Rattle.can_wire.specs.Layout.{frame_len}
 use Rattle.can_code.specs.Front.{FrontParts, next_place, heard_level, hear_at, heard_levels}
 use Rattle.can_code.specs.Digits.{BeginWith, HearsDigits, levels_up}
 use Rattle.can_code.specs.Steps.{RunParts, Step, begun, step_on, steps_on}
-use Rattle.can_code.specs.Unstuffing.{HasRoom, Unstuffs}
+use Rattle.can_code.specs.Unstuffing.{IsOpenFor, Unstuffs}
 use Rattle.can_code.specs.declared.unstuffing.UnstuffedRun.{UnstuffedRun}
 use Rattle.can_wire.proofs.LevelLemmas.{bits_of-zero, length-bits_of}
 use Rattle.can_wire.proofs.PackedLemmas.{bits_of-next, bits_of-moved, joined-small, next-small}
@@ -128,13 +128,13 @@ step_on-few s t x taken = elim (step_on-some s t x taken) [
   | inr unstuffed ↦ (let len : t.len ≡ s.len + 1 = ap (λ u. u.len) unstuffed.1 in omega (arith, len))
 ]
 
-pub steps_on-heard : (xs : List Level) (u : List Level) (s t : Step) → HasRoom u (s.len + length xs) → steps_on s xs ≡ Some t → heard_levels (front_of u s) xs ≡ Some (front_of u t)
+pub steps_on-heard : (xs : List Level) (u : List Level) (s t : Step) → IsOpenFor u (s.len + length xs) → steps_on s xs ≡ Some t → heard_levels (front_of u s) xs ≡ Some (front_of u t)
 steps_on-heard [] u s t room taken = let one : s ≡ t = cc in ap (λ y. Some (front_of u y)) one
 steps_on-heard (x ∷ xs) u s t room taken =
     option_and_then_some (λ m. steps_on m xs) (step_on s x) t taken (λ m first rest.
     let here : length (u ++ bits_of s.len s.number) < frame_len (u ++ bits_of s.len s.number) =
     room (bits_of s.len s.number) (omega (arith, length-bits_of s.len s.number)) in
-    let left : HasRoom u (m.len + length xs) = (λ v short. room v (omega (arith, short, step_on-few s m x first))) in
+    let left : IsOpenFor u (m.len + length xs) = (λ v short. room v (omega (arith, short, step_on-few s m x first))) in
     ap (option_and_then (λ g. heard_levels g xs)) (step_on-heard u s m x here first) ∙ steps_on-heard xs u m t left rest)
 
 -- ---- levels of a block of digits
@@ -271,7 +271,7 @@ module _ (digits : List ℕ) (room : ℕ) (before : RunParts) (r : UnstuffedRun)
         short = h.short;
         heard = λ u has.
             let v = u ++ bits_of r.len r.number in
-            let left : HasRoom v (0 + length (levels_up count levels)) = (λ w short.
+            let left : IsOpenFor v (0 + length (levels_up count levels)) = (λ w short.
             subst (λ l. length l < frame_len l) (sym (append_assoc u (bits_of r.len r.number) w))
             (has (bits_of r.len r.number ++ w) (omega (arith, short, fits, length-levels_up count levels, length-bits_of r.len r.number, length-append (bits_of r.len r.number) w)))) in
             let begins : v ++ bits_of 0 0 ≡ v = ap (λ l. v ++ l) (bits_of-zero 0) ∙ append-nil v in

@@ -9,7 +9,7 @@ use Rattle.can_frame.specs.declared.level.Level.{Level}
 use Rattle.can_frame.specs.declared.level.Level.TheVariants.{Dominant, Recessive}
 use Rattle.can_frame.specs.Levels.{level_of}
 use Rattle.can_code.specs.Digits.{levels_up}
-use Rattle.can_code.specs.Steps.{Step, begun, entry_of, in_table, last_of, row_of, run_of, steps_on}
+use Rattle.can_code.specs.Steps.{Step, begun, step_entry, in_table, row_last, row_of, row_run, steps_on}
 use Rattle.can_code.specs.declared.steps.TableStep.{TableStep}
 use Rattle.can_code.specs.declared.steps.table.TheConstants.{STEPS}
 use Rattle.can_code.proofs.StepLemmas.{StepBounds}
@@ -20,7 +20,7 @@ levels_below zero i = []
 levels_below (suc n) i = cond (ltb i 2) [] (level_of (i % 2) ∷ levels_below n (i / 2))
 
 abbrev entry_at : ℕ → ℕ
-entry_at place = entry_of (steps_on (begun (last_of (place % 10)) (run_of (place % 10))) (levels_below 8 (place / 10)))
+entry_at place = step_entry (steps_on (begun (row_last (place % 10)) (row_run (place % 10))) (levels_below 8 (place / 10)))
 
 -- the table, by computing each of its entries
 table_is : STEPS ≡ map entry_at (range_with_len 0 5120)
@@ -50,7 +50,7 @@ levels_below-up (suc n) (suc k) m h =
 
 -- what a row of the table has at the place of these levels
 pub entry_is : (row m k place : ℕ) → row < 10 → k ≤ 8 → place ≡ 10 * (2 ^ k + m % 2 ^ k) + row
-    → (place < 5120) × (get_or STEPS place 0 ≡ entry_of (steps_on (begun (last_of row) (run_of row)) (levels_up k m)))
+    → (place < 5120) × (get_or STEPS place 0 ≡ step_entry (steps_on (begun (row_last row) (row_run row)) (levels_up k m)))
 entry_is row m k place within few at =
     let i = 2 ^ k + m % 2 ^ k in
     let most : 2 ^ k ≤ 2 ^ 8 = pow_mono few in
@@ -60,18 +60,18 @@ entry_is row m k place within few at =
     let high : place % 10 ≡ row = omega (arith, at, within) in (
       inside,
       ap (λ t. get_or t place 0) table_is ∙ get_or-map-range_with_len entry_at 0 5120 place place 0 inside (omega arith)
-          ∙ ap (λ r. entry_of (steps_on (begun (last_of r) (run_of r)) (levels_below 8 (place / 10)))) high
-          ∙ ap (λ j. entry_of (steps_on (begun (last_of row) (run_of row)) (levels_below 8 j))) low
-          ∙ ap (λ l. entry_of (steps_on (begun (last_of row) (run_of row)) l)) (levels_below-up 8 k m few),
+          ∙ ap (λ r. step_entry (steps_on (begun (row_last r) (row_run r)) (levels_below 8 (place / 10)))) high
+          ∙ ap (λ j. step_entry (steps_on (begun (row_last row) (row_run row)) (levels_below 8 j))) low
+          ∙ ap (λ l. step_entry (steps_on (begun (row_last row) (row_run row)) l)) (levels_below-up 8 k m few),
     )
 
 -- ---- rows
 
-pub row_of-last : (x : Level) (r : ℕ) → 1 ≤ r → r ≤ 5 → last_of (row_of x r) ≡ x
+pub row_of-last : (x : Level) (r : ℕ) → 1 ≤ r → r ≤ 5 → row_last (row_of x r) ≡ x
 row_of-last Dominant r some short = (let e : (5 * 0 + (r - 1)) / 5 ≡ 0 = omega arith in ap level_of e)
 row_of-last Recessive r some short = (let e : (5 * 1 + (r - 1)) / 5 ≡ 1 = omega arith in ap level_of e)
 
-pub row_of-run : (x : Level) (r : ℕ) → 1 ≤ r → r ≤ 5 → run_of (row_of x r) ≡ r
+pub row_of-run : (x : Level) (r : ℕ) → 1 ≤ r → r ≤ 5 → row_run (row_of x r) ≡ r
 row_of-run Dominant r some short = omega arith
 row_of-run Recessive r some short = omega arith
 
@@ -100,13 +100,13 @@ module _ (s : Step) (e : ℕ) (is : e ≡ s.number + 256 * s.len + 4096 * row_of
       same_step s (e % 256) (e / 256 % 16) (e / 4096) (omega (arith, is, small, h.few)) (omega (arith, is, small, h.few)) (omega (arith, is, small, h.few))
 
 -- where it has a step
-pub read-some : (o : Option Step) (e : ℕ) → e ≡ entry_of o → ((s : Step) → o ≡ Some s → StepBounds s 8) → e ≢ 65535
+pub read-some : (o : Option Step) (e : ℕ) → e ≡ step_entry o → ((s : Step) → o ≡ Some s → StepBounds s 8) → e ≢ 65535
     → ◌≡◌ {A = Option TableStep} (Some (record { number = e % 256; len = e / 256 % 16; row = e / 4096 })) (in_table o)
 read-some None e is bounds some = absurd (some is)
 read-some (Some s) e is bounds some = entry-step s e is (bounds s refl)
 
 -- and where it has none
-pub read-none : (o : Option Step) (e : ℕ) → e ≡ entry_of o → ((s : Step) → o ≡ Some s → StepBounds s 8) → e ≡ 65535 → None ≡ in_table o
+pub read-none : (o : Option Step) (e : ℕ) → e ≡ step_entry o → ((s : Step) → o ≡ Some s → StepBounds s 8) → e ≡ 65535 → None ≡ in_table o
 read-none None e is bounds none = refl
 read-none (Some s) e is bounds none = absurd (entry-no_none s e is (bounds s refl) none)
 

@@ -19,7 +19,7 @@ use Rattle.can_code.specs.Reading.{TellsLength}
 use Rattle.can_code.specs.Front.{FrontParts, IsFront, next_place, is_stuff_error, heard_level, heard_levels}
 use Rattle.can_code.specs.Decoder.{DecoderParts, HasHeard}
 use Rattle.can_code.specs.Digits.{DecodesDigits, HearsDigits, HearsTail}
-use Rattle.can_code.specs.Unstuffing.{HasRoom}
+use Rattle.can_code.specs.Unstuffing.{IsOpenFor}
 use mir.Val.{bool_byte}
 use Rattle.can_wire.proofs.LevelLemmas.{bits_of-zero}
 use Rattle.can_wire.proofs.PackedLemmas.{bits_of-next}
@@ -38,16 +38,16 @@ extended_place true h = refl
 extended_place false h = absurd (omega arith)
 
 module _ (u : List Level) where
-  pub HasRoom-told : (n r : ℕ) → TellsLength u (Some n) → 0 < r → r ≤ n - 1 - length u → HasRoom u r
-  HasRoom-told n r told some fits v short =
+  pub IsOpenFor-told : (n r : ℕ) → TellsLength u (Some n) → 0 < r → r ≤ n - 1 - length u → IsOpenFor u r
+  IsOpenFor-told n r told some fits v short =
       let before : data_place (extended_of u) ≤ length u = told.0 in
       omega (arith, length-append u v, told.1, frame_len-append u v before)
 
-  pub HasRoom-standard : (r : ℕ) → 0 < r → r ≤ 33 - length u → HasRoom u r
-  HasRoom-standard r some fits v short = omega (arith, length-append u v, frame_len_ge (u ++ v))
+  pub IsOpenFor-standard : (r : ℕ) → 0 < r → r ≤ 33 - length u → IsOpenFor u r
+  IsOpenFor-standard r some fits v short = omega (arith, length-append u v, frame_len_ge (u ++ v))
 
-  pub HasRoom-extended : (r : ℕ) → 0 < r → 19 ≤ length u → TellsLength u None → r ≤ 53 - length u → HasRoom u r
-  HasRoom-extended r some long untold fits v short =
+  pub IsOpenFor-extended : (r : ℕ) → 0 < r → 19 ≤ length u → TellsLength u None → r ≤ 53 - length u → IsOpenFor u r
+  IsOpenFor-extended r some long untold fits v short =
       let few : length u < data_place (extended_of u) = untold in
       let place : data_place (extended_of u) ≡ 39 = extended_place (extended_of u) (omega arith) in
       let kept : data_place (extended_of (u ++ v)) ≡ data_place (extended_of u) = ap (λ t. data_place (is_recessive t)) (level_at-append u v 13 (omega arith)) in
@@ -81,7 +81,7 @@ start_stays [] v h = cc
 start_stays (x ∷ u) v h = h
 
 -- a front with levels for which it has room
-pub IsFront-run : (f : FrontParts) (v : List Level) (last : Level) (run r : ℕ) → IsFront f → HasRoom f.unstuffed r → length v ≤ r → 1 ≤ run → run ≤ 5
+pub IsFront-run : (f : FrontParts) (v : List Level) (last : Level) (run r : ℕ) → IsFront f → IsOpenFor f.unstuffed r → length v ≤ r → 1 ≤ run → run ≤ 5
     → IsFront (record { unstuffed = f.unstuffed ++ v; last = last; run = run })
 IsFront-run f v last run r h room short some few = record {
   start = start_stays f.unstuffed v h.start;

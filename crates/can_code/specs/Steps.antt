@@ -40,14 +40,14 @@ pub record RunParts : Type 0 where
 abbrev pub row_of : Level → ℕ → ℕ
 row_of last run = 5 * level_code last + (run - 1)
 
-abbrev pub last_of : ℕ → Level
-last_of row = level_of (row / 5)
+abbrev pub row_last : ℕ → Level
+row_last row = level_of (row / 5)
 
-abbrev pub run_of : ℕ → ℕ
-run_of row = row % 5 + 1
+abbrev pub row_run : ℕ → ℕ
+row_run row = row % 5 + 1
 
 abbrev pub run_at : ℕ → RunParts
-run_at row = record { last = last_of row; run = run_of row }
+run_at row = record { last = row_last row; run = row_run row }
 
 -- a step, as the code has it
 abbrev pub in_table : Option Step → Option TableStep
@@ -55,6 +55,6 @@ in_table None = None
 in_table (Some s) = Some (record { number = s.number; len = s.len; row = row_of s.last s.run })
 
 -- and as a number
-abbrev pub entry_of : Option Step → ℕ
-entry_of None = 65535
-entry_of (Some s) = s.number + 256 * s.len + 4096 * row_of s.last s.run
+abbrev pub step_entry : Option Step → ℕ
+step_entry None = 65535
+step_entry (Some s) = s.number + 256 * s.len + 4096 * row_of s.last s.run

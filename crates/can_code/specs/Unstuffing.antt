@@ -10,8 +10,8 @@ use Rattle.can_code.specs.declared.unstuffing.StepRun.{StepRun}
 use Rattle.can_code.specs.declared.unstuffing.UnstuffedRun.{UnstuffedRun}
 
 -- with up to n unstuffed levels more, whichever they are, the check sequence is not whole yet
-abbrev pub HasRoom : List Level → ℕ → Type 0
-HasRoom u n = (v : List Level) → length v ≤ n → length (u ++ v) < frame_len (u ++ v)
+abbrev pub IsOpenFor : List Level → ℕ → Type 0
+IsOpenFor u n = (v : List Level) → length v ≤ n → length (u ++ v) < frame_len (u ++ v)
 
 -- What a front has heard that has this room, and a run of such behind it, where levels at the front of these digits
 -- were taken
@@ -21,7 +21,7 @@ pub record Unstuffs (digits : List ℕ) (room : ℕ) (before : RunParts) (taken 
   pub small : taken.number < 2 ^ taken.len
   pub some : 1 ≤ taken.behind.run
   pub short : taken.behind.run ≤ 5
-  pub heard : (u : List Level) → HasRoom u room → HearsDigits (record { unstuffed = u; last = before.last; run = before.run })
+  pub heard : (u : List Level) → IsOpenFor u room → HearsDigits (record { unstuffed = u; last = before.last; run = before.run })
       (record { unstuffed = u ++ bits_of taken.len taken.number; last = taken.behind.last; run = taken.behind.run }) (take taken.taken digits)
 
 -- levels that steps have taken, with the run that its row of the table stands for

@@ -2,7 +2,7 @@ mod table;
 
 ghost use Rattle.std.specs.Prelude.{◌≡◌, ◌≤◌, ◌<◌};
 ghost use Rattle.can_code.specs.Digits.{levels_up};
-ghost use Rattle.can_code.specs.Steps.{begun, entry_of, in_table, last_of, run_of, steps_on};
+ghost use Rattle.can_code.specs.Steps.{begun, step_entry, in_table, row_last, row_run, steps_on};
 
 use table::STEPS;
 
@@ -32,7 +32,7 @@ pub(crate) struct TableStep {
 pub(crate) fn take_step(row: u8, levels: u64, count: usize) -> Option<TableStep>
     requires row { row < 10 }
     requires few { count ≤ 8 }
-    ensures { result ≡ in_table (steps_on (begun (last_of row) (run_of row)) (levels_up count levels)) }
+    ensures { result ≡ in_table (steps_on (begun (row_last row) (row_run row)) (levels_up count levels)) }
 {
     let entry = entry(row, levels, count);
     if entry == NO_STEP {
@@ -50,7 +50,7 @@ pub(crate) fn take_step(row: u8, levels: u64, count: usize) -> Option<TableStep>
 fn entry(row: u8, levels: u64, count: usize) -> u16
     requires row { row < 10 }
     requires few { count ≤ 8 }
-    ensures { result ≡ entry_of (steps_on (begun (last_of row) (run_of row)) (levels_up count levels)) }
+    ensures { result ≡ step_entry (steps_on (begun (row_last row) (row_run row)) (levels_up count levels)) }
 {
     let column = (1 << count) + levels % (1 << count);
     STEPS[ROWS * column as usize + usize::from(row)]

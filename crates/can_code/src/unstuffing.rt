@@ -3,7 +3,7 @@ ghost use Rattle.can_frame.specs.declared.level.Level.{Level as Bit};
 ghost use Rattle.can_code.specs.Digits.{BeginWith};
 ghost use Rattle.can_code.specs.Reading.{TellsLength};
 ghost use Rattle.can_code.specs.Steps.{RunParts, run_at};
-ghost use Rattle.can_code.specs.Unstuffing.{HasRoom, Unstuffs, as_run};
+ghost use Rattle.can_code.specs.Unstuffing.{IsOpenFor, Unstuffs, as_run};
 
 use crate::digits::{BLOCK, levels_of};
 use crate::run::Run;
@@ -55,7 +55,7 @@ impl UnstuffedRun {
 #[inline]
 pub(crate) fn room_behind(len: usize, told: Option<usize>) -> usize
     ensures bound { result ≤ 64 }
-    ensures room { (u : List Bit) → len ≡ length u → TellsLength u told → 0 < result → HasRoom u result }
+    ensures room { (u : List Bit) → len ≡ length u → TellsLength u told → 0 < result → IsOpenFor u result }
 {
     let end = match told {
         Some(length) => length.saturating_sub(1),

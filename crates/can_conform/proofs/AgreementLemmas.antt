@@ -16,11 +16,11 @@ use Rattle.can_conform.specs.declared.transcript.Transcript.{Transcript}
 use Rattle.can_node.specs.Ports.{PortState}
 use Rattle.can_mac.specs.declared.event.Event.{Event}
 use Rattle.can_conform.specs.Runs.{before, counters_of, moment_at, started}
-use Rattle.can_conform.specs.Transcripts.{no_counts, told_at, told_before, AgreesAt, AreRising, EndBefore, IsTold}
+use Rattle.can_conform.specs.Transcripts.{no_counts, item_at, told_before, AgreesAt, AreRising, EndBefore, IsTold}
 use Rattle.can_conform.specs.Verdicts.{IsDifference}
-use Rattle.can_conform.specs.Walks.{HasReached, IsDifferenceAt, IsReached, Stands}
+use Rattle.can_conform.specs.Walks.{HasReached, IsDifferenceAt, IsReached, IsStanding}
 use Rattle.can_conform.proofs.RunLemmas.{before-first, before-past, event-past, level-past, rule-past, since-past}
-use Rattle.can_conform.proofs.TimedLemmas.{reached-first, told_at-past, told_before-first, told_before_more, told_before-past}
+use Rattle.can_conform.proofs.TimedLemmas.{reached-first, item_at-past, told_before-first, told_before_more, told_before-past}
 
 -- ---- what may be left out
 
@@ -48,16 +48,16 @@ reached-start told p event counter held = record {
 -- ---- a bit time in which nothing is told
 
 -- the counters told last stay
-counters-stay : (told : Transcript) (p : Progress) (t : ℕ) → IsTold told → HasReached told p t → IfSome told.counters (λ counters. told_at counters.items t ≡ None)
+counters-stay : (told : Transcript) (p : Progress) (t : ℕ) → IsTold told → HasReached told p t → IfSome told.counters (λ counters. item_at counters.items t ≡ None)
     → IfSome told.counters (λ counters. p.held ≡ told_before no_counts counters.items (t + 1))
 counters-stay told p t is reached none =
     some-both _ _ _ told.counters (λ counters both held.
     held ∙ sym (told_before_more no_counts counters.items t both.0 ∙ ap (λ o. unwrap_or o (told_before no_counts counters.items t)) both.1))
-    (some-both (λ counters. AreRising counters.items) (λ counters. told_at counters.items t ≡ None) (λ counters. AreRising counters.items × (told_at counters.items t ≡ None)) told.counters (λ counters rising at. (rising, at)) is.counters none)
+    (some-both (λ counters. AreRising counters.items) (λ counters. item_at counters.items t ≡ None) (λ counters. AreRising counters.items × (item_at counters.items t ≡ None)) told.counters (λ counters rising at. (rising, at)) is.counters none)
     reached.held
 
 pub quiet-agrees : (told : Transcript) (p : Progress) (t : ℕ) (m : Moment) → IsTold told → HasReached told p t → m.event ≡ None → p.held ≡ m.counters → slice_get told.drove.items t ≡ m.drove
-    → IfSome told.events (λ events. told_at events.items t ≡ None) → IfSome told.counters (λ counters. told_at counters.items t ≡ None) → AgreesAt told t m
+    → IfSome told.events (λ events. item_at events.items t ≡ None) → IfSome told.counters (λ counters. item_at counters.items t ≡ None) → AgreesAt told t m
 quiet-agrees told p t m is reached event held level no_event no_change = record {
   level = level;
   event = some-map _ _ told.events (λ events at. at ∙ sym event) no_event;
@@ -66,7 +66,7 @@ quiet-agrees told p t m is reached event held level no_event no_change = record 
 
 pub quiet-reached : (told : Transcript) (p : Progress) (t : ℕ) → IsTold told → HasReached told p t
     → IfSome told.events (λ events. IsReached events.items p.event (t + 1)) → IfSome told.counters (λ counters. IsReached counters.items p.counter (t + 1))
-    → IfSome told.counters (λ counters. told_at counters.items t ≡ None) → HasReached told p (t + 1)
+    → IfSome told.counters (λ counters. item_at counters.items t ≡ None) → HasReached told p (t + 1)
 quiet-reached told p t is reached events counters no_change = record { events = events; counters = counters; held = counters-stay told p t is reached no_change }
 
 -- ---- behind all that is told
@@ -110,14 +110,14 @@ agrees-all s told h bits levels events counters agrees t = elim (cases_order t h
     past : h ≤ t → AgreesAt told t (moment_at s t)
     past late = record {
       level = slice_get_past told.drove.items t (omega arith) ∙ sym (level-past s t (omega arith));
-      event = some-map _ _ told.events (λ events ends. told_at-past events.items h t ends late ∙ sym (event-past s t (omega arith))) events;
+      event = some-map _ _ told.events (λ events ends. item_at-past events.items h t ends late ∙ sym (event-past s t (omega arith))) events;
       counters = some-both _ _ _ told.counters
           (λ counters ends held. told_before-past no_counts counters.items h (t + 1) ends (omega arith) ∙ held
           ∙ ap counters_of (before-past s h bits ∙ sym (before-past s (t + 1) (omega arith)))) counters (counters-agree s told h agrees);
     }
 
 -- a port stands where it stood as the case ended
-pub stands-past : (s : Script) (t : ℕ) (p : PortState) (now : Rule) (since : Option (Timed Event)) → length s.tester.items ≤ t → Stands s t p now since → Stands s (length s.tester.items) p now since
+pub stands-past : (s : Script) (t : ℕ) (p : PortState) (now : Rule) (since : Option (Timed Event)) → length s.tester.items ≤ t → IsStanding s t p now since → IsStanding s (length s.tester.items) p now since
 stands-past s t p now since past stands = record {
   port = stands.port ∙ before-past s t past;
   decides = stands.decides ∙ rule-past s t past;

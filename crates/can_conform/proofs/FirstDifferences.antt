@@ -11,8 +11,8 @@ use Rattle.can_conform.specs.declared.script.Script.{Script}
 use Rattle.can_conform.specs.declared.timed.Timed.{Timed}
 use Rattle.can_conform.specs.declared.transcript.Ending.{Ending}
 use Rattle.can_conform.specs.declared.transcript.Transcript.{Transcript}
-use Rattle.can_conform.specs.Runs.{end_of, moment_at, standing_before}
-use Rattle.can_conform.specs.Transcripts.{no_counts, told_at, told_before, Agrees, AgreesAt, EndBefore, IsTold}
+use Rattle.can_conform.specs.Runs.{script_end, moment_at, standing_before}
+use Rattle.can_conform.specs.Transcripts.{no_counts, item_at, told_before, Agrees, AgreesAt, EndBefore, IsTold}
 use Rattle.can_conform.specs.Verdicts.{IsFirst, IsVerdict}
 use Rattle.can_conform.specs.Walks.{IsDifferenceAt}
 use Rattle.can_conform.proofs.AgreementLemmas.{agrees-all, agrees-more, difference-is, some-map}
@@ -31,7 +31,7 @@ is-or-differs decides (Some x) f b = elim (decides (f x) b) [
 at-time : (told : Transcript) (t : ℕ) (m : Moment) → AgreesAt told t m ⊎ ((d : Difference) × IsDifferenceAt told t m d)
 at-time told t m = elim (same-option same-level (slice_get told.drove.items t) m.drove) [
   | fails other ↦ inr (difference.Level (slice_get told.drove.items t) m.drove, record { is_told = refl; ought = refl; differs = other })
-  | holds level ↦ elim (is-or-differs (same-option same-event) told.events (λ events. told_at events.items t) m.event) [
+  | holds level ↦ elim (is-or-differs (same-option same-event) told.events (λ events. item_at events.items t) m.event) [
     | inr other ↦ inr (difference.Event other.0 m.event, record { level = level; is_told = other.1; ought = refl; differs = other.2 })
     | inl event ↦ elim (is-or-differs same-counts told.counters (λ counters. told_before no_counts counters.items (t + 1)) m.counters) [
       | inr other ↦ inr (difference.Counters other.0 m.counters, record { level = level; event = event; is_told = other.1; ought = refl; differs = other.2 })
@@ -76,11 +76,11 @@ end-or-differs (Some x) b = elim (same-ending x b) [
 pub some-verdict : (s : Script) (told : Transcript) → IsTold told → (v : Verdict) × IsVerdict s told v
 some-verdict s told is = elim (all-times s told (2 ^ 32 - 1) is.levels is.events_end is.counters_end) [
   | inr first ↦ (Fail first.0, first.1)
-  | inl agrees ↦ elim (end-or-differs told.end (end_of s)) [
+  | inl agrees ↦ elim (end-or-differs told.end (script_end s)) [
     | inl end ↦ (Pass, let a : Agrees s told = record { each = agrees; end = end } in a)
     | inr other ↦
         let t : ℕ = length s.tester.items in
-        let f : Failure = record { time = t; difference = difference.End other.0 (end_of s); standing = standing_before s t } in
+        let f : Failure = record { time = t; difference = difference.End other.0 (script_end s); standing = standing_before s t } in
         let first : IsFirst s told f = record {
           before = λ u less. agrees u;
           here = record { behind = refl; each = agrees; is_told = other.1; ought = refl; differs = other.2 };

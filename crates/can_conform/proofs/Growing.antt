@@ -5,8 +5,8 @@ use Rattle.std.proofs.lemmas.Bool.{cases_order}
 use Rattle.std.proofs.lemmas.Bool.Decides.{nat_tests}
 use Rattle.std.proofs.lemmas.Option.{slice_get_within}
 use Rattle.can_conform.specs.declared.timed.Timed.{Timed}
-use Rattle.can_conform.specs.Transcripts.{timed, told_at, AreRising, EndBefore, Tells}
-use Rattle.can_conform.proofs.TimedLemmas.{told_at-past}
+use Rattle.can_conform.specs.Transcripts.{timed, item_at, AreRising, EndBefore, Tells}
+use Rattle.can_conform.proofs.TimedLemmas.{item_at-past}
 
 -- an element of a list with one more at its end
 last-or-before : {A : Type 0} (xs : List A) (x y : A) (n : ℕ) → slice_get (xs ++ x ∷ []) n ≡ Some y → (slice_get xs n ≡ Some y) ⊎ ((n ≡ length xs) × (y ≡ x))
@@ -19,31 +19,31 @@ last-or-before (z ∷ xs) x y (suc n) at = elim (last-or-before xs x y n at) [
 ]
 
 -- what is told, with one more at its end
-told_at-more : {A : Type 0} (xs : List (Timed A)) (x : Timed A) (t : ℕ) → (told_at (xs ++ x ∷ []) t ≡ told_at xs t) ⊎ (x.time ≡ t)
-told_at-more [] x t = elim (cases_order x.time t) [
+item_at-more : {A : Type 0} (xs : List (Timed A)) (x : Timed A) (t : ℕ) → (item_at (xs ++ x ∷ []) t ≡ item_at xs t) ⊎ (x.time ≡ t)
+item_at-more [] x t = elim (cases_order x.time t) [
   | inl same ↦ inr same
   | inr apart ↦
       let other : (x.time == t) ≡ false = elim apart [ inl less ↦ grind (arith, nat_tests) | inr more ↦ grind (arith, nat_tests) ] in
       inl (ap (λ b. if b then Some x.told else None) other)
 ]
-told_at-more (y ∷ xs) x t = elim (told_at-more xs x t) [
+item_at-more (y ∷ xs) x t = elim (item_at-more xs x t) [
   | inl same ↦ inl (ap (λ o. if y.time == t then Some y.told else o) same)
   | inr now ↦ inr now
 ]
 
-told_at-last : {A : Type 0} (xs : List (Timed A)) (x : Timed A) (t : ℕ) → EndBefore xs t → x.time ≡ t → told_at (xs ++ x ∷ []) t ≡ Some x.told
-told_at-last [] x t ends now =
+item_at-last : {A : Type 0} (xs : List (Timed A)) (x : Timed A) (t : ℕ) → EndBefore xs t → x.time ≡ t → item_at (xs ++ x ∷ []) t ≡ Some x.told
+item_at-last [] x t ends now =
     let here : (x.time == t) ≡ true = grind (arith, nat_tests) in
     ap (λ b. if b then Some x.told else None) here
-told_at-last (y ∷ xs) x t ends now =
+item_at-last (y ∷ xs) x t ends now =
     let less : y.time < t = ends 0 y refl in
     let other : (y.time == t) ≡ false = grind (arith, nat_tests) in
-    ap (λ b. if b then Some y.told else told_at (xs ++ x ∷ []) t) other ∙ told_at-last xs x t (λ n z at. ends (suc n) z at) now
+    ap (λ b. if b then Some y.told else item_at (xs ++ x ∷ []) t) other ∙ item_at-last xs x t (λ n z at. ends (suc n) z at) now
 
 -- all that comes before bit time n is told, and nothing else
 pub record IsToldUpTo {A : Type 0} (at : ℕ → Option A) (xs : List (Timed A)) (n : ℕ) : Type 0 where
   pub rising : AreRising xs
-  pub each : (t : ℕ) → t < n → told_at xs t ≡ at t
+  pub each : (t : ℕ) → t < n → item_at xs t ≡ at t
   pub end : EndBefore xs n
 
 pub told-none : {A : Type 0} (at : ℕ → Option A) → IsToldUpTo at [] 0
@@ -58,7 +58,7 @@ pub told-still : {A : Type 0} (at : ℕ → Option A) (xs : List (Timed A)) (n :
 told-still at xs n none before = record {
   rising = before.rising;
   each = λ t h. elim (cases_order t n) [
-    | inl same ↦ ap (told_at xs) same ∙ told_at-past xs n n before.end (omega arith) ∙ sym none ∙ ap at (sym same)
+    | inl same ↦ ap (item_at xs) same ∙ item_at-past xs n n before.end (omega arith) ∙ sym none ∙ ap at (sym same)
     | inr apart ↦ elim apart [
       | inl less ↦ before.each t less
       | inr more ↦ absurd (omega arith)
@@ -86,9 +86,9 @@ told-more {A} at xs n y some before =
         ]
       ];
       each = λ t h. elim (cases_order t n) [
-        | inl same ↦ ap (told_at (xs ++ x ∷ [])) same ∙ told_at-last xs x n before.end refl ∙ sym some ∙ ap at (sym same)
+        | inl same ↦ ap (item_at (xs ++ x ∷ [])) same ∙ item_at-last xs x n before.end refl ∙ sym some ∙ ap at (sym same)
         | inr apart ↦ elim apart [
-          | inl less ↦ elim (told_at-more xs x t) [
+          | inl less ↦ elim (item_at-more xs x t) [
             | inl kept ↦ kept ∙ before.each t less
             | inr now ↦ let e : n ≡ t = now in absurd (omega arith)
           ]
@@ -106,10 +106,10 @@ pub told-all : {A : Type 0} (at : ℕ → Option A) (xs : List (Timed A)) (n : �
 told-all at xs n none before = record {
   rising = before.rising;
   each = λ t. elim (cases_order t n) [
-    | inl same ↦ told_at-past xs n t before.end (omega arith) ∙ sym (none t (omega arith))
+    | inl same ↦ item_at-past xs n t before.end (omega arith) ∙ sym (none t (omega arith))
     | inr apart ↦ elim apart [
       | inl less ↦ before.each t less
-      | inr more ↦ told_at-past xs n t before.end (omega arith) ∙ sym (none t (omega arith))
+      | inr more ↦ item_at-past xs n t before.end (omega arith) ∙ sym (none t (omega arith))
     ]
   ];
 }

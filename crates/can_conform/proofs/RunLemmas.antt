@@ -16,7 +16,7 @@ use Rattle.can_conform.specs.declared.standing.Rule.{Rule}
 use Rattle.can_conform.specs.declared.timed.Timed.{Timed}
 use Rattle.can_conform.specs.declared.transcript.Counters.{Counters}
 use Rattle.can_conform.specs.Transcripts.{changed_in, same_counters}
-use Rattle.can_conform.specs.Runs.{before, behind, counters_of, event_of, handed, last_event, level_of, met, moment_at, next_rule, rule_before, seen_by, since_before, started, told_of}
+use Rattle.can_conform.specs.Runs.{before, behind, counters_of, event_of, handed, last_event, driven_in, met, moment_at, next_rule, rule_before, seen_by, since_before, started, told_event}
 use Rattle.can_conform.specs.Standings.{phase_name, phase_rule, rule_behind}
 
 -- ---- the first bit time
@@ -53,7 +53,7 @@ rule-more s t = rw add-one refl
 pub level-within : (s : Script) (t : ℕ) → t < length s.tester.items → (x : Level) × ((moment_at s t).drove ≡ Some x)
 level-within s t within =
     let some = slice_get-get_or s.tester.items t tester.Recessive within in
-    (port_drives (handed s t (before s t)), ap (λ o. level_of o s t (before s t)) some)
+    (port_drives (handed s t (before s t)), ap (λ o. driven_in o s t (before s t)) some)
 
 -- ---- behind the last bit time nothing happens
 
@@ -61,7 +61,7 @@ tester-past : (s : Script) (t : ℕ) → length s.tester.items ≤ t → slice_g
 tester-past s t past = slice_get_past s.tester.items t past
 
 pub level-past : (s : Script) (t : ℕ) → length s.tester.items ≤ t → (moment_at s t).drove ≡ None
-level-past s t past = ap (λ o. level_of o s t (before s t)) (tester-past s t past)
+level-past s t past = ap (λ o. driven_in o s t (before s t)) (tester-past s t past)
 
 pub event-past : (s : Script) (t : ℕ) → length s.tester.items ≤ t → (moment_at s t).event ≡ None
 event-past s t past = ap (λ o. event_of o s t (before s t)) (tester-past s t past)
@@ -126,16 +126,16 @@ moment-same s t drove event q level told after =
 
 -- what it did is the moment of the run
 pub moment-met : (s : Script) (t : ℕ) (x : TesterLevel) (p q : PortState) (drove : Option Level) (event : Option Event) → slice_get s.tester.items t ≡ Some x → p ≡ before s t → q ≡ before s (t + 1) →
-    drove ≡ Some (port_drives (handed s t p)) → event ≡ told_of x (handed s t p) → (let m : Moment = record { drove = drove; event = event; counters = counters_of q } in m) ≡ moment_at s t
+    drove ≡ Some (port_drives (handed s t p)) → event ≡ told_event x (handed s t p) → (let m : Moment = record { drove = drove; event = event; counters = counters_of q } in m) ≡ moment_at s t
 moment-met s t x p q drove event here is after level told =
-    let drove-is : drove ≡ (moment_at s t).drove = level ∙ ap (λ r. Some (port_drives (handed s t r))) is ∙ sym (ap (λ o. level_of o s t (before s t)) here) in
-    let event-is : event ≡ (moment_at s t).event = told ∙ ap (λ r. told_of x (handed s t r)) is ∙ sym (ap (λ o. event_of o s t (before s t)) here) in
+    let drove-is : drove ≡ (moment_at s t).drove = level ∙ ap (λ r. Some (port_drives (handed s t r))) is ∙ sym (ap (λ o. driven_in o s t (before s t)) here) in
+    let event-is : event ≡ (moment_at s t).event = told ∙ ap (λ r. told_event x (handed s t r)) is ∙ sym (ap (λ o. event_of o s t (before s t)) here) in
     moment-same s t drove event q drove-is event-is after
 
 pub moment-still : (s : Script) (t : ℕ) (q : PortState) → slice_get s.tester.items t ≡ None → q ≡ before s (t + 1) →
     (let m : Moment = record { drove = None; event = None; counters = counters_of q } in m) ≡ moment_at s t
 moment-still s t q none after =
-    moment-same s t None None q (sym (ap (λ o. level_of o s t (before s t)) none)) (sym (ap (λ o. event_of o s t (before s t)) none)) after
+    moment-same s t None None q (sym (ap (λ o. driven_in o s t (before s t)) none)) (sym (ap (λ o. event_of o s t (before s t)) none)) after
 
 -- ---- where it stands, one bit time further
 
@@ -144,7 +144,7 @@ pub rule-met : (s : Script) (t : ℕ) (x : TesterLevel) → slice_get s.tester.i
     rule_behind (moment_at s t).event (phase_name (before s t).mac) (seen_by x (unwrap_or (moment_at s t).drove Recessive)) (before s (t + 1)).mac ≡ rule_before s (t + 1)
 rule-met s t x here =
     let p = before s t in
-    let behind_it : Option TesterLevel → Rule = λ o. rule_behind (event_of o s t p) (phase_name p.mac) (seen_by x (unwrap_or (level_of o s t p) Recessive)) (behind o s t p).mac in
+    let behind_it : Option TesterLevel → Rule = λ o. rule_behind (event_of o s t p) (phase_name p.mac) (seen_by x (unwrap_or (driven_in o s t p) Recessive)) (behind o s t p).mac in
     ap (λ q. rule_behind (moment_at s t).event (phase_name p.mac) (seen_by x (unwrap_or (moment_at s t).drove Recessive)) q.mac) (before-more s t)
     ∙ ap behind_it here
     ∙ sym (rule-more s t ∙ ap (λ o. next_rule o s t p (rule_before s t)) here)

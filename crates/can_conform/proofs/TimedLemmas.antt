@@ -5,34 +5,34 @@ use Rattle.std.proofs.lemmas.Bool.{cases_order}
 use Rattle.std.proofs.lemmas.Bool.Decides.{nat_tests}
 use Rattle.std.proofs.lemmas.Option.{slice_get_within}
 use Rattle.can_conform.specs.declared.timed.Timed.{Timed}
-use Rattle.can_conform.specs.Transcripts.{told_at, told_before, AreRising, EndBefore}
+use Rattle.can_conform.specs.Transcripts.{item_at, told_before, AreRising, EndBefore}
 use Rattle.can_conform.specs.Walks.{IsReached}
 
 -- ---- what is told at a time
 
-pub told_at-none : {A : Type 0} (xs : List (Timed A)) (t : ℕ) → ((n : ℕ) (x : Timed A) → slice_get xs n ≡ Some x → x.time ≢ t) → told_at xs t ≡ None
-told_at-none [] t none = refl
-told_at-none (x ∷ xs) t none =
+pub item_at-none : {A : Type 0} (xs : List (Timed A)) (t : ℕ) → ((n : ℕ) (x : Timed A) → slice_get xs n ≡ Some x → x.time ≢ t) → item_at xs t ≡ None
+item_at-none [] t none = refl
+item_at-none (x ∷ xs) t none =
     let apart : x.time ≢ t = none 0 x refl in
     let other : (x.time == t) ≡ false = grind (arith, nat_tests) in
-    ap (λ b. if b then Some x.told else told_at xs t) other ∙ told_at-none xs t (λ n y at. none (suc n) y at)
+    ap (λ b. if b then Some x.told else item_at xs t) other ∙ item_at-none xs t (λ n y at. none (suc n) y at)
 
-pub told_at-here : {A : Type 0} (xs : List (Timed A)) (place t : ℕ) (x : Timed A) → slice_get xs place ≡ Some x → x.time ≡ t
-    → ((n : ℕ) (y : Timed A) → n < place → slice_get xs n ≡ Some y → y.time ≢ t) → told_at xs t ≡ Some x.told
-told_at-here [] place t x at now before = let e : None ≡ Some x = at in cc
-told_at-here {A} (y ∷ xs) zero t x at now before =
+pub item_at-here : {A : Type 0} (xs : List (Timed A)) (place t : ℕ) (x : Timed A) → slice_get xs place ≡ Some x → x.time ≡ t
+    → ((n : ℕ) (y : Timed A) → n < place → slice_get xs n ≡ Some y → y.time ≢ t) → item_at xs t ≡ Some x.told
+item_at-here [] place t x at now before = let e : None ≡ Some x = at in cc
+item_at-here {A} (y ∷ xs) zero t x at now before =
     let e : Some y ≡ Some x = at in
     let same : y ≡ x = cc in
     let time : y.time ≡ t = ap (λ (z : Timed A). z.time) same ∙ now in
     let here : (y.time == t) ≡ true = grind (arith, nat_tests) in
-    ap (λ b. if b then Some y.told else told_at xs t) here ∙ ap (λ (z : Timed A). Some z.told) same
-told_at-here (y ∷ xs) (suc place) t x at now before =
+    ap (λ b. if b then Some y.told else item_at xs t) here ∙ ap (λ (z : Timed A). Some z.told) same
+item_at-here (y ∷ xs) (suc place) t x at now before =
     let apart : y.time ≢ t = before 0 y (omega arith) refl in
     let other : (y.time == t) ≡ false = grind (arith, nat_tests) in
-    ap (λ b. if b then Some y.told else told_at xs t) other ∙ told_at-here xs place t x at now (λ n z h there. before (suc n) z (omega arith) there)
+    ap (λ b. if b then Some y.told else item_at xs t) other ∙ item_at-here xs place t x at now (λ n z h there. before (suc n) z (omega arith) there)
 
-pub told_at-past : {A : Type 0} (xs : List (Timed A)) (end t : ℕ) → EndBefore xs end → end ≤ t → told_at xs t ≡ None
-told_at-past xs end t ends past = told_at-none xs t (λ n x at. let h : x.time < end = ends n x at in omega arith)
+pub item_at-past : {A : Type 0} (xs : List (Timed A)) (end t : ℕ) → EndBefore xs end → end ≤ t → item_at xs t ≡ None
+item_at-past xs end t ends past = item_at-none xs t (λ n x at. let h : x.time < end = ends n x at in omega arith)
 
 -- ---- rising times
 
@@ -68,7 +68,7 @@ told_before-ahead held (x ∷ xs) t ahead =
     let never : nat_lt x.time t ≡ false = grind (arith, nat_tests) in
     ap (λ b. if b then told_before x.told xs t else held) never
 
-pub told_before_more : {A : Type 0} (held : A) (xs : List (Timed A)) (t : ℕ) → AreRising xs → told_before held xs (t + 1) ≡ unwrap_or (told_at xs t) (told_before held xs t)
+pub told_before_more : {A : Type 0} (held : A) (xs : List (Timed A)) (t : ℕ) → AreRising xs → told_before held xs (t + 1) ≡ unwrap_or (item_at xs t) (told_before held xs t)
 told_before_more held [] t rising = refl
 told_before_more held (x ∷ xs) t rising = elim (cases_order x.time t) [
   | inl same ↦
@@ -77,7 +77,7 @@ told_before_more held (x ∷ xs) t rising = elim (cases_order x.time t) [
       let rest : told_before x.told xs (t + 1) ≡ x.told =
       told_before-ahead x.told xs (t + 1) (λ n y at. let h : x.time < y.time = rising-first x xs rising n y at in omega arith) in
       ap (λ b. if b then told_before x.told xs (t + 1) else held) next ∙ rest
-      ∙ sym (ap (λ b. unwrap_or (if b then Some x.told else told_at xs t) (told_before held (x ∷ xs) t)) here)
+      ∙ sym (ap (λ b. unwrap_or (if b then Some x.told else item_at xs t) (told_before held (x ∷ xs) t)) here)
   | inr apart ↦ elim apart [
     | inl less ↦
         let other : (x.time == t) ≡ false = grind (arith, nat_tests) in
@@ -85,11 +85,11 @@ told_before_more held (x ∷ xs) t rising = elim (cases_order x.time t) [
         let now : nat_lt x.time t ≡ true = grind (arith, nat_tests) in
         ap (λ b. if b then told_before x.told xs (t + 1) else held) next
         ∙ told_before_more x.told xs t (rising-rest x xs rising)
-        ∙ sym (ap (λ b. unwrap_or (told_at xs t) (if b then told_before x.told xs t else held)) now)
-        ∙ sym (ap (λ b. unwrap_or (if b then Some x.told else told_at xs t) (told_before held (x ∷ xs) t)) other)
+        ∙ sym (ap (λ b. unwrap_or (item_at xs t) (if b then told_before x.told xs t else held)) now)
+        ∙ sym (ap (λ b. unwrap_or (if b then Some x.told else item_at xs t) (told_before held (x ∷ xs) t)) other)
     | inr more ↦
-        let none : told_at (x ∷ xs) t ≡ None =
-        told_at-none (x ∷ xs) t (λ n y at. let h : x.time ≤ y.time = rising-ahead (x ∷ xs) rising 0 n x y (omega arith) refl at in omega arith) in
+        let none : item_at (x ∷ xs) t ≡ None =
+        item_at-none (x ∷ xs) t (λ n y at. let h : x.time ≤ y.time = rising-ahead (x ∷ xs) rising 0 n x y (omega arith) refl at in omega arith) in
         let next : nat_lt x.time (t + 1) ≡ false = grind (arith, nat_tests) in
         let now : nat_lt x.time t ≡ false = grind (arith, nat_tests) in
         ap (λ b. if b then told_before x.told xs (t + 1) else held) next
@@ -115,11 +115,11 @@ pub reached-first : {A : Type 0} (xs : List (Timed A)) → IsReached xs 0 0
 reached-first xs = record { passed = λ n x h at. absurd (omega arith); ahead = λ n x h at. omega arith }
 
 -- nothing is left
-pub reached-none : {A : Type 0} (xs : List (Timed A)) (place t : ℕ) → length xs ≤ place → IsReached xs place t → (told_at xs t ≡ None) × IsReached xs place (t + 1)
+pub reached-none : {A : Type 0} (xs : List (Timed A)) (place t : ℕ) → length xs ≤ place → IsReached xs place t → (item_at xs t ≡ None) × IsReached xs place (t + 1)
 reached-none {A} xs place t past reached =
     let earlier : (n : ℕ) (x : Timed A) → slice_get xs n ≡ Some x → x.time < t =
     λ n x at. (let within : n < length xs = slice_get_within xs n x at in reached.passed n x (omega arith) at) in (
-      told_at-none xs t (λ n x at. let h : x.time < t = earlier n x at in omega arith),
+      item_at-none xs t (λ n x at. let h : x.time < t = earlier n x at in omega arith),
       record {
         passed = λ n x h at. let k : x.time < t = earlier n x at in omega arith;
         ahead = λ n x h at. let within : n < length xs = slice_get_within xs n x at in absurd (omega arith);
@@ -128,12 +128,12 @@ reached-none {A} xs place t past reached =
 
 -- what is next comes later
 pub reached-later : {A : Type 0} (xs : List (Timed A)) (place t : ℕ) (x : Timed A) → AreRising xs → slice_get xs place ≡ Some x → x.time ≢ t → IsReached xs place t →
-    (told_at xs t ≡ None) × IsReached xs place (t + 1)
+    (item_at xs t ≡ None) × IsReached xs place (t + 1)
 reached-later {A} xs place t x rising here other reached =
     let least : t ≤ x.time = reached.ahead place x (omega arith) here in
     let later : (n : ℕ) (y : Timed A) → place ≤ n → slice_get xs n ≡ Some y → t + 1 ≤ y.time =
     λ n y h at. (let k : x.time ≤ y.time = rising-ahead xs rising place n x y h here at in omega arith) in (
-      told_at-none xs t (λ n y at. elim (cases_order n place) [
+      item_at-none xs t (λ n y at. elim (cases_order n place) [
         | inl same ↦ let k : t + 1 ≤ y.time = later n y (omega arith) at in omega arith
         | inr apart ↦ elim apart [
           | inl less ↦ let k : y.time < t = reached.passed n y less at in omega arith
@@ -148,9 +148,9 @@ reached-later {A} xs place t x rising here other reached =
 
 -- it comes now
 pub reached-here : {A : Type 0} (xs : List (Timed A)) (place t : ℕ) (x : Timed A) → AreRising xs → slice_get xs place ≡ Some x → x.time ≡ t → IsReached xs place t →
-    (told_at xs t ≡ Some x.told) × IsReached xs (place + 1) (t + 1)
+    (item_at xs t ≡ Some x.told) × IsReached xs (place + 1) (t + 1)
 reached-here xs place t x rising here now reached = (
-  told_at-here xs place t x here now (λ n y h at. let k : y.time < t = reached.passed n y h at in omega arith),
+  item_at-here xs place t x here now (λ n y h at. let k : y.time < t = reached.passed n y h at in omega arith),
   record {
     passed = λ n y h at. let k : y.time ≤ x.time = rising-ahead xs rising n place y x (omega arith) at here in omega arith;
     ahead = λ n y h at. let k : x.time < y.time = rising place n x y (omega arith) here at in omega arith;

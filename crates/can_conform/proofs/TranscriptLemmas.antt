@@ -7,13 +7,13 @@ use Rattle.can_conform.specs.declared.script.Script.{Script}
 use Rattle.can_conform.specs.declared.timed.Timed.{Timed}
 use Rattle.can_conform.specs.declared.transcript.Counters.{Counters}
 use Rattle.can_conform.specs.declared.transcript.Transcript.{Transcript}
-use Rattle.can_conform.specs.Runs.{before, counters_of, end_of, moment_at}
-use Rattle.can_conform.specs.Transcripts.{changed_in, changes_of, driven_upto, events_of, levels_of, no_counts, same_counters, told_at, told_before, told_upto, Agrees, AreRising, IsTranscript, Tells, TellsRun}
+use Rattle.can_conform.specs.Runs.{before, counters_of, script_end, moment_at}
+use Rattle.can_conform.specs.Transcripts.{changed_in, changes_of, driven_upto, events_of, levels_of, no_counts, same_counters, item_at, told_before, told_upto, Agrees, AreRising, IsTranscript, Tells, TellsRun}
 use Rattle.can_conform.proofs.AgreementLemmas.{counters-start}
 use Rattle.can_conform.proofs.Drives.{AreDriven, driven-all, driven-next, driven-none}
 use Rattle.can_conform.proofs.Growing.{IsToldUpTo, told-all, told-next, told-none}
 use Rattle.can_conform.proofs.RunLemmas.{before-first, changed-past, event-past}
-use Rattle.can_conform.proofs.TimedLemmas.{rising-ahead, rising-first, rising-rest, told_at-none, told_before-first, told_before_more}
+use Rattle.can_conform.proofs.TimedLemmas.{rising-ahead, rising-first, rising-rest, item_at-none, told_before-first, told_before_more}
 
 -- ---- there is one
 
@@ -53,28 +53,28 @@ same-places (x ∷ xs) (y ∷ ys) same =
     let head : x ≡ y = cc in
     ap (λ z. z ∷ xs) head ∙ ap (λ zs. y ∷ zs) (same-places xs ys (λ n. same (suc n)))
 
-told-first : {A : Type 0} (x : Timed A) (xs : List (Timed A)) → told_at (x ∷ xs) x.time ≡ Some x.told
+told-first : {A : Type 0} (x : Timed A) (xs : List (Timed A)) → item_at (x ∷ xs) x.time ≡ Some x.told
 told-first x xs =
     let here : (x.time == x.time) ≡ true = grind (arith, nat_tests) in
-    ap (λ b. if b then Some x.told else told_at xs x.time) here
+    ap (λ b. if b then Some x.told else item_at xs x.time) here
 
 -- before the first of rising times nothing is told
-told-early : {A : Type 0} (x : Timed A) (xs : List (Timed A)) (t : ℕ) → AreRising (x ∷ xs) → t < x.time → told_at (x ∷ xs) t ≡ None
+told-early : {A : Type 0} (x : Timed A) (xs : List (Timed A)) (t : ℕ) → AreRising (x ∷ xs) → t < x.time → item_at (x ∷ xs) t ≡ None
 told-early x xs t rising early =
-    told_at-none (x ∷ xs) t (λ n y at. let h : x.time ≤ y.time = rising-ahead (x ∷ xs) rising 0 n x y (omega arith) refl at in omega arith)
+    item_at-none (x ∷ xs) t (λ n y at. let h : x.time ≤ y.time = rising-ahead (x ∷ xs) rising 0 n x y (omega arith) refl at in omega arith)
 
 -- behind it the others tell what is told
-told-rest : {A : Type 0} (x : Timed A) (xs : List (Timed A)) (t : ℕ) → x.time ≢ t → told_at (x ∷ xs) t ≡ told_at xs t
+told-rest : {A : Type 0} (x : Timed A) (xs : List (Timed A)) (t : ℕ) → x.time ≢ t → item_at (x ∷ xs) t ≡ item_at xs t
 told-rest x xs t apart =
     let other : (x.time == t) ≡ false = grind (arith, nat_tests) in
-    ap (λ b. if b then Some x.told else told_at xs t) other
+    ap (λ b. if b then Some x.told else item_at xs t) other
 
 -- and none of them tells at its time
-told-once : {A : Type 0} (x : Timed A) (xs : List (Timed A)) (t : ℕ) → AreRising (x ∷ xs) → x.time ≡ t → told_at xs t ≡ None
-told-once x xs t rising now = told_at-none xs t (λ n y at. let h : x.time < y.time = rising-first x xs rising n y at in omega arith)
+told-once : {A : Type 0} (x : Timed A) (xs : List (Timed A)) (t : ℕ) → AreRising (x ∷ xs) → x.time ≡ t → item_at xs t ≡ None
+told-once x xs t rising now = item_at-none xs t (λ n y at. let h : x.time < y.time = rising-first x xs rising n y at in omega arith)
 
 same-rest : {A : Type 0} (x y : Timed A) (xs ys : List (Timed A)) → AreRising (x ∷ xs) → AreRising (y ∷ ys) → x.time ≡ y.time →
-    ((t : ℕ) → told_at (x ∷ xs) t ≡ told_at (y ∷ ys) t) → (t : ℕ) → told_at xs t ≡ told_at ys t
+    ((t : ℕ) → item_at (x ∷ xs) t ≡ item_at (y ∷ ys) t) → (t : ℕ) → item_at xs t ≡ item_at ys t
 same-rest x y xs ys one other time same t = elim (cases_order x.time t) [
   | inl now ↦ told-once x xs t one now ∙ sym (told-once y ys t other (omega arith))
   | inr apart ↦ elim apart [
@@ -87,10 +87,10 @@ timed-is : {A : Type 0} (x y : Timed A) → x.time ≡ y.time → x.told ≡ y.t
 timed-is {A} x y time told =
     ap (λ k. let r : Timed A = record { time = k; told = x.told } in r) time ∙ ap (λ v. let r : Timed A = record { time = y.time; told = v } in r) told
 
-same-first : {A : Type 0} (x y : Timed A) (xs ys : List (Timed A)) → AreRising (x ∷ xs) → AreRising (y ∷ ys) → ((t : ℕ) → told_at (x ∷ xs) t ≡ told_at (y ∷ ys) t) → x ≡ y
+same-first : {A : Type 0} (x y : Timed A) (xs ys : List (Timed A)) → AreRising (x ∷ xs) → AreRising (y ∷ ys) → ((t : ℕ) → item_at (x ∷ xs) t ≡ item_at (y ∷ ys) t) → x ≡ y
 same-first x y xs ys one other same = elim (cases_order x.time y.time) [
   | inl time ↦
-      let e : Some x.told ≡ Some y.told = sym (told-first x xs) ∙ same x.time ∙ ap (told_at (y ∷ ys)) time ∙ told-first y ys in
+      let e : Some x.told ≡ Some y.told = sym (told-first x xs) ∙ same x.time ∙ ap (item_at (y ∷ ys)) time ∙ told-first y ys in
       timed-is x y time cc
   | inr apart ↦ elim apart [
     | inl less ↦ let e : Some x.told ≡ None = sym (told-first x xs) ∙ same x.time ∙ told-early y ys x.time other less in absurd (let k : ⊥ = cc in k)
@@ -99,7 +99,7 @@ same-first x y xs ys one other same = elim (cases_order x.time y.time) [
 ]
 
 -- rising times that tell the same are the same
-same-told : {A : Type 0} (xs ys : List (Timed A)) → AreRising xs → AreRising ys → ((t : ℕ) → told_at xs t ≡ told_at ys t) → xs ≡ ys
+same-told : {A : Type 0} (xs ys : List (Timed A)) → AreRising xs → AreRising ys → ((t : ℕ) → item_at xs t ≡ item_at ys t) → xs ≡ ys
 same-told [] [] one other same = refl
 same-told [] (y ∷ ys) one other same = let e : None ≡ Some y.told = same y.time ∙ told-first y ys in absurd (let k : ⊥ = cc in k)
 same-told (x ∷ xs) [] one other same = let e : Some x.told ≡ None = sym (told-first x xs) ∙ same x.time in absurd (let k : ⊥ = cc in k)
@@ -179,5 +179,5 @@ one-agrees s told is = record {
     event = some-if _ _ told.events (λ events tells. tells.each t) is.events;
     counters = some-if _ _ told.counters (λ changes tells. counters-told s changes.items tells (t + 1)) is.counters;
   };
-  end = subst (λ o. IfSome o (λ end. end ≡ end_of s)) (sym is.end) refl;
+  end = subst (λ o. IfSome o (λ end. end ≡ script_end s)) (sym is.end) refl;
 }

@@ -14,8 +14,8 @@ use Rattle.can_conform.specs.declared.script.Script.{Script}
 use Rattle.can_conform.specs.declared.transcript.Counters.{Counters}
 use Rattle.can_conform.specs.declared.transcript.Ending.{Ending}
 use Rattle.can_conform.specs.declared.transcript.Transcript.{Transcript}
-use Rattle.can_conform.specs.Runs.{end_of, moment_at, standing_before}
-use Rattle.can_conform.specs.Transcripts.{no_counts, told_at, told_before, Agrees, AgreesAt}
+use Rattle.can_conform.specs.Runs.{script_end, moment_at, standing_before}
+use Rattle.can_conform.specs.Transcripts.{no_counts, item_at, told_before, Agrees, AgreesAt}
 use Rattle.can_conform.specs.Verdicts.{AreCounters, IsDifference, IsEnd, IsEvent, IsFirst, IsLevel, IsVerdict}
 
 -- two facts of what is there
@@ -32,16 +32,16 @@ there-twice P Q B (Some x) take p q = take x p q
 no-level : (told : Transcript) (t : ℕ) (m : Moment) (one other : Option Level) → IsLevel told t m one other → slice_get told.drove.items t ≡ m.drove → ⊥
 no-level told t m one other is agrees = is.differs (sym is.is_told ∙ agrees ∙ is.ought)
 
-no-event : (told : Transcript) (t : ℕ) (m : Moment) (one other : Option Event) → IsEvent told t m one other → IfSome told.events (λ events. told_at events.items t ≡ m.event) → ⊥
+no-event : (told : Transcript) (t : ℕ) (m : Moment) (one other : Option Event) → IsEvent told t m one other → IfSome told.events (λ events. item_at events.items t ≡ m.event) → ⊥
 no-event told t m one other is agrees = is.differs (there-both _ _ _ told.events (λ events a b. sym a ∙ b ∙ is.ought) is.is_told agrees)
 
 no-counters : (told : Transcript) (t : ℕ) (m : Moment) (one other : Counters) → AreCounters told t m one other →
     IfSome told.counters (λ counters. told_before no_counts counters.items (t + 1) ≡ m.counters) → ⊥
 no-counters told t m one other are agrees = are.differs (there-both _ _ _ told.counters (λ counters a b. sym a ∙ b ∙ are.ought) are.is_told agrees)
 
-no-end : (s : Script) (told : Transcript) (t : ℕ) (one other : Ending) → IsEnd s told t one other → IfSome told.end (λ end. end ≡ end_of s) → ⊥
+no-end : (s : Script) (told : Transcript) (t : ℕ) (one other : Ending) → IsEnd s told t one other → IfSome told.end (λ end. end ≡ script_end s) → ⊥
 no-end s told t one other is agrees =
-    let same : one ≡ end_of s = subst (λ o. IfSome o (λ end. end ≡ end_of s)) is.is_told agrees in
+    let same : one ≡ script_end s = subst (λ o. IfSome o (λ end. end ≡ script_end s)) is.is_told agrees in
     is.differs (same ∙ is.ought)
 
 -- where a bit time agrees and a difference is there, it is that of the end

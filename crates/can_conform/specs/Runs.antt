@@ -38,8 +38,8 @@ abbrev pub met : TesterLevel → PortState → PortState
 met x p = port_step p (sees x p)
 
 -- what it tells of it
-abbrev pub told_of : TesterLevel → PortState → Option Event
-told_of x p = port_event p (sees x p)
+abbrev pub told_event : TesterLevel → PortState → Option Event
+told_event x p = port_event p (sees x p)
 
 -- n overload frames are asked for, at most two, in place of what was asked for before
 abbrev pub wished : ℕ → PortState → PortState
@@ -60,13 +60,13 @@ handed s t p = all_handed wished s.holds.items t (all_handed with_offer s.offers
 abbrev pub queue_room : ℕ
 queue_room = 256
 
-abbrev pub starting : Start → MacState
-starting start.Idle = idle
-starting start.Joining = joining
+abbrev pub mac_at_start : Start → MacState
+mac_at_start start.Idle = idle
+mac_at_start start.Joining = joining
 
 -- the port before bit time 0: a new one
 abbrev pub started : Start → PortState
-started begin = fresh_port (starting begin) queue_room 0
+started begin = fresh_port (mac_at_start begin) queue_room 0
 
 -- the port before bit time t; behind the last bit time nothing happens
 abbrev pub behind : Option TesterLevel → Script → ℕ → PortState → PortState
@@ -84,19 +84,19 @@ abbrev pub counters_of : PortState → Counters
 counters_of p = record { transmit = p.mac.counters.tec; receive = p.mac.counters.rec }
 
 -- the level that the port drives in it
-abbrev pub level_of : Option TesterLevel → Script → ℕ → PortState → Option Level
-level_of None s t p = None
-level_of (Some x) s t p = Some (port_drives (handed s t p))
+abbrev pub driven_in : Option TesterLevel → Script → ℕ → PortState → Option Level
+driven_in None s t p = None
+driven_in (Some x) s t p = Some (port_drives (handed s t p))
 
 -- its event
 abbrev pub event_of : Option TesterLevel → Script → ℕ → PortState → Option Event
 event_of None s t p = None
-event_of (Some x) s t p = told_of x (handed s t p)
+event_of (Some x) s t p = told_event x (handed s t p)
 
 -- level and event of bit time t, and the counters behind it
 abbrev pub moment_at : Script → ℕ → Moment
 moment_at s t = record {
-  drove = level_of (slice_get s.tester.items t) s t (before s t);
+  drove = driven_in (slice_get s.tester.items t) s t (before s t);
   event = event_of (slice_get s.tester.items t) s t (before s t);
   counters = counters_of (before s (t + 1));
 }
@@ -106,8 +106,8 @@ abbrev pub ending_of : PortState → Ending
 ending_of p = record { state = state_of p.mac.counters; counters = counters_of p }
 
 -- what the run has come to behind its last bit time
-abbrev pub end_of : Script → Ending
-end_of s = ending_of (before s (length s.tester.items))
+abbrev pub script_end : Script → Ending
+script_end s = ending_of (before s (length s.tester.items))
 
 -- ---- where the reference stands
 
@@ -125,7 +125,7 @@ since_before s (suc t) = last_event (moment_at s t).event t (since_before s t)
 abbrev pub next_rule : Option TesterLevel → Script → ℕ → PortState → Rule → Rule
 next_rule None s t p now = now
 next_rule (Some x) s t p now =
-    rule_behind (told_of x (handed s t p)) (phase_name p.mac)
+    rule_behind (told_event x (handed s t p)) (phase_name p.mac)
     (sees x (handed s t p)) (met x (handed s t p)).mac
 
 -- the rule that decides in bit time t

@@ -7,14 +7,14 @@ use Rattle.can_conform.specs.declared.script.Script.{Script}
 use Rattle.can_conform.specs.declared.timed.Timed.{Timed}
 use Rattle.can_conform.specs.declared.transcript.Counters.{Counters}
 use Rattle.can_conform.specs.declared.transcript.Transcript.{Transcript}
-use Rattle.can_conform.specs.Runs.{before, counters_of, end_of, moment_at}
+use Rattle.can_conform.specs.Runs.{before, counters_of, script_end, moment_at}
 
 -- ---- what lists of timed things tell
 
 -- what is told at time t
-abbrev pub told_at : {A : Type 0} → List (Timed A) → ℕ → Option A
-told_at [] t = None
-told_at (x ∷ xs) t = if x.time == t then Some x.told else told_at xs t
+abbrev pub item_at : {A : Type 0} → List (Timed A) → ℕ → Option A
+item_at [] t = None
+item_at (x ∷ xs) t = if x.time == t then Some x.told else item_at xs t
 
 -- what was told last before time t, or this where nothing was
 abbrev pub told_before : {A : Type 0} → A → List (Timed A) → ℕ → A
@@ -54,13 +54,13 @@ pub record IsTold (told : Transcript) : Type 0 where
 -- counters are told
 pub record AgreesAt (told : Transcript) (t : ℕ) (m : Moment) : Type 0 where
   pub level : slice_get told.drove.items t ≡ m.drove
-  pub event : IfSome told.events (λ events. told_at events.items t ≡ m.event)
+  pub event : IfSome told.events (λ events. item_at events.items t ≡ m.event)
   pub counters : IfSome told.counters (λ counters. told_before no_counts counters.items (t + 1) ≡ m.counters)
 
 -- all that it tells is that of the run
 pub record Agrees (s : Script) (told : Transcript) : Type 0 where
   pub each : (t : ℕ) → AgreesAt told t (moment_at s t)
-  pub end : IfSome told.end (λ end. end ≡ end_of s)
+  pub end : IfSome told.end (λ end. end ≡ script_end s)
 
 -- ---- the transcript of the run
 
@@ -76,7 +76,7 @@ changed_in s t =
 -- each of these times is told, and no other
 pub record Tells {A : Type 0} (at : ℕ → Option A) (xs : List (Timed A)) : Type 0 where
   pub rising : AreRising xs
-  pub each : (t : ℕ) → told_at xs t ≡ at t
+  pub each : (t : ℕ) → item_at xs t ≡ at t
 
 -- the levels, events and changes of a counter of the run
 pub record TellsRun (s : Script) (drove : List Level)
@@ -90,7 +90,7 @@ pub record IsTranscript (s : Script) (told : Transcript) : Type 0 where
   pub levels : (t : ℕ) → slice_get told.drove.items t ≡ (moment_at s t).drove
   pub events : IsSomeAnd told.events (λ events. Tells (λ t. (moment_at s t).event) events.items)
   pub counters : IsSomeAnd told.counters (λ counters. Tells (changed_in s) counters.items)
-  pub end : told.end ≡ Some (end_of s)
+  pub end : told.end ≡ Some (script_end s)
 
 -- ---- the same, one bit time behind another
 

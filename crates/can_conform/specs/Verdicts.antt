@@ -13,8 +13,8 @@ use Rattle.can_conform.specs.declared.judging.Verdict.TheVariants.{Pass, Fail}
 use Rattle.can_conform.specs.declared.transcript.Counters.{Counters}
 use Rattle.can_conform.specs.declared.transcript.Ending.{Ending}
 use Rattle.can_conform.specs.declared.transcript.Transcript.{Transcript}
-use Rattle.can_conform.specs.Runs.{end_of, moment_at, standing_before}
-use Rattle.can_conform.specs.Transcripts.{Agrees, AgreesAt, no_counts, told_at, told_before}
+use Rattle.can_conform.specs.Runs.{script_end, moment_at, standing_before}
+use Rattle.can_conform.specs.Transcripts.{Agrees, AgreesAt, no_counts, item_at, told_before}
 
 -- another level is told, or one too many, or none where there ought to be one
 pub record IsLevel (told : Transcript) (t : ℕ) (m : Moment) (one other : Option Level) : Type 0 where
@@ -25,14 +25,14 @@ pub record IsLevel (told : Transcript) (t : ℕ) (m : Moment) (one other : Optio
 -- another event is told, or one where there is none, or none where there is one
 pub record IsEvent (told : Transcript) (t : ℕ) (m : Moment) (one other : Option Event) : Type 0 where
   pub level : slice_get told.drove.items t ≡ m.drove
-  pub is_told : IsSomeAnd told.events (λ events. told_at events.items t ≡ one)
+  pub is_told : IsSomeAnd told.events (λ events. item_at events.items t ≡ one)
   pub ought : m.event ≡ other
   pub differs : one ≢ other
 
 -- other counters are told
 pub record AreCounters (told : Transcript) (t : ℕ) (m : Moment) (one other : Counters) : Type 0 where
   pub level : slice_get told.drove.items t ≡ m.drove
-  pub event : IfSome told.events (λ events. told_at events.items t ≡ m.event)
+  pub event : IfSome told.events (λ events. item_at events.items t ≡ m.event)
   pub is_told : IsSomeAnd told.counters (λ counters. told_before no_counts counters.items (t + 1) ≡ one)
   pub ought : m.counters ≡ other
   pub differs : one ≢ other
@@ -42,7 +42,7 @@ pub record IsEnd (s : Script) (told : Transcript) (t : ℕ) (one other : Ending)
   pub behind : t ≡ length s.tester.items
   pub each : (u : ℕ) → AgreesAt told u (moment_at s u)
   pub is_told : told.end ≡ Some one
-  pub ought : end_of s ≡ other
+  pub ought : script_end s ≡ other
   pub differs : one ≢ other
 
 -- the difference of bit time t, or that of the end

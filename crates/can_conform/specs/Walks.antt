@@ -16,7 +16,7 @@ use Rattle.can_conform.specs.Transcripts.{no_counts, told_before}
 use Rattle.can_conform.specs.Verdicts.{AreCounters, IsEvent, IsLevel}
 
 -- a port, the rule and the last event are those before bit time t
-pub record Stands (s : Script) (t : ℕ) (p : PortState) (now : Rule) (since : Option (Timed Event)) : Type 0 where
+pub record IsStanding (s : Script) (t : ℕ) (p : PortState) (now : Rule) (since : Option (Timed Event)) : Type 0 where
   pub port : p ≡ before s t
   pub decides : now ≡ rule_before s t
   pub last : since ≡ since_before s t

@@ -1,7 +1,7 @@
 //! The reference at its bench: it is played through a case bit time by bit time.
 ghost use Rattle.std.specs.Prelude.{◌≡◌, ◌<◌, ◌+◌, ◌-◌, ◌^◌, ◌==◌, if◌then◌else◌, IfOk};
 ghost use Rattle.can_node.specs.Ports.{port_drives, with_offer};
-ghost use Rattle.can_conform.specs.Runs.{all_handed, before, handed, met, moment_at, told_of, wished};
+ghost use Rattle.can_conform.specs.Runs.{all_handed, before, handed, met, moment_at, told_event, wished};
 ghost use Rattle.can_conform.specs.Walks.{Foresees};
 
 use crate::meeting::{Meeting, counters_of, meet, started_node};
@@ -107,7 +107,7 @@ impl Bench {
         ensures foresees { Foresees script.now (self.old.time + 1) self.new.outlook }
         ensures time { self.new.time ≡ self.old.time }
         ensures drove { result.0 ≡ port_drives (handed script.now self.old.time (⟦<PackedNode as Port>⟧.port self.old.node)) }
-        ensures event { result.1 ≡ told_of tester (handed script.now self.old.time (⟦<PackedNode as Port>⟧.port self.old.node)) }
+        ensures event { result.1 ≡ told_event tester (handed script.now self.old.time (⟦<PackedNode as Port>⟧.port self.old.node)) }
     {
         hand_over_due(&mut self.node, script, self.time, &mut self.outlook);
         let Meeting { drove, event, .. } = meet(&mut self.node, tester);

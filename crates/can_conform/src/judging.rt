@@ -1,9 +1,9 @@
 //! The judge: whether a transcript tells what the reference does.
 ghost use Rattle.std.specs.Prelude.{ℕ, ◌≡◌, ◌≢◌, ◌≤◌, ◌<◌, ◌^◌, ◌-◌, ◌+◌, false, length, IfOk, IfSome, IsNone, IsSome, IsSomeAnd, IsTrue, None, slice_get};
 ghost use Rattle.can_conform.specs.Runs.{moment_at};
-ghost use Rattle.can_conform.specs.Transcripts.{no_counts, told_at, told_before, AgreesAt, AreRising, EndBefore, IsTold};
+ghost use Rattle.can_conform.specs.Transcripts.{no_counts, item_at, told_before, AgreesAt, AreRising, EndBefore, IsTold};
 ghost use Rattle.can_conform.specs.Verdicts.{IsVerdict};
-ghost use Rattle.can_conform.specs.Walks.{HasReached, IsDifferenceAt, IsReached, Stands};
+ghost use Rattle.can_conform.specs.Walks.{HasReached, IsDifferenceAt, IsReached, IsStanding};
 
 use crate::bench::Bench;
 use crate::meeting::ending_of;
@@ -103,7 +103,7 @@ pub fn judge(alloc: Global, script: &Script, transcript: &Transcript) -> Result<
 fn concluded(script: &Script, transcript: &Transcript, bench: &Bench, watch: &Watch) -> Verdict
     requires short { length script.now.tester.items < 2 ^ 32 - 1 }
     requires agrees { (t : ℕ) → AgreesAt transcript.now t (moment_at script.now t) }
-    requires stands { Stands script.now (length script.now.tester.items) (⟦<PackedNode as Port>⟧.port bench.now.node) watch.now.rule watch.now.since }
+    requires stands { IsStanding script.now (length script.now.tester.items) (⟦<PackedNode as Port>⟧.port bench.now.node) watch.now.rule watch.now.since }
     ensures { IsVerdict script.now transcript.now result }
 {
     let ought = ending_of(&bench.node);
@@ -173,7 +173,7 @@ fn is_level(levels: &[Level], ought: Option<Level>, time: u32) -> bool
 fn comes<T>(list: &Option<Vec<Timed<T>>>, place: usize, time: u32) -> bool
     requires rising { IfSome list.now (λ list. AreRising list.items) }
     requires reached { IfSome list.now (λ list. IsReached list.items place time) }
-    ensures none { result ≡ false → IfSome list.now (λ list. told_at list.items time ≡ None) }
+    ensures none { result ≡ false → IfSome list.now (λ list. item_at list.items time ≡ None) }
     ensures reached { result ≡ false → IfSome list.now (λ list. IsReached list.items place (time + 1)) }
 {
     match list {
@@ -186,7 +186,7 @@ fn comes<T>(list: &Option<Vec<Timed<T>>>, place: usize, time: u32) -> bool
 fn is_next<T>(list: &[Timed<T>], place: usize, time: u32) -> bool
     requires rising { AreRising list.now }
     requires reached { IsReached list.now place time }
-    ensures none { result ≡ false → told_at list.now time ≡ None }
+    ensures none { result ≡ false → item_at list.now time ≡ None }
     ensures reached { result ≡ false → IsReached list.now place (time + 1) }
 {
     match list.get(place) {
@@ -217,9 +217,9 @@ fn event_difference(
 ) -> Option<Difference>
     requires rising { IfSome events.now (λ events. AreRising events.items) }
     requires reached { IfSome events.now (λ events. IsReached events.items progress.old.event time) }
-    ensures none { IsNone result → IfSome events.now (λ events. told_at events.items time ≡ ought) }
-    ensures some { IfSome result (λ d. IsSomeAnd events.now (λ events. d ≡ Difference.Event (told_at events.items time) ought)) }
-    ensures differs { IsSome result → IfSome events.now (λ events. told_at events.items time ≢ ought) }
+    ensures none { IsNone result → IfSome events.now (λ events. item_at events.items time ≡ ought) }
+    ensures some { IfSome result (λ d. IsSomeAnd events.now (λ events. d ≡ Difference.Event (item_at events.items time) ought)) }
+    ensures differs { IsSome result → IfSome events.now (λ events. item_at events.items time ≢ ought) }
     ensures reached { IfSome events.now (λ events. IsReached events.items progress.new.event (time + 1)) }
     ensures counter { progress.new.counter ≡ progress.old.counter }
     ensures held { progress.new.held ≡ progress.old.held }
@@ -282,7 +282,7 @@ fn counters_told(counters: &[Timed<Counters>], progress: &mut Progress, time: u3
 fn next_at<T: Copy>(list: &[Timed<T>], place: &mut usize, time: u32) -> Option<T>
     requires rising { AreRising list.now }
     requires reached { IsReached list.now place.old time }
-    ensures told { result ≡ told_at list.now time }
+    ensures told { result ≡ item_at list.now time }
     ensures reached { IsReached list.now place.new (time + 1) }
 {
     match list.get(*place) {

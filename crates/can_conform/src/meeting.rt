@@ -1,7 +1,7 @@
 //! The reference, and one bit time of a controller that shares the wire with the tester.
 ghost use Rattle.std.specs.Prelude.{◌≡◌, IfOk};
 ghost use Rattle.can_node.specs.Ports.{port_drives};
-ghost use Rattle.can_conform.specs.Runs.{counters_of as counters_of_port, ending_of as ending_of_port, met, seen_by, sees, started, told_of};
+ghost use Rattle.can_conform.specs.Runs.{counters_of as counters_of_port, ending_of as ending_of_port, met, seen_by, sees, started, told_event};
 
 use crate::script::{Start, TesterLevel};
 use crate::transcript::{Counters, Ending};
@@ -54,7 +54,7 @@ pub fn meet<P: Port>(port: &mut P, tester: TesterLevel) -> Meeting
     ensures port { P.port port.new ≡ met tester (P.port port.old) }
     ensures drove { result.drove ≡ port_drives (P.port port.old) }
     ensures seen { result.seen ≡ sees tester (P.port port.old) }
-    ensures event { result.event ≡ told_of tester (P.port port.old) }
+    ensures event { result.event ≡ told_event tester (P.port port.old) }
 {
     let drove = port.drive();
     let seen = tester.seen_by(drove);

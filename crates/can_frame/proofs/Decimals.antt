@@ -9,7 +9,7 @@ use Rattle.std.proofs.lemmas.Bool.Decides.{nat_tests}
 use Rattle.hex.specs.Hex.{lower_digits}
 use Rattle.can_frame.specs.Parts.{byte_count}
 use Rattle.can_frame.specs.Text.{hex_digits, decimal_digits, blank}
-use Rattle.can_frame.specs.TextParts.{dlc_spelling, IsDigit, IsNumber, IsDecimal, IsDlc, Leaves, LeavesPart, MostDigits, StandsAt}
+use Rattle.can_frame.specs.TextParts.{dlc_spelling, IsDigit, IsHexNumber, IsDecimal, IsDlc, Leaves, LeavesPart, MostDigits, StandsAt}
 use Rattle.can_frame.specs.declared.text.TextFaultKind.{TextFaultKind}
 use Rattle.can_frame.specs.declared.text.TextFault.{TextFault}
 use Rattle.can_frame.proofs.Leaving.{LeavesPart-behind, Leaves-some_lt}
@@ -73,18 +73,18 @@ most_one text start d small s short longer rest few e = elim (cases_lt longer 10
 
 -- where a text leaves a first digit, it leaves a DLC's digits
 pub decimal_leaves : (kind : TextFaultKind) (text : List ℕ) (start : ℕ) → start ≤ length text → (fault : TextFault)
-    → LeavesPart kind (IsNumber 1 10) text start fault → LeavesPart kind IsDecimal text start fault
+    → LeavesPart kind (IsHexNumber 1 10) text start fault → LeavesPart kind IsDecimal text start fault
 decimal_leaves kind text start fits fault l =
-    LeavesPart-behind kind IsDecimal (IsNumber 1 10) text start 0 (omega arith) fill split fault
-    (subst (λ p. LeavesPart kind (IsNumber 1 10) text p fault) (let e : start ≡ start + 0 = omega arith in e) l)
+    LeavesPart-behind kind IsDecimal (IsHexNumber 1 10) text start 0 (omega arith) fill split fault
+    (subst (λ p. LeavesPart kind (IsHexNumber 1 10) text p fault) (let e : start ≡ start + 0 = omega arith in e) l)
   where
-    fill : (v : List ℕ) → IsNumber 1 10 v → (z : List ℕ) × IsDecimal (take 0 (drop start text) ++ (v ++ z))
+    fill : (v : List ℕ) → IsHexNumber 1 10 v → (z : List ℕ) × IsDecimal (take 0 (drop start text) ++ (v ++ z))
     fill v n =
         let small : n.0 < 10 = omega (arith, n.1) in
         ([], (n.0, omega arith, sym (hex_digits-one_decimal n.0 small) ∙ n.2 ∙ sym (append-nil v)))
 
     split : (w rest : List ℕ) → IsDecimal w → take 0 (w ++ rest) ≡ take 0 (drop start text)
-        → (v : List ℕ) × (z : List ℕ) × IsNumber 1 10 v × (drop 0 w ≡ v ++ z) × (0 ≤ length w)
+        → (v : List ℕ) × (z : List ℕ) × IsHexNumber 1 10 v × (drop 0 w ≡ v ++ z) × (0 ≤ length w)
     split w rest n same = elim (cases_lt n.0 10) [
       | inl one ↦ (
         hex_digits 1 n.0,

@@ -5,7 +5,7 @@ use Rattle.std.proofs.lemmas.Nat.{pow-add, div_below, mul-le}
 use Rattle.std.proofs.lemmas.List.{drop_more, drop_at, take_at}
 use Rattle.hex.specs.Hex.{lower_digits}
 use Rattle.can_frame.specs.Text.{hex_digits}
-use Rattle.can_frame.specs.TextParts.{IsDigit, IsNumber, LeavesPart, StandsAt}
+use Rattle.can_frame.specs.TextParts.{IsDigit, IsHexNumber, LeavesPart, StandsAt}
 use Rattle.can_frame.specs.declared.text.TextFaultKind.{TextFaultKind}
 use Rattle.can_frame.specs.declared.text.TextFault.{TextFault}
 use Rattle.can_frame.proofs.HexDigits.{hex_digits-one, hex_digits-one_mod, hex_digits-add, hex_digits-push, hex_digits-shifted, length-hex_digits, digit_same}
@@ -31,9 +31,9 @@ digit_stands text place d within is = record {
 -- no digit below the limit at a place
 pub digit_leaves : (kind : TextFaultKind) (text : List ℕ) (place limit : ℕ) → place ≤ length text → 0 < limit → limit ≤ 16
     → ((d : ℕ) → place < length text → d < limit → IsDigit d (get_or text place 0) → ⊥)
-    → LeavesPart kind (IsNumber 1 limit) text place (record { kind = kind; place = place })
+    → LeavesPart kind (IsHexNumber 1 limit) text place (record { kind = kind; place = place })
 digit_leaves kind text place limit fits some base none =
-    LeavesPart-first kind (IsNumber 1 limit) text place fits (hex_digits 1 0) (0, omega arith, refl)
+    LeavesPart-first kind (IsHexNumber 1 limit) text place fits (hex_digits 1 0) (0, omega arith, refl)
     (λ v n. (
       omega (arith, ap length n.2, length-hex_digits 1 n.0),
       λ more q.
@@ -84,7 +84,7 @@ module _ (kind : TextFaultKind) (text : List ℕ) (start k j count limit next n 
   front : take k (drop start text) ≡ hex_digits k n
   front = ap (take k) s.spelt ∙ take_at (hex_digits k n) (drop (start + k) text) k (length-hex_digits k n)
 
-  fill : (v : List ℕ) → IsNumber 1 next v → (z : List ℕ) × IsNumber count limit (take k (drop start text) ++ (v ++ z))
+  fill : (v : List ℕ) → IsHexNumber 1 next v → (z : List ℕ) × IsHexNumber count limit (take k (drop start text) ++ (v ++ z))
   fill v d =
       let m = (16 * n + d.0) * 16 ^ j in
       let z = hex_digits j m in
@@ -96,8 +96,8 @@ module _ (kind : TextFaultKind) (text : List ℕ) (start k j count limit next n 
       ∙ ap (λ t. take k (drop start text) ++ (t ++ z)) d.2
       in (z, (m, below d.0 small, spelt))
 
-  split : (w rest : List ℕ) → IsNumber count limit w → take k (w ++ rest) ≡ take k (drop start text)
-      → (v : List ℕ) × (z : List ℕ) × IsNumber 1 next v × (drop k w ≡ v ++ z) × (k ≤ length w)
+  split : (w rest : List ℕ) → IsHexNumber count limit w → take k (w ++ rest) ≡ take k (drop start text)
+      → (v : List ℕ) × (z : List ℕ) × IsHexNumber 1 next v × (drop k w ≡ v ++ z) × (k ≤ length w)
   split w rest m same =
       let x = m.0 / 16 ^ j in
       let upper = hex_digits k (m.0 / 16 ^ (1 + j)) in
@@ -113,9 +113,9 @@ module _ (kind : TextFaultKind) (text : List ℕ) (start k j count limit next n 
       )
 
   -- where the text leaves the next digit of a number, it leaves the number
-  number_leaves : (fault : TextFault) → LeavesPart kind (IsNumber 1 next) text (start + k) fault
-      → LeavesPart kind (IsNumber count limit) text start fault
-  number_leaves fault = LeavesPart-behind kind (IsNumber count limit) (IsNumber 1 next) text start k s.within fill split fault
+  number_leaves : (fault : TextFault) → LeavesPart kind (IsHexNumber 1 next) text (start + k) fault
+      → LeavesPart kind (IsHexNumber count limit) text start fault
+  number_leaves fault = LeavesPart-behind kind (IsHexNumber count limit) (IsHexNumber 1 next) text start k s.within fill split fault
 
 nothing_stands : (text : List ℕ) (start : ℕ) → start ≤ length text → StandsAt (hex_digits 0 0) text start (start + 0)
 unfolding hex_digits
@@ -124,8 +124,8 @@ nothing_stands text start fits = record { within = omega arith; spelt = ap (λ p
 -- at its first digit
 pub number_leaves_first : (kind : TextFaultKind) (text : List ℕ) (start count limit : ℕ) → start ≤ length text
     → 0 < count → limit ≤ 16
-    → (fault : TextFault) → LeavesPart kind (IsNumber 1 limit) text start fault
-    → LeavesPart kind (IsNumber count limit) text start fault
+    → (fault : TextFault) → LeavesPart kind (IsHexNumber 1 limit) text start fault
+    → LeavesPart kind (IsHexNumber count limit) text start fault
 number_leaves_first kind text start count limit fits some base fault l =
     let j = count - 1 in
     let positive : 0 < 16 ^ j = one-le-pow j 16 (omega arith) in
@@ -136,14 +136,14 @@ number_leaves_first kind text start count limit fits some base fault l =
     let q : m / 16 ^ j < limit = div_below m (16 ^ j) limit positive h in
     omega arith in
     number_leaves kind text start 0 j count limit limit 0 (omega arith) base below bound (nothing_stands text start fits) fault
-    (subst (λ p. LeavesPart kind (IsNumber 1 limit) text p fault) (let e : start ≡ start + 0 = omega arith in e) l)
+    (subst (λ p. LeavesPart kind (IsHexNumber 1 limit) text p fault) (let e : start ≡ start + 0 = omega arith in e) l)
 
 -- at a later digit
 pub number_leaves_later : (kind : TextFaultKind) (text : List ℕ) (start place count limit n : ℕ) → start < place
     → place < start + count
     → StandsAt (hex_digits (place - start) n) text start place → n < limit * 16 ^ (place - start - 1)
-    → (fault : TextFault) → LeavesPart kind (IsNumber 1 16) text place fault
-    → LeavesPart kind (IsNumber count limit) text start fault
+    → (fault : TextFault) → LeavesPart kind (IsHexNumber 1 16) text place fault
+    → LeavesPart kind (IsHexNumber count limit) text start fault
 number_leaves_later kind text start place count limit n first last s small fault l =
     let k = place - start in
     let j = count - 1 - k in
@@ -160,4 +160,4 @@ number_leaves_later kind text start place count limit n first last s small fault
     (mul-lt-mul_of_pos_right (subst (λ p. 16 * n + d < limit * 16 ^ p) same grown) positive) in
     number_leaves kind text start k j count limit 16 n (omega arith) (omega arith) below (λ m h. omega arith)
     (subst (λ p. StandsAt (hex_digits k n) text start p) here s) fault
-    (subst (λ p. LeavesPart kind (IsNumber 1 16) text p fault) here l)
+    (subst (λ p. LeavesPart kind (IsHexNumber 1 16) text p fault) here l)

@@ -5,7 +5,7 @@ use Rattle.hex.specs.Hex.{encode_lower, lower_digits, IsBytes}
 use Rattle.hex.proofs.HexLemmas.{length-encode_with}
 use Rattle.can_frame.specs.Ident.{ident_count}
 use Rattle.can_frame.specs.Text.{blank, hex_digits, identifier_digits}
-use Rattle.can_frame.specs.TextParts.{letter_spelling, IsLetter, IsNumber, IsIdentifier, IsData, LeavesPart, StandsAt}
+use Rattle.can_frame.specs.TextParts.{letter_spelling, IsLetter, IsHexNumber, IsIdentifier, IsData, LeavesPart, StandsAt}
 use Rattle.can_frame.specs.declared.text.TextFaultKind.{TextFaultKind}
 use Rattle.can_frame.specs.declared.text.TextFault.{TextFault}
 use Rattle.can_frame.proofs.HexDigits.{length-hex_digits, encode_lower-append, encode_lower-cons, encode_lower-nil}
@@ -57,14 +57,14 @@ letter_leaves_blank kind first second text start within is_second letter fault =
 
 pub identifier_leaves_number : (kind : TextFaultKind) (extended : Bool) (text : List ℕ) (start limit : ℕ) → start ≤ length text
     → limit * 16 ^ (identifier_digits extended - 1) ≡ ident_count extended
-    → (fault : TextFault) → LeavesPart kind (IsNumber (identifier_digits extended) limit) text start fault
+    → (fault : TextFault) → LeavesPart kind (IsHexNumber (identifier_digits extended) limit) text start fault
     → LeavesPart kind (IsIdentifier extended) text start fault
 identifier_leaves_number kind extended text start limit fits bound fault l =
     let k = identifier_digits extended in
-    LeavesPart-behind kind (IsIdentifier extended) (IsNumber k limit) text start 0 (omega arith)
+    LeavesPart-behind kind (IsIdentifier extended) (IsHexNumber k limit) text start 0 (omega arith)
     (λ v n. (blank, (n.0, subst (λ b. n.0 < b) bound n.1, ap (λ t. t ++ blank) n.2)))
     (λ w rest n same. (hex_digits k n.0, blank, (n.0, subst (λ b. n.0 < b) (sym bound) n.1, refl), sym n.2, omega arith)) fault
-    (subst (λ p. LeavesPart kind (IsNumber k limit) text p fault) (let e : start ≡ start + 0 = omega arith in e) l)
+    (subst (λ p. LeavesPart kind (IsHexNumber k limit) text p fault) (let e : start ≡ start + 0 = omega arith in e) l)
 
 pub identifier_leaves_blank : (kind : TextFaultKind) (extended : Bool) (text : List ℕ) (start raw : ℕ)
     → raw < ident_count extended
@@ -145,7 +145,7 @@ module _ (text : List ℕ) (start count i place : ℕ) (read : List ℕ) (r : Re
       ap (take (2 * i)) r.stands.spelt
       ∙ take_at (encode_lower read) (drop place text) (2 * i) (length-encode_lower read ∙ ap (λ n. 2 * n) r.size)
 
-  fill : (v : List ℕ) → IsNumber 2 16 v → (z : List ℕ) × IsData count (take (2 * i) (drop start text) ++ (v ++ z))
+  fill : (v : List ℕ) → IsHexNumber 2 16 v → (z : List ℕ) × IsData count (take (2 * i) (drop start text) ++ (v ++ z))
   fill v n =
       let rest : List ℕ = replicate (count - i - 1) 0 in
       let small : n.0 < 256 = omega (arith, n.1) in
@@ -165,7 +165,7 @@ module _ (text : List ℕ) (start count i place : ℕ) (read : List ℕ) (r : Re
       )
 
   split : (w rest : List ℕ) → IsData count w → take (2 * i) (w ++ rest) ≡ take (2 * i) (drop start text)
-      → (v : List ℕ) × (z : List ℕ) × IsNumber 2 16 v × (drop (2 * i) w ≡ v ++ z) × (2 * i ≤ length w)
+      → (v : List ℕ) × (z : List ℕ) × IsHexNumber 2 16 v × (drop (2 * i) w ≡ v ++ z) × (2 * i ≤ length w)
   split w rest bytes same =
       let all = bytes.0 in
       let b = get_or all i 0 in
@@ -186,9 +186,9 @@ module _ (text : List ℕ) (start count i place : ℕ) (read : List ℕ) (r : Re
       )
 
   -- where the text leaves the next byte, it leaves the data
-  pub data_leaves : (kind : TextFaultKind) (fault : TextFault) → LeavesPart kind (IsNumber 2 16) text place fault
+  pub data_leaves : (kind : TextFaultKind) (fault : TextFault) → LeavesPart kind (IsHexNumber 2 16) text place fault
       → LeavesPart kind (IsData count) text start fault
   data_leaves kind fault l =
-      LeavesPart-behind kind (IsData count) (IsNumber 2 16) text start (2 * i) (omega (arith, r.next, r.stands.within))
+      LeavesPart-behind kind (IsData count) (IsHexNumber 2 16) text start (2 * i) (omega (arith, r.next, r.stands.within))
       fill split fault
-      (subst (λ p. LeavesPart kind (IsNumber 2 16) text p fault) r.next l)
+      (subst (λ p. LeavesPart kind (IsHexNumber 2 16) text p fault) r.next l)

@@ -14,12 +14,20 @@ abbrev pub standard_field : ℕ → Bool → List Level
 standard_field raw remote = bits_of 11 raw ++ level_from remote ∷ Dominant ∷ []
 
 -- Extended: the identifier's eleven highest bits, SRR, IDE, its other bits, RTR.
-abbrev pub extended_field : ℕ → Bool → List Level
-extended_field raw remote = bits_of 11 (raw / 2 ^ 18) ++ Recessive ∷ Recessive ∷ (bits_of 18 raw ++ level_from remote ∷ [])
+abbrev pub extended_with : Level → ℕ → Bool → List Level
+extended_with srr raw remote = bits_of 11 (raw / 2 ^ 18) ++ srr ∷ Recessive ∷ (bits_of 18 raw ++ level_from remote ∷ [])
 
--- the field of a frame
+-- The same as it is sent: SRR is recessive.
+abbrev pub extended_field : ℕ → Bool → List Level
+extended_field raw remote = extended_with Recessive raw remote
+
+-- the field of a frame, with this level of SRR
+abbrev pub field_with : Level → Parts → List Level
+field_with srr f = if f.id.extended then extended_with srr f.id.raw f.remote else standard_field f.id.raw f.remote
+
+-- and as it is sent
 unfoldable pub arbitration_field : Parts → List Level
-arbitration_field f = if f.id.extended then extended_field f.id.raw f.remote else standard_field f.id.raw f.remote
+arbitration_field f = field_with Recessive f
 
 -- at the first place where the lists differ a is dominant
 pub record Before (a b : List Level) : Type 0 where

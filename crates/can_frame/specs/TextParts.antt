@@ -29,8 +29,8 @@ abbrev pub IsDigit : ℕ → ℕ → Type 0
 IsDigit d byte = (d < 16) × (slice_index lower_digits d ≡ byte)
 
 -- so many hexadecimal digits of a number, the first of them below a limit
-abbrev pub IsNumber : ℕ → ℕ → List ℕ → Type 0
-IsNumber count limit w = (n : ℕ) × (n < limit * 16 ^ (count - 1)) × (hex_digits count n ≡ w)
+abbrev pub IsHexNumber : ℕ → ℕ → List ℕ → Type 0
+IsHexNumber count limit w = (n : ℕ) × (n < limit * 16 ^ (count - 1)) × (hex_digits count n ≡ w)
 
 -- any identifier of the kind, and a blank
 abbrev pub IsIdentifier : Bool → List ℕ → Type 0

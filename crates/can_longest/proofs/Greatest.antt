@@ -8,7 +8,7 @@ use Rattle.can_wire.specs.Stuffing.{stuffed_from}
 use Rattle.can_wire.proofs.DivisionLemmas.{none}
 use Rattle.can_wire.proofs.XorLemmas.{xor_assoc, xor_zeros}
 use Rattle.can_wire.proofs.Register.{crc_of-none}
-use Rattle.can_longest.specs.ToCome.{wire_of, next_last, next_run, next_check, to_come, most, most_with}
+use Rattle.can_longest.specs.ToCome.{wire_levels, next_last, next_run, next_check, to_come, most, most_with}
 use Rattle.can_longest.proofs.Steps.{length-stuffed_from, length-stuffed_from-le}
 use Rattle.can_longest.proofs.CheckSums.{crc_of-parts, length-added}
 
@@ -27,7 +27,7 @@ to_come-behind last run check a d =
 
 -- one level, and then the rest
 pub to_come-level : (last : Level) (run : ℕ) (check : List Level) (x : Level) (d : List Level)
-    → to_come last run check (x ∷ d) ≡ wire_of last run x + to_come (next_last last run x) (next_run last run x) (next_check (length d) check x) d
+    → to_come last run check (x ∷ d) ≡ wire_levels last run x + to_come (next_last last run x) (next_run last run x) (next_check (length d) check x) d
 unfolding to_come
 to_come-level last run check x d =
     to_come-behind last run check (x ∷ []) d ∙ length-stuffed_from last run x (d ++ xor (next_check (length d) check x) (crc_of d))
@@ -53,7 +53,7 @@ most-none_longer (suc k) last run check (x ∷ d) size h =
     let count : length d ≡ k = omega arith in
     let next = next_check k check x in
     let rest = most-none_longer k (next_last last run x) (next_run last run x) next d (length-added check (x ∷ none k) size) count in
-    let level = to_come-level last run check x d ∙ ap (λ n. wire_of last run x + to_come (next_last last run x) (next_run last run x) (next_check n check x) d) count in
+    let level = to_come-level last run check x d ∙ ap (λ n. wire_levels last run x + to_come (next_last last run x) (next_run last run x) (next_check n check x) d) count in
     omega (arith, level, rest, most_with-le k last run check x)
 
 -- a list of k levels that makes it as much
@@ -72,8 +72,8 @@ module _ (k : ℕ) (last : Level) (run : ℕ) (check : List Level)
   with_level : (x : Level) → most (suc k) last run check ≡ most_with k last run check x → Reached (suc k) last run check (most (suc k) last run check)
   with_level x e =
       let r = rest x in
-      let level = to_come-level last run check x r.0 ∙ ap (λ n. wire_of last run x + to_come (next_last last run x) (next_run last run x) (next_check n check x) r.0) r.1 in
-      (x ∷ r.0, ap suc r.1, level ∙ ap (λ n. wire_of last run x + n) r.2 ∙ sym e)
+      let level = to_come-level last run check x r.0 ∙ ap (λ n. wire_levels last run x + to_come (next_last last run x) (next_run last run x) (next_check n check x) r.0) r.1 in
+      (x ∷ r.0, ap suc r.1, level ∙ ap (λ n. wire_levels last run x + n) r.2 ∙ sym e)
 
   reached-suc : Reached (suc k) last run check (most (suc k) last run check)
   reached-suc = elim (greater (most_with k last run check Dominant) (most_with k last run check Recessive)) [

@@ -21,7 +21,7 @@ use Rattle.can_longest.specs.Longest.{with_bytes}
 
 -- the frame's levels before its data, and its data
 pub head_is : (f : Parts) → head f ≡ header_of f ++ flat_map (bits_of 8) f.bytes
-unfolding header_of head
+unfolding header_of head arbitration_field
 head_is f =
     let field = arbitration_field f in
     let kept = cond f.id.extended (Dominant ∷ Dominant ∷ []) (Dominant ∷ []) in

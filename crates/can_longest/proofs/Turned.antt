@@ -9,7 +9,7 @@ use Rattle.can_wire.specs.Crc.{plus, xor, crc_of}
 use Rattle.can_wire.specs.Stuffing.{run_after, stuffed_from}
 use Rattle.can_wire.proofs.DivisionLemmas.{none, length-crc_of}
 use Rattle.can_wire.proofs.XorLemmas.{length-xor, xor_assoc, xor_comm, xor_twice}
-use Rattle.can_longest.specs.ToCome.{wire_of, next_last, next_run, next_check, most, most_with, turned}
+use Rattle.can_longest.specs.ToCome.{wire_levels, next_last, next_run, next_check, most, most_with, turned}
 use Rattle.can_longest.proofs.Greatest.{most-suc}
 use Rattle.can_longest.proofs.Steps.{length-stuffed_from}
 use Rattle.can_longest.proofs.CheckSums.{length-added, next_check-dominant}
@@ -24,8 +24,8 @@ run_after-opposite Dominant run Recessive = refl
 run_after-opposite Recessive run Dominant = refl
 run_after-opposite Recessive run Recessive = refl
 
-wire_of-opposite : (last : Level) (run : ℕ) (x : Level) → wire_of (opposite last) run x ≡ wire_of last run (opposite x)
-wire_of-opposite last run x = ap (λ n. cond (eqb n 5) 2 1) (run_after-opposite last run x)
+wire_levels-opposite : (last : Level) (run : ℕ) (x : Level) → wire_levels (opposite last) run x ≡ wire_levels last run (opposite x)
+wire_levels-opposite last run x = ap (λ n. cond (eqb n 5) 2 1) (run_after-opposite last run x)
 
 next_run-opposite : (last : Level) (run : ℕ) (x : Level) → next_run (opposite last) run x ≡ next_run last run (opposite x)
 next_run-opposite last run x = ap (λ n. cond (eqb n 5) 1 n) (run_after-opposite last run x)
@@ -42,10 +42,10 @@ length-stuffed-opposite [] last run = refl
 length-stuffed-opposite (x ∷ xs) last run =
     let turned_xs = xor xs (replicate (length xs) Recessive) in
     length-stuffed_from (opposite last) run x xs
-    ∙ ap (λ n. n + length (stuffed_from (next_last (opposite last) run x) (next_run (opposite last) run x) xs)) (wire_of-opposite last run x)
-    ∙ ap (λ n. wire_of last run (opposite x) + length (stuffed_from (next_last (opposite last) run x) n xs)) (next_run-opposite last run x)
-    ∙ ap (λ y. wire_of last run (opposite x) + length (stuffed_from y (next_run last run (opposite x)) xs)) (next_last-opposite last run x)
-    ∙ ap (λ n. wire_of last run (opposite x) + n) (length-stuffed-opposite xs (next_last last run (opposite x)) (next_run last run (opposite x)))
+    ∙ ap (λ n. n + length (stuffed_from (next_last (opposite last) run x) (next_run (opposite last) run x) xs)) (wire_levels-opposite last run x)
+    ∙ ap (λ n. wire_levels last run (opposite x) + length (stuffed_from (next_last (opposite last) run x) n xs)) (next_run-opposite last run x)
+    ∙ ap (λ y. wire_levels last run (opposite x) + length (stuffed_from y (next_run last run (opposite x)) xs)) (next_last-opposite last run x)
+    ∙ ap (λ n. wire_levels last run (opposite x) + n) (length-stuffed-opposite xs (next_last last run (opposite x)) (next_run last run (opposite x)))
     ∙ sym (length-stuffed_from last run (opposite x) turned_xs) ∙ ap (λ y. length (stuffed_from last run (y ∷ turned_xs))) (sym (plus_recessive x))
 
 pub turned-suc : (k : ℕ) → turned (suc k) ≡ next_check k (turned k) Recessive
@@ -77,11 +77,11 @@ module _ (k : ℕ) (last : Level) (run : ℕ) (check : List Level) (size : lengt
   side : (x : Level) → most_with k (opposite last) run check x ≡ most_with k last run (xor check (turned (suc k))) (opposite x)
   side x =
       let next = next_check k check x in
-      ap (λ n. n + most k (next_last (opposite last) run x) (next_run (opposite last) run x) next) (wire_of-opposite last run x)
-      ∙ ap (λ n. wire_of last run (opposite x) + most k (next_last (opposite last) run x) n next) (next_run-opposite last run x)
-      ∙ ap (λ y. wire_of last run (opposite x) + most k y (next_run last run (opposite x)) next) (next_last-opposite last run x)
-      ∙ ap (λ n. wire_of last run (opposite x) + n) (rest (next_last last run (opposite x)) (next_run last run (opposite x)) next (length-added check (x ∷ none k) size))
-      ∙ ap (λ c. wire_of last run (opposite x) + most k (next_last last run (opposite x)) (next_run last run (opposite x)) c) (next_check-opposite k check x size)
+      ap (λ n. n + most k (next_last (opposite last) run x) (next_run (opposite last) run x) next) (wire_levels-opposite last run x)
+      ∙ ap (λ n. wire_levels last run (opposite x) + most k (next_last (opposite last) run x) n next) (next_run-opposite last run x)
+      ∙ ap (λ y. wire_levels last run (opposite x) + most k y (next_run last run (opposite x)) next) (next_last-opposite last run x)
+      ∙ ap (λ n. wire_levels last run (opposite x) + n) (rest (next_last last run (opposite x)) (next_run last run (opposite x)) next (length-added check (x ∷ none k) size))
+      ∙ ap (λ c. wire_levels last run (opposite x) + most k (next_last last run (opposite x)) (next_run last run (opposite x)) c) (next_check-opposite k check x size)
 
   most-opposite-suc : most (suc k) (opposite last) run check ≡ most (suc k) last run (xor check (turned (suc k)))
   most-opposite-suc =

@@ -13,8 +13,8 @@ use Rattle.can_longest.specs.declared.rows.Row.{Row}
 -- One level more, behind a run of this level and length.
 
 -- how many levels it is with its stuff bit
-abbrev pub wire_of : Level → ℕ → Level → ℕ
-wire_of last run x = if run_after last run x == 5 then 2 else 1
+abbrev pub wire_levels : Level → ℕ → Level → ℕ
+wire_levels last run x = if run_after last run x == 5 then 2 else 1
 
 -- the last of these
 abbrev pub next_last : Level → ℕ → Level → Level
@@ -36,12 +36,12 @@ to_come last run check d = length (stuffed_from last run (d ++ xor check (crc_of
 unfoldable pub most : ℕ → Level → ℕ → List Level → ℕ
 most zero last run check = length (stuffed_from last run check)
 most (suc k) last run check =
-    max (wire_of last run Dominant + most k (next_last last run Dominant) (next_run last run Dominant) (next_check k check Dominant))
-    (wire_of last run Recessive + most k (next_last last run Recessive) (next_run last run Recessive) (next_check k check Recessive))
+    max (wire_levels last run Dominant + most k (next_last last run Dominant) (next_run last run Dominant) (next_check k check Dominant))
+    (wire_levels last run Recessive + most k (next_last last run Recessive) (next_run last run Recessive) (next_check k check Recessive))
 
 -- what comes at most where the first of the levels is x
 abbrev pub most_with : ℕ → Level → ℕ → List Level → Level → ℕ
-most_with k last run check x = wire_of last run x + most k (next_last last run x) (next_run last run x) (next_check k check x)
+most_with k last run check x = wire_levels last run x + most k (next_last last run x) (next_run last run x) (next_check k check x)
 
 -- the sum of two check sequences that are opposite at each place, behind k levels that are
 unfoldable pub turned : ℕ → List Level

@@ -3,7 +3,7 @@ ghost use Rattle.std.specs.Prelude.{◌≡◌, ◌+◌, ◌*◌, ◌<◌, ◌≤
 ghost use Rattle.can_frame.specs.declared.level.Level.{Level as Bit};
 ghost use Rattle.can_frame.specs.Levels.{bits_of};
 ghost use Rattle.can_wire.specs.Stuffing.{stuffed_from};
-ghost use Rattle.can_longest.specs.ToCome.{next_last, next_run, wire_of};
+ghost use Rattle.can_longest.specs.ToCome.{next_last, next_run, wire_levels};
 
 use can_frame::Level;
 use can_wire::{LONGEST_RUN, run_after};
@@ -33,7 +33,7 @@ impl Heard {
 pub(crate) fn hear(heard: Heard, level: Level) -> Heard
     requires short { heard.run < 5 }
     requires room { heard.levels < 1000 }
-    ensures levels { result.levels ≡ heard.levels + wire_of heard.last heard.run level }
+    ensures levels { result.levels ≡ heard.levels + wire_levels heard.last heard.run level }
     ensures last { result.last ≡ next_last heard.last heard.run level }
     ensures run { result.run ≡ next_run heard.last heard.run level }
     ensures some { 1 ≤ result.run }

@@ -27,8 +27,8 @@ answer_code TrailingFault = 16
 answer_code TooLong = 17
 
 -- the call has done what it says
-abbrev pub done : ℕ
-done = answer_code Done
+abbrev pub all_done : ℕ
+all_done = answer_code Done
 
 -- there was too little room
 abbrev pub no_room : ℕ

@@ -4,7 +4,7 @@ ghost use Rattle.can_frame.specs.Parts.{Parts, IsFrame, byte_count};
 ghost use Rattle.can_frame.specs.Text.{frame_text, IsTextFault};
 ghost use Rattle.can_frame.specs.declared.text.TextFault.{TextFault as Fault};
 ghost use Rattle.can_wire.specs.Wire.{driven};
-ghost use Rattle.can_page.specs.Answers.{answer_code, done, no_room, text_answer};
+ghost use Rattle.can_page.specs.Answers.{answer_code, all_done, no_room, text_answer};
 ghost use Rattle.can_page.specs.Calls.{IsRefusal, parts_of};
 ghost use Rattle.can_page.specs.Codes.{level_codes};
 
@@ -23,10 +23,10 @@ pub extern "C" fn page_encode(
     count: &mut usize,
     place: &mut usize,
 ) -> u8
-    ensures levels { result ≡ done → (f : Parts) × (IsFrame f × (frame_text f ≡ text.now) × (take count.new levels.new ≡ level_codes (driven f))) }
-    ensures within { result ≡ done → count.new ≤ length levels.old }
-    ensures taken { (f : Parts) → IsFrame f → frame_text f ≡ text.now → 157 ≤ length levels.old → result ≡ done }
-    ensures fault { result ≢ done → result ≢ no_room → (fault : Fault) × (IsTextFault text.now fault × (result ≡ answer_code (text_answer fault.kind)) × (place.new ≡ fault.place)) }
+    ensures levels { result ≡ all_done → (f : Parts) × (IsFrame f × (frame_text f ≡ text.now) × (take count.new levels.new ≡ level_codes (driven f))) }
+    ensures within { result ≡ all_done → count.new ≤ length levels.old }
+    ensures taken { (f : Parts) → IsFrame f → frame_text f ≡ text.now → 157 ≤ length levels.old → result ≡ all_done }
+    ensures fault { result ≢ all_done → result ≢ no_room → (fault : Fault) × (IsTextFault text.now fault × (result ≡ answer_code (text_answer fault.kind)) × (place.new ≡ fault.place)) }
 {
     if levels.len() < MOST_LEVELS {
         return Answer::NoRoom.code();
@@ -57,10 +57,10 @@ pub extern "C" fn page_frame_text(
     text: &mut [u8],
     count: &mut usize,
 ) -> u8
-    ensures text { result ≡ done → take count.new text.new ≡ frame_text (parts_of identifier extended remote dlc bytes.now) }
-    ensures within { result ≡ done → count.new ≤ length text.old }
-    ensures whole { result ≡ done → IsFrame (parts_of identifier extended remote dlc bytes.now) }
-    ensures taken { IsFrame (parts_of identifier extended remote dlc bytes.now) → 32 ≤ length text.old → result ≡ done }
+    ensures text { result ≡ all_done → take count.new text.new ≡ frame_text (parts_of identifier extended remote dlc bytes.now) }
+    ensures within { result ≡ all_done → count.new ≤ length text.old }
+    ensures whole { result ≡ all_done → IsFrame (parts_of identifier extended remote dlc bytes.now) }
+    ensures taken { IsFrame (parts_of identifier extended remote dlc bytes.now) → 32 ≤ length text.old → result ≡ all_done }
     ensures identifier { result ≡ answer_code Answer.BadIdentifier → ident_count extended ≤ identifier }
     ensures dlc { result ≡ answer_code Answer.BadDlc → 15 < dlc }
     ensures count { result ≡ answer_code Answer.BadCount → length bytes.now ≢ byte_count remote dlc }

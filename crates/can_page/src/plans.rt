@@ -1,5 +1,5 @@
 ghost use Rattle.std.specs.Prelude.{◌≡◌, ◌⊎◌, [], false, true, IfSome, Some};
-ghost use Rattle.can_page.specs.Answers.{bad_plan, done, no_memory, no_room};
+ghost use Rattle.can_page.specs.Answers.{bad_plan, all_done, no_memory, no_room};
 ghost use Rattle.can_page.specs.Codes.{form_of};
 ghost use Rattle.can_page.specs.Lines.{is_overfull, written_lines};
 ghost use Rattle.can_page.specs.Plain.{wrong_in_plan};
@@ -25,9 +25,9 @@ pub extern "C" fn page_plan(
     late: &mut usize,
     wrong: &mut WrongField,
 ) -> u8
-    ensures answer { result ≡ done → IsAnswerIn (form_of details) text.now (written_lines out.new) late.new }
+    ensures answer { result ≡ all_done → IsAnswerIn (form_of details) text.now (written_lines out.new) late.new }
     ensures wrong { result ≡ bad_plan → (field : Wrong) × (IsWrongPlanField field text.now × (wrong.new ≡ wrong_in_plan field)) }
-    ensures answers { (result ≡ done) ⊎ (result ≡ bad_plan) ⊎ (result ≡ no_room) ⊎ (result ≡ no_memory) }
+    ensures answers { (result ≡ all_done) ⊎ (result ≡ bad_plan) ⊎ (result ≡ no_room) ⊎ (result ≡ no_memory) }
     ensures room { result ≡ no_room → is_overfull out.new ≡ true }
 {
     out.clear();

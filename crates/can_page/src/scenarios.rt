@@ -5,7 +5,7 @@ ghost use Rattle.can_scenario_text.specs.Scenarios.{IsWrongScenarioField, IsScen
 ghost use Rattle.can_port_times.specs.declared.port_times.PortTime.{PortTime as Told};
 ghost use Rattle.can_scenario_text.specs.declared.scenario.Scenario.{Scenario as Planned};
 ghost use Rattle.can_stream.specs.declared.field.Field.{Field as Wrong};
-ghost use Rattle.can_page.specs.Answers.{bad_scenario, done, no_memory, no_port, no_room};
+ghost use Rattle.can_page.specs.Answers.{bad_scenario, all_done, no_memory, no_port, no_room};
 ghost use Rattle.can_page.specs.Lines.{is_overfull, written_lines};
 ghost use Rattle.can_page.specs.Plain.{plain_times, wrong_field};
 
@@ -26,9 +26,9 @@ pub extern "C" fn page_run(
     out: &mut Lines,
     wrong: &mut WrongField,
 ) -> u8
-    ensures report { result ≡ done → (s : Planned) × (IsScenarioText text.now s × (written_lines out.new ≡ report s)) }
+    ensures report { result ≡ all_done → (s : Planned) × (IsScenarioText text.now s × (written_lines out.new ≡ report s)) }
     ensures wrong { result ≡ bad_scenario → (field : Wrong) × (IsWrongScenarioField field text.now × (wrong.new ≡ wrong_field field)) }
-    ensures answers { (result ≡ done) ⊎ (result ≡ bad_scenario) ⊎ (result ≡ no_room) ⊎ (result ≡ no_memory) }
+    ensures answers { (result ≡ all_done) ⊎ (result ≡ bad_scenario) ⊎ (result ≡ no_room) ⊎ (result ≡ no_memory) }
     ensures room { result ≡ no_room → is_overfull out.new ≡ true }
 {
     out.clear();
@@ -69,10 +69,10 @@ pub extern "C" fn page_port_times(
     times: &mut [PlainTime],
     count: &mut usize,
 ) -> u8
-    ensures times { result ≡ done → (s : Planned) × (told : List Told) × (IsScenarioText text.now s × (node < length s.ports.items) × AreTold s node told
+    ensures times { result ≡ all_done → (s : Planned) × (told : List Told) × (IsScenarioText text.now s × (node < length s.ports.items) × AreTold s node told
         × (take count.new times.new ≡ plain_times told) × (count.new ≡ length told)) }
     ensures wrong { result ≡ bad_scenario → (field : Wrong) × IsWrongScenarioField field text.now }
-    ensures answers { (result ≡ done) ⊎ (result ≡ bad_scenario) ⊎ (result ≡ no_port) ⊎ (result ≡ no_room) ⊎ (result ≡ no_memory) }
+    ensures answers { (result ≡ all_done) ⊎ (result ≡ bad_scenario) ⊎ (result ≡ no_port) ⊎ (result ≡ no_room) ⊎ (result ≡ no_memory) }
     ensures port { result ≡ no_port → (s : Planned) × (IsScenarioText text.now s × (length s.ports.items ≤ node)) }
     ensures room { result ≡ no_room → (s : Planned) × (told : List Told) × (IsScenarioText text.now s × (node < length s.ports.items) × AreTold s node told
         × (length times.old < length told)) }
@@ -120,10 +120,10 @@ pub extern "C" fn page_all_port_times(
     times: &mut [PlainTime],
     count: &mut usize,
 ) -> u8
-    ensures times { result ≡ done → (s : Planned) × (told : List Told) × (IsScenarioText text.now s × AreAllTold s told
+    ensures times { result ≡ all_done → (s : Planned) × (told : List Told) × (IsScenarioText text.now s × AreAllTold s told
         × (take count.new times.new ≡ plain_times told) × (count.new ≡ length told)) }
     ensures wrong { result ≡ bad_scenario → (field : Wrong) × IsWrongScenarioField field text.now }
-    ensures answers { (result ≡ done) ⊎ (result ≡ bad_scenario) ⊎ (result ≡ no_room) ⊎ (result ≡ no_memory) }
+    ensures answers { (result ≡ all_done) ⊎ (result ≡ bad_scenario) ⊎ (result ≡ no_room) ⊎ (result ≡ no_memory) }
     ensures room { result ≡ no_room → (s : Planned) × (told : List Told) × (IsScenarioText text.now s × AreAllTold s told × (length times.old < length told)) }
 {
     tell_all_port_times(alloc, text, times, count).code()

@@ -1,7 +1,7 @@
 ghost use Rattle.std.specs.Prelude.{◌≡◌, ◌^◌, ◌≤◌, ◌⊎◌, [], false, true, length, take, option_to_list, IfOk, IfSome, OnErr, OnOk, Some};
 ghost use Rattle.can_texts.specs.Decoded.{DecodesAll, DecodesToBadByte};
 ghost use Rattle.can_texts.specs.TraceText.{IsFirstBadTraceByte, IsTraceText, is_trace_byte, levels_in, levels_of_byte};
-ghost use Rattle.can_page.specs.Answers.{bad_level, done, no_room};
+ghost use Rattle.can_page.specs.Answers.{bad_level, all_done, no_room};
 ghost use Rattle.can_page.specs.Codes.{level_codes, trace_text};
 ghost use Rattle.can_page.specs.Lines.{is_overfull, written_lines};
 
@@ -18,9 +18,9 @@ use can_texts::decode_stream;
 /// it. Where it is that of too little room, all the room is taken.
 #[unsafe(no_mangle)]
 pub extern "C" fn page_decode(text: &[u8], out: &mut Lines, place: &mut u64) -> u8
-    ensures whole { result ≡ done → DecodesAll text.now (written_lines out.new) }
+    ensures whole { result ≡ all_done → DecodesAll text.now (written_lines out.new) }
     ensures bad { result ≡ bad_level → DecodesToBadByte place.new text.now (written_lines out.new) }
-    ensures answers { (result ≡ done) ⊎ (result ≡ bad_level) ⊎ (result ≡ no_room) }
+    ensures answers { (result ≡ all_done) ⊎ (result ≡ bad_level) ⊎ (result ≡ no_room) }
     ensures room { length text.now ≤ 2 ^ 63 → result ≡ no_room → is_overfull out.new ≡ true }
 {
     out.clear();
@@ -31,9 +31,9 @@ pub extern "C" fn page_decode(text: &[u8], out: &mut Lines, place: &mut u64) -> 
 /// bad one.
 #[unsafe(no_mangle)]
 pub extern "C" fn page_decode_levels(levels: &[u8], out: &mut Lines, place: &mut u64) -> u8
-    ensures whole { result ≡ done → DecodesAll (trace_text levels.now) (written_lines out.new) }
+    ensures whole { result ≡ all_done → DecodesAll (trace_text levels.now) (written_lines out.new) }
     ensures bad { result ≡ bad_level → DecodesToBadByte place.new (trace_text levels.now) (written_lines out.new) }
-    ensures answers { (result ≡ done) ⊎ (result ≡ bad_level) ⊎ (result ≡ no_room) }
+    ensures answers { (result ≡ all_done) ⊎ (result ≡ bad_level) ⊎ (result ≡ no_room) }
     ensures room { length levels.now ≤ 2 ^ 63 → result ≡ no_room → is_overfull out.new ≡ true }
 {
     out.clear();
@@ -73,8 +73,8 @@ pub extern "C" fn page_levels(
     count: &mut usize,
     place: &mut usize,
 ) -> u8
-    ensures levels { result ≡ done → take count.new levels.new ≡ level_codes (levels_in text.now) }
-    ensures text { result ≡ done → IsTraceText text.now }
+    ensures levels { result ≡ all_done → take count.new levels.new ≡ level_codes (levels_in text.now) }
+    ensures text { result ≡ all_done → IsTraceText text.now }
     ensures bad { result ≡ bad_level → IsFirstBadTraceByte text.now place.new }
     ensures before { result ≡ bad_level → take count.new levels.new ≡ level_codes (levels_in (take place.new text.now)) }
     ensures within { count.new ≤ length levels.old }

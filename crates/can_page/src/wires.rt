@@ -1,6 +1,6 @@
 ghost use Rattle.std.specs.Prelude.{◌≡◌, ◌≤◌, false, true, length, take};
 ghost use Rattle.can_fields.specs.Marks.{marks_of};
-ghost use Rattle.can_page.specs.Answers.{answer_code, done};
+ghost use Rattle.can_page.specs.Answers.{answer_code, all_done};
 ghost use Rattle.can_frame.specs.Levels.{are_level_codes, levels_of_codes};
 ghost use Rattle.can_page.specs.Codes.{field_codes, stuff_codes};
 
@@ -18,11 +18,11 @@ pub extern "C" fn page_marks(
     stuffed: &mut [u8],
     count: &mut usize,
 ) -> u8
-    ensures fields { result ≡ done → take count.new fields.new ≡ field_codes (marks_of (levels_of_codes (take 157 levels.now))) }
-    ensures stuffed { result ≡ done → take count.new stuffed.new ≡ stuff_codes (marks_of (levels_of_codes (take 157 levels.now))) }
-    ensures count { result ≡ done → count.new ≡ length (marks_of (levels_of_codes (take 157 levels.now))) }
+    ensures fields { result ≡ all_done → take count.new fields.new ≡ field_codes (marks_of (levels_of_codes (take 157 levels.now))) }
+    ensures stuffed { result ≡ all_done → take count.new stuffed.new ≡ stuff_codes (marks_of (levels_of_codes (take 157 levels.now))) }
+    ensures count { result ≡ all_done → count.new ≡ length (marks_of (levels_of_codes (take 157 levels.now))) }
     ensures bad { result ≡ answer_code Answer.BadLevel → are_level_codes (take 157 levels.now) ≡ false }
-    ensures taken { 157 ≤ length fields.old → 157 ≤ length stuffed.old → are_level_codes (take 157 levels.now) ≡ true → result ≡ done }
+    ensures taken { 157 ≤ length fields.old → 157 ≤ length stuffed.old → are_level_codes (take 157 levels.now) ≡ true → result ≡ all_done }
 {
     if fields.len() < MOST_LEVELS || stuffed.len() < MOST_LEVELS {
         return Answer::NoRoom.code();

@@ -1,5 +1,5 @@
 ghost use Rattle.std.specs.Prelude.{◌≡◌, ◌⊎◌, [], false, true, IfSome, Some};
-ghost use Rattle.can_page.specs.Answers.{bad_plan, done, no_memory, no_message, no_room, too_long};
+ghost use Rattle.can_page.specs.Answers.{bad_plan, all_done, no_memory, no_message, no_room, too_long};
 ghost use Rattle.can_page.specs.Lines.{is_overfull, written_lines};
 ghost use Rattle.can_page.specs.Plain.{wrong_in_plan};
 ghost use Rattle.can_plan_text.specs.Plans.{IsWrongPlanField};
@@ -24,11 +24,11 @@ pub extern "C" fn page_worst_case(
     out: &mut Lines,
     wrong: &mut WrongField,
 ) -> u8
-    ensures scenario { result ≡ done → IsTimeline text.now name.now (written_lines out.new) }
+    ensures scenario { result ≡ all_done → IsTimeline text.now name.now (written_lines out.new) }
     ensures wrong { result ≡ bad_plan → (field : Wrong) × (IsWrongPlanField field text.now × (wrong.new ≡ wrong_in_plan field)) }
     ensures unknown { result ≡ no_message → IsUnknown text.now name.now }
     ensures unending { result ≡ too_long → IsUnending text.now name.now }
-    ensures answers { (result ≡ done) ⊎ (result ≡ bad_plan) ⊎ (result ≡ no_message) ⊎ (result ≡ too_long) ⊎ (result ≡ no_room) ⊎ (result ≡ no_memory) }
+    ensures answers { (result ≡ all_done) ⊎ (result ≡ bad_plan) ⊎ (result ≡ no_message) ⊎ (result ≡ too_long) ⊎ (result ≡ no_room) ⊎ (result ≡ no_memory) }
     ensures room { result ≡ no_room → is_overfull out.new ≡ true }
 {
     out.clear();

@@ -1,16 +1,18 @@
 -- How many releases of each message a list has, how long they keep the bus, and how many hits fall in a stretch of bit
 -- times.
-use Rattle.std.proofs.Common.{◌≡◌, ℕ, ◌+◌, ◌-◌, ◌*◌, ◌<◌, ◌≤◌, Bool, true, false, cond, Some, List, [], ◌∷◌, length, sym, ◌∙◌, ap, subst, inl, inr, arith}
-use Rattle.std.specs.Prelude.{max, fold, nat_le, nat_lt, ◌&&◌}
+use Rattle.std.proofs.Common.{◌≡◌, ℕ, ◌+◌, ◌-◌, ◌*◌, ◌<◌, ◌≤◌, Bool, true, false, cond, Some, List, [], ◌∷◌, length, refl, sym, ◌∙◌, ap, subst, inl, inr, arith}
+use Rattle.std.specs.Prelude.{max, fold, map, nat_le, nat_lt, ◌&&◌}
 use Rattle.std.specs.List.{sum_by, count_by}
 use Rattle.std.proofs.lemmas.Bool.{cases_Bool, le-leb, lt-ltb}
 use Rattle.std.proofs.lemmas.Nat.{le-div, mul-le}
 use Rattle.std.proofs.lemmas.List.Sums.{sum_by-cons}
 use Rattle.can_frame.specs.Arbitration.{arbitration_field}
-use Rattle.can_bus.specs.Quiet.{busy_time}
+use Rattle.can_bus.specs.CourseWaiting.{busy_times}
+use Rattle.can_bus.specs.Quiet.{busy_time, span}
+use Rattle.can_bus.specs.Timed.{frames_of}
 use Rattle.can_bus.proofs.Members.{stands-none, stands-here, stands-later, stands-cases}
 use Rattle.can_plan.specs.declared.message.Message.{Message}
-use Rattle.can_plan.specs.Messages.{IsIn, Release, IsOf, within_stretch}
+use Rattle.can_plan.specs.Messages.{IsIn, Release, IsOf, offer_of, within_stretch}
 use Rattle.can_plan.specs.Analysis.{greatest, arrivals, load}
 use Rattle.can_plan.proofs.FieldTests.{has_field, same_levels-is, same_levels-from}
 
@@ -80,8 +82,16 @@ module _ (m : Message) where
 
 -- ---- how long they keep the bus
 
-abbrev pub busy_times : List Release → ℕ
-busy_times s = sum_by (λ (r : Release). busy_time r.frame) s
+abbrev pub busy_for : List Release → ℕ
+busy_for s = busy_times (map offer_of s)
+
+pub busy-none : busy_for [] ≡ 0
+unfolding span
+busy-none = refl
+
+pub busy-cons : (x : Release) (s : List Release) → busy_for (x ∷ s) ≡ busy_time x.frame + busy_for s
+unfolding span
+busy-cons x s = sum_by-cons busy_time x.frame (frames_of (map offer_of s))
 
 -- each message as often as it is there
 abbrev pub weighed : List Message → List Release → ℕ
@@ -118,14 +128,14 @@ weighed-of (n ∷ ms) m x s there of =
 abbrev pub AreOf : List Message → List Release → Type 0
 AreOf ms s = (x : Release) → IsIn s x → (m : Message) × IsIn ms m × IsOf m x × (busy_time x.frame ≤ m.longest)
 
-pub busy-weighed : (ms : List Message) (s : List Release) → AreOf ms s → busy_times s ≤ weighed ms s
-busy-weighed ms [] are = omega arith
+pub busy-weighed : (ms : List Message) (s : List Release) → AreOf ms s → busy_for s ≤ weighed ms s
+busy-weighed ms [] are = omega (arith, busy-none)
 busy-weighed ms (x ∷ s) are =
     let one = are x (stands-here x s) in
     let rest = busy-weighed ms s (λ z there. are z (stands-later x s z there)) in
     let step = weighed-of ms one.0 x s one.1 one.2 in
     let short = one.3 in
-    omega (arith, sum_by-cons (λ (r : Release). busy_time r.frame) x s)
+    omega (arith, busy-cons x s)
 
 pub weighed-load : (ms : List Message) (long : ℕ) (s : List Release) → ((m : Message) → IsIn ms m → count m s ≤ arrivals m long) → weighed ms s ≤ load ms long
 weighed-load [] long s few = omega arith

@@ -16,7 +16,7 @@ use Rattle.can_plan.specs.Messages.{IsIn, IsMessageSet, IsOf, Release, offer_of}
 use Rattle.can_plan.specs.Analysis.{IsBound, Ranking}
 use Rattle.can_plan.specs.Ends.{EndAlways, EndWithin}
 use Rattle.can_plan.proofs.FieldTests.{field-tests, filter-map_length, filter-place, filter-same, has_field}
-use Rattle.can_plan.proofs.Counts.{of-has, has-of}
+use Rattle.can_plan.proofs.Counts.{busy-none, of-has, has-of}
 use Rattle.can_plan.proofs.Windows.{IsLeft, IsNextOf, IsRanked, Window, ready}
 use Rattle.can_plan.proofs.Moves.{left-among, sent_attempt, broken_attempt, sent-upper, broken-upper, sent-lower, broken-lower, ends-within}
 use Rattle.can_bus.proofs.CourseDelays.{in-order}
@@ -166,7 +166,7 @@ ends-always ranking most limit bound is b releases hits course made frames rise 
       since = record { began = λ y s. absurd (stands-none y s); members = λ y s. absurd (stands-none y s); fits = λ y s. absurd (stands-none y s); spaced = λ m s. tt };
       later = λ z s of. omega arith;
       apart = λ y z s. absurd (stands-none y s);
-      spent = omega arith;
+      spent = omega (arith, busy-none);
       hits_began = λ t s. absurd (stands-none t s);
       few = λ t len. (let h = few t len in omega arith);
       in_long = record { offers = λ y s. absurd (stands-none y s); hits = λ t s. absurd (stands-none t s) };

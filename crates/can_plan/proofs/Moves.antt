@@ -1,7 +1,6 @@
 -- What an attempt makes of a window.
 use Rattle.std.proofs.Common.{◌≡◌, ℕ, ◌+◌, ◌-◌, ◌<◌, ◌≤◌, Some, None, List, [], ◌∷◌, ◌++◌, length, sym, ◌∙◌, subst, inl, inr, arith}
 use Rattle.std.proofs.lemmas.Bool.{cases_lt}
-use Rattle.std.proofs.lemmas.List.Sums.{sum_by-cons}
 use Rattle.can_frame.specs.Parts.{Parts}
 use Rattle.can_frame.specs.Arbitration.{arbitration_field, Before}
 use Rattle.can_frame.proofs.BeforeLemmas.{Before-differs, Before-one_way}
@@ -12,7 +11,7 @@ use Rattle.can_bus.proofs.Members.{stands-none, stands-here, stands-cases, stand
 use Rattle.can_plan.specs.declared.message.Message.{Message}
 use Rattle.can_plan.specs.Messages.{IsIn, Release, IsOf, IsWithin, hit_times}
 use Rattle.can_plan.specs.Analysis.{Ranking, blocking, widest, busied, IsBound, arrivals}
-use Rattle.can_plan.proofs.Counts.{count, of-has, count-yes, count-more, count-span, greatest-le, stretch-cons}
+use Rattle.can_plan.proofs.Counts.{busy-cons, busy-none, count, of-has, count-yes, count-more, count-span, greatest-le, stretch-cons}
 use Rattle.can_plan.proofs.Windows.{Fits, Apart, InOrder, IsLeft, IsNextOf, upper, IsRanked, IsUpper, AreSince, Window, Ready, counted}
 
 module _ (messages : List Message) (x : Release) (after : List Release) where
@@ -89,7 +88,7 @@ module _ (messages : List Message) (ranking : Ranking) (is : IsRanked messages r
         | inl e ↦ subst (λ (k : Release). Apart messages k z) e (apart-next messages x after free start before lefts next z t)
         | inr k ↦ w.apart y z k (stands-among before x after z t)
       ];
-      spent = (let h = w.spent in let one = sum_by-cons (λ (y : Release). busy_time y.frame) x w.served in omega arith);
+      spent = (let h = w.spent in let one = busy-cons x w.served in omega arith);
       hits_began = w.hits_began;
       few = w.few;
       in_long = record { offers = offers-sent r; hits = w.in_long.hits };
@@ -191,7 +190,7 @@ module _ (messages : List Message) (ranking : Ranking) (is : IsRanked messages r
       since = record { began = λ y s. absurd (stands-none y s); members = λ y s. absurd (stands-none y s); fits = λ y s. absurd (stands-none y s); spaced = λ m s. tt };
       later = λ z s. none-offered z (stands-among before x after z s);
       apart = λ y z s. absurd (stands-none y s);
-      spent = (let a = fits-lower.short in let b = blocked in omega arith);
+      spent = (let a = fits-lower.short in let b = blocked in let none = busy-none in omega arith);
       hits_began = λ t s. absurd (stands-none t s);
       few = λ t len. (let h = w.few t len in omega arith);
       in_long = record { offers = λ y s. absurd (stands-none y s); hits = λ t s. absurd (stands-none t s) };
@@ -207,7 +206,7 @@ module _ (messages : List Message) (ranking : Ranking) (is : IsRanked messages r
       since = record { began = λ y s. absurd (stands-none y s); members = λ y s. absurd (stands-none y s); fits = λ y s. absurd (stands-none y s); spaced = λ m s. tt };
       later = none-offered;
       apart = λ y z s. absurd (stands-none y s);
-      spent = (let a = fits-lower.short in let b = blocked in let c = hit.cost in omega arith);
+      spent = (let a = fits-lower.short in let b = blocked in let c = hit.cost in let none = busy-none in omega arith);
       hits_began = λ t s. elim (stands-cases (start + offset) [] t s) [ inl e ↦ (let a = hit.behind in omega arith) | inr k ↦ absurd (stands-none t k) ];
       few = λ t len. (let h = w.few t len in
           let a = stretch-cons t len (start + offset) [] in

@@ -11,7 +11,7 @@ use Rattle.can_bus.proofs.Members.{stands-none, stands-later, stands-cases}
 use Rattle.can_plan.specs.declared.message.Message.{Message}
 use Rattle.can_plan.specs.Messages.{IsIn, Release, IsOf, IsWithin, hit_times, within_stretch}
 use Rattle.can_plan.specs.Analysis.{Ranking, arrivals, blocking, widest, delayed, busied}
-use Rattle.can_plan.proofs.Counts.{count, Spaced, count-le, busy_times, weighed, weighed-cons, weighed-of, AreOf, busy-weighed, weighed-load, stretch-all}
+use Rattle.can_plan.proofs.Counts.{count, Spaced, count-le, busy_for, busy-none, weighed, weighed-cons, weighed-of, AreOf, busy-weighed, weighed-load, stretch-all}
 
 -- ---- releases, as the messages have them
 
@@ -76,7 +76,7 @@ pub record Window (messages : List Message) (ranking : Ranking) (most : ℕ → 
   pub since : AreSince messages ranking from served
   pub later : (z : Release) → IsIn left z → IsUpper ranking z → from ≤ z.offered
   pub apart : (y z : Release) → IsIn served y → IsIn left z → Apart messages y z
-  pub spent : free ≤ from + blocking ranking + busy_times served + length past * (widest ranking + 13)
+  pub spent : free ≤ from + blocking ranking + busy_for served + length past * (widest ranking + 13)
   pub hits_began : (t : ℕ) → IsIn past t → from ≤ t
   pub few : (t len : ℕ) → within_stretch t len past + within_stretch t len (hit_times coming) ≤ most len
   pub in_long : IsSoon ranking from long served past
@@ -145,7 +145,7 @@ module _ (messages : List Message) (ranking : Ranking) (is : IsRanked messages r
       since = record { began = λ y s. absurd (stands-none y s); members = λ y s. absurd (stands-none y s); fits = λ y s. absurd (stands-none y s); spaced = λ m s. tt };
       later = later;
       apart = λ y z s. absurd (stands-none y s);
-      spent = omega arith;
+      spent = omega (arith, busy-none);
       hits_began = λ t s. absurd (stands-none t s);
       few = λ t len. let h = hits-coming t len in omega arith;
       in_long = record { offers = λ y s. absurd (stands-none y s); hits = λ t s. absurd (stands-none t s) };

@@ -18,7 +18,7 @@ use Rattle.can_bus.specs.declared.offer.Offer.{Offer}
 use Rattle.can_bus.specs.Offers.{AreOffered, all_made, call_after, made, played, played_level}
 use Rattle.can_bus.proofs.CallCases.{played-level, played-next}
 use Rattle.can_bus.specs.Run.{BusState, all_sampled, bus_after, bus_level, bus_run, bus_step, call_begun, hits_view, inverted_if, recorded}
-use Rattle.can_port_times.specs.PortTimes.{AreFirstTold, AreSeen, AreTold, bus_by, first_port, level_seen, offers_meanwhile, own_made, seen_by, port_time, told_from}
+use Rattle.can_port_times.specs.PortTimes.{AreFirstTold, AreSeen, AreTold, bus_by, first_port, level_seen, offers_meanwhile, own_made, seen_under, port_time, told_from}
 use Rattle.can_scenario.specs.Report.{level_by, levels_until, made_bus, made_port, recorded_levels, waiting_bus, waiting_port}
 use Rattle.can_scenario.specs.ScenarioOffers.{scenario_offers}
 use Rattle.can_scenario_text.specs.declared.scenario.PortPlan.{PortPlan}
@@ -206,17 +206,17 @@ first-at from plans n plan there = slice_get-map from plans n ∙ ap (option_map
 
 -- from its plan, its offers and the levels that it sees a port goes on as on the bus
 pub told-known : (hits : List Hit) (s : Scenario) (node : ℕ) (plan : PortPlan) (seen : List Level) → slice_get s.ports.items node ≡ Some plan →
-    ((t : ℕ) → t < length seen → slice_get seen t ≡ Some (seen_by hits s node t)) →
+    ((t : ℕ) → t < length seen → slice_get seen t ≡ Some (seen_under hits s node t)) →
     (t : ℕ) (p : PortState) → t < length seen → slice_get (bus_by hits s t).ports node ≡ Some p →
-    slice_get (told_from node (offers_meanwhile hits s) 0 (first_port hits plan) seen) t ≡ Some (port_time p (seen_by hits s node t))
+    slice_get (told_from node (offers_meanwhile hits s) 0 (first_port hits plan) seen) t ≡ Some (port_time p (seen_under hits s node t))
 told-known [] s node plan seen there known =
     let offers = scenario_offers s in
-    told-times node offers (λ t. (played offers t (made_bus s)).ports) (λ t. (bus_by [] s t).ports) (seen_by [] s node)
+    told-times node offers (λ t. (played offers t (made_bus s)).ports) (λ t. (bus_by [] s t).ports) (seen_under [] s node)
     (λ t p at. all-made-at offers t (played offers t (made_bus s)).ports node p at)
     (λ t p at. port-next offers t (made_bus s) node p at)
     seen (made_port plan) (played-first offers (made_bus s) node (made_port plan) (first-at made_port s.ports.items node plan there)) known
 told-known (hit ∷ hits) s node plan seen there known =
-    told-times node [] (λ t. (bus_run (hit ∷ hits) t (waiting_bus s)).ports) (λ t. (bus_run (hit ∷ hits) t (waiting_bus s)).ports) (seen_by (hit ∷ hits) s node)
+    told-times node [] (λ t. (bus_run (hit ∷ hits) t (waiting_bus s)).ports) (λ t. (bus_run (hit ∷ hits) t (waiting_bus s)).ports) (seen_under (hit ∷ hits) s node)
     (λ t p at. at)
     (λ t p at. disturbed-next (hit ∷ hits) t (waiting_bus s) node p at)
     seen (waiting_port plan) (run-first (hit ∷ hits) (waiting_bus s) node (waiting_port plan) (first-at waiting_port s.ports.items node plan there)) known

@@ -74,11 +74,11 @@ abbrev pub bus_at : Scenario → ℕ → BusState
 bus_at s t = bus_by s.hits.items s t
 
 -- the level that the port of this number sees at time t
-abbrev pub seen_by : List Hit → Scenario → ℕ → ℕ → Level
-seen_by hits s node t = inverted_if (list_any (hits_view t node) hits) (level_by hits s t)
+abbrev pub seen_under : List Hit → Scenario → ℕ → ℕ → Level
+seen_under hits s node t = inverted_if (list_any (hits_view t node) hits) (level_by hits s t)
 
 abbrev pub level_seen : Scenario → ℕ → ℕ → Level
-level_seen s node t = seen_by s.hits.items s node t
+level_seen s node t = seen_under s.hits.items s node t
 
 -- what the port of this number does in each bit time
 pub record AreTold (s : Scenario) (node : ℕ) (times : List PortTime) : Type 0 where

@@ -6,7 +6,7 @@ use Rattle.can_bus.specs.declared.offer.Offer.{Offer}
 use Rattle.can_bus.specs.Offers.{all_made, call_after, played, played_level}
 use Rattle.can_bus.specs.OpenBus.{with_first}
 use Rattle.can_bus.specs.Timed.{timed}
-use Rattle.can_bus.specs.Run.{BusState, bus_after, bus_level, bus_run}
+use Rattle.can_bus.specs.Run.{BusState, bus_after, bus_level, bus_run, new_bus}
 use Rattle.can_bus.proofs.Members.{Stands, stands-here, stands-later}
 use Rattle.can_bus.proofs.OfferTimes.{at-now, offered_at}
 use Rattle.can_bus.proofs.OpenAtOnce.{at_once-level, at_once-run}
@@ -16,7 +16,7 @@ use Rattle.can_scenario_text.specs.declared.scenario.Scenario.{Scenario}
 use Rattle.can_scenario_text.specs.declared.scenario.PortPlan.{PortPlan}
 use Rattle.can_scenario_text.specs.declared.scenario.TimedFrame.{TimedFrame}
 use Rattle.can_scenario.specs.QuietReport.{AreFirst}
-use Rattle.can_scenario.specs.Report.{PortReport, ended_by, frames_of_queue, level_by, levels_until, made_bus, made_port, new_bus, report, report_text, reported, waiting_bus, waiting_port, waiting_report}
+use Rattle.can_scenario.specs.Report.{PortReport, ended_with, frames_of_queue, level_by, levels_until, made_bus, made_port, report, report_text, reported, waiting_bus, waiting_port, waiting_report}
 use Rattle.can_scenario.specs.ScenarioOffers.{in_time, offer_to, offers_from, scenario_offers}
 use Rattle.can_scenario.proofs.OfferOrder.{in_time-first}
 use Rattle.can_scenario.proofs.OpenReports.{levels-same, planned-room}
@@ -84,7 +84,7 @@ module _ (s : Scenario) (first : All AreFirst s.ports.items) where
   ports-first zero = told-alike s.ports.items
   ports-first (suc n) = ap (λ (b : BusState). map reported b.ports) (at_once-run (scenario_offers s) (offers-at_once s first) (suc n) (made_bus s) (omega arith) ∙ ap (bus_run [] (suc n)) waits)
 
-  by-hits : (hits : List Hit) → report_text (levels_until (level_by hits s) s.bits) (map reported (ended_by hits s).ports)
+  by-hits : (hits : List Hit) → report_text (levels_until (level_by hits s) s.bits) (map reported (ended_with hits s).ports)
       ≡ report_text (levels_until (λ t. bus_level hits t (waiting_bus s)) s.bits) (map reported (bus_run hits s.bits (waiting_bus s)).ports)
   by-hits [] =
       ap (λ levels. report_text levels (map reported (played (scenario_offers s) s.bits (made_bus s)).ports))

@@ -14,7 +14,7 @@ use Rattle.std.proofs.lemmas.List.Elements.{filter_agree}
 use Rattle.std.proofs.lemmas.List.Sorted.{IsPermutation-cons, IsPermutation-middle, IsPermutation-refl, IsPermutation-trans}
 use Rattle.can_bus.specs.declared.offer.Offer.{Offer}
 use Rattle.can_bus.proofs.Members.{Stands, stands-here, stands-later}
-use Rattle.can_scenario.specs.ScenarioOffers.{AreInTime, in_time, offers_at, put_in_time}
+use Rattle.can_scenario.specs.ScenarioOffers.{IsInTimeOrder, in_time, offers_at, put_in_time}
 
 -- ---- offers whose times rise
 
@@ -127,7 +127,7 @@ in_time-at t (o ∷ os) =
       | inr other ↦ at-other o (in_time os) t other ∙ in_time-at t os ∙ sym (at-other o os t other)
     ])
 
-pub in_time-is : (os : List Offer) → AreInTime os (in_time os)
+pub in_time-is : (os : List Offer) → IsInTimeOrder os (in_time os)
 in_time-is os = record { rising = from-rise (in_time os) (in_time-rise os); same = λ t. in_time-at t os }
 
 -- there is no other list in the order of time
@@ -157,7 +157,7 @@ same-offers (x ∷ a) (y ∷ b) rise risen same = elim (cases_order x.time y.tim
   ]
 ]
 
-pub one-order : (os ordered : List Offer) → AreInTime os ordered → ordered ≡ in_time os
+pub one-order : (os ordered : List Offer) → IsInTimeOrder os ordered → ordered ≡ in_time os
 one-order os ordered are = same-offers ordered (in_time os) (rise-from ordered are.rising) (in_time-rise os) (λ t. are.same t ∙ sym (in_time-at t os))
 
 -- offers of time 0 stay as they are

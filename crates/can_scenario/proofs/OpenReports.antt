@@ -30,8 +30,8 @@ use Rattle.can_bus.proofs.OpenStart.{OfFrames}
 use Rattle.can_bus.proofs.RunLemmas.{length-run}
 use Rattle.can_scenario_text.specs.declared.scenario.Scenario.{Scenario}
 use Rattle.can_scenario_text.specs.declared.scenario.PortPlan.{PortPlan}
-use Rattle.can_scenario.specs.OpenReport.{IsOpenScenario, IsQuietPlan, all_frames, open_report, queues, quiet_port, scenario_starts}
-use Rattle.can_scenario.specs.Report.{PortReport, ended_bus, ended_by, recorded_levels, frames_of_queue, level_by, levels_until, made_bus, made_port, report, reported, report_text}
+use Rattle.can_scenario.specs.OpenReport.{IsOpenScenario, IsReadyPlan, all_frames, open_report, queues, quiet_port, scenario_starts}
+use Rattle.can_scenario.specs.Report.{PortReport, ended_bus, ended_with, recorded_levels, frames_of_queue, level_by, levels_until, made_bus, made_port, report, reported, report_text}
 use Rattle.can_scenario.specs.ScenarioOffers.{in_time, offers_from, scenario_offers}
 use Rattle.can_scenario.proofs.Started.{levels_until-is}
 use Rattle.can_scenario.proofs.OfferOrder.{in_time-is, in_time-permuted}
@@ -41,18 +41,18 @@ use Rattle.can_scenario.proofs.PlannedOffers.{all-permuted, offers-named, own-pe
 
 -- each of them is quiet
 abbrev pub AllQuiet : ℕ → List PortPlan → Type 0
-AllQuiet entries plans = (n : ℕ) (plan : PortPlan) → slice_get plans n ≡ Some plan → IsQuietPlan entries plan
+AllQuiet entries plans = (n : ℕ) (plan : PortPlan) → slice_get plans n ≡ Some plan → IsReadyPlan entries plan
 
 -- a quiet port as it is made
 abbrev pub fresh_quiet : PortPlan → PortState
 fresh_quiet plan = port_holding 0 (fresh_port idle (length plan.queue.items) plan.log_room)
 
-pub made-quiet : (entries : ℕ) (plan : PortPlan) → IsQuietPlan entries plan → made_port plan ≡ fresh_quiet plan
+pub made-quiet : (entries : ℕ) (plan : PortPlan) → IsReadyPlan entries plan → made_port plan ≡ fresh_quiet plan
 made-quiet entries plan quiet =
     ap (λ joins. port_holding plan.overloads (fresh_port (if joins then joining else idle) (length plan.queue.items) plan.log_room)) quiet.idle
     ∙ ap (λ n. port_holding n (fresh_port idle (length plan.queue.items) plan.log_room)) quiet.unasked
 
-pub quiet-port : (entries : ℕ) (plan : PortPlan) → IsQuietPlan entries plan → IsQuietPort entries (made_port plan)
+pub quiet-port : (entries : ℕ) (plan : PortPlan) → IsReadyPlan entries plan → IsQuietPort entries (made_port plan)
 quiet-port entries plan quiet =
     subst (IsQuietPort entries) (sym (made-quiet entries plan quiet)) (record { idle = refl; tec = refl; rec = refl; unasked = refl; empty = refl; room = quiet.room })
 
@@ -197,7 +197,7 @@ abbrev pub played_report : Scenario → List ℕ
 played_report s = report_text (levels_until (λ t. played_level (scenario_offers s) t (made_bus s)) s.bits) (map reported (played (scenario_offers s) s.bits (made_bus s)).ports)
 
 pub undisturbed-report : (s : Scenario) → s.hits.items ≡ [] → report s ≡ played_report s
-undisturbed-report s none = ap (λ hits. report_text (levels_until (level_by hits s) s.bits) (map reported (ended_by hits s).ports)) none
+undisturbed-report s none = ap (λ hits. report_text (levels_until (level_by hits s) s.bits) (map reported (ended_with hits s).ports)) none
 
 -- the report of an open scenario, as the definition of a run has it
 module _ (s : Scenario) (valid : AllPorts IsPort (map made_port s.ports.items)) (framed : OfFrames (scenario_offers s)) (is : IsOpenScenario s) where
@@ -225,7 +225,7 @@ pub played-told : (s : Scenario) (is : IsOpenScenario s) (levels : List Level) (
 played-told s is levels after recorded ended size known logs counters missed =
     let ports : map reported after ≡ map (quiet_port (frames_of (scenario_starts s))) (queues s) =
     ports-told s is after
-    (ap length ended ∙ ap (λ (b : BusState). length b.ports) (ap (λ hits. ended_by hits s) is.undisturbed)
+    (ap length ended ∙ ap (λ (b : BusState). length b.ports) (ap (λ hits. ended_with hits s) is.undisturbed)
     ∙ length-played (scenario_offers s) s.bits (made_bus s) ∙ length-map s.ports.items made_port)
     logs counters missed in
     let track : levels ≡ levels_until (track_at (scenario_starts s)) s.bits =

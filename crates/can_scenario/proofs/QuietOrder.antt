@@ -19,7 +19,7 @@ use Rattle.can_bus.proofs.QuietPlans.{ready-port}
 use Rattle.can_scenario_text.specs.declared.scenario.Scenario.{Scenario}
 use Rattle.can_scenario_text.specs.declared.scenario.PortPlan.{PortPlan}
 use Rattle.can_scenario_text.specs.declared.scenario.TimedFrame.{TimedFrame}
-use Rattle.can_scenario.specs.OpenReport.{IsQuietPlan, all_frames, queues, quiet_port}
+use Rattle.can_scenario.specs.OpenReport.{IsReadyPlan, all_frames, queues, quiet_port}
 use Rattle.can_scenario.specs.QuietReport.{AreReordered, AreReorderings, HoldsFrames, IsQuietScenario, quiet_report}
 use Rattle.can_scenario.specs.Report.{PortReport, frames_of_queue, levels_until, made_port, report, report_text}
 use Rattle.can_scenario.specs.ScenarioOffers.{offers_from, scenario_offers}
@@ -56,7 +56,7 @@ quiet_report-reordered bits waiting others different same =
 -- ---- the scenarios
 
 -- quiet ports as they are made
-made-ready : (entries : ℕ) (plan : PortPlan) → IsQuietPlan entries plan → IsPort (made_port plan)
+made-ready : (entries : ℕ) (plan : PortPlan) → IsReadyPlan entries plan → IsPort (made_port plan)
 made-ready entries plan quiet =
     let ready : ReadyPlan = record { queue_room = length plan.queue.items; log_room = plan.log_room; frames = [] } in
     subst IsPort (sym (made-quiet entries plan quiet)) (ready-port ready (record { frames = All-nil IsFrame; room = omega arith }))

@@ -9,8 +9,8 @@ use Rattle.can_node.specs.Ports.{PortState}
 use Rattle.can_hit.specs.declared.hit.Hit.{Hit}
 use Rattle.can_bus.specs.declared.offer.Offer.{Offer}
 use Rattle.can_bus.specs.Offers.{played, played_level}
-use Rattle.can_bus.specs.Run.{BusState, bus_level, bus_run}
-use Rattle.can_scenario.specs.Report.{ended_bus, ended_by, level_by, levels_until, made_bus, made_port, new_bus, recorded_levels, waiting_bus, waiting_port}
+use Rattle.can_bus.specs.Run.{BusState, bus_level, bus_run, new_bus}
+use Rattle.can_scenario.specs.Report.{ended_bus, ended_with, level_by, levels_until, made_bus, made_port, recorded_levels, waiting_bus, waiting_port}
 use Rattle.can_scenario.specs.ScenarioOffers.{scenario_offers}
 use Rattle.can_scenario_text.specs.declared.scenario.PortPlan.{PortPlan}
 use Rattle.can_scenario_text.specs.declared.scenario.Scenario.{Scenario}
@@ -94,7 +94,7 @@ pub played-ends : (s : Scenario) (n : ℕ) (offers : List Offer) (start after : 
 played-ends s n offers start after none are from size ran =
     ap (λ (b : BusState). b.ports)
     (ran ∙ ap (λ os. played os n start) are ∙ ap (λ b. played (scenario_offers s) n b) from ∙ ap (λ k. played (scenario_offers s) k (made_bus s)) size
-    ∙ sym (ap (λ hits. ended_by hits s) none))
+    ∙ sym (ap (λ hits. ended_with hits s) none))
 
 -- ---- a run with disturbances, at whose beginning the frames wait
 
@@ -102,7 +102,7 @@ disturbed-level : (s : Scenario) (hits : List Hit) → hits ≢ [] → (t : ℕ)
 disturbed-level s [] some t = absurd (some refl)
 disturbed-level s (hit ∷ hits) some t = refl
 
-disturbed-end : (s : Scenario) (hits : List Hit) → hits ≢ [] → ended_by hits s ≡ bus_run hits s.bits (waiting_bus s)
+disturbed-end : (s : Scenario) (hits : List Hit) → hits ≢ [] → ended_with hits s ≡ bus_run hits s.bits (waiting_bus s)
 disturbed-end s [] some = absurd (some refl)
 disturbed-end s (hit ∷ hits) some = refl
 

@@ -20,7 +20,7 @@ abbrev pub all_frames : List (List Parts) → List Parts
 all_frames queues = flat_map (λ queue. queue) queues
 
 -- the port is idle at once, asks for no overload frame, and its log has room for so many entries
-pub record IsQuietPlan (entries : ℕ) (plan : PortPlan) : Type 0 where
+pub record IsReadyPlan (entries : ℕ) (plan : PortPlan) : Type 0 where
   pub idle : plan.joins ≡ false
   pub unasked : plan.overloads ≡ 0
   pub room : entries ≤ plan.log_room
@@ -30,7 +30,7 @@ pub record IsOpenScenario (s : Scenario) : Type 0 where
   pub two : 2 ≤ length s.ports.items
   pub undisturbed : s.hits.items ≡ []
   pub quiet : (n : ℕ) (plan : PortPlan) → slice_get s.ports.items n ≡ Some plan
-      → IsQuietPlan (length (all_frames (queues s))) plan
+      → IsReadyPlan (length (all_frames (queues s))) plan
   pub different : AreDifferent (all_frames (queues s))
 
 -- which frame starts when, by the schedule of the offers

@@ -2,7 +2,6 @@
 -- (docs/FORMATS.md, "`canbit run`")
 use Rattle.std.specs.Prelude.{ℕ, zero, suc, ◌+◌, Bool, if◌then◌else◌, List, [], ◌∷◌, ◌++◌, length, map, codes, decimal}
 use Rattle.std.specs.List.{flat_map}
-use Rattle.can_frame.specs.IdleRow.{idle_row}
 use Rattle.can_frame.specs.declared.level.Level.{Level}
 use Rattle.can_frame.specs.Parts.{Parts}
 use Rattle.can_frame.specs.Text.{frame_text}
@@ -14,7 +13,7 @@ use Rattle.can_node.specs.declared.entry.Entry.{Entry}
 use Rattle.can_node.specs.Ports.{PortState, fresh_port, port_holding, all_offered}
 use Rattle.can_hit.specs.declared.hit.Hit.{Hit}
 use Rattle.can_bus.specs.Offers.{played, played_level}
-use Rattle.can_bus.specs.Run.{BusState, bus_level, bus_run}
+use Rattle.can_bus.specs.Run.{BusState, bus_level, bus_run, new_bus}
 use Rattle.can_frame.specs.Levels.{digit_of}
 use Rattle.can_stream.specs.Lines.{line_end}
 use Rattle.can_scenario.specs.ScenarioOffers.{scenario_offers}
@@ -28,10 +27,6 @@ abbrev pub made_port : PortPlan → PortState
 made_port plan =
     port_holding plan.overloads
     (fresh_port (if plan.joins then joining else idle) (length plan.queue.items) plan.log_room)
-
--- a bus as it is made, where eleven recessive levels count as recorded last
-abbrev pub new_bus : List PortState → BusState
-new_bus ports = record { ports = ports; rest = idle_row }
 
 abbrev pub made_bus : Scenario → BusState
 made_bus s = new_bus (map made_port s.ports.items)
@@ -49,12 +44,12 @@ waiting_bus s = new_bus (map waiting_port s.ports.items)
 
 -- The bus as the run ends. Without disturbances each frame is offered before its bit time. With disturbances, all frames of which
 -- have time 0, the frames wait as the run begins.
-abbrev pub ended_by : List Hit → Scenario → BusState
-ended_by [] s = played (scenario_offers s) s.bits (made_bus s)
-ended_by (hit ∷ hits) s = bus_run (hit ∷ hits) s.bits (waiting_bus s)
+abbrev pub ended_with : List Hit → Scenario → BusState
+ended_with [] s = played (scenario_offers s) s.bits (made_bus s)
+ended_with (hit ∷ hits) s = bus_run (hit ∷ hits) s.bits (waiting_bus s)
 
 abbrev pub ended_bus : Scenario → BusState
-ended_bus s = ended_by s.hits.items s
+ended_bus s = ended_with s.hits.items s
 
 -- the level that is recorded at a time
 abbrev pub level_by : List Hit → Scenario → ℕ → Level

@@ -22,7 +22,7 @@ abbrev pub offers_at : ℕ → List Offer → List Offer
 offers_at t offers = filter (λ offer. offer.time == t) offers
 
 -- The same offers in the order of time, and those of one time in the order that they had.
-pub record AreInTime (offers ordered : List Offer) : Type 0 where
+pub record IsInTimeOrder (offers ordered : List Offer) : Type 0 where
   pub rising : IsNonDecreasingBy (λ offer. offer.time) ordered
   pub same : (t : ℕ) → offers_at t ordered ≡ offers_at t offers
 

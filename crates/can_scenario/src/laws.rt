@@ -8,13 +8,13 @@ ghost use Rattle.can_scenario_text.specs.declared.scenario.Scenario.{Scenario as
 ghost use Rattle.can_scenario.specs.OpenReport.{all_frames, queues};
 ghost use Rattle.can_scenario.specs.QuietReport.{AreFirst, AreReordered, AreReorderings, quiet_report};
 ghost use Rattle.can_scenario.specs.Report.{made_bus, report, waiting_report};
-ghost use Rattle.can_scenario.specs.ScenarioOffers.{AreInTime, in_time, scenario_offers};
+ghost use Rattle.can_scenario.specs.ScenarioOffers.{IsInTimeOrder, in_time, scenario_offers};
 
 /// Offers have exactly one list in which they stand in the order of time, and those of one time in the order
 /// that they had. It has the same offers.
 pub fn one_order_of_offers()
-    ensures exists { (offers : List Offered) → AreInTime offers (in_time offers) }
-    ensures only { (offers ordered : List Offered) → AreInTime offers ordered → ordered ≡ in_time offers }
+    ensures exists { (offers : List Offered) → IsInTimeOrder offers (in_time offers) }
+    ensures only { (offers ordered : List Offered) → IsInTimeOrder offers ordered → ordered ≡ in_time offers }
     ensures same { (offers : List Offered) → IsPermutation (in_time offers) offers }
 {}
 

@@ -12,7 +12,7 @@ use Rattle.can_scenario_text.specs.declared.scenario.version.Version.TheVariants
 use Rattle.can_stream.specs.declared.field.HitList.{HitList}
 use Rattle.can_stream.specs.declared.field.HitList.TheVariants.{At, In, View}
 use Rattle.document_values.specs.Values.{SaysFrame, elements_in, named}
-use Rattle.can_scenario_text.specs.Scenarios.{SaysTimedFrame, SaysQueueElement, version_of, SaysHit, SaysPort, SaysHits, SaysScenario, IsScenarioText, AreSamePorts, AreSameScenarios, ports_in}
+use Rattle.can_scenario_text.specs.Scenarios.{SaysTimedFrame, SaysQueueElement, version_of, SaysHit, SaysPort, SaysHits, SaysScenario, IsScenarioText, AreSamePorts, AreSameScenarios, port_elements}
 use Rattle.document_values.proofs.OneReading.{one-document, required-number, said-number, said-whether, said-frame, paired-each, one-list}
 
 -- ---- values
@@ -63,7 +63,7 @@ one-hits document a b x y =
 says-one : (document : Data) (s t : Scenario) → SaysScenario document s → SaysScenario document t → AreSameScenarios s t
 says-one document s t a b = record {
   bits = required-number s.bits t.bits (named (codes "bits") document) a.bits b.bits;
-  ports = paired-each (SaysPort (version_of document)) AreSamePorts (one-port (version_of document)) (ports_in document) s.ports.items t.ports.items a.ports b.ports;
+  ports = paired-each (SaysPort (version_of document)) AreSamePorts (one-port (version_of document)) (port_elements document) s.ports.items t.ports.items a.ports b.ports;
   hits = one-hits document s.hits.items t.hits.items a.hits b.hits;
 }
 

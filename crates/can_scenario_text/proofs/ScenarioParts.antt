@@ -8,7 +8,7 @@ use Rattle.can_scenario_text.specs.declared.scenario.version.Version.{Version}
 use Rattle.can_stream.specs.declared.field.Field.{Field}
 use Rattle.document_values.specs.Demands.{AllMet, IsFirstUnmet}
 use Rattle.document_values.specs.Values.{IsRequired, ArePaired, are_known, elements_in, named, SaysNumber, SaysWhether}
-use Rattle.can_scenario_text.specs.Scenarios.{IsPortArray, port_demands, port_fields, ports_demands, ports_in, queue_demands, room_demands, hits_demands, scenario_demands, top_demands, usual_log_room, version_of, SaysPort, SaysQueueElement}
+use Rattle.can_scenario_text.specs.Scenarios.{IsPortArray, port_demands, port_fields, ports_demands, port_elements, queue_demands, room_demands, hits_demands, scenario_demands, top_demands, usual_log_room, version_of, SaysPort, SaysQueueElement}
 use Rattle.document_values.proofs.DemandLemmas.{met-followed, unmet-first, unmet-later}
 
 -- ---- a port
@@ -46,24 +46,24 @@ port-said-by (Err fault) version d fields frames is said queue log_room joins ov
 
 -- ---- the document
 
-pub ports-unmet : (wrong : Field) (document : Data) (ds : List Data) → ds ≡ ports_in document → AllMet (top_demands document)
+pub ports-unmet : (wrong : Field) (document : Data) (ds : List Data) → ds ≡ port_elements document → AllMet (top_demands document)
     → IsFirstUnmet wrong (ports_demands (version_of document) 0 ds) → IsFirstUnmet wrong (scenario_demands document)
 ports-unmet wrong document ds are top unmet =
-    unmet-later wrong (top_demands document) _ top (unmet-first wrong (ports_demands (version_of document) 0 (ports_in document)) _ (rw are at unmet))
+    unmet-later wrong (top_demands document) _ top (unmet-first wrong (ports_demands (version_of document) 0 (port_elements document)) _ (rw are at unmet))
 
-pub hits-unmet : (wrong : Field) (document : Data) (ds : List Data) (ports : ℕ) → ds ≡ ports_in document → length ds ≡ ports → AllMet (top_demands document)
+pub hits-unmet : (wrong : Field) (document : Data) (ds : List Data) (ports : ℕ) → ds ≡ port_elements document → length ds ≡ ports → AllMet (top_demands document)
     → AllMet (ports_demands (version_of document) 0 ds) → IsFirstUnmet wrong (hits_demands ports document) → IsFirstUnmet wrong (scenario_demands document)
 hits-unmet wrong document ds ports are count top met unmet =
     let P : ℕ → Type 0 = λ n. IsFirstUnmet wrong (hits_demands n document) in
     unmet-later wrong (top_demands document) _ top
-    (unmet-later wrong (ports_demands (version_of document) 0 (ports_in document)) _ (rw are at met) (subst P (sym count ∙ ap length are) unmet))
+    (unmet-later wrong (ports_demands (version_of document) 0 (port_elements document)) _ (rw are at met) (subst P (sym count ∙ ap length are) unmet))
 
-pub scenario-met : (document : Data) (ds : List Data) (ports : ℕ) → ds ≡ ports_in document → length ds ≡ ports → AllMet (top_demands document)
+pub scenario-met : (document : Data) (ds : List Data) (ports : ℕ) → ds ≡ port_elements document → length ds ≡ ports → AllMet (top_demands document)
     → AllMet (ports_demands (version_of document) 0 ds) → AllMet (hits_demands ports document) → AllMet (scenario_demands document)
 scenario-met document ds ports are count top met hits =
     let P : ℕ → Type 0 = λ n. AllMet (hits_demands n document) in
     met-followed (top_demands document) _ top
-    (met-followed (ports_demands (version_of document) 0 (ports_in document)) _ (rw are at met) (subst P (sym count ∙ ap length are) hits))
+    (met-followed (ports_demands (version_of document) 0 (port_elements document)) _ (rw are at met) (subst P (sym count ∙ ap length are) hits))
 
 -- how many elements an array of ports has
 pub port-count : (o : Option Data) → IsRequired IsPortArray o → (1 ≤ length (elements_in o)) × (length (elements_in o) ≤ 64)

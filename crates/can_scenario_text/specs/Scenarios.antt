@@ -152,8 +152,8 @@ abbrev pub IsPortArray : Data → Type 0
 IsPortArray d = IsArray d × (1 ≤ length (elements d)) × (length (elements d) ≤ 64)
 
 -- the ports of a document
-abbrev pub ports_in : Data → List Data
-ports_in document = elements_in (named (codes "port") document)
+abbrev pub port_elements : Data → List Data
+port_elements document = elements_in (named (codes "port") document)
 
 -- all three lists of disturbances
 abbrev pub hits_demands : ℕ → Data → Demands Field
@@ -175,8 +175,8 @@ top_demands document =
 abbrev pub scenario_demands : Data → Demands Field
 scenario_demands document =
     followed (top_demands document)
-    (followed (ports_demands (version_of document) 0 (ports_in document))
-    (hits_demands (length (ports_in document)) document))
+    (followed (ports_demands (version_of document) 0 (port_elements document))
+    (hits_demands (length (port_elements document)) document))
 
 -- ---- which scenario it says
 
@@ -222,7 +222,7 @@ pub record SaysHits (document : Data) (hits : List Hit) : Type 0 where
 pub record SaysScenario (document : Data) (s : Scenario) : Type 0 where
   pub met : AllMet (scenario_demands document)
   pub bits : IsRequired (IsNumber s.bits) (named (codes "bits") document)
-  pub ports : ArePaired (SaysPort (version_of document)) (ports_in document) s.ports.items
+  pub ports : ArePaired (SaysPort (version_of document)) (port_elements document) s.ports.items
   pub hits : SaysHits document s.hits.items
 
 -- the bytes are a document that says this scenario

@@ -151,7 +151,7 @@ module _ (f : Parts) (is : IsFrame f) (octets : List ℕ) (n : ℕ) (filled : oc
 -- ---- the whole
 
 head_is : (f : Parts) → header_of f ++ flat_map (bits_of 8) f.bytes ≡ head f
-unfolding header_of head
+unfolding header_of head arbitration_field
 head_is f =
     let field = arbitration_field f in
     let kept = cond f.id.extended (Dominant ∷ Dominant ∷ []) (Dominant ∷ []) in

@@ -1,22 +1,17 @@
 -- The head of a frame as it is heard: how long it is, and what it is where all is heard as it is sent.
 use Rattle.std.proofs.Common.{◌≡◌, ℕ, ◌+◌, ◌*◌, ◌≤◌, ◌/◌, ◌^◌, Bool, true, false, cond, List, [], ◌∷◌, ◌++◌, length, refl, sym, ◌∙◌, ap, arith, append_assoc, length-append}
 use Rattle.std.specs.List.{flat_map}
-use Rattle.std.proofs.lemmas.Bool.{cond-true, cond-false}
 use Rattle.can_frame.specs.declared.level.Level.{Level}
 use Rattle.can_frame.specs.declared.level.Level.TheVariants.{Dominant, Recessive}
 use Rattle.can_frame.specs.Levels.{bits_of, level_from}
 use Rattle.can_frame.specs.Parts.{Parts, IsFrame}
 use Rattle.can_frame.specs.Stored.{byte_count_le}
-use Rattle.can_frame.specs.Arbitration.{arbitration_field}
-use Rattle.can_wire.specs.Wire.{head}
-use Rattle.can_wire.specs.Heard.{HeardParts, IsHeard, sent, data_field, heard_head}
+use Rattle.can_frame.specs.Arbitration.{standard_field, extended_with}
+use Rattle.can_wire.specs.Wire.{data_field, head}
+use Rattle.can_wire.specs.Heard.{HeardParts, IsHeard, sent, heard_head}
 use Rattle.can_wire.specs.Layout.{level_at, data_place}
 use Rattle.can_wire.proofs.LayoutNumbers.{length-bits_of}
 use Rattle.can_wire.proofs.LayoutBytes.{length-bytes}
-
--- a frame of either kind
-frame_from : ℕ → Bool → Bool → ℕ → List ℕ → Parts
-frame_from raw extended remote dlc bytes = record { id = record { raw = raw; extended = extended }; remote = remote; dlc = dlc; bytes = bytes }
 
 -- what stands between the SOF and r0 in a standard frame
 abbrev standard_format : HeardParts → List Level
@@ -28,40 +23,27 @@ extended_format h = bits_of 11 (h.frame.id.raw / 2 ^ 18) ++ h.srr ∷ Recessive 
 
 -- a head, in the pieces of which it is built
 module _ (h : HeardParts) where
-  abbrev behind : List Level
-  behind = h.r0 ∷ data_field h.frame
+  -- the head of a frame of this kind
+  abbrev head_by : Bool → List Level
+  head_by extended =
+      Dominant ∷ (cond extended (extended_with h.srr h.frame.id.raw h.frame.remote) (standard_field h.frame.id.raw h.frame.remote)
+      ++ (cond extended (h.r1 ∷ h.r0 ∷ []) (h.r0 ∷ []) ++ data_field h.frame))
 
   pub heard_head-standard : h.frame.id.extended ≡ false → heard_head h ≡ Dominant ∷ (standard_format h ++ h.r0 ∷ data_field h.frame)
   unfolding heard_head
-  heard_head-standard kind =
-      cond-false h.frame.id.extended _ _ kind
-      ∙ ap (λ t. Dominant ∷ t) (sym (append_assoc (bits_of 11 h.frame.id.raw) (level_from h.frame.remote ∷ Dominant ∷ []) behind))
+  heard_head-standard kind = ap head_by kind
 
   pub heard_head-extended : h.frame.id.extended ≡ true → heard_head h ≡ Dominant ∷ (extended_format h ++ h.r0 ∷ data_field h.frame)
   unfolding heard_head
-  heard_head-extended kind =
-      let upper = bits_of 11 (h.frame.id.raw / 2 ^ 18) in
-      let lower = bits_of 18 h.frame.id.raw in
-      let last = level_from h.frame.remote ∷ h.r1 ∷ [] in
-      cond-true h.frame.id.extended _ _ kind
-      ∙ ap (λ t. Dominant ∷ (upper ++ h.srr ∷ Recessive ∷ t)) (sym (append_assoc lower last behind))
-      ∙ ap (λ t. Dominant ∷ t) (sym (append_assoc upper (h.srr ∷ Recessive ∷ (lower ++ last)) behind))
+  heard_head-extended kind = ap head_by kind ∙ regrouped
+    where
+      regrouped : head_by true ≡ Dominant ∷ (extended_format h ++ h.r0 ∷ data_field h.frame)
+      regrouped = simp append_assoc
 
 -- where SRR and reserved bits are heard as they are sent, the head is the one that is sent
 pub heard_head-sent : (f : Parts) → heard_head (sent f) ≡ head f
-unfolding heard_head head arbitration_field frame_from
-heard_head-sent f = by_kind f.id.extended
-  where
-    by_kind : (extended : Bool) → heard_head (sent (frame_from f.id.raw extended f.remote f.dlc f.bytes)) ≡ head (frame_from f.id.raw extended f.remote f.dlc f.bytes)
-    by_kind false = ap (λ t. Dominant ∷ t) (sym (append_assoc (bits_of 11 f.id.raw) (level_from f.remote ∷ Dominant ∷ []) (Dominant ∷ data_field f)))
-    by_kind true =
-        let lower = bits_of 18 f.id.raw in
-        let last = level_from f.remote ∷ [] in
-        let rest = Dominant ∷ Dominant ∷ data_field f in
-        ap (λ t. Dominant ∷ t) (
-        ap (λ t. bits_of 11 (f.id.raw / 2 ^ 18) ++ Recessive ∷ Recessive ∷ t) (sym (append_assoc lower last rest))
-        ∙ sym (append_assoc (bits_of 11 (f.id.raw / 2 ^ 18)) (Recessive ∷ Recessive ∷ (lower ++ last)) rest)
-        )
+unfolding heard_head head
+heard_head-sent f = refl
 
 -- a frame is heard as it is sent
 pub IsHeard-sent : (f : Parts) → IsFrame f → IsHeard (sent f)
@@ -70,11 +52,7 @@ IsHeard-sent f is = record { frame = is; srr = λ standard. refl; r1 = λ standa
 -- the SOF is dominant
 pub heard_head-start : (h : HeardParts) (c : List Level) → level_at (heard_head h ++ c) 0 ≡ Dominant
 unfolding heard_head
-heard_head-start h c = first h.frame.id.extended _ _
-  where
-    first : (extended : Bool) (a b : List Level) → level_at (cond extended (Dominant ∷ a) (Dominant ∷ b) ++ c) 0 ≡ Dominant
-    first true a b = refl
-    first false a b = refl
+heard_head-start h c = refl
 
 length-data_field : (f : Parts) → length (data_field f) ≡ 4 + 8 * length f.bytes
 length-data_field f = omega (arith, length-append (bits_of 4 f.dlc) (flat_map (bits_of 8) f.bytes), length-bits_of 4 f.dlc, length-bytes f.bytes)
@@ -87,25 +65,30 @@ length-heard_head h = by_kind h.frame.id.extended
     f : Parts
     f = h.frame
 
-    by_kind : (extended : Bool)
-        → length (
-        cond extended
-        (Dominant ∷ (bits_of 11 (f.id.raw / 2 ^ 18) ++ h.srr ∷ Recessive ∷ (bits_of 18 f.id.raw ++ level_from f.remote ∷ h.r1 ∷ h.r0 ∷ data_field f)))
-        (Dominant ∷ (bits_of 11 f.id.raw ++ level_from f.remote ∷ Dominant ∷ h.r0 ∷ data_field f))
-        ) ≡ data_place extended + 8 * length f.bytes
+    by_kind : (extended : Bool) → length (head_by h extended) ≡ data_place extended + 8 * length f.bytes
     by_kind true =
-        let last = level_from f.remote ∷ h.r1 ∷ h.r0 ∷ data_field f in
+        let upper = bits_of 11 (f.id.raw / 2 ^ 18) in
+        let lower = bits_of 18 f.id.raw in
+        let rtr = level_from f.remote ∷ [] in
         omega (
           arith,
-          length-append (bits_of 11 (f.id.raw / 2 ^ 18)) (h.srr ∷ Recessive ∷ (bits_of 18 f.id.raw ++ last)),
+          length-append (upper ++ h.srr ∷ Recessive ∷ (lower ++ rtr)) (h.r1 ∷ h.r0 ∷ data_field f),
+          length-append upper (h.srr ∷ Recessive ∷ (lower ++ rtr)),
           length-bits_of 11 (f.id.raw / 2 ^ 18),
-          length-append (bits_of 18 f.id.raw) last,
+          length-append lower rtr,
           length-bits_of 18 f.id.raw,
           length-data_field f,
         )
     by_kind false =
-        let last = level_from f.remote ∷ Dominant ∷ h.r0 ∷ data_field f in
-        omega (arith, length-append (bits_of 11 f.id.raw) last, length-bits_of 11 f.id.raw, length-data_field f)
+        let identifier = bits_of 11 f.id.raw in
+        let rest = level_from f.remote ∷ Dominant ∷ [] in
+        omega (
+          arith,
+          length-append (identifier ++ rest) (h.r0 ∷ data_field f),
+          length-append identifier rest,
+          length-bits_of 11 f.id.raw,
+          length-data_field f,
+        )
 
 -- no head is longer than one with eight bytes of data
 pub length-heard_head-le : (h : HeardParts) → IsFrame h.frame → length (heard_head h) ≤ cond h.frame.id.extended 103 83

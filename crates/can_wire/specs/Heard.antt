@@ -1,15 +1,14 @@
 -- What is heard of a frame on the bus, and how it is spelled. (Bosch CAN 2.0 part B, sections 3.2.1 and 5)
-use Rattle.std.specs.Prelude.{◌≡◌, ◌/◌, ◌^◌, Bool, true, false, if◌then◌else◌, List, ◌∷◌, ◌++◌, length}
+use Rattle.std.specs.Prelude.{◌≡◌, Bool, true, false, if◌then◌else◌, List, ◌++◌, length}
 use Rattle.std.specs.Bool.{beq}
-use Rattle.std.specs.List.{flat_map}
 use Rattle.std.specs.Ordering.{on, eq_of_both}
 use Rattle.can_frame.specs.declared.level.Level.{Level}
 use Rattle.can_frame.specs.declared.level.Level.TheVariants.{Dominant, Recessive}
-use Rattle.can_frame.specs.Levels.{is_recessive, bits_of, level_from}
+use Rattle.can_frame.specs.Levels.{is_recessive}
 use Rattle.can_frame.specs.Parts.{Parts, IsFrame, same_parts}
 use Rattle.can_wire.specs.Stuffing.{Stuffs, stuffed}
 use Rattle.can_wire.specs.Crc.{IsCrc, crc_of}
-use Rattle.can_wire.specs.Wire.{tail, IsSpelling}
+use Rattle.can_wire.specs.Wire.{head_with, tail, IsSpelling}
 
 -- a frame, and the levels that a receiver takes at either value
 pub record HeardParts : Type 0 where
@@ -40,18 +39,10 @@ same_heard =
 abbrev pub sent : Parts → HeardParts
 sent f = record { frame = f; srr = Recessive; r1 = Dominant; r0 = Dominant; acked = true; last = Recessive }
 
--- data length code and data bytes
-abbrev pub data_field : Parts → List Level
-data_field f = bits_of 4 f.dlc ++ flat_map (bits_of 8) f.bytes
-
 -- the unstuffed levels from the start of frame to the end of the data, with the SRR and the reserved
 -- bits that were heard
 unfoldable pub heard_head : HeardParts → List Level
-heard_head h =
-    if h.frame.id.extended
-    then Dominant ∷ (bits_of 11 (h.frame.id.raw / 2 ^ 18) ++ h.srr ∷ Recessive
-    ∷ (bits_of 18 h.frame.id.raw ++ level_from h.frame.remote ∷ h.r1 ∷ h.r0 ∷ data_field h.frame))
-    else Dominant ∷ (bits_of 11 h.frame.id.raw ++ level_from h.frame.remote ∷ Dominant ∷ h.r0 ∷ data_field h.frame)
+heard_head h = head_with h.srr h.r1 h.r0 h.frame
 
 -- the ACK slot: dominant where a receiver has acknowledged
 abbrev pub ack_slot : Bool → Level

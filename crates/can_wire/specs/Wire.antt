@@ -5,18 +5,30 @@ use Rattle.can_frame.specs.declared.level.Level.{Level}
 use Rattle.can_frame.specs.declared.level.Level.TheVariants.{Dominant, Recessive}
 use Rattle.can_frame.specs.Levels.{bits_of}
 use Rattle.can_frame.specs.Parts.{Parts}
-use Rattle.can_frame.specs.Arbitration.{arbitration_field}
+use Rattle.can_frame.specs.Arbitration.{field_with}
 use Rattle.can_wire.specs.Crc.{IsCrc, crc_of}
 use Rattle.can_wire.specs.Stuffing.{Stuffs, stuffed}
 
--- the reserved bits as they are sent: r0, or r1 and r0
-abbrev pub reserved : Parts → List Level
-reserved f = if f.id.extended then Dominant ∷ Dominant ∷ [] else Dominant ∷ []
+-- the reserved bits: r0, or r1 and r0
+abbrev pub reserved_with : Level → Level → Parts → List Level
+reserved_with r1 r0 f = if f.id.extended then r1 ∷ r0 ∷ [] else r0 ∷ []
 
--- the unstuffed levels from the start of frame to the end of the data: SOF, the arbitration field with
--- the IDE bit, the reserved bits, the data length code and the data bytes, each highest bit first
+-- as they are sent
+abbrev pub reserved : Parts → List Level
+reserved f = reserved_with Dominant Dominant f
+
+-- data length code and data bytes, each highest bit first
+abbrev pub data_field : Parts → List Level
+data_field f = bits_of 4 f.dlc ++ flat_map (bits_of 8) f.bytes
+
+-- the unstuffed levels from the start of frame to the end of the data, with these levels of SRR, r1 and r0:
+-- SOF, the arbitration field with the IDE bit, the reserved bits and the data field
+abbrev pub head_with : (srr r1 r0 : Level) → Parts → List Level
+head_with srr r1 r0 f = Dominant ∷ (field_with srr f ++ (reserved_with r1 r0 f ++ data_field f))
+
+-- as they are sent
 unfoldable pub head : Parts → List Level
-head f = Dominant ∷ (arbitration_field f ++ (reserved f ++ (bits_of 4 f.dlc ++ flat_map (bits_of 8) f.bytes)))
+head f = head_with Recessive Dominant Dominant f
 
 -- CRC delimiter, ACK slot, ACK delimiter, and seven levels of end of frame
 abbrev pub tail : Level → Level → List Level

@@ -3,7 +3,8 @@ ghost use Rattle.std.specs.List.{flat_map};
 ghost use Rattle.can_frame.specs.declared.level.Level.TheVariants.{Dominant, Recessive};
 ghost use Rattle.can_frame.specs.Levels.{level_from, bits_of};
 ghost use Rattle.can_wire.specs.Crc.{crc_of};
-ghost use Rattle.can_wire.specs.Heard.{IsHeard, heard_head, data_field};
+ghost use Rattle.can_wire.specs.Heard.{IsHeard, heard_head};
+ghost use Rattle.can_wire.specs.Wire.{data_field};
 
 use crate::frame_bits::FrameBits;
 use crate::heard::Heard;

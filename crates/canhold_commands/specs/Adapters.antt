@@ -5,7 +5,7 @@ use Rattle.can_fault.specs.Counters.{state_of}
 use Rattle.can_mac.specs.declared.event.Event.{Event}
 use Rattle.can_node.specs.Ports.{PortState, port_drives, with_offer}
 use Rattle.can_conform.specs.declared.script.TesterLevel.{TesterLevel}
-use Rattle.can_conform.specs.Runs.{met, started, told_of, wished}
+use Rattle.can_conform.specs.Runs.{met, started, told_event, wished}
 use Rattle.can_frame.specs.Levels.{digit_of}
 use Rattle.can_fault.specs.Words.{state_word}
 use Rattle.can_stream.specs.Lines.{line_end}
@@ -32,7 +32,7 @@ event_line place (Some event) = codes "event " ++ (decimal place ++ (codes " " +
 -- the lines of all events, where the first of the bit times has this place
 abbrev pub event_lines : ℕ → List TesterLevel → PortState → List ℕ
 event_lines place [] p = []
-event_lines place (x ∷ xs) p = event_line place (told_of x p) ++ event_lines (place + 1) xs (met x p)
+event_lines place (x ∷ xs) p = event_line place (told_event x p) ++ event_lines (place + 1) xs (met x p)
 
 -- ---- one line
 

@@ -5,7 +5,8 @@ ghost use Rattle.can_mac.specs.Frames.{with_intermission};
 use can_frame::{Frame, Level};
 use can_wire::{LONGEST_WIRE, encode_into};
 
-/// How many bit times the shortest frame takes, with the intermission behind it.
+/// How many bit times the shortest frame takes, with the intermission behind it. This and the next three only save tries:
+/// with other values, above 0, all levels are the same, and all is proved.
 pub(super) const SHORTEST_LINE: usize = 47;
 
 /// How many the longest takes.
@@ -17,7 +18,7 @@ const BYTE_LEVELS: usize = 8;
 /// How many more an extended frame takes.
 const EXTENDED_LEVELS: usize = 20;
 
-/// How many levels stand behind the stuffed part of a frame.
+/// How many levels stand behind the stuffed part of a frame; proofs count by it.
 const TAIL_LEVELS: usize = 10;
 
 /// The levels behind the stuffed part of a frame that is acknowledged, from the CRC delimiter to the end of frame, and of

@@ -31,7 +31,7 @@ use can_mac::Poised;
 use can_node::Port;
 use std::cmp::Ordering;
 
-/// How many bit times of a frame that is hit are worth to be passed at once.
+/// How many bit times of a frame that is hit are worth to be passed at once. It is for speed: any value above 1 proves.
 const SHORTEST_RIDE: usize = 16;
 
 impl<P: Port> Bus<P> {

@@ -14,7 +14,8 @@ use can_frame::{IDLE_ROW, Level};
 use can_hit::Hit;
 use can_node::Port;
 
-/// How many bit times are taken one after another on an idle bus, before it is asked again whether it rests.
+/// How many bit times are taken one after another on an idle bus, before it is asked again whether it rests. It is for
+/// speed: any value above 0 proves.
 const STRETCH: usize = 32;
 
 impl<P: Port> Bus<P> {

@@ -6,7 +6,7 @@ ghost use Rattle.hex.specs.Hex.{encode_lower, lower_digits, IsBytes};
 ghost use Rattle.can_frame.specs.Ident.{IsIdent};
 ghost use Rattle.can_frame.specs.Parts.{byte_count};
 ghost use Rattle.can_frame.specs.Text.{hex_digits, decimal_digits, blank};
-ghost use Rattle.can_frame.specs.TextParts.{letter_spelling, identifier_spelling, dlc_spelling, IsDigit, IsLetter, IsNumber, IsIdentifier, IsDecimal, IsDlc, IsData, LeavesPart, MostDigits, StandsAt};
+ghost use Rattle.can_frame.specs.TextParts.{letter_spelling, identifier_spelling, dlc_spelling, IsDigit, IsLetter, IsHexNumber, IsIdentifier, IsDecimal, IsDlc, IsData, LeavesPart, MostDigits, StandsAt};
 
 use crate::id::Id;
 use crate::text::{TextFault, TextFaultKind};
@@ -133,7 +133,7 @@ fn number(
     requires base { limit ≤ 16 }
     ensures range { IfOk result (λ n. n < limit * 16 ^ (count - 1)) }
     ensures read { IfOk result (λ n. StandsAt (hex_digits count n) text.now start (start + count)) }
-    ensures fault { IfErr result (LeavesPart kind (IsNumber count limit) text.now start) }
+    ensures fault { IfErr result (LeavesPart kind (IsHexNumber count limit) text.now start) }
 {
     let mut number = digit(text, start, limit, kind)?;
     for place in start + 1..start + count {
@@ -149,7 +149,7 @@ fn digit(text: &[u8], place: usize, limit: u32, kind: TextFaultKind) -> Result<u
     requires base { limit ≤ 16 }
     ensures range { IfOk result (λ d. d < limit) }
     ensures read { IfOk result (λ d. StandsAt (hex_digits 1 d) text.now place (place + 1)) }
-    ensures fault { IfErr result (LeavesPart kind (IsNumber 1 limit) text.now place) }
+    ensures fault { IfErr result (LeavesPart kind (IsHexNumber 1 limit) text.now place) }
 {
     match digit_at(text, place) {
         Some(digit) if digit < limit => Ok(digit),

@@ -6,7 +6,7 @@ ghost use Rattle.can_stream.specs.declared.field.Field.{Field as Wrong};
 ghost use Rattle.document_values.specs.Demands.{AllMet, IsFirstUnmet};
 ghost use Rattle.document_values.specs.Refusals.{IsNoDocument};
 ghost use Rattle.document_values.specs.Values.{are_known, named, IsDocument, IsNumber, IsRequired};
-ghost use Rattle.can_scenario_text.specs.Scenarios.{ports_in, top_demands, top_fields, version_in, version_of as version_of_document, IsFieldOrMemory, IsPortArray};
+ghost use Rattle.can_scenario_text.specs.Scenarios.{port_elements, top_demands, top_fields, version_in, version_of as version_of_document, IsFieldOrMemory, IsPortArray};
 
 use crate::scenario::Field;
 use crate::scenario::version::Version;
@@ -57,7 +57,7 @@ pub(crate) struct Top<'a> {
 pub(crate) fn read_top(document: &Table) -> Result<Top<'_>, TraceFault>
     ensures version { IfOk result (λ top. top.version ≡ version_of_document (table (table_view document.now))) }
     ensures bits { IfOk result (λ top. IsRequired (IsNumber top.bits) (named (codes "bits") (table (table_view document.now)))) }
-    ensures ports { IfOk result (λ top. map view top.ports.now ≡ ports_in (table (table_view document.now))) }
+    ensures ports { IfOk result (λ top. map view top.ports.now ≡ port_elements (table (table_view document.now))) }
     ensures met { OnOk result (AllMet (top_demands (table (table_view document.now)))) }
     ensures unmet { (wrong : Wrong) → IsErrOf result (TraceFault.ScenarioField wrong) → IsFirstUnmet wrong (top_demands (table (table_view document.now))) }
     ensures other { IfErr result IsFieldOrMemory }
@@ -104,7 +104,7 @@ fn knows_all_fields(version: Version, document: &Table) -> bool
 
 /// The values in the list of ports: 1 to 64 of them.
 fn port_values(document: &Table) -> Option<&[Value]>
-    ensures said { IfSome result (λ values. map view values.now ≡ ports_in (table (table_view document.now))) }
+    ensures said { IfSome result (λ values. map view values.now ≡ port_elements (table (table_view document.now))) }
     ensures met { OnSome result (IsRequired IsPortArray (named (codes "port") (table (table_view document.now)))) }
     ensures unmet { IfNone result (¬ IsRequired IsPortArray (named (codes "port") (table (table_view document.now)))) }
 {

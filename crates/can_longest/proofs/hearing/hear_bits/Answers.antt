@@ -2,7 +2,7 @@ use Rattle.std.proofs.Common.{◌≡◌, ◌+◌, ◌-◌, ◌++◌, length, sym
 use Rattle.can_frame.specs.Levels.{bits_of}
 use Rattle.can_wire.specs.Stuffing.{stuffed_from}
 use Rattle.can_wire.proofs.LevelLemmas.{bits_of-zero}
-use Rattle.can_longest.specs.ToCome.{next_run, wire_of}
+use Rattle.can_longest.specs.ToCome.{next_run, wire_levels}
 use Rattle.can_longest.proofs.Steps.{stuffed_further}
 use Rattle.can_longest.proofs.hearing.hear_bits.Goals as goal
 
@@ -18,10 +18,10 @@ loop-left-preserved c =
       room = omega (arith, l.invariant.room, c.hear-heard.ensures.few, c.loop-left-test.true);
       rest = λ rest.
           let others = bits_of (l.left - 1) c.args.number ++ rest in
-          let step : length (stuffed_from h.last h.run (bits_of l.left c.args.number ++ rest)) ≡ wire_of h.last h.run level + length (stuffed_from next.last next.run others) =
+          let step : length (stuffed_from h.last h.run (bits_of l.left c.args.number ++ rest)) ≡ wire_levels h.last h.run level + length (stuffed_from next.last next.run others) =
           stuffed_further l.left c.args.number c.loop-left-test.true h.last h.run level c.from_code-level.ensures rest
-          ∙ ap (λ y. wire_of h.last h.run level + length (stuffed_from y (next_run h.last h.run level) others)) (sym c.hear-heard.ensures.last)
-          ∙ ap (λ n. wire_of h.last h.run level + length (stuffed_from next.last n others)) (sym c.hear-heard.ensures.run) in
+          ∙ ap (λ y. wire_levels h.last h.run level + length (stuffed_from y (next_run h.last h.run level) others)) (sym c.hear-heard.ensures.last)
+          ∙ ap (λ n. wire_levels h.last h.run level + length (stuffed_from next.last n others)) (sym c.hear-heard.ensures.run) in
           omega (arith, l.invariant.rest rest, step, c.hear-heard.ensures.levels);
     }
 

@@ -2,7 +2,8 @@ use Rattle.std.proofs.Common.{◌≡◌, List, [], ◌∷◌, ◌++◌, ap, sym,
 use Rattle.can_frame.specs.declared.level.Level.{Level}
 use Rattle.can_frame.specs.declared.level.Level.TheVariants.{Dominant}
 use Rattle.can_frame.specs.Parts.{Parts}
-use Rattle.can_wire.specs.Heard.{HeardParts, heard_head, data_field}
+use Rattle.can_wire.specs.Wire.{data_field}
+use Rattle.can_wire.specs.Heard.{HeardParts, heard_head}
 use Rattle.can_wire.proofs.LayoutHead.{heard_head-standard, heard_head-extended}
 use Rattle.can_wire.proofs.layout.head.Goals as goal
 use Rattle.can_wire.proofs.layout.head.Goals.{then-is_extended, else-is_extended}
