@@ -55,8 +55,8 @@ pub(crate) fn clear_behind(
 {
     let mut all = Vec::new(alloc);
     for place in 0..PLACES {
-        let counts = has_byte(circuit, remote, dlc, place / 8)?;
-        let bit = circuit.and(counts, literal_at(bytes, place))?;
+        let counts = has_byte(circuit, remote, dlc, place / 8);
+        let bit = circuit.and(counts, literal_at(bytes, place));
         all.push(bit)?;
     }
     Ok(all)
@@ -68,15 +68,14 @@ fn has_byte(
     remote: Literal,
     dlc: Nibble,
     byte: usize,
-) -> Result<Literal, AllocError>
+) -> Literal
     requires { byte < 8 }
-    ensures { IfOk result (λ r. Makes circuit.old circuit.new (λ v. value v r ≡ nat_lt byte (byte_count (value v remote) (nibble v dlc)))) }
+    ensures { Makes circuit.old circuit.new (λ v. value v result ≡ nat_lt byte (byte_count (value v remote) (nibble v dlc))) }
 {
     let number = Nibble::of(byte as u8);
     let below = circuit.less(
         &[number.ones, number.twos, number.fours, number.eights],
         &[dlc.ones, dlc.twos, dlc.fours, dlc.eights],
-    )?;
-    let made = circuit.and(below, remote.opposite())?;
-    Ok(made)
+    );
+    circuit.and(below, remote.opposite())
 }
