@@ -63,12 +63,7 @@ pub(crate) fn clear_behind(
 }
 
 /// Whether a frame has the byte of this number, of which the first is byte 0.
-fn has_byte(
-    circuit: &mut Circuit,
-    remote: Literal,
-    dlc: Nibble,
-    byte: usize,
-) -> Literal
+fn has_byte(circuit: &mut Circuit, remote: Literal, dlc: Nibble, byte: usize) -> Literal
     requires { byte < 8 }
     ensures { Makes circuit.old circuit.new (λ v. value v result ≡ nat_lt byte (byte_count (value v remote) (nibble v dlc))) }
 {

@@ -185,11 +185,7 @@ fn heard_is_legal(
 
 /// Whether the front of a frame that has so many levels goes on: it has at least one level and at most these, a run of one to
 /// five, and its stuffed part hasn't ended.
-fn going_is_legal(
-    circuit: &mut Circuit,
-    heard: &Heard,
-    length: &[Literal],
-) -> Literal
+fn going_is_legal(circuit: &mut Circuit, heard: &Heard, length: &[Literal]) -> Literal
     ensures { Makes circuit.old circuit.new (λ v. (front : FrontParts) → IsOpen front → HoldsFront v heard.now front → number v length.now ≡ frame_len front.unstuffed → value v result ≡ true) }
 {
     let some = circuit.less(&[FALSE], &heard.count);
