@@ -3,7 +3,11 @@
 //! A [`Circuit`] is a list of gates, each the and of two [`Literal`]s, as an AIGER file has them. An assignment, which gives
 //! each signal a value, keeps the circuit if signal 0 is false and each gate's signal is the and of its two sides. Whatever
 //! makes gates says what holds of its result in each assignment that keeps the circuit with them, as an equation over
-//! Booleans and numbers. Nothing is required of a literal: one of a signal that a circuit doesn't have is refused by an `Err`.
+//! Booleans and numbers. Nothing is required of a literal.
+//!
+//! A gate for which there is no memory, or no number, as there are 2^32 of them, or one of a signal that the circuit doesn't
+//! have, is not made, and the circuit isn't complete from then on: no assignment keeps it, and it is refused where it is
+//! written. So a gate is made by a call that can't fail, and [`Circuit::is_complete`] is asked once, behind the last.
 //!
 //! | File | What it has | Defined in |
 //! |---|---|---|
@@ -16,8 +20,8 @@
 //! | `select.rt` | the literal at a place that a number tells | `specs/Words.antt` |
 //! | `aiger.rt` | [`Register`], and the text of a circuit with registers and outputs in AIGER's ascii format; lines of numbers | `specs/Aiger.antt` |
 //!
-//! Words may be of any two lengths: past its end a word has [`FALSE`]. Any other `Err` says that memory ran out, or the numbers
-//! of signals, 2^32. Behind an `Err` a circuit may have gates that nothing names.
+//! Words may be of any two lengths: past its end a word has [`FALSE`]. An `Err` says that there was no memory for a word.
+//! Behind it a circuit may have gates that nothing names.
 //!
 //! A gate that would be made again is found by its sides in a map. What the map tells is looked at before it is used, so the
 //! laws need nothing of it; that equal gates are made once is tested (tests/rows).
