@@ -5,9 +5,9 @@ ghost use Rattle.can_gates.specs.Circuit.{value, Keeps, Makes};
 ghost use Rattle.can_gates.specs.Ordered.{IsOrdered};
 ghost use Rattle.can_gates.specs.Runs.{run};
 
+use crate::chains::Chains;
 use crate::literal::{FALSE, Literal, folded};
 use std::alloc::Global;
-use std::collections::BTreeMap;
 use std::marker::Model;
 
 /// A gate: its signal is the and of two literals.
@@ -32,8 +32,8 @@ pub struct Circuit {
     inputs: u32,
     /// The highest signal.
     highest: u32,
-    /// Where the gate of two sides stands, by their numbers.
-    places: BTreeMap<(u64, u64), usize>,
+    /// Where the gates of a left side stand.
+    chains: Chains,
     /// Whether it has each gate that was asked for.
     complete: bool,
 }
@@ -59,7 +59,7 @@ impl Circuit {
             gates: Vec::new(alloc),
             inputs,
             highest: inputs,
-            places: BTreeMap::new(alloc),
+            chains: Chains::new(alloc),
             complete: true,
         }
     }
@@ -128,12 +128,24 @@ impl Circuit {
         self.gate(sides)
     }
 
-    /// The signal of a gate of these sides, where the map tells one.
+    /// The signal of a gate of these sides, where there is one.
     fn shared(&self, sides: Sides) -> Option<Literal>
         ensures { IfSome result (λ r. (v : ℕ → Bool) → Keeps v self.now → value v r ≡ (value v sides.left && value v sides.right)) }
     {
-        let key = sides.key();
-        let place = self.places.get(&key).copied()?;
+        let mut place = self.chains.last(sides.left.signal)?;
+        for _ in 0..self.gates.len() {
+            if let Some(made) = self.made_at(place, sides) {
+                return Some(made);
+            }
+            place = self.chains.before(place)?;
+        }
+        None
+    }
+
+    /// The signal of the gate at this place, where it is of these sides.
+    fn made_at(&self, place: usize, sides: Sides) -> Option<Literal>
+        ensures { IfSome result (λ r. (v : ℕ → Bool) → Keeps v self.now → value v r ≡ (value v sides.left && value v sides.right)) }
+    {
         if place >= self.gates.len() {
             return None;
         }
@@ -168,8 +180,7 @@ impl Circuit {
             return None;
         }
         let signal = self.highest.checked_add(1)?;
-        let place = self.gates.len();
-        self.places.insert(sides.key(), place).ok()?;
+        self.chains.add(sides.left.signal).ok()?;
         let gate = Gate {
             signal,
             left: sides.left,
@@ -210,11 +221,6 @@ impl Sides {
         } else {
             Sides { left: a, right: b }
         }
-    }
-
-    /// What the map of gates has it under.
-    fn key(self) -> (u64, u64) {
-        (self.left.code(), self.right.code())
     }
 
     /// The higher one of the two signals.

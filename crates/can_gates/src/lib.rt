@@ -13,6 +13,7 @@
 //! |---|---|---|
 //! | `literal.rt` | [`Literal`], a signal or its negation, [`FALSE`] and [`TRUE`] | `specs/Circuit.antt` |
 //! | `circuit.rt` | [`Circuit`], its [`Gate`]s, and the and of two literals, which has a gate only where it needs one | `specs/Circuit.antt`, `specs/Runs.antt`, `specs/Ordered.antt` |
+//! | `chains.rt` | where gates stand, by the signal of their left side | |
 //! | `choices.rt` | or, exclusive or, and a choice between two literals | `specs/Circuit.antt` |
 //! | `words.rt` | numbers as lists of literals, the lowest place first: constants, choices, complements | `specs/Words.antt` |
 //! | `sums.rt` | [`Sum`], sums and differences, with a carry or up to the least and the greatest number | `specs/Words.antt` |
@@ -23,11 +24,12 @@
 //! Words may be of any two lengths: past its end a word has [`FALSE`]. An `Err` says that there was no memory for a word.
 //! Behind it a circuit may have gates that nothing names.
 //!
-//! A gate that would be made again is found by its sides in a map. What the map tells is looked at before it is used, so the
-//! laws need nothing of it; that equal gates are made once is tested (tests/rows).
+//! A gate that would be made again is found in the chain of its left side's signal. What a chain tells is looked at before it is
+//! used, so the laws need nothing of it; that equal gates are made once is tested (tests/rows).
 #![tactic(auto)]
 
 mod aiger;
+mod chains;
 mod choices;
 mod circuit;
 mod literal;
