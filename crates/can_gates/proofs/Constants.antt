@@ -4,7 +4,7 @@ use Rattle.std.proofs.lemmas.Bool.{true≢false, false≢true}
 use mathlib.Core.Bool.{beq}
 use Rattle.can_gates.specs.declared.literal.Literal.{Literal}
 use Rattle.can_gates.specs.declared.circuit.Gate.{Gate}
-use Rattle.can_gates.specs.Circuit.{value, Keeps}
+use Rattle.can_gates.specs.Circuit.{CircuitParts, value, Keeps, KeepsGates}
 use Rattle.can_gates.proofs.Bools.{and_self, and_opposite}
 
 -- the literal that is never true, and the one that always is
@@ -14,10 +14,13 @@ never = record { signal = 0; negated = false }
 abbrev pub always : Literal
 always = record { signal = 0; negated = true }
 
+zero-gates : (v : ℕ → Bool) (gates : List Gate) → KeepsGates v gates → v 0 ≡ false
+zero-gates v [] keeps = keeps
+zero-gates v (g ∷ gates) keeps = zero-gates v gates keeps.1
+
 -- a kept circuit's signal 0 is false
-pub zero-kept : (v : ℕ → Bool) (gates : List Gate) → Keeps v gates → v 0 ≡ false
-zero-kept v [] keeps = keeps
-zero-kept v (g ∷ gates) keeps = zero-kept v gates keeps.1
+pub zero-kept : (v : ℕ → Bool) (c : CircuitParts) → Keeps v c → v 0 ≡ false
+zero-kept v c keeps = zero-gates v c.gates keeps.1
 
 pub value-never : (v : ℕ → Bool) → v 0 ≡ false → value v never ≡ false
 unfolding value

@@ -2,15 +2,15 @@
 use Rattle.std.proofs.Common.{◌≡◌, ℕ, zero, suc, ◌-◌, ◌<◌, Bool, ◌&&◌, List, [], ◌∷◌, length, reverse, get_or, refl, subst, sym, ◌∙◌, ap, arith}
 use Rattle.std.proofs.lemmas.List.{length-reverse, get_or-reverse}
 use Rattle.can_gates.specs.declared.circuit.Gate.{Gate}
-use Rattle.can_gates.specs.Circuit.{value, Keeps}
+use Rattle.can_gates.specs.Circuit.{value, KeepsGates}
 
-kept_place : (v : ℕ → Bool) (gates : List Gate) (k : ℕ) (d : Gate) → k < length gates → Keeps v gates → v (get_or gates k d).signal ≡ (value v (get_or gates k d).left && value v (get_or gates k d).right)
+kept_place : (v : ℕ → Bool) (gates : List Gate) (k : ℕ) (d : Gate) → k < length gates → KeepsGates v gates → v (get_or gates k d).signal ≡ (value v (get_or gates k d).left && value v (get_or gates k d).right)
 kept_place v [] k d within keeps = absurd (omega (arith, within))
 kept_place v (g ∷ gates) zero d within keeps = keeps.0
 kept_place v (g ∷ gates) (suc k) d within keeps = kept_place v gates k d (omega (arith, within)) keeps.1
 
 -- the gate at a place of the list that is kept last gate first
-pub kept_gate : (v : ℕ → Bool) (items : List Gate) (place : ℕ) (g : Gate) → place < length items → g ≡ get_or items place g → Keeps v (reverse items) → v g.signal ≡ (value v g.left && value v g.right)
+pub kept_gate : (v : ℕ → Bool) (items : List Gate) (place : ℕ) (g : Gate) → place < length items → g ≡ get_or items place g → KeepsGates v (reverse items) → v g.signal ≡ (value v g.left && value v g.right)
 kept_gate v items place g within is keeps =
     let small : length items - 1 - place < length (reverse items) = omega (arith, length-reverse items, within) in
     let back : length items - 1 - (length items - 1 - place) ≡ place = omega (arith, within) in

@@ -4,7 +4,7 @@ use Rattle.std.proofs.Common.{◌≡◌, ℕ, Bool, true, false, not, cond, eqb,
 use Rattle.std.proofs.lemmas.Bool.{true≢false}
 use Rattle.can_gates.specs.declared.literal.Literal.{Literal}
 use Rattle.can_gates.specs.declared.circuit.Gate.{Gate}
-use Rattle.can_gates.specs.Circuit.{value, Keeps}
+use Rattle.can_gates.specs.Circuit.{value, KeepsGates}
 use Rattle.can_gates.specs.Words.{number}
 use Rattle.can_gates.specs.Runs.{run}
 use Rattle.can_gates.specs.Aiger.{lines_of, register_lines, lines_in}
@@ -44,12 +44,12 @@ unfolding value
 sum_of_one = refl
 
 -- a run keeps the circuit, gate by gate
-kept : Keeps (run half_adder (inputs false true)) half_adder
+kept : KeepsGates (run half_adder (inputs false true)) half_adder
 unfolding value
 kept = (refl, (refl, (refl, (refl, refl))))
 
 -- an assignment in which all signals but 0 are true does not: signal 6 would have to be false
-not_kept : Keeps (λ s. not (eqb s 0)) half_adder → ⊥
+not_kept : KeepsGates (λ s. not (eqb s 0)) half_adder → ⊥
 unfolding value
 not_kept keeps = true≢false keeps.0
 
@@ -64,7 +64,7 @@ unfolding value
 number_of_constants = refl
 
 -- the lines of its text: the carry and the sum are its outputs
-half_adder_lines : lines_of (record { inputs = 2; highest = 6; gates = half_adder }) [] (plain 3 ∷ turned 6 ∷ [])
+half_adder_lines : lines_of (record { inputs = 2; highest = 6; gates = half_adder; complete = true }) [] (plain 3 ∷ turned 6 ∷ [])
     ≡ (6 ∷ 2 ∷ 0 ∷ 2 ∷ 4 ∷ []) ∷ (2 ∷ []) ∷ (4 ∷ []) ∷ (6 ∷ []) ∷ (13 ∷ []) ∷ (6 ∷ 4 ∷ 2 ∷ []) ∷ (8 ∷ 5 ∷ 2 ∷ []) ∷ (10 ∷ 4 ∷ 3 ∷ []) ∷ (12 ∷ 11 ∷ 9 ∷ []) ∷ []
 half_adder_lines = refl
 

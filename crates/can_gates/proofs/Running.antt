@@ -3,7 +3,7 @@ use Rattle.std.proofs.Common.{◌≡◌, ℕ, ◌<◌, ◌≤◌, ◌⊎◌, inl
 use Rattle.std.proofs.lemmas.Bool.{cases_eq, ne_eqb, eq-eqb}
 use Rattle.can_gates.specs.declared.literal.Literal.{Literal}
 use Rattle.can_gates.specs.declared.circuit.Gate.{Gate}
-use Rattle.can_gates.specs.Circuit.{value, Keeps}
+use Rattle.can_gates.specs.Circuit.{value, KeepsGates}
 use Rattle.can_gates.specs.Runs.{run}
 use Rattle.can_gates.specs.Ordered.{IsOrdered}
 
@@ -12,7 +12,7 @@ unfolding value
 value-alike v w l alike = ap (λ b. cond l.negated (not b) b) alike
 
 -- what keeps a circuit keeps it with other values above its signals
-keeps-alike : (n highest : ℕ) (v w : ℕ → Bool) (gates : List Gate) → IsOrdered n highest gates → ((s : ℕ) → s ≤ highest → v s ≡ w s) → Keeps w gates → Keeps v gates
+keeps-alike : (n highest : ℕ) (v w : ℕ → Bool) (gates : List Gate) → IsOrdered n highest gates → ((s : ℕ) → s ≤ highest → v s ≡ w s) → KeepsGates w gates → KeepsGates v gates
 keeps-alike n highest v w [] ordered alike keeps = alike 0 (omega arith) ∙ keeps
 keeps-alike n highest v w (g ∷ gates) ordered alike keeps = (
   alike g.signal (omega (arith, ordered.0)) ∙ keeps.0
@@ -27,7 +27,7 @@ below g x w s h = rw (ne_eqb s g.signal (λ e. absurd (omega (arith, h, e)))) re
 own : (n : ℕ) (x y : Bool) → cond (eqb n n) x y ≡ x
 own n x y = rw (eq-eqb n n refl) refl
 
-pub run-keeps : (n highest : ℕ) (gates : List Gate) (inputs : ℕ → Bool) → IsOrdered n highest gates → inputs 0 ≡ false → Keeps (run gates inputs) gates
+pub run-keeps : (n highest : ℕ) (gates : List Gate) (inputs : ℕ → Bool) → IsOrdered n highest gates → inputs 0 ≡ false → KeepsGates (run gates inputs) gates
 run-keeps n highest [] inputs ordered zero_is = zero_is
 run-keeps n highest (g ∷ gates) inputs ordered zero_is =
     let w : ℕ → Bool = run gates inputs in
@@ -58,6 +58,6 @@ same_place v w g same kept s = by (cases_eq s g.signal)
     by (inr h) = rw (ne_eqb s g.signal h) (same s)
 
 -- what keeps a circuit is the run of its own values
-pub kept-run : (v : ℕ → Bool) (gates : List Gate) → Keeps v gates → (s : ℕ) → run gates v s ≡ v s
+pub kept-run : (v : ℕ → Bool) (gates : List Gate) → KeepsGates v gates → (s : ℕ) → run gates v s ≡ v s
 kept-run v [] keeps s = refl
 kept-run v (g ∷ gates) keeps s = same_place v (run gates v) g (kept-run v gates keeps.1) keeps.0 s

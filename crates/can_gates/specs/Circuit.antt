@@ -1,28 +1,34 @@
 -- What a circuit means. An assignment gives each signal a value, and keeps the circuit if signal 0 is false and each gate's
 -- signal is the and of the gate's two sides: what a line of an AIGER file says, or `assign n = a & b;` of Verilog. To believe
--- is that the tools that read such files mean this by them.
+-- is that the tools that read such files mean this by them. A circuit that lacks a gate, as there was no memory for it, means
+-- nothing: no assignment keeps it.
 use Rattle.std.specs.Prelude.{ℕ, ◌≡◌, Bool, true, false, not, ◌&&◌, if◌then◌else◌, List, [], ◌∷◌}
 use Rattle.can_gates.specs.declared.literal.Literal.{Literal}
 use Rattle.can_gates.specs.declared.circuit.Gate.{Gate}
 
--- a circuit: so many signals from 1 on are its inputs, this is its highest one, and these are its gates, the last first
+-- a circuit: so many signals from 1 on are its inputs, this is its highest one, and these are its gates, the last first; it is
+-- complete if it has each gate that was asked for
 pub record CircuitParts : Type 0 where
   pub inputs : ℕ
   pub highest : ℕ
   pub gates : List Gate
+  pub complete : Bool
 
 -- a literal's value: its signal's, or the other one
 unfoldable pub value : (ℕ → Bool) → Literal → Bool
 value v l = if l.negated then not (v l.signal) else v l.signal
 
 -- signal 0 is false, and each gate's signal is the and of its two sides
-abbrev pub Keeps : (ℕ → Bool) → List Gate → Type 0
-Keeps v [] = v 0 ≡ false
-Keeps v (g ∷ gates) = (v g.signal ≡ (value v g.left && value v g.right)) × Keeps v gates
+abbrev pub KeepsGates : (ℕ → Bool) → List Gate → Type 0
+KeepsGates v [] = v 0 ≡ false
+KeepsGates v (g ∷ gates) = (v g.signal ≡ (value v g.left && value v g.right)) × KeepsGates v gates
+
+abbrev pub Keeps : (ℕ → Bool) → CircuitParts → Type 0
+Keeps v c = (c.complete ≡ true) × KeepsGates v c.gates
 
 -- gates that came to others, behind the same inputs: what keeps all of them keeps the others, and has this property
 abbrev pub Makes : CircuitParts → CircuitParts → ((ℕ → Bool) → Type 0) → Type 0
-Makes old new P = (new.inputs ≡ old.inputs) × ((v : ℕ → Bool) → Keeps v new.gates → Keeps v old.gates × P v)
+Makes old new P = (new.inputs ≡ old.inputs) × ((v : ℕ → Bool) → Keeps v new → Keeps v old × P v)
 
 -- whether one of two values is true, and not both
 abbrev pub differ : Bool → Bool → Bool

@@ -1,5 +1,5 @@
 //! Circuits with registers and outputs, as texts in AIGER's ascii format.
-ghost use Rattle.std.specs.Prelude.{◌≡◌, ◌+◌, ◌≤◌, ◌<◌, ◌^◌, ◌++◌, ℕ, List, [], length, map, decimal, OnOk};
+ghost use Rattle.std.specs.Prelude.{◌≡◌, ◌+◌, ◌≤◌, ◌<◌, ◌^◌, ◌++◌, ℕ, List, [], true, length, map, decimal, OnOk};
 ghost use Rattle.std.specs.List.{flat_map};
 ghost use Rattle.can_gates.specs.Aiger.{aiger_text, gate_numbers, input_lines, line_text, lines_in, numbers_behind, output_numbers, register_lines};
 ghost use Rattle.can_gates.specs.AigerNumbers.{AreLines};
@@ -19,7 +19,8 @@ pub struct Register {
     pub starts: bool,
 }
 
-/// Appends the text of a circuit whose last inputs are what these registers hold, in their order.
+/// Appends the text of a circuit whose last inputs are what these registers hold, in their order. It refuses where memory runs
+/// out, and a circuit that lacks a gate since it did.
 pub fn push_aiger(
     out: &mut Vec<u8>,
     circuit: &Circuit,
@@ -27,8 +28,12 @@ pub fn push_aiger(
     outputs: &[Literal],
 ) -> Result<(), AllocError>
     requires { length registers.now ≤ circuit.now.inputs }
-    ensures { OnOk result (out.new.items ≡ out.old.items ++ aiger_text circuit.now registers.now outputs.now) }
+    ensures text { OnOk result (out.new.items ≡ out.old.items ++ aiger_text circuit.now registers.now outputs.now) }
+    ensures complete { OnOk result (circuit.now.complete ≡ true) }
 {
+    if !circuit.is_complete() {
+        return Err(AllocError);
+    }
     let gates = circuit.gates();
     let inputs = u64::from(circuit.inputs()) - registers.len() as u64;
     out.extend_from_slice(b"aag ")?;

@@ -1,13 +1,13 @@
 //! Circuits, and the and of two literals.
-ghost use Rattle.std.specs.Prelude.{◌≡◌, ◌≤◌, ◌<◌, ◌^◌, ◌&&◌, [], ℕ, Bool, false, IfOk, IfSome, OnErr, reverse};
+ghost use Rattle.std.specs.Prelude.{◌≡◌, ◌≤◌, ◌<◌, ◌^◌, ◌&&◌, [], ℕ, Bool, true, false, IfSome, reverse};
 ghost use Rattle.can_gates.specs.Aiger.{code_of};
 ghost use Rattle.can_gates.specs.Circuit.{value, Keeps, Makes};
 ghost use Rattle.can_gates.specs.Ordered.{IsOrdered};
 ghost use Rattle.can_gates.specs.Runs.{run};
 
-use crate::literal::{Literal, folded};
-use std::alloc::{AllocError, Global};
-use std::collections::BTreeMap;
+use crate::chains::Chains;
+use crate::literal::{FALSE, Literal, folded};
+use std::alloc::Global;
 use std::marker::Model;
 
 /// A gate: its signal is the and of two literals.
@@ -22,6 +22,9 @@ pub struct Gate {
 }
 
 /// And gates behind inputs. In clauses the last gate goes first.
+///
+/// Where memory runs out, or the numbers of signals do, 2^32, a gate that is asked for isn't made, and the circuit isn't
+/// [complete](Circuit::is_complete) from then on: no assignment keeps it.
 #[derive(Drop)]
 pub struct Circuit {
     gates: Vec<Gate>,
@@ -29,8 +32,10 @@ pub struct Circuit {
     inputs: u32,
     /// The highest signal.
     highest: u32,
-    /// Where the gate of two sides stands, by their numbers.
-    places: BTreeMap<(u64, u64), usize>,
+    /// Where the gates of a left side stand.
+    chains: Chains,
+    /// Whether it has each gate that was asked for.
+    complete: bool,
 }
 
 impl Model for Circuit {
@@ -40,7 +45,7 @@ impl Model for Circuit {
 
     ghost Value = { CircuitParts };
 
-    ghost view = { λ c. record { inputs = c.inputs; highest = c.highest; gates = reverse c.gates.items } };
+    ghost view = { λ c. record { inputs = c.inputs; highest = c.highest; gates = reverse c.gates.items; complete = c.complete } };
 
     ghost invariant = { λ c. IsOrdered c.inputs c.highest (reverse c.gates.items) };
 }
@@ -48,13 +53,14 @@ impl Model for Circuit {
 impl Circuit {
     /// A circuit with no gate, and with so many inputs, which are the signals from 1 on.
     pub fn new(alloc: Global, inputs: u32) -> Circuit
-        ensures { result ≡ record { inputs = inputs; highest = inputs; gates = [] } }
+        ensures { result ≡ record { inputs = inputs; highest = inputs; gates = []; complete = true } }
     {
         Circuit {
             gates: Vec::new(alloc),
             inputs,
             highest: inputs,
-            places: BTreeMap::new(alloc),
+            chains: Chains::new(alloc),
+            complete: true,
         }
     }
 
@@ -79,12 +85,20 @@ impl Circuit {
         self.highest
     }
 
-    /// Whatever values its inputs have, the circuit's run is an assignment that keeps it and in which they have these values:
-    /// so nothing that is said of kept circuits is empty. And what keeps it is the run of its own values. It does nothing.
+    /// Whether it has each gate that was asked for. What is made of one that lacks a gate is to be thrown away.
+    pub fn is_complete(&self) -> bool
+        ensures { result ≡ self.now.complete }
+    {
+        self.complete
+    }
+
+    /// Whatever values its inputs have, the run of a complete circuit is an assignment that keeps it and in which they have
+    /// these values: so nothing that is said of kept circuits is empty. And what keeps it is the run of its own values. It
+    /// does nothing.
     pub fn is_kept_by_its_run(&self)
-        ensures keeps { (inputs : ℕ → Bool) → inputs 0 ≡ false → Keeps (run self.now.gates inputs) self.now.gates }
+        ensures keeps { (inputs : ℕ → Bool) → self.now.complete ≡ true → inputs 0 ≡ false → Keeps (run self.now.gates inputs) self.now }
         ensures inputs { (inputs : ℕ → Bool) (s : ℕ) → s ≤ self.now.inputs → run self.now.gates inputs s ≡ inputs s }
-        ensures only { (v : ℕ → Bool) (s : ℕ) → Keeps v self.now.gates → run self.now.gates v s ≡ v s }
+        ensures only { (v : ℕ → Bool) (s : ℕ) → Keeps v self.now → run self.now.gates v s ≡ v s }
     {
         let _gates = &self.gates;
     }
@@ -99,28 +113,39 @@ impl Circuit {
         let _highest = self.highest;
     }
 
-    /// Both. It needs no gate where one is constant, where both are of one signal, or where there is a gate of these two.
-    pub fn and(&mut self, a: Literal, b: Literal) -> Result<Literal, AllocError>
-        ensures made { IfOk result (λ r. Makes self.old self.new (λ v. value v r ≡ (value v a && value v b))) }
-        ensures unchanged { OnErr result (self.new ≡ self.old) }
+    /// Both. It needs no gate where one is constant, where both are of one signal, or where there is a gate of these two. A
+    /// literal of a signal that the circuit doesn't have has no gate either.
+    pub fn and(&mut self, a: Literal, b: Literal) -> Literal
+        ensures { Makes self.old self.new (λ v. value v result ≡ (value v a && value v b)) }
     {
         if let Some(known) = folded(a, b) {
-            return Ok(known);
+            return known;
         }
         let sides = Sides::new(a, b);
         if let Some(shared) = self.shared(sides) {
-            return Ok(shared);
+            return shared;
         }
-        let made = self.gate(sides)?;
-        Ok(made)
+        self.gate(sides)
     }
 
-    /// The signal of a gate of these sides, where the map tells one.
+    /// The signal of a gate of these sides, where there is one.
     fn shared(&self, sides: Sides) -> Option<Literal>
-        ensures { IfSome result (λ r. (v : ℕ → Bool) → Keeps v self.now.gates → value v r ≡ (value v sides.left && value v sides.right)) }
+        ensures { IfSome result (λ r. (v : ℕ → Bool) → Keeps v self.now → value v r ≡ (value v sides.left && value v sides.right)) }
     {
-        let key = sides.key();
-        let place = self.places.get(&key).copied()?;
+        let mut place = self.chains.last(sides.left.signal)?;
+        for _ in 0..self.gates.len() {
+            if let Some(made) = self.made_at(place, sides) {
+                return Some(made);
+            }
+            place = self.chains.before(place)?;
+        }
+        None
+    }
+
+    /// The signal of the gate at this place, where it is of these sides.
+    fn made_at(&self, place: usize, sides: Sides) -> Option<Literal>
+        ensures { IfSome result (λ r. (v : ℕ → Bool) → Keeps v self.now → value v r ≡ (value v sides.left && value v sides.right)) }
+    {
         if place >= self.gates.len() {
             return None;
         }
@@ -131,25 +156,39 @@ impl Circuit {
         None
     }
 
-    /// A gate more, of these sides.
-    fn gate(&mut self, sides: Sides) -> Result<Literal, AllocError>
+    /// A gate more, of these sides, or a circuit that isn't complete.
+    fn gate(&mut self, sides: Sides) -> Literal
         requires { code_of sides.right ≤ code_of sides.left }
-        ensures made { IfOk result (λ r. Makes self.old self.new (λ v. value v r ≡ (value v sides.left && value v sides.right))) }
-        ensures unchanged { OnErr result (self.new ≡ self.old) }
+        ensures { Makes self.old self.new (λ v. value v result ≡ (value v sides.left && value v sides.right)) }
+    {
+        match self.added(sides) {
+            Some(made) => made,
+            None => {
+                self.complete = false;
+                FALSE
+            }
+        }
+    }
+
+    /// A gate more, of these sides, where these have a number and there is memory and a number for it.
+    fn added(&mut self, sides: Sides) -> Option<Literal>
+        requires { code_of sides.right ≤ code_of sides.left }
+        ensures made { IfSome result (λ r. Makes self.old self.new (λ v. value v r ≡ (value v sides.left && value v sides.right))) }
+        ensures inputs { self.new.inputs ≡ self.old.inputs }
     {
         if self.highest < sides.highest() {
-            return Err(AllocError);
+            return None;
         }
-        let signal = self.highest.checked_add(1).ok_or(AllocError)?;
-        let place = self.gates.len();
-        self.places.insert(sides.key(), place)?;
-        self.gates.push(Gate {
+        let signal = self.highest.checked_add(1)?;
+        self.chains.add(sides.left.signal).ok()?;
+        let gate = Gate {
             signal,
             left: sides.left,
             right: sides.right,
-        })?;
+        };
+        self.gates.push(gate).ok()?;
         self.highest = signal;
-        Ok(of_signal(signal))
+        Some(of_signal(signal))
     }
 }
 
@@ -182,11 +221,6 @@ impl Sides {
         } else {
             Sides { left: a, right: b }
         }
-    }
-
-    /// What the map of gates has it under.
-    fn key(self) -> (u64, u64) {
-        (self.left.code(), self.right.code())
     }
 
     /// The higher one of the two signals.

@@ -3,12 +3,17 @@
 //! A [`Circuit`] is a list of gates, each the and of two [`Literal`]s, as an AIGER file has them. An assignment, which gives
 //! each signal a value, keeps the circuit if signal 0 is false and each gate's signal is the and of its two sides. Whatever
 //! makes gates says what holds of its result in each assignment that keeps the circuit with them, as an equation over
-//! Booleans and numbers. Nothing is required of a literal: one of a signal that a circuit doesn't have is refused by an `Err`.
+//! Booleans and numbers. Nothing is required of a literal.
+//!
+//! A gate for which there is no memory, or no number, as there are 2^32 of them, or one of a signal that the circuit doesn't
+//! have, is not made, and the circuit isn't complete from then on: no assignment keeps it, and it is refused where it is
+//! written. So a gate is made by a call that can't fail, and [`Circuit::is_complete`] is asked once, behind the last.
 //!
 //! | File | What it has | Defined in |
 //! |---|---|---|
 //! | `literal.rt` | [`Literal`], a signal or its negation, [`FALSE`] and [`TRUE`] | `specs/Circuit.antt` |
 //! | `circuit.rt` | [`Circuit`], its [`Gate`]s, and the and of two literals, which has a gate only where it needs one | `specs/Circuit.antt`, `specs/Runs.antt`, `specs/Ordered.antt` |
+//! | `chains.rt` | where gates stand, by the signal of their left side | |
 //! | `choices.rt` | or, exclusive or, and a choice between two literals | `specs/Circuit.antt` |
 //! | `words.rt` | numbers as lists of literals, the lowest place first: constants, choices, complements | `specs/Words.antt` |
 //! | `sums.rt` | [`Sum`], sums and differences, with a carry or up to the least and the greatest number | `specs/Words.antt` |
@@ -16,14 +21,15 @@
 //! | `select.rt` | the literal at a place that a number tells | `specs/Words.antt` |
 //! | `aiger.rt` | [`Register`], and the text of a circuit with registers and outputs in AIGER's ascii format; lines of numbers | `specs/Aiger.antt` |
 //!
-//! Words may be of any two lengths: past its end a word has [`FALSE`]. Any other `Err` says that memory ran out, or the numbers
-//! of signals, 2^32. Behind an `Err` a circuit may have gates that nothing names.
+//! Words may be of any two lengths: past its end a word has [`FALSE`]. An `Err` says that there was no memory for a word.
+//! Behind it a circuit may have gates that nothing names.
 //!
-//! A gate that would be made again is found by its sides in a map. What the map tells is looked at before it is used, so the
-//! laws need nothing of it; that equal gates are made once is tested (tests/rows).
+//! A gate that would be made again is found in the chain of its left side's signal. What a chain tells is looked at before it is
+//! used, so the laws need nothing of it; that equal gates are made once is tested (tests/rows).
 #![tactic(auto)]
 
 mod aiger;
+mod chains;
 mod choices;
 mod circuit;
 mod literal;

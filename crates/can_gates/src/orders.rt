@@ -1,42 +1,41 @@
 //! How two words compare as numbers.
-ghost use Rattle.std.specs.Prelude.{◌≡◌, ◌==◌, ℕ, Bool, nat_lt, IfOk};
+ghost use Rattle.std.specs.Prelude.{◌≡◌, ◌==◌, ℕ, Bool, nat_lt};
 ghost use Rattle.can_gates.specs.Circuit.{value, Makes};
 ghost use Rattle.can_gates.specs.Words.{number};
 
 use crate::circuit::Circuit;
 use crate::literal::{FALSE, Literal, TRUE};
 use crate::words::literal_at;
-use std::alloc::AllocError;
 
 impl Circuit {
     /// Whether the first number is less than the second one.
-    pub fn less(&mut self, a: &[Literal], b: &[Literal]) -> Result<Literal, AllocError>
-        ensures { IfOk result (λ r. Makes self.old self.new (λ v. value v r ≡ nat_lt (number v a.now) (number v b.now))) }
+    pub fn less(&mut self, a: &[Literal], b: &[Literal]) -> Literal
+        ensures { Makes self.old self.new (λ v. value v result ≡ nat_lt (number v a.now) (number v b.now)) }
     {
         let places = a.len().max(b.len());
         let mut less = FALSE;
         for place in 0..places {
             let left = literal_at(a, place);
             let right = literal_at(b, place);
-            let differ = self.xor(left, right)?;
+            let differ = self.xor(left, right);
             // the highest place in which they differ decides
-            less = self.ite(differ, right, less)?;
+            less = self.ite(differ, right, less);
         }
-        Ok(less)
+        less
     }
 
     /// Whether two numbers are equal.
-    pub fn equals(&mut self, a: &[Literal], b: &[Literal]) -> Result<Literal, AllocError>
-        ensures { IfOk result (λ r. Makes self.old self.new (λ v. value v r ≡ (number v a.now == number v b.now))) }
+    pub fn equals(&mut self, a: &[Literal], b: &[Literal]) -> Literal
+        ensures { Makes self.old self.new (λ v. value v result ≡ (number v a.now == number v b.now)) }
     {
         let places = a.len().max(b.len());
         let mut equal = TRUE;
         for place in 0..places {
             let left = literal_at(a, place);
             let right = literal_at(b, place);
-            let differ = self.xor(left, right)?;
-            equal = self.and(differ.opposite(), equal)?;
+            let differ = self.xor(left, right);
+            equal = self.and(differ.opposite(), equal);
         }
-        Ok(equal)
+        equal
     }
 }

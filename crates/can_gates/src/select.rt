@@ -41,7 +41,7 @@ impl Circuit {
         for pair in 0..pairs {
             let even_one = literal_at(items, 2 * pair);
             let odd_one = literal_at(items, 2 * pair + 1);
-            let level = self.ite(odd, odd_one, even_one)?;
+            let level = self.ite(odd, odd_one, even_one);
             half.push(level)?;
         }
         Ok(half)

@@ -34,10 +34,10 @@ impl Circuit {
         for place in 0..places {
             let left = literal_at(a, place);
             let right = literal_at(b, place);
-            let differ = self.xor(left, right)?;
-            let level = self.xor(differ, carry)?;
+            let differ = self.xor(left, right);
+            let level = self.xor(differ, carry);
             word.push(level)?;
-            carry = self.ite(differ, carry, left)?;
+            carry = self.ite(differ, carry, left);
         }
         Ok(Sum { word, carry })
     }

@@ -64,7 +64,7 @@ impl Circuit {
         for place in 0..places {
             let left = literal_at(a, place);
             let right = literal_at(b, place);
-            let level = self.ite(test, left, right)?;
+            let level = self.ite(test, left, right);
             all.push(level)?;
         }
         Ok(all)
@@ -81,7 +81,7 @@ impl Circuit {
     {
         let mut all = Vec::new(alloc);
         for place in word {
-            let level = self.or(*place, over)?;
+            let level = self.or(*place, over);
             all.push(level)?;
         }
         Ok(all)

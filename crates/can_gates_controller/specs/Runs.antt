@@ -55,16 +55,16 @@ StartsIdle d = (v : ℕ → Bool) → StartsRegisters d.circuit d.registers.item
 
 -- behind a reset they hold an idle one, or one that joins, whatever they held
 abbrev pub Resets : Design → Type 0
-Resets d = (before now : ℕ → Bool) → Keeps before d.circuit.gates → value before d.inputs.reset ≡ true → StepsRegisters d.circuit d.registers.items before now → HoldsAll now d.held (if value before d.inputs.joins then joining else idle)
+Resets d = (before now : ℕ → Bool) → Keeps before d.circuit → value before d.inputs.reset ≡ true → StepsRegisters d.circuit d.registers.items before now → HoldsAll now d.held (if value before d.inputs.joins then joining else idle)
 
 -- in each assignment that keeps the circuit, whatever controller the registers hold and whatever comes in, what goes out is that
 -- of the machine, and a step later the registers hold its next state
 abbrev pub IsController : Design → Type 0
-IsController d = (before : ℕ → Bool) (m : MacState) → Keeps before d.circuit.gates → HoldsAll before d.held m → Shows before d.outputs m (step_in before d.inputs) × ((now : ℕ → Bool) → StepsRegisters d.circuit d.registers.items before now → HoldsAll now d.held (state_behind m (step_in before d.inputs)))
+IsController d = (before : ℕ → Bool) (m : MacState) → Keeps before d.circuit → HoldsAll before d.held m → Shows before d.outputs m (step_in before d.inputs) × ((now : ℕ → Bool) → StepsRegisters d.circuit d.registers.items before now → HoldsAll now d.held (state_behind m (step_in before d.inputs)))
 
 -- an assignment for each of n steps: each keeps the circuit, and the registers hold what they took
 pub record IsRun (d : Design) (v : ℕ → ℕ → Bool) (n : ℕ) : Type 0 where
-  pub keeps : (t : ℕ) → t < n → Keeps (v t) d.circuit.gates
+  pub keeps : (t : ℕ) → t < n → Keeps (v t) d.circuit
   pub takes : (t : ℕ) → suc t < n → StepsRegisters d.circuit d.registers.items (v t) (v (suc t))
 
 -- the steps that come in

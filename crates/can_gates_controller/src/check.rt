@@ -30,7 +30,7 @@ fn divide(
 ) -> Result<Vec<Literal>, AllocError>
     ensures { IfOk result (λ r. Makes circuit.old circuit.new (λ v. (u : List Level) (x : Level) → HoldsCheck v check.now u → value v level ≡ is_recessive x → HoldsCheck v r.items (u ++ x ∷ []))) }
 {
-    let fed = circuit.xor(literal_at(check, 0), level)?;
+    let fed = circuit.xor(literal_at(check, 0), level);
     let made = divided(circuit, alloc, check, fed)?;
     Ok(made)
 }
@@ -63,7 +63,7 @@ fn divided(
     for place in 0..PLACES {
         let moved = next_place(check, place);
         let term = term_of(fed, place);
-        let level = circuit.xor(moved, term)?;
+        let level = circuit.xor(moved, term);
         all.push(level)?;
     }
     Ok(all)
@@ -92,13 +92,13 @@ fn term_of(fed: Literal, place: usize) -> Literal
 }
 
 /// Whether levels that have their whole check sequence agree with it: nothing is left of them.
-pub(crate) fn agrees(circuit: &mut Circuit, check: &[Literal]) -> Result<Literal, AllocError>
-    ensures { IfOk result (λ r. Makes circuit.old circuit.new (λ v. (u : List Level) → 15 ≤ length u → HoldsCheck v check.now u → value v r ≡ check_agrees u)) }
+pub(crate) fn agrees(circuit: &mut Circuit, check: &[Literal]) -> Literal
+    ensures { Makes circuit.old circuit.new (λ v. (u : List Level) → 15 ≤ length u → HoldsCheck v check.now u → value v result ≡ check_agrees u) }
 {
     let mut some = FALSE;
     for place in 0..PLACES {
         let level = literal_at(check, place);
-        some = circuit.or(some, level)?;
+        some = circuit.or(some, level);
     }
-    Ok(some.opposite())
+    some.opposite()
 }

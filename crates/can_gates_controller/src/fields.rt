@@ -55,28 +55,22 @@ pub(crate) fn clear_behind(
 {
     let mut all = Vec::new(alloc);
     for place in 0..PLACES {
-        let counts = has_byte(circuit, remote, dlc, place / 8)?;
-        let bit = circuit.and(counts, literal_at(bytes, place))?;
+        let counts = has_byte(circuit, remote, dlc, place / 8);
+        let bit = circuit.and(counts, literal_at(bytes, place));
         all.push(bit)?;
     }
     Ok(all)
 }
 
 /// Whether a frame has the byte of this number, of which the first is byte 0.
-fn has_byte(
-    circuit: &mut Circuit,
-    remote: Literal,
-    dlc: Nibble,
-    byte: usize,
-) -> Result<Literal, AllocError>
+fn has_byte(circuit: &mut Circuit, remote: Literal, dlc: Nibble, byte: usize) -> Literal
     requires { byte < 8 }
-    ensures { IfOk result (λ r. Makes circuit.old circuit.new (λ v. value v r ≡ nat_lt byte (byte_count (value v remote) (nibble v dlc)))) }
+    ensures { Makes circuit.old circuit.new (λ v. value v result ≡ nat_lt byte (byte_count (value v remote) (nibble v dlc))) }
 {
     let number = Nibble::of(byte as u8);
     let below = circuit.less(
         &[number.ones, number.twos, number.fours, number.eights],
         &[dlc.ones, dlc.twos, dlc.fours, dlc.eights],
-    )?;
-    let made = circuit.and(below, remote.opposite())?;
-    Ok(made)
+    );
+    circuit.and(below, remote.opposite())
 }

@@ -36,9 +36,9 @@ pub fn hear(
 ) -> Result<(Heard, StuffPlace), AllocError>
     ensures { IfOk result (λ r. Makes circuit.old circuit.new (λ v. (front : FrontParts) (x : Level) → HoldsFront v heard.now front → front.run ≤ 5 → length front.unstuffed < 127 → value v seen ≡ is_recessive x → HearsFront v r.0 r.1 front x)) }
 {
-    let stuffing = stuffing(circuit, heard.last, heard.run, seen)?;
+    let stuffing = stuffing(circuit, heard.last, heard.run, seen);
     let plain = stuffing.due.opposite();
-    let level = circuit.and(plain, seen)?;
+    let level = circuit.and(plain, seen);
     let levels = written(circuit, alloc, &heard.levels, &heard.count, level)?;
     let count = circuit.raised(alloc, &heard.count, &[plain])?;
     let check = next_check(circuit, alloc, &heard.check, plain, seen)?;
@@ -65,9 +65,9 @@ fn written(
     let mut all = Vec::new(alloc);
     for place in 0..PLACES {
         let number = constant(alloc, place, 7)?;
-        let here = circuit.equals(count, &number)?;
-        let new = circuit.and(here, level)?;
-        let both = circuit.or(literal_at(levels, place as usize), new)?;
+        let here = circuit.equals(count, &number);
+        let new = circuit.and(here, level);
+        let both = circuit.or(literal_at(levels, place as usize), new);
         all.push(both)?;
     }
     Ok(all)
@@ -103,9 +103,9 @@ pub fn ends(circuit: &mut Circuit, alloc: Global, heard: &Heard) -> Result<Liter
     ensures { IfOk result (λ r. Makes circuit.old circuit.new (λ v. (front : FrontParts) → HoldsFront v heard.now front → front.run ≤ 5 → value v r ≡ ends_part front)) }
 {
     let length = frame_length(circuit, alloc, &heard.levels)?;
-    let whole = circuit.equals(&length, &heard.count)?;
-    let due = circuit.and(heard.run.ones, heard.run.fours)?;
-    let made = circuit.and(whole, due.opposite())?;
+    let whole = circuit.equals(&length, &heard.count);
+    let due = circuit.and(heard.run.ones, heard.run.fours);
+    let made = circuit.and(whole, due.opposite());
     Ok(made)
 }
 
@@ -118,16 +118,16 @@ pub(crate) fn frame_length(
     ensures { IfOk result (λ r. Makes circuit.old circuit.new (λ v. (u : List Level) → HoldsLevels v levels.now u → number v r.items ≡ frame_len u)) }
 {
     let extended = literal_at(levels, 13);
-    let remote = circuit.ite(extended, literal_at(levels, 32), literal_at(levels, 12))?;
-    let eights = circuit.ite(extended, literal_at(levels, 35), literal_at(levels, 15))?;
-    let fours = circuit.ite(extended, literal_at(levels, 36), literal_at(levels, 16))?;
-    let twos = circuit.ite(extended, literal_at(levels, 37), literal_at(levels, 17))?;
-    let ones = circuit.ite(extended, literal_at(levels, 38), literal_at(levels, 18))?;
-    let eight = circuit.and(remote.opposite(), eights)?;
-    let few = circuit.and(remote.opposite(), eights.opposite())?;
-    let four = circuit.and(few, fours)?;
-    let two = circuit.and(few, twos)?;
-    let one = circuit.and(few, ones)?;
+    let remote = circuit.ite(extended, literal_at(levels, 32), literal_at(levels, 12));
+    let eights = circuit.ite(extended, literal_at(levels, 35), literal_at(levels, 15));
+    let fours = circuit.ite(extended, literal_at(levels, 36), literal_at(levels, 16));
+    let twos = circuit.ite(extended, literal_at(levels, 37), literal_at(levels, 17));
+    let ones = circuit.ite(extended, literal_at(levels, 38), literal_at(levels, 18));
+    let eight = circuit.and(remote.opposite(), eights);
+    let few = circuit.and(remote.opposite(), eights.opposite());
+    let four = circuit.and(few, fours);
+    let two = circuit.and(few, twos);
+    let one = circuit.and(few, ones);
     let long = constant(alloc, EXTENDED_LENGTH, 6)?;
     let short = constant(alloc, STANDARD_LENGTH, 6)?;
     let least = circuit.choose(alloc, extended, &long, &short)?;

@@ -41,14 +41,14 @@ pub(crate) fn is_legal(
     let place = place_is_legal(circuit, alloc, &held.controller)?;
     let marks = marks_are_legal(circuit, alloc, &held.controller)?;
     let role = role_is_legal(circuit, alloc, &held.controller)?;
-    let wishes = wishes_are_legal(circuit, wires)?;
+    let wishes = wishes_are_legal(circuit, wires);
     let counters = counters_are_legal(circuit, alloc, &held.controller)?;
     let heard = heard_is_legal(circuit, alloc, within, &held.heard)?;
-    let phase = circuit.and(place, marks)?;
-    let stance = circuit.and(role, wishes)?;
-    let on = circuit.and(phase, stance)?;
-    let counted = circuit.and(counters, heard)?;
-    let made = circuit.and(on, counted)?;
+    let phase = circuit.and(place, marks);
+    let stance = circuit.and(role, wishes);
+    let on = circuit.and(phase, stance);
+    let counted = circuit.and(counters, heard);
+    let made = circuit.and(on, counted);
     Ok(made)
 }
 
@@ -61,13 +61,13 @@ fn place_is_legal(
     ensures { IfOk result (λ r. Makes circuit.old circuit.new (λ v. (m : MacState) → IsMac m → Holds v held.now m → value v r ≡ true)) }
 {
     let place = held.wires.place;
-    let first = place.less(circuit, 1)?;
-    let below_3 = place.less(circuit, 3)?;
-    let below_6 = place.less(circuit, 6)?;
-    let below_7 = place.less(circuit, 7)?;
-    let below_8 = place.less(circuit, 8)?;
-    let below_11 = place.less(circuit, 11)?;
-    let later = circuit.and(first.opposite(), below_8)?;
+    let first = place.less(circuit, 1);
+    let below_3 = place.less(circuit, 3);
+    let below_6 = place.less(circuit, 6);
+    let below_7 = place.less(circuit, 7);
+    let below_8 = place.less(circuit, 8);
+    let below_11 = place.less(circuit, 11);
+    let later = circuit.and(first.opposite(), below_8);
     // in the order of the phases' numbers
     let items = [
         first, below_11, first, first, first, first, below_7, below_6, below_6, below_6, below_8,
@@ -89,9 +89,9 @@ fn marks_are_legal(
     ensures { IfOk result (λ r. Makes circuit.old circuit.new (λ v. (m : MacState) → Holds v held.now m → value v r ≡ true)) }
 {
     let wires = held.wires;
-    let no_flag = circuit.and(wires.last.opposite(), wires.unacknowledged.opposite())?;
+    let no_flag = circuit.and(wires.last.opposite(), wires.unacknowledged.opposite());
     let no_first = wires.first.opposite();
-    let none = circuit.and(no_flag, no_first)?;
+    let none = circuit.and(no_flag, no_first);
     // in the order of the phases' numbers
     let items = [
         none, none, none, none, none, none, none, none, no_first, none, no_flag, none, none, none,
@@ -114,8 +114,8 @@ fn role_is_legal(
 {
     let wires = held.wires;
     let receives = wires.sender.opposite();
-    let start = wires.place.less(circuit, 1)?;
-    let first = circuit.or(start, wires.first.opposite())?;
+    let start = wires.place.less(circuit, 1);
+    let first = circuit.or(start, wires.first.opposite());
     // in the order of the phases' numbers
     let items = [
         receives, receives, TRUE, TRUE, TRUE, TRUE, TRUE, TRUE, TRUE, TRUE, first, TRUE, TRUE,
@@ -128,13 +128,12 @@ fn role_is_legal(
 }
 
 /// Whether at most two own overload frames are asked for, and were used.
-fn wishes_are_legal(circuit: &mut Circuit, wires: Wires) -> Result<Literal, AllocError>
-    ensures { IfOk result (λ r. Makes circuit.old circuit.new (λ v. nibble v wires.pending ≤ 2 → nibble v wires.used ≤ 2 → value v r ≡ true)) }
+fn wishes_are_legal(circuit: &mut Circuit, wires: Wires) -> Literal
+    ensures { Makes circuit.old circuit.new (λ v. nibble v wires.pending ≤ 2 → nibble v wires.used ≤ 2 → value v result ≡ true) }
 {
-    let pending = wires.pending.less(circuit, 3)?;
-    let used = wires.used.less(circuit, 3)?;
-    let made = circuit.and(pending, used)?;
-    Ok(made)
+    let pending = wires.pending.less(circuit, 3);
+    let used = wires.used.less(circuit, 3);
+    circuit.and(pending, used)
 }
 
 /// Whether TEC is in its range, is at least 256 exactly off the bus, and only there occurrences of eleven recessive levels
@@ -155,12 +154,12 @@ fn counters_are_legal(
     let rests = circuit.select(alloc, &items, &place)?;
     let off = is_off(&held.counters);
     let most = constant(alloc, ABOVE_TEC, 9)?;
-    let small = circuit.less(&held.counters.tec, &most)?;
-    let differs = circuit.xor(off, rests)?;
-    let some = circuit.less(&[FALSE], &held.counters.occurrences)?;
-    let counts = circuit.or(off, some.opposite())?;
-    let fits = circuit.and(small, differs.opposite())?;
-    let made = circuit.and(fits, counts)?;
+    let small = circuit.less(&held.counters.tec, &most);
+    let differs = circuit.xor(off, rests);
+    let some = circuit.less(&[FALSE], &held.counters.occurrences);
+    let counts = circuit.or(off, some.opposite());
+    let fits = circuit.and(small, differs.opposite());
+    let made = circuit.and(fits, counts);
     Ok(made)
 }
 
@@ -174,37 +173,32 @@ fn heard_is_legal(
     ensures { IfOk result (λ r. Makes circuit.old circuit.new (λ v. (p : MacPhase) → IsPhase p → IsWithin v within p → HoldsHeard v heard.now p → value v r ≡ true)) }
 {
     let length = frame_length(circuit, alloc, &heard.levels)?;
-    let whole = circuit.equals(&length, &heard.count)?;
-    let going = going_is_legal(circuit, heard, &length)?;
+    let whole = circuit.equals(&length, &heard.count);
+    let going = going_is_legal(circuit, heard, &length);
     let levels = levels_are_legal(circuit, alloc, heard)?;
-    let part = circuit.and(going, levels)?;
-    let end = circuit.and(whole, levels)?;
-    let behind = circuit.ite(within.end, end, TRUE)?;
-    let made = circuit.ite(within.part, part, behind)?;
+    let part = circuit.and(going, levels);
+    let end = circuit.and(whole, levels);
+    let behind = circuit.ite(within.end, end, TRUE);
+    let made = circuit.ite(within.part, part, behind);
     Ok(made)
 }
 
 /// Whether the front of a frame that has so many levels goes on: it has at least one level and at most these, a run of one to
 /// five, and its stuffed part hasn't ended.
-fn going_is_legal(
-    circuit: &mut Circuit,
-    heard: &Heard,
-    length: &[Literal],
-) -> Result<Literal, AllocError>
-    ensures { IfOk result (λ r. Makes circuit.old circuit.new (λ v. (front : FrontParts) → IsOpen front → HoldsFront v heard.now front → number v length.now ≡ frame_len front.unstuffed → value v r ≡ true)) }
+fn going_is_legal(circuit: &mut Circuit, heard: &Heard, length: &[Literal]) -> Literal
+    ensures { Makes circuit.old circuit.new (λ v. (front : FrontParts) → IsOpen front → HoldsFront v heard.now front → number v length.now ≡ frame_len front.unstuffed → value v result ≡ true) }
 {
-    let some = circuit.less(&[FALSE], &heard.count)?;
-    let over = circuit.less(length, &heard.count)?;
-    let none = heard.run.less(circuit, 1)?;
-    let few = heard.run.less(circuit, 6)?;
-    let plain = heard.run.less(circuit, 5)?;
-    let whole = circuit.equals(length, &heard.count)?;
-    let ended = circuit.and(whole, plain)?;
-    let counted = circuit.and(some, over.opposite())?;
-    let runs = circuit.and(none.opposite(), few)?;
-    let fits = circuit.and(counted, runs)?;
-    let made = circuit.and(fits, ended.opposite())?;
-    Ok(made)
+    let some = circuit.less(&[FALSE], &heard.count);
+    let over = circuit.less(length, &heard.count);
+    let none = heard.run.less(circuit, 1);
+    let few = heard.run.less(circuit, 6);
+    let plain = heard.run.less(circuit, 5);
+    let whole = circuit.equals(length, &heard.count);
+    let ended = circuit.and(whole, plain);
+    let counted = circuit.and(some, over.opposite());
+    let runs = circuit.and(none.opposite(), few);
+    let fits = circuit.and(counted, runs);
+    circuit.and(fits, ended.opposite())
 }
 
 /// Whether no level is recessive that isn't heard yet.
@@ -219,11 +213,11 @@ fn levels_are_legal(
     let mut behind = FALSE;
     for place in 0..PLACES {
         let number = constant(alloc, place, 7)?;
-        let here = circuit.equals(&heard.count, &number)?;
-        behind = circuit.or(behind, here)?;
+        let here = circuit.equals(&heard.count, &number);
+        behind = circuit.or(behind, here);
         let level = literal_at(&heard.levels, place as usize);
-        let wrong = circuit.and(behind, level)?;
-        legal = circuit.and(legal, wrong.opposite())?;
+        let wrong = circuit.and(behind, level);
+        legal = circuit.and(legal, wrong.opposite());
     }
     Ok(legal)
 }

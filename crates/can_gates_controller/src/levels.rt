@@ -20,7 +20,7 @@ pub(crate) fn choose_levels(
     for place in 0..places {
         let first = literal_at(a, place);
         let other = literal_at(b, place);
-        let level = circuit.ite(test, first, other)?;
+        let level = circuit.ite(test, first, other);
         all.push(level)?;
     }
     Ok(all)

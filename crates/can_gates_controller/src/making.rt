@@ -1,5 +1,5 @@
 //! A controller as a circuit of its own.
-ghost use Rattle.std.specs.Prelude.{IfOk};
+ghost use Rattle.std.specs.Prelude.{◌≡◌, true, IfOk};
 ghost use Rattle.can_gates_controller.specs.Runs.{StartsIdle, Resets, IsController, RunsAlike, HasPorts};
 
 use crate::design::Design;
@@ -9,9 +9,10 @@ use crate::stepping::step;
 use can_gates::Circuit;
 use std::alloc::{AllocError, Global};
 
-/// A controller as a circuit. At first its registers hold an idle one, and behind a reset an idle one or one that joins; in each
-/// step of any run it is can_mac's own.
+/// A controller as a circuit, which has each of its gates. At first its registers hold an idle one, and behind a reset an idle
+/// one or one that joins; in each step of any run it is can_mac's own.
 pub fn controller_circuit(alloc: Global) -> Result<Design, AllocError>
+    ensures complete { IfOk result (λ d. d.circuit.complete ≡ true) }
     ensures starts { IfOk result (λ d. StartsIdle d) }
     ensures resets { IfOk result (λ d. Resets d) }
     ensures steps { IfOk result (λ d. IsController d) }
@@ -22,6 +23,9 @@ pub fn controller_circuit(alloc: Global) -> Result<Design, AllocError>
     let inputs = input_ports(alloc)?;
     let held = registers(alloc)?;
     let (next, outputs) = step(&mut circuit, alloc, &held, &inputs)?;
+    if !circuit.is_complete() {
+        return Err(AllocError);
+    }
     let registers = starting(alloc, &next)?;
     let listed = list_outputs(alloc, &outputs)?;
     Ok(Design {

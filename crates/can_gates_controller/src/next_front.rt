@@ -71,8 +71,8 @@ fn choose_heard(
 {
     let levels = choose_levels(circuit, alloc, PLACES, test, &a.levels, &b.levels)?;
     let count = circuit.choose(alloc, test, &a.count, &b.count)?;
-    let last = circuit.ite(test, a.last, b.last)?;
-    let run = Nibble::choose(circuit, test, a.run, b.run)?;
+    let last = circuit.ite(test, a.last, b.last);
+    let run = Nibble::choose(circuit, test, a.run, b.run);
     let check = choose_levels(circuit, alloc, check::PLACES, test, &a.check, &b.check)?;
     Ok(Heard {
         levels,

@@ -30,9 +30,9 @@ pub(crate) fn next_sent(
     let length = frame_length(circuit, alloc, own)?;
     let fifteen = constant(alloc, CHECK_LENGTH, 4)?;
     let before = circuit.lowered(alloc, &length, &fifteen)?;
-    let of_head = circuit.less(&heard.count, &before)?;
+    let of_head = circuit.less(&heard.count, &before);
     let top = literal_at(&heard.check, 0);
-    let made = circuit.ite(of_head, level, top)?;
+    let made = circuit.ite(of_head, level, top);
     Ok(made)
 }
 

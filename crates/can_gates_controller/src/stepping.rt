@@ -63,9 +63,9 @@ fn with_wish(
         fours: FALSE,
         eights: FALSE,
     };
-    let few = wish.less(circuit, ABOVE_WISHES)?;
-    let asks = circuit.and(inputs.hold, few)?;
-    let pending = Nibble::choose(circuit, asks, wish, held.controller.wires.pending)?;
+    let few = wish.less(circuit, ABOVE_WISHES);
+    let asks = circuit.and(inputs.hold, few);
+    let pending = Nibble::choose(circuit, asks, wish, held.controller.wires.pending);
     let Registers {
         controller,
         heard,
@@ -90,11 +90,11 @@ fn show(
     ensures { IfOk result (λ r. Makes circuit.old circuit.new (λ v. (m : MacState) (s : Step) → s ≡ step_in v inputs.now → HoldsAll v held.now m → HoldsAll v wished.now (asked s.wish m) → IsBitTime v made.now wished.now (asked s.wish m) s.waiting s.level → Shows v r m s)) }
 {
     let counters = &held.controller.counters;
-    let passes = circuit.and(inputs.enable, inputs.reset.opposite())?;
+    let passes = circuit.and(inputs.enable, inputs.reset.opposite());
     let event = made.next.controller.wires.event;
-    let told = Nibble::choose(circuit, passes, event, Nibble::of(0))?;
+    let told = Nibble::choose(circuit, passes, event, Nibble::of(0));
     let frame = told_frame(circuit, alloc, wished)?;
-    let passive = is_passive(circuit, &counters.tec, &counters.rec)?;
+    let passive = is_passive(circuit, &counters.tec, &counters.rec);
     let legal = is_legal(circuit, alloc, held)?;
     let tec = Vec::from_slice(alloc, &counters.tec)?;
     let rec = Vec::from_slice(alloc, &counters.rec)?;
@@ -121,9 +121,9 @@ fn take(
 ) -> Result<Vec<Literal>, AllocError>
     ensures { IfOk result (λ r. (length r.items ≡ length held.now) × Makes circuit.old circuit.new (λ v. (p : ℕ) → p < length held.now → value v (slice_index_or r.items p FALSE) ≡ taken_at (value v inputs.now.reset) (value v inputs.now.joins) (value v inputs.now.enable) p (value v (slice_index_or next.now p FALSE)) (value v (slice_index_or held.now p FALSE)))) }
 {
-    let passes = circuit.and(inputs.enable, inputs.reset.opposite())?;
-    let rests = circuit.and(inputs.enable.opposite(), inputs.reset.opposite())?;
-    let joins = circuit.and(inputs.reset, inputs.joins)?;
+    let passes = circuit.and(inputs.enable, inputs.reset.opposite());
+    let rests = circuit.and(inputs.enable.opposite(), inputs.reset.opposite());
+    let joins = circuit.and(inputs.reset, inputs.joins);
     let taken = merge(circuit, alloc, passes, next, rests, held, joins)?;
     Ok(taken)
 }
@@ -143,10 +143,10 @@ fn merge(
 {
     let mut all = Vec::new(alloc);
     for place in 0..held.len() {
-        let new = circuit.and(passes, literal_at(next, place))?;
-        let old = circuit.and(rests, literal_at(held, place))?;
-        let either = circuit.or(new, old)?;
-        let taken = circuit.or(either, at_first(place, joins))?;
+        let new = circuit.and(passes, literal_at(next, place));
+        let old = circuit.and(rests, literal_at(held, place));
+        let either = circuit.or(new, old);
+        let taken = circuit.or(either, at_first(place, joins));
         all.push(taken)?;
     }
     Ok(all)

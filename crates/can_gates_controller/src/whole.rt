@@ -68,8 +68,8 @@ fn reads(
     ensures { IfOk result (λ r. Makes circuit.old circuit.new (λ v. (m : MacState) (waiting : Option Parts) → HoldsAll v held.now m → value v waits ≡ is_waiting waiting → DrivesIn v r m waiting)) }
 {
     let heard = &held.heard;
-    let agrees = agrees(circuit, &heard.check)?;
-    let due = circuit.and(heard.run.ones, heard.run.fours)?;
+    let agrees = agrees(circuit, &heard.check);
+    let due = circuit.and(heard.run.ones, heard.run.fours);
     let sent = next_sent(circuit, alloc, heard, &held.own)?;
     Ok(Sends {
         waits,
@@ -90,7 +90,7 @@ fn next_own(
 ) -> Result<Vec<Literal>, AllocError>
     ensures { IfOk result (λ r. Makes circuit.old circuit.new (λ v. (p : MacPhase) (place : ℕ) → IsWithin v within p → place < 103 → value v (slice_index_or r.items place FALSE) ≡ (if is_in_frame p then value v (slice_index_or own.now place FALSE) else value v (slice_index_or offered.now place FALSE)))) }
 {
-    let busy = circuit.or(within.part, within.end)?;
+    let busy = circuit.or(within.part, within.end);
     let made = choose_levels(circuit, alloc, PLACES, busy, own, offered)?;
     Ok(made)
 }

@@ -1,5 +1,5 @@
 //! AIGER, with names.
-ghost use Rattle.std.specs.Prelude.{◌≡◌, ◌+◌, ◌-◌, ◌≤◌, ◌<◌, ◌^◌, ◌++◌, ℕ, List, [], length, map, reverse, OnOk};
+ghost use Rattle.std.specs.Prelude.{◌≡◌, ◌+◌, ◌-◌, ◌≤◌, ◌<◌, ◌^◌, ◌++◌, ℕ, List, [], true, length, map, reverse, OnOk};
 ghost use Rattle.std.specs.List.{flat_map};
 ghost use Rattle.can_gates.specs.declared.aiger.Register.{Register as RegisterParts};
 ghost use Rattle.can_gates.specs.declared.literal.Literal.{Literal as Side};
@@ -19,7 +19,7 @@ use can_gates::{Circuit, Gate, Literal, Register, push_aiger, push_line};
 use std::alloc::{AllocError, Global};
 
 /// Appends an AIGER file in the ascii format: a circuit whose last inputs are what these registers hold, in their order, its
-/// names, and their meaning in a comment.
+/// names, and their meaning in a comment. It refuses where memory runs out, and a circuit that lacks a gate since it did.
 pub fn push_ascii(
     alloc: Global,
     out: &mut Vec<u8>,
@@ -29,7 +29,8 @@ pub fn push_ascii(
     outputs: &[Literal],
 ) -> Result<(), AllocError>
     requires { length registers.now ≤ circuit.now.inputs }
-    ensures { OnOk result (out.new.items ≡ out.old.items ++ ascii_text names.now circuit.now registers.now outputs.now) }
+    ensures text { OnOk result (out.new.items ≡ out.old.items ++ ascii_text names.now circuit.now registers.now outputs.now) }
+    ensures complete { OnOk result (circuit.now.complete ≡ true) }
 {
     push_aiger(out, circuit, registers, outputs)?;
     push_names(alloc, out, names)
@@ -45,8 +46,12 @@ pub fn push_binary(
     outputs: &[Literal],
 ) -> Result<(), AllocError>
     requires { length registers.now ≤ circuit.now.inputs }
-    ensures { OnOk result (out.new.items ≡ out.old.items ++ binary_text names.now circuit.now registers.now outputs.now) }
+    ensures text { OnOk result (out.new.items ≡ out.old.items ++ binary_text names.now circuit.now registers.now outputs.now) }
+    ensures complete { OnOk result (circuit.now.complete ≡ true) }
 {
+    if !circuit.is_complete() {
+        return Err(AllocError);
+    }
     let gates = circuit.gates();
     let inputs = u64::from(circuit.inputs()) - registers.len() as u64;
     out.extend_from_slice(b"aig ")?;

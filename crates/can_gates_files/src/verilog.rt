@@ -1,5 +1,5 @@
 //! Modules of Verilog-2001.
-ghost use Rattle.std.specs.Prelude.{◌≡◌, ◌++◌, List, OnOk};
+ghost use Rattle.std.specs.Prelude.{◌≡◌, ◌++◌, List, true, OnOk};
 ghost use Rattle.std.specs.List.{flat_map};
 ghost use Rattle.can_gates.specs.declared.aiger.Register.{Register as RegisterParts};
 ghost use Rattle.can_gates.specs.declared.literal.Literal.{Literal as Side};
@@ -17,7 +17,8 @@ use can_gates::{Circuit, Literal, Register, push_number};
 use std::alloc::{AllocError, Global};
 
 /// Appends a module: a circuit whose last inputs are what these registers hold, in their order. What comes in behind its
-/// clock, and what the registers hold, has these names in the order of the circuit's inputs.
+/// clock, and what the registers hold, has these names in the order of the circuit's inputs. It refuses where memory runs out,
+/// and a circuit that lacks a gate since it did.
 pub fn push_verilog(
     alloc: Global,
     out: &mut Vec<u8>,
@@ -26,8 +27,12 @@ pub fn push_verilog(
     registers: &[Register],
     outputs: &[Literal],
 ) -> Result<(), AllocError>
-    ensures { OnOk result (out.new.items ≡ out.old.items ++ verilog_text names.now circuit.now registers.now outputs.now) }
+    ensures text { OnOk result (out.new.items ≡ out.old.items ++ verilog_text names.now circuit.now registers.now outputs.now) }
+    ensures complete { OnOk result (circuit.now.complete ≡ true) }
 {
+    if !circuit.is_complete() {
+        return Err(AllocError);
+    }
     let held = bits_of(alloc, names.registers)?;
     let given = bits_of(alloc, names.outputs)?;
     let mut signals = bits_of(alloc, names.inputs)?;

@@ -35,7 +35,7 @@ pub fn step(
     ensures { IfOk result (λ r. Makes circuit.old circuit.new (λ v. (m : MacState) (waiting : Option Parts) (x : Level) → IsMac m → IsFrameOrNone waiting → Holds v held.now m → IsInput v inputs.now m waiting x → IsStep v r (mac_step m waiting x))) }
 {
     let state = held.wires;
-    let passive = is_passive(circuit, &held.counters.tec, &held.counters.rec)?;
+    let passive = is_passive(circuit, &held.counters.tec, &held.counters.rec);
     let now = Now {
         phase: state.phase,
         place: state.place,
@@ -50,7 +50,7 @@ pub fn step(
         seen: inputs.seen,
         agrees: inputs.agrees,
     };
-    let moved = next_move(circuit, &now, &inputs.part)?;
+    let moved = next_move(circuit, &now, &inputs.part);
     let on = count(circuit, alloc, &moved, &held.counters)?;
     let off = rest(circuit, alloc, held, inputs.seen)?;
     let is_off = held.counters.tec[8];
@@ -68,7 +68,7 @@ fn choose_controller(
 ) -> Result<Controller, AllocError>
     ensures { IfOk result (λ r. Makes circuit.old circuit.new (λ v. IsChosen v r (value v test) a.now b.now)) }
 {
-    let wires = choose_wires(circuit, test, a.wires, b.wires)?;
+    let wires = choose_wires(circuit, test, a.wires, b.wires);
     let tec = circuit.choose(alloc, test, &a.counters.tec, &b.counters.tec)?;
     let rec = circuit.choose(alloc, test, &a.counters.rec, &b.counters.rec)?;
     let occurrences = circuit.choose(
@@ -113,7 +113,7 @@ fn count(
         event: Nibble::of(WENT_OFF),
     };
     let went_off = tec[8];
-    let wires = choose_wires(circuit, went_off, off, *moved)?;
+    let wires = choose_wires(circuit, went_off, off, *moved);
     Ok(Controller {
         wires,
         counters: Counters {
@@ -134,7 +134,7 @@ fn rest(
     ensures { IfOk result (λ r. Makes circuit.old circuit.new (λ v. (m : MacState) (x : Level) → IsMac m → Holds v held.now m → is_off_phase m.phase ≡ true → value v seen ≡ is_recessive x → IsStep v r (off_step m x))) }
 {
     let state = held.wires;
-    let places = compare(circuit, state.place)?;
+    let places = compare(circuit, state.place);
     let recovery = recover(circuit, alloc, &places, seen, &held.counters.occurrences)?;
     let Recovery {
         row,

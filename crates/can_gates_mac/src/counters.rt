@@ -23,8 +23,8 @@ pub(crate) fn tec_behind(
     requires { length tec.now ≡ 9 }
     ensures { IfOk result (λ r. (length r.items ≡ 9) × Makes circuit.old circuit.new (λ v. nibble v cause < 6 → number v tec.now < 256 → number v r.items ≡ tec_after (nibble v cause) (number v tec.now))) }
 {
-    let rises = circuit.and(cause.ones, cause.twos)?;
-    let falls = circuit.and(cause.fours, cause.ones.opposite())?;
+    let rises = circuit.and(cause.ones, cause.twos);
+    let falls = circuit.and(cause.fours, cause.ones.opposite());
     let up = circuit.raised(alloc, tec, &[FALSE, FALSE, FALSE, rises])?;
     let made = circuit.lowered(alloc, &up, &[falls])?;
     Ok(made)
@@ -40,10 +40,10 @@ pub(crate) fn rec_behind(
     requires { length rec.now ≡ 8 }
     ensures { IfOk result (λ r. (length r.items ≡ 8) × Makes circuit.old circuit.new (λ v. nibble v cause < 6 → number v r.items ≡ rec_after (nibble v cause) (number v rec.now))) }
 {
-    let by_8 = circuit.and(cause.twos, cause.ones.opposite())?;
-    let odd = circuit.and(cause.ones, cause.twos.opposite())?;
-    let by_1 = circuit.and(odd, cause.fours.opposite())?;
-    let good = circuit.and(cause.fours, cause.ones)?;
+    let by_8 = circuit.and(cause.twos, cause.ones.opposite());
+    let odd = circuit.and(cause.ones, cause.twos.opposite());
+    let by_1 = circuit.and(odd, cause.fours.opposite());
+    let good = circuit.and(cause.fours, cause.ones);
     let up = circuit.raised(alloc, rec, &[by_1, FALSE, FALSE, by_8])?;
     let received = rec_received(circuit, alloc, rec)?;
     let made = circuit.choose(alloc, good, &received, &up)?;
@@ -66,16 +66,11 @@ fn rec_received(
 }
 
 /// Whether a counter is at least 128.
-pub fn is_passive(
-    circuit: &mut Circuit,
-    tec: &[Literal],
-    rec: &[Literal],
-) -> Result<Literal, AllocError>
+pub fn is_passive(circuit: &mut Circuit, tec: &[Literal], rec: &[Literal]) -> Literal
     requires tec { length tec.now ≡ 9 }
     requires rec { length rec.now ≡ 8 }
-    ensures { IfOk result (λ r. Makes circuit.old circuit.new (λ v. value v r ≡ (nat_le 128 (number v tec.now) || nat_le 128 (number v rec.now)))) }
+    ensures { Makes circuit.old circuit.new (λ v. value v result ≡ (nat_le 128 (number v tec.now) || nat_le 128 (number v rec.now))) }
 {
-    let high = circuit.or(tec[7], tec[8])?;
-    let made = circuit.or(high, rec[7])?;
-    Ok(made)
+    let high = circuit.or(tec[7], tec[8]);
+    circuit.or(high, rec[7])
 }

@@ -59,9 +59,9 @@ pub fn drive(
     let silent = sends.waits.opposite();
     let stuff = sends.last.opposite();
     let differs = sends.agrees.opposite();
-    let of_sender = circuit.ite(sends.due, stuff, sends.sent)?;
-    let of_part = circuit.or(receiver, of_sender)?;
-    let of_slot = circuit.or(held.wires.sender, differs)?;
+    let of_sender = circuit.ite(sends.due, stuff, sends.sent);
+    let of_part = circuit.or(receiver, of_sender);
+    let of_slot = circuit.or(held.wires.sender, differs);
     // in the order of the phases' numbers
     let items = [
         silent, TRUE, of_part, TRUE, of_slot, TRUE, TRUE, FALSE, TRUE, FALSE, TRUE, TRUE, TRUE,
@@ -73,27 +73,22 @@ pub fn drive(
 }
 
 /// What a level is to the run of equal levels before it, of which the last was recessive or not.
-pub fn stuffing(
-    circuit: &mut Circuit,
-    last: Literal,
-    run: Nibble,
-    seen: Literal,
-) -> Result<StuffPlace, AllocError>
-    ensures { IfOk result (λ r. Makes circuit.old circuit.new (λ v. (front : FrontParts) (x : Level) → HoldsRun v last run front → front.run ≤ 5 → value v seen ≡ is_recessive x → (value v r.due ≡ (front.run == 5)) × ((value v r.repeats ≡ same x front.last) × HoldsRun v r.last r.run (heard_level front x)))) }
+pub fn stuffing(circuit: &mut Circuit, last: Literal, run: Nibble, seen: Literal) -> StuffPlace
+    ensures { Makes circuit.old circuit.new (λ v. (front : FrontParts) (x : Level) → HoldsRun v last run front → front.run ≤ 5 → value v seen ≡ is_recessive x → (value v result.due ≡ (front.run == 5)) × ((value v result.repeats ≡ same x front.last) × HoldsRun v result.last result.run (heard_level front x))) }
 {
-    let due = circuit.and(run.ones, run.fours)?;
-    let differs = circuit.xor(seen, last)?;
+    let due = circuit.and(run.ones, run.fours);
+    let differs = circuit.xor(seen, last);
     let repeats = differs.opposite();
     let plain = due.opposite();
-    let grows = circuit.and(plain, repeats)?;
-    let next = run.next(circuit)?;
-    let behind = Nibble::choose(circuit, grows, next, Nibble::of(1))?;
-    Ok(StuffPlace {
+    let grows = circuit.and(plain, repeats);
+    let next = run.next(circuit);
+    let behind = Nibble::choose(circuit, grows, next, Nibble::of(1));
+    StuffPlace {
         due,
         repeats,
         last: seen,
         run: behind,
-    })
+    }
 }
 
 /// The first place behind the arbitration of a standard frame.
@@ -115,6 +110,6 @@ pub fn arbitrates(
     let long = constant(alloc, BEHIND_EXTENDED, 6)?;
     let short = constant(alloc, BEHIND_STANDARD, 6)?;
     let bound = circuit.choose(alloc, extended, &long, &short)?;
-    let made = circuit.less(count, &bound)?;
+    let made = circuit.less(count, &bound);
     Ok(made)
 }

@@ -5,7 +5,7 @@ pub(crate) mod flags;
 pub(crate) mod frame_end;
 pub(crate) mod stuffed_part;
 
-ghost use Rattle.std.specs.Prelude.{◌≡◌, ℕ, Bool, false, Option, IfOk};
+ghost use Rattle.std.specs.Prelude.{◌≡◌, ℕ, Bool, false, Option};
 ghost use Rattle.can_frame.specs.declared.level.Level.{Level};
 ghost use Rattle.can_frame.specs.Parts.{Parts};
 ghost use Rattle.can_mac.specs.declared.moves.Stance.{Stance};
@@ -25,28 +25,27 @@ use between_frames::{idle, intermission, joining, suspend};
 use can_gates::Circuit;
 use flags::{after_flag, delimiter, error_flag, overload_flag, passive_flag};
 use frame_end::{ack_delimiter, ack_slot, crc_delimiter, end_of_frame};
-use std::alloc::AllocError;
 use stuffed_part::stuffed_part;
 
 /// The move from any phase on the bus.
-pub(crate) fn next_move(circuit: &mut Circuit, now: &Now, part: &Part) -> Result<Wires, AllocError>
-    ensures { IfOk result (λ r. Makes circuit.old circuit.new (λ v. (s : Stance) (p : MacPhase) (waiting : Option Parts) (x : Level) → IsNow v now.now s p waiting x → nibble v now.now.phase ≡ phase_number p → IsPartIn v part.now s.role p x → is_off_phase p ≡ false → shown v r ≡ numbers (move s p waiting x))) }
+pub(crate) fn next_move(circuit: &mut Circuit, now: &Now, part: &Part) -> Wires
+    ensures { Makes circuit.old circuit.new (λ v. (s : Stance) (p : MacPhase) (waiting : Option Parts) (x : Level) → IsNow v now.now s p waiting x → nibble v now.now.phase ≡ phase_number p → IsPartIn v part.now s.role p x → is_off_phase p ≡ false → shown v result ≡ numbers (move s p waiting x)) }
 {
-    let senses = sense(circuit, now)?;
-    let idle = idle(circuit, &senses)?;
-    let joining = joining(circuit, &senses)?;
-    let part = stuffed_part(circuit, &senses, part)?;
-    let crc_delimiter = crc_delimiter(circuit, &senses)?;
-    let ack_slot = ack_slot(circuit, &senses)?;
-    let ack_delimiter = ack_delimiter(circuit, &senses)?;
-    let end_of_frame = end_of_frame(circuit, &senses)?;
-    let error_flag = error_flag(circuit, &senses)?;
-    let passive_flag = passive_flag(circuit, &senses)?;
-    let overload_flag = overload_flag(circuit, &senses)?;
-    let after_flag = after_flag(circuit, &senses)?;
-    let delimiter = delimiter(circuit, &senses)?;
-    let intermission = intermission(circuit, &senses)?;
-    let suspend = suspend(circuit, &senses)?;
+    let senses = sense(circuit, now);
+    let idle = idle(circuit, &senses);
+    let joining = joining(circuit, &senses);
+    let part = stuffed_part(circuit, &senses, part);
+    let crc_delimiter = crc_delimiter(circuit, &senses);
+    let ack_slot = ack_slot(circuit, &senses);
+    let ack_delimiter = ack_delimiter(circuit, &senses);
+    let end_of_frame = end_of_frame(circuit, &senses);
+    let error_flag = error_flag(circuit, &senses);
+    let passive_flag = passive_flag(circuit, &senses);
+    let overload_flag = overload_flag(circuit, &senses);
+    let after_flag = after_flag(circuit, &senses);
+    let delimiter = delimiter(circuit, &senses);
+    let intermission = intermission(circuit, &senses);
+    let suspend = suspend(circuit, &senses);
     // in the order of the phases' numbers
     let items = [
         idle,
@@ -66,6 +65,5 @@ pub(crate) fn next_move(circuit: &mut Circuit, now: &Now, part: &Part) -> Result
     ];
     let phase = now.phase;
     let place = [phase.ones, phase.twos, phase.fours, phase.eights];
-    let made = select_wires(circuit, &items, &place, idle)?;
-    Ok(made)
+    select_wires(circuit, &items, &place, idle)
 }

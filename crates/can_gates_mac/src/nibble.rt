@@ -1,11 +1,10 @@
 //! Numbers below 16.
-ghost use Rattle.std.specs.Prelude.{◌≡◌, ◌+◌, ◌%◌, ◌<◌, ℕ, Bool, false, nat_lt, if◌then◌else◌, IfOk};
+ghost use Rattle.std.specs.Prelude.{◌≡◌, ◌+◌, ◌%◌, ◌<◌, ℕ, Bool, false, nat_lt, if◌then◌else◌};
 ghost use Rattle.can_gates.specs.Circuit.{value, Makes};
 ghost use Rattle.can_gates.specs.Words.{bit};
 ghost use Rattle.can_gates_mac.specs.Nibbles.{nibble};
 
 use can_gates::{Circuit, FALSE, Literal, TRUE};
-use std::alloc::AllocError;
 
 /// A number below 16, of four literals.
 #[derive(Clone, Copy, Debug)]
@@ -35,54 +34,48 @@ impl Nibble {
     }
 
     /// The one number where the test holds, else the other one.
-    pub fn choose(
-        circuit: &mut Circuit,
-        test: Literal,
-        a: Nibble,
-        b: Nibble,
-    ) -> Result<Nibble, AllocError>
-        ensures { IfOk result (λ r. Makes circuit.old circuit.new (λ v. nibble v r ≡ (if value v test then nibble v a else nibble v b))) }
+    pub fn choose(circuit: &mut Circuit, test: Literal, a: Nibble, b: Nibble) -> Nibble
+        ensures { Makes circuit.old circuit.new (λ v. nibble v result ≡ (if value v test then nibble v a else nibble v b)) }
     {
-        let ones = circuit.ite(test, a.ones, b.ones)?;
-        let twos = circuit.ite(test, a.twos, b.twos)?;
-        let fours = circuit.ite(test, a.fours, b.fours)?;
-        let eights = circuit.ite(test, a.eights, b.eights)?;
-        Ok(Nibble {
+        let ones = circuit.ite(test, a.ones, b.ones);
+        let twos = circuit.ite(test, a.twos, b.twos);
+        let fours = circuit.ite(test, a.fours, b.fours);
+        let eights = circuit.ite(test, a.eights, b.eights);
+        Nibble {
             ones,
             twos,
             fours,
             eights,
-        })
+        }
     }
 
     /// Whether it is less than a bound.
-    pub fn less(self, circuit: &mut Circuit, bound: u8) -> Result<Literal, AllocError>
+    pub fn less(self, circuit: &mut Circuit, bound: u8) -> Literal
         requires { bound < 16 }
-        ensures { IfOk result (λ r. Makes circuit.old circuit.new (λ v. value v r ≡ nat_lt (nibble v self) bound)) }
+        ensures { Makes circuit.old circuit.new (λ v. value v result ≡ nat_lt (nibble v self) bound) }
     {
         let most = Nibble::of(bound);
-        let made = circuit.less(
+        circuit.less(
             &[self.ones, self.twos, self.fours, self.eights],
             &[most.ones, most.twos, most.fours, most.eights],
-        )?;
-        Ok(made)
+        )
     }
 
     /// One more than a number below 15.
-    pub(crate) fn next(self, circuit: &mut Circuit) -> Result<Nibble, AllocError>
-        ensures { IfOk result (λ r. Makes circuit.old circuit.new (λ v. nibble v self < 15 → nibble v r ≡ nibble v self + 1)) }
+    pub(crate) fn next(self, circuit: &mut Circuit) -> Nibble
+        ensures { Makes circuit.old circuit.new (λ v. nibble v self < 15 → nibble v result ≡ nibble v self + 1) }
     {
-        let twos = circuit.xor(self.twos, self.ones)?;
-        let two = circuit.and(self.ones, self.twos)?;
-        let fours = circuit.xor(self.fours, two)?;
-        let three = circuit.and(two, self.fours)?;
-        let eights = circuit.xor(self.eights, three)?;
-        Ok(Nibble {
+        let twos = circuit.xor(self.twos, self.ones);
+        let two = circuit.and(self.ones, self.twos);
+        let fours = circuit.xor(self.fours, two);
+        let three = circuit.and(two, self.fours);
+        let eights = circuit.xor(self.eights, three);
+        Nibble {
             ones: self.ones.opposite(),
             twos,
             fours,
             eights,
-        })
+        }
     }
 }
 

@@ -37,9 +37,9 @@ pub(crate) fn recover(
     ensures { IfOk result (λ r. (length r.occurrences.items ≡ 7) × Makes circuit.old circuit.new (λ v. (c : ConfineParts) (x : Level) → is_bus_off c ≡ true → c.row < 11 → c.occurrences < 128 → IsPlaced v places.now c.row → value v seen ≡ is_recessive x → number v occurrences.now ≡ c.occurrences → Recovers v r.row r.occurrences.items r.ended c x)) }
 {
     let late = places.below_10.opposite();
-    let early = circuit.and(seen, places.below_10)?;
-    let full = circuit.and(seen, late)?;
-    let row = Nibble::choose(circuit, early, places.next, Nibble::of(0))?;
+    let early = circuit.and(seen, places.below_10);
+    let full = circuit.and(seen, late);
+    let row = Nibble::choose(circuit, early, places.next, Nibble::of(0));
     let sum = circuit.add(alloc, occurrences, &[full], FALSE)?;
     Ok(Recovery {
         row,

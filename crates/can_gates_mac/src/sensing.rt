@@ -1,5 +1,5 @@
 //! How what the moves read is made.
-ghost use Rattle.std.specs.Prelude.{◌≡◌, ◌+◌, ◌-◌, ◌<◌, ◌≤◌, ℕ, Bool, true, false, not, nat_lt, ◌&&◌, if◌then◌else◌, Option, IfOk};
+ghost use Rattle.std.specs.Prelude.{◌≡◌, ◌+◌, ◌-◌, ◌<◌, ◌≤◌, ℕ, Bool, true, false, not, nat_lt, ◌&&◌, if◌then◌else◌, Option};
 ghost use Rattle.can_frame.specs.declared.level.Level.{Level};
 ghost use Rattle.can_frame.specs.Parts.{Parts};
 ghost use Rattle.can_mac.specs.declared.moves.Stance.{Stance};
@@ -12,27 +12,26 @@ use crate::nibble::Nibble;
 use crate::senses::{Places, Senses};
 use crate::wires::Now;
 use can_gates::{Circuit, FALSE, Literal, TRUE};
-use std::alloc::AllocError;
 
 /// What all moves read.
-pub(crate) fn sense(circuit: &mut Circuit, now: &Now) -> Result<Senses, AllocError>
-    ensures { IfOk result (λ r. Makes circuit.old circuit.new (λ v. (s : Stance) (p : MacPhase) (waiting : Option Parts) (x : Level) → IsNow v now.now s p waiting x → IsSensed v r s p waiting x)) }
+pub(crate) fn sense(circuit: &mut Circuit, now: &Now) -> Senses
+    ensures { Makes circuit.old circuit.new (λ v. (s : Stance) (p : MacPhase) (waiting : Option Parts) (x : Level) → IsNow v now.now s p waiting x → IsSensed v result s p waiting x) }
 {
     let receiver = now.sender.opposite();
     let dominant = now.seen.opposite();
     let differs = now.agrees.opposite();
-    let places = compare(circuit, now.place)?;
-    let held_back = circuit.and(now.sender, now.passive)?;
+    let places = compare(circuit, now.place);
+    let held_back = circuit.and(now.sender, now.passive);
     let free = held_back.opposite();
-    let asks = asks(circuit, now.pending, now.used)?;
-    let starts = circuit.and(now.waits, free)?;
-    let refuses = circuit.and(receiver, differs)?;
-    let still = circuit.and(now.unacknowledged, now.seen)?;
-    let counts = circuit.and(now.unacknowledged, dominant)?;
-    let run = run_behind(circuit, now.last, now.seen, places.next)?;
-    let run_below_6 = run.less(circuit, 6)?;
-    let first = circuit.and(receiver, now.first)?;
-    Ok(Senses {
+    let asks = asks(circuit, now.pending, now.used);
+    let starts = circuit.and(now.waits, free);
+    let refuses = circuit.and(receiver, differs);
+    let still = circuit.and(now.unacknowledged, now.seen);
+    let counts = circuit.and(now.unacknowledged, dominant);
+    let run = run_behind(circuit, now.last, now.seen, places.next);
+    let run_below_6 = run.less(circuit, 6);
+    let first = circuit.and(receiver, now.first);
+    Senses {
         passive: now.passive,
         sender: now.sender,
         receiver,
@@ -58,50 +57,43 @@ pub(crate) fn sense(circuit: &mut Circuit, now: &Now) -> Result<Senses, AllocErr
         error_cause: error_cause_of(now.sender),
         flag_bit_cause: flag_bit_cause_of(now.sender),
         form_kind: form_kind_of(now.sender),
-    })
+    }
 }
 
 /// How a place compares, and the next one.
-pub(crate) fn compare(circuit: &mut Circuit, place: Nibble) -> Result<Places, AllocError>
-    ensures { IfOk result (λ r. Makes circuit.old circuit.new (λ v. IsPlaced v r (nibble v place))) }
+pub(crate) fn compare(circuit: &mut Circuit, place: Nibble) -> Places
+    ensures { Makes circuit.old circuit.new (λ v. IsPlaced v result (nibble v place)) }
 {
-    let below_2 = place.less(circuit, 2)?;
-    let below_5 = place.less(circuit, 5)?;
-    let below_6 = place.less(circuit, 6)?;
-    let below_7 = place.less(circuit, 7)?;
-    let below_10 = place.less(circuit, 10)?;
-    let next = place.next(circuit)?;
-    Ok(Places {
+    let below_2 = place.less(circuit, 2);
+    let below_5 = place.less(circuit, 5);
+    let below_6 = place.less(circuit, 6);
+    let below_7 = place.less(circuit, 7);
+    let below_10 = place.less(circuit, 10);
+    let next = place.next(circuit);
+    Places {
         below_2,
         below_5,
         below_6,
         below_7,
         below_10,
         next,
-    })
+    }
 }
 
 /// Whether an overload frame of its own is asked for and can be started. (Bosch CAN 2.0 part B, section 3.2.4)
-fn asks(circuit: &mut Circuit, pending: Nibble, used: Nibble) -> Result<Literal, AllocError>
-    ensures { IfOk result (λ r. Makes circuit.old circuit.new (λ v. nibble v pending ≤ 2 → nibble v used ≤ 2 → value v r ≡ (nat_lt 0 (nibble v pending) && nat_lt (nibble v used) 2))) }
+fn asks(circuit: &mut Circuit, pending: Nibble, used: Nibble) -> Literal
+    ensures { Makes circuit.old circuit.new (λ v. nibble v pending ≤ 2 → nibble v used ≤ 2 → value v result ≡ (nat_lt 0 (nibble v pending) && nat_lt (nibble v used) 2)) }
 {
-    let some = circuit.or(pending.ones, pending.twos)?;
-    let made = circuit.and(some, used.twos.opposite())?;
-    Ok(made)
+    let some = circuit.or(pending.ones, pending.twos);
+    circuit.and(some, used.twos.opposite())
 }
 
 /// How many equal levels in a row a passive flag has, with the level that is seen.
-fn run_behind(
-    circuit: &mut Circuit,
-    last: Literal,
-    seen: Literal,
-    next: Nibble,
-) -> Result<Nibble, AllocError>
-    ensures { IfOk result (λ r. Makes circuit.old circuit.new (λ v. nibble v r ≡ (if differ (value v last) (value v seen) then 1 else nibble v next))) }
+fn run_behind(circuit: &mut Circuit, last: Literal, seen: Literal, next: Nibble) -> Nibble
+    ensures { Makes circuit.old circuit.new (λ v. nibble v result ≡ (if differ (value v last) (value v seen) then 1 else nibble v next)) }
 {
-    let differs = circuit.xor(last, seen)?;
-    let made = Nibble::choose(circuit, differs, Nibble::of(1), next)?;
-    Ok(made)
+    let differs = circuit.xor(last, seen);
+    Nibble::choose(circuit, differs, Nibble::of(1), next)
 }
 
 /// One less than at most two.

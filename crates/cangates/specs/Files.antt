@@ -1,5 +1,5 @@
 -- What a run of `cangates` writes: a file of a controller's circuit. (docs/CIRCUIT.md)
-use Rattle.std.specs.Prelude.{ℕ, ◌≡◌, ◌≢◌, ◌<◌, Bool, IsTrue, List, Option, Result, Ok, Err}
+use Rattle.std.specs.Prelude.{ℕ, ◌≡◌, ◌≢◌, ◌<◌, Bool, true, IsTrue, List, Option, Result, Ok, Err}
 use Rattle.std.specs.Io.KnownBytes.{Appends, Keeps}
 use Rattle.can_gates.specs.declared.literal.Literal.{Literal}
 use Rattle.can_gates.specs.declared.aiger.Register.{Register}
@@ -24,11 +24,12 @@ text_in Verilog n c registers outputs = verilog_text n c registers outputs
 text_in Ascii n c registers outputs = ascii_text n c registers outputs
 text_in Binary n c registers outputs = binary_text n c registers outputs
 
--- the text is that of a circuit that is can_mac's own controller: at first, behind a reset, in each step and in each run.
+-- the text is that of a complete circuit that is can_mac's own controller: at first, behind a reset, in each step and in each run.
 -- What comes in, is held and goes out has the names of Ports.antt there, in their order, and a line of meaning each
 pub record IsFile (form : Form) (text : List ℕ) : Type 0 where
   pub names : Names
   pub design : Design
+  pub complete : design.circuit.complete ≡ true
   pub starts : StartsIdle design
   pub resets : Resets design
   pub steps : IsController design

@@ -1,5 +1,5 @@
 //! Joining, idle, intermission and suspend transmission. (Bosch CAN 2.0 part B, section 3.2.5)
-ghost use Rattle.std.specs.Prelude.{◌≡◌, ℕ, Bool, IfOk};
+ghost use Rattle.std.specs.Prelude.{◌≡◌, ℕ, Bool};
 ghost use Rattle.can_mac.specs.declared.phase.Phase.TheVariants.{Joining, Idle, Intermission, Suspend};
 ghost use Rattle.can_gates.specs.Circuit.{Makes};
 ghost use Rattle.can_gates_mac.specs.Shows.{ShowsMove};
@@ -13,11 +13,10 @@ use crate::numbers::{
 use crate::senses::Senses;
 use crate::wires::{Row, Wires};
 use can_gates::{Circuit, FALSE, TRUE};
-use std::alloc::AllocError;
 
 /// A controller that isn't on the bus yet.
-pub(crate) fn joining(circuit: &mut Circuit, senses: &Senses) -> Result<Wires, AllocError>
-    ensures { IfOk result (λ r. Makes circuit.old circuit.new (λ v. (n : ℕ) → ShowsMove v senses.now r (Joining n))) }
+pub(crate) fn joining(circuit: &mut Circuit, senses: &Senses) -> Wires
+    ensures { Makes circuit.old circuit.new (λ v. (n : ℕ) → ShowsMove v senses.now result (Joining n)) }
 {
     let zero = Nibble::of(0);
     let anew = senses.goes(JOINING, zero, UNCOUNTED, UNTOLD);
@@ -27,13 +26,12 @@ pub(crate) fn joining(circuit: &mut Circuit, senses: &Senses) -> Result<Wires, A
         Row(TRUE, senses.dominant, anew),
         Row(TRUE, senses.places.below_10, on),
     ];
-    let made = first_row(circuit, &rows, ended)?;
-    Ok(made)
+    first_row(circuit, &rows, ended)
 }
 
 /// An idle controller.
-pub(crate) fn idle(circuit: &mut Circuit, senses: &Senses) -> Result<Wires, AllocError>
-    ensures { IfOk result (λ r. Makes circuit.old circuit.new (λ v. ShowsMove v senses.now r Idle)) }
+pub(crate) fn idle(circuit: &mut Circuit, senses: &Senses) -> Wires
+    ensures { Makes circuit.old circuit.new (λ v. ShowsMove v senses.now result Idle) }
 {
     let zero = Nibble::of(0);
     let cause = Nibble::of(SENDER_BY_8);
@@ -48,13 +46,12 @@ pub(crate) fn idle(circuit: &mut Circuit, senses: &Senses) -> Result<Wires, Allo
         Row(TRUE, senses.dominant, other),
         Row(TRUE, senses.waits, unheard),
     ];
-    let made = first_row(circuit, &rows, stays)?;
-    Ok(made)
+    first_row(circuit, &rows, stays)
 }
 
 /// Intermission.
-pub(crate) fn intermission(circuit: &mut Circuit, senses: &Senses) -> Result<Wires, AllocError>
-    ensures { IfOk result (λ r. Makes circuit.old circuit.new (λ v. (n : ℕ) → ShowsMove v senses.now r (Intermission n))) }
+pub(crate) fn intermission(circuit: &mut Circuit, senses: &Senses) -> Wires
+    ensures { Makes circuit.old circuit.new (λ v. (n : ℕ) → ShowsMove v senses.now result (Intermission n)) }
 {
     let zero = Nibble::of(0);
     let overload = senses.goes(OVERLOAD_FLAG, zero, UNCOUNTED, OVERLOAD);
@@ -68,13 +65,12 @@ pub(crate) fn intermission(circuit: &mut Circuit, senses: &Senses) -> Result<Wir
         Row(TRUE, senses.places.below_2, on),
         Row(TRUE, senses.held_back, waits),
     ];
-    let made = first_row(circuit, &rows, ended)?;
-    Ok(made)
+    first_row(circuit, &rows, ended)
 }
 
 /// Suspend transmission.
-pub(crate) fn suspend(circuit: &mut Circuit, senses: &Senses) -> Result<Wires, AllocError>
-    ensures { IfOk result (λ r. Makes circuit.old circuit.new (λ v. (n : ℕ) → ShowsMove v senses.now r (Suspend n))) }
+pub(crate) fn suspend(circuit: &mut Circuit, senses: &Senses) -> Wires
+    ensures { Makes circuit.old circuit.new (λ v. (n : ℕ) → ShowsMove v senses.now result (Suspend n)) }
 {
     let begun = senses.begins_frame(FALSE);
     let on = senses.goes(SUSPEND, senses.places.next, UNCOUNTED, UNTOLD);
@@ -83,6 +79,5 @@ pub(crate) fn suspend(circuit: &mut Circuit, senses: &Senses) -> Result<Wires, A
         Row(TRUE, senses.dominant, begun),
         Row(TRUE, senses.places.below_7, on),
     ];
-    let made = first_row(circuit, &rows, ended)?;
-    Ok(made)
+    first_row(circuit, &rows, ended)
 }

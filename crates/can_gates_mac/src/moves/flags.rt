@@ -1,5 +1,5 @@
 //! Error flags, overload flags and their delimiters. (Bosch CAN 2.0 part B, sections 3.2.3, 3.2.4 and 8)
-ghost use Rattle.std.specs.Prelude.{◌≡◌, ℕ, Bool, IfOk};
+ghost use Rattle.std.specs.Prelude.{◌≡◌, ℕ, Bool};
 ghost use Rattle.can_frame.specs.declared.level.Level.{Level};
 ghost use Rattle.can_mac.specs.declared.phase.Phase.TheVariants.{ErrorFlag, PassiveFlag, OverloadFlag, AfterFlag, Delimiter};
 ghost use Rattle.can_gates.specs.Circuit.{Makes};
@@ -14,11 +14,10 @@ use crate::numbers::{
 use crate::senses::Senses;
 use crate::wires::{Row, Wires};
 use can_gates::{Circuit, FALSE, TRUE};
-use std::alloc::AllocError;
 
 /// An active error flag.
-pub(crate) fn error_flag(circuit: &mut Circuit, senses: &Senses) -> Result<Wires, AllocError>
-    ensures { IfOk result (λ r. Makes circuit.old circuit.new (λ v. (n : ℕ) → ShowsMove v senses.now r (ErrorFlag n))) }
+pub(crate) fn error_flag(circuit: &mut Circuit, senses: &Senses) -> Wires
+    ensures { Makes circuit.old circuit.new (λ v. (n : ℕ) → ShowsMove v senses.now result (ErrorFlag n)) }
 {
     let wrong = senses.errs_in_flag();
     let on = senses.goes(ERROR_FLAG, senses.places.next, UNCOUNTED, UNTOLD);
@@ -27,13 +26,12 @@ pub(crate) fn error_flag(circuit: &mut Circuit, senses: &Senses) -> Result<Wires
         Row(TRUE, senses.recessive, wrong),
         Row(TRUE, senses.places.below_5, on),
     ];
-    let made = first_row(circuit, &rows, ended)?;
-    Ok(made)
+    first_row(circuit, &rows, ended)
 }
 
 /// An overload flag.
-pub(crate) fn overload_flag(circuit: &mut Circuit, senses: &Senses) -> Result<Wires, AllocError>
-    ensures { IfOk result (λ r. Makes circuit.old circuit.new (λ v. (n : ℕ) → ShowsMove v senses.now r (OverloadFlag n))) }
+pub(crate) fn overload_flag(circuit: &mut Circuit, senses: &Senses) -> Wires
+    ensures { Makes circuit.old circuit.new (λ v. (n : ℕ) → ShowsMove v senses.now result (OverloadFlag n)) }
 {
     let zero = Nibble::of(0);
     let wrong = senses.errs_in_flag();
@@ -43,13 +41,12 @@ pub(crate) fn overload_flag(circuit: &mut Circuit, senses: &Senses) -> Result<Wi
         Row(TRUE, senses.recessive, wrong),
         Row(TRUE, senses.places.below_5, on),
     ];
-    let made = first_row(circuit, &rows, ended)?;
-    Ok(made)
+    first_row(circuit, &rows, ended)
 }
 
 /// A passive error flag.
-pub(crate) fn passive_flag(circuit: &mut Circuit, senses: &Senses) -> Result<Wires, AllocError>
-    ensures { IfOk result (λ r. Makes circuit.old circuit.new (λ v. (last : Level) (n : ℕ) (u : Bool) → ShowsMove v senses.now r (PassiveFlag last n u))) }
+pub(crate) fn passive_flag(circuit: &mut Circuit, senses: &Senses) -> Wires
+    ensures { Makes circuit.old circuit.new (λ v. (last : Level) (n : ℕ) (u : Bool) → ShowsMove v senses.now result (PassiveFlag last n u)) }
 {
     let counted = senses.stays_in_passive_flag(FALSE, SENDER_BY_8);
     let on = senses.stays_in_passive_flag(senses.still, UNCOUNTED);
@@ -60,13 +57,12 @@ pub(crate) fn passive_flag(circuit: &mut Circuit, senses: &Senses) -> Result<Wir
         Row(TRUE, senses.run_below_6, on),
         Row(TRUE, senses.counts, counted_last),
     ];
-    let made = first_row(circuit, &rows, ended)?;
-    Ok(made)
+    first_row(circuit, &rows, ended)
 }
 
 /// The levels between a flag and its delimiter.
-pub(crate) fn after_flag(circuit: &mut Circuit, senses: &Senses) -> Result<Wires, AllocError>
-    ensures { IfOk result (λ r. Makes circuit.old circuit.new (λ v. (first : Bool) (n : ℕ) → ShowsMove v senses.now r (AfterFlag first n))) }
+pub(crate) fn after_flag(circuit: &mut Circuit, senses: &Senses) -> Wires
+    ensures { Makes circuit.old circuit.new (λ v. (first : Bool) (n : ℕ) → ShowsMove v senses.now result (AfterFlag first n)) }
 {
     let zero = Nibble::of(0);
     let one = Nibble::of(1);
@@ -81,13 +77,12 @@ pub(crate) fn after_flag(circuit: &mut Circuit, senses: &Senses) -> Result<Wires
         Row(TRUE, senses.places.below_7, on),
         Row(TRUE, senses.receiver, counted),
     ];
-    let made = first_row(circuit, &rows, blamed)?;
-    Ok(made)
+    first_row(circuit, &rows, blamed)
 }
 
 /// The delimiter behind a flag.
-pub(crate) fn delimiter(circuit: &mut Circuit, senses: &Senses) -> Result<Wires, AllocError>
-    ensures { IfOk result (λ r. Makes circuit.old circuit.new (λ v. (n : ℕ) → ShowsMove v senses.now r (Delimiter n))) }
+pub(crate) fn delimiter(circuit: &mut Circuit, senses: &Senses) -> Wires
+    ensures { Makes circuit.old circuit.new (λ v. (n : ℕ) → ShowsMove v senses.now result (Delimiter n)) }
 {
     let zero = Nibble::of(0);
     let form = Nibble::of(FORM_ERROR);
@@ -102,6 +97,5 @@ pub(crate) fn delimiter(circuit: &mut Circuit, senses: &Senses) -> Result<Wires,
         Row(TRUE, senses.places.below_7, on),
         Row(senses.receiver, senses.asks, own),
     ];
-    let made = first_row(circuit, &rows, ended)?;
-    Ok(made)
+    first_row(circuit, &rows, ended)
 }

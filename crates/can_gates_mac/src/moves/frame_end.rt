@@ -1,6 +1,6 @@
 //! The end of a frame: CRC delimiter, ACK slot, ACK delimiter and end of frame. (Bosch CAN 2.0 part B, sections 3.2.1,
 //! 5 and 7)
-ghost use Rattle.std.specs.Prelude.{◌≡◌, ℕ, Bool, IfOk};
+ghost use Rattle.std.specs.Prelude.{◌≡◌, ℕ, Bool};
 ghost use Rattle.can_mac.specs.declared.phase.Reading.{Reading};
 ghost use Rattle.can_mac.specs.declared.phase.Phase.TheVariants.{CrcDelimiter, AckSlot, AckDelimiter, EndOfFrame};
 ghost use Rattle.can_gates.specs.Circuit.{Makes};
@@ -16,26 +16,24 @@ use crate::numbers::{
 use crate::senses::Senses;
 use crate::wires::{Row, Wires};
 use can_gates::{Circuit, TRUE};
-use std::alloc::AllocError;
 
 /// The last place of the end of frame.
 const LAST_OF_FRAME: u8 = 6;
 
 /// The CRC delimiter.
-pub(crate) fn crc_delimiter(circuit: &mut Circuit, senses: &Senses) -> Result<Wires, AllocError>
-    ensures { IfOk result (λ r. Makes circuit.old circuit.new (λ v. (reading : Reading) → ShowsMove v senses.now r (CrcDelimiter reading))) }
+pub(crate) fn crc_delimiter(circuit: &mut Circuit, senses: &Senses) -> Wires
+    ensures { Makes circuit.old circuit.new (λ v. (reading : Reading) → ShowsMove v senses.now result (CrcDelimiter reading)) }
 {
     let zero = Nibble::of(0);
     let on = senses.goes(ACK_SLOT, zero, UNCOUNTED, UNTOLD);
     let wrong = senses.errs(senses.form_kind);
     let rows = [Row(TRUE, senses.recessive, on)];
-    let made = first_row(circuit, &rows, wrong)?;
-    Ok(made)
+    first_row(circuit, &rows, wrong)
 }
 
 /// The ACK slot.
-pub(crate) fn ack_slot(circuit: &mut Circuit, senses: &Senses) -> Result<Wires, AllocError>
-    ensures { IfOk result (λ r. Makes circuit.old circuit.new (λ v. (reading : Reading) → ShowsMove v senses.now r (AckSlot reading))) }
+pub(crate) fn ack_slot(circuit: &mut Circuit, senses: &Senses) -> Wires
+    ensures { Makes circuit.old circuit.new (λ v. (reading : Reading) → ShowsMove v senses.now result (AckSlot reading)) }
 {
     let zero = Nibble::of(0);
     let bit = Nibble::of(BIT_ERROR);
@@ -53,13 +51,12 @@ pub(crate) fn ack_slot(circuit: &mut Circuit, senses: &Senses) -> Result<Wires, 
         Row(senses.dominant, senses.agrees, received),
         Row(senses.recessive, senses.agrees, unheard),
     ];
-    let made = first_row(circuit, &rows, listens)?;
-    Ok(made)
+    first_row(circuit, &rows, listens)
 }
 
 /// The ACK delimiter.
-pub(crate) fn ack_delimiter(circuit: &mut Circuit, senses: &Senses) -> Result<Wires, AllocError>
-    ensures { IfOk result (λ r. Makes circuit.old circuit.new (λ v. (reading : Reading) → ShowsMove v senses.now r (AckDelimiter reading))) }
+pub(crate) fn ack_delimiter(circuit: &mut Circuit, senses: &Senses) -> Wires
+    ensures { Makes circuit.old circuit.new (λ v. (reading : Reading) → ShowsMove v senses.now result (AckDelimiter reading)) }
 {
     let zero = Nibble::of(0);
     let crc = Nibble::of(CRC_ERROR);
@@ -70,13 +67,12 @@ pub(crate) fn ack_delimiter(circuit: &mut Circuit, senses: &Senses) -> Result<Wi
         Row(TRUE, senses.dominant, wrong),
         Row(TRUE, senses.refuses, differs),
     ];
-    let made = first_row(circuit, &rows, on)?;
-    Ok(made)
+    first_row(circuit, &rows, on)
 }
 
 /// The end of frame.
-pub(crate) fn end_of_frame(circuit: &mut Circuit, senses: &Senses) -> Result<Wires, AllocError>
-    ensures { IfOk result (λ r. Makes circuit.old circuit.new (λ v. (reading : Reading) (n : ℕ) → ShowsMove v senses.now r (EndOfFrame reading n))) }
+pub(crate) fn end_of_frame(circuit: &mut Circuit, senses: &Senses) -> Wires
+    ensures { Makes circuit.old circuit.new (λ v. (reading : Reading) (n : ℕ) → ShowsMove v senses.now result (EndOfFrame reading n)) }
 {
     let zero = Nibble::of(0);
     let bit = Nibble::of(BIT_ERROR);
@@ -101,6 +97,5 @@ pub(crate) fn end_of_frame(circuit: &mut Circuit, senses: &Senses) -> Result<Wir
         Row(TRUE, senses.places.below_6, received),
         Row(TRUE, senses.asks, own),
     ];
-    let made = first_row(circuit, &rows, ended)?;
-    Ok(made)
+    first_row(circuit, &rows, ended)
 }

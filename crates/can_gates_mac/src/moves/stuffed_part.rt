@@ -1,5 +1,5 @@
 //! The stuffed part of a frame, by what is read of its front. (Bosch CAN 2.0 part B, sections 3.2.1, 6, 7.1 and 8)
-ghost use Rattle.std.specs.Prelude.{◌≡◌, ℕ, Bool, IfOk};
+ghost use Rattle.std.specs.Prelude.{◌≡◌, ℕ, Bool};
 ghost use Rattle.can_gates.specs.Circuit.{Makes};
 ghost use Rattle.can_gates_mac.specs.Shows.{ShowsPart};
 
@@ -9,29 +9,24 @@ use crate::numbers::{BIT_ERROR, CRC_DELIMITER, STUFF_ERROR, STUFFED_PART, UNCOUN
 use crate::senses::Senses;
 use crate::wires::{Part, Row, Wires};
 use can_gates::{Circuit, TRUE};
-use std::alloc::AllocError;
 
 /// The stuffed part of a frame.
-pub(crate) fn stuffed_part(
-    circuit: &mut Circuit,
-    senses: &Senses,
-    part: &Part,
-) -> Result<Wires, AllocError>
-    ensures { IfOk result (λ r. Makes circuit.old circuit.new (λ v. ShowsPart v senses.now part.now r)) }
+pub(crate) fn stuffed_part(circuit: &mut Circuit, senses: &Senses, part: &Part) -> Wires
+    ensures { Makes circuit.old circuit.new (λ v. ShowsPart v senses.now part.now result) }
 {
     let zero = Nibble::of(0);
     let stuff = Nibble::of(STUFF_ERROR);
     let bit = Nibble::of(BIT_ERROR);
     let none = Nibble::of(UNCOUNTED);
-    let wrong = circuit.and(part.due, part.repeats)?;
-    let overridden = circuit.and(senses.sender, senses.dominant)?;
-    let uncounted = circuit.and(overridden, part.arbitrates)?;
+    let wrong = circuit.and(part.due, part.repeats);
+    let overridden = circuit.and(senses.sender, senses.dominant);
+    let uncounted = circuit.and(overridden, part.arbitrates);
     let plain = part.due.opposite();
-    let sends = circuit.and(plain, senses.sender)?;
-    let differs = circuit.xor(part.sent, senses.recessive)?;
-    let fails = circuit.and(sends, differs)?;
-    let hidden = circuit.and(fails, part.sent)?;
-    let loses = circuit.and(hidden, part.arbitrates)?;
+    let sends = circuit.and(plain, senses.sender);
+    let differs = circuit.xor(part.sent, senses.recessive);
+    let fails = circuit.and(sends, differs);
+    let hidden = circuit.and(fails, part.sent);
+    let loses = circuit.and(hidden, part.arbitrates);
     let stuff_uncounted = senses.errs_by(senses.sender, none, stuff);
     let stuff_counted = senses.errs(stuff);
     let lost_at_end = senses.loses(CRC_DELIMITER);
@@ -47,6 +42,5 @@ pub(crate) fn stuffed_part(
         Row(TRUE, fails, bit_error),
         Row(TRUE, part.ends, ended),
     ];
-    let made = first_row(circuit, &rows, on)?;
-    Ok(made)
+    first_row(circuit, &rows, on)
 }

@@ -2,8 +2,8 @@ use Rattle.std.proofs.Common.{◌-◌, length, refl, ap, ◌∙◌}
 use Rattle.can_gates.proofs.AigerTexts.{whole_text}
 use Rattle.can_gates.proofs.aiger.push_aiger.Goals as goal
 
-pub returns : goal.returns
-returns c =
+pub returns-clause-text : goal.returns-clause-text
+returns-clause-text c =
     let registers = c.args.registers.now in
     let outputs = c.args.outputs.now in
     let gates = c.gates-gates.result.now in

@@ -5,14 +5,14 @@ use Rattle.can_gates_controller.proofs.Checks.{agree_is}
 use Rattle.can_gates_controller.proofs.check.agrees.Goals as goal
 
 pub loop-place-init : goal.loop-place-init
-loop-place-init c = (refl, λ v keeps. (keeps, value-never v (zero-kept v c.args.circuit.now.gates keeps)))
+loop-place-init c = (refl, λ v keeps. (keeps, value-never v (zero-kept v c.args.circuit.now keeps)))
 
 pub loop-place-preserved : goal.loop-place-preserved
 loop-place-preserved c =
     let l = c.loop-place in (
-      c.in_ok-some.ensures.0 ∙ l.invariant.0,
+      c.or-some.ensures.0 ∙ l.invariant.0,
       λ v keeps.
-          let some = c.in_ok-some.ensures.1 v keeps in
+          let some = c.or-some.ensures.1 v keeps in
           let before = l.invariant.1 v some.0 in
           (before.0, rw (add-one l.place) (some.1 ∙ rw (before.1, c.literal_at-level.ensures) refl)),
     )

@@ -12,15 +12,15 @@ loop-place-preserved c =
     let l = c.loop-place in (
       search rules,
       (
-        c.in_ok-level.ensures.0 ∙ l.invariant.1.0,
+        c.xor-level.ensures.0 ∙ l.invariant.1.0,
         λ v keeps.
-            let level = c.in_ok-level.ensures.1 v keeps in
+            let level = c.xor-level.ensures.1 v keeps in
             let before = l.invariant.1.1 v level.0 in
-            let zero_is = zero-kept v c.args.circuit.now.gates before.0 in (
+            let zero_is = zero-kept v c.args.circuit.now before.0 in (
               before.0,
               λ u x held fed p h.
                   let is = level.1 ∙ rw (c.next_place-moved.ensures v u zero_is held, c.term_of-term.ensures v zero_is, fed) (sym (crc_step u x l.place)) in
-                  written_place v (λ q. is_recessive (level_at (crc_of (u ++ x ∷ [])) q)) l.all.items c.push.new.self.items c.in_ok-level.level l.place p c.in_ok-push.ensures.items l.invariant.0 is (λ q below. before.1 u x held fed q below) h,
+                  written_place v (λ q. is_recessive (level_at (crc_of (u ++ x ∷ [])) q)) l.all.items c.push.new.self.items c.xor-level.result l.place p c.in_ok-push.ensures.items l.invariant.0 is (λ q below. before.1 u x held fed q below) h,
             ),
       ),
     )

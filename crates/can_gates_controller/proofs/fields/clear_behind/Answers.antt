@@ -15,14 +15,14 @@ loop-place-preserved c =
     let bytes = c.args.bytes.now in (
       search rules,
       (
-        c.in_ok-bit.ensures.made.0 ∙ c.in_ok-counts.ensures.0 ∙ l.invariant.1.0,
+        c.and-bit.ensures.0 ∙ c.has_byte-counts.ensures.0 ∙ l.invariant.1.0,
         λ v keeps.
-            let bit = c.in_ok-bit.ensures.made.1 v keeps in
-            let counts = c.in_ok-counts.ensures.1 v bit.0 in
+            let bit = c.and-bit.ensures.1 v keeps in
+            let counts = c.has_byte-counts.ensures.1 v bit.0 in
             let before = l.invariant.1.1 v counts.0 in
             let n = byte_count (value v c.args.remote) (nibble v c.args.dlc) in
             let is = bit.1 ∙ rw (counts.1, c.literal_at.ensures) refl in
-            (before.0, λ p h. written_place v (λ q. nat_lt (q / 8) n && value v (get_or bytes q never)) l.all.items c.push.new.self.items c.in_ok-bit.bit l.place p c.in_ok-push.ensures.items l.invariant.0 is before.1 h),
+            (before.0, λ p h. written_place v (λ q. nat_lt (q / 8) n && value v (get_or bytes q never)) l.all.items c.push.new.self.items c.and-bit.result l.place p c.in_ok-push.ensures.items l.invariant.0 is before.1 h),
       ),
     )
 
@@ -36,5 +36,5 @@ returns c =
           let whole = l.invariant.1.1 v keeps in
           let remote = value v c.args.remote in
           let dlc = nibble v c.args.dlc in
-          (whole.0, cleared_is v (zero-kept v c.args.circuit.now.gates whole.0) l.all.items c.args.bytes.now (byte_count remote dlc) long (λ p h. whole.1 p (rw e h)) (byte_count_le remote dlc)),
+          (whole.0, cleared_is v (zero-kept v c.args.circuit.now whole.0) l.all.items c.args.bytes.now (byte_count remote dlc) long (λ p h. whole.1 p (rw e h)) (byte_count_le remote dlc)),
     )

@@ -7,11 +7,11 @@ use Rattle.can_gates_controller.proofs.front.ends.Goals as goal
 
 pub returns : goal.returns
 returns c = (
-  c.in_ok-made.ensures.made.0 ∙ c.in_ok-due.ensures.made.0 ∙ c.in_ok-whole.ensures.0 ∙ c.in_ok-length.ensures.0,
+  c.and-made.ensures.0 ∙ c.and-due.ensures.0 ∙ c.equals-whole.ensures.0 ∙ c.in_ok-length.ensures.0,
   λ v keeps.
-      let made = c.in_ok-made.ensures.made.1 v keeps in
-      let due = c.in_ok-due.ensures.made.1 v made.0 in
-      let whole = c.in_ok-whole.ensures.1 v due.0 in
+      let made = c.and-made.ensures.1 v keeps in
+      let due = c.and-due.ensures.1 v made.0 in
+      let whole = c.equals-whole.ensures.1 v due.0 in
       let length = c.in_ok-length.ensures.1 v whole.0 in (
         length.0,
         λ front held few.

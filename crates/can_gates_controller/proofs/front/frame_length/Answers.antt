@@ -10,21 +10,21 @@ use Rattle.can_gates_controller.proofs.front.frame_length.Goals as goal
 
 pub returns : goal.returns
 returns c = (
-  c.in_ok-sum.ensures.1.0 ∙ c.in_ok-least.ensures.1.0 ∙ c.in_ok-one.ensures.made.0 ∙ c.in_ok-two.ensures.made.0 ∙ c.in_ok-four.ensures.made.0 ∙ c.in_ok-few.ensures.made.0 ∙ c.in_ok-eight.ensures.made.0 ∙ c.in_ok-ones.ensures.0 ∙ c.in_ok-twos.ensures.0 ∙ c.in_ok-fours.ensures.0 ∙ c.in_ok-eights.ensures.0 ∙ c.in_ok-remote.ensures.0,
+  c.in_ok-sum.ensures.1.0 ∙ c.in_ok-least.ensures.1.0 ∙ c.and-one.ensures.0 ∙ c.and-two.ensures.0 ∙ c.and-four.ensures.0 ∙ c.and-few.ensures.0 ∙ c.and-eight.ensures.0 ∙ c.ite-ones.ensures.0 ∙ c.ite-twos.ensures.0 ∙ c.ite-fours.ensures.0 ∙ c.ite-eights.ensures.0 ∙ c.ite-remote.ensures.0,
   λ v keeps.
       let sum = c.in_ok-sum.ensures.1.1 v keeps in
       let least = c.in_ok-least.ensures.1.1 v sum.0 in
-      let one = c.in_ok-one.ensures.made.1 v least.0 in
-      let two = c.in_ok-two.ensures.made.1 v one.0 in
-      let four = c.in_ok-four.ensures.made.1 v two.0 in
-      let few = c.in_ok-few.ensures.made.1 v four.0 in
-      let eight = c.in_ok-eight.ensures.made.1 v few.0 in
-      let ones = c.in_ok-ones.ensures.1 v eight.0 in
-      let twos = c.in_ok-twos.ensures.1 v ones.0 in
-      let fours = c.in_ok-fours.ensures.1 v twos.0 in
-      let eights = c.in_ok-eights.ensures.1 v fours.0 in
-      let remote = c.in_ok-remote.ensures.1 v eights.0 in
-      let zero_is = zero-kept v c.args.circuit.now.gates remote.0 in
+      let one = c.and-one.ensures.1 v least.0 in
+      let two = c.and-two.ensures.1 v one.0 in
+      let four = c.and-four.ensures.1 v two.0 in
+      let few = c.and-few.ensures.1 v four.0 in
+      let eight = c.and-eight.ensures.1 v few.0 in
+      let ones = c.ite-ones.ensures.1 v eight.0 in
+      let twos = c.ite-twos.ensures.1 v ones.0 in
+      let fours = c.ite-fours.ensures.1 v twos.0 in
+      let eights = c.ite-eights.ensures.1 v fours.0 in
+      let remote = c.ite-remote.ensures.1 v eights.0 in
+      let zero_is = zero-kept v c.args.circuit.now remote.0 in
       let no = value-never v zero_is in (
         remote.0,
         λ u held.
@@ -32,7 +32,7 @@ returns c = (
             let long : length c.in_ok-sum.sum.word.items ≡ 7 = omega (arith, c.in_ok-sum.ensures.0, ap length c.deref-3.ensures.value, c.in_ok-least.ensures.0, ap length c.deref.ensures.value, ap length c.deref-2.ensures.value, c.in_ok-long.ensures.0, c.in_ok-short.ensures.0) in
             let small = rw long at (number-lt v c.in_ok-sum.sum.word.items) in
             let extended = ap (value v) c.literal_at-extended.ensures ∙ at 13 (omega arith) in
-            length_is u (value v c.literal_at-extended.result) (value v c.in_ok-remote.remote) (value v c.in_ok-eights.eights) (value v c.in_ok-fours.fours) (value v c.in_ok-twos.twos) (value v c.in_ok-ones.ones) (value v c.in_ok-few.few) (number v c.in_ok-sum.sum.word.items) (bit (value v c.in_ok-sum.sum.carry)) extended
+            length_is u (value v c.literal_at-extended.result) (value v c.ite-remote.result) (value v c.ite-eights.result) (value v c.ite-fours.result) (value v c.ite-twos.result) (value v c.ite-ones.result) (value v c.and-few.result) (number v c.in_ok-sum.sum.word.items) (bit (value v c.in_ok-sum.sum.carry)) extended
             (remote.1 ∙ rw (c.literal_at.ensures, c.literal_at-2.ensures, at 32 (omega arith), at 12 (omega arith)) refl)
             (eights.1 ∙ rw (c.literal_at-3.ensures, c.literal_at-4.ensures, at 35 (omega arith), at 15 (omega arith)) refl)
             (fours.1 ∙ rw (c.literal_at-5.ensures, c.literal_at-6.ensures, at 36 (omega arith), at 16 (omega arith)) refl)

@@ -8,13 +8,13 @@ use Rattle.can_gates_controller.proofs.front.hear.Goals as goal
 
 pub returns : goal.returns
 returns c = (
-  c.in_ok-check.ensures.0 ∙ c.in_ok-count.ensures.1.0 ∙ c.in_ok-levels.ensures.0 ∙ c.in_ok-level.ensures.made.0 ∙ c.in_ok-stuffing.ensures.0,
+  c.in_ok-check.ensures.0 ∙ c.in_ok-count.ensures.1.0 ∙ c.in_ok-levels.ensures.0 ∙ c.and-level.ensures.0 ∙ c.stuffing-stuffing.ensures.0,
   λ v keeps.
       let check = c.in_ok-check.ensures.1 v keeps in
       let count = c.in_ok-count.ensures.1.1 v check.0 in
       let levels = c.in_ok-levels.ensures.1 v count.0 in
-      let level = c.in_ok-level.ensures.made.1 v levels.0 in
-      let stuffing = c.in_ok-stuffing.ensures.1 v level.0 in (
+      let level = c.and-level.ensures.1 v levels.0 in
+      let stuffing = c.stuffing-stuffing.ensures.1 v level.0 in (
         stuffing.0,
         λ front x held few short seen.
             let old = c.args.heard.now in

@@ -13,16 +13,16 @@ loop-place-preserved c =
     let levels = c.args.levels.now in (
       search rules,
       (
-        c.in_ok-both.ensures.0 ∙ c.in_ok-new.ensures.made.0 ∙ c.in_ok-here.ensures.0 ∙ l.invariant.1.0,
+        c.or-both.ensures.0 ∙ c.and-new.ensures.0 ∙ c.equals-here.ensures.0 ∙ l.invariant.1.0,
         λ v keeps.
-            let both = c.in_ok-both.ensures.1 v keeps in
-            let new = c.in_ok-new.ensures.made.1 v both.0 in
-            let here = c.in_ok-here.ensures.1 v new.0 in
+            let both = c.or-both.ensures.1 v keeps in
+            let new = c.and-new.ensures.1 v both.0 in
+            let here = c.equals-here.ensures.1 v new.0 in
             let before = l.invariant.1.1 v here.0 in
-            let zero_is = zero-kept v c.args.circuit.now.gates before.0 in
+            let zero_is = zero-kept v c.args.circuit.now before.0 in
             let low : l.place % 2 ^ 7 ≡ l.place = omega (arith, c.loop-place-test.true) in
             let is = both.1 ∙ rw (new.1, here.1, c.deref.ensures.value, c.in_ok-number.ensures.1 v zero_is, low, c.literal_at.ensures) refl in
-            (before.0, λ p h. written_place v (λ q. value v (get_or levels q never) || ((number v count == q) && value v c.args.level)) l.all.items c.push.new.self.items c.in_ok-both.both l.place p c.in_ok-push.ensures.items l.invariant.0 is before.1 h),
+            (before.0, λ p h. written_place v (λ q. value v (get_or levels q never) || ((number v count == q) && value v c.args.level)) l.all.items c.push.new.self.items c.or-both.result l.place p c.in_ok-push.ensures.items l.invariant.0 is before.1 h),
       ),
     )
 

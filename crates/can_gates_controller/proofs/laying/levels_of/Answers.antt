@@ -9,7 +9,7 @@ returns c = (
   λ v keeps.
       let made = c.in_ok-made.ensures.1 v keeps in
       let cleared = c.in_ok-bytes.ensures.1 v made.0 in
-      let zero_is = zero-kept v c.args.circuit.now.gates cleared.0 in (
+      let zero_is = zero-kept v c.args.circuit.now cleared.0 in (
         cleared.0,
         laid_is v zero_is c.args.fields.now c.in_ok-made.made.items c.in_ok-extended.extended.items c.in_ok-standard.standard.items c.in_ok-behind.behind.items c.in_ok-bytes.bytes.items
             (rw c.deref.ensures.value at cleared.1)

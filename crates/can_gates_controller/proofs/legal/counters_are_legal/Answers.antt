@@ -10,16 +10,16 @@ use Rattle.can_gates_controller.proofs.legal.counters_are_legal.Goals as goal
 pub returns : goal.returns
 unfolding nibble
 returns c = (
-  c.in_ok-made.ensures.made.0 ∙ c.in_ok-fits.ensures.made.0 ∙ c.in_ok-counts.ensures.0 ∙ c.in_ok-some.ensures.0 ∙ c.in_ok-differs.ensures.0 ∙ c.in_ok-small.ensures.0 ∙ c.in_ok-rests.ensures.0,
+  c.and-made.ensures.0 ∙ c.and-fits.ensures.0 ∙ c.or-counts.ensures.0 ∙ c.less-some.ensures.0 ∙ c.xor-differs.ensures.0 ∙ c.less-small.ensures.0 ∙ c.in_ok-rests.ensures.0,
   λ v keeps.
-      let made = c.in_ok-made.ensures.made.1 v keeps in
-      let fits = c.in_ok-fits.ensures.made.1 v made.0 in
-      let counts = c.in_ok-counts.ensures.1 v fits.0 in
-      let some = c.in_ok-some.ensures.1 v counts.0 in
-      let differs = c.in_ok-differs.ensures.1 v some.0 in
-      let small = c.in_ok-small.ensures.1 v differs.0 in
+      let made = c.and-made.ensures.1 v keeps in
+      let fits = c.and-fits.ensures.1 v made.0 in
+      let counts = c.or-counts.ensures.1 v fits.0 in
+      let some = c.less-some.ensures.1 v counts.0 in
+      let differs = c.xor-differs.ensures.1 v some.0 in
+      let small = c.less-small.ensures.1 v differs.0 in
       let rests = c.in_ok-rests.ensures.1 v small.0 in
-      let zero_is = zero-kept v c.args.circuit.now.gates rests.0 in (
+      let zero_is = zero-kept v c.args.circuit.now rests.0 in (
         rests.0,
         λ m is held.
             let off = c.is_off-off.ensures v zero_is ∙ ap (nat_le 256) held.counters.tec in

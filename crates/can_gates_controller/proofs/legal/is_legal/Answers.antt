@@ -3,16 +3,16 @@ use Rattle.can_gates_controller.proofs.legal.is_legal.Goals as goal
 
 pub returns : goal.returns
 returns c = (
-  c.in_ok-made.ensures.made.0 ∙ c.in_ok-counted.ensures.made.0 ∙ c.in_ok-on.ensures.made.0 ∙ c.in_ok-stance.ensures.made.0 ∙ c.in_ok-phase.ensures.made.0 ∙ c.in_ok-heard.ensures.0 ∙ c.in_ok-counters.ensures.0 ∙ c.in_ok-wishes.ensures.0 ∙ c.in_ok-role.ensures.0 ∙ c.in_ok-marks.ensures.0 ∙ c.in_ok-place.ensures.0 ∙ c.in_ok-within.ensures.0,
+  c.and-made.ensures.0 ∙ c.and-counted.ensures.0 ∙ c.and-on.ensures.0 ∙ c.and-stance.ensures.0 ∙ c.and-phase.ensures.0 ∙ c.in_ok-heard.ensures.0 ∙ c.in_ok-counters.ensures.0 ∙ c.wishes_are_legal-wishes.ensures.0 ∙ c.in_ok-role.ensures.0 ∙ c.in_ok-marks.ensures.0 ∙ c.in_ok-place.ensures.0 ∙ c.in_ok-within.ensures.0,
   λ v keeps.
-      let made = c.in_ok-made.ensures.made.1 v keeps in
-      let counted = c.in_ok-counted.ensures.made.1 v made.0 in
-      let on = c.in_ok-on.ensures.made.1 v counted.0 in
-      let stance = c.in_ok-stance.ensures.made.1 v on.0 in
-      let phase = c.in_ok-phase.ensures.made.1 v stance.0 in
+      let made = c.and-made.ensures.1 v keeps in
+      let counted = c.and-counted.ensures.1 v made.0 in
+      let on = c.and-on.ensures.1 v counted.0 in
+      let stance = c.and-stance.ensures.1 v on.0 in
+      let phase = c.and-phase.ensures.1 v stance.0 in
       let heard = c.in_ok-heard.ensures.1 v phase.0 in
       let counters = c.in_ok-counters.ensures.1 v heard.0 in
-      let wishes = c.in_ok-wishes.ensures.1 v counters.0 in
+      let wishes = c.wishes_are_legal-wishes.ensures.1 v counters.0 in
       let role = c.in_ok-role.ensures.1 v wishes.0 in
       let marks = c.in_ok-marks.ensures.1 v role.0 in
       let place = c.in_ok-place.ensures.1 v marks.0 in

@@ -9,7 +9,7 @@ pub loop-place-init : goal.loop-place-init
 loop-place-init c = (
   refl,
   λ v keeps.
-      let zero_is = zero-kept v c.args.circuit.now.gates keeps in
+      let zero_is = zero-kept v c.args.circuit.now keeps in
       (keeps, (value-never v zero_is ∙ sym (above_is (number v c.args.heard.now.count.items) 0 (omega arith)), λ u levels count. value-always v zero_is)),
 )
 
@@ -17,14 +17,14 @@ pub loop-place-preserved : goal.loop-place-preserved
 loop-place-preserved c =
     let l = c.loop-place in
     let heard = c.args.heard.now in (
-      c.in_ok-legal.ensures.made.0 ∙ c.in_ok-wrong.ensures.made.0 ∙ c.in_ok-behind.ensures.0 ∙ c.in_ok-here.ensures.0 ∙ l.invariant.0,
+      c.and-legal.ensures.0 ∙ c.and-wrong.ensures.0 ∙ c.or-behind.ensures.0 ∙ c.equals-here.ensures.0 ∙ l.invariant.0,
       λ v keeps.
-          let legal = c.in_ok-legal.ensures.made.1 v keeps in
-          let wrong = c.in_ok-wrong.ensures.made.1 v legal.0 in
-          let behind = c.in_ok-behind.ensures.1 v wrong.0 in
-          let here = c.in_ok-here.ensures.1 v behind.0 in
+          let legal = c.and-legal.ensures.1 v keeps in
+          let wrong = c.and-wrong.ensures.1 v legal.0 in
+          let behind = c.or-behind.ensures.1 v wrong.0 in
+          let here = c.equals-here.ensures.1 v behind.0 in
           let before = l.invariant.1 v here.0 in
-          let zero_is = zero-kept v c.args.circuit.now.gates before.0 in
+          let zero_is = zero-kept v c.args.circuit.now before.0 in
           let low : l.place % 2 ^ 7 ≡ l.place = omega (arith, c.loop-place-test.true) in
           let past = behind.1 ∙ rw (before.1.0, here.1, c.deref.ensures.value, c.deref-in-loop-place.ensures.value, c.in_ok-number.ensures.1 v zero_is, low) (behind_more (number v heard.count.items) l.place) in (
             before.0,

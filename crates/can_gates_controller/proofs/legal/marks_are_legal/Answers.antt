@@ -7,11 +7,11 @@ use Rattle.can_gates_controller.proofs.legal.marks_are_legal.Goals as goal
 pub returns : goal.returns
 unfolding nibble
 returns c = (
-  c.in_ok-made.ensures.0 ∙ c.in_ok-none.ensures.made.0 ∙ c.in_ok-no_flag.ensures.made.0,
+  c.in_ok-made.ensures.0 ∙ c.and-none.ensures.0 ∙ c.and-no_flag.ensures.0,
   λ v keeps.
       let made = c.in_ok-made.ensures.1 v keeps in
-      let none = c.in_ok-none.ensures.made.1 v made.0 in
-      let no_flag = c.in_ok-no_flag.ensures.made.1 v none.0 in
+      let none = c.and-none.ensures.1 v made.0 in
+      let no_flag = c.and-no_flag.ensures.1 v none.0 in
       let is_no_flag = no_flag.1 ∙ rw (c.opposite.ensures v, c.opposite-2.ensures v) refl in
       let is_no_first = c.opposite-no_first.ensures v in
       let wires = c.args.held.now.wires in (

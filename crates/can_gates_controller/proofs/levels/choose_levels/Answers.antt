@@ -12,12 +12,12 @@ loop-place-preserved c =
     let b = c.args.b.now in (
       search rules,
       (
-        c.in_ok-level.ensures.0 ∙ l.invariant.1.0,
+        c.ite-level.ensures.0 ∙ l.invariant.1.0,
         λ v keeps.
-            let level = c.in_ok-level.ensures.1 v keeps in
+            let level = c.ite-level.ensures.1 v keeps in
             let before = l.invariant.1.1 v level.0 in
             let is = level.1 ∙ rw (c.literal_at-first.ensures, c.literal_at-other.ensures) refl in
-            (before.0, λ p h. written_place v (λ q. if value v c.args.test then value v (get_or a q never) else value v (get_or b q never)) l.all.items c.push.new.self.items c.in_ok-level.level l.place p c.in_ok-push.ensures.items l.invariant.0 is before.1 h),
+            (before.0, λ p h. written_place v (λ q. if value v c.args.test then value v (get_or a q never) else value v (get_or b q never)) l.all.items c.push.new.self.items c.ite-level.result l.place p c.in_ok-push.ensures.items l.invariant.0 is before.1 h),
       ),
     )
 

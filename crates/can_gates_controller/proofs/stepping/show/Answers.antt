@@ -10,14 +10,14 @@ use Rattle.can_gates_controller.proofs.stepping.show.Goals as goal
 
 pub returns : goal.returns
 returns c = (
-  c.in_ok-legal.ensures.0 ∙ c.in_ok-passive.ensures.0 ∙ c.in_ok-frame.ensures.0 ∙ c.in_ok-told.ensures.0 ∙ c.in_ok-passes.ensures.made.0,
+  c.in_ok-legal.ensures.0 ∙ c.is_passive-passive.ensures.0 ∙ c.in_ok-frame.ensures.0 ∙ c.choose-told.ensures.0 ∙ c.and-passes.ensures.0,
   λ v keeps.
       let legal = c.in_ok-legal.ensures.1 v keeps in
-      let passive = c.in_ok-passive.ensures.1 v legal.0 in
+      let passive = c.is_passive-passive.ensures.1 v legal.0 in
       let frame = c.in_ok-frame.ensures.1 v passive.0 in
-      let told = c.in_ok-told.ensures.1 v frame.0 in
-      let passes = c.in_ok-passes.ensures.made.1 v told.0 in
-      let zero_is = zero-kept v c.args.circuit.now.gates passes.0 in (
+      let told = c.choose-told.ensures.1 v frame.0 in
+      let passes = c.and-passes.ensures.1 v told.0 in
+      let zero_is = zero-kept v c.args.circuit.now passes.0 in (
         passes.0,
         λ m s in_is held wished is.
             let reset : value v c.args.inputs.now.reset ≡ s.reset = ap (λ (q : Step). q.reset) (sym in_is) in

@@ -11,11 +11,11 @@ use Rattle.can_gates_controller.proofs.whole.reads.Goals as goal
 
 pub returns : goal.returns
 returns c = (
-  c.in_ok-sent.ensures.0 ∙ c.in_ok-due.ensures.made.0 ∙ c.in_ok-agrees.ensures.0,
+  c.in_ok-sent.ensures.0 ∙ c.and-due.ensures.0 ∙ c.agrees-agrees.ensures.0,
   λ v keeps.
       let sent = c.in_ok-sent.ensures.1 v keeps in
-      let due = c.in_ok-due.ensures.made.1 v sent.0 in
-      let agrees = c.in_ok-agrees.ensures.1 v due.0 in (
+      let due = c.and-due.ensures.1 v sent.0 in
+      let agrees = c.agrees-agrees.ensures.1 v due.0 in (
         agrees.0,
         λ m waiting held waits. record {
           waits = waits;

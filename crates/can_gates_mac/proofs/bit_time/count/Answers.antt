@@ -9,12 +9,12 @@ use Rattle.can_gates_mac.proofs.bit_time.count.Goals as goal
 
 pub returns : goal.returns
 returns c = (
-  c.in_ok-wires.ensures.0 ∙ c.in_ok-rec.ensures.1.0 ∙ c.in_ok-tec.ensures.1.0,
+  c.choose_wires-wires.ensures.0 ∙ c.in_ok-rec.ensures.1.0 ∙ c.in_ok-tec.ensures.1.0,
   λ v keeps.
-      let wires = c.in_ok-wires.ensures.1 v keeps in
+      let wires = c.choose_wires-wires.ensures.1 v keeps in
       let rec = c.in_ok-rec.ensures.1.1 v wires.0 in
       let tec = c.in_ok-tec.ensures.1.1 v rec.0 in
-      let zero_is = zero-kept v c.args.circuit.now.gates tec.0 in
+      let zero_is = zero-kept v c.args.circuit.now tec.0 in
       let no = value-never v zero_is in (
         tec.0,
         λ m parts is_move on held low row.

@@ -9,13 +9,13 @@ use Rattle.can_gates_mac.proofs.bit_time.rest.Goals as goal
 
 pub returns : goal.returns
 returns c = (
-  c.in_ok-rec.ensures.1.0 ∙ c.in_ok-tec.ensures.1.0 ∙ c.in_ok-recovery.ensures.1.0 ∙ c.in_ok-places.ensures.0,
+  c.in_ok-rec.ensures.1.0 ∙ c.in_ok-tec.ensures.1.0 ∙ c.in_ok-recovery.ensures.1.0 ∙ c.compare-places.ensures.0,
   λ v keeps.
       let rec = c.in_ok-rec.ensures.1.1 v keeps in
       let tec = c.in_ok-tec.ensures.1.1 v rec.0 in
       let recovery = c.in_ok-recovery.ensures.1.1 v tec.0 in
-      let places = c.in_ok-places.ensures.1 v recovery.0 in
-      let zero_is = zero-kept v c.args.circuit.now.gates places.0 in
+      let places = c.compare-places.ensures.1 v recovery.0 in
+      let zero_is = zero-kept v c.args.circuit.now places.0 in
       let no = value-never v zero_is in (
         places.0,
         λ m x is_mac held is_off seen.

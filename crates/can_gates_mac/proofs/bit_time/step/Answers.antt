@@ -13,14 +13,14 @@ use Rattle.can_gates_mac.proofs.bit_time.step.Goals as goal
 pub returns : goal.returns
 unfolding mac_step
 returns c = (
-  c.in_ok-made.ensures.0 ∙ c.in_ok-off.ensures.0 ∙ c.in_ok-on.ensures.0 ∙ c.in_ok-moved.ensures.0 ∙ c.in_ok-passive.ensures.0,
+  c.in_ok-made.ensures.0 ∙ c.in_ok-off.ensures.0 ∙ c.in_ok-on.ensures.0 ∙ c.next_move-moved.ensures.0 ∙ c.is_passive-passive.ensures.0,
   λ v keeps.
       let made = c.in_ok-made.ensures.1 v keeps in
       let off = c.in_ok-off.ensures.1 v made.0 in
       let on = c.in_ok-on.ensures.1 v off.0 in
-      let moved = c.in_ok-moved.ensures.1 v on.0 in
-      let passive = c.in_ok-passive.ensures.1 v moved.0 in
-      let zero_is = zero-kept v c.args.circuit.now.gates passive.0 in (
+      let moved = c.next_move-moved.ensures.1 v on.0 in
+      let passive = c.is_passive-passive.ensures.1 v moved.0 in
+      let zero_is = zero-kept v c.args.circuit.now passive.0 in (
         passive.0,
         λ m waiting x is_mac frame held inputs.
             let old = c.args.held.now.counters in

@@ -12,7 +12,7 @@ returns c =
         λ v keeps.
             let made = c.in_ok-made.ensures.1.1 v keeps in
             let down = c.in_ok-down.ensures.1.1 v made.0 in
-            let zero_is = zero-kept v c.args.circuit.now.gates down.0 in
+            let zero_is = zero-kept v c.args.circuit.now down.0 in
             let most = c.in_ok-most.ensures.1 v zero_is in
             (down.0, made.1 ∙ rw (c.deref.ensures.value, c.deref-2.ensures.value, most, down.1, value-always v zero_is, top_is v zero_is c.args.rec.now 7 c.requires) refl),
       ),

@@ -13,15 +13,15 @@ returns c =
     let long : length c.in_ok-made.made.items ≡ 9 = omega (arith, c.in_ok-made.ensures.0, ap length c.deref.ensures.value, long_up) in (
       long,
       (
-        c.in_ok-made.ensures.1.0 ∙ c.in_ok-up.ensures.1.0 ∙ c.in_ok-falls.ensures.made.0 ∙ c.in_ok-rises.ensures.made.0,
+        c.in_ok-made.ensures.1.0 ∙ c.in_ok-up.ensures.1.0 ∙ c.and-falls.ensures.0 ∙ c.and-rises.ensures.0,
         λ v keeps.
             let made = c.in_ok-made.ensures.1.1 v keeps in
             let up = c.in_ok-up.ensures.1.1 v made.0 in
-            let falls = c.in_ok-falls.ensures.made.1 v up.0 in
-            let rises = c.in_ok-rises.ensures.made.1 v falls.0 in
+            let falls = c.and-falls.ensures.1 v up.0 in
+            let rises = c.and-rises.ensures.1 v falls.0 in
             let n = c.args.cause in
-            let zero_is = zero-kept v c.args.circuit.now.gates rises.0 in
-            let risen = rw (long_up, by_8 v zero_is c.in_ok-rises.rises) at up.1 in
+            let zero_is = zero-kept v c.args.circuit.now rises.0 in
+            let risen = rw (long_up, by_8 v zero_is c.and-rises.result) at up.1 in
             (rises.0, λ few small. made.1 ∙ rw (c.deref.ensures.value, risen, falls.1, rises.1, c.opposite.ensures v) (tec_bits (value v n.ones) (value v n.twos) (value v n.fours) (value v n.eights) (nibble v n) (number v c.args.tec.now) (nibble-bits v n) few small)),
       ),
     )

@@ -8,13 +8,13 @@ use Rattle.can_gates_mac.proofs.driving.drive.Goals as goal
 pub returns : goal.returns
 unfolding nibble mac_drives
 returns c = (
-  c.in_ok-made.ensures.0 ∙ c.in_ok-of_slot.ensures.0 ∙ c.in_ok-of_part.ensures.0 ∙ c.in_ok-of_sender.ensures.0,
+  c.in_ok-made.ensures.0 ∙ c.or-of_slot.ensures.0 ∙ c.or-of_part.ensures.0 ∙ c.ite-of_sender.ensures.0,
   λ v keeps.
       let made = c.in_ok-made.ensures.1 v keeps in
-      let of_slot = c.in_ok-of_slot.ensures.1 v made.0 in
-      let of_part = c.in_ok-of_part.ensures.1 v of_slot.0 in
-      let of_sender = c.in_ok-of_sender.ensures.1 v of_part.0 in
-      let zero_is = zero-kept v c.args.circuit.now.gates of_sender.0 in (
+      let of_slot = c.or-of_slot.ensures.1 v made.0 in
+      let of_part = c.or-of_part.ensures.1 v of_slot.0 in
+      let of_sender = c.ite-of_sender.ensures.1 v of_part.0 in
+      let zero_is = zero-kept v c.args.circuit.now of_sender.0 in (
         of_sender.0,
         λ m waiting held drives.
             made.1 ∙ rw held.phase (driven v c.args.sends.now m.phase m.role waiting _ _ _ _ _ _ (value-always v zero_is) (value-never v zero_is) (rw drives.waits at (c.opposite-silent.ensures v)) (rw (c.opposite-receiver.ensures v, held.sender, of_sender.1, c.opposite-stuff.ensures v) at of_part.1) (rw (held.sender, c.opposite-differs.ensures v) at of_slot.1) drives.agrees drives.part),

@@ -7,14 +7,14 @@ use Rattle.can_gates_mac.proofs.driving.stuffing.Goals as goal
 
 pub returns : goal.returns
 returns c = (
-  c.in_ok-behind.ensures.0 ∙ c.in_ok-next.ensures.0 ∙ c.in_ok-grows.ensures.made.0 ∙ c.in_ok-differs.ensures.0 ∙ c.in_ok-due.ensures.made.0,
+  c.choose-behind.ensures.0 ∙ c.next-next.ensures.0 ∙ c.and-grows.ensures.0 ∙ c.xor-differs.ensures.0 ∙ c.and-due.ensures.0,
   λ v keeps.
-      let behind = c.in_ok-behind.ensures.1 v keeps in
-      let next = c.in_ok-next.ensures.1 v behind.0 in
-      let grows = c.in_ok-grows.ensures.made.1 v next.0 in
-      let differs = c.in_ok-differs.ensures.1 v grows.0 in
-      let due = c.in_ok-due.ensures.made.1 v differs.0 in
-      let zero_is = zero-kept v c.args.circuit.now.gates due.0 in (
+      let behind = c.choose-behind.ensures.1 v keeps in
+      let next = c.next-next.ensures.1 v behind.0 in
+      let grows = c.and-grows.ensures.1 v next.0 in
+      let differs = c.xor-differs.ensures.1 v grows.0 in
+      let due = c.and-due.ensures.1 v differs.0 in
+      let zero_is = zero-kept v c.args.circuit.now due.0 in (
         due.0,
         λ front x held few seen.
             let n = c.args.run in

@@ -5,19 +5,19 @@ use Rattle.can_gates_mac.proofs.sensing.sense.Goals as goal
 
 pub returns : goal.returns
 returns c = (
-  c.in_ok-first.ensures.made.0 ∙ c.in_ok-run_below_6.ensures.0 ∙ c.in_ok-run.ensures.0 ∙ c.in_ok-counts.ensures.made.0 ∙ c.in_ok-still.ensures.made.0 ∙ c.in_ok-refuses.ensures.made.0 ∙ c.in_ok-starts.ensures.made.0 ∙ c.in_ok-asks.ensures.0 ∙ c.in_ok-held_back.ensures.made.0 ∙ c.in_ok-places.ensures.0,
+  c.and-first.ensures.0 ∙ c.less-run_below_6.ensures.0 ∙ c.run_behind-run.ensures.0 ∙ c.and-counts.ensures.0 ∙ c.and-still.ensures.0 ∙ c.and-refuses.ensures.0 ∙ c.and-starts.ensures.0 ∙ c.asks-asks.ensures.0 ∙ c.and-held_back.ensures.0 ∙ c.compare-places.ensures.0,
   λ v keeps.
-      let first = c.in_ok-first.ensures.made.1 v keeps in
-      let run_below_6 = c.in_ok-run_below_6.ensures.1 v first.0 in
-      let run = c.in_ok-run.ensures.1 v run_below_6.0 in
-      let counts = c.in_ok-counts.ensures.made.1 v run.0 in
-      let still = c.in_ok-still.ensures.made.1 v counts.0 in
-      let refuses = c.in_ok-refuses.ensures.made.1 v still.0 in
-      let starts = c.in_ok-starts.ensures.made.1 v refuses.0 in
-      let asks = c.in_ok-asks.ensures.1 v starts.0 in
-      let held_back = c.in_ok-held_back.ensures.made.1 v asks.0 in
-      let places = c.in_ok-places.ensures.1 v held_back.0 in
-      let zero_is = zero-kept v c.args.circuit.now.gates places.0 in (
+      let first = c.and-first.ensures.1 v keeps in
+      let run_below_6 = c.less-run_below_6.ensures.1 v first.0 in
+      let run = c.run_behind-run.ensures.1 v run_below_6.0 in
+      let counts = c.and-counts.ensures.1 v run.0 in
+      let still = c.and-still.ensures.1 v counts.0 in
+      let refuses = c.and-refuses.ensures.1 v still.0 in
+      let starts = c.and-starts.ensures.1 v refuses.0 in
+      let asks = c.asks-asks.ensures.1 v starts.0 in
+      let held_back = c.and-held_back.ensures.1 v asks.0 in
+      let places = c.compare-places.ensures.1 v held_back.0 in
+      let zero_is = zero-kept v c.args.circuit.now places.0 in (
         places.0,
         λ s p waiting x now.
             let held = rw (now.sender, now.passive) at held_back.1 ∙ held_back_is s s.role in

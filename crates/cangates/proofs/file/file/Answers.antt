@@ -10,6 +10,7 @@ returns c =
     record {
       names = c.names-chosen.result;
       design = c.in_ok-design.design;
+      complete = made.complete;
       starts = made.starts;
       resets = made.resets;
       steps = made.steps;

@@ -13,16 +13,16 @@ loop-place-preserved c =
     let b = c.args.b.now in (
       search rules,
       (
-        c.in_ok-carry.ensures.0 ∙ c.in_ok-level.ensures.0 ∙ c.in_ok-differ.ensures.0 ∙ l.invariant.1.0,
+        c.ite-carry.ensures.0 ∙ c.xor-level.ensures.0 ∙ c.xor-differ.ensures.0 ∙ l.invariant.1.0,
         λ v keeps.
-            let carry = c.in_ok-carry.ensures.1 v keeps in
-            let level = c.in_ok-level.ensures.1 v carry.0 in
-            let differs = c.in_ok-differ.ensures.1 v level.0 in
+            let carry = c.ite-carry.ensures.1 v keeps in
+            let level = c.xor-level.ensures.1 v carry.0 in
+            let differs = c.xor-differ.ensures.1 v level.0 in
             let before = l.invariant.1.1 v differs.0 in
-            let zero_is = zero-kept v c.args.self.now.gates before.0 in (
+            let zero_is = zero-kept v c.args.self.now before.0 in (
               before.0,
               rw (add-one l.place)
-                  (sum_place v zero_is a b l.word.items c.push.new.self.items c.literal_at-left.result c.literal_at-right.result c.in_ok-differ.differ c.in_ok-level.level l.carry c.in_ok-carry.carry l.place (bit (value v c.args.carried)) c.in_ok-push.ensures.items l.invariant.0
+                  (sum_place v zero_is a b l.word.items c.push.new.self.items c.literal_at-left.result c.literal_at-right.result c.xor-differ.result c.xor-level.result l.carry c.ite-carry.result l.place (bit (value v c.args.carried)) c.in_ok-push.ensures.items l.invariant.0
                   c.literal_at-left.ensures c.literal_at-right.ensures differs.1 level.1 carry.1 before.1),
             ),
       ),

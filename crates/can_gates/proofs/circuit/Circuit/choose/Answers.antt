@@ -11,14 +11,14 @@ loop-place-preserved c =
     let b = c.args.b.now in (
       search rules,
       (
-        c.in_ok-level.ensures.0 ∙ l.invariant.1.0,
+        c.ite-level.ensures.0 ∙ l.invariant.1.0,
         λ v keeps.
-            let level = c.in_ok-level.ensures.1 v keeps in
+            let level = c.ite-level.ensures.1 v keeps in
             let before = l.invariant.1.1 v level.0 in
-            let zero_is = zero-kept v c.args.self.now.gates before.0 in (
+            let zero_is = zero-kept v c.args.self.now before.0 in (
               before.0,
               rw (add-one l.place)
-                  (choose_place v zero_is l.all.items c.push.new.self.items a b c.args.test c.literal_at-left.result c.literal_at-right.result c.in_ok-level.level l.place c.in_ok-push.ensures.items l.invariant.0 c.literal_at-left.ensures c.literal_at-right.ensures level.1 before.1),
+                  (choose_place v zero_is l.all.items c.push.new.self.items a b c.args.test c.literal_at-left.result c.literal_at-right.result c.ite-level.result l.place c.in_ok-push.ensures.items l.invariant.0 c.literal_at-left.ensures c.literal_at-right.ensures level.1 before.1),
             ),
       ),
     )

@@ -13,13 +13,13 @@ loop-pair-preserved c =
     let half = l.half.items in
     let more = c.push.new.self.items in
     let items = c.args.items.now in
-    let level = c.in_ok-level.level in
+    let level = c.ite-level.result in
     let pushed = c.in_ok-push.ensures.items in (
       search rules,
       (
-        c.in_ok-level.ensures.0 ∙ l.invariant.1.0,
+        c.ite-level.ensures.0 ∙ l.invariant.1.0,
         λ v keeps.
-            let made = c.in_ok-level.ensures.1 v keeps in
+            let made = c.ite-level.ensures.1 v keeps in
             let before = l.invariant.1.1 v made.0 in
             let b = bit (value v c.args.odd) in (
               before.0,

@@ -1,5 +1,5 @@
 use Rattle.std.proofs.Common.{◌≡◌, ◌≤◌, ℕ, Bool, reverse, subst}
-use Rattle.can_gates.specs.Circuit.{CircuitParts, Keeps}
+use Rattle.can_gates.specs.Circuit.{CircuitParts, KeepsGates}
 use Rattle.can_gates.specs.Runs.{run}
 use Rattle.can_gates.proofs.Running.{run-keeps, run-inputs, kept-run}
 use Rattle.can_gates.proofs.circuit.Circuit.is_kept_by_its_run.Goals as goal
@@ -9,9 +9,9 @@ abbrev HasInputs : CircuitParts → Type 0
 HasInputs p = (inputs : ℕ → Bool) (s : ℕ) → s ≤ p.inputs → run p.gates inputs s ≡ inputs s
 
 pub returns-clause-keeps : goal.returns-clause-keeps
-returns-clause-keeps c = λ inputs zero_is.
+returns-clause-keeps c = λ inputs complete zero_is.
     let inside = c.self.inside in
-    subst (λ (p : CircuitParts). Keeps (run p.gates inputs) p.gates) c.self.view_is (run-keeps inside.inputs inside.highest (reverse inside.gates.items) inputs c.self.invariant zero_is)
+    (complete, subst (λ (p : CircuitParts). KeepsGates (run p.gates inputs) p.gates) c.self.view_is (run-keeps inside.inputs inside.highest (reverse inside.gates.items) inputs c.self.invariant zero_is))
 
 pub returns-clause-inputs : goal.returns-clause-inputs
 returns-clause-inputs c =
@@ -19,4 +19,4 @@ returns-clause-inputs c =
     subst HasInputs c.self.view_is (λ inputs s few. run-inputs inside.inputs inside.highest (reverse inside.gates.items) inputs s c.self.invariant few)
 
 pub returns-clause-only : goal.returns-clause-only
-returns-clause-only c = λ v s keeps. kept-run v c.args.self.now.gates keeps s
+returns-clause-only c = λ v s keeps. kept-run v c.args.self.now.gates keeps.1 s

@@ -8,10 +8,10 @@ returns-then-is_same c = (refl, λ v keeps. (keeps, choice_of_one (value v c.arg
 
 pub returns : goal.returns
 returns c = (
-  c.in_ok-either.ensures.0 ∙ c.in_ok-second.ensures.made.0 ∙ c.in_ok-first.ensures.made.0,
+  c.or.ensures.0 ∙ c.and-second.ensures.0 ∙ c.and-first.ensures.0,
   λ v keeps.
-      let either = c.in_ok-either.ensures.1 v keeps in
-      let second = c.in_ok-second.ensures.made.1 v either.0 in
-      let first = c.in_ok-first.ensures.made.1 v second.0 in
+      let either = c.or.ensures.1 v keeps in
+      let second = c.and-second.ensures.1 v either.0 in
+      let first = c.and-first.ensures.1 v second.0 in
       (first.0, rw (either.1, first.1, second.1, c.opposite.ensures v) (choice_of_or (value v c.args.test) (value v c.args.a) (value v c.args.b))),
 )

@@ -5,20 +5,20 @@ use Rattle.can_gates.proofs.OrderPlaces.{less_place}
 use Rattle.can_gates.proofs.circuit.Circuit.less.Goals as goal
 
 pub loop-place-init : goal.loop-place-init
-loop-place-init c = (refl, λ v keeps. (keeps, value-never v (zero-kept v c.args.self.now.gates keeps)))
+loop-place-init c = (refl, λ v keeps. (keeps, value-never v (zero-kept v c.args.self.now keeps)))
 
 pub loop-place-preserved : goal.loop-place-preserved
 loop-place-preserved c =
     let l = c.loop-place in
     let a = c.args.a.now in
     let b = c.args.b.now in (
-      c.in_ok-less.ensures.0 ∙ c.in_ok-differ.ensures.0 ∙ l.invariant.0,
+      c.ite-less.ensures.0 ∙ c.xor-differ.ensures.0 ∙ l.invariant.0,
       λ v keeps.
-          let less = c.in_ok-less.ensures.1 v keeps in
-          let differs = c.in_ok-differ.ensures.1 v less.0 in
+          let less = c.ite-less.ensures.1 v keeps in
+          let differs = c.xor-differ.ensures.1 v less.0 in
           let before = l.invariant.1 v differs.0 in
-          let zero_is = zero-kept v c.args.self.now.gates before.0 in
-          (before.0, rw (add-one l.place) (less_place v zero_is a b c.literal_at-left.result c.literal_at-right.result c.in_ok-differ.differ l.less c.in_ok-less.less l.place c.literal_at-left.ensures c.literal_at-right.ensures differs.1 less.1 before.1)),
+          let zero_is = zero-kept v c.args.self.now before.0 in
+          (before.0, rw (add-one l.place) (less_place v zero_is a b c.literal_at-left.result c.literal_at-right.result c.xor-differ.result l.less c.ite-less.result l.place c.literal_at-left.ensures c.literal_at-right.ensures differs.1 less.1 before.1)),
     )
 
 pub returns : goal.returns

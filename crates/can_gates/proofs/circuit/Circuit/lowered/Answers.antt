@@ -19,7 +19,7 @@ returns c =
         c.in_ok-up.ensures.1.0,
         λ v keeps.
             let made = rw c.deref.ensures.value at (c.in_ok-up.ensures.1.1 v keeps) in
-            let zero_is = zero-kept v c.args.self.now.gates made.0 in
+            let zero_is = zero-kept v c.args.self.now made.0 in
             let first = rw long_turned at (c.in_ok-turned.ensures.1 v zero_is) in
             let last = rw (c.deref-2.ensures.value, long) at (c.in_ok-lowered.ensures.1 v zero_is) in
             (made.0, lowered_by (number v word) (number v by) (number v turned) (number v up) (number v lowered) (2 ^ max (length word) (length by)) first (rw long_up at made.1) last),

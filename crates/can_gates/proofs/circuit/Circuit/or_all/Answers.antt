@@ -9,12 +9,12 @@ loop-place-preserved c =
     let l = c.loop-place in (
       search rules,
       (
-        c.in_ok-level.ensures.0 ∙ l.invariant.1.0,
+        c.or-level.ensures.0 ∙ l.invariant.1.0,
         λ v keeps.
-            let level = c.in_ok-level.ensures.1 v keeps in
+            let level = c.or-level.ensures.1 v keeps in
             let before = l.invariant.1.1 v level.0 in
-            let zero_is = zero-kept v c.args.self.now.gates before.0 in
-            (before.0, rw (add-one l.place-index) (or_place v zero_is l.all.items c.push.new.self.items c.args.word.now c.in_ok-level.level c.args.over l.place-index c.in_ok-push.ensures.items l.invariant.0 level.1 before.1)),
+            let zero_is = zero-kept v c.args.self.now before.0 in
+            (before.0, rw (add-one l.place-index) (or_place v zero_is l.all.items c.push.new.self.items c.args.word.now c.or-level.result c.args.over l.place-index c.in_ok-push.ensures.items l.invariant.0 level.1 before.1)),
       ),
     )
 

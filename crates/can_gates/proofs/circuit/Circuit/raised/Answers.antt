@@ -18,7 +18,7 @@ returns c =
         λ v keeps.
             let raised = rw c.deref.ensures.value at (c.in_ok-raised.ensures.1.1 v keeps) in
             let added = c.in_ok-sum.ensures.1.1 v raised.0 in
-            let none : number v word + number v by + bit (value v never) ≡ number v word + number v by = rw (value-never v (zero-kept v c.args.self.now.gates added.0)) (omega arith) in
+            let none : number v word + number v by + bit (value v never) ≡ number v word + number v by = rw (value-never v (zero-kept v c.args.self.now added.0)) (omega arith) in
             (added.0, raised.1 ∙ rw same (stopped (number v sum) (number v word) (number v by) (2 ^ length sum) (value v c.in_ok-sum.sum.carry) (added.1 ∙ none) (number-lt v sum))),
       ),
     )

@@ -26,7 +26,7 @@ loop-odd-preserved c =
       λ v keeps.
           let half = rw c.deref.ensures.value at (c.in_ok-half.ensures.1 v keeps) in
           let before = l.invariant.1 v half.0 in
-          let zero_is = zero-kept v c.args.self.now.gates before.0 in
+          let zero_is = zero-kept v c.args.self.now before.0 in
           (before.0, λ k. rw (add-one l.odd-index) (half.1 k ∙ before.1 (bit (value_at v place l.odd-index) + 2 * k) ∙ ap (value_at v items) (select_place v zero_is place l.odd-index k))),
     )
 

@@ -4,8 +4,8 @@ use Rattle.can_gates.proofs.circuit.Circuit.xor.Goals as goal
 
 pub returns : goal.returns
 returns c = (
-  c.in_ok-either.ensures.0,
+  c.ite.ensures.0,
   λ v keeps.
-      let either = c.in_ok-either.ensures.1 v keeps in
+      let either = c.ite.ensures.1 v keeps in
       (either.0, rw (either.1, c.opposite.ensures v) (differ_of_choice (value v c.args.a) (value v c.args.b))),
 )

@@ -5,9 +5,9 @@ use Rattle.can_gates_mac.proofs.moves.between_frames.joining.Goals as goal
 
 pub returns : goal.returns
 returns c = (
-  c.in_ok-made.ensures.0,
+  c.first_row.ensures.0,
   λ v keeps.
-      let made = c.in_ok-made.ensures.1 v keeps in (
+      let made = c.first_row.ensures.1 v keeps in (
         made.0,
         λ n s waiting x k.
             let zero = c.of-zero.ensures v k.never in

@@ -5,9 +5,9 @@ use Rattle.can_gates_mac.proofs.moves.flags.error_flag.Goals as goal
 
 pub returns : goal.returns
 returns c = (
-  c.in_ok-made.ensures.0,
+  c.first_row.ensures.0,
   λ v keeps.
-      let made = c.in_ok-made.ensures.1 v keeps in (
+      let made = c.first_row.ensures.1 v keeps in (
         made.0,
         λ n s waiting x k.
             made.1 ∙ rw (value-always v k.never, k.recessive, k.below_5) (error_flag_rows s n x _ _ _ (c.errs_in_flag-wrong.ensures v s _ waiting x k) (c.goes-on.ensures v s _ waiting x k _ k.next) (c.ends_error_flag-ended.ensures v s _ waiting x k)),

@@ -7,17 +7,17 @@ use Rattle.can_gates_mac.proofs.moves.stuffed_part.stuffed_part.Goals as goal
 
 pub returns : goal.returns
 returns c = (
-  c.in_ok-made.ensures.0 ∙ c.in_ok-loses.ensures.made.0 ∙ c.in_ok-hidden.ensures.made.0 ∙ c.in_ok-fails.ensures.made.0 ∙ c.in_ok-differs.ensures.0 ∙ c.in_ok-sends.ensures.made.0 ∙ c.in_ok-uncounted.ensures.made.0 ∙ c.in_ok-overridden.ensures.made.0 ∙ c.in_ok-wrong.ensures.made.0,
+  c.first_row.ensures.0 ∙ c.and-loses.ensures.0 ∙ c.and-hidden.ensures.0 ∙ c.and-fails.ensures.0 ∙ c.xor-differs.ensures.0 ∙ c.and-sends.ensures.0 ∙ c.and-uncounted.ensures.0 ∙ c.and-overridden.ensures.0 ∙ c.and-wrong.ensures.0,
   λ v keeps.
-      let made = c.in_ok-made.ensures.1 v keeps in
-      let loses = c.in_ok-loses.ensures.made.1 v made.0 in
-      let hidden = c.in_ok-hidden.ensures.made.1 v loses.0 in
-      let fails = c.in_ok-fails.ensures.made.1 v hidden.0 in
-      let differs = c.in_ok-differs.ensures.1 v fails.0 in
-      let sends = c.in_ok-sends.ensures.made.1 v differs.0 in
-      let uncounted = c.in_ok-uncounted.ensures.made.1 v sends.0 in
-      let overridden = c.in_ok-overridden.ensures.made.1 v uncounted.0 in
-      let wrong = c.in_ok-wrong.ensures.made.1 v overridden.0 in (
+      let made = c.first_row.ensures.1 v keeps in
+      let loses = c.and-loses.ensures.1 v made.0 in
+      let hidden = c.and-hidden.ensures.1 v loses.0 in
+      let fails = c.and-fails.ensures.1 v hidden.0 in
+      let differs = c.xor-differs.ensures.1 v fails.0 in
+      let sends = c.and-sends.ensures.1 v differs.0 in
+      let uncounted = c.and-uncounted.ensures.1 v sends.0 in
+      let overridden = c.and-overridden.ensures.1 v uncounted.0 in
+      let wrong = c.and-wrong.ensures.1 v overridden.0 in (
         wrong.0,
         λ s front waiting x k part.
             let zero = c.of-zero.ensures v k.never in
