@@ -1,5 +1,5 @@
 -- What a bit time makes of a controller, from its fields: a move, and where it lands.
-use Rattle.std.proofs.Common.{◌≡◌, ◌≤◌, Bool, true, false, IsTrue, IsFalse, Option, Some, None, refl, sym, ◌∙◌, ap, subst, arith, cond}
+use Rattle.std.proofs.Common.{◌≡◌, ◌≤◌, Bool, true, false, IsTrue, IsFalse, IfSome, IsNone, Option, Some, None, refl, sym, ◌∙◌, ap, subst, arith, cond}
 use Rattle.std.proofs.Math.Dec.{leb}
 use Rattle.std.proofs.lemmas.Bool.{cond-true, cond-false, le-leb, leb-true, or_left}
 use Rattle.can_frame.specs.declared.level.Level.{Level}
@@ -8,37 +8,33 @@ use Rattle.can_frame.specs.Parts.{Parts}
 use Rattle.can_fault.specs.declared.state.State.TheVariants.{Active, Passive, BusOff as off_state}
 use Rattle.can_fault.specs.Counters.{ConfineParts, is_bus_off, is_passive, state_of}
 use Rattle.can_mac.specs.declared.event.Event.{Event}
-use Rattle.can_mac.specs.declared.moves.Move.{Move}
 use Rattle.can_mac.specs.declared.moves.Stance.{Stance}
+use Rattle.can_mac.specs.declared.phase.Overloads.{Overloads}
+use Rattle.can_mac.specs.declared.phase.Role.{Role}
 use Rattle.can_mac.specs.declared.phase.Role.TheVariants.{Receiver}
 use Rattle.can_mac.specs.declared.phase.Phase.TheVariants.{BusOff}
 use Rattle.can_mac.specs.State.{MacPhase, MacState, IsMac, IsFrameOrNone, is_off_phase}
-use Rattle.can_mac.specs.Moves.{MacMove, begins_frame, goes, idle_move, move, move_keeping, next_role}
-use Rattle.can_mac.specs.Machine.{step_counting, mac_step, off_step, on_step, stance}
+use Rattle.can_mac.specs.Moves.{MacMove, begins_frame, goes, idle_move, move, next_role}
+use Rattle.can_mac.specs.Machine.{mac_step, off_step, on_step, stance}
 use Rattle.can_mac.proofs.Kept.{on_kept}
 
 -- the state of a controller that goes off the bus
 abbrev pub gone : MacMove → ConfineParts → MacState
 gone v c = record { phase = BusOff; role = Receiver; overloads = v.overloads; counters = c }
 
--- A controller whose fields are these, and which it is from outside; what its move is; and where it lands.
+-- A controller whose fields are these, and which it is from outside.
 module _ (m now : MacState) (view : m ≡ now) (h : IsMac m) (on : is_off_phase now.phase ≡ false) (waiting : Option Parts) (whole : IsFrameOrNone waiting) (x : Level) where
-  module _ (passive : Bool) (told : passive ≡ is_passive m.counters) (kept : MacPhase) (next : Move (Option MacPhase))
-      (is : move_keeping kept next ≡ move (record { passive = passive; role = m.role; overloads = m.overloads }) m.phase waiting x) where
-    same_move : move_keeping kept next ≡ move (stance m) m.phase waiting x
-    same_move = subst (λ p. move_keeping kept next ≡ move (record { passive = p; role = m.role; overloads = m.overloads }) m.phase waiting x) told is
+  -- where the move of a level lands
+  pub stepped-IsMac : (s : MacState) → s ≡ (on_step m (move (stance m) m.phase waiting x)).0 → IsMac s
+  stepped-IsMac s landed = subst IsMac (sym landed) (on_kept m h waiting x (ap (λ n. is_off_phase n.phase) view ∙ on) whole)
 
-    same_step : step_counting (move_keeping kept next) m.counters next.cause ≡ on_step now (move (stance now) now.phase waiting x)
-    same_step = ap (λ v. step_counting v m.counters v.cause) same_move ∙ ap (λ n. on_step n (move (stance n) n.phase waiting x)) view
-
-    pub lands : {A : Type 0} (part : MacState × Option Event → A) (a : A) → a ≡ part (step_counting (move_keeping kept next) m.counters next.cause) → a ≡ part (on_step now (move (stance now) now.phase waiting x))
-    lands part a landed = landed ∙ ap part same_step
-
-    step_is_mac : IsMac (on_step now (move (stance now) now.phase waiting x)).0
-    step_is_mac = on_kept now (subst IsMac view h) waiting x on whole
-
-    pub lands-IsMac : (s : MacState) → s ≡ (step_counting (move_keeping kept next) m.counters next.cause).0 → IsMac s
-    lands-IsMac s landed = subst IsMac (sym (lands (λ p. p.0) s landed)) step_is_mac
+  -- where it lands if something is told, and where nothing changes if not
+  pub told-IsMac : {A : Type 0} (told : Option A) (phase : MacPhase) (role : Role) (overloads : Overloads) (counters : ConfineParts)
+      → IfSome told (λ event. record { phase = phase; role = role; overloads = overloads; counters = counters } ≡ (on_step m (move (stance m) m.phase waiting x)).0)
+      → (IsNone told → phase ≡ m.phase) → (IsNone told → role ≡ m.role) → (IsNone told → overloads ≡ m.overloads) → (IsNone told → counters ≡ m.counters)
+      → IsMac (record { phase = phase; role = role; overloads = overloads; counters = counters })
+  told-IsMac (Some event) phase role overloads counters landed p r o k = stepped-IsMac (record { phase = phase; role = role; overloads = overloads; counters = counters }) landed
+  told-IsMac None phase role overloads counters landed p r o k = rw (p refl, r refl, o refl, k refl) h
 
   -- where a level only makes another phase
   module _ (p : MacPhase) (is : (s : Stance) → s.role ≡ m.role → move s m.phase waiting x ≡ goes s p) where

@@ -11,6 +11,7 @@
 //! | `event.rt` | [`Event`], what a bit time brings, [`ErrorKind`] | `specs/Codes.antt` |
 //! | `phase.rt` | [`Phase`], [`Role`], [`Overloads`], the parts of a controller's state | `specs/State.antt` |
 //! | `machine.rt` | [`MediumAccess`], a controller, bit by bit | `specs/Machine.antt` |
+//! | `step.rt` | a level on the bus: the move that it makes, what that counts, where it lands | `specs/Machine.antt` |
 //! | `poised.rt` | [`Poised`], how a frame that begins finds a controller | `specs/Frames.antt` |
 //! | `copying.rt` | a controller once more | |
 //! | `driving.rt` | what it drives of a frame | `specs/Machine.antt` |
@@ -42,6 +43,7 @@ mod machine;
 mod moves;
 mod phase;
 mod poised;
+mod step;
 
 pub use event::{ErrorKind, Event};
 pub use laws::{

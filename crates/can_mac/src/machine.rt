@@ -11,11 +11,12 @@ ghost use Rattle.can_mac.specs.Machine.{holding, IsSilent, mac_drives, mac_step,
 use crate::copying::phase_copied;
 use crate::driving::level_of_phase;
 use crate::event::Event;
+use crate::moves::MOST_OVERLOADS;
 use crate::moves::flags::LAST_OF_DELIMITER;
-use crate::moves::shortcuts::{goes_on, goes_on_recessive, move_in_place, receiver_hears_on};
-use crate::moves::{Hearing, MOST_OVERLOADS, Move, Stance, enter, next_move};
+use crate::moves::shortcuts::{goes_on, goes_on_recessive, receiver_hears_on};
 use crate::phase::{Overloads, Phase, Role};
 use crate::poised::Poised;
+use crate::step::{is_passive, make_any, make_in_place};
 use can_code::{CheckedBits, FrameBits, Front, PlainBits, Sending};
 use can_fault::{Cause, Confine, State};
 use can_frame::{Frame, Level};
@@ -116,6 +117,7 @@ impl<B: FrameBits> MediumAccess<B> {
     pub fn sample(&mut self, waiting: Option<&Frame>, seen: Level) -> Option<Event>
         ensures state { self.new ≡ (mac_step self.old (option_copied waiting.entry) seen).0 }
         ensures event { result ≡ (mac_step self.old (option_copied waiting.entry) seen).1 }
+        ensures kept { IsMac self.new }
     {
         match self.phase {
             Phase::BusOff => self.wait_for_recovery(seen),
@@ -321,6 +323,7 @@ impl<B: FrameBits> MediumAccess<B> {
         requires { is_off_phase self.old.phase ≡ true }
         ensures state { self.new ≡ (off_step self.old seen).0 }
         ensures event { result ≡ (off_step self.old seen).1 }
+        ensures kept { IsMac self.new }
     {
         if self.confine.recover(seen) {
             self.phase = Phase::Idle;
@@ -335,42 +338,21 @@ impl<B: FrameBits> MediumAccess<B> {
         requires { is_off_phase self.old.phase ≡ false }
         ensures state { self.new ≡ (on_step self.old (move (stance_of self.old) self.old.phase (option_copied waiting.entry) seen)).0 }
         ensures event { result ≡ (on_step self.old (move (stance_of self.old) self.old.phase (option_copied waiting.entry) seen)).1 }
+        ensures kept { IsMac self.new }
     {
         within_limits(waiting);
-        if let Some(event) = self.make_in_place(waiting, seen) {
-            return event;
-        }
-        self.make_move(waiting, seen)
-    }
-
-    /// A level that makes a move of a frame that goes well: what is told. Else nothing changes.
-    #[inline(always)]
-    fn make_in_place(&mut self, waiting: Option<&Frame>, seen: Level) -> Option<Option<Event>>
-        requires on_bus { is_off_phase self.old.phase ≡ false }
-        requires waiting { IsFrameOrNone (option_copied waiting) }
-        ensures state { IfSome result (λ event. self.new ≡ (on_step self.old (move (stance_of self.old) self.old.phase (option_copied waiting.entry) seen)).0) }
-        ensures event { IfSome result (λ event. event ≡ (on_step self.old (move (stance_of self.old) self.old.phase (option_copied waiting.entry) seen)).1) }
-        ensures unchanged { IsNone result → self.new ≡ self.old }
-    {
-        let passive = is_passive(&self.confine);
-        let Some(outcome) = move_in_place(
-            passive,
+        let made = make_in_place(
             &mut self.phase,
             &mut self.role,
             &mut self.overloads,
+            &mut self.confine,
             waiting,
             seen,
-        ) else {
-            return None;
-        };
-        let made = Move {
-            phase: None,
-            role: self.role,
-            overloads: self.overloads,
-            cause: outcome.cause,
-            event: outcome.event,
-        };
-        Some(land(&mut self.phase, &mut self.role, &mut self.confine, made))
+        );
+        if let Some(event) = made {
+            return event;
+        }
+        self.make_move(waiting, seen)
     }
 
     /// A level that makes a move.
@@ -380,38 +362,17 @@ impl<B: FrameBits> MediumAccess<B> {
         requires waiting { IsFrameOrNone (option_copied waiting) }
         ensures state { self.new ≡ (on_step self.old (move (stance_of self.old) self.old.phase (option_copied waiting.entry) seen)).0 }
         ensures event { result ≡ (on_step self.old (move (stance_of self.old) self.old.phase (option_copied waiting.entry) seen)).1 }
+        ensures kept { IsMac self.new }
     {
-        let stance = Stance {
-            passive: is_passive(&self.confine),
-            role: self.role,
-            overloads: self.overloads,
-        };
-        let made = next_move(&stance, &mut self.phase, waiting, seen);
-        self.overloads = made.overloads;
-        land(&mut self.phase, &mut self.role, &mut self.confine, made)
+        make_any(
+            &mut self.phase,
+            &mut self.role,
+            &mut self.overloads,
+            &mut self.confine,
+            waiting,
+            seen,
+        )
     }
-}
-
-/// Lands where a move leads, whose phase may have been heard in place: what is told. Where what it counts makes the
-/// controller bus off, this is told in place of all else.
-#[inline(always)]
-fn land<B: FrameBits>(
-    phase: &mut Phase<Front<B>>,
-    role: &mut Role,
-    confine: &mut Confine,
-    made: Hearing,
-) -> Option<Event>
-    ensures state { record { phase = phase.new; role = role.new; overloads = made.overloads; counters = confine.new } ≡ (step_counting (move_keeping phase.old made) confine.old made.cause).0 }
-    ensures event { result ≡ (step_counting (move_keeping phase.old made) confine.old made.cause).1 }
-{
-    if count(confine, made.cause) {
-        *phase = Phase::BusOff;
-        *role = Role::Receiver;
-        return Some(Event::WentOff);
-    }
-    enter(phase, made.phase);
-    *role = made.role;
-    made.event
 }
 
 /// A frame that waits is within its limits, which its bytes tell.
@@ -421,29 +382,6 @@ fn within_limits(waiting: Option<&Frame>)
     if let Some(frame) = waiting {
         let _ = frame.bytes();
     }
-}
-
-/// Whether the controller is error passive.
-#[tactic(auto, using(crate::proofs::Landing::active_told, crate::proofs::Landing::passive_told, crate::proofs::Landing::off_told))]
-fn is_passive(confine: &Confine) -> bool
-    ensures { result ≡ is_passive_by confine.now }
-{
-    match confine.state() {
-        State::Active => false,
-        State::Passive | State::BusOff => true,
-    }
-}
-
-/// Counts what a move counts, if anything: whether this makes the controller bus off.
-fn count(confine: &mut Confine, cause: Option<Cause>) -> bool
-    ensures none { cause ≡ None → (confine.new ≡ confine.old) × (result ≡ false) }
-    ensures some { (c : Cause) → cause ≡ Some c → (confine.new ≡ counted c confine.old) × (result ≡ is_bus_off confine.new) }
-{
-    let Some(cause) = cause else {
-        return false;
-    };
-    confine.apply(cause);
-    confine.state() == State::BusOff
 }
 
 /// Whether it is the phase of a controller that is idle, or in a frame or the intermission behind it.

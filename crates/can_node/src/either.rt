@@ -79,15 +79,15 @@ impl Port for EitherNode {
 
     #[inline]
     fn ride(&mut self, leader: &Self, frame: &Frame, levels: &[Level]) {
-        match (self, leader) {
-            (EitherNode::Plain(node), EitherNode::Plain(leader)) => node.ride(
-                leader, frame, levels,
-            ),
-            (EitherNode::Packed(node), EitherNode::Packed(leader)) => node.ride(
-                leader, frame, levels,
-            ),
-            (EitherNode::Plain(node), EitherNode::Packed(_)) => node.turn_through(levels),
-            (EitherNode::Packed(node), EitherNode::Plain(_)) => node.turn_through(levels),
+        match self {
+            EitherNode::Plain(node) => match leader {
+                EitherNode::Plain(leader) => node.ride(leader, frame, levels),
+                EitherNode::Packed(_) => node.turn_through(levels),
+            },
+            EitherNode::Packed(node) => match leader {
+                EitherNode::Packed(leader) => node.ride(leader, frame, levels),
+                EitherNode::Plain(_) => node.turn_through(levels),
+            },
         }
     }
 

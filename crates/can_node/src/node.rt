@@ -62,10 +62,12 @@ impl<B: FrameBits> Node<B> {
     pub fn copied(&self, alloc: Global) -> Result<Self, AllocError>
         ensures { IfOk result (λ n. ⟦<Node<B> as Port>⟧.port n ≡ ⟦<Node<B> as Port>⟧.port self.now) }
     {
+        let queue = self.queue.copied(alloc)?;
+        let log = self.log.copied(alloc)?;
         Ok(Node {
             mac: self.mac.copied(),
-            queue: self.queue.copied(alloc)?,
-            log: self.log.copied(alloc)?,
+            queue,
+            log,
         })
     }
 
