@@ -2,7 +2,7 @@
 use can_gates::Literal;
 
 /// Where in a frame a controller is.
-#[derive(Clone, Copy, Debug)]
+#[derive(Clone, Copy)]
 pub(crate) struct Within {
     /// Whether its stuffed part goes on.
     pub(crate) part: Literal,

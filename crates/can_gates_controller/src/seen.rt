@@ -2,7 +2,7 @@
 use can_gates::Literal;
 
 /// What a bit time brings.
-#[derive(Clone, Copy, Debug)]
+#[derive(Clone, Copy)]
 pub struct Seen {
     /// Whether a frame waits.
     pub waits: Literal,

@@ -18,7 +18,7 @@ use can_gates::{Circuit, FALSE, Literal, TRUE, constant};
 use std::alloc::{AllocError, Global};
 
 /// What a controller reads of the frame that waits and of the frame on the bus, to drive a level.
-#[derive(Clone, Copy, Debug)]
+#[derive(Clone, Copy)]
 pub struct Sends {
     /// Whether a frame waits.
     pub waits: Literal,
@@ -33,7 +33,7 @@ pub struct Sends {
 }
 
 /// What a level is to the run of equal levels before it, and the run behind it.
-#[derive(Clone, Copy, Debug)]
+#[derive(Clone, Copy)]
 pub struct StuffPlace {
     /// Whether the level is a stuff bit.
     pub due: Literal,

@@ -7,7 +7,7 @@ ghost use Rattle.can_gates_mac.specs.Nibbles.{nibble};
 use can_gates::{Circuit, FALSE, Literal, TRUE};
 
 /// A number below 16, of four literals.
-#[derive(Clone, Copy, Debug)]
+#[derive(Clone, Copy)]
 pub struct Nibble {
     /// The lowest place.
     pub ones: Literal,

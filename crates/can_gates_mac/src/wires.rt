@@ -4,7 +4,7 @@ use can_gates::Literal;
 
 /// A controller but for its counters and frames, with what is counted and what is told. What a phase has no use for is 0
 /// in it. (`specs/Numbers.antt`)
-#[derive(Clone, Copy, Debug)]
+#[derive(Clone, Copy)]
 pub struct Wires {
     /// The number of the phase.
     pub phase: Nibble,
@@ -62,7 +62,7 @@ pub(crate) struct Now {
 }
 
 /// What the stuffed part's move reads of what is heard of a frame.
-#[derive(Clone, Copy, Debug)]
+#[derive(Clone, Copy)]
 pub struct Part {
     /// Whether the next level is a stuff bit.
     pub due: Literal,
@@ -77,7 +77,7 @@ pub struct Part {
 }
 
 /// What comes in a bit time, and what is read of the frame on the bus.
-#[derive(Clone, Copy, Debug)]
+#[derive(Clone, Copy)]
 pub struct Inputs {
     /// Whether a frame waits.
     pub waits: Literal,
