@@ -1,5 +1,5 @@
 -- What a bit time makes of a controller, from its fields: a move, and where it lands.
-use Rattle.std.proofs.Common.{◌≡◌, ◌≤◌, Bool, true, false, IsTrue, IsFalse, IfSome, IsNone, Option, Some, None, refl, sym, ◌∙◌, ap, subst, arith, cond}
+use Rattle.std.proofs.Common.{◌≡◌, ◌≤◌, Bool, true, false, IsTrue, IsFalse, Option, Some, None, refl, sym, ◌∙◌, ap, subst, arith, cond}
 use Rattle.std.proofs.Math.Dec.{leb}
 use Rattle.std.proofs.lemmas.Bool.{cond-true, cond-false, le-leb, leb-true, or_left}
 use Rattle.can_frame.specs.declared.level.Level.{Level}
@@ -8,34 +8,31 @@ use Rattle.can_frame.specs.Parts.{Parts}
 use Rattle.can_fault.specs.declared.state.State.TheVariants.{Active, Passive, BusOff as off_state}
 use Rattle.can_fault.specs.Counters.{ConfineParts, is_bus_off, is_passive, state_of}
 use Rattle.can_mac.specs.declared.event.Event.{Event}
+use Rattle.can_mac.specs.declared.moves.Move.{Move}
 use Rattle.can_mac.specs.declared.moves.Stance.{Stance}
-use Rattle.can_mac.specs.declared.phase.Overloads.{Overloads}
-use Rattle.can_mac.specs.declared.phase.Role.{Role}
 use Rattle.can_mac.specs.declared.phase.Role.TheVariants.{Receiver}
 use Rattle.can_mac.specs.declared.phase.Phase.TheVariants.{BusOff}
 use Rattle.can_mac.specs.State.{MacPhase, MacState, IsMac, IsFrameOrNone, is_off_phase}
-use Rattle.can_mac.specs.Moves.{MacMove, begins_frame, goes, idle_move, move, next_role}
-use Rattle.can_mac.specs.Machine.{mac_step, off_step, on_step, stance}
+use Rattle.can_mac.specs.Moves.{MacMove, begins_frame, goes, idle_move, move, move_keeping, next_role}
+use Rattle.can_mac.specs.Machine.{step_counting, mac_step, off_step, on_step, stance}
 use Rattle.can_mac.proofs.Kept.{on_kept}
 
 -- the state of a controller that goes off the bus
 abbrev pub gone : MacMove → ConfineParts → MacState
 gone v c = record { phase = BusOff; role = Receiver; overloads = v.overloads; counters = c }
 
+-- Of a controller of these fields on the bus, where the move of a level lands.
+module _ (m : MacState) (h : IsMac m) (on : is_off_phase m.phase ≡ false) (waiting : Option Parts) (whole : IsFrameOrNone waiting) (x : Level) where
+  pub lands-IsMac : (passive : Bool) → passive ≡ is_passive m.counters → (kept : MacPhase) (next : Move (Option MacPhase))
+      → move_keeping kept next ≡ move (record { passive = passive; role = m.role; overloads = m.overloads }) m.phase waiting x
+      → (s : MacState) → s ≡ (step_counting (move_keeping kept next) m.counters next.cause).0 → IsMac s
+  lands-IsMac passive told kept next is s landed =
+      let same_move : move_keeping kept next ≡ move (stance m) m.phase waiting x =
+      subst (λ p. move_keeping kept next ≡ move (record { passive = p; role = m.role; overloads = m.overloads }) m.phase waiting x) told is in
+      subst IsMac (sym (landed ∙ ap (λ v. (step_counting v m.counters v.cause).0) same_move)) (on_kept m h waiting x on whole)
+
 -- A controller whose fields are these, and which it is from outside.
 module _ (m now : MacState) (view : m ≡ now) (h : IsMac m) (on : is_off_phase now.phase ≡ false) (waiting : Option Parts) (whole : IsFrameOrNone waiting) (x : Level) where
-  -- where the move of a level lands
-  pub stepped-IsMac : (s : MacState) → s ≡ (on_step m (move (stance m) m.phase waiting x)).0 → IsMac s
-  stepped-IsMac s landed = subst IsMac (sym landed) (on_kept m h waiting x (ap (λ n. is_off_phase n.phase) view ∙ on) whole)
-
-  -- where it lands if something is told, and where nothing changes if not
-  pub told-IsMac : {A : Type 0} (told : Option A) (phase : MacPhase) (role : Role) (overloads : Overloads) (counters : ConfineParts)
-      → IfSome told (λ event. record { phase = phase; role = role; overloads = overloads; counters = counters } ≡ (on_step m (move (stance m) m.phase waiting x)).0)
-      → (IsNone told → phase ≡ m.phase) → (IsNone told → role ≡ m.role) → (IsNone told → overloads ≡ m.overloads) → (IsNone told → counters ≡ m.counters)
-      → IsMac (record { phase = phase; role = role; overloads = overloads; counters = counters })
-  told-IsMac (Some event) phase role overloads counters landed p r o k = stepped-IsMac (record { phase = phase; role = role; overloads = overloads; counters = counters }) landed
-  told-IsMac None phase role overloads counters landed p r o k = rw (p refl, r refl, o refl, k refl) h
-
   -- where a level only makes another phase
   module _ (p : MacPhase) (is : (s : Stance) → s.role ≡ m.role → move s m.phase waiting x ≡ goes s p) where
     pub goes-on : (record { phase = p; role = m.role; overloads = m.overloads; counters = m.counters }, None) ≡ on_step now (move (stance now) now.phase waiting x)

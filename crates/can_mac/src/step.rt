@@ -1,15 +1,15 @@
 //! A level at a controller on the bus: the move that it makes, what that counts, and where it lands. (Bosch CAN 2.0
 //! part B, sections 3.2, 7 and 8)
 
-ghost use Rattle.std.specs.Prelude.{◌≡◌, IfSome, IsNone, None, Some, true, false};
+ghost use Rattle.std.specs.Prelude.{◌≡◌, IfSome, IsNone, None, Some, false};
 ghost use Rattle.std.specs.Option.{option_copied};
 ghost use Rattle.can_fault.specs.Counters.{counted, is_bus_off, is_passive as is_passive_by};
 ghost use Rattle.can_mac.specs.Machine.{on_step, stance as stance_of, step_counting};
 ghost use Rattle.can_mac.specs.Moves.{move, move_keeping};
-ghost use Rattle.can_mac.specs.State.{IsPhase, MacState};
+ghost use Rattle.can_mac.specs.State.{IsFrameOrNone, IsMac, MacState, is_off_phase};
 
 use crate::event::Event;
-use crate::moves::shortcuts::{Outcome, move_in_place};
+use crate::moves::shortcuts::move_in_place;
 use crate::moves::{Hearing, Move, Stance, enter, next_move};
 use crate::phase::{Overloads, Phase, Role};
 use can_code::{FrameBits, Front};
@@ -26,11 +26,14 @@ pub(crate) fn make_in_place<B: FrameBits>(
     waiting: Option<&Frame>,
     seen: Level,
 ) -> Option<Option<Event>>
-    requires { IsPhase phase.old }
+    requires mac { IsMac (record { phase = phase.old; role = role.old; overloads = overloads.old; counters = confine.old }) }
+    requires on_bus { is_off_phase phase.old ≡ false }
+    requires waiting { IsFrameOrNone (option_copied waiting) }
     ensures state { IfSome result (λ event. let m : MacState = record { phase = phase.old; role = role.old; overloads = overloads.old; counters = confine.old } in
         record { phase = phase.new; role = role.new; overloads = overloads.new; counters = confine.new } ≡ (on_step m (move (stance_of m) m.phase (option_copied waiting.entry) seen)).0) }
     ensures event { IfSome result (λ event. let m : MacState = record { phase = phase.old; role = role.old; overloads = overloads.old; counters = confine.old } in
         event ≡ (on_step m (move (stance_of m) m.phase (option_copied waiting.entry) seen)).1) }
+    ensures kept { IsMac (record { phase = phase.new; role = role.new; overloads = overloads.new; counters = confine.new }) }
     ensures same_phase { IsNone result → phase.new ≡ phase.old }
     ensures same_role { IsNone result → role.new ≡ role.old }
     ensures same_overloads { IsNone result → overloads.new ≡ overloads.old }
@@ -38,15 +41,15 @@ pub(crate) fn make_in_place<B: FrameBits>(
 {
     let passive = is_passive(confine);
     let outcome = move_in_place(passive, phase, role, overloads, waiting, seen);
-    let Some(Outcome { cause, event }) = outcome else {
+    let Some(outcome) = outcome else {
         return None;
     };
     let made = Move {
         phase: None,
         role: *role,
         overloads: *overloads,
-        cause,
-        event,
+        cause: outcome.cause,
+        event: outcome.event,
     };
     Some(land(phase, role, confine, made))
 }
@@ -61,11 +64,14 @@ pub(crate) fn make_any<B: FrameBits>(
     waiting: Option<&Frame>,
     seen: Level,
 ) -> Option<Event>
-    requires { IsPhase phase.old }
+    requires mac { IsMac (record { phase = phase.old; role = role.old; overloads = overloads.old; counters = confine.old }) }
+    requires on_bus { is_off_phase phase.old ≡ false }
+    requires waiting { IsFrameOrNone (option_copied waiting) }
     ensures state { let m : MacState = record { phase = phase.old; role = role.old; overloads = overloads.old; counters = confine.old } in
         record { phase = phase.new; role = role.new; overloads = overloads.new; counters = confine.new } ≡ (on_step m (move (stance_of m) m.phase (option_copied waiting.entry) seen)).0 }
     ensures event { let m : MacState = record { phase = phase.old; role = role.old; overloads = overloads.old; counters = confine.old } in
         result ≡ (on_step m (move (stance_of m) m.phase (option_copied waiting.entry) seen)).1 }
+    ensures kept { IsMac (record { phase = phase.new; role = role.new; overloads = overloads.new; counters = confine.new }) }
 {
     let stance = Stance {
         passive: is_passive(confine),

@@ -13,6 +13,7 @@
 //! | `node.rt` | [`Node`], a controller with a queue and a log: [`PlainNode`], [`PackedNode`] | `specs/Ports.antt` |
 //! | `either.rt` | [`EitherNode`], a port of either kind | |
 //! | `alike.rt` | [`sample_both`]: ports of whatever kinds that are in one state stay alike | `specs/Ports.antt` |
+//! | `copying.rt` | a list once more, with room behind it | |
 //! | `queue.rt` | the frames that wait, and which goes first | `specs/Ports.antt`, `specs/Waiting.antt` |
 //! | `queue/winners.rt` | a tournament of the slots in which they stand | `specs/Tournament.antt` |
 //! | `queue/entrant.rt` | who takes part in it | `specs/Tournament.antt` |
@@ -30,6 +31,7 @@
 #![tactic(auto)]
 
 mod alike;
+mod copying;
 mod either;
 mod entry;
 mod laws;

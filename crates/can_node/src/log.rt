@@ -3,6 +3,7 @@ ghost use Rattle.can_frame.specs.Parts.{IsFrame};
 ghost use Rattle.can_node.specs.declared.entry.Entry.{Entry as Logged};
 ghost use Rattle.can_node.specs.Ports.{missed_limit};
 
+use crate::copying::copied_with_room;
 use crate::entry::Entry;
 use std::alloc::{AllocError, Global};
 
@@ -39,10 +40,8 @@ impl Log {
         ensures room { IfOk result (λ l. l.room ≡ self.now.room) }
         ensures missed { IfOk result (λ l. l.missed ≡ self.now.missed) }
     {
-        let mut entries = Vec::with_capacity(alloc, self.room)?;
-        entries.extend_from_slice(&self.entries)?;
         Ok(Log {
-            entries,
+            entries: copied_with_room(alloc, &self.entries, self.room)?,
             room: self.room,
             missed: self.missed,
         })

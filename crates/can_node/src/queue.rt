@@ -7,6 +7,7 @@ ghost use Rattle.can_node.specs.Tournament.{frames_in, IsPlayed};
 mod entrant;
 mod winners;
 
+use crate::copying::copied_with_room;
 use crate::queue::entrant::Entrant;
 use crate::queue::winners::{Winners, frame_at};
 use can_frame::Frame;
@@ -61,10 +62,8 @@ impl Queue {
         ensures frames { IfOk result (λ q. frames_in q.slots.items ≡ frames_in self.now.slots.items) }
         ensures room { IfOk result (λ q. q.room ≡ self.now.room) }
     {
-        let mut slots = Vec::with_capacity(alloc, 2 * self.room)?;
-        slots.extend_from_slice(&self.slots)?;
         Ok(Queue {
-            slots,
+            slots: copied_with_room(alloc, &self.slots, 2 * self.room)?,
             winners: self.winners.copied(alloc, 2 * self.room)?,
             first: self.first,
             count: self.count,

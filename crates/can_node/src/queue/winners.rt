@@ -1,6 +1,7 @@
 ghost use Rattle.std.specs.Prelude.{◌≡◌, ◌<◌, ◌≤◌, ◌+◌, ◌*◌, ◌^◌, [], get_or, length, set, vec_capacity, IfOk, IsOk, None};
 ghost use Rattle.can_node.specs.Tournament.{FirstUnder, IsPlayed, IsPlayedBut, earlier_of, lower_of, winner_at};
 
+use crate::copying::copied_with_room;
 use crate::queue::entrant::{Entrant, earlier, is_same};
 use can_frame::{Frame, Key};
 use std::alloc::{AllocError, Global};
@@ -34,9 +35,9 @@ impl Winners {
         ensures same { IfOk result (λ w. w.entrants.items ≡ self.now.entrants.items) }
         ensures room { IfOk result (λ w. room ≤ vec_capacity w.entrants) }
     {
-        let mut entrants = Vec::with_capacity(alloc, room)?;
-        entrants.extend_from_slice(&self.entrants)?;
-        Ok(Winners { entrants })
+        Ok(Winners {
+            entrants: copied_with_room(alloc, &self.entrants, room)?,
+        })
     }
 
     /// For how many slots there are nodes.

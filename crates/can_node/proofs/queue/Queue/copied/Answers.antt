@@ -7,15 +7,16 @@ use Rattle.can_node.proofs.queue.Queue.copied.Goals as goal
 pub invariant_of-result : goal.invariant_of-result
 invariant_of-result c =
     let now = c.args.self.now in
-    let same : c.extend_from_slice.new.self.items ≡ now.slots.items = (search rules) in
-    let frames : frames_in c.extend_from_slice.new.self.items ≡ frames_in now.slots.items = ap frames_in same in
+    let copied = c.in_ok-copied_with_room in
+    let same : copied.field-0.items ≡ now.slots.items = (search rules) in
+    let frames : frames_in copied.field-0.items ≡ frames_in now.slots.items = ap frames_in same in
     let winners = c.in_ok-copied.ensures in
     record {
       are_frames = λ n f at. now.are_frames n f (ap (λ queue. slice_get queue n) (sym frames) ∙ at);
       counted = now.counted ∙ sym (ap length frames);
       fits = omega (arith, ap length frames, now.fits);
       few = now.few;
-      has_room = (omega (arith, c.in_ok-extend_from_slice.ensures.capacity, c.in_ok-slots.ensures.capacity), winners.room);
+      has_room = (copied.ensures.room, winners.room);
       has_slots = (omega (arith, ap length same, ap length winners.same, now.has_slots.0), omega (arith, ap length winners.same, now.has_slots.1));
       played = subst (λ slots. IsPlayed c.in_ok-copied.field-0.entrants.items slots) (sym same) (subst (λ entrants. IsPlayed entrants now.slots.items) (sym winners.same) now.played);
       goes_first = now.goes_first ∙ sym (ap waiting frames);
