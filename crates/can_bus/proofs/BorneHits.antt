@@ -12,7 +12,7 @@ use Rattle.can_hit.specs.declared.hit.Hit.TheVariants.{In}
 use Rattle.can_bus.specs.Attempts.{AreApart, IsLow, Tally, changed_by, hit_of, tallied}
 use Rattle.can_bus.specs.Course.{Transmission, and_hit, course_tally, hits_made, keeping}
 use Rattle.can_bus.specs.Quiet.{holds}
-use Rattle.can_bus.specs.Repair.{AreBorne, AreOfOnePort, HoldsAllOrNone, attempts_from, no_errors, repaired_course, tally}
+use Rattle.can_bus.specs.Repair.{AreBorne, AreHeld, AreOfOnePort, HoldsAllOrNone, attempts_from, no_errors, repaired_course, tally}
 use Rattle.can_bus.proofs.CalmPorts.{received-fewer, received-le}
 use Rattle.can_bus.proofs.Members.{none-taken}
 use Rattle.can_bus.proofs.RepairPlans.{few-made, frames_left, hit-cases, struck-there}
@@ -179,7 +179,7 @@ module _ (hits : List Hit) (nine : AreApart 9 hits) where
   -- so it stays low through all attempts
   module _ (queue : List Parts) (b : Bool) where
     abbrev AllHeld : List Parts → Type 0
-    AllHeld frames = (n : ℕ) (f : Parts) → slice_get frames n ≡ Some f → holds queue f ≡ b
+    AllHeld frames = AreHeld b queue frames
 
     held-left : (f : Parts) (hit : Option ℕ) (frames : List Parts) → AllHeld (f ∷ frames) → AllHeld (frames_left f hit frames)
     held-left f None frames each = λ n g at. each (suc n) g at

@@ -16,7 +16,7 @@ use Rattle.can_bus.specs.declared.call.Call.{Call}
 use Rattle.can_hit.specs.Hits.{is_above, is_pair_above}
 use Rattle.can_bus.specs.Run.{BusState, CallState, wired_level, begins_attempt, following, aged, attempt_now, hits_wire, hits_view, inverted_if, all_sampled, rest_after, recorded, bus_step, bus_after}
 use Rattle.can_bus.specs.Wired.{wired}
-use Rattle.can_bus.specs.Walks.{AreBelow, AreRising, IsPassed, IsCall, in_next, is_hit, aged_by, never, rested, until_at, until_in, until_view}
+use Rattle.can_bus.specs.Walks.{AreBelow, HitsRise, IsPassed, IsCall, in_next, is_hit, aged_by, never, rested, until_at, until_in, until_view}
 use Rattle.can_bus.proofs.CursorLemmas.{reach_none, reach_past, wire_found, attempt_found, view_found}
 use Rattle.can_bus.proofs.StepLemmas.{call_of, same_call, at_next, view_next, view_later, within_next}
 
@@ -67,7 +67,7 @@ abbrev pub LiesAbove : Option Hit → Hit → Type 0
 LiesAbove None q = ⊤
 LiesAbove (Some h) q = is_above h q ≡ true
 
-pub missed : (hits : List Hit) (place : ℕ) (q : Hit) (next : Option Hit) → AreRising hits → AreBelow hits place q → slice_get hits place ≡ next → LiesAbove next q → list_any (is_hit q) hits ≡ false
+pub missed : (hits : List Hit) (place : ℕ) (q : Hit) (next : Option Hit) → HitsRise hits → AreBelow hits place q → slice_get hits place ≡ next → LiesAbove next q → list_any (is_hit q) hits ≡ false
 missed hits place q None rising below at above = sym (reach_none hits place q below (past hits place at))
   where
     past : (hits : List Hit) (place : ℕ) → slice_get hits place ≡ None → length hits ≤ place
@@ -112,7 +112,7 @@ view_far time n node (Some (In number offset)) h = absurd (omega arith)
 view_far time n node (Some (View t p)) h = ap (λ b. b || (((time + n) == t) && nat_lt node p)) (lt-ltb (time + n) t (omega arith))
 
 -- hits of both kinds fall on the wired level
-pub wire_undisturbed : (hits : List Hit) (call : Call) (n : ℕ) → AreRising hits → IsCall hits call → n < until_at call.time (slice_get hits call.at.place) →
+pub wire_undisturbed : (hits : List Hit) (call : Call) (n : ℕ) → HitsRise hits → IsCall hits call → n < until_at call.time (slice_get hits call.at.place) →
     n < until_in call.latest (slice_get hits call.within.place) → list_any (hits_wire (call.time + n) (aged_by (n + 1) call.latest)) hits ≡ false
 wire_undisturbed hits call n rising is at within = by_latest call.latest is.within within
   where
@@ -130,7 +130,7 @@ wire_undisturbed hits call n rising is at within = by_latest call.latest is.with
         sym (attempt_found (call.time + n) b hits) ∙ ap (λ v. v || list_any (is_hit (In a.number (a.offset + (n + 1)))) hits) none_at ∙ none_in
 
 -- and those of the third kind on a view
-pub view_undisturbed : (hits : List Hit) (call : Call) (n node : ℕ) → AreRising hits → IsCall hits call → n < until_view call.time (slice_get hits call.view.place) →
+pub view_undisturbed : (hits : List Hit) (call : Call) (n node : ℕ) → HitsRise hits → IsCall hits call → n < until_view call.time (slice_get hits call.view.place) →
     list_any (hits_view (call.time + n) node) hits ≡ false
 view_undisturbed hits call n node rising is h =
     sym (view_found (call.time + n) node hits)
@@ -138,7 +138,7 @@ view_undisturbed hits call n node rising is h =
     (view_at node hits call.view.place (call.time + n) (view_after n hits call.view.place call.time is.view)) refl (view_far call.time n node (slice_get hits call.view.place) h)
 
 -- no port alone is hit where the next hit is a later one of that kind
-pub view_unhit : (hits : List Hit) (place time node : ℕ) → AreRising hits → AreBelow hits place (View time 0) → 0 < until_view time (slice_get hits place) → list_any (hits_view time node) hits ≡ false
+pub view_unhit : (hits : List Hit) (place time node : ℕ) → HitsRise hits → AreBelow hits place (View time 0) → 0 < until_view time (slice_get hits place) → list_any (hits_view time node) hits ≡ false
 view_unhit hits place time node rising below ahead =
     let now : time + 0 ≡ time = omega arith in
     sym (view_found time node hits)

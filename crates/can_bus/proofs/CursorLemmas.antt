@@ -10,7 +10,7 @@ use Rattle.can_hit.specs.declared.hit.Hit.TheVariants.{At, In, View}
 use Rattle.can_bus.specs.declared.moment.Attempt.{Attempt}
 use Rattle.can_hit.specs.Hits.{is_above}
 use Rattle.can_bus.specs.Run.{hits_wire, hits_view}
-use Rattle.can_bus.specs.Walks.{is_hit, AreRising, AreBelow}
+use Rattle.can_bus.specs.Walks.{is_hit, HitsRise, AreBelow}
 use Rattle.can_bus.proofs.HitOrder.{above-transitive, above-other}
 
 -- nothing is passed at first
@@ -39,7 +39,7 @@ not_same (View t p) (In n o) e = refl
 not_same (View t p) (View s q) e = grind (arith, nat_tests)
 
 -- the first that isn't passed lies above it
-pub reach_past : (hits : List Hit) (place : ℕ) (q d : Hit) → AreRising hits → AreBelow hits place q → place < length hits → is_above (get_or hits place d) q ≡ true →
+pub reach_past : (hits : List Hit) (place : ℕ) (q d : Hit) → HitsRise hits → AreBelow hits place q → place < length hits → is_above (get_or hits place d) q ≡ true →
     false ≡ list_any (is_hit q) hits
 reach_past hits place q d rising below within above =
     sym (list_any_none (is_hit q) hits (λ k e inside. other k e inside))

@@ -4,7 +4,7 @@ use Rattle.std.proofs.lemmas.Bool.Decides.{nat_tests}
 use Rattle.can_hit.specs.declared.hit.Hit.{Hit}
 use Rattle.can_hit.specs.declared.hit.Hit.TheVariants.{At, In, View}
 use Rattle.can_hit.specs.Hits.{is_pair_above, is_above, AreTaken}
-use Rattle.can_bus.specs.Walks.{is_hit, AreRising}
+use Rattle.can_bus.specs.Walks.{is_hit, HitsRise}
 use Rattle.can_bus.proofs.CheckLemmas.{follows-each}
 
 pair_transitive : (a b c d e f : ℕ) → is_pair_above a b c d ≡ true → is_pair_above c d e f ≡ true → is_pair_above a b e f ≡ true
@@ -42,5 +42,5 @@ above-other (View t p) (In m r) h = refl
 above-other (View t p) (View u q) h = grind (arith, nat_tests)
 
 -- hits that are taken rise
-pub taken-rising : (ports : ℕ) (hits : List Hit) → AreTaken ports hits → AreRising hits
+pub taken-rising : (ports : ℕ) (hits : List Hit) → AreTaken ports hits → HitsRise hits
 taken-rising ports hits taken = follows-each is_above above-transitive hits (λ place hit there. (taken place hit there).0)

@@ -23,8 +23,8 @@ is_hit (View time node) (In number offset) = false
 is_hit (View time node) (View t port) = (t == time) && (port == node)
 
 -- each earlier hit is below each later one
-abbrev pub AreRising : List Hit → Type 0
-AreRising hits = (m n : ℕ) (a b : Hit) → m < n → slice_get hits m ≡ Some a → slice_get hits n ≡ Some b → is_above b a ≡ true
+abbrev pub HitsRise : List Hit → Type 0
+HitsRise hits = (m n : ℕ) (a b : Hit) → m < n → slice_get hits m ≡ Some a → slice_get hits n ≡ Some b → is_above b a ≡ true
 
 -- each hit before this place is below this one
 abbrev pub AreBelow : List Hit → ℕ → Hit → Type 0

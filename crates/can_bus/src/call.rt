@@ -1,7 +1,7 @@
 ghost use Rattle.std.specs.Prelude.{ℕ, ◌≡◌, ◌+◌, ◌-◌, ◌<◌, ◌≤◌, ◌^◌, false, IfSome, Some};
 ghost use Rattle.std.specs.List.{list_any};
 ghost use Rattle.can_bus.specs.Run.{following as following_of, hits_view, hits_wire};
-ghost use Rattle.can_bus.specs.Walks.{AreBelow, AreRising, IsCall, IsFreeFrom, IsPassed, aged_by, first_call, in_now, until_at as until_at_of, until_in as until_in_of, until_view as until_view_of};
+ghost use Rattle.can_bus.specs.Walks.{AreBelow, HitsRise, IsCall, IsFreeFrom, IsPassed, aged_by, first_call, in_now, until_at as until_at_of, until_in as until_in_of, until_view as until_view_of};
 
 use crate::cursor::Cursor;
 use crate::moment::{Attempt, following};
@@ -35,7 +35,7 @@ impl Call {
 
     /// Whether a hit falls on the wired level in this bit time, in which this is the latest attempt.
     pub(crate) fn hits_wire(&mut self, hits: &[Hit]) -> bool
-        requires rising { AreRising hits.now }
+        requires rising { HitsRise hits.now }
         requires at { AreBelow hits.now self.old.at.place (Hit.At self.old.time) }
         requires within { AreBelow hits.now self.old.within.place (in_now self.old.latest) }
         ensures result { result ≡ list_any (hits_wire self.old.time self.old.latest) hits.now }
@@ -63,7 +63,7 @@ impl Call {
     /// where a hit has just passed.
     #[inline(never)]
     pub(crate) fn undisturbed(&self, hits: &[Hit], most: usize) -> usize
-        requires rising { AreRising hits.now }
+        requires rising { HitsRise hits.now }
         requires call { IsCall hits.now self.now }
         requires time { self.now.time < 2 ^ 64 - 1 }
         ensures most { result ≤ most }
@@ -79,7 +79,7 @@ impl Call {
     /// The call behind so many bit times, in the first of which an attempt begins, and no other later; none where a hit
     /// falls in them, or may fall.
     pub(crate) fn behind(&self, hits: &[Hit], count: usize) -> Option<Call>
-        requires rising { AreRising hits.now }
+        requires rising { HitsRise hits.now }
         requires call { IsCall hits.now self.now }
         requires some { 1 < count }
         requires time { self.now.time + count < 2 ^ 64 }
@@ -99,7 +99,7 @@ impl Call {
     /// first of them, and no other later; none where a hit falls in the first, or may fall. They may be fewer where a hit
     /// has just passed.
     pub(crate) fn up_to_hit(&self, hits: &[Hit], most: usize) -> Option<Call>
-        requires rising { AreRising hits.now }
+        requires rising { HitsRise hits.now }
         requires call { IsCall hits.now self.now }
         requires some { 1 < most }
         requires time { self.now.time + most < 2 ^ 64 }

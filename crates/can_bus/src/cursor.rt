@@ -1,6 +1,6 @@
 ghost use Rattle.std.specs.Prelude.{◌≡◌, ◌<◌, IsTrue, slice_get};
 ghost use Rattle.std.specs.List.{list_any};
-ghost use Rattle.can_bus.specs.Walks.{AreBelow, AreRising, is_hit, until_view};
+ghost use Rattle.can_bus.specs.Walks.{AreBelow, HitsRise, is_hit, until_view};
 
 use can_hit::Hit;
 use std::cmp::Ordering;
@@ -33,7 +33,7 @@ impl Cursor {
 
     /// Passes the hits below this one, and answers whether it is among them all.
     pub(crate) fn reach(&mut self, hits: &[Hit], hit: Hit) -> bool
-        requires rising { AreRising hits.now }
+        requires rising { HitsRise hits.now }
         requires passed { AreBelow hits.now self.old.place hit }
         ensures result { result ≡ list_any (is_hit hit) hits.now }
         ensures passed { AreBelow hits.now self.new.place hit }

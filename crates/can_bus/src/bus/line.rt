@@ -5,8 +5,8 @@ ghost use Rattle.can_mac.specs.Frames.{with_intermission};
 use can_frame::{Frame, Level};
 use can_wire::{LONGEST_WIRE, encode_into};
 
-/// How many bit times the shortest frame takes, with the intermission behind it. This and the next three only save tries:
-/// with other values, above 0, all levels are the same, and all is proved.
+/// How many bit times the shortest frame takes, with the intermission behind it. With this and the
+/// next three fewer frames are tried in vain: chosen for speed, and any above 1 prove.
 pub(super) const SHORTEST_LINE: usize = 47;
 
 /// How many the longest takes.

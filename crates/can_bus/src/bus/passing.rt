@@ -15,7 +15,7 @@ ghost use Rattle.can_bus.specs.Offers.{call_after, call_level, call_refused, off
 ghost use Rattle.can_bus.specs.Passing.{HasRoom, IsReceived, MayPass, MayPassAll, PassesAt, PassesBus, PassesBy, PassesByAll, PassesFrom, Receives, due_before, made_behind, refused_behind, rest_run};
 ghost use Rattle.can_bus.specs.Run.{BusState, bus_after, recorded};
 ghost use Rattle.can_bus.specs.State.{port_count, port_states, rest_of, state_of};
-ghost use Rattle.can_bus.specs.Walks.{AreRising, IsCall, IsReached, call_on};
+ghost use Rattle.can_bus.specs.Walks.{HitsRise, IsCall, IsReached, call_on};
 ghost use Rattle.can_bus.specs.Wired.{wired as wired_of};
 
 use crate::bus::Bus;
@@ -31,7 +31,7 @@ use can_mac::Poised;
 use can_node::Port;
 use std::cmp::Ordering;
 
-/// How many bit times of a frame that is hit are worth to be passed at once. It is for speed: any value above 1 proves.
+/// How many bit times of a frame that is hit are worth to be passed at once. Chosen for speed; any above 1 proves.
 const SHORTEST_RIDE: usize = 16;
 
 impl<P: Port> Bus<P> {
@@ -46,7 +46,7 @@ impl<P: Port> Bus<P> {
         rec: &mut [Level],
     ) -> usize
         requires driven { driven.old ≡ wired_of (map port_drives (port_states P.port self.old)) }
-        requires rising { AreRising hits.now }
+        requires rising { HitsRise hits.now }
         requires call { IsCall hits.now call.old }
         requires time { call.old.time + length rec.old < 2 ^ 64 }
         ensures most { result ≤ length rec.old }
@@ -96,7 +96,7 @@ impl<P: Port> Bus<P> {
         requires passes { PassesBus passing.now.frame (port_states P.port self.old) }
         requires received { IsReceived passing.now.frame (port_states P.port self.old) }
         requires driven { driven.old ≡ wired_of (map port_drives (port_states P.port self.old)) }
-        requires rising { AreRising hits.now }
+        requires rising { HitsRise hits.now }
         requires call { IsCall hits.now call.old }
         requires time { call.old.time + length levels.now < 2 ^ 64 }
         ensures most { result ≤ length levels.now }
@@ -139,7 +139,7 @@ impl<P: Port> Bus<P> {
         rec: &mut [Level],
     ) -> usize
         requires offered { AreOffered (port_count self.old) offers.now }
-        requires rising { AreRising hits.now }
+        requires rising { HitsRise hits.now }
         requires call { IsCall hits.now call.old }
         requires time { call.old.time + length rec.old < 2 ^ 64 }
         requires reached { IsReached offers.now progress.old.place (call.old.time + 1) }
@@ -223,7 +223,7 @@ impl<P: Port> Bus<P> {
 /// certain: what it walks past on its copy of the call is behind the call once the attempt has begun.
 #[inline(never)]
 fn free_ahead(call: &Call, hits: &[Hit], most: usize) -> usize
-    requires rising { AreRising hits.now }
+    requires rising { HitsRise hits.now }
     requires call { IsCall hits.now call.now }
     requires some { 1 < most }
     requires time { call.now.time + most < 2 ^ 64 }

@@ -12,7 +12,7 @@ ghost use Rattle.can_bus.specs.Offers.{call_after, call_level, call_refused, off
 ghost use Rattle.can_bus.specs.Quiet.{AtEachPort, MissesNothing, AtEachNode};
 ghost use Rattle.can_bus.specs.Run.{AreLevelsOf, BusState};
 ghost use Rattle.can_bus.specs.State.{port_count, port_states, rest_of, state_of};
-ghost use Rattle.can_bus.specs.Walks.{AreRising, IsCall, IsReached, call_on};
+ghost use Rattle.can_bus.specs.Walks.{HitsRise, IsCall, IsReached, call_on};
 
 use crate::bus::Bus;
 use crate::call::Call;
@@ -91,7 +91,7 @@ impl<P: Port> Bus<P> {
     ) -> usize
         requires some { 0 < length rec.old }
         requires offered { AreOffered (port_count self.old) offers.now }
-        requires rising { AreRising hits.now }
+        requires rising { HitsRise hits.now }
         requires call { IsCall hits.now call.old }
         requires time { call.old.time + length rec.old < 2 ^ 64 }
         requires reached { IsReached offers.now progress.old.place (call.old.time + 1) }

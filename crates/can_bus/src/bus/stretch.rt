@@ -4,7 +4,7 @@ ghost use Rattle.can_frame.specs.declared.level.Level.TheVariants.{Recessive};
 ghost use Rattle.can_node.specs.Ports.{port_drives, port_step};
 ghost use Rattle.can_bus.specs.Run.{bus_after, recorded};
 ghost use Rattle.can_bus.specs.State.{port_states, state_of};
-ghost use Rattle.can_bus.specs.Walks.{AreRising, IsCall, call_on, rested};
+ghost use Rattle.can_bus.specs.Walks.{HitsRise, IsCall, call_on, rested};
 ghost use Rattle.can_bus.specs.Wired.{wired as wired_of};
 
 use crate::bus::Bus;
@@ -14,8 +14,8 @@ use can_frame::{IDLE_ROW, Level};
 use can_hit::Hit;
 use can_node::Port;
 
-/// How many bit times are taken one after another on an idle bus, before it is asked again whether it rests. It is for
-/// speed: any value above 0 proves.
+/// How many bit times are taken one after another on an idle bus, before it is asked again whether it rests. Chosen
+/// for speed; any above 0 proves.
 const STRETCH: usize = 32;
 
 impl<P: Port> Bus<P> {
@@ -32,7 +32,7 @@ impl<P: Port> Bus<P> {
     ) -> usize
         requires some { 0 < length rec.old }
         requires driven { driven ≡ wired_of (map port_drives (port_states P.port self.old)) }
-        requires rising { AreRising hits.now }
+        requires rising { HitsRise hits.now }
         requires call { IsCall hits.now call.old }
         requires time { call.old.time + length rec.old < 2 ^ 64 }
         ensures some { 1 ≤ result }
@@ -61,7 +61,7 @@ impl<P: Port> Bus<P> {
     ) -> usize
         requires some { 0 < length rec.old }
         requires driven { first ≡ wired_of (map port_drives (port_states P.port self.old)) }
-        requires rising { AreRising hits.now }
+        requires rising { HitsRise hits.now }
         requires call { IsCall hits.now call.old }
         requires time { call.old.time + length rec.old < 2 ^ 64 }
         ensures some { 1 ≤ result }
@@ -103,7 +103,7 @@ impl<P: Port> Bus<P> {
     ) -> usize
         requires some { 0 < length rec.old }
         requires driven { driven.old ≡ wired_of (map port_drives (port_states P.port self.old)) }
-        requires rising { AreRising hits.now }
+        requires rising { HitsRise hits.now }
         requires call { IsCall hits.now call.old }
         requires time { call.old.time + length rec.old < 2 ^ 64 }
         ensures some { 1 ≤ result }
@@ -150,7 +150,7 @@ impl<P: Port> Bus<P> {
     #[inline(always)]
     fn take_each(&mut self, hits: &[Hit], call: &mut Call, driven: &mut Level, rec: &mut [Level])
         requires driven { driven.old ≡ wired_of (map port_drives (port_states P.port self.old)) }
-        requires rising { AreRising hits.now }
+        requires rising { HitsRise hits.now }
         requires call { IsCall hits.now call.old }
         requires time { call.old.time + length rec.old < 2 ^ 64 }
         ensures levels { (t : ℕ) (d : Level) → t < length rec.old → slice_index_or rec.new t d ≡ recorded hits.now (bus_after hits.now t (call_on (state_of P.port self.old) call.old)) }
@@ -169,7 +169,7 @@ impl<P: Port> Bus<P> {
     #[inline(always)]
     fn resting(&self, hits: &[Hit], call: &Call, driven: Level, most: usize) -> usize
         requires driven { driven ≡ wired_of (map port_drives (port_states P.port self.now)) }
-        requires rising { AreRising hits.now }
+        requires rising { HitsRise hits.now }
         requires call { IsCall hits.now call.now }
         requires time { call.now.time + most < 2 ^ 64 }
         requires some { 0 < most }
