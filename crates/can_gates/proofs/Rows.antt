@@ -7,7 +7,7 @@ use Rattle.can_gates.specs.declared.circuit.Gate.{Gate}
 use Rattle.can_gates.specs.Circuit.{value, KeepsGates}
 use Rattle.can_gates.specs.Words.{number}
 use Rattle.can_gates.specs.Runs.{run}
-use Rattle.can_gates.specs.Aiger.{lines_of, register_lines, lines_in}
+use Rattle.can_gates.specs.Aiger.{file_lines, register_lines, numbers_in}
 
 abbrev plain : ℕ → Literal
 plain s = record { signal = s; negated = false }
@@ -64,7 +64,7 @@ unfolding value
 number_of_constants = refl
 
 -- the lines of its text: the carry and the sum are its outputs
-half_adder_lines : lines_of (record { inputs = 2; highest = 6; gates = half_adder; complete = true }) [] (plain 3 ∷ turned 6 ∷ [])
+half_adder_lines : file_lines (record { inputs = 2; highest = 6; gates = half_adder; complete = true }) [] (plain 3 ∷ turned 6 ∷ [])
     ≡ (6 ∷ 2 ∷ 0 ∷ 2 ∷ 4 ∷ []) ∷ (2 ∷ []) ∷ (4 ∷ []) ∷ (6 ∷ []) ∷ (13 ∷ []) ∷ (6 ∷ 4 ∷ 2 ∷ []) ∷ (8 ∷ 5 ∷ 2 ∷ []) ∷ (10 ∷ 4 ∷ 3 ∷ []) ∷ (12 ∷ 11 ∷ 9 ∷ []) ∷ []
 half_adder_lines = refl
 
@@ -72,5 +72,5 @@ half_adder_lines = refl
 register_line : register_lines 1 (record { next = turned 5; starts = true } ∷ []) ≡ (4 ∷ 11 ∷ 1 ∷ []) ∷ []
 register_line = refl
 
-two_lines : lines_in [] 0 (codes "6 4 2\n10 11 9\n") ≡ (6 ∷ 4 ∷ 2 ∷ []) ∷ (10 ∷ 11 ∷ 9 ∷ []) ∷ []
+two_lines : numbers_in [] 0 (codes "6 4 2\n10 11 9\n") ≡ (6 ∷ 4 ∷ 2 ∷ []) ∷ (10 ∷ 11 ∷ 9 ∷ []) ∷ []
 two_lines = refl

@@ -8,8 +8,8 @@ use Rattle.can_gates.specs.Circuit.{CircuitParts}
 use Rattle.can_gates.specs.Words.{bit}
 
 -- a literal: twice its signal, and one more where it is negated
-abbrev pub code_of : Literal → ℕ
-code_of l = 2 * l.signal + bit l.negated
+abbrev pub literal_code : Literal → ℕ
+literal_code l = 2 * l.signal + bit l.negated
 
 -- ---- the numbers of each line
 
@@ -21,18 +21,18 @@ input_lines (suc n) = input_lines n ++ (2 * (n + 1) ∷ []) ∷ []
 -- the signals behind this one are what registers hold: with what they hold next, and at first
 abbrev pub register_lines : ℕ → List Register → List (List ℕ)
 register_lines s [] = []
-register_lines s (r ∷ registers) = (2 * (s + 1) ∷ code_of r.next ∷ bit r.starts ∷ []) ∷ register_lines (s + 1) registers
+register_lines s (r ∷ registers) = (2 * (s + 1) ∷ literal_code r.next ∷ bit r.starts ∷ []) ∷ register_lines (s + 1) registers
 
 abbrev pub output_numbers : Literal → List ℕ
-output_numbers l = code_of l ∷ []
+output_numbers l = literal_code l ∷ []
 
 abbrev pub gate_numbers : Gate → List ℕ
-gate_numbers g = 2 * g.signal ∷ code_of g.left ∷ code_of g.right ∷ []
+gate_numbers g = 2 * g.signal ∷ literal_code g.left ∷ literal_code g.right ∷ []
 
 -- the highest signal, how many inputs, registers, outputs and gates there are, and a line for each of these. The last of the
 -- circuit's inputs are what the registers hold
-abbrev pub lines_of : CircuitParts → List Register → List Literal → List (List ℕ)
-lines_of c registers outputs =
+abbrev pub file_lines : CircuitParts → List Register → List Literal → List (List ℕ)
+file_lines c registers outputs =
     (c.highest ∷ (c.inputs - length registers) ∷ length registers ∷ length outputs ∷ length (reverse c.gates) ∷ [])
     ∷ input_lines (c.inputs - length registers) ++ (register_lines (c.inputs - length registers) registers ++ (map output_numbers outputs ++ map gate_numbers (reverse c.gates)))
 
@@ -48,12 +48,12 @@ line_text [] = codes "\n"
 line_text (n ∷ ns) = decimal n ++ numbers_behind ns
 
 abbrev pub aiger_text : CircuitParts → List Register → List Literal → List ℕ
-aiger_text c registers outputs = codes "aag " ++ flat_map line_text (lines_of c registers outputs)
+aiger_text c registers outputs = codes "aag " ++ flat_map line_text (file_lines c registers outputs)
 
 -- ---- a reader of such texts
 
 -- the lines that a text has, behind these numbers of its first line and this beginning of a number: a newline ends a line, a
 -- blank a number, and a digit goes on with one
-abbrev pub lines_in : List ℕ → ℕ → List ℕ → List (List ℕ)
-lines_in ns n [] = []
-lines_in ns n (c ∷ text) = if c == 10 then (ns ++ n ∷ []) ∷ lines_in [] 0 text else (if c == 32 then lines_in (ns ++ n ∷ []) 0 text else lines_in ns (10 * n + (c - 48)) text)
+abbrev pub numbers_in : List ℕ → ℕ → List ℕ → List (List ℕ)
+numbers_in ns n [] = []
+numbers_in ns n (c ∷ text) = if c == 10 then (ns ++ n ∷ []) ∷ numbers_in [] 0 text else (if c == 32 then numbers_in (ns ++ n ∷ []) 0 text else numbers_in ns (10 * n + (c - 48)) text)

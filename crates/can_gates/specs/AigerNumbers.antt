@@ -5,10 +5,10 @@ abbrev pub AreSmall : List ℕ → Type 0
 AreSmall [] = Unit {0}
 AreSmall (n ∷ ns) = (n < 2 ^ 64) × AreSmall ns
 
-abbrev pub IsLine : List ℕ → Type 0
-IsLine [] = ⊥
-IsLine (n ∷ ns) = (n < 2 ^ 64) × AreSmall ns
+abbrev pub IsNumberLine : List ℕ → Type 0
+IsNumberLine [] = ⊥
+IsNumberLine (n ∷ ns) = (n < 2 ^ 64) × AreSmall ns
 
 abbrev pub AreLines : List (List ℕ) → Type 0
 AreLines [] = Unit {0}
-AreLines (l ∷ lines) = IsLine l × AreLines lines
+AreLines (l ∷ lines) = IsNumberLine l × AreLines lines

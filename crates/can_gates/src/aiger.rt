@@ -1,7 +1,7 @@
 //! Circuits with registers and outputs, as texts in AIGER's ascii format.
 ghost use Rattle.std.specs.Prelude.{◌≡◌, ◌+◌, ◌≤◌, ◌<◌, ◌^◌, ◌++◌, ℕ, List, [], true, length, map, decimal, OnOk};
 ghost use Rattle.std.specs.List.{flat_map};
-ghost use Rattle.can_gates.specs.Aiger.{aiger_text, gate_numbers, input_lines, line_text, lines_in, numbers_behind, output_numbers, register_lines};
+ghost use Rattle.can_gates.specs.Aiger.{aiger_text, gate_numbers, input_lines, line_text, numbers_in, numbers_behind, output_numbers, register_lines};
 ghost use Rattle.can_gates.specs.AigerNumbers.{AreLines};
 ghost use Rattle.can_gates.specs.Words.{bit};
 
@@ -128,5 +128,5 @@ pub fn push_number(out: &mut Vec<u8>, number: u64) -> Result<(), AllocError>
 
 /// The text of lines, each with a number and all of them below 2^64, is read back as these lines. It does nothing.
 pub fn lines_are_read_back()
-    ensures { (lines : List (List ℕ)) → AreLines lines → lines_in [] 0 (flat_map line_text lines) ≡ lines }
+    ensures { (lines : List (List ℕ)) → AreLines lines → numbers_in [] 0 (flat_map line_text lines) ≡ lines }
 {}

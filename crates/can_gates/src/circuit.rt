@@ -1,6 +1,6 @@
 //! Circuits, and the and of two literals.
 ghost use Rattle.std.specs.Prelude.{◌≡◌, ◌≤◌, ◌<◌, ◌^◌, ◌&&◌, [], ℕ, Bool, true, false, IfSome, reverse};
-ghost use Rattle.can_gates.specs.Aiger.{code_of};
+ghost use Rattle.can_gates.specs.Aiger.{literal_code};
 ghost use Rattle.can_gates.specs.Circuit.{value, Keeps, Makes};
 ghost use Rattle.can_gates.specs.Ordered.{IsOrdered};
 ghost use Rattle.can_gates.specs.Runs.{run};
@@ -158,7 +158,7 @@ impl Circuit {
 
     /// A gate more, of these sides, or a circuit that isn't complete.
     fn gate(&mut self, sides: Sides) -> Literal
-        requires { code_of sides.right ≤ code_of sides.left }
+        requires { literal_code sides.right ≤ literal_code sides.left }
         ensures { Makes self.old self.new (λ v. value v result ≡ (value v sides.left && value v sides.right)) }
     {
         match self.added(sides) {
@@ -172,7 +172,7 @@ impl Circuit {
 
     /// A gate more, of these sides, where these have a number and there is memory and a number for it.
     fn added(&mut self, sides: Sides) -> Option<Literal>
-        requires { code_of sides.right ≤ code_of sides.left }
+        requires { literal_code sides.right ≤ literal_code sides.left }
         ensures made { IfSome result (λ r. Makes self.old self.new (λ v. value v r ≡ (value v sides.left && value v sides.right))) }
         ensures inputs { self.new.inputs ≡ self.old.inputs }
     {
@@ -214,7 +214,7 @@ impl Sides {
     /// Two literals, of which that of the greater number goes first.
     fn new(a: Literal, b: Literal) -> Sides
         ensures value { (v : ℕ → Bool) → (value v result.left && value v result.right) ≡ (value v a && value v b) }
-        ensures order { code_of result.right ≤ code_of result.left }
+        ensures order { literal_code result.right ≤ literal_code result.left }
     {
         if a.code() < b.code() {
             Sides { left: b, right: a }

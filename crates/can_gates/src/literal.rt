@@ -1,6 +1,6 @@
 //! Signals and their negations.
 ghost use Rattle.std.specs.Prelude.{◌≡◌, ◌&&◌, ℕ, Bool, false, not, IfSome, IsTrue};
-ghost use Rattle.can_gates.specs.Aiger.{code_of};
+ghost use Rattle.can_gates.specs.Aiger.{literal_code};
 ghost use Rattle.can_gates.specs.Circuit.{value};
 ghost use Rattle.can_gates.specs.Words.{bit};
 
@@ -46,7 +46,7 @@ impl Literal {
 
     /// The number that AIGER has for it: twice the signal's, and one more where it is negated.
     pub fn code(self) -> u64
-        ensures { result ≡ code_of self }
+        ensures { result ≡ literal_code self }
     {
         2 * u64::from(self.signal) + bit_of(self.negated)
     }

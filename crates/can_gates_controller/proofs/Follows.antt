@@ -26,7 +26,7 @@ use Rattle.can_mac.specs.declared.phase.Phase.TheVariants.{Joining, Idle, Stuffe
 use Rattle.can_mac.specs.State.{MacPhase, MacState, is_off_phase}
 use Rattle.can_mac.specs.Moves.{MacMove, error_cause, form_kind, goes, tells, overload, begins_frame, flag, errs_by, errs, errs_in_flag, joining_move, idle_move, reading_of, ends_part, part_phase, hears, in_arbitration, is_uncounted, stuff_error_move, stuff_bit_move, sent_bit_move, bit_move, stuffed_part_move, crc_delimiter_move, ack_slot_move, refuses, ack_delimiter_move, enters_intermission, end_of_frame_move, error_flag_move, overload_flag_move, passive_flag_move, after_flag_move, delimiter_move, is_held_back, next_role, intermission_move, suspend_move, move}
 use Rattle.can_mac.specs.Machine.{stance, state_after_move, step_counting, on_step, off_step, mac_step}
-use Rattle.can_gates_controller.specs.Following.{KeepsOwn, SeesOwn, IsNext, Follows}
+use Rattle.can_gates_controller.specs.Following.{KeepsOwn, SeesOwn, IsPhaseBehind, Follows}
 
 abbrev own_frame : Parts → Role → Parts
 own_frame d Receiver = d
@@ -35,11 +35,11 @@ own_frame d (Sender f) = f
 same_sender : (f g : Parts) → Sender f ≡ Sender g → f ≡ g
 same_sender f g e = ap (own_frame f) e
 
-flag_next : (p : MacPhase) (role : Role) (waiting : Option Parts) (x : Level) (new : Role) (passive unacknowledged : Bool) → IsNext p role waiting x (flag passive unacknowledged) new
+flag_next : (p : MacPhase) (role : Role) (waiting : Option Parts) (x : Level) (new : Role) (passive unacknowledged : Bool) → IsPhaseBehind p role waiting x (flag passive unacknowledged) new
 flag_next p role waiting x new true unacknowledged = tt
 flag_next p role waiting x new false unacknowledged = tt
 
-off_next : (p q : MacPhase) (role : Role) (waiting : Option Parts) (x : Level) (new : Role) → is_off_phase q ≡ true → IsNext p role waiting x q new
+off_next : (p q : MacPhase) (role : Role) (waiting : Option Parts) (x : Level) (new : Role) → is_off_phase q ≡ true → IsPhaseBehind p role waiting x q new
 off_next p BusOff role waiting x new e = tt
 off_next p q role waiting x new e = cc e
 
@@ -62,10 +62,10 @@ module _ (s : Stance) (waiting : Option Parts) (x : Level) where
 
   -- the stuffed part
 
-  part_next : (front : FrontParts) (new : Role) → KeepsOwn (StuffedPart front) s.role waiting new → SeesOwn (StuffedPart front) x new → IsNext (StuffedPart front) s.role waiting x (part_phase (heard_level front x)) new
+  part_next : (front : FrontParts) (new : Role) → KeepsOwn (StuffedPart front) s.role waiting new → SeesOwn (StuffedPart front) x new → IsPhaseBehind (StuffedPart front) s.role waiting x (part_phase (heard_level front x)) new
   part_next front new kept seen =
       let g = heard_level front x in
-      cond_both (ends_part g) (CrcDelimiter (reading_of g.unstuffed)) (StuffedPart g) (λ q. IsNext (StuffedPart front) s.role waiting x q new) (λ e. (refl, (kept, e))) (λ e. (refl, (kept, seen)))
+      cond_both (ends_part g) (CrcDelimiter (reading_of g.unstuffed)) (StuffedPart g) (λ q. IsPhaseBehind (StuffedPart front) s.role waiting x q new) (λ e. (refl, (kept, e))) (λ e. (refl, (kept, seen)))
 
   hears_next : (front : FrontParts) → SeesOwn (StuffedPart front) x s.role → FollowsFrom (StuffedPart front) (hears s front x)
   hears_next front seen = record { next = part_next front s.role (λ f e. e) seen; told = tt }
@@ -153,7 +153,7 @@ module _ (s : Stance) (waiting : Option Parts) (x : Level) where
   passive_flag_next last run unacknowledged =
       let longer = run_after last run x in
       let still = unacknowledged && is_recessive x in
-      record { next = cond_both (ltb longer 6) (PassiveFlag x longer still) (AfterFlag true 0) (λ q. IsNext (PassiveFlag last run unacknowledged) s.role waiting x q s.role) (λ e. tt) (λ e. tt); told = tt }
+      record { next = cond_both (ltb longer 6) (PassiveFlag x longer still) (AfterFlag true 0) (λ q. IsPhaseBehind (PassiveFlag last run unacknowledged) s.role waiting x q s.role) (λ e. tt) (λ e. tt); told = tt }
 
   after_flag_next : (first : Bool) (dominant : ℕ) (y : Level) → FollowsFrom (AfterFlag first dominant) (after_flag_move s first dominant y)
   after_flag_next first dominant Recessive = record { next = tt; told = tt }

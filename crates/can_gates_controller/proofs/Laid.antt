@@ -22,7 +22,7 @@ use Rattle.can_gates_mac.specs.Nibbles.{nibble}
 use Rattle.can_gates_controller.specs.declared.fields.Fields.{Fields}
 use Rattle.can_gates_controller.specs.Fronts.{HoldsLevels}
 use Rattle.can_gates_controller.specs.Fields.{identifier_places, bytes_in, frame_in}
-use Rattle.can_gates_controller.specs.Laying.{turned, turned_bytes, IsCleared}
+use Rattle.can_gates_controller.specs.Laying.{turned_word, turned_bytes, IsCleared}
 use Rattle.can_gates_controller.proofs.WordParts.{number-split}
 use Rattle.can_gates_controller.proofs.TurnedLevels.{literal_level, levels_in, level_in, bit_back, levels_turned, levels_turned_bytes}
 use Rattle.can_gates_controller.proofs.Cleared.{cleared_levels}
@@ -68,7 +68,7 @@ module _ (v : ℕ → Bool) (zero_is : v 0 ≡ false) where
   high_level = ap level_from (value-always v zero_is)
 
   behind_is : (remote : Literal) (dlc : Nibble) (bytes : List Literal) (rest : List Level) → levels_in v bytes ≡ rest → levels_in v (remote ∷ never ∷ never ∷ dlc.eights ∷ dlc.fours ∷ dlc.twos ∷ dlc.ones ∷ bytes) ≡ behind_levels (value v remote) (nibble v dlc) rest
-  unfolding nibble turned
+  unfolding nibble turned_word
   behind_is remote dlc bytes rest is =
       let first = level_from (value v remote) in
       let four = levels_in v (dlc.eights ∷ dlc.fours ∷ dlc.twos ∷ dlc.ones ∷ []) in
@@ -115,8 +115,8 @@ module _ (v : ℕ → Bool) (zero_is : v 0 ≡ false) where
 
   pub laid_is : (k : Fields) (all extended standard behind made : List Literal) → IsCleared v made k.bytes.items (byte_count (value v k.remote) (nibble v k.dlc))
       → behind ≡ k.remote ∷ never ∷ never ∷ k.dlc.eights ∷ k.dlc.fours ∷ k.dlc.twos ∷ k.dlc.ones ∷ turned_bytes 8 made
-      → standard ≡ never ∷ (turned 11 k.identifier.items ++ behind)
-      → extended ≡ never ∷ (turned 11 (drop 18 k.identifier.items) ++ always ∷ always ∷ (turned 18 k.identifier.items ++ behind))
+      → standard ≡ never ∷ (turned_word 11 k.identifier.items ++ behind)
+      → extended ≡ never ∷ (turned_word 11 (drop 18 k.identifier.items) ++ always ∷ always ∷ (turned_word 18 k.identifier.items ++ behind))
       → ((p : ℕ) → p < 103 → value v (get_or all p never) ≡ cond (value v k.extended) (value v (get_or extended p never)) (value v (get_or standard p never)))
       → HoldsLevels v all (head (frame_in v k))
   unfolding frame_in
@@ -129,8 +129,8 @@ module _ (v : ℕ → Bool) (zero_is : v 0 ≡ false) where
       let past = replicate (8 * (8 - count)) Dominant in
       let data_is = levels_turned_bytes v zero_is 8 made ∙ cleared_levels v made k.bytes.items count cleared (byte_count_le remote dlc) in
       let rest = ap (levels_in v) behind_eq ∙ behind_is k.remote k.dlc (turned_bytes 8 made) (flat_map (bits_of 8) bytes ++ past) data_is in
-      let short = ap (levels_in v) standard_eq ∙ standard_is (turned 11 id) behind (number v (take 11 id)) remote dlc bytes past (levels_turned v zero_is 11 id) rest in
+      let short = ap (levels_in v) standard_eq ∙ standard_is (turned_word 11 id) behind (number v (take 11 id)) remote dlc bytes past (levels_turned v zero_is 11 id) rest in
       let long =
       ap (levels_in v) extended_eq
-      ∙ extended_is (turned 11 (drop 18 id)) (turned 18 id) behind (number v (take 29 id)) remote dlc bytes past (levels_turned v zero_is 11 (drop 18 id) ∙ ap (bits_of 11) (upper_identifier v id)) (levels_turned v zero_is 18 id ∙ lower_identifier v id) rest in
+      ∙ extended_is (turned_word 11 (drop 18 id)) (turned_word 18 id) behind (number v (take 29 id)) remote dlc bytes past (levels_turned v zero_is 11 (drop 18 id) ∙ ap (bits_of 11) (upper_identifier v id)) (levels_turned v zero_is 18 id ∙ lower_identifier v id) rest in
       by_format (value v k.extended) all extended standard id remote dlc (8 * (8 - count)) bytes long short chosen

@@ -23,7 +23,7 @@ use Rattle.can_gates_controller.specs.declared.heard.Heard.{Heard}
 use Rattle.can_gates_controller.specs.declared.following.Within.{Within}
 use Rattle.can_gates_controller.specs.Fronts.{HoldsFront}
 use Rattle.can_gates_controller.specs.Holding.{HoldsHeard, HoldsTold}
-use Rattle.can_gates_controller.specs.Following.{Ended, IsWithin, IsEither, IsNext, is_part, is_behind_part, next_front, next_reading}
+use Rattle.can_gates_controller.specs.Following.{Ended, ShowsWithin, IsEither, IsPhaseBehind, is_part, is_behind_part, next_front, next_reading}
 
 pub part_at : (v : ℕ → Bool) → v 0 ≡ false → (p : MacPhase) → value v (get_or (never ∷ never ∷ always ∷ []) (phase_number p) never) ≡ is_part p
 part_at v zero_is (StuffedPart front) = value-always v zero_is
@@ -90,18 +90,18 @@ told_of v k front r held end e = record { unstuffed = front.unstuffed; whole = e
 
 -- what a next phase says of the front and of the reading before
 
-pub front_in : (p q : MacPhase) (role new : Role) (waiting : Option Parts) (x : Level) (front : FrontParts) → q ≡ StuffedPart front → IsNext p role waiting x q new → next_front p x ≡ Some front
+pub front_in : (p q : MacPhase) (role new : Role) (waiting : Option Parts) (x : Level) (front : FrontParts) → q ≡ StuffedPart front → IsPhaseBehind p role waiting x q new → next_front p x ≡ Some front
 front_in p q role new waiting x front e is =
-    let P : MacPhase → Type 0 = λ q. IsNext p role waiting x q new in (subst P e is).0
+    let P : MacPhase → Type 0 = λ q. IsPhaseBehind p role waiting x q new in (subst P e is).0
 
-ended_after : (p q : MacPhase) (role new : Role) (waiting : Option Parts) (x : Level) (r : Reading) → reading_in q ≡ Some r → IsNext p role waiting x q new → Ended p x
+ended_after : (p q : MacPhase) (role new : Role) (waiting : Option Parts) (x : Level) (r : Reading) → reading_in q ≡ Some r → IsPhaseBehind p role waiting x q new → Ended p x
 ended_after p (CrcDelimiter s) role new waiting x r e is = is.1.1
 ended_after p (AckSlot s) role new waiting x r e is = is.1.1
 ended_after p (AckDelimiter s) role new waiting x r e is = is.1.1
 ended_after p (EndOfFrame s place) role new waiting x r e is = is.1.1
 ended_after p q role new waiting x r e is = cc e
 
-reading_after : (p q : MacPhase) (role new : Role) (waiting : Option Parts) (x : Level) (r : Reading) → reading_in q ≡ Some r → IsNext p role waiting x q new → next_reading p x ≡ Some r
+reading_after : (p q : MacPhase) (role new : Role) (waiting : Option Parts) (x : Level) (r : Reading) → reading_in q ≡ Some r → IsPhaseBehind p role waiting x q new → next_reading p x ≡ Some r
 reading_after p (CrcDelimiter s) role new waiting x r e is = is.0 ∙ e
 reading_after p (AckSlot s) role new waiting x r e is = is.0 ∙ e
 reading_after p (AckDelimiter s) role new waiting x r e is = is.0 ∙ e
@@ -110,7 +110,7 @@ reading_after p q role new waiting x r e is = cc e
 
 module _ (v : ℕ → Bool) (made kept first heard next : Heard) (k : Within) where
   -- by the phase before
-  front_follows : (p : MacPhase) (x : Level) (front : FrontParts) → IsWithin v k p → ((f : FrontParts) → p ≡ StuffedPart f → HoldsFront v next (heard_level f x)) → IsEither v made (value v k.part) next kept → IsEither v kept (value v k.end) heard first → HoldsFront v first first_front → next_front p x ≡ Some front → HoldsFront v made front
+  front_follows : (p : MacPhase) (x : Level) (front : FrontParts) → ShowsWithin v k p → ((f : FrontParts) → p ≡ StuffedPart f → HoldsFront v next (heard_level f x)) → IsEither v made (value v k.part) next kept → IsEither v kept (value v k.end) heard first → HoldsFront v first first_front → next_front p x ≡ Some front → HoldsFront v made front
   front_follows (StuffedPart f) x front at hears by_part by_end begins e = let P : FrontParts → Type 0 = HoldsFront v made in subst P (same_front (heard_level f x) front e) (first_front_is v made next kept (value v k.part) (heard_level f x) at.part by_part (hears f refl))
   front_follows (CrcDelimiter r) x front at hears by_part by_end begins e = cc e
   front_follows (AckSlot r) x front at hears by_part by_end begins e = cc e
@@ -125,7 +125,7 @@ module _ (v : ℕ → Bool) (made kept first heard next : Heard) (k : Within) wh
       let P : Reading → Type 0 = HoldsTold v made in
       subst P (same_reading s r e) (other_told_is v made next kept (value v k.part) s part by_part (first_told_is v kept heard first (value v k.end) s end by_end held))
 
-  told_follows : (p : MacPhase) (x : Level) (r : Reading) → IsWithin v k p → HoldsHeard v heard p → ((f : FrontParts) → p ≡ StuffedPart f → HoldsFront v next (heard_level f x)) → IsEither v made (value v k.part) next kept → IsEither v kept (value v k.end) heard first → Ended p x → next_reading p x ≡ Some r → HoldsTold v made r
+  told_follows : (p : MacPhase) (x : Level) (r : Reading) → ShowsWithin v k p → HoldsHeard v heard p → ((f : FrontParts) → p ≡ StuffedPart f → HoldsFront v next (heard_level f x)) → IsEither v made (value v k.part) next kept → IsEither v kept (value v k.end) heard first → Ended p x → next_reading p x ≡ Some r → HoldsTold v made r
   told_follows (StuffedPart f) x r at held hears by_part by_end end e = told_of v made (heard_level f x) r (first_front_is v made next kept (value v k.part) (heard_level f x) at.part by_part (hears f refl)) end e
   told_follows (CrcDelimiter s) x r at held hears by_part by_end end e = behind_told r s at.part at.end (held.told s refl) by_part by_end e
   told_follows (AckSlot s) x r at held hears by_part by_end end e = behind_told r s at.part at.end (held.told s refl) by_part by_end e
@@ -133,7 +133,7 @@ module _ (v : ℕ → Bool) (made kept first heard next : Heard) (k : Within) wh
   told_follows (EndOfFrame s place) x r at held hears by_part by_end end e = behind_told r s at.part at.end (held.told s refl) by_part by_end e
   told_follows p x r at held hears by_part by_end end e = cc e
 
-  pub followed : (p q : MacPhase) (role new : Role) (waiting : Option Parts) (x : Level) → IsWithin v k p → HoldsHeard v heard p → ((f : FrontParts) → p ≡ StuffedPart f → HoldsFront v next (heard_level f x)) → IsNext p role waiting x q new → IsEither v made (value v k.part) next kept → IsEither v kept (value v k.end) heard first → HoldsFront v first first_front → HoldsHeard v made q
+  pub followed : (p q : MacPhase) (role new : Role) (waiting : Option Parts) (x : Level) → ShowsWithin v k p → HoldsHeard v heard p → ((f : FrontParts) → p ≡ StuffedPart f → HoldsFront v next (heard_level f x)) → IsPhaseBehind p role waiting x q new → IsEither v made (value v k.part) next kept → IsEither v kept (value v k.end) heard first → HoldsFront v first first_front → HoldsHeard v made q
   followed p q role new waiting x at held hears is by_part by_end begins = record {
     front = λ front e. front_follows p x front at hears by_part by_end begins (front_in p q role new waiting x front e is);
     told = λ r e. told_follows p x r at held hears by_part by_end (ended_after p q role new waiting x r e is) (reading_after p q role new waiting x r e is);

@@ -5,10 +5,10 @@ use Rattle.can_frame.specs.declared.level.Level.TheVariants.{Dominant, Recessive
 use Rattle.can_mac.specs.declared.phase.Phase.TheVariants.{Joining}
 use Rattle.can_mac.specs.State.{idle, joining, starting}
 use Rattle.can_mac.specs.Machine.{mac_step, holding}
-use Rattle.can_gates_controller.specs.Steps.{Step, asked, state_behind, told_in, state_before}
+use Rattle.can_gates_controller.specs.Steps.{ControllerStep, asked, state_behind, told_in, state_before}
 
 -- a bit time in which this level is seen
-abbrev passing : Level → Step
+abbrev passing : Level → ControllerStep
 passing level = record { reset = false; joins = false; enable = true; wish = None; waiting = None; level = level }
 
 -- at a reset nothing else counts

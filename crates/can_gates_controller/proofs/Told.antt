@@ -27,10 +27,10 @@ use Rattle.can_gates_mac.specs.Numbers.{is_sender}
 use Rattle.can_gates_controller.specs.declared.fields.Fields.{Fields}
 use Rattle.can_gates_controller.specs.declared.registers.Registers.{Registers}
 use Rattle.can_gates_controller.specs.Fronts.{HoldsLevels}
-use Rattle.can_gates_controller.specs.Following.{IsTold}
+use Rattle.can_gates_controller.specs.Following.{IsEventIn}
 use Rattle.can_gates_controller.specs.Whole.{HoldsAll}
 use Rattle.can_gates_controller.specs.Fields.{identifier_places, bytes_in, frame_in, HoldsFields, frame_told}
-use Rattle.can_gates_controller.specs.Laying.{turned, turned_bytes, IsCleared}
+use Rattle.can_gates_controller.specs.Laying.{turned_word, turned_bytes, IsCleared}
 use Rattle.can_gates_controller.proofs.WordParts.{number-split}
 use Rattle.can_gates_controller.proofs.TurnedLevels.{levels_in, length-turned, number_turned, bytes_turned, filled_same, bytes_from_same, levels_behind}
 
@@ -50,7 +50,7 @@ same_parts raw raw' e e' r r' dlc dlc' bytes bytes' p q s t u = cc
 
 module _ (v : ℕ → Bool) (zero_is : v 0 ≡ false) where
   -- a number of levels, from their literals in the other order
-  number_behind : (items : List Literal) (u : List Level) (s n : ℕ) → ((p : ℕ) → p < n → value v (get_or items (s + p) never) ≡ is_recessive (level_at u (s + p))) → number v (turned n (drop s items)) ≡ number_from 0 (levels_at u s n)
+  number_behind : (items : List Literal) (u : List Level) (s n : ℕ) → ((p : ℕ) → p < n → value v (get_or items (s + p) never) ≡ is_recessive (level_at u (s + p))) → number v (turned_word n (drop s items)) ≡ number_from 0 (levels_at u s n)
   number_behind items u s n is = number_turned v zero_is n (drop s items) ∙ ap (number_from 0) (filled_same n (levels_in v (drop s items)) (drop s u) (λ p h. levels_behind v zero_is items u s p (is p h)))
 
   -- the identifier
@@ -71,25 +71,25 @@ module _ (v : ℕ → Bool) (zero_is : v 0 ≡ false) where
   turned_sum : (m n : ℕ) → m + 2 ^ 18 * n ≡ n * 2 ^ 18 + m
   turned_sum m n = omega arith
 
-  both_parts : (levels : List Literal) (u : List Level) → HoldsLevels v levels u → number v (turned 18 (drop 14 levels) ++ turned 11 (drop 1 levels)) ≡ number_from 0 (levels_at u 1 11 ++ levels_at u 14 18)
+  both_parts : (levels : List Literal) (u : List Level) → HoldsLevels v levels u → number v (turned_word 18 (drop 14 levels) ++ turned_word 11 (drop 1 levels)) ≡ number_from 0 (levels_at u 1 11 ++ levels_at u 14 18)
   both_parts levels u held =
       let lower = number_from 0 (levels_at u 14 18) in
       let upper = number_from 0 (levels_at u 1 11) in
-      let lower_is : number v (turned 18 (drop 14 levels)) ≡ lower = number_behind levels u 14 18 (λ p h. held (14 + p) (omega (arith, h))) in
-      let upper_is : number v (turned 11 (drop 1 levels)) ≡ upper = number_behind levels u 1 11 (λ p h. held (1 + p) (omega (arith, h))) in
+      let lower_is : number v (turned_word 18 (drop 14 levels)) ≡ lower = number_behind levels u 14 18 (λ p h. held (14 + p) (omega (arith, h))) in
+      let upper_is : number v (turned_word 11 (drop 1 levels)) ≡ upper = number_behind levels u 1 11 (λ p h. held (1 + p) (omega (arith, h))) in
       let whole : number_from 0 (levels_at u 1 11 ++ levels_at u 14 18) ≡ upper * 2 ^ 18 + lower =
       number_from-append 0 (levels_at u 1 11) (levels_at u 14 18) ∙ number_from-split upper (levels_at u 14 18) ∙ ap (λ n. upper * 2 ^ n + lower) (length-filled 18 (drop 14 u)) in
-      number_both (turned 18 (drop 14 levels)) (turned 11 (drop 1 levels)) (length-turned 18 (drop 14 levels))
-      ∙ ap (λ m. m + 2 ^ 18 * number v (turned 11 (drop 1 levels))) lower_is
+      number_both (turned_word 18 (drop 14 levels)) (turned_word 11 (drop 1 levels)) (length-turned 18 (drop 14 levels))
+      ∙ ap (λ m. m + 2 ^ 18 * number v (turned_word 11 (drop 1 levels))) lower_is
       ∙ ap (λ n. lower + 2 ^ 18 * n) upper_is
       ∙ turned_sum lower upper
       ∙ sym whole
 
-  identifier_told : (levels word : List Literal) (u : List Level) (e : Bool) → HoldsLevels v levels u → length word ≡ 29 → number v word ≡ cond e (number v (turned 18 (drop 14 levels) ++ turned 11 (drop 1 levels))) (number v (turned 11 (drop 1 levels))) → (number v (take (identifier_places e) word) ≡ number_from 0 (cond e (levels_at u 1 11 ++ levels_at u 14 18) (levels_at u 1 11))) × (number v (drop (identifier_places e) word) ≡ 0)
+  identifier_told : (levels word : List Literal) (u : List Level) (e : Bool) → HoldsLevels v levels u → length word ≡ 29 → number v word ≡ cond e (number v (turned_word 18 (drop 14 levels) ++ turned_word 11 (drop 1 levels))) (number v (turned_word 11 (drop 1 levels))) → (number v (take (identifier_places e) word) ≡ number_from 0 (cond e (levels_at u 1 11 ++ levels_at u 14 18) (levels_at u 1 11))) × (number v (drop (identifier_places e) word) ≡ 0)
   identifier_told levels word u true held long is = long_word word (number_from 0 (levels_at u 1 11 ++ levels_at u 14 18)) long (is ∙ both_parts levels u held)
   identifier_told levels word u false held long is =
-      let x = number v (turned 11 (drop 1 levels)) in
-      let small : x < 2 ^ 11 = subst (λ n. x < 2 ^ n) (length-turned 11 (drop 1 levels)) (number-lt v (turned 11 (drop 1 levels))) in
+      let x = number v (turned_word 11 (drop 1 levels)) in
+      let small : x < 2 ^ 11 = subst (λ n. x < 2 ^ n) (length-turned 11 (drop 1 levels)) (number-lt v (turned_word 11 (drop 1 levels))) in
       let parts = short_word word x is small in
       (parts.0 ∙ number_behind levels u 1 11 (λ p h. held (1 + p) (omega (arith, h))), parts.1)
 
@@ -100,10 +100,10 @@ module _ (v : ℕ → Bool) (zero_is : v 0 ≡ false) where
   behind_told levels behind u false held chosen p h = chosen p h ∙ ap (value v) (get_or-drop 12 levels p never) ∙ held (12 + p) (omega (arith, h)) ∙ ap is_recessive (sym (get_or-drop 12 u p Dominant))
 
   dlc_told : (behind : List Literal) (w : List Level) → ((p : ℕ) → p < 71 → value v (get_or behind p never) ≡ is_recessive (level_at w p)) → (n : Nibble) → n.ones ≡ get_or behind 6 never → n.twos ≡ get_or behind 5 never → n.fours ≡ get_or behind 4 never → n.eights ≡ get_or behind 3 never → nibble v n ≡ number_from 0 (levels_at w 3 4)
-  unfolding nibble turned
+  unfolding nibble turned_word
   dlc_told behind w held n ones twos fours eights =
       let at : (p : ℕ) → get_or (drop 3 behind) p never ≡ get_or behind (3 + p) never = λ p. get_or-drop 3 behind p never in
-      let word : number v (n.ones ∷ n.twos ∷ n.fours ∷ n.eights ∷ []) ≡ number v (turned 4 (drop 3 behind)) = rw (ones ∙ sym (at 3), twos ∙ sym (at 2), fours ∙ sym (at 1), eights ∙ sym (at 0)) refl in
+      let word : number v (n.ones ∷ n.twos ∷ n.fours ∷ n.eights ∷ []) ≡ number v (turned_word 4 (drop 3 behind)) = rw (ones ∙ sym (at 3), twos ∙ sym (at 2), fours ∙ sym (at 1), eights ∙ sym (at 0)) refl in
       word ∙ number_behind behind w 3 4 (λ p h. held (3 + p) (omega (arith, h)))
 
   bytes_told : (behind : List Literal) (w : List Level) → ((p : ℕ) → p < 71 → value v (get_or behind p never) ≡ is_recessive (level_at w p)) → (n : ℕ) → n ≤ 8 → bytes_in v n (turned_bytes 8 (drop 7 behind)) ≡ bytes_from n (drop 7 w)
@@ -112,7 +112,7 @@ module _ (v : ℕ → Bool) (zero_is : v 0 ≡ false) where
 
   -- all fields
   pub fields_told : (k : Fields) (levels behind word : List Literal) (u : List Level) → HoldsLevels v levels u → k.extended ≡ get_or levels 13 never → length k.identifier.items ≡ 29
-      → number v k.identifier.items ≡ cond (value v k.extended) (number v (turned 18 (drop 14 levels) ++ turned 11 (drop 1 levels))) (number v (turned 11 (drop 1 levels)))
+      → number v k.identifier.items ≡ cond (value v k.extended) (number v (turned_word 18 (drop 14 levels) ++ turned_word 11 (drop 1 levels))) (number v (turned_word 11 (drop 1 levels)))
       → ((p : ℕ) → p < 71 → value v (get_or behind p never) ≡ cond (value v k.extended) (value v (get_or (drop 32 levels) p never)) (value v (get_or (drop 12 levels) p never)))
       → k.remote ≡ get_or behind 0 never → k.dlc.ones ≡ get_or behind 6 never → k.dlc.twos ≡ get_or behind 5 never → k.dlc.fours ≡ get_or behind 4 never → k.dlc.eights ≡ get_or behind 3 never
       → word ≡ turned_bytes 8 (drop 7 behind) → IsCleared v k.bytes.items word (byte_count (value v k.remote) (nibble v k.dlc)) → HoldsFields v k (frame_of u)
@@ -151,7 +151,7 @@ module _ (v : ℕ → Bool) (k : Registers) (m : MacState) (levels : List Litera
   of_receiver false u e held chosen = λ p h. chosen p h ∙ held p h
 
   -- its levels are those of the sender's registers, or of the receiver's
-  pub told_levels : (e : Option Event) (f : Parts) → HoldsAll v k m → IsTold m.phase m.role e → frame_told e ≡ Some f → ((p : ℕ) → p < 103 → value v (get_or levels p never) ≡ cond (value v k.controller.wires.sender) (value v (get_or k.own.items p never)) (value v (get_or k.heard.levels.items p never))) → (u : List Level) × ((frame_of u ≡ f) × HoldsLevels v levels u)
+  pub told_levels : (e : Option Event) (f : Parts) → HoldsAll v k m → IsEventIn m.phase m.role e → frame_told e ≡ Some f → ((p : ℕ) → p < 103 → value v (get_or levels p never) ≡ cond (value v k.controller.wires.sender) (value v (get_or k.own.items p never)) (value v (get_or k.heard.levels.items p never))) → (u : List Level) × ((frame_of u ≡ f) × HoldsLevels v levels u)
   told_levels None f held told e chosen = cc e
   told_levels (Some (Sent g)) f held told e chosen =
       let same : g ≡ f = cc e in

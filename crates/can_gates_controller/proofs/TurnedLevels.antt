@@ -14,7 +14,7 @@ use Rattle.can_gates.specs.Words.{number, bit}
 use Rattle.can_gates.proofs.Constants.{never, value-never}
 use Rattle.can_gates.proofs.WordNumbers.{number-take, number-take-lt}
 use Rattle.can_gates_controller.specs.Fields.{bytes_in}
-use Rattle.can_gates_controller.specs.Laying.{turned, turned_bytes}
+use Rattle.can_gates_controller.specs.Laying.{turned_word, turned_bytes}
 
 abbrev pub literal_level : (ℕ → Bool) → Literal → Level
 literal_level v l = level_from (value v l)
@@ -36,8 +36,8 @@ pub level_back : (x : Level) → level_from (is_recessive x) ≡ x
 level_back Dominant = refl
 level_back Recessive = refl
 
-pub length-turned : (n : ℕ) (items : List Literal) → length (turned n items) ≡ n
-unfolding turned
+pub length-turned : (n : ℕ) (items : List Literal) → length (turned_word n items) ≡ n
+unfolding turned_word
 length-turned zero items = refl
 length-turned (suc n) items = ap suc (length-turned n items)
 
@@ -52,8 +52,8 @@ level_of_bit true = refl
 level_of_bit false = refl
 
 -- the first n places of a word, the highest of them first, are the levels of their number
-pub levels_turned : (v : ℕ → Bool) → v 0 ≡ false → (n : ℕ) (word : List Literal) → levels_in v (turned n word) ≡ bits_of n (number v (take n word))
-unfolding bits_of turned
+pub levels_turned : (v : ℕ → Bool) → v 0 ≡ false → (n : ℕ) (word : List Literal) → levels_in v (turned_word n word) ≡ bits_of n (number v (take n word))
+unfolding bits_of turned_word
 levels_turned v zero_is zero word = refl
 levels_turned v zero_is (suc n) word =
     let b = value v (get_or word n never) in
@@ -68,7 +68,7 @@ pub levels_turned_bytes : (v : ℕ → Bool) → v 0 ≡ false → (n : ℕ) (wo
 unfolding turned_bytes
 levels_turned_bytes v zero_is zero word = refl
 levels_turned_bytes v zero_is (suc n) word =
-    map-append (literal_level v) (turned 8 word) (turned_bytes n (drop 8 word))
+    map-append (literal_level v) (turned_word 8 word) (turned_bytes n (drop 8 word))
     ∙ ap (λ t. t ++ levels_in v (turned_bytes n (drop 8 word))) (levels_turned v zero_is 8 word)
     ∙ ap (λ t. bits_of 8 (number v (take 8 word)) ++ t) (levels_turned_bytes v zero_is n (drop 8 word))
 
@@ -85,8 +85,8 @@ number_more m true = omega arith
 number_more m false = omega arith
 
 -- the first n levels, the last of them first, are the word of their number
-pub number_turned : (v : ℕ → Bool) → v 0 ≡ false → (n : ℕ) (items : List Literal) → number v (turned n items) ≡ number_from 0 (filled n (levels_in v items))
-unfolding turned
+pub number_turned : (v : ℕ → Bool) → v 0 ≡ false → (n : ℕ) (items : List Literal) → number v (turned_word n items) ≡ number_from 0 (filled n (levels_in v items))
+unfolding turned_word
 number_turned v zero_is zero items = refl
 number_turned v zero_is (suc n) items =
     let u = levels_in v items in
@@ -101,7 +101,7 @@ number_turned v zero_is (suc n) items =
     )
 
 pub bytes_turned : (v : ℕ → Bool) → v 0 ≡ false → (n m : ℕ) (items : List Literal) → n ≤ m → bytes_in v n (turned_bytes m items) ≡ bytes_from n (levels_in v items)
-unfolding turned turned_bytes
+unfolding turned_word turned_bytes
 bytes_turned v zero_is zero m items h = refl
 bytes_turned v zero_is (suc n) zero items h = absurd (omega (arith, h))
 bytes_turned v zero_is (suc n) (suc m) items h =
@@ -132,19 +132,19 @@ levels_behind v zero_is items u s p is =
 
 -- Literals appended in the other order, one by one and byte by byte.
 
-pub turned_more : (out new items : List Literal) (l : Literal) (s n left m : ℕ) → n ≡ suc m → left ≡ m → new ≡ out ++ l ∷ [] → l ≡ get_or items (s + m) never → new ++ turned left (drop s items) ≡ out ++ turned n (drop s items)
-unfolding turned
+pub turned_more : (out new items : List Literal) (l : Literal) (s n left m : ℕ) → n ≡ suc m → left ≡ m → new ≡ out ++ l ∷ [] → l ≡ get_or items (s + m) never → new ++ turned_word left (drop s items) ≡ out ++ turned_word n (drop s items)
+unfolding turned_word
 turned_more out new items l s n left m here below pushed is =
-    rw (here, below, pushed) (append_assoc out (l ∷ []) (turned m (drop s items)) ∙ ap (λ t. out ++ t ∷ turned m (drop s items)) (is ∙ sym (get_or-drop s items m never)))
+    rw (here, below, pushed) (append_assoc out (l ∷ []) (turned_word m (drop s items)) ∙ ap (λ t. out ++ t ∷ turned_word m (drop s items)) (is ∙ sym (get_or-drop s items m never)))
 
-pub turned_whole : (out items : List Literal) (s n : ℕ) → n ≡ 0 → out ≡ out ++ turned n (drop s items)
-unfolding turned
+pub turned_whole : (out items : List Literal) (s n : ℕ) → n ≡ 0 → out ≡ out ++ turned_word n (drop s items)
+unfolding turned_word
 turned_whole out items s n none = rw none (sym (append-nil out))
 
-pub turned_bytes_more : (out new items : List Literal) (s next n m : ℕ) → n ≡ suc m → s + 8 ≡ next → new ≡ out ++ turned 8 (drop s items) → new ++ turned_bytes m (drop next items) ≡ out ++ turned_bytes n (drop s items)
+pub turned_bytes_more : (out new items : List Literal) (s next n m : ℕ) → n ≡ suc m → s + 8 ≡ next → new ≡ out ++ turned_word 8 (drop s items) → new ++ turned_bytes m (drop next items) ≡ out ++ turned_bytes n (drop s items)
 unfolding turned_bytes
 turned_bytes_more out new items s next n m here on pushed =
-    rw (here, pushed) (append_assoc out (turned 8 (drop s items)) (turned_bytes m (drop next items)) ∙ ap (λ t. out ++ (turned 8 (drop s items) ++ turned_bytes m t)) (sym (drop-drop 8 s items ∙ ap (λ k. drop k items) on)))
+    rw (here, pushed) (append_assoc out (turned_word 8 (drop s items)) (turned_bytes m (drop next items)) ∙ ap (λ t. out ++ (turned_word 8 (drop s items) ++ turned_bytes m t)) (sym (drop-drop 8 s items ∙ ap (λ k. drop k items) on)))
 
 pub turned_bytes_whole : (out items : List Literal) (n : ℕ) → n ≡ 0 → out ≡ out ++ turned_bytes n items
 unfolding turned_bytes

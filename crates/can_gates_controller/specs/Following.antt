@@ -53,24 +53,24 @@ Ended (StuffedPart front) x = ends_part (heard_level front x) ≡ true
 Ended p x = Unit {0}
 
 -- a phase that follows another one, with the role there
-abbrev pub IsNext : MacPhase → Role → Option Parts → Level → MacPhase → Role → Type 0
-IsNext p role waiting x (StuffedPart front) new = (next_front p x ≡ Some front) × (KeepsOwn p role waiting new × SeesOwn p x new)
-IsNext p role waiting x (CrcDelimiter r) new = (next_reading p x ≡ Some r) × (KeepsOwn p role waiting new × Ended p x)
-IsNext p role waiting x (AckSlot r) new = (next_reading p x ≡ Some r) × (KeepsOwn p role waiting new × Ended p x)
-IsNext p role waiting x (AckDelimiter r) new = (next_reading p x ≡ Some r) × (KeepsOwn p role waiting new × Ended p x)
-IsNext p role waiting x (EndOfFrame r place) new = (next_reading p x ≡ Some r) × (KeepsOwn p role waiting new × Ended p x)
-IsNext p role waiting x q new = Unit {0}
+abbrev pub IsPhaseBehind : MacPhase → Role → Option Parts → Level → MacPhase → Role → Type 0
+IsPhaseBehind p role waiting x (StuffedPart front) new = (next_front p x ≡ Some front) × (KeepsOwn p role waiting new × SeesOwn p x new)
+IsPhaseBehind p role waiting x (CrcDelimiter r) new = (next_reading p x ≡ Some r) × (KeepsOwn p role waiting new × Ended p x)
+IsPhaseBehind p role waiting x (AckSlot r) new = (next_reading p x ≡ Some r) × (KeepsOwn p role waiting new × Ended p x)
+IsPhaseBehind p role waiting x (AckDelimiter r) new = (next_reading p x ≡ Some r) × (KeepsOwn p role waiting new × Ended p x)
+IsPhaseBehind p role waiting x (EndOfFrame r place) new = (next_reading p x ≡ Some r) × (KeepsOwn p role waiting new × Ended p x)
+IsPhaseBehind p role waiting x q new = Unit {0}
 
 -- the frame that is told is the sender's, or the one that a receiver has heard
-abbrev pub IsTold : MacPhase → Role → Option Event → Type 0
-IsTold p role (Some (Sent f)) = (is_in_frame p ≡ true) × (role ≡ Sender f)
-IsTold p role (Some (Received f)) = (role ≡ Receiver) × ((r : Reading) × ((reading_in p ≡ Some r) × (f ≡ r.frame)))
-IsTold p role e = Unit {0}
+abbrev pub IsEventIn : MacPhase → Role → Option Event → Type 0
+IsEventIn p role (Some (Sent f)) = (is_in_frame p ≡ true) × (role ≡ Sender f)
+IsEventIn p role (Some (Received f)) = (role ≡ Receiver) × ((r : Reading) × ((reading_in p ≡ Some r) × (f ≡ r.frame)))
+IsEventIn p role e = Unit {0}
 
 -- what follows a phase, and is told
 pub record Follows (p : MacPhase) (role : Role) (waiting : Option Parts) (x : Level) (q : MacPhase) (new : Role) (e : Option Event) : Type 0 where
-  pub next : IsNext p role waiting x q new
-  pub told : IsTold p role e
+  pub next : IsPhaseBehind p role waiting x q new
+  pub told : IsEventIn p role e
 
 -- whether the stuffed part of a frame goes on
 abbrev pub is_part : MacPhase → Bool
@@ -86,7 +86,7 @@ is_behind_part (EndOfFrame r place) = true
 is_behind_part p = false
 
 -- the literals tell where in a frame this phase is
-pub record IsWithin (v : ℕ → Bool) (k : Within) (p : MacPhase) : Type 0 where
+pub record ShowsWithin (v : ℕ → Bool) (k : Within) (p : MacPhase) : Type 0 where
   pub part : value v k.part ≡ is_part p
   pub end : value v k.end ≡ is_behind_part p
 

@@ -6,14 +6,14 @@ use Rattle.can_gates_controller.specs.Fields.{bytes_in}
 
 -- the first n literals, the last of them first: a word has its lowest place first, and on the bus the highest goes first. Past
 -- the end stands what is never true
-unfoldable pub turned : ℕ → List Literal → List Literal
-turned zero items = []
-turned (suc n) items = slice_index_or items n (record { signal = 0; negated = false }) ∷ turned n items
+unfoldable pub turned_word : ℕ → List Literal → List Literal
+turned_word zero items = []
+turned_word (suc n) items = slice_index_or items n (record { signal = 0; negated = false }) ∷ turned_word n items
 
 -- the first n bytes, each of eight literals, the last of them first
 unfoldable pub turned_bytes : ℕ → List Literal → List Literal
 turned_bytes zero items = []
-turned_bytes (suc n) items = turned 8 items ++ turned_bytes n (drop 8 items)
+turned_bytes (suc n) items = turned_word 8 items ++ turned_bytes n (drop 8 items)
 
 -- the first n bytes are those of other data, and behind them stands 0
 pub record IsCleared (v : ℕ → Bool) (made old : List Literal) (n : ℕ) : Type 0 where

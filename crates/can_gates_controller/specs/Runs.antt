@@ -16,10 +16,10 @@ use Rattle.can_gates_controller.specs.declared.design.Design.{Design}
 use Rattle.can_gates_controller.specs.Whole.{HoldsAll}
 use Rattle.can_gates_controller.specs.Fields.{frame_in, HoldsFields, frame_told}
 use Rattle.can_gates_controller.specs.Listed.{AreSignals, register_list, input_list, output_list}
-use Rattle.can_gates_controller.specs.Steps.{Step, state_behind, told_in, state_before}
+use Rattle.can_gates_controller.specs.Steps.{ControllerStep, state_behind, told_in, state_before}
 
 -- the step that comes in
-abbrev pub step_in : (ℕ → Bool) → InputPorts → Step
+abbrev pub step_in : (ℕ → Bool) → InputPorts → ControllerStep
 step_in v k = record {
   reset = value v k.reset;
   joins = value v k.joins;
@@ -31,7 +31,7 @@ step_in v k = record {
 
 -- what goes out is that of this controller, where this step comes in: the level that it drives, what it tells, its counters, and
 -- whether it is error passive and bus off
-pub record Shows (v : ℕ → Bool) (k : OutputPorts) (m : MacState) (s : Step) : Type 0 where
+pub record Shows (v : ℕ → Bool) (k : OutputPorts) (m : MacState) (s : ControllerStep) : Type 0 where
   pub drive : value v k.drive ≡ is_recessive (mac_drives m s.waiting)
   pub told : nibble v k.told ≡ event_number (told_in m s)
   pub frame : (f : Parts) → frame_told (told_in m s) ≡ Some f → HoldsFields v k.frame f
@@ -68,7 +68,7 @@ pub record IsRun (d : Design) (v : ℕ → ℕ → Bool) (n : ℕ) : Type 0 wher
   pub takes : (t : ℕ) → suc t < n → StepsRegisters d.circuit d.registers.items (v t) (v (suc t))
 
 -- the steps that come in
-abbrev pub steps_in : Design → (ℕ → ℕ → Bool) → ℕ → Step
+abbrev pub steps_in : Design → (ℕ → ℕ → Bool) → ℕ → ControllerStep
 steps_in d v t = step_in (v t) d.inputs
 
 -- in each run, from whatever controller the registers hold, what goes out in each step is that of the machine's own run

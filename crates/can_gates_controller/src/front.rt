@@ -10,7 +10,7 @@ ghost use Rattle.can_mac.specs.Moves.{ends_part};
 ghost use Rattle.can_gates.specs.Circuit.{value, Makes};
 ghost use Rattle.can_gates.specs.Words.{number};
 ghost use Rattle.can_gates_controller.specs.Fronts.{HoldsLevels, HoldsFront, HearsFront, TellsSender};
-ghost use Rattle.can_gates_mac.specs.Inputs.{IsPart};
+ghost use Rattle.can_gates_mac.specs.Inputs.{ReadsPart};
 
 use crate::check::next_check;
 use crate::heard::Heard;
@@ -83,7 +83,7 @@ pub fn read(
     sent: Literal,
     extended: Literal,
 ) -> Result<(Heard, Part), AllocError>
-    ensures { IfOk result (λ r. Makes circuit.old circuit.new (λ v. (role : Role) (front : FrontParts) (x : Level) → HoldsFront v heard.now front → front.run ≤ 5 → length front.unstuffed < 127 → value v seen ≡ is_recessive x → TellsSender v sent extended role front → HoldsFront v r.0 (heard_level front x) × IsPart v r.1 role front x)) }
+    ensures { IfOk result (λ r. Makes circuit.old circuit.new (λ v. (role : Role) (front : FrontParts) (x : Level) → HoldsFront v heard.now front → front.run ≤ 5 → length front.unstuffed < 127 → value v seen ≡ is_recessive x → TellsSender v sent extended role front → HoldsFront v r.0 (heard_level front x) × ReadsPart v r.1 role front x)) }
 {
     let (next, stuffing) = hear(circuit, alloc, heard, seen)?;
     let ends = ends(circuit, alloc, &next)?;

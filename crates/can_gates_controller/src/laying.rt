@@ -4,7 +4,7 @@ ghost use Rattle.can_wire.specs.Wire.{head};
 ghost use Rattle.can_gates.specs.Circuit.{Makes};
 ghost use Rattle.can_gates_controller.specs.Fronts.{HoldsLevels};
 ghost use Rattle.can_gates_controller.specs.Fields.{frame_in};
-ghost use Rattle.can_gates_controller.specs.Laying.{turned, turned_bytes};
+ghost use Rattle.can_gates_controller.specs.Laying.{turned_word, turned_bytes};
 
 use crate::fields::{Fields, LOWER_BITS, UPPER_BITS, clear_behind};
 use crate::levels::choose_levels;
@@ -69,7 +69,7 @@ fn standard_levels(
     identifier: &[Literal],
     behind: &[Literal],
 ) -> Result<Vec<Literal>, AllocError>
-    ensures { IfOk result (λ r. r.items ≡ FALSE ∷ (turned 11 identifier.now ++ behind.now)) }
+    ensures { IfOk result (λ r. r.items ≡ FALSE ∷ (turned_word 11 identifier.now ++ behind.now)) }
 {
     let mut all = Vec::from_slice(alloc, &[FALSE])?;
     push_turned(&mut all, identifier, 0, UPPER_BITS)?;
@@ -83,7 +83,7 @@ fn extended_levels(
     identifier: &[Literal],
     behind: &[Literal],
 ) -> Result<Vec<Literal>, AllocError>
-    ensures { IfOk result (λ r. r.items ≡ FALSE ∷ (turned 11 (drop 18 identifier.now) ++ TRUE ∷ TRUE ∷ (turned 18 identifier.now ++ behind.now))) }
+    ensures { IfOk result (λ r. r.items ≡ FALSE ∷ (turned_word 11 (drop 18 identifier.now) ++ TRUE ∷ TRUE ∷ (turned_word 18 identifier.now ++ behind.now))) }
 {
     let mut all = Vec::from_slice(alloc, &[FALSE])?;
     push_turned(&mut all, identifier, LOWER_BITS, UPPER_BITS)?;

@@ -10,7 +10,7 @@ ghost use Rattle.can_gates_mac.specs.Nibbles.{nibble};
 ghost use Rattle.can_gates_mac.specs.Stepping.{Holds};
 ghost use Rattle.can_gates_controller.specs.Fronts.{HoldsLevels, HoldsFront};
 ghost use Rattle.can_gates_controller.specs.Holding.{HoldsHeard};
-ghost use Rattle.can_gates_controller.specs.Following.{IsWithin};
+ghost use Rattle.can_gates_controller.specs.Following.{ShowsWithin};
 ghost use Rattle.can_gates_controller.specs.Whole.{HoldsAll, IsSettled};
 
 use crate::following::Within;
@@ -170,7 +170,7 @@ fn heard_is_legal(
     within: Within,
     heard: &Heard,
 ) -> Result<Literal, AllocError>
-    ensures { IfOk result (λ r. Makes circuit.old circuit.new (λ v. (p : MacPhase) → IsPhase p → IsWithin v within p → HoldsHeard v heard.now p → value v r ≡ true)) }
+    ensures { IfOk result (λ r. Makes circuit.old circuit.new (λ v. (p : MacPhase) → IsPhase p → ShowsWithin v within p → HoldsHeard v heard.now p → value v r ≡ true)) }
 {
     let length = frame_length(circuit, alloc, &heard.levels)?;
     let whole = circuit.equals(&length, &heard.count);

@@ -11,7 +11,7 @@ ghost use Rattle.can_gates_mac.specs.Nibbles.{nibble};
 ghost use Rattle.can_gates_mac.specs.Numbers.{phase_number};
 ghost use Rattle.can_gates_controller.specs.Fronts.{HoldsFront};
 ghost use Rattle.can_gates_controller.specs.Holding.{HoldsHeard};
-ghost use Rattle.can_gates_controller.specs.Following.{IsWithin, IsEither, IsNext};
+ghost use Rattle.can_gates_controller.specs.Following.{ShowsWithin, IsEither, IsPhaseBehind};
 
 use crate::check;
 use crate::following::Within;
@@ -30,7 +30,7 @@ pub(crate) fn within(
     alloc: Global,
     phase: Nibble,
 ) -> Result<Within, AllocError>
-    ensures { IfOk result (λ r. Makes circuit.old circuit.new (λ v. (p : MacPhase) → nibble v phase ≡ phase_number p → IsWithin v r p)) }
+    ensures { IfOk result (λ r. Makes circuit.old circuit.new (λ v. (p : MacPhase) → nibble v phase ≡ phase_number p → ShowsWithin v r p)) }
 {
     let place = [phase.ones, phase.twos, phase.fours, phase.eights];
     // in the order of the phases' numbers
@@ -91,7 +91,7 @@ pub(crate) fn follow(
     heard: &Heard,
     next: &Heard,
 ) -> Result<Heard, AllocError>
-    ensures { IfOk result (λ r. Makes circuit.old circuit.new (λ v. (p q : MacPhase) (role new : Role) (waiting : Option Parts) (x : Level) → IsWithin v within p → HoldsHeard v heard.now p → ((front : FrontParts) → p ≡ StuffedPart front → HoldsFront v next.now (heard_level front x)) → IsNext p role waiting x q new → HoldsHeard v r q)) }
+    ensures { IfOk result (λ r. Makes circuit.old circuit.new (λ v. (p q : MacPhase) (role new : Role) (waiting : Option Parts) (x : Level) → ShowsWithin v within p → HoldsHeard v heard.now p → ((front : FrontParts) → p ≡ StuffedPart front → HoldsFront v next.now (heard_level front x)) → IsPhaseBehind p role waiting x q new → HoldsHeard v r q)) }
 {
     let first = first_heard(alloc)?;
     let kept = choose_heard(circuit, alloc, within.end, heard, &first)?;

@@ -4,7 +4,7 @@ ghost use Rattle.can_mac.specs.State.{MacState};
 ghost use Rattle.can_gates.specs.Circuit.{value, Makes};
 ghost use Rattle.can_gates_controller.specs.declared.registers.Registers.{Registers as RegistersOf};
 ghost use Rattle.can_gates_controller.specs.Whole.{HoldsAll, IsBitTime};
-ghost use Rattle.can_gates_controller.specs.Steps.{Step, asked};
+ghost use Rattle.can_gates_controller.specs.Steps.{ControllerStep, asked};
 ghost use Rattle.can_gates_controller.specs.Runs.{step_in, Shows};
 ghost use Rattle.can_gates_controller.specs.Listed.{AreSignals, register_list};
 ghost use Rattle.can_gates_controller.specs.Stepped.{TakesReset, TakesStep, taken_at};
@@ -87,7 +87,7 @@ fn show(
     wished: &Registers,
     made: &BitTime,
 ) -> Result<OutputPorts, AllocError>
-    ensures { IfOk result (λ r. Makes circuit.old circuit.new (λ v. (m : MacState) (s : Step) → s ≡ step_in v inputs.now → HoldsAll v held.now m → HoldsAll v wished.now (asked s.wish m) → IsBitTime v made.now wished.now (asked s.wish m) s.waiting s.level → Shows v r m s)) }
+    ensures { IfOk result (λ r. Makes circuit.old circuit.new (λ v. (m : MacState) (s : ControllerStep) → s ≡ step_in v inputs.now → HoldsAll v held.now m → HoldsAll v wished.now (asked s.wish m) → IsBitTime v made.now wished.now (asked s.wish m) s.waiting s.level → Shows v r m s)) }
 {
     let counters = &held.controller.counters;
     let passes = circuit.and(inputs.enable, inputs.reset.opposite());

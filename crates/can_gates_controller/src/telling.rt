@@ -10,7 +10,7 @@ ghost use Rattle.can_gates.specs.Words.{number};
 ghost use Rattle.can_gates_controller.specs.Fronts.{HoldsLevels};
 ghost use Rattle.can_gates_controller.specs.Whole.{HoldsAll};
 ghost use Rattle.can_gates_controller.specs.Fields.{HoldsFields, frame_told};
-ghost use Rattle.can_gates_controller.specs.Laying.{turned};
+ghost use Rattle.can_gates_controller.specs.Laying.{turned_word};
 
 use crate::fields::{Fields, LOWER_BITS, UPPER_BITS, clear_behind};
 use crate::laying::PLACES;
@@ -100,7 +100,7 @@ fn identifier_of(
     extended: Literal,
     levels: &[Literal],
 ) -> Result<Vec<Literal>, AllocError>
-    ensures { IfOk result (λ r. (length r.items ≡ 29) × Makes circuit.old circuit.new (λ v. number v r.items ≡ (if value v extended then number v (turned 18 (drop 14 levels.now) ++ turned 11 (drop 1 levels.now)) else number v (turned 11 (drop 1 levels.now))))) }
+    ensures { IfOk result (λ r. (length r.items ≡ 29) × Makes circuit.old circuit.new (λ v. number v r.items ≡ (if value v extended then number v (turned_word 18 (drop 14 levels.now) ++ turned_word 11 (drop 1 levels.now)) else number v (turned_word 11 (drop 1 levels.now))))) }
 {
     let mut short = Vec::new(alloc);
     push_turned(&mut short, levels, 1, UPPER_BITS)?;

@@ -1,6 +1,6 @@
 //! Literals in the other order: a word has its lowest place first, on the bus the highest goes first.
 ghost use Rattle.std.specs.Prelude.{◌≡◌, ◌+◌, ◌≤◌, ◌++◌, drop, OnOk};
-ghost use Rattle.can_gates_controller.specs.Laying.{turned, turned_bytes};
+ghost use Rattle.can_gates_controller.specs.Laying.{turned_word, turned_bytes};
 
 use can_gates::{Literal, literal_at};
 use std::alloc::AllocError;
@@ -16,7 +16,7 @@ pub(crate) fn push_turned(
     count: usize,
 ) -> Result<(), AllocError>
     requires { first + count ≤ 103 }
-    ensures { OnOk result (out.new.items ≡ out.old.items ++ turned count (drop first items.now)) }
+    ensures { OnOk result (out.new.items ≡ out.old.items ++ turned_word count (drop first items.now)) }
 {
     for place in 0..count {
         out.push(literal_at(items, first + (count - 1 - place)))?;

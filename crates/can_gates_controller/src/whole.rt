@@ -8,7 +8,7 @@ ghost use Rattle.can_gates.specs.Circuit.{value, Makes};
 ghost use Rattle.can_gates_mac.specs.Driving.{DrivesIn};
 ghost use Rattle.can_gates_mac.specs.Numbers.{is_waiting};
 ghost use Rattle.can_gates_controller.specs.Holding.{is_in_frame};
-ghost use Rattle.can_gates_controller.specs.Following.{IsWithin};
+ghost use Rattle.can_gates_controller.specs.Following.{ShowsWithin};
 ghost use Rattle.can_gates_controller.specs.Whole.{HoldsAll, Offers, IsBitTime};
 
 use crate::check::agrees;
@@ -88,7 +88,7 @@ fn next_own(
     own: &[Literal],
     offered: &[Literal],
 ) -> Result<Vec<Literal>, AllocError>
-    ensures { IfOk result (λ r. Makes circuit.old circuit.new (λ v. (p : MacPhase) (place : ℕ) → IsWithin v within p → place < 103 → value v (slice_index_or r.items place FALSE) ≡ (if is_in_frame p then value v (slice_index_or own.now place FALSE) else value v (slice_index_or offered.now place FALSE)))) }
+    ensures { IfOk result (λ r. Makes circuit.old circuit.new (λ v. (p : MacPhase) (place : ℕ) → ShowsWithin v within p → place < 103 → value v (slice_index_or r.items place FALSE) ≡ (if is_in_frame p then value v (slice_index_or own.now place FALSE) else value v (slice_index_or offered.now place FALSE)))) }
 {
     let busy = circuit.or(within.part, within.end);
     let made = choose_levels(circuit, alloc, PLACES, busy, own, offered)?;

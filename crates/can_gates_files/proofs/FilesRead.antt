@@ -8,16 +8,16 @@ use Rattle.can_gates.specs.declared.literal.Literal.{Literal}
 use Rattle.can_gates.specs.declared.circuit.Gate.{Gate}
 use Rattle.can_gates.specs.declared.aiger.Register.{Register}
 use Rattle.can_gates.specs.Circuit.{CircuitParts}
-use Rattle.can_gates.specs.Aiger.{code_of, gate_numbers, input_lines, line_text, lines_in as numbers_in, lines_of, numbers_behind, output_numbers, register_lines}
+use Rattle.can_gates.specs.Aiger.{literal_code, gate_numbers, input_lines, line_text, numbers_in, file_lines, numbers_behind, output_numbers, register_lines}
 use Rattle.can_gates.specs.AigerNumbers.{AreLines, AreSmall}
 use Rattle.can_gates.specs.Ordered.{IsOrdered}
 use Rattle.can_gates.proofs.AigerLines.{lines_before}
 use Rattle.can_gates_files.specs.declared.words.Names.{Names}
 use Rattle.can_gates_files.specs.Named.{ascii_text, names_text}
 use Rattle.can_gates_files.specs.Binary.{binary_text, gate_bytes, gates_in, groups, number_in, register_numbers}
-use Rattle.can_gates_files.specs.Statements.{IsName, lines_in}
+use Rattle.can_gates_files.specs.Statements.{IsName, words_by_line}
 use Rattle.can_gates_files.specs.Readable.{AreReadable}
-use Rattle.can_gates_files.specs.Files.{AsciiFile, BinaryFile, all_numbers, ascii_by, behind_gates, behind_lines, binary_by, binary_lines, first_line, names_lines, read_ascii, read_binary}
+use Rattle.can_gates_files.specs.Files.{AsciiFile, BinaryFile, all_numbers, ascii_by, behind_gates, behind_lines, binary_by, binary_lines, header_line, names_lines, read_ascii, read_binary}
 use Rattle.can_gates_files.proofs.Reading.{decimal_name}
 use Rattle.can_gates_files.proofs.Groups.{AreNumbered, bit-small, gates_read, numbered, ten_groups}
 use Rattle.can_gates_files.proofs.Proper.{lines_apart, registers_are}
@@ -57,7 +57,7 @@ register_count s [] = refl
 register_count s (r ∷ registers) = ap suc (register_count (s + 1) registers)
 
 line_count : (c : CircuitParts) (registers : List Register) (outputs : List Literal)
-    → 1 + (c.inputs - length registers + (length registers + (length outputs + length (reverse c.gates)))) ≡ length (lines_of c registers outputs)
+    → 1 + (c.inputs - length registers + (length registers + (length outputs + length (reverse c.gates)))) ≡ length (file_lines c registers outputs)
 line_count c registers outputs =
     let inputs = c.inputs - length registers in
     let gates = reverse c.gates in
@@ -77,25 +77,25 @@ line_count c registers outputs =
 abbrev ascii_file : List (List ℕ) → List (List (List ℕ)) → AsciiFile
 ascii_file numbers names = record { numbers = numbers; names = names }
 
-pub ascii_read : (n : Names) (c : CircuitParts) (registers : List Register) (outputs : List Literal) → AreReadable n → AreLines (lines_of c registers outputs)
-    → read_ascii (ascii_text n c registers outputs) ≡ record { numbers = lines_of c registers outputs; names = names_lines n }
+pub ascii_read : (n : Names) (c : CircuitParts) (registers : List Register) (outputs : List Literal) → AreReadable n → AreLines (file_lines c registers outputs)
+    → read_ascii (ascii_text n c registers outputs) ≡ record { numbers = file_lines c registers outputs; names = names_lines n }
 ascii_read n c registers outputs is are =
-    let lines = lines_of c registers outputs in
+    let lines = file_lines c registers outputs in
     let text : List ℕ = ascii_text n c registers outputs in
     let all : all_numbers text ≡ lines ++ numbers_in [] 0 (names_text n) = lines_before lines (names_text n) are in
     let numbers : take (length lines) (all_numbers text) ≡ lines = ap (take (length lines)) all ∙ front lines (numbers_in [] 0 (names_text n)) in
     let behind : behind_lines (length lines) text ≡ names_text n = lines_passed lines (names_text n) are in
-    ap (λ h. ascii_by h text) (ap first_line all)
-    ∙ ap (λ k. ascii_file (take k (all_numbers text)) (lines_in [] [] (behind_lines k text))) (line_count c registers outputs)
-    ∙ ap₂ ascii_file numbers (ap (lines_in [] []) behind ∙ names_read n is)
+    ap (λ h. ascii_by h text) (ap header_line all)
+    ∙ ap (λ k. ascii_file (take k (all_numbers text)) (words_by_line [] [] (behind_lines k text))) (line_count c registers outputs)
+    ∙ ap₂ ascii_file numbers (ap (words_by_line [] []) behind ∙ names_read n is)
 
 -- ---- the binary format
 
 gates_passed : (s : ℕ) (gates : List Gate) (behind : List ℕ) → AreNumbered s gates → behind_gates (length gates) (flat_map gate_bytes gates ++ behind) ≡ behind
 gates_passed s [] behind are = refl
 gates_passed s (g ∷ gates) behind are =
-    let first = 2 * g.signal - code_of g.left in
-    let second = code_of g.left - code_of g.right in
+    let first = 2 * g.signal - literal_code g.left in
+    let second = literal_code g.left - literal_code g.right in
     let more = flat_map gate_bytes gates ++ behind in
     let begins : number_in (flat_map gate_bytes (g ∷ gates) ++ behind) ≡ (first, groups 9 second ++ more) =
     ap number_in (append_assoc (gate_bytes g) (flat_map gate_bytes gates) behind ∙ append_assoc (groups 9 first) (groups 9 second) more) ∙ ten_groups first (groups 9 second ++ more) (omega (arith, are.3)) in
@@ -113,7 +113,7 @@ binary_count : (c : CircuitParts) (registers : List Register) (outputs : List Li
 binary_count c registers outputs =
     omega (arith, length-append (map register_numbers registers) (map output_numbers outputs), length-map registers register_numbers, length-map outputs output_numbers)
 
-binary_small : (c : CircuitParts) (registers : List Register) (outputs : List Literal) → AreLines (lines_of c registers outputs) → AreLines (binary_lines c registers outputs)
+binary_small : (c : CircuitParts) (registers : List Register) (outputs : List Literal) → AreLines (file_lines c registers outputs) → AreLines (binary_lines c registers outputs)
 binary_small c registers outputs are =
     let inputs = c.inputs - length registers in
     let gates = map gate_numbers (reverse c.gates) in
@@ -124,7 +124,7 @@ binary_small c registers outputs are =
 abbrev binary_file : List (List ℕ) → List Gate → List (List (List ℕ)) → BinaryFile
 binary_file numbers gates names = record { numbers = numbers; gates = gates; names = names }
 
-pub binary_read : (n : Names) (c : CircuitParts) (registers : List Register) (outputs : List Literal) → AreReadable n → AreLines (lines_of c registers outputs)
+pub binary_read : (n : Names) (c : CircuitParts) (registers : List Register) (outputs : List Literal) → AreReadable n → AreLines (file_lines c registers outputs)
     → IsOrdered c.inputs c.highest c.gates → c.highest < 2 ^ 32 → length registers ≤ c.inputs
     → read_binary (binary_text n c registers outputs) ≡ record { numbers = binary_lines c registers outputs; gates = reverse c.gates; names = names_lines n }
 binary_read n c registers outputs is lines_are ordered fits within =
@@ -142,7 +142,7 @@ binary_read n c registers outputs is lines_are ordered fits within =
     let behind : behind_lines (length lines) text ≡ bytes = lines_passed lines bytes are in
     let signal : c.inputs - length registers + length registers + 1 ≡ c.inputs + 1 = omega (arith, within) in
     let made : gates_in some (c.inputs + 1) bytes ≡ gates = gates_read (c.inputs + 1) gates (names_text n) order in
-    let named : lines_in [] [] (behind_gates some bytes) ≡ names_lines n = ap (lines_in [] []) (gates_passed (c.inputs + 1) gates (names_text n) order) ∙ names_read n is in
-    ap read_binary apart ∙ ap (λ h. binary_by h text) (ap first_line all)
-    ∙ ap₂ (λ k s. binary_file (take k (all_numbers text)) (gates_in some s (behind_lines k text)) (lines_in [] [] (behind_gates some (behind_lines k text)))) (binary_count c registers outputs) signal
-    ∙ ap₂ (λ l b. binary_file l (gates_in some (c.inputs + 1) b) (lines_in [] [] (behind_gates some b))) numbers behind ∙ ap₂ (binary_file lines) made named
+    let named : words_by_line [] [] (behind_gates some bytes) ≡ names_lines n = ap (words_by_line [] []) (gates_passed (c.inputs + 1) gates (names_text n) order) ∙ names_read n is in
+    ap read_binary apart ∙ ap (λ h. binary_by h text) (ap header_line all)
+    ∙ ap₂ (λ k s. binary_file (take k (all_numbers text)) (gates_in some s (behind_lines k text)) (words_by_line [] [] (behind_gates some (behind_lines k text)))) (binary_count c registers outputs) signal
+    ∙ ap₂ (λ l b. binary_file l (gates_in some (c.inputs + 1) b) (words_by_line [] [] (behind_gates some b))) numbers behind ∙ ap₂ (binary_file lines) made named

@@ -7,7 +7,7 @@ use Rattle.can_gates.specs.declared.literal.Literal.{Literal}
 use Rattle.can_gates.specs.declared.circuit.Gate.{Gate}
 use Rattle.can_gates.specs.Circuit.{CircuitParts}
 use Rattle.can_gates.specs.Words.{bit}
-use Rattle.can_gates.specs.Aiger.{code_of}
+use Rattle.can_gates.specs.Aiger.{literal_code}
 use Rattle.can_gates.specs.Ordered.{IsOrdered}
 use Rattle.can_gates_files.specs.Binary.{groups, gate_bytes, number_in, literal_of, gates_in}
 
@@ -30,7 +30,7 @@ groups_read (suc more) n rest small = by (cases_lt n 128) (λ fits. groups_read 
 pub ten_groups : (n : ℕ) (rest : List ℕ) → n < 2 ^ 64 → number_in (groups 9 n ++ rest) ≡ (n, rest)
 ten_groups n rest small = groups_read 9 n rest (omega (arith, small))
 
-literal_back : (l : Literal) → literal_of (code_of l) ≡ l
+literal_back : (l : Literal) → literal_of (literal_code l) ≡ l
 literal_back l = by l.negated
   where
     by : (b : Bool) → literal_of (2 * l.signal + bit b) ≡ record { signal = l.signal; negated = b }
@@ -53,12 +53,12 @@ gate_with s first second = record { signal = s; left = literal_of (2 * s - first
 pair_read : (n s first second : ℕ) (bytes more rest : List ℕ) → number_in bytes ≡ (first, more) → number_in more ≡ (second, rest) → gates_in (suc n) s bytes ≡ gate_with s first second ∷ gates_in n (s + 1) rest
 pair_read n s first second bytes more rest is behind = rw (is, behind) refl
 
-gate_read : (n : ℕ) (g : Gate) (rest : List ℕ) → g.left.signal < g.signal → code_of g.right ≤ code_of g.left → g.signal < 2 ^ 32 → gates_in (suc n) g.signal (gate_bytes g ++ rest) ≡ g ∷ gates_in n (g.signal + 1) rest
+gate_read : (n : ℕ) (g : Gate) (rest : List ℕ) → g.left.signal < g.signal → literal_code g.right ≤ literal_code g.left → g.signal < 2 ^ 32 → gates_in (suc n) g.signal (gate_bytes g ++ rest) ≡ g ∷ gates_in n (g.signal + 1) rest
 gate_read n g rest lower order fits =
-    let first = 2 * g.signal - code_of g.left in
-    let second = code_of g.left - code_of g.right in
-    let left : 2 * g.signal - first ≡ code_of g.left = omega (arith, lower, bit-small g.left.negated) in
-    let right : 2 * g.signal - first - second ≡ code_of g.right = omega (arith, left, order) in
+    let first = 2 * g.signal - literal_code g.left in
+    let second = literal_code g.left - literal_code g.right in
+    let left : 2 * g.signal - first ≡ literal_code g.left = omega (arith, lower, bit-small g.left.negated) in
+    let right : 2 * g.signal - first - second ≡ literal_code g.right = omega (arith, left, order) in
     let begins : number_in (gate_bytes g ++ rest) ≡ (first, groups 9 second ++ rest) =
     ap number_in (append_assoc (groups 9 first) (groups 9 second) rest) ∙ ten_groups first (groups 9 second ++ rest) (omega (arith, fits)) in
     pair_read n g.signal first second (gate_bytes g ++ rest) (groups 9 second ++ rest) rest begins (ten_groups second rest (omega (arith, fits, lower, bit-small g.left.negated)))
@@ -68,7 +68,7 @@ gate_read n g rest lower order fits =
 -- gates of the signals from this one on
 abbrev pub AreNumbered : ℕ → List Gate → Type 0
 AreNumbered s [] = Unit {0}
-AreNumbered s (g ∷ gates) = (g.signal ≡ s) × (g.left.signal < g.signal) × (code_of g.right ≤ code_of g.left) × (g.signal < 2 ^ 32) × AreNumbered (s + 1) gates
+AreNumbered s (g ∷ gates) = (g.signal ≡ s) × (g.left.signal < g.signal) × (literal_code g.right ≤ literal_code g.left) × (g.signal < 2 ^ 32) × AreNumbered (s + 1) gates
 
 pub gates_read : (s : ℕ) (gates : List Gate) (behind : List ℕ) → AreNumbered s gates → gates_in (length gates) s (flat_map gate_bytes gates ++ behind) ≡ gates
 gates_read s [] behind are = refl
@@ -79,7 +79,7 @@ gates_read s (g ∷ gates) behind are =
     subst (λ k. gates_in (length (g ∷ gates)) k (flat_map gate_bytes (g ∷ gates) ++ behind) ≡ g ∷ gates_in (length gates) (k + 1) (more ++ behind)) are.0 whole ∙ ap (λ l. g ∷ l) (gates_read (s + 1) gates behind are.4)
 
 -- one more behind them
-numbered_more : (s : ℕ) (gates : List Gate) (g : Gate) → AreNumbered s gates → g.signal ≡ s + length gates → g.left.signal < g.signal → code_of g.right ≤ code_of g.left → g.signal < 2 ^ 32 → AreNumbered s (gates ++ g ∷ [])
+numbered_more : (s : ℕ) (gates : List Gate) (g : Gate) → AreNumbered s gates → g.signal ≡ s + length gates → g.left.signal < g.signal → literal_code g.right ≤ literal_code g.left → g.signal < 2 ^ 32 → AreNumbered s (gates ++ g ∷ [])
 numbered_more s [] g are is lower order fits = (omega (arith, is), lower, order, fits, tt)
 numbered_more s (h ∷ gates) g are is lower order fits = (are.0, are.1, are.2, are.3, numbered_more (s + 1) gates g are.4 (omega (arith, is)) lower order fits)
 

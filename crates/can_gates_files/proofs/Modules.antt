@@ -11,16 +11,16 @@ use Rattle.can_gates.specs.declared.literal.Literal.{Literal}
 use Rattle.can_gates.specs.declared.circuit.Gate.{Gate}
 use Rattle.can_gates.specs.declared.aiger.Register.{Register}
 use Rattle.can_gates.specs.Circuit.{CircuitParts}
-use Rattle.can_gates.specs.Aiger.{gate_numbers, input_lines, lines_of, output_numbers, register_lines}
+use Rattle.can_gates.specs.Aiger.{gate_numbers, input_lines, file_lines, output_numbers, register_lines}
 use Rattle.can_gates.specs.AigerNumbers.{AreLines}
 use Rattle.can_gates_files.specs.declared.words.Word.{Word}
 use Rattle.can_gates_files.specs.declared.words.Names.{Names}
 use Rattle.can_gates_files.specs.declared.words.Bit.{Bit}
 use Rattle.can_gates_files.specs.Names.{bits_of_word, bit_text}
-use Rattle.can_gates_files.specs.Statements.{Wire, And, Assign, Take, AreProper, IsLine, IsName, IsProper, lines_in, statement_text, words_in}
+use Rattle.can_gates_files.specs.Statements.{Wire, And, Assign, Take, AreProper, IsOneLine, IsName, IsProper, words_by_line, statement_text, words_in}
 use Rattle.can_gates_files.specs.Verilog.{assigns, declaration_text, declarations_text, head_text, next_of, port_text, steps_text, takes, title_text, verilog_text, width_text, wires}
 use Rattle.can_gates_files.specs.Readable.{AreReadable, IsReadable}
-use Rattle.can_gates_files.specs.Module.{Line, Comment, Declaration, End, EndModule, Module, Says, Steps, clock_line, clock_meaning, declaration_in, declared, lines_said, module_in, module_lines, name_of, places_in, read_module, said, without}
+use Rattle.can_gates_files.specs.Module.{Line, Comment, Declaration, End, EndModule, Module, Says, Steps, clock_line, clock_meaning, declaration_in, declared, lines_said, module_in, module_lines, word_name, places_in, read_module, said, shortened}
 use Rattle.can_gates_files.proofs.Blocks.{Reads, joined, nothing, whole}
 use Rattle.can_gates_files.proofs.Tested.{line_tested, name_tested}
 use Rattle.can_gates_files.proofs.Proper.{IsBit, all_joined, assigns_are, gates_are, lines_apart, names_are, takes_are, wires_are}
@@ -28,10 +28,10 @@ use Rattle.can_gates_files.proofs.Reading.{decimal_name, joined_names, line_read
 
 -- what is read of a text before the steps, and among them
 abbrev before : List ℕ → List Line
-before text = lines_said false (lines_in [] [] text)
+before text = lines_said false (words_by_line [] [] text)
 
 abbrev among : List ℕ → List Line
-among text = lines_said true (lines_in [] [] text)
+among text = lines_said true (words_by_line [] [] text)
 
 -- ---- the module's line
 
@@ -45,33 +45,33 @@ port_words word [] = (word ++ codes ")") ∷ []
 port_words word (w ∷ ports) = (word ++ codes ",") ∷ port_words w.name.now ports
 
 ports_read : (words : List (List ℕ)) (word : List ℕ) (ports : List Word) (rest : List ℕ) → AllByRecursion IsReadable ports
-    → lines_in words word ((flat_map port_text ports ++ codes ");\n") ++ rest) ≡ (words ++ port_words word ports) ∷ lines_in [] [] rest
+    → words_by_line words word ((flat_map port_text ports ++ codes ");\n") ++ rest) ≡ (words ++ port_words word ports) ∷ words_by_line [] [] rest
 ports_read words word [] rest are = refl
 ports_read words word (w ∷ ports) rest are =
     let name = w.name.now in
     let more = flat_map port_text ports in
     let all = words ++ (word ++ codes ",") ∷ [] in
-    ap (lines_in all []) (append_assoc (name ++ more) (codes ");\n") rest) ∙ part_read all [] name more (codes ");\n" ++ rest) are.0.name
-    ∙ ap (lines_in all name) (sym (append_assoc more (codes ");\n") rest)) ∙ ports_read all name ports rest are.1
-    ∙ ap (λ l. l ∷ lines_in [] [] rest) (append_assoc words ((word ++ codes ",") ∷ []) (port_words name ports))
+    ap (words_by_line all []) (append_assoc (name ++ more) (codes ");\n") rest) ∙ part_read all [] name more (codes ");\n" ++ rest) are.0.name
+    ∙ ap (words_by_line all name) (sym (append_assoc more (codes ");\n") rest)) ∙ ports_read all name ports rest are.1
+    ∙ ap (λ l. l ∷ words_by_line [] [] rest) (append_assoc words ((word ++ codes ",") ∷ []) (port_words name ports))
 
-ports_named : (w : Word) (ports : List Word) → map (without 1) (port_words w.name.now ports) ≡ w.name.now ∷ map name_of ports
+ports_named : (w : Word) (ports : List Word) → map (shortened 1) (port_words w.name.now ports) ≡ w.name.now ∷ map word_name ports
 ports_named w [] = ap (λ t. t ∷ []) (last_left w.name.now (codes ")"))
-ports_named w (v ∷ ports) = ap (λ t. t ∷ map (without 1) (port_words v.name.now ports)) (last_left w.name.now (codes ",")) ∙ ap (λ l. w.name.now ∷ l) (ports_named v ports)
+ports_named w (v ∷ ports) = ap (λ t. t ∷ map (shortened 1) (port_words v.name.now ports)) (last_left w.name.now (codes ",")) ∙ ap (λ l. w.name.now ∷ l) (ports_named v ports)
 
-circuit_named : (name behind : List ℕ) → length behind ≡ 1 → without 7 ((name ++ codes "(clock") ++ behind) ≡ name
+circuit_named : (name behind : List ℕ) → length behind ≡ 1 → shortened 7 ((name ++ codes "(clock") ++ behind) ≡ name
 circuit_named name behind one =
     let all : List ℕ = codes "(clock" ++ behind in
     let seven : length all ≡ 7 = omega (arith, one) in
-    ap (without 7) (append_assoc name (codes "(clock") behind) ∙ ap (λ n. take (length (name ++ all) - n) (name ++ all)) (sym seven) ∙ last_left name all
+    ap (shortened 7) (append_assoc name (codes "(clock") behind) ∙ ap (λ n. take (length (name ++ all) - n) (name ++ all)) (sym seven) ∙ last_left name all
 
-module_named : (name : List ℕ) (ports : List Word) → module_in (port_words (name ++ codes "(clock") ports) ≡ Module name (map name_of ports)
+module_named : (name : List ℕ) (ports : List Word) → module_in (port_words (name ++ codes "(clock") ports) ≡ Module name (map word_name ports)
 module_named name [] = ap (λ n. Module n []) (circuit_named name (codes ")") refl)
 module_named name (w ∷ ports) =
-    ap (λ n. Module n (map (without 1) (port_words w.name.now ports))) (circuit_named name (codes ",") refl) ∙ ap (Module name) (ports_named w ports)
+    ap (λ n. Module n (map (shortened 1) (port_words w.name.now ports))) (circuit_named name (codes ",") refl) ∙ ap (Module name) (ports_named w ports)
 
 title_read : (n : Names) (ports : List Word) → AreReadable n → AllByRecursion IsReadable ports
-    → Reads before before (title_text n ++ (flat_map port_text ports ++ codes ");\n")) (Comment (words_in [] n.meaning.now) ∷ Module n.circuit.now (map name_of ports) ∷ [])
+    → Reads before before (title_text n ++ (flat_map port_text ports ++ codes ");\n")) (Comment (words_in [] n.meaning.now) ∷ Module n.circuit.now (map word_name ports) ∷ [])
 title_read n ports is are = record {
   on = λ rest.
       let meaning = n.meaning.now in
@@ -79,8 +79,8 @@ title_read n ports is are = record {
       let named : List ℕ = codes "\nmodule " ++ begun in
       let listed = flat_map port_text ports ++ codes ");\n" in
       let clear : IsName begun = joined_names n.circuit.now (codes "(clock") is.circuit (name_tested (codes "(clock") refl) in
-      let lines : lines_in [] [] ((title_text n ++ listed) ++ rest) ≡ (codes "//" ∷ words_in [] meaning) ∷ (codes "module" ∷ port_words begun ports) ∷ lines_in [] [] rest =
-      ap (lines_in (codes "//" ∷ []) []) (append_assoc (meaning ++ named) listed rest ∙ append_assoc meaning named (listed ++ rest))
+      let lines : words_by_line [] [] ((title_text n ++ listed) ++ rest) ≡ (codes "//" ∷ words_in [] meaning) ∷ (codes "module" ∷ port_words begun ports) ∷ words_by_line [] [] rest =
+      ap (words_by_line (codes "//" ∷ []) []) (append_assoc (meaning ++ named) listed rest ∙ append_assoc meaning named (listed ++ rest))
       ∙ line_read (codes "//" ∷ []) [] meaning ((codes "module " ++ begun) ++ (listed ++ rest)) is.meaning
       ∙ ap (λ l. (codes "//" ∷ words_in [] meaning) ∷ l) (name_read (codes "module" ∷ []) [] begun (listed ++ rest) clear ∙ ports_read (codes "module" ∷ []) begun ports rest are) in
       ap (lines_said false) lines ∙ ap (λ l. Comment (words_in [] meaning) ∷ l ∷ before rest) (module_named n.circuit.now ports);
@@ -98,15 +98,15 @@ abbrev behind_kind : Bool → ℕ → List ℕ → List ℕ → List (List ℕ)
 behind_kind alone places name meaning = width_words alone places ++ (name ∷ codes "//" ∷ words_in [] meaning)
 
 -- a name, a comment and the line's end
-named_read : (words : List (List ℕ)) (name meaning rest : List ℕ) → IsName name → IsLine meaning
-    → lines_in words [] ((name ++ (codes "; // " ++ (meaning ++ codes "\n"))) ++ rest) ≡ (words ++ (name ∷ codes "//" ∷ words_in [] meaning)) ∷ lines_in [] [] rest
+named_read : (words : List (List ℕ)) (name meaning rest : List ℕ) → IsName name → IsOneLine meaning
+    → words_by_line words [] ((name ++ (codes "; // " ++ (meaning ++ codes "\n"))) ++ rest) ≡ (words ++ (name ∷ codes "//" ∷ words_in [] meaning)) ∷ words_by_line [] [] rest
 named_read words name meaning rest clear is =
     let behind = (words ++ name ∷ []) ++ codes "//" ∷ [] in
-    part_read words [] name (codes "; // " ++ (meaning ++ codes "\n")) rest clear ∙ ap (lines_in behind []) (append_assoc meaning (codes "\n") rest) ∙ line_read behind [] meaning rest is
-    ∙ ap (λ l. l ∷ lines_in [] [] rest) (append_assoc (words ++ name ∷ []) (codes "//" ∷ []) (words_in [] meaning) ∙ append_assoc words (name ∷ []) (codes "//" ∷ words_in [] meaning))
+    part_read words [] name (codes "; // " ++ (meaning ++ codes "\n")) rest clear ∙ ap (words_by_line behind []) (append_assoc meaning (codes "\n") rest) ∙ line_read behind [] meaning rest is
+    ∙ ap (λ l. l ∷ words_by_line [] [] rest) (append_assoc (words ++ name ∷ []) (codes "//" ∷ []) (words_in [] meaning) ∙ append_assoc words (name ∷ []) (codes "//" ∷ words_in [] meaning))
 
-declaration_words : (kind name meaning rest : List ℕ) (places : ℕ) → IsName kind → IsName name → IsLine meaning → places < 2 ^ 64
-    → lines_in [] [] ((kind ++ (width_text places ++ (name ++ (codes "; // " ++ (meaning ++ codes "\n"))))) ++ rest) ≡ (kind ∷ behind_kind (eqb places 1) places name meaning) ∷ lines_in [] [] rest
+declaration_words : (kind name meaning rest : List ℕ) (places : ℕ) → IsName kind → IsName name → IsOneLine meaning → places < 2 ^ 64
+    → words_by_line [] [] ((kind ++ (width_text places ++ (name ++ (codes "; // " ++ (meaning ++ codes "\n"))))) ++ rest) ≡ (kind ∷ behind_kind (eqb places 1) places name meaning) ∷ words_by_line [] [] rest
 declaration_words kind name meaning rest places known clear is few = by (eqb places 1)
   where
     digits : List ℕ
@@ -118,20 +118,20 @@ declaration_words kind name meaning rest places known clear is few = by (eqb pla
     wide : IsName (width_word places)
     wide = joined_names (codes "[") (digits ++ codes ":0]") (name_tested (codes "[") refl) (joined_names digits (codes ":0]") (decimal_name (places - 1) (omega (arith, few))) (name_tested (codes ":0]") refl))
 
-    by : (alone : Bool) → lines_in [] [] ((kind ++ ((if alone then codes " " else codes " [" ++ (digits ++ codes ":0] ")) ++ named)) ++ rest) ≡ (kind ∷ behind_kind alone places name meaning) ∷ lines_in [] [] rest
+    by : (alone : Bool) → words_by_line [] [] ((kind ++ ((if alone then codes " " else codes " [" ++ (digits ++ codes ":0] ")) ++ named)) ++ rest) ≡ (kind ∷ behind_kind alone places name meaning) ∷ words_by_line [] [] rest
     by true = part_read [] [] kind (codes " " ++ named) rest known ∙ named_read (kind ∷ []) name meaning rest clear is
     by false =
         let apart : codes " [" ++ (digits ++ codes ":0] ") ≡ codes " " ++ (width_word places ++ codes " ") = ap (λ t. 32 ∷ 91 ∷ t) (sym (append_assoc digits (codes ":0]") (codes " "))) in
-        ap (λ t. lines_in [] [] ((kind ++ (t ++ named)) ++ rest)) apart
+        ap (λ t. words_by_line [] [] ((kind ++ (t ++ named)) ++ rest)) apart
         ∙ part_read [] [] kind ((codes " " ++ (width_word places ++ codes " ")) ++ named) rest known
-        ∙ ap (lines_in (kind ∷ []) []) (append_assoc (width_word places ++ codes " ") named rest)
+        ∙ ap (words_by_line (kind ∷ []) []) (append_assoc (width_word places ++ codes " ") named rest)
         ∙ part_read (kind ∷ []) [] (width_word places) (codes " ") (named ++ rest) wide ∙ named_read (kind ∷ width_word places ∷ []) name meaning rest clear is
 
 places_read : (places : ℕ) → 0 < places → places < 2 ^ 64 → places_in (width_word places) ≡ places
 places_read places some few =
     let number = places - 1 in
     let small : number < 2 ^ 64 = omega (arith, few) in
-    let value : digits_value 10 (without 3 (decimal number ++ codes ":0]")) ≡ number = ap (digits_value 10) (last_left (decimal number) (codes ":0]")) ∙ (decimal_is_IsNumeral number small).1 in
+    let value : digits_value 10 (shortened 3 (decimal number ++ codes ":0]")) ≡ number = ap (digits_value 10) (last_left (decimal number) (codes ":0]")) ∙ (decimal_is_IsNumeral number small).1 in
     let back : number + 1 ≡ places = omega (arith, some) in ap (λ n. n + 1) value ∙ back
 
 declaration_said : (kind : List ℕ) (w : Word) → IsReadable w → declaration_in kind (behind_kind (eqb w.places 1) w.places w.name.now w.meaning.now) ≡ declared kind w
@@ -153,7 +153,7 @@ declarations_read kind [] known is are = nothing before
 declarations_read kind (w ∷ words) known is are = joined one (declarations_read kind words known is are.1)
   where
     one : Reads before before (declaration_text kind w) (declared kind w ∷ [])
-    one = record { on = λ rest. ap (lines_said false) (declaration_words kind w.name.now w.meaning.now rest w.places known are.0.name are.0.meaning are.0.few) ∙ is (behind_kind (eqb w.places 1) w.places w.name.now w.meaning.now) (lines_in [] [] rest) ∙ ap (λ l. l ∷ before rest) (declaration_said kind w are.0) }
+    one = record { on = λ rest. ap (lines_said false) (declaration_words kind w.name.now w.meaning.now rest w.places known are.0.name are.0.meaning are.0.few) ∙ is (behind_kind (eqb w.places 1) w.places w.name.now w.meaning.now) (words_by_line [] [] rest) ∙ ap (λ l. l ∷ before rest) (declaration_said kind w are.0) }
 
 -- ---- statements
 
@@ -195,7 +195,7 @@ clock_parts : clock_text ≡ codes "input" ++ (width_text 1 ++ (codes "clock" ++
 unfolding clock_meaning
 clock_parts = refl
 
-clock_is_line : IsLine clock_meaning
+clock_is_line : IsOneLine clock_meaning
 unfolding clock_meaning
 clock_is_line = line_tested clock_meaning refl
 
@@ -213,7 +213,7 @@ zero_read : Reads before before (codes "wire n0 = 1'b0;\n") (Says (Wire 0 (codes
 zero_read = record { on = λ rest. ap (λ t. before (t ++ rest)) zero_parts ∙ (wire_read 0 (codes "1'b0") (omega arith, name_tested (codes "1'b0") refl)).on rest }
 
 four_read : (a b c d rest : List ℕ) → IsName a → IsName b → IsName c → IsName d
-    → lines_in [] [] ((a ++ (codes " " ++ (b ++ (codes " " ++ (c ++ (codes " " ++ (d ++ codes "\n"))))))) ++ rest) ≡ (a ∷ b ∷ c ∷ d ∷ []) ∷ lines_in [] [] rest
+    → words_by_line [] [] ((a ++ (codes " " ++ (b ++ (codes " " ++ (c ++ (codes " " ++ (d ++ codes "\n"))))))) ++ rest) ≡ (a ∷ b ∷ c ∷ d ∷ []) ∷ words_by_line [] [] rest
 four_read a b c d rest first second third fourth =
     part_read [] [] a (codes " " ++ (b ++ (codes " " ++ (c ++ (codes " " ++ (d ++ codes "\n")))))) rest first ∙ part_read (a ∷ []) [] b (codes " " ++ (c ++ (codes " " ++ (d ++ codes "\n")))) rest second
     ∙ part_read (a ∷ b ∷ []) [] c (codes " " ++ (d ++ codes "\n")) rest third ∙ part_read (a ∷ b ∷ c ∷ []) [] d (codes "\n") rest fourth
@@ -228,7 +228,7 @@ always_read = record {
       ∙ ap (lines_said false) (four_read (codes "always") (codes "@(posedge") (codes "clock)") (codes "begin") rest (name_tested (codes "always") refl) (name_tested (codes "@(posedge") refl) (name_tested (codes "clock)") refl) (name_tested (codes "begin") refl));
 }
 
-two_read : (a b rest : List ℕ) → IsName a → IsName b → lines_in [] [] ((a ++ (codes "\n" ++ (b ++ codes "\n"))) ++ rest) ≡ (a ∷ []) ∷ (b ∷ []) ∷ lines_in [] [] rest
+two_read : (a b rest : List ℕ) → IsName a → IsName b → words_by_line [] [] ((a ++ (codes "\n" ++ (b ++ codes "\n"))) ++ rest) ≡ (a ∷ []) ∷ (b ∷ []) ∷ words_by_line [] [] rest
 two_read a b rest first second = part_read [] [] a (codes "\n" ++ (b ++ codes "\n")) rest first ∙ ap (λ l. (a ∷ []) ∷ l) (part_read [] [] b (codes "\n") rest second)
 
 ends_parts : codes "end\nendmodule\n" ≡ codes "end" ++ (codes "\n" ++ (codes "endmodule" ++ codes "\n"))
@@ -244,7 +244,7 @@ regrouped : (title inputs outputs end clock taken given held zero statements : L
     → (title ++ (inputs ++ (outputs ++ ((end ++ clock) ++ (taken ++ (given ++ (held ++ zero))))))) ++ statements ≡ (title ++ ((inputs ++ outputs) ++ end)) ++ (clock ++ (taken ++ (given ++ (held ++ (zero ++ statements)))))
 regrouped title inputs outputs end clock taken given held zero statements = simp (append_assoc)
 
-pub module_read : (n : Names) (c : CircuitParts) (registers : List Register) (outputs : List Literal) → AreReadable n → AreLines (lines_of c registers outputs)
+pub module_read : (n : Names) (c : CircuitParts) (registers : List Register) (outputs : List Literal) → AreReadable n → AreLines (file_lines c registers outputs)
     → read_module (verilog_text n c registers outputs) ≡ module_lines n c registers outputs
 unfolding head_text declarations_text steps_text
 module_read n c registers outputs is are = ap before text ∙ whole before among _ _ refl reads

@@ -5,7 +5,7 @@ use Rattle.can_gates_files.specs.declared.words.Word.{Word}
 use Rattle.can_gates_files.specs.declared.words.Names.{Names}
 use Rattle.can_gates_files.specs.Names.{bits_of_word}
 use Rattle.can_gates_files.specs.Named.{Symbol, AreSymbols, meaning_line, meaning_text, names_text, symbol_text, symbol_words, symbols}
-use Rattle.can_gates_files.specs.Statements.{lines_in, IsLine, IsName}
+use Rattle.can_gates_files.specs.Statements.{words_by_line, IsOneLine, IsName}
 use Rattle.can_gates_files.specs.Readable.{AreReadable, IsReadable, names_of}
 use Rattle.can_gates_files.specs.Files.{meaning_words, names_lines, symbol_lines, word_meaning}
 use Rattle.can_gates_files.proofs.Blocks.{Reads, joined, nothing, whole}
@@ -15,7 +15,7 @@ use Rattle.can_gates_files.proofs.Proper.{names_are, symbols_are}
 
 -- what is read of a text at the beginning of a line
 abbrev lines : List ℕ → List (List (List ℕ))
-lines text = lines_in [] [] text
+lines text = words_by_line [] [] text
 
 symbol_read : (s : Symbol) → IsName s.kind → s.place < 2 ^ 64 → IsName s.name → Reads lines lines (symbol_text s) (symbol_words s ∷ [])
 symbol_read s kind small name = record {
@@ -28,16 +28,16 @@ all_symbols : (s : List Symbol) → AreSymbols s → Reads lines lines (flat_map
 all_symbols [] are = nothing lines
 all_symbols (s ∷ symbols) are = joined (symbol_read s are.0 are.1 are.2) (all_symbols symbols are.3)
 
-pub symbols_read : (s : List Symbol) → AreSymbols s → lines_in [] [] (flat_map symbol_text s) ≡ map symbol_words s
+pub symbols_read : (s : List Symbol) → AreSymbols s → words_by_line [] [] (flat_map symbol_text s) ≡ map symbol_words s
 symbols_read s are = whole lines lines _ _ refl (all_symbols s are)
 
 -- ---- the comment
 
-meaning_read : (name meaning : List ℕ) → IsName name → IsLine meaning → Reads lines lines (meaning_line name meaning) (meaning_words name meaning ∷ [])
+meaning_read : (name meaning : List ℕ) → IsName name → IsOneLine meaning → Reads lines lines (meaning_line name meaning) (meaning_words name meaning ∷ [])
 meaning_read name meaning clear is = record {
   on = λ rest.
       let begun = (name ++ codes ":") ∷ [] in
-      part_read [] [] name (codes ": " ++ (meaning ++ codes "\n")) rest clear ∙ ap (lines_in begun []) (append_assoc meaning (codes "\n") rest) ∙ line_read begun [] meaning rest is;
+      part_read [] [] name (codes ": " ++ (meaning ++ codes "\n")) rest clear ∙ ap (words_by_line begun []) (append_assoc meaning (codes "\n") rest) ∙ line_read begun [] meaning rest is;
 }
 
 meanings_read : (words : List Word) → AllByRecursion IsReadable words → Reads lines lines (flat_map meaning_text words) (map word_meaning words)
@@ -47,7 +47,7 @@ meanings_read (w ∷ words) are = joined (meaning_read w.name.now w.meaning.now 
 begun_read : Reads lines lines (codes "c\n") ((codes "c" ∷ []) ∷ [])
 begun_read = record { on = λ rest. refl }
 
-pub names_read : (n : Names) → AreReadable n → lines_in [] [] (names_text n) ≡ names_lines n
+pub names_read : (n : Names) → AreReadable n → words_by_line [] [] (names_text n) ≡ names_lines n
 names_read n is =
     whole lines lines _ _ refl (joined (symbols_of (codes "i") n.inputs.now (name_tested (codes "i") refl) is.inputs (omega (arith, is.few))) (joined (symbols_of (codes "l") n.registers.now (name_tested (codes "l") refl) is.registers (omega (arith, is.few)))
     (joined (symbols_of (codes "o") n.outputs.now (name_tested (codes "o") refl) is.outputs (omega (arith, is.few)))

@@ -4,20 +4,20 @@ use Rattle.std.specs.List.{flat_map}
 use Rattle.std.proofs.lemmas.Bool.{ne_eqb}
 use Rattle.std.proofs.lemmas.Fmt.{decimal_by_steps, decimal_is_IsNumeral}
 use Rattle.can_gates.specs.declared.literal.Literal.{Literal}
-use Rattle.can_gates_files.specs.Statements.{Statement, Wire, And, Assign, Take, literal_text, statement_text, lines_in, literal_in, signal_in, statement_in, words_in, IsLine, IsName, IsProper, AreProper}
+use Rattle.can_gates_files.specs.Statements.{Statement, Wire, And, Assign, Take, literal_text, statement_text, words_by_line, literal_in, signal_in, statement_in, words_in, IsOneLine, IsName, IsProper, AreProper}
 
 -- bytes of a name go on with the word
-pub name_read : (words : List (List ℕ)) (word name rest : List ℕ) → IsName name → lines_in words word (name ++ rest) ≡ lines_in words (word ++ name) rest
-name_read words word [] rest is = ap (λ w. lines_in words w rest) (sym (append-nil word))
+pub name_read : (words : List (List ℕ)) (word name rest : List ℕ) → IsName name → words_by_line words word (name ++ rest) ≡ words_by_line words (word ++ name) rest
+name_read words word [] rest is = ap (λ w. words_by_line words w rest) (sym (append-nil word))
 name_read words word (c ∷ name) rest is =
-    rw (ne_eqb c 10 is.0, ne_eqb c 32 is.1, ne_eqb c 59 is.2) (name_read words (word ++ c ∷ []) name rest is.3 ∙ ap (λ w. lines_in words w rest) (append_assoc word (c ∷ []) name))
+    rw (ne_eqb c 10 is.0, ne_eqb c 32 is.1, ne_eqb c 59 is.2) (name_read words (word ++ c ∷ []) name rest is.3 ∙ ap (λ w. words_by_line words w rest) (append_assoc word (c ∷ []) name))
 
 -- the same in a longer text
-pub part_read : (words : List (List ℕ)) (word name more rest : List ℕ) → IsName name → lines_in words word ((name ++ more) ++ rest) ≡ lines_in words (word ++ name) (more ++ rest)
-part_read words word name more rest is = ap (lines_in words word) (append_assoc name more rest) ∙ name_read words word name (more ++ rest) is
+pub part_read : (words : List (List ℕ)) (word name more rest : List ℕ) → IsName name → words_by_line words word ((name ++ more) ++ rest) ≡ words_by_line words (word ++ name) (more ++ rest)
+part_read words word name more rest is = ap (words_by_line words word) (append_assoc name more rest) ∙ name_read words word name (more ++ rest) is
 
 -- the bytes of a line's last words, and its end
-pub line_read : (words : List (List ℕ)) (word line rest : List ℕ) → IsLine line → lines_in words word (line ++ (codes "\n" ++ rest)) ≡ (words ++ words_in word line) ∷ lines_in [] [] rest
+pub line_read : (words : List (List ℕ)) (word line rest : List ℕ) → IsOneLine line → words_by_line words word (line ++ (codes "\n" ++ rest)) ≡ (words ++ words_in word line) ∷ words_by_line [] [] rest
 line_read words word [] rest is = refl
 line_read words word (c ∷ line) rest is =
     rw (ne_eqb c 10 is.0) (by (eqb c 32) (eqb c 59) (line_read (words ++ word ∷ []) [] line rest is.1) (line_read words word line rest is.1) (line_read words (word ++ c ∷ []) line rest is.1))
@@ -25,11 +25,11 @@ line_read words word (c ∷ line) rest is =
     text : List ℕ
     text = line ++ (codes "\n" ++ rest)
 
-    by : (blank semicolon : Bool) → lines_in (words ++ word ∷ []) [] text ≡ ((words ++ word ∷ []) ++ words_in [] line) ∷ lines_in [] [] rest → lines_in words word text ≡ (words ++ words_in word line) ∷ lines_in [] [] rest
-        → lines_in words (word ++ c ∷ []) text ≡ (words ++ words_in (word ++ c ∷ []) line) ∷ lines_in [] [] rest
-        → (if blank then lines_in (words ++ word ∷ []) [] text else (if semicolon then lines_in words word text else lines_in words (word ++ c ∷ []) text))
-        ≡ (words ++ (if blank then word ∷ words_in [] line else (if semicolon then words_in word line else words_in (word ++ c ∷ []) line))) ∷ lines_in [] [] rest
-    by true semicolon ended passed more = ended ∙ ap (λ l. l ∷ lines_in [] [] rest) (append_assoc words (word ∷ []) (words_in [] line))
+    by : (blank semicolon : Bool) → words_by_line (words ++ word ∷ []) [] text ≡ ((words ++ word ∷ []) ++ words_in [] line) ∷ words_by_line [] [] rest → words_by_line words word text ≡ (words ++ words_in word line) ∷ words_by_line [] [] rest
+        → words_by_line words (word ++ c ∷ []) text ≡ (words ++ words_in (word ++ c ∷ []) line) ∷ words_by_line [] [] rest
+        → (if blank then words_by_line (words ++ word ∷ []) [] text else (if semicolon then words_by_line words word text else words_by_line words (word ++ c ∷ []) text))
+        ≡ (words ++ (if blank then word ∷ words_in [] line else (if semicolon then words_in word line else words_in (word ++ c ∷ []) line))) ∷ words_by_line [] [] rest
+    by true semicolon ended passed more = ended ∙ ap (λ l. l ∷ words_by_line [] [] rest) (append_assoc words (word ∷ []) (words_in [] line))
     by false true ended passed more = passed
     by false false ended passed more = more
 
@@ -64,7 +64,7 @@ words_of (And g) = codes "wire" ∷ (codes "n" ++ decimal g.signal) ∷ codes "=
 words_of (Assign name l) = codes "assign" ∷ name ∷ codes "=" ∷ literal_text l ∷ []
 words_of (Take name l) = name ∷ codes "<=" ∷ literal_text l ∷ []
 
-pub words_read : (s : Statement) (rest : List ℕ) → IsProper s → lines_in [] [] (statement_text s ++ rest) ≡ words_of s ∷ lines_in [] [] rest
+pub words_read : (s : Statement) (rest : List ℕ) → IsProper s → words_by_line [] [] (statement_text s ++ rest) ≡ words_of s ∷ words_by_line [] [] rest
 words_read (Wire s name) rest is =
     part_read (codes "wire" ∷ []) (codes "n") (decimal s) (codes " = " ++ (name ++ codes ";\n")) rest (decimal_name s is.0)
     ∙ part_read (codes "wire" ∷ (codes "n" ++ decimal s) ∷ codes "=" ∷ []) [] name (codes ";\n") rest is.1
@@ -97,7 +97,7 @@ statement_read (And g) is = rw (signal_read g.signal is.0, literal_read g.left i
 statement_read (Assign name l) is = ap (λ k. Some (Assign name k)) (literal_read l is.1)
 statement_read (Take name l) is = ap (λ k. Some (Take name k)) (literal_read l is.1)
 
-pub statements_read : (statements : List Statement) → AreProper statements → map statement_in (lines_in [] [] (flat_map statement_text statements)) ≡ map Some statements
+pub statements_read : (statements : List Statement) → AreProper statements → map statement_in (words_by_line [] [] (flat_map statement_text statements)) ≡ map Some statements
 statements_read [] are = refl
 statements_read (s ∷ statements) are =
     ap (map statement_in) (words_read s (flat_map statement_text statements) are.0) ∙ rw (statement_read s are.0) (ap (λ l. Some s ∷ l) (statements_read statements are.1))

@@ -3,7 +3,7 @@ use Rattle.std.proofs.Common.{◌≡◌, ℕ, true, false, List, [], ◌∷◌, 
 use Rattle.can_gates.specs.declared.literal.Literal.{Literal}
 use Rattle.can_gates.specs.declared.circuit.Gate.{Gate}
 use Rattle.can_gates_files.specs.Binary.{groups, gates_in, number_in}
-use Rattle.can_gates_files.specs.Statements.{And, Assign, Take, lines_in}
+use Rattle.can_gates_files.specs.Statements.{And, Assign, Take, words_by_line}
 use Rattle.can_gates_files.specs.Module.{Comment, Declaration, End, EndModule, Module, Says, Steps, lines_said}
 use Rattle.can_gates_files.specs.Files.{read_ascii, read_binary}
 
@@ -29,7 +29,7 @@ toggle_read = refl
 
 -- ---- whole files
 
-two_lines : lines_in [] [] (codes "a <= b;\nend\n") ≡ (codes "a" ∷ codes "<=" ∷ codes "b" ∷ []) ∷ (codes "end" ∷ []) ∷ []
+two_lines : words_by_line [] [] (codes "a <= b;\nend\n") ≡ (codes "a" ∷ codes "<=" ∷ codes "b" ∷ []) ∷ (codes "end" ∷ []) ∷ []
 two_lines = refl
 
 -- a module by the words of its lines: of a port two are told, turned and plain

@@ -4,7 +4,7 @@ use Rattle.std.proofs.lemmas.Bool.{and_parts, eqb-false, ltb-true, not-true}
 use Rattle.std.specs.List.{AllByRecursion}
 use Rattle.can_gates_files.specs.declared.words.Word.{Word}
 use Rattle.can_gates_files.specs.declared.words.Names.{Names}
-use Rattle.can_gates_files.specs.Statements.{IsLine, IsName}
+use Rattle.can_gates_files.specs.Statements.{IsOneLine, IsName}
 use Rattle.can_gates_files.specs.Readable.{AreReadable, IsReadable, is_width, names_of}
 
 other : (c k : ℕ) → not (eqb c k) ≡ true → c ≢ k
@@ -25,7 +25,7 @@ abbrev is_line : List ℕ → Bool
 is_line [] = true
 is_line (c ∷ line) = not (eqb c 10) && is_line line
 
-pub line_tested : (line : List ℕ) → is_line line ≡ true → IsLine line
+pub line_tested : (line : List ℕ) → is_line line ≡ true → IsOneLine line
 line_tested [] t = tt
 line_tested (c ∷ line) t = let both = and_parts (not (eqb c 10)) (is_line line) t in (other c 10 both.0, line_tested line both.1)
 

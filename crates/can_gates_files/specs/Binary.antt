@@ -7,13 +7,13 @@ use Rattle.can_gates.specs.declared.circuit.Gate.{Gate}
 use Rattle.can_gates.specs.declared.aiger.Register.{Register}
 use Rattle.can_gates.specs.Circuit.{CircuitParts}
 use Rattle.can_gates.specs.Words.{bit}
-use Rattle.can_gates.specs.Aiger.{code_of, line_text, output_numbers}
+use Rattle.can_gates.specs.Aiger.{literal_code, line_text, output_numbers}
 use Rattle.can_gates_files.specs.declared.words.Names.{Names}
 use Rattle.can_gates_files.specs.Named.{names_text}
 
 -- what a register takes, and what it holds at first
 abbrev pub register_numbers : Register → List ℕ
-register_numbers r = code_of r.next ∷ bit r.starts ∷ []
+register_numbers r = literal_code r.next ∷ bit r.starts ∷ []
 
 -- a number in groups of seven bits, the lowest first, with so many more at most: 128 is added where another group follows
 abbrev pub groups : ℕ → ℕ → List ℕ
@@ -21,7 +21,7 @@ groups zero n = n % 128 ∷ []
 groups (suc more) n = if nat_lt n 128 then n % 128 ∷ [] else (128 + n % 128) ∷ groups more (n / 128)
 
 abbrev pub gate_bytes : Gate → List ℕ
-gate_bytes g = groups 9 (2 * g.signal - code_of g.left) ++ groups 9 (code_of g.left - code_of g.right)
+gate_bytes g = groups 9 (2 * g.signal - literal_code g.left) ++ groups 9 (literal_code g.left - literal_code g.right)
 
 abbrev pub binary_text : Names → CircuitParts → List Register → List Literal → List ℕ
 binary_text n c registers outputs =

@@ -5,11 +5,11 @@ use Rattle.can_gates.specs.declared.literal.Literal.{Literal}
 use Rattle.can_gates.specs.declared.circuit.Gate.{Gate}
 use Rattle.can_gates.specs.declared.aiger.Register.{Register}
 use Rattle.can_gates.specs.Circuit.{CircuitParts}
-use Rattle.can_gates.specs.Aiger.{lines_in as numbers_in, output_numbers}
+use Rattle.can_gates.specs.Aiger.{numbers_in, output_numbers}
 use Rattle.can_gates_files.specs.declared.words.Word.{Word}
 use Rattle.can_gates_files.specs.declared.words.Names.{Names}
 use Rattle.can_gates_files.specs.Names.{bits_of_word}
-use Rattle.can_gates_files.specs.Statements.{lines_in, words_in}
+use Rattle.can_gates_files.specs.Statements.{words_by_line, words_in}
 use Rattle.can_gates_files.specs.Named.{symbol_words, symbols}
 use Rattle.can_gates_files.specs.Binary.{gates_in, number_in, register_numbers}
 
@@ -38,29 +38,29 @@ abbrev pub all_numbers : List ℕ → List (List ℕ)
 all_numbers text = numbers_in [] 0 (drop 4 text)
 
 -- the header's: the highest signal, and how many inputs, registers, outputs and gates there are
-abbrev pub first_line : List (List ℕ) → List ℕ
-first_line [] = []
-first_line (l ∷ lines) = l
+abbrev pub header_line : List (List ℕ) → List ℕ
+header_line [] = []
+header_line (l ∷ lines) = l
 
 -- the ascii format: a line for each of these
 abbrev pub ascii_by : List ℕ → List ℕ → AsciiFile
 ascii_by (highest ∷ inputs ∷ registers ∷ outputs ∷ gates ∷ []) text =
-    let lines = 1 + (inputs + (registers + (outputs + gates))) in record { numbers = take lines (all_numbers text); names = lines_in [] [] (behind_lines lines text) }
+    let lines = 1 + (inputs + (registers + (outputs + gates))) in record { numbers = take lines (all_numbers text); names = words_by_line [] [] (behind_lines lines text) }
 ascii_by header text = record { numbers = []; names = [] }
 
 abbrev pub read_ascii : List ℕ → AsciiFile
-read_ascii text = ascii_by (first_line (all_numbers text)) text
+read_ascii text = ascii_by (header_line (all_numbers text)) text
 
 -- the binary format: a line for each register and output, and then the gates, of the signals behind inputs and registers
 abbrev pub binary_by : List ℕ → List ℕ → BinaryFile
 binary_by (highest ∷ inputs ∷ registers ∷ outputs ∷ gates ∷ []) text =
     let lines = 1 + (registers + outputs) in
     let bytes = behind_lines lines text in
-    record { numbers = take lines (all_numbers text); gates = gates_in gates (inputs + registers + 1) bytes; names = lines_in [] [] (behind_gates gates bytes) }
+    record { numbers = take lines (all_numbers text); gates = gates_in gates (inputs + registers + 1) bytes; names = words_by_line [] [] (behind_gates gates bytes) }
 binary_by header text = record { numbers = []; gates = []; names = [] }
 
 abbrev pub read_binary : List ℕ → BinaryFile
-read_binary text = binary_by (first_line (all_numbers text)) text
+read_binary text = binary_by (header_line (all_numbers text)) text
 
 -- ---- what is read back
 

@@ -9,7 +9,7 @@ use Rattle.can_gates.specs.Circuit.{CircuitParts}
 use Rattle.can_gates_files.specs.declared.words.Word.{Word}
 use Rattle.can_gates_files.specs.declared.words.Names.{Names}
 use Rattle.can_gates_files.specs.Names.{bits_of_word}
-use Rattle.can_gates_files.specs.Statements.{Statement, Wire, And, lines_in, statement_in, words_in}
+use Rattle.can_gates_files.specs.Statements.{Statement, Wire, And, words_by_line, statement_in, words_in}
 use Rattle.can_gates_files.specs.Verilog.{assigns, takes, wires}
 use Rattle.can_gates_files.specs.Readable.{is_width}
 
@@ -27,18 +27,18 @@ pub data Line : Type 0 where
 
 -- ---- a line
 
--- a word without its last n bytes
-abbrev pub without : ℕ → List ℕ → List ℕ
-without n word = take (length word - n) word
+-- a word shortened its last n bytes
+abbrev pub shortened : ℕ → List ℕ → List ℕ
+shortened n word = take (length word - n) word
 
 -- of "name(clock, a, b)": behind the name stands the clock, and behind each port a comma, or the parenthesis
 abbrev pub module_in : List (List ℕ) → Line
 module_in [] = Unread
-module_in (name ∷ ports) = Module (without 7 name) (map (without 1) ports)
+module_in (name ∷ ports) = Module (shortened 7 name) (map (shortened 1) ports)
 
 -- of "[28:0]": one more than its first number
 abbrev pub places_in : List ℕ → ℕ
-places_in width = digits_value 10 (without 3 (drop 1 width)) + 1
+places_in width = digits_value 10 (shortened 3 (drop 1 width)) + 1
 
 -- of "[28:0] name // comment" or "name // comment", behind a kind
 abbrev pub declaration_in : List ℕ → List (List ℕ) → Line
@@ -60,10 +60,10 @@ line_in (kind ∷ words) =
     else (if bytes_eq kind (codes "always") then Steps words else declaration_in kind words)
 
 -- and among them
-abbrev pub step_in : List (List ℕ) → Line
-step_in [] = Unread
-step_in (word ∷ []) = if bytes_eq word (codes "end") then End else (if bytes_eq word (codes "endmodule") then EndModule else Unread)
-step_in (word ∷ next ∷ words) = said (statement_in (word ∷ next ∷ words))
+abbrev pub step_line_in : List (List ℕ) → Line
+step_line_in [] = Unread
+step_line_in (word ∷ []) = if bytes_eq word (codes "end") then End else (if bytes_eq word (codes "endmodule") then EndModule else Unread)
+step_line_in (word ∷ next ∷ words) = said (statement_in (word ∷ next ∷ words))
 
 abbrev pub begins_steps : List (List ℕ) → Bool
 begins_steps [] = false
@@ -75,15 +75,15 @@ begins_steps (kind ∷ words) = bytes_eq kind (codes "always")
 abbrev pub lines_said : Bool → List (List (List ℕ)) → List Line
 lines_said steps [] = []
 lines_said false (words ∷ lines) = line_in words ∷ lines_said (begins_steps words) lines
-lines_said true (words ∷ lines) = step_in words ∷ lines_said true lines
+lines_said true (words ∷ lines) = step_line_in words ∷ lines_said true lines
 
 abbrev pub read_module : List ℕ → List Line
-read_module text = lines_said false (lines_in [] [] text)
+read_module text = lines_said false (words_by_line [] [] text)
 
 -- ---- what is read back
 
-abbrev pub name_of : Word → List ℕ
-name_of w = w.name.now
+abbrev pub word_name : Word → List ℕ
+word_name w = w.name.now
 
 abbrev pub declared : List ℕ → Word → Line
 declared kind w = Declaration kind w.places w.name.now (words_in [] w.meaning.now)
@@ -98,7 +98,7 @@ clock_line = Declaration (codes "input") 1 (codes "clock") (words_in [] clock_me
 abbrev pub module_lines : Names → CircuitParts → List Register → List Literal → List Line
 module_lines n c registers outputs =
     let held = flat_map bits_of_word n.registers.now in
-    Comment (words_in [] n.meaning.now) ∷ Module n.circuit.now (map name_of (n.inputs.now ++ n.outputs.now)) ∷ clock_line
+    Comment (words_in [] n.meaning.now) ∷ Module n.circuit.now (map word_name (n.inputs.now ++ n.outputs.now)) ∷ clock_line
     ∷ (map (declared (codes "input")) n.inputs.now ++ (map (declared (codes "output")) n.outputs.now ++ (map (declared (codes "reg")) n.registers.now
     ++ (Says (Wire 0 (codes "1'b0")) ∷ (map Says (wires 1 (flat_map bits_of_word n.inputs.now ++ held)) ++ (map Says (map And (reverse c.gates))
     ++ (map Says (assigns 0 (flat_map bits_of_word n.outputs.now) outputs)

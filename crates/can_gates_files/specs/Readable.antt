@@ -5,7 +5,7 @@ use Rattle.std.specs.List.{flat_map, AllByRecursion}
 use Rattle.can_gates_files.specs.declared.words.Word.{Word}
 use Rattle.can_gates_files.specs.declared.words.Names.{Names}
 use Rattle.can_gates_files.specs.Names.{bits_of_word}
-use Rattle.can_gates_files.specs.Statements.{IsLine, IsName}
+use Rattle.can_gates_files.specs.Statements.{IsOneLine, IsName}
 
 -- whether it is a width, as [28:0], by its first byte
 abbrev pub is_width : List ℕ → Bool
@@ -15,7 +15,7 @@ is_width (c ∷ word) = c == 91
 pub record IsReadable (w : Word) : Type 0 where
   pub name : IsName w.name.now
   pub no_width : is_width w.name.now ≡ false
-  pub meaning : IsLine w.meaning.now
+  pub meaning : IsOneLine w.meaning.now
   pub some : 0 < w.places
   pub few : w.places < 2 ^ 64
 
@@ -25,7 +25,7 @@ names_of words = length (flat_map bits_of_word words)
 
 pub record AreReadable (n : Names) : Type 0 where
   pub circuit : IsName n.circuit.now
-  pub meaning : IsLine n.meaning.now
+  pub meaning : IsOneLine n.meaning.now
   pub inputs : AllByRecursion IsReadable n.inputs.now
   pub registers : AllByRecursion IsReadable n.registers.now
   pub outputs : AllByRecursion IsReadable n.outputs.now

@@ -28,12 +28,12 @@ statement_text (Take name l) = name ++ (codes " <= " ++ (literal_text l ++ codes
 
 -- the lines that a text has, each a list of words, behind these words of its first line and this beginning of a word: a newline
 -- ends a line, a blank a word, and a semicolon is passed over
-abbrev pub lines_in : List (List ℕ) → List ℕ → List ℕ → List (List (List ℕ))
-lines_in words word [] = []
-lines_in words word (c ∷ text) =
-    if c == 10 then (words ++ word ∷ []) ∷ lines_in [] [] text
-    else if c == 32 then lines_in (words ++ word ∷ []) [] text
-    else (if c == 59 then lines_in words word text else lines_in words (word ++ c ∷ []) text)
+abbrev pub words_by_line : List (List ℕ) → List ℕ → List ℕ → List (List (List ℕ))
+words_by_line words word [] = []
+words_by_line words word (c ∷ text) =
+    if c == 10 then (words ++ word ∷ []) ∷ words_by_line [] [] text
+    else if c == 32 then words_by_line (words ++ word ∷ []) [] text
+    else (if c == 59 then words_by_line words word text else words_by_line words (word ++ c ∷ []) text)
 
 -- the words of one line, behind this beginning of a word
 abbrev pub words_in : List ℕ → List ℕ → List (List ℕ)
@@ -64,9 +64,9 @@ IsName [] = Unit {0}
 IsName (c ∷ name) = (c ≢ 10) × (c ≢ 32) × (c ≢ 59) × IsName name
 
 -- and none of a line is a newline
-abbrev pub IsLine : List ℕ → Type 0
-IsLine [] = Unit {0}
-IsLine (c ∷ line) = (c ≢ 10) × IsLine line
+abbrev pub IsOneLine : List ℕ → Type 0
+IsOneLine [] = Unit {0}
+IsOneLine (c ∷ line) = (c ≢ 10) × IsOneLine line
 
 abbrev pub IsProper : Statement → Type 0
 IsProper (Wire s name) = (s < 2 ^ 64) × IsName name

@@ -3,7 +3,7 @@ ghost use Rattle.std.specs.Prelude.{◌≡◌, ◌+◌, ◌-◌, ◌≤◌, ◌<
 ghost use Rattle.std.specs.List.{flat_map};
 ghost use Rattle.can_gates.specs.declared.aiger.Register.{Register as RegisterParts};
 ghost use Rattle.can_gates.specs.declared.literal.Literal.{Literal as Side};
-ghost use Rattle.can_gates.specs.Aiger.{line_text, lines_of, output_numbers};
+ghost use Rattle.can_gates.specs.Aiger.{line_text, file_lines, output_numbers};
 ghost use Rattle.can_gates.specs.AigerNumbers.{AreLines};
 ghost use Rattle.can_gates.specs.Circuit.{CircuitParts};
 ghost use Rattle.can_gates.specs.Ordered.{IsOrdered};
@@ -128,14 +128,14 @@ pub fn gates_are_read_back()
 /// The numbers of an ascii file, the header's first, its names and its comment are read back, where names and their meanings
 /// are readable, and the numbers below 2^64. It does nothing.
 pub fn ascii_files_are_read_back()
-    ensures { (n : AllNames) (c : CircuitParts) (registers : List RegisterParts) (outputs : List Side) → AreReadable n → AreLines (lines_of c registers outputs)
-        → read_ascii (ascii_text n c registers outputs) ≡ record { numbers = lines_of c registers outputs; names = names_lines n } }
+    ensures { (n : AllNames) (c : CircuitParts) (registers : List RegisterParts) (outputs : List Side) → AreReadable n → AreLines (file_lines c registers outputs)
+        → read_ascii (ascii_text n c registers outputs) ≡ record { numbers = file_lines c registers outputs; names = names_lines n } }
 {}
 
 /// So are the numbers, the gates, the names and the comment of a binary file, where the gates stand in their order. It does
 /// nothing.
 pub fn binary_files_are_read_back()
-    ensures { (n : AllNames) (c : CircuitParts) (registers : List RegisterParts) (outputs : List Side) → AreReadable n → AreLines (lines_of c registers outputs)
+    ensures { (n : AllNames) (c : CircuitParts) (registers : List RegisterParts) (outputs : List Side) → AreReadable n → AreLines (file_lines c registers outputs)
         → IsOrdered c.inputs c.highest c.gates → c.highest < 2 ^ 32 → length registers ≤ c.inputs
         → read_binary (binary_text n c registers outputs) ≡ record { numbers = binary_lines c registers outputs; gates = reverse c.gates; names = names_lines n } }
 {}

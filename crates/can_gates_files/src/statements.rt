@@ -2,7 +2,7 @@
 ghost use Rattle.std.specs.Prelude.{◌≡◌, ◌++◌, [], List, Some, map, OnOk};
 ghost use Rattle.std.specs.List.{flat_map};
 ghost use Rattle.can_gates_files.specs.Names.{bit_text};
-ghost use Rattle.can_gates_files.specs.Statements.{Statement, And, Wire, Assign, Take, AreProper, statement_text, statement_in, lines_in};
+ghost use Rattle.can_gates_files.specs.Statements.{Statement, And, Wire, Assign, Take, AreProper, statement_text, statement_in, words_by_line};
 ghost use Rattle.can_gates_files.specs.Verilog.{assigns, takes, wires, next_of};
 
 use crate::pieces::{push_bit, push_literal};
@@ -122,5 +122,5 @@ fn next_at(registers: &[Register], place: usize) -> Literal
 /// The text of statements, whose names have no blank, no semicolon and no end of a line, is read back as these. It does
 /// nothing.
 pub fn statements_are_read_back()
-    ensures { (statements : List Statement) → AreProper statements → map statement_in (lines_in [] [] (flat_map statement_text statements)) ≡ map Some statements }
+    ensures { (statements : List Statement) → AreProper statements → map statement_in (words_by_line [] [] (flat_map statement_text statements)) ≡ map Some statements }
 {}

@@ -3,7 +3,7 @@ ghost use Rattle.std.specs.Prelude.{◌≡◌, ◌++◌, [], List, map, OnOk};
 ghost use Rattle.std.specs.List.{flat_map};
 ghost use Rattle.can_gates_files.specs.Named.{Symbol, AreSymbols, comment_text, meaning_line, meaning_text, names_text, symbol_text, symbol_words, symbols};
 ghost use Rattle.can_gates_files.specs.Names.{bit_text};
-ghost use Rattle.can_gates_files.specs.Statements.{lines_in};
+ghost use Rattle.can_gates_files.specs.Statements.{words_by_line};
 
 use crate::pieces::push_bit;
 use crate::words::{Bit, Names, Word, bits_of};
@@ -83,5 +83,5 @@ fn push_meaning(out: &mut Vec<u8>, name: &str, meaning: &str) -> Result<(), Allo
 
 /// The lines of names that have no blank, no semicolon and no end of a line are read back. It does nothing.
 pub fn symbols_are_read_back()
-    ensures { (s : List Symbol) → AreSymbols s → lines_in [] [] (flat_map symbol_text s) ≡ map symbol_words s }
+    ensures { (s : List Symbol) → AreSymbols s → words_by_line [] [] (flat_map symbol_text s) ≡ map symbol_words s }
 {}

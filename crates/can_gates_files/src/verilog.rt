@@ -3,7 +3,7 @@ ghost use Rattle.std.specs.Prelude.{◌≡◌, ◌++◌, List, true, OnOk};
 ghost use Rattle.std.specs.List.{flat_map};
 ghost use Rattle.can_gates.specs.declared.aiger.Register.{Register as RegisterParts};
 ghost use Rattle.can_gates.specs.declared.literal.Literal.{Literal as Side};
-ghost use Rattle.can_gates.specs.Aiger.{lines_of};
+ghost use Rattle.can_gates.specs.Aiger.{file_lines};
 ghost use Rattle.can_gates.specs.AigerNumbers.{AreLines};
 ghost use Rattle.can_gates.specs.Circuit.{CircuitParts};
 ghost use Rattle.can_gates_files.specs.declared.words.Names.{Names as AllNames};
@@ -138,6 +138,6 @@ fn push_width(out: &mut Vec<u8>, places: u32) -> Result<(), AllocError>
 /// Each line of a module is read back, where names and their meanings are readable, and the numbers of the circuit below 2^64.
 /// It does nothing.
 pub fn modules_are_read_back()
-    ensures { (n : AllNames) (c : CircuitParts) (registers : List RegisterParts) (outputs : List Side) → AreReadable n → AreLines (lines_of c registers outputs)
+    ensures { (n : AllNames) (c : CircuitParts) (registers : List RegisterParts) (outputs : List Side) → AreReadable n → AreLines (file_lines c registers outputs)
         → read_module (verilog_text n c registers outputs) ≡ module_lines n c registers outputs }
 {}

@@ -20,7 +20,7 @@ abbrev pub TellsReading : MacPhase → Bool → Type 0
 TellsReading p agrees = (r : Reading) → reading_in p ≡ Some r → agrees ≡ r.agrees
 
 -- the part's literals are those of this front of a frame at a controller of this role, where this level is seen
-pub record IsPart (v : ℕ → Bool) (k : Part) (role : Role) (front : FrontParts) (x : Level) : Type 0 where
+pub record ReadsPart (v : ℕ → Bool) (k : Part) (role : Role) (front : FrontParts) (x : Level) : Type 0 where
   pub due : value v k.due ≡ (front.run == 5)
   pub repeats : value v k.repeats ≡ same x front.last
   pub arbitrates : (f : Parts) → role ≡ Sender f → value v k.arbitrates ≡ in_arbitration f front.unstuffed
@@ -29,4 +29,4 @@ pub record IsPart (v : ℕ → Bool) (k : Part) (role : Role) (front : FrontPart
 
 -- in the stuffed part of a frame the part's literals are those of its front
 abbrev pub IsPartIn : (ℕ → Bool) → Part → Role → MacPhase → Level → Type 0
-IsPartIn v k role p x = (front : FrontParts) → p ≡ StuffedPart front → IsPart v k role front x
+IsPartIn v k role p x = (front : FrontParts) → p ≡ StuffedPart front → ReadsPart v k role front x

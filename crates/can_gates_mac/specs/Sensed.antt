@@ -19,8 +19,8 @@ abbrev pub going : Stance → ℕ → ℕ → ℕ → ℕ → Numbers
 going s phase place cause event = record { phase = phase; place = place; last = false; unacknowledged = false; first = false; sender = is_sender s.role; pending = s.overloads.pending; used = s.overloads.used; cause = cause; event = event }
 
 -- how many equal levels in a row a passive flag has, with this one
-abbrev pub run_of : MacPhase → Level → ℕ
-run_of p x = if differ (last_recessive p) (is_recessive x) then 1 else place_number p + 1
+abbrev pub run_with : MacPhase → Level → ℕ
+run_with p x = if differ (last_recessive p) (is_recessive x) then 1 else place_number p + 1
 
 -- how a place compares
 pub record IsPlaced (v : ℕ → Bool) (k : Places) (n : ℕ) : Type 0 where
@@ -74,8 +74,8 @@ pub record IsSensed (v : ℕ → Bool) (k : Senses) (s : Stance) (p : MacPhase) 
   pub refuses : value v k.refuses ≡ (not (is_sender s.role) && not (value v k.agrees))
   pub still : value v k.still ≡ (unacknowledged_of p && is_recessive x)
   pub counts : value v k.counts ≡ (unacknowledged_of p && not (is_recessive x))
-  pub run : nibble v k.run ≡ run_of p x
-  pub run_below_6 : value v k.run_below_6 ≡ nat_lt (run_of p x) 6
+  pub run : nibble v k.run ≡ run_with p x
+  pub run_below_6 : value v k.run_below_6 ≡ nat_lt (run_with p x) 6
   pub first : value v k.first ≡ (not (is_sender s.role) && is_first p)
   pub flag : nibble v k.flag ≡ (if s.passive then 8 else 7)
   pub error_cause : nibble v k.error_cause ≡ (if is_sender s.role then 3 else 1)

@@ -12,7 +12,7 @@ use Rattle.can_gates_mac.specs.declared.wires.Part.{Part}
 use Rattle.can_gates_mac.specs.declared.senses.Senses.{Senses}
 use Rattle.can_gates_mac.specs.Numbers.{numbers}
 use Rattle.can_gates_mac.specs.Shown.{shown}
-use Rattle.can_gates_mac.specs.Inputs.{IsPart}
+use Rattle.can_gates_mac.specs.Inputs.{ReadsPart}
 use Rattle.can_gates_mac.specs.Sensed.{IsSensed}
 
 -- the wires are the move from this phase, whatever the controller's stance, the frame that waits and the level are
@@ -21,4 +21,4 @@ ShowsMove v k w p = (s : Stance) (waiting : Option Parts) (x : Level) → IsSens
 
 -- the wires are the move from the stuffed part
 abbrev pub ShowsPart : (ℕ → Bool) → Senses → Part → Wires → Type 0
-ShowsPart v k part w = (s : Stance) (front : FrontParts) (waiting : Option Parts) (x : Level) → IsSensed v k s (StuffedPart front) waiting x → IsPart v part s.role front x → shown v w ≡ numbers (move s (StuffedPart front) waiting x)
+ShowsPart v k part w = (s : Stance) (front : FrontParts) (waiting : Option Parts) (x : Level) → IsSensed v k s (StuffedPart front) waiting x → ReadsPart v part s.role front x → shown v w ≡ numbers (move s (StuffedPart front) waiting x)

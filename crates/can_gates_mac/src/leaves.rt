@@ -12,7 +12,7 @@ ghost use Rattle.can_gates.specs.Circuit.{value};
 ghost use Rattle.can_gates_mac.specs.Nibbles.{nibble};
 ghost use Rattle.can_gates_mac.specs.Numbers.{numbers, is_sender, cause_number};
 ghost use Rattle.can_gates_mac.specs.Shown.{shown};
-ghost use Rattle.can_gates_mac.specs.Sensed.{WhereSensed, going, run_of};
+ghost use Rattle.can_gates_mac.specs.Sensed.{WhereSensed, going, run_with};
 
 use crate::nibble::Nibble;
 use crate::numbers::{
@@ -171,7 +171,7 @@ impl Senses {
     /// A passive error flag goes on.
     pub(crate) fn stays_in_passive_flag(&self, unacknowledged: Literal, cause: u8) -> Wires
         requires { cause < 16 }
-        ensures { WhereSensed self.now (λ v s p x. (u : Bool) → value v unacknowledged ≡ u → shown v result ≡ record (going s 8 (run_of p x) cause 0) { last = is_recessive x; unacknowledged = u }) }
+        ensures { WhereSensed self.now (λ v s p x. (u : Bool) → value v unacknowledged ≡ u → shown v result ≡ record (going s 8 (run_with p x) cause 0) { last = is_recessive x; unacknowledged = u }) }
     {
         Wires {
             phase: Nibble::of(PASSIVE_FLAG),

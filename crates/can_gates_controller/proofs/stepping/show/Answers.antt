@@ -4,7 +4,7 @@ use Rattle.can_frame.specs.Levels.{is_recessive}
 use Rattle.can_gates.specs.Circuit.{value}
 use Rattle.can_gates.specs.Words.{number}
 use Rattle.can_gates.proofs.Constants.{zero-kept}
-use Rattle.can_gates_controller.specs.Steps.{Step, asked, step_time}
+use Rattle.can_gates_controller.specs.Steps.{ControllerStep, asked, step_time}
 use Rattle.can_gates_controller.proofs.StepsTaken.{drives_asked, told_is, frame_is}
 use Rattle.can_gates_controller.proofs.stepping.show.Goals as goal
 
@@ -20,8 +20,8 @@ returns c = (
       let zero_is = zero-kept v c.args.circuit.now passes.0 in (
         passes.0,
         λ m s in_is held wished is.
-            let reset : value v c.args.inputs.now.reset ≡ s.reset = ap (λ (q : Step). q.reset) (sym in_is) in
-            let enable : value v c.args.inputs.now.enable ≡ s.enable = ap (λ (q : Step). q.enable) (sym in_is) in
+            let reset : value v c.args.inputs.now.reset ≡ s.reset = ap (λ (q : ControllerStep). q.reset) (sym in_is) in
+            let enable : value v c.args.inputs.now.enable ≡ s.enable = ap (λ (q : ControllerStep). q.enable) (sym in_is) in
             let tec = held.controller.counters.tec in
             let rec = held.controller.counters.rec in record {
               drive = is.drives ∙ ap is_recessive (drives_asked s.wish m s.waiting);
