@@ -28,7 +28,7 @@ def put_rows(root: str, to: str) -> None:
             os.makedirs(made, exist_ok=True)
             for it in files:
                 shutil.copyfile(f"{folder}/{it}", f"{made}/{it.removesuffix(SUFFIX)}.rt")
-    with open(f"{to}/crates.txt", encoding="utf-8") as it:
-        own = it.read()
+    with open(f"{to}/crates.txt", encoding="utf-8") as listed:
+        own = listed.read()
     with open(f"{to}/crates.txt", "w", encoding="utf-8") as out:
         out.writelines([own.replace(" staticlib:", ":"), *lines.values()])
