@@ -23,8 +23,9 @@ pub struct Gate {
 
 /// And gates behind inputs. In clauses the last gate goes first.
 ///
-/// Where memory runs out, or the numbers of signals do, 2^32, a gate that is asked for isn't made, and the circuit isn't
-/// [complete](Circuit::is_complete) from then on: no assignment keeps it.
+/// A gate isn't made where there is no memory for it, where the numbers of signals have run out, 2^32, or where a side is of a
+/// signal that the circuit doesn't have. Then the circuit isn't [complete](Circuit::is_complete) from there on: no assignment
+/// keeps it.
 #[derive(Drop)]
 pub struct Circuit {
     gates: Vec<Gate>,
@@ -113,8 +114,8 @@ impl Circuit {
         let _highest = self.highest;
     }
 
-    /// Both. It needs no gate where one is constant, where both are of one signal, or where there is a gate of these two. A
-    /// literal of a signal that the circuit doesn't have has no gate either.
+    /// Both. It needs no gate where one is constant, where both are of one signal, or where there is a gate of these two.
+    /// Else it makes one, or the circuit isn't complete from then on.
     pub fn and(&mut self, a: Literal, b: Literal) -> Literal
         ensures { Makes self.old self.new (λ v. value v result ≡ (value v a && value v b)) }
     {
